@@ -7,7 +7,7 @@ _hoopoelarder() {
         return
     fi
     case "${COMP_WORDS[1]} $before" in
-    *" --cores" | *" --dirs" | *" --sets" | *" --ways" | *" --ram" | *" --base" | *" --steps" | *" --seed" | *" --from" | *" --to" | *" --events" | "outcomes --states" | *" --longest" | *" --threads")
+    *" --cores" | *" --dirs" | *" --sets" | *" --ways" | *" --ram" | *" --base" | *" --steps" | *" --seed" | *" --from" | *" --to" | *" --events" | "outcomes --states" | *" --longest" | *" --threads" | *" --batch")
         return
         ;;
     *" --tell")
@@ -18,7 +18,7 @@ _hoopoelarder() {
     case $word in
     -*)
         case ${COMP_WORDS[1]} in
-        run) mapfile -t COMPREPLY < <(compgen -W "--cores --dirs --sets --ways --ram --base --raw --steps --seed --record --threads --help" -- "$word") ;;
+        run) mapfile -t COMPREPLY < <(compgen -W "--cores --dirs --sets --ways --ram --base --raw --steps --seed --record --threads --batch --help" -- "$word") ;;
         phases) mapfile -t COMPREPLY < <(compgen -W "--cores --dirs --sets --ways --ram --base --raw --steps --seed --record --help" -- "$word") ;;
         replay) mapfile -t COMPREPLY < <(compgen -W "--cores --dirs --sets --ways --ram --base --raw --help" -- "$word") ;;
         why) mapfile -t COMPREPLY < <(compgen -W "--cores --dirs --sets --ways --ram --base --raw --help" -- "$word") ;;

@@ -40,6 +40,7 @@ _hoopoelarder() {
             '--seed[what the choice of events begins with\: 0 to 18446744073709551615 (0)]:N:' \
             '--record[the file to which the schedule is written when the run has ended]:NAME:_files' \
             '--threads[so many host threads act on the machine at once\: 1 to 16, only with --record]:N:' \
+            '--batch[a thread takes at most so many events of a node in one turn\: 1 to 1024, only with --threads (1)]:N:' \
             '1:command:' '*:file:_files'
         ;;
     phases)

@@ -152,6 +152,8 @@ def value_hint(field, words, options):
         return f"NUMBER is 1 to 2047, and this is {said.files[1]}"
     if field == "threads" and "record" not in said.given:
         return "--threads needs --record NAME: which events come first may differ each time, and the record says which it was"
+    if field == "batch" and "threads" not in said.given:
+        return "--batch needs --threads N: it says how many events of a node a thread takes at most in one turn"
     given = said.given.get(field, "")
     if field == "tell":
         return f"--tell is {options[field].limits}, and this is {given}"

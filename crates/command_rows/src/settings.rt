@@ -21,6 +21,7 @@ fn run_has_its_defaults(rt: HostRuntime) -> Result<(), Fail> {
             steps,
             seed,
             threads,
+            batch,
             keep,
         },
     ) = asked(rt.alloc(), "run a")?
@@ -30,7 +31,7 @@ fn run_has_its_defaults(rt: HostRuntime) -> Result<(), Fail> {
     assert!(rt; !machine.raw && machine.config.sets() == 16 && machine.config.ways() == 2);
     assert!(rt; machine.config.base() == 0x8000_0000 && machine.config.words() == 16_384);
     assert!(rt; images.items.len() == 1 && steps == 1_000_000 && seed == 0);
-    assert!(rt; threads.is_none() && keep.is_none());
+    assert!(rt; threads.is_none() && batch == 1 && keep.is_none());
     Ok(())
 }
 
@@ -52,6 +53,26 @@ fn options_stand_among_images(rt: HostRuntime) -> Result<(), Fail> {
     };
     assert!(rt; machine.raw && machine.config.cores() == 2 && images.items.len() == 2);
     assert_eq!(rt; seed, u64::MAX);
+    Ok(())
+}
+
+/// Of each turn's number of acts the words, and the number.
+const BATCHES: [(&str, u16); 4] = [
+    ("run --threads 2 --record r a", 1),
+    ("run --threads 2 --batch 1 --record r a", 1),
+    ("run --batch=0x40 a --threads 2 --record r", 64),
+    ("run --threads 2 --batch 1024 --record r a", 1024),
+];
+
+#[test]
+fn turns_have_their_number_of_acts(rt: HostRuntime) -> Result<(), Fail> {
+    for (line, acts) in BATCHES {
+        let Ok(Command::Run { threads, batch, .. }) = asked(rt.alloc(), line)? else {
+            panic!(rt; "{line} asks for another command, or for none");
+        };
+        assert_eq!(rt; threads, Some(2), "{line}");
+        assert_eq!(rt; batch, acts, "{line}");
+    }
     Ok(())
 }
 
@@ -289,13 +310,18 @@ fn words_that_are_no_command(rt: HostRuntime) -> Result<(), Fail> {
 }
 
 /// Values that look like options, options that stand twice, that there aren't, or that other commands have.
-const NOT_READ: [Refused; 6] = [
+const NOT_READ: [Refused; 8] = [
     ("run --cores -1 a", WordsFault::Words),
     ("run --sets 1 --sets 1 a", WordsFault::Words),
     ("run --help a", WordsFault::Words),
     ("replay --seed 1 s a", WordsFault::Words),
     ("why --steps 1 s a", WordsFault::Words),
     ("phases --threads 2 --record r a", WordsFault::Words),
+    ("phases --batch 2 --record r a", WordsFault::Words),
+    (
+        "run --batch 2 --batch 2 --threads 2 --record r a",
+        WordsFault::Words,
+    ),
 ];
 
 #[test]
@@ -368,8 +394,8 @@ fn values_that_are_no_numbers(rt: HostRuntime) -> Result<(), Fail> {
     are_refused(&rt, rt.alloc(), &NO_NUMBERS)
 }
 
-/// Numbers that are too large, and threads without a record.
-const OUT_OF_RANGE: [Refused; 13] = [
+/// Numbers that are too large, threads without a record, and acts of a turn without threads.
+const OUT_OF_RANGE: [Refused; 17] = [
     ("run --raw --cores 65 a", WordsFault::Value(Field::Cores)),
     (
         "run --raw --steps 4194305 a",
@@ -377,6 +403,22 @@ const OUT_OF_RANGE: [Refused; 13] = [
     ),
     ("run --base 0xffff8000 a", WordsFault::Value(Field::Base)),
     ("run --threads 4 a", WordsFault::Value(Field::Threads)),
+    (
+        "run --threads 4 --batch 0 a",
+        WordsFault::Value(Field::Threads),
+    ),
+    (
+        "run --threads 4 --batch 0 --record r a",
+        WordsFault::Value(Field::Batch),
+    ),
+    (
+        "run --threads 4 --batch 1025 --record r a",
+        WordsFault::Value(Field::Batch),
+    ),
+    (
+        "run --batch 2 --record r a",
+        WordsFault::Value(Field::Batch),
+    ),
     ("bus --steps 4194305 a", WordsFault::Value(Field::Steps)),
     ("trace --from 4194305 a", WordsFault::Value(Field::From)),
     ("trace --to 4194305 a", WordsFault::Value(Field::To)),

@@ -1,5 +1,6 @@
 -- The parts of a node, and what always holds of them.
-use Rattle.std.specs.Prelude.{◌≡◌}
+use Rattle.std.specs.Prelude.{◌≡◌, length}
+use Rattle.node_member.specs.Own.{own_events}
 use Rattle.logged_node.specs.Node.{NodeData, IsNode, last_stamp}
 use Rattle.logged_node.specs.declared.node.Node.TheInside.{Inside}
 
@@ -9,3 +10,4 @@ node_of_parts n = record { member = n.member; log = n.log.items; room = n.room }
 pub record IsNodeInside (n : Inside) : Type 0 where
   pub last : n.last ≡ last_stamp n.log.items
   pub node : IsNode (node_of_parts n)
+  pub own : n.own ≡ length (own_events n.member)

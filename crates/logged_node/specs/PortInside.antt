@@ -1,9 +1,10 @@
 -- The parts of a port, and what always holds of them.
-use Rattle.std.specs.Prelude.{ℕ, ◌≡◌, map, length, All}
+use Rattle.std.specs.Prelude.{ℕ, ◌≡◌, ◌<◌, ◌^◌, map, length, All}
 use Rattle.tcc_base.specs.declared.names.NodeId.{NodeId}
 use Rattle.tcc_msg.specs.declared.event.Name.{Name}
 use Rattle.node_logs.specs.declared.logs.Mail.{Mail}
 use Rattle.logged_node.specs.Ports.{PortData, IsPort}
+use Rattle.logged_node.specs.Tally.{hanging_in}
 use Rattle.logged_node.specs.declared.port.Port.TheInside.{Inside}
 
 -- a message with its number on the link
@@ -24,3 +25,5 @@ pub record IsPortInside (p : Inside) : Type 0 where
   pub taken : p.taken ≡ length p.inlet.got
   pub names : All (IsNamed p.peer p.own) p.pool.messages
   pub port : IsPort (port_of p)
+  pub few : length p.pool.messages < 2 ^ 32
+  pub hanging : p.hanging ≡ length (hanging_in (port_of p))

@@ -52,6 +52,7 @@ impl Node {
             event: deed.event,
         });
         self.last = stamp;
+        self.own = self.member.own_count();
         if consumed {
             if let Some(waiting) = &deed.waiting {
                 self.room.drop_waiting(waiting);

@@ -1,13 +1,15 @@
 // What a node can do now, and the choice among it.
-ghost use Rattle.std.specs.Prelude.{◌≡◌, ◌⊎◌, ◌<◌, ◌≤◌, ◌^◌, [], length, slice_get, Some, MatchOption};
+ghost use Rattle.std.specs.Prelude.{◌≡◌, ◌⊎◌, ◌<◌, ◌≤◌, ◌^◌, [], length, slice_get, None, Some, IsSomeAnd, MatchOption};
 ghost use Rattle.std.specs.Option.{option_map};
 ghost use Rattle.tcc_maps.specs.Bridge.{node_of};
 ghost use Rattle.tcc_maps.specs.Nodes.{Deliver};
 ghost use Rattle.tcc_msg.specs.Plain.{event_of, msg_of};
-ghost use Rattle.logged_node.specs.Choice.{own_choices, useful, stamp_after};
+ghost use Rattle.node_member.specs.Own.{own_events};
+ghost use Rattle.logged_node.specs.Choice.{useful, stamp_after};
 ghost use Rattle.logged_node.specs.Deeds.{IsChoice, IsPossible, mail_in};
 ghost use Rattle.logged_node.specs.Node.{last_stamp};
 
+use crate::drawing::Draw;
 use crate::node::Node;
 use crate::room::Waiting;
 use tcc_base::NodeId;
@@ -66,53 +68,37 @@ fn delivery(own: NodeId, waiting: Waiting) -> Deed
 }
 
 impl Node {
-    // How many events of its own are useful: none where there is no stamp for one.
-    #[tactic(auto, unfolding(crate::specs::Choice::own_choices))]
-    fn own_count(&self) -> usize
-        ensures { result ≡ length (own_choices self.now.member (last_stamp self.now.log)) }
-    {
-        if self.last < LAST_STAMP {
-            self.member.own_count()
-        } else {
-            0
-        }
-    }
-
-    // The event of this number among those that are useful.
-    fn choice_at(&self, own: usize, k: usize) -> Option<Deed>
-        requires own { own ≡ length (own_choices self.now.member (last_stamp self.now.log)) }
+    // The event of its own of this number.
+    fn own_deed(&self, k: usize) -> Option<Deed>
         requires few { length self.now.log < 4194304 }
-        ensures { MatchOption result (length (useful self.now) ≤ k) (λ d. (slice_get (useful self.now) k ≡ Some (event_of d.event, mail_in d.waiting)) × IsPossible self.now d) }
+        requires early { last_stamp self.now.log < 2 ^ 62 }
+        requires one { k < length (own_events self.now.member) }
+        ensures { IsSomeAnd result (λ d. (d.waiting ≡ None) × (Some (event_of d.event) ≡ slice_get (own_events self.now.member) k) × IsPossible self.now d) }
     {
-        let node = self.member.node();
-        if k < own {
-            let Some(event) = self.member.own_at(k) else {
-                return None;
-            };
-            return Some(Deed {
-                event,
-                waiting: None,
-            });
-        }
-        let Some(waiting) = self.room.ready_at(&self.member, self.last, k - own) else {
-            return None;
-        };
-        Some(delivery(node, waiting))
+        let event = self.member.own_at(k)?;
+        Some(Deed {
+            event,
+            waiting: None,
+        })
     }
 
     /// The useful event that the number picks: the one of its remainder by how many there are. None where there is none, and where the log
     /// is full.
-    pub(crate) fn choose(&self, pick: u32) -> Option<Deed>
-        ensures { MatchOption result ((useful self.now ≡ []) ⊎ (length self.now.log ≡ 4194304)) (IsChoice self.now pick) }
+    pub(crate) fn choose(&mut self, pick: u32) -> Option<Deed>
+        ensures chosen { MatchOption result ((useful self.old ≡ []) ⊎ (length self.old.log ≡ 4194304)) (IsChoice self.old pick) }
+        ensures same { self.new ≡ self.old }
     {
         if self.log.len() >= LOG_END {
             return None;
         }
-        let own = self.own_count();
-        let all = own as u128 + self.room.ready_count(&self.member, self.last);
-        if all == 0 {
+        if self.last >= LAST_STAMP {
             return None;
         }
-        self.choice_at(own, (pick as u128 % all) as usize)
+        let node = self.member.node();
+        match self.room.draw(&self.member, self.last, self.own, pick) {
+            Draw::Nothing => None,
+            Draw::Own(k) => self.own_deed(k),
+            Draw::Letter(waiting) => Some(delivery(node, waiting)),
+        }
     }
 }

@@ -3,11 +3,14 @@
 #![tactic(auto)]
 
 mod acting;
+mod bell;
 mod choosing;
+mod drawing;
 mod node;
 mod peers;
 mod port;
 mod room;
+mod tally;
 
 pub use node::{Act, Node};
 pub use port::Port;

@@ -1,5 +1,5 @@
 // A node with its links, its log and what waits for it.
-ghost use Rattle.std.specs.Prelude.{◌≡◌, ◌==◌, ◌++◌, [], List as Seq, length, All};
+ghost use Rattle.std.specs.Prelude.{◌≡◌, ◌==◌, ◌++◌, [], List as Seq, length, All, IfOk};
 ghost use Rattle.image_load.specs.Contents.{started};
 ghost use Rattle.rv_serial.specs.Suiting.{world_at_start};
 ghost use Rattle.tcc_maps.specs.Bridge.{node_of};
@@ -16,7 +16,7 @@ use node_member::Member;
 use std::alloc::Global;
 use std::marker::Model;
 use std::sync::Wait;
-use tcc_base::{Config, List, NodeId};
+use tcc_base::{Config, List, NoMemory, NodeId};
 
 /// How a call of `Node::act` ended.
 #[derive(Clone, Copy, Debug, PartialEq, Eq)]
@@ -38,6 +38,8 @@ pub struct Node {
     /// The stamp of the last entry, or 0.
     pub(crate) last: u64,
     pub(crate) room: Mailroom,
+    /// How many events of the member's own are useful.
+    pub(crate) own: usize,
 }
 
 impl Model for Node {
@@ -54,22 +56,37 @@ impl Model for Node {
 
 impl Node {
     /// A node that has done nothing, with a port to each of its peers in their order: of a core the directories and then the vendor, of a
-    /// directory or the vendor the cores. Takes no memory.
-    pub fn new(alloc: Global, config: &Config, member: Member, ports: Vec<Port>) -> Node
+    /// directory or the vendor the cores. Takes memory for counts of what waits at each port; when it runs out, nothing is left of them.
+    pub fn new(
+        alloc: Global,
+        config: &Config,
+        member: Member,
+        ports: Vec<Port>,
+    ) -> Result<Node, NoMemory>
         requires settings { config.now ≡ member.code.settings }
         requires idle { member.done ≡ 0 }
         requires start { state_of member ≡ state_at (world_at_start (started member.code)) (node_of member.node) }
         requires ports { ArePorts config.now (node_of member.node) ports.items }
         requires unused { All IsUnused ports.items }
-        ensures { result ≡ record { member = member; log = []; room = record { settings = config.now; own = member.node; ports = ports.items; unsent = [] } } }
+        ensures { IfOk result (λ node. node ≡ record { member = member; log = []; room = record { settings = config.now; own = member.node; ports = ports.items; unsent = [] } }) }
     {
-        let room = Mailroom::new(alloc, *config, member.node(), ports);
-        Node {
+        let room = Mailroom::new(alloc, *config, member.node(), ports)?;
+        let own = member.own_count();
+        Ok(Node {
             member,
             log: Vec::new(alloc),
             last: 0,
             room,
-        }
+            own,
+        })
+    }
+
+    /// From now on it rings a bell at the peer for what it sends there, where they are linked. Nothing else is changed. The error is that
+    /// there are too many bells.
+    pub fn ring_at(&mut self, peer: &Node) -> Result<(), NoMemory>
+        ensures { self.new ≡ self.old }
+    {
+        self.room.ring_at(&peer.room)
     }
 
     /// Which node it is.

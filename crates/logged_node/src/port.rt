@@ -1,5 +1,5 @@
 // A node's ends of the links to and from one peer, and the messages from there that wait.
-ghost use Rattle.std.specs.Prelude.{◌≡◌, ◌^◌, ◌<◌, ◌≤◌, ◌∷◌, ◌++◌, [], ℕ, List, length, slice_get, Some, OnOk, OnErr, IfOk, IfErr, IsTrue, max};
+ghost use Rattle.std.specs.Prelude.{◌≡◌, ◌^◌, ◌<◌, ◌≤◌, ◌∷◌, ◌++◌, [], ℕ, List, length, slice_get, Some, if◌then◌else◌, OnOk, OnErr, IfOk, IfErr, IsTrue, max};
 ghost use Rattle.tcc_maps.specs.Bridge.{node_of};
 ghost use Rattle.tcc_maps.specs.Nodes.{Deliver};
 ghost use Rattle.tcc_msg.specs.Plain.{msg_of};
@@ -8,11 +8,13 @@ ghost use Rattle.node_member.specs.Acting.{MayDo};
 ghost use Rattle.logged_node.specs.Choice.{is_ready as may_take, ready_in};
 ghost use Rattle.logged_node.specs.Deeds.{IsLetter};
 ghost use Rattle.logged_node.specs.Moves.{Takes};
-ghost use Rattle.logged_node.specs.Ports.{ArePaired, all_but};
+ghost use Rattle.logged_node.specs.Ports.{ArePaired, IsPort, all_but};
+ghost use Rattle.logged_node.specs.Tally.{hanging_in, hangs as may_wait};
 
+use crate::bell::Bell;
 use net_links::{Inlet, Outlet, link};
 use node_logs::Mail;
-use node_member::Member;
+use node_member::{Member, never_waits};
 use std::alloc::Global;
 use std::marker::Model;
 use std::sync::Wait;
@@ -21,6 +23,9 @@ use tcc_msg::{Name, Pool};
 
 /// No event has a later stamp.
 const LAST_STAMP: u64 = 0x4000_0000_0000_0000;
+
+/// No more messages wait at one port.
+const MOST: usize = 0xffff_ffff;
 
 /// A message that waits: its place in the pool, and its number on the link.
 #[derive(Clone, Copy, Debug)]
@@ -40,6 +45,10 @@ pub struct Port {
     pool: Pool<Mail>,
     /// How many messages were taken from the inlet.
     taken: u64,
+    /// How many in the pool may have to wait.
+    hanging: u32,
+    /// It is rung at the peer for what is sent there. Without one the peer isn't told.
+    bell: Option<Bell>,
 }
 
 impl Model for Port {
@@ -52,6 +61,18 @@ impl Model for Port {
     ghost view = { port_of };
 
     ghost invariant = { IsPortInside };
+}
+
+// 1 where the node may let it wait, or there is no stamp after it, and otherwise 0.
+#[tactic(auto, unfolding(crate::specs::Tally::hangs))]
+fn hangs(own: NodeId, mail: &Mail) -> u32
+    ensures { (number : ℕ) → result ≡ (if may_wait (node_of own) (number, mail.now) then 1 else 0) }
+{
+    if mail.stamp < LAST_STAMP && never_waits(own, &mail.msg) {
+        0
+    } else {
+        1
+    }
 }
 
 // Whether the member would take the message now, and there is a stamp for that.
@@ -79,6 +100,8 @@ impl Port {
             inlet,
             pool: Pool::new(alloc),
             taken: 0,
+            hanging: 0,
+            bell: None,
         }
     }
 
@@ -113,14 +136,25 @@ impl Port {
         ensures sent { OnOk result (self.new ≡ record self.old { outlet = record self.old.outlet { sent = self.old.outlet.sent ++ mail ∷ [] } }) }
         ensures unchanged { OnErr result (self.new ≡ self.old) }
     {
-        self.outlet.push(rt, mail)
+        self.outlet.push(rt, mail)?;
+        if let Some(bell) = &self.bell {
+            bell.ring();
+        }
+        Ok(())
+    }
+
+    /// Rings this bell from now on for what is sent.
+    pub(crate) fn hang(&mut self, bell: Bell)
+        ensures { self.new ≡ self.old }
+    {
+        self.bell = Some(bell);
     }
 
     /// Takes the next message from the link into the pool, and tells whether there was one.
     fn take_in<R: Wait>(&mut self, rt: &R) -> Result<bool, NoMemory>
         ensures { Takes self.old self.new }
     {
-        if self.taken == u64::MAX {
+        if self.taken == u64::MAX || self.pool.len() >= MOST {
             return Ok(false);
         }
         self.pool.reserve()?;
@@ -134,6 +168,7 @@ impl Port {
         };
         self.pool.add_reserved(name, mail);
         self.taken += 1;
+        self.hanging += hangs(self.own, &mail);
         Ok(true)
     }
 
@@ -163,8 +198,23 @@ impl Port {
         }
     }
 
+    /// How many messages wait.
+    pub(crate) fn waiting(&self) -> u32
+        ensures count { result ≡ length self.now.pool }
+        ensures whole { IsPort self.now }
+    {
+        self.pool.len() as u32
+    }
+
+    /// How many of them may have to wait on, as the node may be.
+    pub(crate) fn hanging(&self) -> u32
+        ensures { result ≡ length (hanging_in self.now) }
+    {
+        self.hanging
+    }
+
     /// How many of the waiting messages the member would take now.
-    pub(crate) fn ready_count(&self, member: &Member, last: u64) -> usize
+    pub(crate) fn ready_count(&self, member: &Member, last: u64) -> u32
         requires settings { self.now.inlet.ends.settings ≡ member.now.code.settings }
         requires own { node_of self.now.inlet.ends.dst ≡ node_of member.now.node }
         ensures { result ≡ length (ready_in member.now last self.now) }
@@ -209,6 +259,7 @@ impl Port {
         ensures { self.new ≡ record self.old { pool = all_but letter.now.number self.old.pool } }
     {
         let _ = self.pool.remove_at(letter.place);
+        self.hanging -= hangs(self.own, &letter.mail);
     }
 
     /// What the peer's port has taken is a beginning of what was sent here.

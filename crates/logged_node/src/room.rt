@@ -1,27 +1,29 @@
 // All ports of a node, and what its last event sent.
-ghost use Rattle.std.specs.Prelude.{◌≡◌, ◌+◌, ◌*◌, ◌^◌, ◌<◌, ◌≤◌, ◌++◌, [], ℕ, List, true, drop, length, slice_get, Some, OnOk, OnErr, IfOk, IfErr, MatchOption};
+ghost use Rattle.std.specs.Prelude.{All, ◌≡◌, ◌+◌, ◌<◌, ◌++◌, [], ℕ, List, true, drop, length, OnOk, OnErr, IfOk};
 ghost use Rattle.std.specs.Option.{option_map};
 ghost use Rattle.tcc_maps.specs.Bridge.{node_of};
 ghost use Rattle.tcc_maps.specs.Nodes.{Deliver};
 ghost use Rattle.tcc_msg.specs.Plain.{event_of, msg_of};
 ghost use Rattle.tcc_rules.specs.Local.{Mail as Sent};
-ghost use Rattle.node_logs.specs.Filled.{mail_of};
 ghost use Rattle.node_member.specs.Acting.{Acts, MayDo};
 ghost use Rattle.node_member.specs.Data.{state_of};
 ghost use Rattle.logged_node.specs.Acts.{Loses};
-ghost use Rattle.logged_node.specs.Choice.{all_deliveries};
-ghost use Rattle.logged_node.specs.Deeds.{IsReady, IsWaiting};
+ghost use Rattle.logged_node.specs.Deeds.{IsWaiting};
 ghost use Rattle.logged_node.specs.Linked.{IsLinkedTo};
 ghost use Rattle.logged_node.specs.Moves.{AtEach, Grows, Room, SameSent, Stands, Takes};
-ghost use Rattle.logged_node.specs.Ports.{ArePorts, handed_to, taken_from};
+ghost use Rattle.logged_node.specs.Ports.{ArePorts, IsUnused, handed_to, taken_from};
+ghost use Rattle.logged_node.specs.Tally.{IsTallied};
 
+use crate::bell::Bell;
 use crate::peers::seat_of;
 use crate::port::{Letter, Port};
+use crate::tally::Tally;
+use net_links::{BELLS, Bells, Rung};
 use node_logs::Mail;
 use node_member::Member;
 use std::alloc::Global;
 use std::marker::Model;
-use std::sync::Wait;
+use std::sync::{Arc, Wait};
 use tcc_base::{Config, NoMemory, NodeId};
 use tcc_msg::{Event, Msg, Outgoing};
 
@@ -38,7 +40,12 @@ pub(crate) struct Waiting {
 pub(crate) struct Mailroom {
     config: Config,
     own: NodeId,
-    ports: Vec<Port>,
+    pub(crate) ports: Vec<Port>,
+    pub(crate) tally: Tally,
+    /// The peers ring here for what they send.
+    bells: Arc<Bells, Global>,
+    /// Where they have rung, and not all may have been taken.
+    rung: Rung,
     out: Outgoing,
     /// How many of the messages in `out` the links hold.
     placed: usize,
@@ -56,28 +63,89 @@ impl Model for Mailroom {
     ghost invariant = { IsRoomInside };
 }
 
-// Takes all that has arrived from each link.
-fn gather_all<R: Wait>(rt: &R, ports: &mut [Port]) -> Result<(), NoMemory>
-    ensures { AtEach Takes ports.old ports.new }
+// Takes what has arrived at the port of that place.
+fn gather_at<R: Wait>(
+    rt: &R,
+    ports: &mut [Port],
+    tally: &mut Tally,
+    seat: usize,
+) -> Result<(), NoMemory>
+    requires exists { seat < length ports.old }
+    requires tallied { IsTallied ports.old tally.old }
+    ensures takes { AtEach Takes ports.old ports.new }
+    ensures tallied { IsTallied ports.new tally.new }
 {
-    for port in ports.iter_mut() {
-        port.gather(rt)?;
+    let met = ports[seat].gather(rt);
+    tally.note(seat, &ports[seat]);
+    met
+}
+
+// Takes what has arrived at the ports whose bells were rung. These bells are silent then; after want of memory, those where all was taken.
+fn gather_rung<R: Wait>(
+    rt: &R,
+    ports: &mut [Port],
+    tally: &mut Tally,
+    rung: &mut Rung,
+) -> Result<(), NoMemory>
+    requires tallied { IsTallied ports.old tally.old }
+    ensures takes { AtEach Takes ports.old ports.new }
+    ensures tallied { IsTallied ports.new tally.new }
+{
+    for _ in 0..BELLS {
+        let seat = rung.first();
+        if seat >= ports.len() {
+            break;
+        }
+        gather_at(rt, ports, tally, seat)?;
+        *rung = rung.rest();
     }
     Ok(())
 }
 
 impl Mailroom {
-    pub(crate) fn new(alloc: Global, config: Config, own: NodeId, ports: Vec<Port>) -> Mailroom
-        requires { ArePorts config (node_of own) ports.items }
-        ensures { result ≡ record { settings = config; own = own; ports = ports.items; unsent = [] } }
+    pub(crate) fn new(
+        alloc: Global,
+        config: Config,
+        own: NodeId,
+        ports: Vec<Port>,
+    ) -> Result<Mailroom, NoMemory>
+        requires ports { ArePorts config (node_of own) ports.items }
+        requires unused { All IsUnused ports.items }
+        ensures { IfOk result (λ room. room ≡ record { settings = config; own = own; ports = ports.items; unsent = [] }) }
     {
-        Mailroom {
+        let tally = Tally::new(alloc, &ports)?;
+        let Ok(bells) = Arc::new(alloc, Bells::new()) else {
+            return Err(NoMemory);
+        };
+        Ok(Mailroom {
             config,
             own,
             ports,
+            tally,
+            bells,
+            rung: Rung::none(),
             out: Outgoing::new(alloc),
             placed: 0,
+        })
+    }
+
+    /// From now on it rings at the peer for what it sends there. The error is that there are too many bells.
+    pub(crate) fn ring_at(&mut self, peer: &Mailroom) -> Result<(), NoMemory>
+        ensures { self.new ≡ self.old }
+    {
+        let (Some(there), Some(place)) = (
+            seat_of(&self.config, self.own, peer.own),
+            seat_of(&peer.config, peer.own, self.own),
+        ) else {
+            return Ok(());
+        };
+        let Ok(bells) = Arc::try_clone(&peer.bells) else {
+            return Err(NoMemory);
+        };
+        if let Some(port) = self.ports.get_mut(there) {
+            port.hang(Bell::new(bells, place));
         }
+        Ok(())
     }
 
     // Puts the first message that isn't sent yet onto its link.
@@ -115,51 +183,21 @@ impl Mailroom {
         Ok(())
     }
 
-    /// Takes all that has arrived from the links. After want of memory the rest is on them as before.
+    /// Takes all that has arrived from the links on which a peer has rung. After want of memory the rest is on them as before.
     pub(crate) fn gather<R: Wait>(&mut self, rt: &R) -> Result<(), NoMemory>
         ensures room { Room (λ peer. Grows) self.old self.new }
         ensures sent { (stamp : ℕ) → SameSent stamp self.old self.new }
         ensures unsent { self.new.unsent ≡ self.old.unsent }
     {
-        gather_all(rt, self.ports.as_mut_slice())
-    }
-
-    /// How many of the waiting messages the member would take now.
-    pub(crate) fn ready_count(&self, member: &Member, last: u64) -> u128
-        requires settings { self.now.settings ≡ member.now.code.settings }
-        requires own { self.now.own ≡ member.now.node }
-        ensures count { result ≡ length (all_deliveries member.now last self.now.ports) }
-        ensures few { result ≤ 65 * 2 ^ 64 }
-    {
-        let mut count = 0u128;
-        for port in &self.ports {
-            count += port.ready_count(member, last) as u128;
-        }
-        count
-    }
-
-    /// The k-th of them, from 0, by port and number; None exactly where there are no more than k.
-    pub(crate) fn ready_at(&self, member: &Member, last: u64, k: usize) -> Option<Waiting>
-        requires settings { self.now.settings ≡ member.now.code.settings }
-        requires own { self.now.own ≡ member.now.node }
-        ensures { MatchOption result
-            (length (all_deliveries member.now last self.now.ports) ≤ k)
-            (λ w. IsReady self.now member.now last w × (slice_get (all_deliveries member.now last self.now.ports) k ≡ Some (Deliver (node_of w.src) (node_of self.now.own) w.letter.number, Some (mail_of w.letter.mail)))) }
-    {
-        let mut left = k;
-        for (seat, port) in self.ports.iter().enumerate() {
-            match port.ready_at(member, last, left) {
-                Ok(letter) => {
-                    return Some(Waiting {
-                        seat,
-                        src: port.peer(),
-                        letter,
-                    });
-                }
-                Err(count) => left -= count,
-            }
-        }
-        None
+        let Mailroom {
+            ports,
+            tally,
+            bells,
+            rung,
+            ..
+        } = self;
+        *rung = rung.and(bells.listen());
+        gather_rung(rt, ports.as_mut_slice(), tally, rung)
     }
 
     /// The member does an event; what it sends is kept here until it is put onto the links.
@@ -195,6 +233,7 @@ impl Mailroom {
         ensures sent { (stamp : ℕ) → SameSent stamp self.old self.new }
     {
         self.ports[waiting.seat].drop_letter(&waiting.letter);
+        self.tally.note(waiting.seat, &self.ports[waiting.seat]);
     }
 
     /// What the peer has taken is a beginning of what was sent to it and is on the link.

@@ -3,11 +3,13 @@
 //! taken.
 #![tactic(auto)]
 
+mod bells;
 mod inlet;
 mod outlet;
 mod rule;
 mod wire;
 
+pub use bells::{BELLS, Bells, Rung};
 pub use inlet::Inlet;
 pub use outlet::Outlet;
 pub use rule::Ends;

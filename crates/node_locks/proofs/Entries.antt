@@ -1,23 +1,34 @@
 -- How many entries are in logs.
-use Rattle.std.proofs.Common.{◌≡◌, ℕ, ◌+◌, List, [], ◌∷◌, ◌++◌, length, refl, ap, sym, ◌∙◌, arith, append-nil}
+use Rattle.std.proofs.Common.{◌≡◌, ℕ, zero, suc, ◌+◌, List, [], ◌∷◌, ◌++◌, length, refl, ap, sym, ◌∙◌, arith, append-nil}
 use Rattle.std.specs.Prelude.{reverse, All}
 use Rattle.std.proofs.lemmas.List.{reverse-append, length-append}
 use Rattle.std.proofs.lemmas.List.Elements.{All-head, All-tail}
+use Rattle.rand_pcg.specs.Lcg.{Lcg}
 use Rattle.logged_node.specs.Acts.{AnswersAct}
 use Rattle.logged_node.specs.Node.{NodeData}
 use Rattle.logged_node.specs.declared.node.Act.{Act}
 use Rattle.logged_node.specs.declared.node.Act.TheVariants.{Moved, Idle, Memory}
 use Rattle.node_logs.specs.declared.logs.Logged.{Logged}
-use Rattle.node_locks.specs.Turns.{entries_by, entries_in}
+use Rattle.node_locks.specs.Turns.{ActedOn, MovedOn, entries_by, entries_in, moved_in}
 use Rattle.node_locks.specs.Wiring.{logs_of}
+use Rattle.node_locks.specs.declared.acts.Acts.{Acts}
 
--- a turn adds what it is counted for
+-- an act adds what it is counted for
 pub entries-more : (old new : NodeData) (pick : ℕ) (answer : Act) → AnswersAct old pick new answer
     → length new.log ≡ length old.log + entries_by answer
 entries-more old new pick Moved h =
     ap length (h.1.1.performs.log ∙ ap (λ l. l ++ h.1.1.performs.entry ∷ []) h.1.0.log) ∙ length-append old.log (h.1.1.performs.entry ∷ [])
 entries-more old new pick Idle h = omega (arith, ap length h.0.log)
 entries-more old new pick Memory h = omega (arith, ap length h.log)
+
+-- as many entries are added as acts moved
+entries-moved : (old new : NodeData) (g : Lcg) (n : ℕ) → MovedOn old g n new → length new.log ≡ length old.log + n
+unfolding MovedOn
+entries-moved old new g zero h = omega (arith, ap (λ (x : NodeData). length x.log) h)
+entries-moved old new g (suc n) h = omega (arith, entries-moved old h.0 g n h.1.0, entries-more h.0 new _ Moved h.1.1)
+
+pub entries-turn : (old new : NodeData) (g : Lcg) (t : Acts) → ActedOn old g new t → length new.log ≡ length old.log + moved_in t
+entries-turn old new g t h = omega (arith, entries-moved old h.mid g t.before h.moved, entries-more h.mid new _ t.last h.last)
 
 pub reverse-last : (nodes : List NodeData) (n : NodeData) → reverse (nodes ++ n ∷ []) ≡ n ∷ reverse nodes
 reverse-last nodes n = reverse-append nodes (n ∷ [])

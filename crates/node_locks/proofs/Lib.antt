@@ -7,3 +7,4 @@ mod Joining
 mod Seats
 mod Wired
 mod Entries
+mod Acting

@@ -1,11 +1,13 @@
 // What stands behind the locks of a farm.
-ghost use Rattle.std.specs.Prelude.{◌≡◌, ℕ, ◌+◌, ◌^◌, ◌<◌, ◌≤◌, length};
-ghost use Rattle.node_locks.specs.Turns.{entries_by};
+ghost use Rattle.std.specs.Prelude.{◌≡◌, ℕ, suc, ◌+◌, ◌^◌, ◌<◌, ◌≤◌, length};
+ghost use Rattle.node_locks.specs.Turns.{IsTurn, after_words, moved_in};
 ghost use Rattle.node_locks.specs.Wiring.{IsOf};
 
+use crate::acts::{Acts, act_on};
 use crate::setup::Setup;
 use crate::ticket::Ticket;
-use logged_node::{Act, Node};
+use logged_node::Node;
+use rand_pcg::Lcg64Xsh32;
 use std::marker::PhantomData;
 use std::sync::ledger::{Book, Ledger, Share};
 use std::sync::{Mutex, Wait};
@@ -21,7 +23,7 @@ pub struct Desk<W: Setup, E: Ledger> {
     ghost same: { mark.amount ≡ length node.log },
 }
 
-/// As many entries are in all logs as turns have moved.
+/// As many entries are in all logs as acts have moved.
 #[derive(Drop)]
 pub struct Books<E: Ledger, T: Ledger> {
     pub(crate) entries: Book<E>,
@@ -33,14 +35,14 @@ pub struct Books<E: Ledger, T: Ledger> {
 }
 
 impl<E: Ledger, T: Ledger> Books<E, T> {
-    /// Books one entry, and the turn that made it.
-    pub(crate) fn book(&mut self, mark: &mut Share<E>, ticket: &mut Ticket<T>)
-        requires few { ticket.old.moved < 2 ^ 62 }
+    /// Books so many entries, and the acts that made them.
+    pub(crate) fn book(&mut self, mark: &mut Share<E>, ticket: &mut Ticket<T>, count: u64)
+        requires few { ticket.old.moved + count ≤ 2 ^ 62 }
         requires some { 0 < ticket.old.parts }
         requires mark { 0 < mark.old.parts }
-        ensures mark { mark.new.amount ≡ mark.old.amount + 1 }
+        ensures mark { mark.new.amount ≡ mark.old.amount + count }
         ensures part { mark.new.parts ≡ mark.old.parts }
-        ensures moved { ticket.new.moved ≡ ticket.old.moved + 1 }
+        ensures moved { ticket.new.moved ≡ ticket.old.moved + count }
         ensures parts { ticket.new.parts ≡ ticket.old.parts }
     {
         let Books {
@@ -48,8 +50,8 @@ impl<E: Ledger, T: Ledger> Books<E, T> {
             turns,
             spare: _,
         } = self;
-        entries.add(mark, 1);
-        ticket.count(turns);
+        entries.add(mark, count);
+        ticket.count(turns, count);
     }
 }
 
@@ -71,17 +73,22 @@ impl<W: Setup, E: Ledger> Desk<W, E> {
         }
     }
 
-    /// One act of the node, booked where it moved. May wait for the books.
+    /// A turn of the node: so many acts at most, each with the next word, up to the first that doesn't move. Those that moved are booked
+    /// together at its end. May wait for the books.
     pub(crate) fn turn<T: Ledger, R: Wait>(
         &mut self,
         rt: &R,
-        pick: u32,
+        words: &mut Lcg64Xsh32,
+        most: u32,
         books: &Mutex<Books<E, T>>,
         ticket: &mut Ticket<T>,
-    ) -> Act
-        requires few { ticket.old.moved < 2 ^ 62 }
+    ) -> Acts
+        requires most { 0 < most }
+        requires few { ticket.old.moved + most ≤ 2 ^ 62 }
         requires some { 0 < ticket.old.parts }
-        ensures counted { ticket.new.moved ≡ ticket.old.moved + entries_by result }
+        ensures turn { IsTurn most result }
+        ensures drawn { words.new ≡ after_words (suc result.before) words.old }
+        ensures counted { ticket.new.moved ≡ ticket.old.moved + moved_in result }
         ensures parts { ticket.new.parts ≡ ticket.old.parts }
     {
         let Desk {
@@ -89,10 +96,11 @@ impl<W: Setup, E: Ledger> Desk<W, E> {
             mark,
             setup: _,
         } = self;
-        let answer = node.act(rt, pick);
-        if answer == Act::Moved {
-            books.lock(rt).book(mark, ticket);
+        let acts = act_on(rt, node, words, most);
+        let moved = acts.moved();
+        if moved > 0 {
+            books.lock(rt).book(mark, ticket, moved);
         }
-        answer
+        acts
     }
 }

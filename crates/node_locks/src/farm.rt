@@ -1,19 +1,21 @@
 // The nodes of a machine, each behind a lock of its own.
-ghost use Rattle.std.specs.Prelude.{◌≡◌, ℕ, ◌+◌, ◌^◌, ◌<◌, ◌≤◌, [], All, IfOk, IfErr, length, vec_capacity, vec_len};
+ghost use Rattle.std.specs.Prelude.{◌≡◌, ℕ, suc, ◌+◌, ◌^◌, ◌<◌, ◌≤◌, [], All, IfOk, IfErr, length, vec_capacity, vec_len};
 ghost use Rattle.std.specs.Arc.{arc_value};
 ghost use Rattle.image_load.specs.Contents.{started};
 ghost use Rattle.node_logs.specs.Fitting.{FitLogs, node_count};
-ghost use Rattle.node_locks.specs.Turns.{entries_by, entries_in};
+ghost use Rattle.node_locks.specs.Turns.{IsTurn, after_words, entries_in, moved_in};
 ghost use Rattle.node_locks.specs.Wiring.{AreOf, links_of, logs_of};
 
+use crate::acts::Acts;
 use crate::closing::look_at;
 use crate::desk::{Books, Desk};
 use crate::nodes::Nodes;
 use crate::places::all_placed;
 use crate::setup::Setup;
 use crate::ticket::Ticket;
-use logged_node::{Act, Node};
+use logged_node::Node;
 use node_logs::Logs;
+use rand_pcg::Lcg64Xsh32;
 use rv_code::Code;
 use std::alloc::Global;
 use std::sync::ledger::{Blank, Ledger, Share};
@@ -21,7 +23,7 @@ use std::sync::{Arc, Mutex, Wait};
 use tcc_base::NoMemory;
 
 /// The nodes of a machine, each behind a lock of its own, for any number of threads. W is the machine, E counts the entries of all logs,
-/// and T the turns that moved.
+/// and T the acts that moved.
 #[derive(Drop)]
 pub struct Farm<W: Setup, E: Ledger, T: Ledger> {
     code: Arc<Code, Global>,
@@ -71,17 +73,28 @@ impl<W: Setup, E: Ledger, T: Ledger> Farm<W, E, T> {
         config.cores() as u32 + config.dirs() as u32 + 1
     }
 
-    /// One act of that node under its lock, booked where it moved. May wait for the lock.
-    pub fn turn<R: Wait>(&self, rt: &R, node: u32, pick: u32, ticket: &mut Ticket<T>) -> Act
+    /// A turn of that node under its lock: so many acts at most, each with the next word of the generator. It ends at the first one that
+    /// doesn't move. Those that moved are booked together. May wait for the lock, which is held for the whole turn.
+    pub fn turn<R: Wait>(
+        &self,
+        rt: &R,
+        node: u32,
+        words: &mut Lcg64Xsh32,
+        most: u32,
+        ticket: &mut Ticket<T>,
+    ) -> Acts
         requires exists { node < node_count W.code.settings }
-        requires few { ticket.old.moved < 2 ^ 62 }
+        requires most { 0 < most }
+        requires few { ticket.old.moved + most ≤ 2 ^ 62 }
         requires some { 0 < ticket.old.parts }
-        ensures counted { ticket.new.moved ≡ ticket.old.moved + entries_by result }
+        ensures turn { IsTurn most result }
+        ensures drawn { words.new ≡ after_words (suc result.before) words.old }
+        ensures counted { ticket.new.moved ≡ ticket.old.moved + moved_in result }
         ensures parts { ticket.new.parts ≡ ticket.old.parts }
     {
         self.desks[node as usize]
             .lock(rt)
-            .turn(rt, pick, &self.books, ticket)
+            .turn(rt, words, most, &self.books, ticket)
     }
 
     /// All logs, once all tickets are back. Memory for them is taken first, and when it runs out, the farm and the ticket

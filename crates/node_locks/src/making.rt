@@ -138,7 +138,7 @@ pub(crate) fn seat_all(
     while let Some(ports) = rooms.pop() {
         let member = member_at(alloc, code, loaded, nodes.len())?;
         let List { items } = ports;
-        nodes.push_reserved(Node::new(alloc, code.config(), member, items));
+        nodes.push_reserved(Node::new(alloc, code.config(), member, items)?);
     }
     Ok(nodes)
 }

@@ -8,6 +8,7 @@ ghost use Rattle.node_locks.specs.Wiring.{AreNodes, logs_of};
 
 use crate::closing::{fit, take_logs};
 use crate::making::{join_all, seat_all};
+use crate::ringing::hang_bells;
 use image_load::Loaded;
 use logged_node::{Act, Node};
 use node_logs::Logs;
@@ -45,7 +46,8 @@ impl Nodes {
             return Err(NoMemory);
         };
         let rooms = join_all(alloc, code.config())?;
-        let nodes = seat_all(alloc, &code, loaded, rooms)?;
+        let mut nodes = seat_all(alloc, &code, loaded, rooms)?;
+        hang_bells(nodes.as_mut_slice(), code.config().cores() as usize)?;
         Ok(Nodes { code, nodes })
     }
 

@@ -1,10 +1,10 @@
-// The right to take turns, with the count of those that moved.
+// The right to take turns, with the count of the acts that moved in them.
 ghost use Rattle.std.specs.Prelude.{◌≡◌, ℕ, ◌+◌, ◌^◌, ◌<◌, ◌≤◌};
 
 use std::sync::ledger::{Book, Ledger, Share};
 
-/// The right to take turns at a farm, with the number of those that moved. Tickets are cut from the one with which the farm began, and
-/// no count can come but from turns.
+/// The right to take turns at a farm, with the number of acts that moved in them. Tickets are cut from the one with which the farm began,
+/// and no count can come but from turns.
 #[derive(Drop)]
 pub struct Ticket<T: Ledger> {
     moved: u64,
@@ -29,7 +29,7 @@ impl<T: Ledger> Ticket<T> {
         }
     }
 
-    /// How many turns that were taken with it moved.
+    /// How many acts moved in the turns that were taken with it.
     pub fn moved(&self) -> u64
         ensures { result ≡ self.now.moved }
     {
@@ -83,12 +83,12 @@ impl<T: Ledger> Ticket<T> {
         *parts += beside;
     }
 
-    /// One turn more, in the book too.
-    pub(crate) fn count(&mut self, book: &mut Book<T>)
-        requires few { self.old.moved < 2 ^ 62 }
+    /// So many acts more that moved, in the book too.
+    pub(crate) fn count(&mut self, book: &mut Book<T>, more: u64)
+        requires few { self.old.moved + more ≤ 2 ^ 62 }
         requires some { 0 < self.old.parts }
-        ensures total { book.new.total ≡ book.old.total + 1 }
-        ensures moved { self.new.moved ≡ self.old.moved + 1 }
+        ensures total { book.new.total ≡ book.old.total + more }
+        ensures moved { self.new.moved ≡ self.old.moved + more }
         ensures parts { self.new.parts ≡ self.old.parts }
     {
         let Ticket {
@@ -96,8 +96,8 @@ impl<T: Ledger> Ticket<T> {
             parts: _,
             share,
         } = self;
-        book.add(share, 1);
-        *moved += 1;
+        book.add(share, more);
+        *moved += more;
     }
 
     /// With all parts of a ledger, it has counted the book's total. Nothing is changed.

@@ -4,3 +4,4 @@ pub mod DataInside
 pub mod Own
 pub mod Placed
 pub mod Acting
+pub mod Always

@@ -2,8 +2,10 @@
 #![tactic(auto)]
 
 mod acting;
+mod always;
 mod choosing;
 mod kind;
 mod member;
 
+pub use always::never_waits;
 pub use member::Member;

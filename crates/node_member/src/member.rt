@@ -7,6 +7,7 @@ ghost use Rattle.tcc_maps.specs.Bridge.{node_of};
 ghost use Rattle.tcc_maps.specs.Nodes.{Core, Dir, Vendor as TheVendor};
 ghost use Rattle.tcc_rules.specs.Local.{state_at};
 ghost use Rattle.tcc_rules.specs.Step.{is_node};
+ghost use Rattle.node_member.specs.Always.{IsOfKind};
 ghost use Rattle.node_member.specs.Data.{node_at, state_of};
 ghost use Rattle.node_member.specs.Placed.{IsAtStart, IsPlaced};
 
@@ -101,10 +102,11 @@ impl Member {
         at_start(code, MemberKind::Vendor(Vendor::new()))
     }
 
-    /// Which node it is. The machine has it.
+    /// Which node it is. The machine has it, and its state is one of such a node.
     pub fn node(&self) -> NodeId
         ensures value { result ≡ self.now.node }
         ensures exists { is_node self.now.code.settings (node_of self.now.node) ≡ true }
+        ensures kind { IsOfKind (node_of self.now.node) (state_of self.now) }
     {
         match &self.kind {
             MemberKind::Core(id, _) => NodeId::Core(*id),

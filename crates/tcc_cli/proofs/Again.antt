@@ -222,8 +222,8 @@ report-behind s done events h text o p is first second =
     (h.commits, phases_of s h, run_text s done events h, subst (λ t. IsWhole t o) is first, second)
 
 pub prints-the-same : Facts → ReplaysPrintTheSame
-prints-the-same f w v recorded replay e g status other (Run machine images steps seed threads keep) name r h good again none enough =
-    let c = Run machine images steps seed threads keep in
+prints-the-same f w v recorded replay e g status other (Run machine images steps seed threads batch keep) name r h good again none enough =
+    let c = Run machine images steps seed threads batch keep in
     let x = well f recorded w e status c r.first h good in
     let (read, text, started, ran, whole) = x.ends in
     let s = start_of machine.raw machine.config r.files in

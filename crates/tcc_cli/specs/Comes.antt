@@ -29,8 +29,8 @@ AreLookedAt (Schedule name) most s settings files es = AreFirst settings (head_o
 
 -- what each command comes to, where its files have these bytes: the text that it prints, and what stands in the record then
 abbrev pub Comes : Command → (files : List (List ℕ)) → (tells : Bool) → (told : List ℕ → Option (List ℕ)) → Bool → List ℕ → Type 0
-Comes (Run machine images steps seed threads keep) files tells told done text =
-    let s = start_from (Run machine images steps seed threads keep) files in
+Comes (Run machine images steps seed threads batch keep) files tells told done text =
+    let s = start_from (Run machine images steps seed threads batch keep) files in
     Ran s (λ es. IsMade threads s seed steps es × IsRecorded keep tells told (record { config = machine.config; events = es }))
     (run_text s) done text
 Comes (Replay machine schedule images) files tells told done text =
@@ -74,8 +74,9 @@ HasBegun _ files o = ⊥
 
 -- the record holds, whole, a schedule that the command may run
 abbrev pub HasRecorded : Command → (files : List (List ℕ)) → (tells : Bool) → (told : List ℕ → Option (List ℕ)) → Type 0
-HasRecorded (Run machine images steps seed threads keep) files tells told =
-    RecordsOne (IsMade threads (start_from (Run machine images steps seed threads keep) files) seed steps) machine.config keep tells told
+HasRecorded (Run machine images steps seed threads batch keep) files tells told =
+    let s = start_from (Run machine images steps seed threads batch keep) files in
+    RecordsOne (IsMade threads s seed steps) machine.config keep tells told
 HasRecorded (Phases machine images steps seed keep) files tells told =
     RecordsOne (IsPhasePicked (start_from (Phases machine images steps seed keep) files) seed steps) machine.config keep tells told
 HasRecorded (Follow machine list images keep) files tells told =

@@ -13,7 +13,7 @@ use Rattle.work_gen.specs.Programs.{image, program}
 
 -- the names of the images
 abbrev pub image_names : Command → List (List ℕ)
-image_names (Run machine images steps seed threads keep) = images
+image_names (Run machine images steps seed threads batch keep) = images
 image_names (Replay machine schedule images) = images
 image_names (Serial machine list images) = images
 image_names (Trial config work number steps seed) = []
@@ -32,7 +32,7 @@ with_file (Schedule name) images = name ∷ images
 
 -- the names of the files that are read, in order: the schedule or the list, and then the images
 abbrev pub files_of : Command → List (List ℕ)
-files_of (Run machine images steps seed threads keep) = images
+files_of (Run machine images steps seed threads batch keep) = images
 files_of (Replay machine schedule images) = schedule ∷ images
 files_of (Serial machine list images) = list ∷ images
 files_of (Trial config work number steps seed) = []
@@ -46,14 +46,14 @@ files_of (Follow machine list images keep) = list ∷ images
 
 -- the name of the file that is written
 abbrev pub record_of : Command → Option (List ℕ)
-record_of (Run machine images steps seed threads keep) = keep
+record_of (Run machine images steps seed threads batch keep) = keep
 record_of (Phases machine images steps seed keep) = keep
 record_of (Follow machine list images keep) = keep
 record_of _ = None
 
 -- the machine, and whether its images are raw; a workload is
 abbrev pub machine_of : Command → Machine
-machine_of (Run machine images steps seed threads keep) = machine
+machine_of (Run machine images steps seed threads batch keep) = machine
 machine_of (Replay machine schedule images) = machine
 machine_of (Serial machine list images) = machine
 machine_of (Trial config work number steps seed) = record { config = config; raw = true }
@@ -81,7 +81,7 @@ behind_file (Schedule name) files = tail_of files
 
 -- the images' bytes, where the files have these
 abbrev pub images_in : Command → (files : List (List ℕ)) → List (List ℕ)
-images_in (Run machine images steps seed threads keep) files = files
+images_in (Run machine images steps seed threads batch keep) files = files
 images_in (Replay machine schedule images) files = tail_of files
 images_in (Serial machine list images) files = tail_of files
 images_in (Trial config work number steps seed) files = image (program work number) ∷ []

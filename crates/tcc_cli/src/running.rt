@@ -34,6 +34,7 @@ pub fn run_recorded<'a, R: Threads + Wait + Sync, F: Store, G: Gate + Sync>(
 ) -> Result<Finished, Refusal<'a>>
     requires few { plan.steps ≤ 4194304 }
     requires threads { IfSome plan.threads (λ t. (1 ≤ t) × (t ≤ 16)) }
+    requires batch { (1 ≤ plan.batch) × (plan.batch ≤ 1024) }
     ensures ran { IfOk result (λ f. Ran (started loaded.now)
         (λ es. IsMade plan.threads (started loaded.now) plan.seed plan.steps es
         × IsRecorded keep.now (F.tells files.old) (F.contents files.new) (record { config = loaded.now.settings; events = es }))

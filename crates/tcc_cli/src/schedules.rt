@@ -23,12 +23,14 @@ use tcc_threads::run_threads;
 use tcc_workers::WorkPlan;
 use tcc_world::Gate;
 
-/// How the events of a run come about: at most so many, by a seed, on so many host threads or on none.
+/// How the events of a run come about: at most so many, by a seed, on so many host threads or on none. A thread's turn has at most `batch`
+/// acts of its node.
 #[derive(Clone, Copy, Debug)]
 pub struct RunPlan {
     pub steps: u64,
     pub seed: u64,
     pub threads: Option<u8>,
+    pub batch: u16,
 }
 
 /// The machine after a run. With host threads it may wait for them.
@@ -41,6 +43,7 @@ pub fn run_by<R: Threads + Wait + Sync, G: Gate + Sync>(
 ) -> Result<Refined, NoMemory>
     requires few { plan.steps ≤ 4194304 }
     requires threads { IfSome plan.threads (λ t. (1 ≤ t) × (t ≤ 16)) }
+    requires batch { (1 ≤ plan.batch) × (plan.batch ≤ 1024) }
     ensures code { IfOk result (λ r. r.machine.cores.code ≡ loaded.now) }
     ensures made { IfOk result (λ r. IsMade plan.threads (started loaded.now) plan.seed plan.steps r.taken) }
     ensures few { IfOk result (λ r. length r.taken ≤ plan.steps) }
@@ -50,6 +53,7 @@ pub fn run_by<R: Threads + Wait + Sync, G: Gate + Sync>(
         steps,
         seed,
         threads,
+        batch,
     } = plan;
     match threads {
         None => pick(alloc, loaded, seed, steps),
@@ -61,6 +65,7 @@ pub fn run_by<R: Threads + Wait + Sync, G: Gate + Sync>(
                 threads,
                 steps,
                 seed,
+                batch,
             },
             gate,
         ),

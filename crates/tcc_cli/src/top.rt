@@ -63,7 +63,8 @@ use work_gen::workload;
 /// the record's.
 ///
 /// With `--threads` it starts so many threads, and may wait for them and for the locks that they share: that it returns then isn't proved.
-/// Each passes the gate before each of its turns. Without `--threads` it waits for nobody.
+/// Each passes the gate before each of its turns, of at most so many acts of a node as `--batch` says. Without `--threads` it waits for
+/// nobody.
 pub fn tcc_main<R: Threads + Wait + Sync, F: Store, O: Sink, E: Sink, G: Gate + Sync>(
     rt: &R,
     alloc: Global,
@@ -361,6 +362,7 @@ fn finish<'a, R: Threads + Wait + Sync, F: Store, G: Gate + Sync>(
             steps,
             seed,
             threads,
+            batch,
             keep,
             ..
         } => {
@@ -368,6 +370,7 @@ fn finish<'a, R: Threads + Wait + Sync, F: Store, G: Gate + Sync>(
                 steps: *steps,
                 seed: *seed,
                 threads: *threads,
+                batch: *batch,
             };
             run_recorded(rt, alloc, loaded, plan, keep, files, gate)
         }

@@ -41,6 +41,7 @@ fn logs_after<
 ) -> Result<Logs, NoMemory>
     requires threads { (1 ≤ plan.now.threads) × (plan.now.threads ≤ 16) }
     requires steps { plan.now.steps ≤ 4194304 }
+    requires batch { (1 ≤ plan.now.batch) × (plan.now.batch ≤ 1024) }
     requires code { nodes.code ≡ W.code }
     requires link { W.link ≡ links_of nodes }
     requires logs { All (λ log. log ≡ []) (logs_of nodes.nodes) }
@@ -70,6 +71,7 @@ pub(crate) fn run_apart<R: Threads + Wait + Sync, G: Gate + Sync>(
 ) -> Result<Schedule, NoMemory>
     requires threads { (1 ≤ plan.now.threads) × (plan.now.threads ≤ 16) }
     requires steps { plan.now.steps ≤ 4194304 }
+    requires batch { (1 ≤ plan.now.batch) × (plan.now.batch ≤ 1024) }
     ensures { IfOk result (λ s. IsMergedRun (started loaded.now) plan.now.steps s.events) }
 {
     let nodes = Nodes::new(alloc, loaded)?;

@@ -33,9 +33,9 @@ fn retrace(alloc: Global, loaded: &Loaded, events: &[Event]) -> Result<Refined, 
     }
 }
 
-/// The machine after a run of so many host threads: its nodes, each behind a lock, take turns and log their events, and the logs are merged
-/// into one schedule, whose events the machine takes. Where these are fewer than `steps` and some event is useful, it goes on with the
-/// first useful event, time after time.
+/// The machine after a run of so many host threads: its nodes, each behind a lock, take turns and log their events, at most `batch` in a
+/// turn, and the logs are merged into one schedule, whose events the machine takes. Where these are fewer than `steps` and some event is
+/// useful, it goes on with the first useful event, time after time.
 ///
 /// Which turns meet is the threads' affair: each schedule that can come of it is a run. An error is want of memory, and nothing is left.
 /// Where no threads can be made, the workers run one after another. The events are taken twice, once by the threads.
@@ -48,6 +48,7 @@ pub fn run_threads<R: Threads + Wait + Sync, G: Gate + Sync>(
 ) -> Result<Refined, NoMemory>
     requires threads { (1 ≤ plan.now.threads) × (plan.now.threads ≤ 16) }
     requires steps { plan.now.steps ≤ 4194304 }
+    requires batch { (1 ≤ plan.now.batch) × (plan.now.batch ≤ 1024) }
     ensures code { IfOk result (λ r. r.machine.cores.code ≡ loaded.now) }
     ensures joined { IfOk result (λ r. IsJoined (started loaded.now) plan.now.steps r.taken) }
     ensures few { IfOk result (λ r. length r.taken ≤ plan.now.steps) }

@@ -1,6 +1,6 @@
 -- The numbers of a command are those of allowed fields.
-use Rattle.std.proofs.Common.{◌≡◌, ◌↔◌, ℕ, ◌+◌, ◌%◌, ◌^◌, ◌≤◌, Bool, true, false, IsTrue, List, length, Option, Some, None}
-use Rattle.std.proofs.Common.{refl, sym, subst, ◌∙◌}
+use Rattle.std.proofs.Common.{◌≡◌, ℕ, ◌+◌, ◌%◌, ◌^◌, ◌≤◌, IsTrue, List, length, Option, Some, None}
+use Rattle.std.proofs.Common.{refl, sym, subst, ◌∙◌, arith}
 use Rattle.std.specs.Int.{is_power_of_two}
 use Rattle.std.specs.Prelude.{IfSome, IsSome, codes}
 use Rattle.clap.specs.Walk.{Row, Text}
@@ -9,7 +9,7 @@ use Rattle.clap.specs.Words.{first_of, matches_of}
 use Rattle.tcc_base.specs.Settings.{Settings, IsAllowed}
 use Rattle.tcc_words.proofs.OneCommand.{one-value}
 use Rattle.tcc_words.proofs.Unasked.{IsApart, unasked}
-use Rattle.tcc_words.specs.Asked.{AsksLook, AsksSource, AsksView, GoTogether, HasPlaces, HasSettings, IsCommand, IsFlagged, MayBeGiven}
+use Rattle.tcc_words.specs.Asked.{AsksLook, AsksSource, AsksView, GoTogether, HasPlaces, HasSettings, IsCommand, MayBeGiven}
 use Rattle.tcc_words.specs.Asked.{Asks}
 use Rattle.tcc_words.specs.Bounds.{IsFew, IsInBounds, IsNear}
 use Rattle.tcc_words.specs.Grammar.{grammar}
@@ -19,7 +19,7 @@ use Rattle.tcc_words.specs.declared.command.Command.{Command}
 use Rattle.tcc_words.specs.declared.command.Command.TheVariants as command
 use Rattle.tcc_words.specs.declared.command.Field.{Field}
 use Rattle.tcc_words.specs.declared.command.Field.TheVariants.{Cores, Dirs, Sets, Ways, Ram, Base, Steps, From, To, Events}
-use Rattle.tcc_words.specs.declared.command.Field.TheVariants.{States, Longest, Threads, Images, Number}
+use Rattle.tcc_words.specs.declared.command.Field.TheVariants.{States, Longest, Threads, Batch, Images, Number}
 use Rattle.tcc_words.specs.declared.command.Source.{Source}
 use Rattle.tcc_words.specs.declared.command.Source.TheVariants as source
 use Rattle.tcc_words.specs.declared.command.Verb.{Verb}
@@ -82,6 +82,14 @@ threads-few rows None keep given kept every = tt
 threads-few rows (Some t) keep given kept every =
     threads-fit (first_of (codes "threads") rows) (first_of (codes "record") rows) keep t given kept (every Threads)
 
+-- a number of acts is 1, or was given from 1 to 1024
+batch-fits : (text threads : Option Text) (n : ℕ) → IsValue 1 text n
+    → IfSome text (λ given. ((m : ℕ) × IsNumber given m × (1 ≤ m) × (m ≤ 1024)) × IsSome threads) → (1 ≤ n) × (n ≤ 1024)
+batch-fits None threads n h a =
+    let one : n ≡ 1 = h in
+    (omega (arith, one), omega (arith, one))
+batch-fits (Some text) threads n h (a, some) = subst (λ k. (1 ≤ k) × (k ≤ 1024)) (sym a.1.value ∙ h.value) (a.2, a.3)
+
 images-some : (rows : List Row) (images : List Text) → images ≡ images_of rows → 1 ≤ length (images_of rows)
     → ((field : Field) → Allows rows field) → (1 ≤ length images) × (length images ≤ 16)
 images-some rows images is some every = subst (λ names. (1 ≤ length names) × (length names ≤ 16)) (sym is) (some, every Images)
@@ -143,10 +151,14 @@ looking verb rows v _ places every a b = absurd a
 
 bounded : (verb : Verb) (rows : List Row) (c : Command) → HasPlaces verb rows → HasNone verb rows → ((field : Field) → Allows rows field)
     → Asks verb rows c → IsInBounds c
-bounded Run rows (command.Run machine images steps seed threads keep) places none every a =
+bounded Run rows (command.Run machine images steps seed threads batch keep) places none every a =
     let some = images-some rows images a.1 places every in
-    let few = threads-few rows threads keep a.4 a.5 every in
-    record { allowed = allowed rows machine.config a.0.0 every; numbers = (some.0, some.1, steps-few rows steps a.2 every, few) }
+    let few = threads-few rows threads keep a.4 a.6 every in
+    let acts = batch-fits (first_of (codes "batch") rows) (first_of (codes "threads") rows) batch a.5 (every Batch) in
+    record {
+      allowed = allowed rows machine.config a.0.0 every;
+      numbers = (some.0, some.1, steps-few rows steps a.2 every, few, acts.0, acts.1);
+    }
 bounded Replay rows (command.Replay machine schedule images) places none every a =
     record { allowed = allowed rows machine.config a.0.0 every; numbers = images-some rows images a.2 places.1 every }
 bounded Serial rows (command.Serial machine list images) places none every a =

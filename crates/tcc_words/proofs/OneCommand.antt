@@ -19,7 +19,7 @@ use Rattle.tcc_words.specs.declared.command.Command.{Command}
 use Rattle.tcc_words.specs.declared.command.Command.TheVariants as command
 use Rattle.tcc_words.specs.declared.command.Field.{Field}
 use Rattle.tcc_words.specs.declared.command.Field.TheVariants.{Cores, Dirs, Sets, Ways, Ram, Base, Steps, Seed, From, To}
-use Rattle.tcc_words.specs.declared.command.Field.TheVariants.{Events, States, Longest}
+use Rattle.tcc_words.specs.declared.command.Field.TheVariants.{Events, States, Longest, Batch}
 use Rattle.tcc_words.specs.declared.command.Machine.{Machine}
 use Rattle.tcc_words.specs.declared.command.Source.{Source}
 use Rattle.tcc_words.specs.declared.command.Source.TheVariants as source
@@ -103,15 +103,16 @@ one-work v w e = sym (work-again v) ∙ ap (λ (t : Text). work-of (work-tag t))
 -- ---- one command
 
 one-run : (rows : List Row) (c d : Command) → Asks Run rows c → Asks Run rows d → c ≡ d
-one-run rows (command.Run m images steps seed threads keep) (command.Run n images' steps' seed' threads' keep') a b =
+one-run rows (command.Run m images steps seed threads batch keep) (command.Run n images' steps' seed' threads' batch' keep') a b =
     let machine = one-machine rows m n a.0 b.0 in
     let files : images ≡ images' = a.1 ∙ sym b.1 in
     let most = one-said rows Steps steps steps' a.2 b.2 in
     let start = one-said rows Seed seed seed' a.3 b.3 in
     let hosts = may-be rows _ threads threads' a.4 b.4 in
-    let kept : keep ≡ keep' = a.5 ∙ sym b.5 in
-    λ i. command.Run (machine i) (files i) (most i) (start i) (hosts i) (kept i)
-one-run rows (command.Run m images steps seed threads keep) _ a b = absurd b
+    let acts = one-said rows Batch batch batch' a.5 b.5 in
+    let kept : keep ≡ keep' = a.6 ∙ sym b.6 in
+    λ i. command.Run (machine i) (files i) (most i) (start i) (hosts i) (acts i) (kept i)
+one-run rows (command.Run m images steps seed threads batch keep) _ a b = absurd b
 one-run rows _ d a b = absurd a
 
 one-replay : (rows : List Row) (c d : Command) → Asks Replay rows c → Asks Replay rows d → c ≡ d

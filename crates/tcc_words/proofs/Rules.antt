@@ -42,12 +42,12 @@ unfolding put_rules
 more_rules a first later = ap (put_rules a) (append_assoc a.top.rules first later)
 
 -- the grammars, by the steps in which they are made
-pub run_made : (verb : Verb) (name : Text) (bare machine events threads made : App) → verb ≡ Run → name ≡ verb_word verb
+pub run_made : (verb : Verb) (name : Text) (bare machine events threads batch made : App) → verb ≡ Run → name ≡ verb_word verb
     → bare ≡ plain name [] → machine ≡ with_rules machine_rules bare
     → events ≡ with_rules event_rules machine → threads ≡ with_rule events (option (codes "threads"))
-    → made ≡ with_rules record_rules threads → made ≡ grammar verb
+    → batch ≡ with_rule threads (option (codes "batch")) → made ≡ with_rules record_rules batch → made ≡ grammar verb
 unfolding grammar
-run_made verb name bare machine events threads made v n e0 e1 e2 e3 e4 = rw (e4, e3, e2, e1, e0, n, v) refl
+run_made verb name bare machine events threads batch made v n e0 e1 e2 e3 e4 e5 = rw (e5, e4, e3, e2, e1, e0, n, v) refl
 
 pub phases_made : (verb : Verb) (name : Text) (bare machine events made : App) → verb ≡ Phases → name ≡ verb_word verb
     → bare ≡ plain name [] → machine ≡ with_rules machine_rules bare → events ≡ with_rules event_rules machine

@@ -15,7 +15,7 @@ use Rattle.tcc_words.specs.declared.command.Command.{Command}
 use Rattle.tcc_words.specs.declared.command.Command.TheVariants as command
 use Rattle.tcc_words.specs.declared.command.Field.{Field}
 use Rattle.tcc_words.specs.declared.command.Field.TheVariants.{Cores, Dirs, Sets, Ways, Ram, Base, Steps, Seed, From, To}
-use Rattle.tcc_words.specs.declared.command.Field.TheVariants.{Events, States, Longest}
+use Rattle.tcc_words.specs.declared.command.Field.TheVariants.{Events, States, Longest, Batch}
 use Rattle.tcc_words.specs.declared.command.Machine.{Machine}
 use Rattle.tcc_words.specs.declared.command.Source.{Source}
 use Rattle.tcc_words.specs.declared.command.Source.TheVariants as source
@@ -112,9 +112,9 @@ AsksView _ rows v = ⊥
 
 -- the command that is asked for
 abbrev pub Asks : Verb → List Row → Command → Type 0
-Asks Run rows (command.Run machine images steps seed threads keep) =
+Asks Run rows (command.Run machine images steps seed threads batch keep) =
     HasMachine rows machine × (images ≡ images_of rows) × IsSaid rows Steps steps × IsSaid rows Seed seed
-    × MayBeGiven rows (codes "threads") threads × (keep ≡ first_of (codes "record") rows)
+    × MayBeGiven rows (codes "threads") threads × IsSaid rows Batch batch × (keep ≡ first_of (codes "record") rows)
 Asks Replay rows (command.Replay machine schedule images) =
     HasMachine rows machine × (first_of (codes "schedule") rows ≡ Some schedule) × (images ≡ images_of rows)
 Asks Serial rows (command.Serial machine report images) =
@@ -152,6 +152,7 @@ pub record HasValues (rows : List Row) (v : Values) : Type 0 where
   pub longest : IsSaid rows Longest v.longest
   pub tell : HasTell rows v.tell
   pub threads : MayBeGiven rows (codes "threads") v.threads
+  pub batch : IsSaid rows Batch v.batch
   pub work : HasWork rows v.work
   pub number : MayBeGiven rows (codes "number") v.number
   pub allowed : (field : Field) → Allows rows field

@@ -12,7 +12,7 @@ use Rattle.tcc_words.specs.declared.command.View.{View}
 use Rattle.tcc_words.specs.declared.command.View.TheVariants.{Trace, Count, State}
 
 abbrev pub config_of : Command → Settings
-config_of (Run machine images steps seed threads keep) = machine.config
+config_of (Run machine images steps seed threads batch keep) = machine.config
 config_of (Replay machine schedule images) = machine.config
 config_of (Serial machine list images) = machine.config
 config_of (Trial config work number steps seed) = config
@@ -34,11 +34,12 @@ IsNear (Trace from to states) = (from ≤ 4194304) × (to ≤ 4194304)
 IsNear (Count csv) = Unit {0}
 IsNear (State events) = events ≤ 4194304
 
--- 1 to 16 images, at most 4,194,304 events, 1 to 16 threads and only with a record, a workload's number from 1 to 2047; where there are
--- no directories the settings have one; at least one state, and one instruction
+-- 1 to 16 images, at most 4,194,304 events, 1 to 16 threads and only with a record, 1 to 1024 acts in a turn, a workload's number from 1
+-- to 2047; where there are no directories the settings have one; at least one state, and one instruction
 abbrev pub AreNumbers : Command → Type 0
-AreNumbers (Run machine images steps seed threads keep) =
+AreNumbers (Run machine images steps seed threads batch keep) =
     (1 ≤ length images) × (length images ≤ 16) × (steps ≤ 4194304) × IfSome threads (λ t. (1 ≤ t) × (t ≤ 16) × IsSome keep)
+    × (1 ≤ batch) × (batch ≤ 1024)
 AreNumbers (Replay machine schedule images) = (1 ≤ length images) × (length images ≤ 16)
 AreNumbers (Serial machine list images) = (1 ≤ length images) × (length images ≤ 16)
 AreNumbers (Trial config work number steps seed) = (1 ≤ number) × (number ≤ 2047) × (steps ≤ 4194304)

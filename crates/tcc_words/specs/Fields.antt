@@ -8,7 +8,8 @@ use Rattle.work_gen.specs.Names.{work_word}
 use Rattle.tcc_words.specs.Numbers.{IsNumber}
 use Rattle.tcc_words.specs.declared.command.Field.{Field}
 use Rattle.tcc_words.specs.declared.command.Field.TheVariants.{Cores, Dirs, Sets, Ways, Ram, Base, Steps, Seed, From, To}
-use Rattle.tcc_words.specs.declared.command.Field.TheVariants.{Events, States, Longest, Tell, Threads, Images, Kind, Number}
+use Rattle.tcc_words.specs.declared.command.Field.TheVariants.{Events, States, Longest, Tell, Threads, Batch, Images, Kind}
+use Rattle.tcc_words.specs.declared.command.Field.TheVariants.{Number}
 use Rattle.run_outcomes.specs.declared.outcomes.Tell.{Tell as Told}
 use Rattle.run_outcomes.specs.declared.outcomes.Tell.TheVariants.{Consoles, Memory, Everything}
 
@@ -29,6 +30,7 @@ field_word States = codes "states"
 field_word Longest = codes "longest"
 field_word Tell = codes "tell"
 field_word Threads = codes "threads"
+field_word Batch = codes "batch"
 field_word Images = codes "images"
 field_word Kind = codes "kind"
 field_word Number = codes "number"
@@ -48,6 +50,7 @@ default_of To = 4194304
 default_of Events = 4194304
 default_of States = 1000000
 default_of Longest = 100000
+default_of Batch = 1
 default_of _ = 0
 
 -- the number that a text writes, or the default where there is none
@@ -87,6 +90,8 @@ Allows rows Longest = (n : ℕ) × IsSaid rows Longest n × (1 ≤ n) × (n ≤ 
 Allows rows Tell = IfSome (first_of (codes "tell") rows) (λ text. (t : Told) × (text ≡ tell_word t))
 Allows rows Threads = IfSome (first_of (codes "threads") rows)
     (λ text. ((n : ℕ) × IsNumber text n × (1 ≤ n) × (n ≤ 16)) × IsSome (first_of (codes "record") rows))
+Allows rows Batch = IfSome (first_of (codes "batch") rows)
+    (λ text. ((n : ℕ) × IsNumber text n × (1 ≤ n) × (n ≤ 1024)) × IsSome (first_of (codes "threads") rows))
 Allows rows Images = length (images_of rows) ≤ 16
 Allows rows Kind = IfSome (first_of (codes "kind") rows) (λ text. (work : Work) × (text ≡ work_word work))
 Allows rows Number = IfSome (first_of (codes "number") rows) (λ text. (n : ℕ) × IsNumber text n × (1 ≤ n) × (n ≤ 2047))
@@ -96,7 +101,8 @@ abbrev pub machine_fields : List Field
 machine_fields = Cores ∷ Dirs ∷ Sets ∷ Ways ∷ Ram ∷ Base ∷ []
 
 abbrev pub order : List Field
-order = machine_fields ++ Steps ∷ Seed ∷ From ∷ To ∷ Events ∷ States ∷ Longest ∷ Tell ∷ Threads ∷ Images ∷ Kind ∷ Number ∷ []
+order =
+    machine_fields ++ Steps ∷ Seed ∷ From ∷ To ∷ Events ∷ States ∷ Longest ∷ Tell ∷ Threads ∷ Batch ∷ Images ∷ Kind ∷ Number ∷ []
 
 -- the first of these fields in which something stands that isn't allowed
 abbrev pub BreaksFirst : List Row → List Field → Field → Type 0

@@ -71,7 +71,7 @@ source_rules = machine_rules ++ event_rules ++ option (codes "schedule") ∷ fla
 -- why [..] SCHEDULE IMAGE...    phases [..] IMAGE...    bus [..] IMAGE...
 -- trace [..] IMAGE...    count [..] IMAGE...    state [..] IMAGE...    outcomes [..] IMAGE...    follow [..] LIST IMAGE...
 abbrev pub rules : Verb → List Rule
-rules Run = machine_rules ++ event_rules ++ option (codes "threads") ∷ record_rules
+rules Run = machine_rules ++ event_rules ++ option (codes "threads") ∷ option (codes "batch") ∷ record_rules
 rules Replay = file_rules (codes "schedule")
 rules Serial = file_rules (codes "report")
 rules Trial = node_rules ++ event_rules ++ place (codes "kind") ∷ place (codes "number") ∷ []

@@ -111,14 +111,15 @@ pub enum View {
 /// A command with its settings. Files stand as their names.
 #[derive(Debug, Drop)]
 pub enum Command {
-    /// Run the images for at most `steps` events, chosen by `seed`: on so many host threads, where `threads` says so. The
-    /// schedule is written to the file `keep`, where there is one.
+    /// Run the images for at most `steps` events, chosen by `seed`: on so many host threads, where `threads` says so, each with at
+    /// most `batch` acts of a node in a turn. The schedule is written to the file `keep`, where there is one.
     Run {
         machine: Machine,
         images: List<Text>,
         steps: u64,
         seed: u64,
         threads: Option<u8>,
+        batch: u16,
         keep: Option<Text>,
     },
     /// Run the schedule of a file whole.
@@ -229,6 +230,8 @@ pub enum Field {
     Tell,
     /// 1 to 16, and only together with a file for the schedule.
     Threads,
+    /// 1 to 1024 acts, and only together with a number of threads.
+    Batch,
     /// 1 to 16 names.
     Images,
     /// The name of a workload.
@@ -258,6 +261,7 @@ impl Field {
             Field::Longest => "longest",
             Field::Tell => "tell",
             Field::Threads => "threads",
+            Field::Batch => "batch",
             Field::Images => "images",
             Field::Kind => "kind",
             Field::Number => "number",
@@ -269,7 +273,7 @@ impl Field {
         ensures { result ≡ default_of self }
     {
         match self {
-            Field::Cores | Field::Dirs => 1,
+            Field::Cores | Field::Dirs | Field::Batch => 1,
             Field::Sets => 16,
             Field::Ways => 2,
             Field::Ram => 65_536,

@@ -6,7 +6,7 @@ ghost use Rattle.tcc_words.specs.Fields.{Allows, BreaksFirst, IsSaid, images_of,
 ghost use Rattle.tcc_words.specs.Asked.{HasSettings, HasTell, HasValues, HasWork, IsFaulty, MayBeGiven};
 ghost use Rattle.tcc_words.specs.declared.command.Field.TheVariants.{Steps, Seed, From, To, Events, States, Longest};
 ghost use Rattle.tcc_words.specs.declared.command.Field.TheVariants.{Tell as TellField};
-ghost use Rattle.tcc_words.specs.declared.command.Field.TheVariants.{Threads, Images, Kind, Number};
+ghost use Rattle.tcc_words.specs.declared.command.Field.TheVariants.{Threads, Batch, Images, Kind, Number};
 
 use crate::command::Field;
 use crate::numbers::number;
@@ -20,6 +20,9 @@ const MAX_STEPS: u64 = 4_194_304;
 
 /// The largest number of host threads.
 const MAX_THREADS: u64 = 16;
+
+/// The largest number of acts in a turn of a host thread.
+const MAX_BATCH: u64 = 1024;
 
 /// The largest number of images.
 const MAX_IMAGES: usize = 16;
@@ -37,6 +40,7 @@ pub struct Values {
     pub longest: u32,
     pub tell: Tell,
     pub threads: Option<u8>,
+    pub batch: u16,
     pub work: Option<Work>,
     pub number: Option<u32>,
 }
@@ -70,6 +74,7 @@ pub fn read_values(matches: &ArgMatches) -> Result<Values, Field>
     let longest = longest(matches)?;
     let tell = tell(matches)?;
     let threads = threads(matches)?;
+    let batch = batch(matches)?;
     count_images(matches)?;
     Ok(Values {
         config,
@@ -82,6 +87,7 @@ pub fn read_values(matches: &ArgMatches) -> Result<Values, Field>
         longest,
         tell,
         threads,
+        batch,
         work: work(matches)?,
         number: transactions(matches)?,
     })
@@ -253,6 +259,21 @@ fn threads(matches: &ArgMatches) -> Result<Option<u8>, Field>
     match (number(text_of_it), text(matches, "record")) {
         (Some(n), Some(_)) if 1 <= n && n <= MAX_THREADS => Ok(Some(n as u8)),
         _ => Err(Field::Threads),
+    }
+}
+
+/// The number of acts at most in a turn of a host thread: 1, where nothing is said.
+fn batch(matches: &ArgMatches) -> Result<u16, Field>
+    ensures said { IfOk result (IsSaid (rows_of (found_of matches.now)) Batch) }
+    ensures allowed { IfOk result (λ _. Allows (rows_of (found_of matches.now)) Batch) }
+    ensures faulty { IfErr result (IsFaulty (rows_of (found_of matches.now)) Batch) }
+{
+    let Some(text_of_it) = text(matches, "batch") else {
+        return Ok(1);
+    };
+    match (number(text_of_it), text(matches, "threads")) {
+        (Some(n), Some(_)) if 1 <= n && n <= MAX_BATCH => Ok(n as u16),
+        _ => Err(Field::Batch),
     }
 }
 

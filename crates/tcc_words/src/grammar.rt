@@ -46,7 +46,8 @@ fn grammar<'a>(alloc: Global, verb: Verb, name: &'a str) -> Result<clap::Command
             let machine = with_machine(alloc, named)?;
             let events = with_events(alloc, machine)?;
             let threads = with_option(alloc, events, "threads")?;
-            with_record(alloc, threads)
+            let batch = with_option(alloc, threads, "batch")?;
+            with_record(alloc, batch)
         }
         Verb::Replay | Verb::Why => with_file(alloc, named, "schedule"),
         Verb::Serial => with_file(alloc, named, "report"),

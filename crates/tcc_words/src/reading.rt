@@ -102,6 +102,7 @@ fn command(
             steps: values.steps,
             seed: values.seed,
             threads: values.threads,
+            batch: values.batch,
             keep: record_name(alloc, matches)?,
         }),
         Verb::Replay => Ok(Command::Replay {

@@ -1,18 +1,21 @@
 -- What a worker has called so far, turn by turn.
-use Rattle.std.proofs.Common.{◌≡◌, ℕ, suc, ◌+◌, ◌*◌, ◌%◌, ◌<◌, ◌≤◌, true, false, List, [], ◌∷◌, ◌++◌, length, Option, Some, None}
+use Rattle.std.proofs.Common.{◌≡◌, ℕ, zero, suc, ◌+◌, ◌*◌, ◌%◌, ◌<◌, ◌≤◌, true, false, List, [], ◌∷◌, ◌++◌, length, Option, Some, None}
 use Rattle.std.proofs.Common.{inl, inr, refl, sym, ap, subst, ◌∙◌, append_assoc, append-nil, arith, ◌⊎◌}
 use Rattle.std.proofs.Math.Nat.{eq-or-lt_of_le, mul-le-mul_right}
 use Rattle.std.proofs.lemmas.Bool.{false≢true}
+use Rattle.std.proofs.lemmas.Bool.Decides.{nat_tests}
 use Rattle.rand_pcg.specs.Lcg.{Lcg}
 use Rattle.rand_pcg.specs.Pcg.{pcg32}
 use Rattle.logged_node.specs.declared.node.Act.{Act}
 use Rattle.logged_node.specs.declared.node.Act.TheVariants.{Moved, Idle, Memory}
-use Rattle.node_locks.specs.Turns.{entries_by}
-use Rattle.tcc_workers.specs.Calls.{Made, after_words, nth_word, calls_of, moved_by, idle_run, met_want, GoesOn, WentOn, TookTurns}
+use Rattle.node_locks.specs.Turns.{IsTurn, after_words, entries_by, moved_in}
+use Rattle.node_locks.specs.declared.acts.Acts.{Acts}
+use Rattle.tcc_workers.specs.Calls.{Made, acts_at, calls_of, drawn_by, moved_by, idle_run, is_want, met_want, most_next, GoesOn, WentOn}
+use Rattle.tcc_workers.specs.Calls.{TookTurns}
 use Rattle.tcc_workers.specs.Words.{words_of}
 use Rattle.tcc_workers.specs.declared.shift.Shift.{Shift}
 use Rattle.tcc_workers.specs.declared.turns.Call.{Call}
-use Rattle.tcc_workers.specs.declared.turns.Call.TheVariants.{Pass, Turn}
+use Rattle.tcc_workers.specs.declared.turns.Call.TheVariants.{Pass}
 
 made-none : (a : Option (List Call)) → Made a a []
 made-none None = tt
@@ -24,26 +27,47 @@ made-more a None (Some cs) xs ys p q = absurd q
 made-more None (Some bs) (Some cs) xs ys p q = absurd p
 made-more (Some as₁) (Some bs) (Some cs) xs ys p q = q ∙ ap (λ l. l ++ ys) p ∙ append_assoc as₁ xs ys
 
+-- m words, and then n more
+after-more : (n m : ℕ) (g : Lcg) → after_words n (after_words m g) ≡ after_words (n + m) g
+unfolding after_words
+after-more zero m g = ap (λ k. after_words k g) (omega arith)
+after-more (suc n) m g =
+    let sum : suc (n + m) ≡ suc n + m = omega arith in
+    ap (λ w. (pcg32 w).1) (after-more n m g) ∙ ap (λ k. after_words k g) sum
+
+one-entry : (a : Act) → entries_by a ≤ 1
+one-entry Moved = omega arith
+one-entry Idle = omega arith
+one-entry Memory = omega arith
+
+idle-more : (t : Acts) (before : List Acts) → moved_in t ≡ 0 → idle_run (t ∷ before) ≡ suc (idle_run before)
+unfolding idle_run
+idle-more t before h = grind (arith, nat_tests)
+
+idle-none : (t : Acts) (before : List Acts) → 0 < moved_in t → idle_run (t ∷ before) ≡ 0
+unfolding idle_run
+idle-none t before h = grind (arith, nat_tests)
+
 module _ (s : Shift) (nodes before : ℕ) (old : Option (List Call)) where
   -- after so many turns, with the generator and the calls then
   pub record Turning (turn idle moved : ℕ) (words : Lcg) (new : Option (List Call)) : Type 0 where
-    pub answers : List Act
-    pub turns : turn ≡ length answers
-    pub made : Made old new (calls_of s nodes turn)
-    pub counted : moved ≡ before + moved_by answers
-    pub in_row : idle ≡ idle_run answers
-    pub went_on : WentOn s before answers
-    pub memory : met_want answers ≡ false
-    pub drawn : words ≡ after_words turn (words_of s.seed s.worker)
+    pub turns : List Acts
+    pub number : turn ≡ length turns
+    pub made : Made old new (calls_of s nodes turns)
+    pub counted : moved ≡ before + moved_by turns
+    pub in_row : idle ≡ idle_run turns
+    pub went_on : WentOn s before turns
+    pub memory : met_want turns ≡ false
+    pub drawn : words ≡ after_words (drawn_by turns) (words_of s.seed s.worker)
     pub few : moved ≤ s.until
     pub patient : idle ≤ s.patience
-    pub bound : turn ≤ moved_by answers * s.patience + idle
+    pub bound : turn ≤ moved_by turns * s.patience + idle
 
   pub turning-start : (words : Lcg) → words ≡ words_of s.seed s.worker → before ≤ s.until → Turning 0 0 before words old
-  unfolding calls_of moved_by idle_run met_want after_words
+  unfolding calls_of drawn_by moved_by idle_run met_want after_words
   turning-start words drawn few = record {
-    answers = [];
-    turns = refl;
+    turns = [];
+    number = refl;
     made = made-none old;
     counted = omega arith;
     in_row = refl;
@@ -56,108 +80,130 @@ module _ (s : Shift) (nodes before : ℕ) (old : Option (List Call)) where
   }
 
   -- where the turns are over, so is the worker's work
-  module _ (turn idle moved : ℕ) (words : Lcg) (new : Option (List Call)) (t : Turning turn idle moved words new) where
+  module _ (turn idle moved : ℕ) (words : Lcg) (new : Option (List Call)) (k : Turning turn idle moved words new) where
     pub turning-over : (moved ≡ s.until) ⊎ (idle ≡ s.patience) → TookTurns s nodes before moved old new true
     turning-over over = record {
-      answers = t.answers;
-      made = subst (λ n. Made old new (calls_of s nodes n)) t.turns t.made;
-      counted = t.counted;
-      went_on = t.went_on;
-      want = t.memory;
-      over = λ _. subst (λ n. (moved ≡ s.until) ⊎ (n ≡ s.patience)) t.in_row over;
+      turns = k.turns;
+      made = k.made;
+      counted = k.counted;
+      went_on = k.went_on;
+      want = k.memory;
+      over = λ _. subst (λ n. (moved ≡ s.until) ⊎ (n ≡ s.patience)) k.in_row over;
     }
 
     -- no worker takes more turns than that
     turning-bounded : (s.until + 1) * s.patience ≤ turn → (moved ≡ s.until) ⊎ (idle ≡ s.patience)
-    turning-bounded spent = elim (eq-or-lt_of_le t.few) [
+    turning-bounded spent = elim (eq-or-lt_of_le k.few) [
       | inl all ↦ inl all
       | inr short ↦
-          let count = t.counted in
-          let fewer : moved_by t.answers + 1 ≤ s.until = omega (arith, count, short) in
-          let most : (moved_by t.answers + 1) * s.patience ≤ s.until * s.patience = mul-le-mul_right s.patience fewer in
-          let bound = t.bound in
-          let patient = t.patient in
+          let count = k.counted in
+          let fewer : moved_by k.turns + 1 ≤ s.until = omega (arith, count, short) in
+          let most : (moved_by k.turns + 1) * s.patience ≤ s.until * s.patience = mul-le-mul_right s.patience fewer in
+          let bound = k.bound in
+          let patient = k.patient in
           inr (omega (arith, most, bound, patient, spent))
     ]
 
     pub turning-spent : (s.until + 1) * s.patience ≤ turn → TookTurns s nodes before moved old new true
     turning-spent spent = turning-over (turning-bounded spent)
 
-    -- one more turn, at the node and with the word of its number, after the gate
-    module _ (more : moved ≡ s.until → ⊥) (patient : idle ≡ s.patience → ⊥) (count : ℕ) (counts : count ≡ nodes)
-        (node pick : ℕ) (drawn : Lcg) (at : node ≡ (s.worker + turn) % count) (draws : (pick, drawn) ≡ pcg32 words)
-        (mid next : Option (List Call)) (passed : Made new mid (Pass s.worker turn ∷ [])) (took : Made mid next (Turn node pick ∷ []))
-        (kept after : ℕ) (keeps : kept ≡ moved) where
+    -- one more turn after the gate, at the node of its number, with the next words
+    module _ (more : moved ≡ s.until → ⊥) (patient : idle ≡ s.patience → ⊥) (t : Acts) (most : ℕ) (is : IsTurn most t)
+        (enough : most ≡ most_next s moved) (node count : ℕ) (counts : count ≡ nodes) (at : node ≡ (s.worker + turn) % count) (drawn : Lcg)
+        (draws : drawn ≡ after_words (suc t.before) words)
+        (mid next : Option (List Call)) (passed : Made new mid (Pass s.worker turn ∷ []))
+        (took : Made mid next (acts_at node words (suc t.before)))
+        (kept after : ℕ) (keeps : kept ≡ moved) (counted : after ≡ kept + moved_in t) where
       left : moved < s.until
-      left = elim (eq-or-lt_of_le t.few) [ inl all ↦ absurd (more all) | inr short ↦ short ]
+      left = elim (eq-or-lt_of_le k.few) [ inl all ↦ absurd (more all) | inr short ↦ short ]
 
       in_row : idle < s.patience
-      in_row = elim (eq-or-lt_of_le t.patient) [ inl all ↦ absurd (patient all) | inr short ↦ short ]
+      in_row = elim (eq-or-lt_of_le k.patient) [ inl all ↦ absurd (patient all) | inr short ↦ short ]
 
-      goes-on : GoesOn s before t.answers
+      -- the acts before the last are fewer than the events that are left
+      within : moved + t.before < s.until
+      within = (let f = is.few in let l = left in omega (arith, f, enough, l))
+
+      goes-on : GoesOn s before k.turns
       goes-on = record {
-        left = (let e = t.counted in let l = left in omega (arith, e, l));
-        patient = subst (λ n. n < s.patience) t.in_row in_row;
-        memory = t.memory;
+        left = (let e = k.counted in let l = left in omega (arith, e, l));
+        patient = subst (λ n. n < s.patience) k.in_row in_row;
+        memory = k.memory;
       }
 
-      next-made : Made old next (calls_of s nodes (suc turn))
+      next-went : WentOn s before (t ∷ k.turns)
+      next-went = (k.went_on, goes-on, subst (λ n. IsTurn n t) (enough ∙ ap (most_next s) k.counted) is)
+
+      next-made : Made old next (calls_of s nodes (t ∷ k.turns))
       unfolding calls_of
       next-made =
-          let word : pick ≡ nth_word turn (words_of s.seed s.worker) = ap (λ p. p.0) draws ∙ ap (λ g. (pcg32 g).0) t.drawn in
-          let place : node ≡ (s.worker + turn) % nodes = at ∙ ap (λ n. (s.worker + turn) % n) counts in
-          let both : Made new next (Pass s.worker turn ∷ Turn node pick ∷ []) = made-more new mid next _ _ passed took in
-          let named : Made new next
-          (Pass s.worker turn ∷ Turn ((s.worker + turn) % nodes) (nth_word turn (words_of s.seed s.worker)) ∷ []) =
-          subst (λ p. Made new next (Pass s.worker turn ∷ Turn ((s.worker + turn) % nodes) p ∷ [])) word
-          (subst (λ n. Made new next (Pass s.worker turn ∷ Turn n pick ∷ [])) place both) in
-          made-more old new next (calls_of s nodes turn) _ t.made named
+          let place : node ≡ (s.worker + length k.turns) % nodes =
+          at ∙ ap (λ n. (s.worker + turn) % n) counts ∙ ap (λ n. (s.worker + n) % nodes) k.number in
+          let first : Made new mid (Pass s.worker (length k.turns) ∷ []) =
+          subst (λ n. Made new mid (Pass s.worker n ∷ [])) k.number passed in
+          let rest : Made mid next (acts_at ((s.worker + length k.turns) % nodes)
+          (after_words (drawn_by k.turns) (words_of s.seed s.worker)) (suc t.before)) =
+          subst (λ w. Made mid next (acts_at ((s.worker + length k.turns) % nodes) w (suc t.before))) k.drawn
+          (subst (λ n. Made mid next (acts_at n words (suc t.before))) place took) in
+          made-more old new next (calls_of s nodes k.turns) _ k.made (made-more new mid next _ _ first rest)
 
-      next-drawn : drawn ≡ after_words (turn + 1) (words_of s.seed s.worker)
-      unfolding after_words
+      next-drawn : drawn ≡ after_words (drawn_by (t ∷ k.turns)) (words_of s.seed s.worker)
+      unfolding drawn_by
       next-drawn =
-          let one : suc turn ≡ turn + 1 = omega arith in
-          ap (λ p. p.1) draws ∙ ap (λ g. (pcg32 g).1) t.drawn ∙ ap (λ n. after_words n (words_of s.seed s.worker)) one
+          draws ∙ ap (after_words (suc t.before)) k.drawn ∙ after-more (suc t.before) (drawn_by k.turns) (words_of s.seed s.worker)
 
-      pub turning-wants : after ≡ kept + entries_by Memory → TookTurns s nodes before after old next false
-      unfolding moved_by met_want
-      turning-wants counted = record {
-        answers = Memory ∷ t.answers;
-        made = subst (λ n. Made old next (calls_of s nodes n)) (ap suc t.turns) next-made;
-        counted = (let e = t.counted in omega (arith, e, keeps, counted));
-        went_on = (t.went_on, goes-on);
-        want = refl;
+      next-counted : after ≡ before + moved_by (t ∷ k.turns)
+      unfolding moved_by
+      next-counted = (let e = k.counted in omega (arith, e, keeps, counted))
+
+      next-few : after ≤ s.until
+      next-few = (let w = within in let one = one-entry t.last in omega (arith, w, one, keeps, counted))
+
+      pub turning-wants : t.last ≡ Memory → TookTurns s nodes before after old next false
+      unfolding met_want
+      turning-wants want = record {
+        turns = t ∷ k.turns;
+        made = next-made;
+        counted = next-counted;
+        went_on = next-went;
+        want = ap is_want want;
         over = λ q. absurd (false≢true q);
       }
 
-      pub turning-moved : after ≡ kept + entries_by Moved → Turning (turn + 1) 0 after drawn next
-      unfolding moved_by idle_run met_want
-      turning-moved counted = record {
-        answers = Moved ∷ t.answers;
-        turns = (let e = t.turns in omega (arith, e));
-        made = subst (λ n. Made old next (calls_of s nodes n)) (omega arith) next-made;
-        counted = (let e = t.counted in omega (arith, e, keeps, counted));
-        in_row = refl;
-        went_on = (t.went_on, goes-on);
-        memory = refl;
+      pub turning-moved : is_want t.last ≡ false → 0 < moved_in t → Turning (turn + 1) 0 after drawn next
+      unfolding met_want moved_by
+      turning-moved memory some = record {
+        turns = t ∷ k.turns;
+        number = (let e = k.number in omega (arith, e));
+        made = next-made;
+        counted = next-counted;
+        in_row = sym (idle-none t k.turns some);
+        went_on = next-went;
+        memory = memory;
         drawn = next-drawn;
-        few = (let l = left in omega (arith, l, keeps, counted));
+        few = next-few;
         patient = omega arith;
-        bound = (let b = t.bound in let p = in_row in omega (arith, b, p));
+        bound =
+            (let all = moved_in t + moved_by k.turns in
+            let more : moved_by k.turns + 1 ≤ all = omega (arith, some) in
+            let most : (moved_by k.turns + 1) * s.patience ≤ all * s.patience = mul-le-mul_right s.patience more in
+            let b = k.bound in
+            let p = in_row in
+            omega (arith, most, b, p));
       }
 
-      pub turning-idle : after ≡ kept + entries_by Idle → Turning (turn + 1) (idle + 1) after drawn next
-      unfolding moved_by idle_run met_want
-      turning-idle counted = record {
-        answers = Idle ∷ t.answers;
-        turns = (let e = t.turns in omega (arith, e));
-        made = subst (λ n. Made old next (calls_of s nodes n)) (omega arith) next-made;
-        counted = (let e = t.counted in omega (arith, e, keeps, counted));
-        in_row = (let e = t.in_row in omega (arith, e));
-        went_on = (t.went_on, goes-on);
-        memory = refl;
+      pub turning-idle : is_want t.last ≡ false → moved_in t ≡ 0 → Turning (turn + 1) (idle + 1) after drawn next
+      unfolding met_want moved_by
+      turning-idle memory none = record {
+        turns = t ∷ k.turns;
+        number = (let e = k.number in omega (arith, e));
+        made = next-made;
+        counted = next-counted;
+        in_row = (let e = k.in_row in let r = idle-more t k.turns none in omega (arith, e, r));
+        went_on = next-went;
+        memory = memory;
         drawn = next-drawn;
-        few = (let f = t.few in omega (arith, f, keeps, counted));
+        few = next-few;
         patient = (let p = in_row in omega (arith, p));
-        bound = (let b = t.bound in omega (arith, b));
+        bound = (let b = k.bound in omega (arith, b, none));
       }

@@ -47,6 +47,7 @@ impl<T: Ledger> Slot<T> {
     )
         requires threads { 0 < plan.now.threads }
         requires steps { plan.now.steps ≤ 4194304 }
+        requires batch { 1 ≤ plan.now.batch }
         requires fresh { self.old.ticket.moved ≡ 0 }
         ensures few { self.new.ticket.moved ≤ plan.now.steps / plan.now.threads }
     {
@@ -88,6 +89,7 @@ pub fn do_shares<
 >(rt: &R, farm: &Farm<W, E, T>, slots: &mut [Slot<T>], plan: &WorkPlan, gate: &G)
     requires threads { 0 < plan.now.threads }
     requires steps { plan.now.steps ≤ 4194304 }
+    requires batch { 1 ≤ plan.now.batch }
     requires fresh { All (λ s. s.ticket.moved ≡ 0) slots.old }
     ensures count { length slots.new ≡ length slots.old }
     ensures few { All (λ s. s.ticket.moved ≤ plan.now.steps / plan.now.threads) slots.new }
@@ -97,7 +99,7 @@ pub fn do_shares<
         slots,
         usize::from(plan.threads),
         &|_, slot: &mut Slot<T>|
-            requires { (0 < plan.now.threads) × (plan.now.steps ≤ 4194304) × (slot.old.ticket.moved ≡ 0) }
+            requires { (0 < plan.now.threads) × (plan.now.steps ≤ 4194304) × (1 ≤ plan.now.batch) × (slot.old.ticket.moved ≡ 0) }
             ensures { slot.new.ticket.moved ≤ plan.entry.now.steps / plan.entry.now.threads }
         { slot.do_share(rt, farm, plan, gate) },
     );

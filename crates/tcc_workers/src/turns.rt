@@ -1,23 +1,23 @@
 // What a worker calls in its turns, and these calls at a farm.
-ghost use Rattle.std.specs.Prelude.{◌≡◌, ◌+◌, ◌^◌, ◌<◌, ℕ, [], ◌∷◌, List, Option};
-ghost use Rattle.node_locks.specs.Turns.{entries_by};
-ghost use Rattle.tcc_workers.specs.Calls.{Made};
+ghost use Rattle.std.specs.Prelude.{◌≡◌, ◌+◌, ◌^◌, ◌<◌, ◌≤◌, ℕ, suc, [], ◌∷◌, List, Option};
+ghost use Rattle.node_locks.specs.Turns.{IsTurn, after_words, moved_in};
+ghost use Rattle.tcc_workers.specs.Calls.{Made, acts_at};
 
-use logged_node::Act;
-use node_locks::{Farm, Setup, Ticket};
+use node_locks::{Acts, Farm, Setup, Ticket};
+use rand_pcg::Lcg64Xsh32;
 use std::sync::Wait;
 use std::sync::ledger::Ledger;
 use tcc_world::Gate;
 
-/// A call of a worker: it passes the gate before its turn of this number, or takes a turn at a node. A farm makes none of these; a stand-in
-/// for it lists them.
+/// A call of a worker: it passes the gate before its turn of this number, or has a node act with a word, once or several times in its turn.
+/// A farm makes none of these; a stand-in for it lists them.
 #[derive(Clone, Copy, Debug, PartialEq, Eq)]
 pub enum Call {
     Pass(u32, u64),
     Turn(u32, u32),
 }
 
-/// What a worker calls: a gate before each turn, and the turn. K is what turns are taken with, and counts those that moved.
+/// What a worker calls: a gate before each turn, and the turn. K is what turns are taken with, and counts the acts that moved.
 pub trait Turns<K> {
     ghost use Rattle.tcc_workers.specs.declared.turns.Call.{Call};
     ghost use Rattle.tcc_workers.specs.declared.turns.Call.TheVariants.{Pass, Turn};
@@ -25,7 +25,7 @@ pub trait Turns<K> {
     /// The calls so far, where they are told.
     ghost calls: { K → Option (List Call) };
 
-    /// How many turns moved.
+    /// How many acts moved.
     ghost moved: { K → ℕ };
 
     /// In how many parts the right to take turns can be cut.
@@ -39,7 +39,7 @@ pub trait Turns<K> {
         ensures count { result ≡ count }
         ensures some { 0 < result };
 
-    /// How many turns moved.
+    /// How many acts moved.
     fn moved(&self, ticket: &K) -> u64
         ensures { result ≡ moved ticket.now };
 
@@ -49,13 +49,16 @@ pub trait Turns<K> {
         ensures moved { moved ticket.new ≡ moved ticket.old }
         ensures parts { parts ticket.new ≡ parts ticket.old };
 
-    /// Takes a turn at a node.
-    fn turn(&self, ticket: &mut K, node: u32, pick: u32) -> Act
+    /// Takes a turn at a node: so many acts at most, each with the next word, up to the first that doesn't move.
+    fn turn(&self, ticket: &mut K, node: u32, words: &mut Lcg64Xsh32, most: u32) -> Acts
         requires exists { node < count }
-        requires few { moved ticket.old < 2 ^ 62 }
+        requires most { 0 < most }
+        requires few { moved ticket.old + most ≤ 2 ^ 62 }
         requires some { 0 < parts ticket.old }
-        ensures made { Made (calls ticket.old) (calls ticket.new) (Turn node pick ∷ []) }
-        ensures moved { moved ticket.new ≡ moved ticket.old + entries_by result }
+        ensures turn { IsTurn most result }
+        ensures drawn { words.new ≡ after_words (suc result.before) words.old }
+        ensures made { Made (calls ticket.old) (calls ticket.new) (acts_at node words.old (suc result.before)) }
+        ensures moved { moved ticket.new ≡ moved ticket.old + moved_in result }
         ensures parts { parts ticket.new ≡ parts ticket.old };
 }
 
@@ -92,7 +95,7 @@ impl<'a, W: Setup, E: Ledger, T: Ledger, R: Wait, G: Gate> Turns<Ticket<T>>
         self.gate.pass(worker, turn);
     }
 
-    fn turn(&self, ticket: &mut Ticket<T>, node: u32, pick: u32) -> Act {
-        self.farm.turn(self.rt, node, pick, ticket)
+    fn turn(&self, ticket: &mut Ticket<T>, node: u32, words: &mut Lcg64Xsh32, most: u32) -> Acts {
+        self.farm.turn(self.rt, node, words, most, ticket)
     }
 }

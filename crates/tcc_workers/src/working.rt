@@ -13,15 +13,16 @@ use std::thread::Threads;
 use tcc_base::NoMemory;
 use tcc_world::Gate;
 
-/// Worker w, from 1 to `threads`, takes turns at the nodes of the farm: its turn k, from 0, is at node (w + k) mod nodes, with the next
-/// word of the generator of `seed + w` as its pick, after `gate.pass(w, k)`. It ends when `steps / threads` of its turns moved, after
-/// 1024 Idle turns in a row, or at want of memory.
+/// Worker w, from 1 to `threads`, takes turns at the nodes of the farm: its turn k, from 0, is at node (w + k) mod nodes, after
+/// `gate.pass(w, k)`. In a turn the node acts under one lock, each time with the next word of the generator of `seed + w` as its pick, up
+/// to the first act that doesn't move. A turn has `batch` acts at most, and no more than the worker has events left to do. The worker ends
+/// when `steps / threads` of its acts moved, after 1024 turns in a row that moved nothing, or at want of memory.
 ///
 /// Then, where no worker met want of memory, the calling thread goes round as worker 0: its turn k is at node k mod nodes, with the
-/// generator of `seed`, until `steps` events were done in all, a whole round found nothing to do, or there is no memory.
+/// generator of `seed`, until `steps` events were done in all, a whole round moved nothing, or there is no memory.
 ///
 /// The ticket comes back whole, counting the events that were done, with how the work ended or with want of memory. Where no thread can
-/// be made the workers run one after another. The time is that of the turns.
+/// be made the workers run one after another. The time is that of the acts.
 pub fn work<
     W: Setup + Send + Sync,
     E: Ledger + Send + Sync,
@@ -38,6 +39,7 @@ pub fn work<
 ) -> Result<(Ticket<T>, Ended), (Ticket<T>, NoMemory)>
     requires threads { (1 ≤ plan.now.threads) × (plan.now.threads ≤ 16) }
     requires steps { plan.now.steps ≤ 4194304 }
+    requires batch { (1 ≤ plan.now.batch) × (plan.now.batch ≤ 1024) }
     requires fresh { ticket.moved ≡ 0 }
     requires parts { (17 ≤ ticket.parts) × (ticket.parts < 2 ^ 32) }
     ensures parts { IfOk result (λ r. r.0.parts ≡ ticket.parts) }
@@ -82,6 +84,7 @@ fn work_together<
 ) -> Result<(), NoMemory>
     requires threads { (1 ≤ plan.now.threads) × (plan.now.threads ≤ 16) }
     requires steps { plan.now.steps ≤ 4194304 }
+    requires batch { (1 ≤ plan.now.batch) × (plan.now.batch ≤ 1024) }
     requires fresh { ticket.old.moved ≡ 0 }
     requires parts { (17 ≤ ticket.old.parts) × (ticket.old.parts < 2 ^ 32) }
     ensures parts { ticket.new.parts ≡ ticket.old.parts }

@@ -1,2 +1,3 @@
 -- The proofs of this crate.
 mod FirstLogs
+mod Listing

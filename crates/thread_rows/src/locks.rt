@@ -7,6 +7,8 @@ use crate::images::loaded;
 use logged_node::Act;
 use node_locks::{Farm, Nodes, Setup, Ticket};
 use node_logs::Logs;
+use rand_core::SeedableRng;
+use rand_pcg::Lcg64Xsh32;
 use std::alloc::Global;
 use std::marker::Brand;
 use std::sync::Wait;
@@ -68,7 +70,7 @@ fn in_one_thread(rt: HostRuntime) -> Result<(), Fail> {
     Ok(())
 }
 
-// Turns of all nodes, until none moves for two rounds.
+// Turns of all nodes, of one act each, until none moves for two rounds.
 fn work<W: Setup, E: Ledger, T: Ledger, R: Wait>(
     rt: &R,
     farm: &Farm<W, E, T>,
@@ -80,9 +82,11 @@ fn work<W: Setup, E: Ledger, T: Ledger, R: Wait>(
     ensures few { result.moved ≤ 100000 }
 {
     let mut ticket = ticket;
+    let mut words = Lcg64Xsh32::seed_from_u64(0);
     let mut idle: u32 = 0;
     for k in 0..100_000u32 {
-        if farm.turn(rt, k % farm.nodes(), k, &mut ticket) == Act::Moved {
+        let acts = farm.turn(rt, k % farm.nodes(), &mut words, 1, &mut ticket);
+        if acts.moved() > 0 {
             idle = 0;
         } else {
             idle = idle.wrapping_add(1);

@@ -50,6 +50,7 @@ fn events_stand_by_stamp_and_then_by_node(rt: HostRuntime) -> Result<(), Fail> {
         ([5, 5, 5], [FIRST, SECOND, VENDOR]),
         ([2, 1, 1], [SECOND, VENDOR, FIRST]),
         ([7, 9, 7], [FIRST, VENDOR, SECOND]),
+        ([0, 1_000_000, 0], [FIRST, VENDOR, SECOND]),
     ] {
         let schedule = merge(rt.alloc(), &small_logs(rt.alloc(), config, stamps)?)?;
         assert_eq!(rt; schedule.config, config);

@@ -34,7 +34,7 @@ fn go_round<R: Wait>(rt: &R, nodes: &mut Nodes) -> Result<u64, NoMemory> {
 }
 
 /// What the nodes have logged, merged.
-fn merged<R: Wait>(rt: &R, alloc: Global, nodes: Nodes) -> Result<Schedule, NoMemory> {
+pub(crate) fn merged<R: Wait>(rt: &R, alloc: Global, nodes: Nodes) -> Result<Schedule, NoMemory> {
     let Ok(logs) = nodes.close(rt, alloc) else {
         return Err(NoMemory);
     };

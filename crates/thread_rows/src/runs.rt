@@ -89,6 +89,7 @@ fn observe_run<R: Threads + Wait + Sync>(
         threads,
         steps,
         seed: 7,
+        batch: 1,
     };
     let refined = run_threads(rt, alloc, &loaded, &plan, &OpenGate)?;
     observe(alloc, &loaded, &refined)
@@ -131,6 +132,7 @@ fn one_thread_decides_all_events(rt: HostRuntime) -> Result<(), Fail> {
             threads: 1,
             steps: 1000,
             seed,
+            batch: 1,
         };
         let refined = run_threads(&rt, rt.alloc(), &loaded, &plan, &OpenGate)?;
         assert!(rt; refined.taken() == events.as_slice());

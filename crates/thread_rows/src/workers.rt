@@ -5,6 +5,7 @@ ghost use Rattle.node_locks.specs.Wiring.{links_of, logs_of};
 
 use crate::images::{TURNS, adding};
 use crate::locks::entries;
+use crate::rounds::merged;
 use crossbeam_utils::atomic::AtomicCell;
 use image_load::Loaded;
 use logged_node::Act;
@@ -21,6 +22,7 @@ use std::test::Fail;
 use std::thread;
 use std::thread::Threads;
 use tcc_base::{List, NoMemory};
+use tcc_threads::run_threads;
 use tcc_workers::{Ended, WorkPlan, work};
 use tcc_world::{Gate, OpenGate};
 
@@ -67,7 +69,7 @@ impl Gate for Meeting {
     }
 }
 
-/// What comes of work at a farm: how it ended, how many turns moved, and all logs.
+/// What comes of work at a farm: how it ended, how many acts moved, and all logs.
 #[derive(Drop)]
 struct Harvest {
     ended: Ended,
@@ -98,6 +100,7 @@ fn farmed<
     requires turns { (turns.name ≡ T.name) × (turns.parts ≡ T.parts) × (T.parts ≡ 64) }
     requires threads { (1 ≤ plan.now.threads) × (plan.now.threads ≤ 16) }
     requires steps { plan.now.steps ≤ 4194304 }
+    requires batch { (1 ≤ plan.now.batch) × (plan.now.batch ≤ 1024) }
 {
     let (farm, ticket) = Farm::<W, E, T>::new(alloc, nodes, entries, turns)?;
     let Ok((ticket, ended)) = work(rt, alloc, &farm, ticket, plan, gate) else {
@@ -120,41 +123,56 @@ fn worked<R: Threads + Wait + Sync, G: Gate + Sync>(
 ) -> Result<Harvest, NoMemory>
     requires threads { (1 ≤ plan.now.threads) × (plan.now.threads ≤ 16) }
     requires steps { plan.now.steps ≤ 4194304 }
+    requires batch { (1 ≤ plan.now.batch) × (plan.now.batch ≤ 1024) }
 {
     let nodes = Nodes::new(alloc, loaded)?;
     let entries = Blank::new(u64::from(nodes.count()));
     farmed::<Brand, Brand, Brand, R, G>(rt, alloc, nodes, entries, Blank::new(64), plan, gate)
 }
 
-/// The logs once so many turns have moved, or 1024 in a row have found nothing to do: turn k is at the node (1 + k) mod n, with the next
-/// word of the seed.
+/// How many acts of a node moved: it acts up to the first act that doesn't move, and at most so often.
+fn turn_by_hand<R: Wait>(
+    rt: &R,
+    nodes: &mut Nodes,
+    node: u32,
+    words: &mut Lcg64Xsh32,
+    most: u64,
+) -> Result<u64, NoMemory>
+    requires { node < node_count nodes.old.code.settings }
+    ensures { nodes.new.code ≡ nodes.old.code }
+{
+    for moved in 0..most {
+        match nodes.act(rt, node, words.next_word()) {
+            Act::Moved => {}
+            Act::Idle => return Ok(moved),
+            Act::Memory => return Err(NoMemory),
+        }
+    }
+    Ok(most)
+}
+
+/// The nodes once worker 1 of the plan has ended, by itself: its turn k is at the node (1 + k) mod n, with the next words of the seed.
 fn by_hand<R: Wait>(
     rt: &R,
     alloc: Global,
     loaded: &Loaded,
-    steps: u64,
-    seed: u64,
-) -> Result<Logs, NoMemory> {
+    plan: &WorkPlan,
+) -> Result<Nodes, NoMemory> {
     let mut nodes = Nodes::new(alloc, loaded)?;
     let count = nodes.count();
-    let mut words = Lcg64Xsh32::seed_from_u64(seed);
-    let mut moved = 0;
+    let mut words = Lcg64Xsh32::seed_from_u64(plan.seed.wrapping_add(1));
+    let mut left = plan.steps;
     let mut idle = 0u32;
     for turn in 0..TURNS {
-        if moved == steps || idle == 1024 {
+        if left == 0 || idle == 1024 {
             break;
         }
-        idle = idle.wrapping_add(1);
-        match nodes.act(rt, (1 + turn) % count, words.next_word()) {
-            Act::Moved => {
-                moved += 1;
-                idle = 0;
-            }
-            Act::Idle => {}
-            Act::Memory => return Err(NoMemory),
-        }
+        let most = left.min(u64::from(plan.batch));
+        let moved = turn_by_hand(rt, &mut nodes, (1 + turn) % count, &mut words, most)?;
+        left = left.wrapping_sub(moved);
+        idle = if moved > 0 { 0 } else { idle.wrapping_add(1) };
     }
-    nodes.close(rt, alloc).map_err(|_| NoMemory)
+    Ok(nodes)
 }
 
 fn are_same(a: &[List<Logged>], b: &[List<Logged>]) -> bool {
@@ -168,6 +186,7 @@ fn two_workers_take_turns_and_end_quiet(rt: HostRuntime) -> Result<(), Fail> {
         threads: 2,
         steps: 1_000_000,
         seed: 7,
+        batch: 1,
     };
     let loaded = adding(rt.alloc(), 1)?;
     let all = worked(&rt, rt.alloc(), &loaded, &plan, &gate)?;
@@ -179,20 +198,47 @@ fn two_workers_take_turns_and_end_quiet(rt: HostRuntime) -> Result<(), Fail> {
     Ok(())
 }
 
+/// One worker, by a seed, for so many events, with so many acts in a turn at most.
+fn by_one(steps: u64, batch: u16) -> WorkPlan {
+    WorkPlan {
+        threads: 1,
+        steps,
+        seed: 5,
+        batch,
+    }
+}
+
 #[test]
 fn one_worker_acts_at_the_nodes_in_turn(rt: HostRuntime) -> Result<(), Fail> {
     let loaded = adding(rt.alloc(), 2)?;
-    for (steps, ended) in [(30, Ended::Full), (1_000_000, Ended::Quiet)] {
-        let plan = WorkPlan {
-            threads: 1,
-            steps,
-            seed: 5,
-        };
+    for (steps, batch, ended) in [
+        (30, 1, Ended::Full),
+        (1_000_000, 1, Ended::Quiet),
+        (31, 3, Ended::Full),
+        (1_000_000, 3, Ended::Quiet),
+    ] {
+        let plan = by_one(steps, batch);
         let all = worked(&rt, rt.alloc(), &loaded, &plan, &OpenGate)?;
         assert_eq!(rt; all.ended, ended);
-        let logs = by_hand(&rt, rt.alloc(), &loaded, steps, 6)?;
+        let nodes = by_hand(&rt, rt.alloc(), &loaded, &plan)?;
+        let Ok(logs) = nodes.close(&rt, rt.alloc()) else {
+            return Err("out of memory".into());
+        };
         assert!(rt; are_same(&all.logs.by_node.items, &logs.by_node.items));
         assert_eq!(rt; all.moved, entries(&logs));
+    }
+    Ok(())
+}
+
+#[test]
+fn a_run_is_the_merge_of_what_its_worker_did(rt: HostRuntime) -> Result<(), Fail> {
+    let loaded = adding(rt.alloc(), 2)?;
+    for batch in [1, 3] {
+        let plan = by_one(1_000_000, batch);
+        let refined = run_threads(&rt, rt.alloc(), &loaded, &plan, &OpenGate)?;
+        let nodes = by_hand(&rt, rt.alloc(), &loaded, &plan)?;
+        let schedule = merged(&rt, rt.alloc(), nodes)?;
+        assert!(rt; refined.taken() == schedule.events.items.as_slice());
     }
     Ok(())
 }

@@ -6,7 +6,7 @@ use std::str;
 use std::test::Fail;
 
 /// The words of a run that is recorded and of its replay, their image, and the status.
-const RUNS: [(&str, &str, &[u32], u8); 8] = [
+const RUNS: [(&str, &str, &[u32], u8); 9] = [
     (
         "run --raw --cores 2 --record s a",
         "replay --raw --cores 2 s a",
@@ -33,9 +33,15 @@ const RUNS: [(&str, &str, &[u32], u8); 8] = [
         TWO_LINES,
         0,
     ),
-    // by host threads: to the end, stopped at once, and more threads than nodes
+    // by host threads: to the end, with long turns, stopped at once, and more threads than nodes
     (
         "run --raw --threads 4 --cores 2 --record s a",
+        "replay --raw --cores 2 s a",
+        COUNT,
+        0,
+    ),
+    (
+        "run --raw --threads 4 --batch 64 --cores 2 --record s a",
         "replay --raw --cores 2 s a",
         COUNT,
         0,

@@ -22,6 +22,9 @@ fn one_thread_makes_one_schedule(rt: HostRuntime) -> Result<(), Fail> {
     for command in [
         "run --raw --threads 1 --cores 2 --record s a",
         "run --raw --threads 1 --cores 2 --seed 7 --record s a",
+        "run --raw --threads 1 --batch 1 --cores 2 --record s a",
+        // another order of acts, with the same stamps
+        "run --raw --threads 1 --batch 1024 --cores 2 --record s a",
     ] {
         let row = Row {
             command,
@@ -32,6 +35,48 @@ fn one_thread_makes_one_schedule(rt: HostRuntime) -> Result<(), Fail> {
         check(&rt, alloc, &row)?;
         let ended = call(&rt, alloc, command, &over(row.files))?;
         assert_eq!(rt; ended.record, Some(lines(alloc, &[SCHEDULE])?), "{command}");
+    }
+    Ok(())
+}
+
+/// The head of a schedule of two cores.
+const HEAD: &str = "tcc-schedule 1 / cores 2 dirs 1 sets 16 ways 2 base 2147483648 ram 65536";
+
+/// Numbers of acts in a turn and of events, and the events of one thread, which begins at core 1 and comes to core 0 with its fourth turn.
+const FIRST: [(&str, &str); 8] = [
+    ("--steps 2", "e 0 / e 1 / end 2"),
+    ("--batch 1 --steps 2", "e 0 / e 1 / end 2"),
+    // core 1 acts twice in its turn
+    ("--batch 2 --steps 2", "e 1 / e 1 / end 2"),
+    ("--batch 2 --steps 3", "e 0 / e 1 / e 1 / end 3"),
+    ("--batch 3 --steps 3", "e 1 / e 1 / e 1 / end 3"),
+    // the share of events ends the turn
+    ("--batch 1024 --steps 2", "e 1 / e 1 / end 2"),
+    // core 1 waits for a word, which ends its turn, and the directory's turn comes next
+    ("--batch 4 --steps 4", "e 1 / e 1 / e 1 / d c1 d0 0 / end 4"),
+    (
+        "--batch 1024 --steps 4",
+        "e 1 / e 1 / e 1 / d c1 d0 0 / end 4",
+    ),
+];
+
+#[test]
+fn a_turn_has_as_many_acts_as_are_asked_for(rt: HostRuntime) -> Result<(), Fail> {
+    let alloc = rt.alloc();
+    for (words, events) in FIRST {
+        let command = format!(in alloc; "run --raw --threads 1 --cores 2 {words} --record s a")?;
+        let ended = call(
+            &rt,
+            alloc,
+            command.as_str(),
+            &over(&[("a", Held::Image(COUNT))]),
+        )?;
+        assert_eq!(rt; ended.status, 1, "{words}");
+        assert_eq!(rt;
+            ended.record,
+            Some(lines(alloc, &[HEAD, events])?),
+            "{words}"
+        );
     }
     Ok(())
 }

@@ -10,7 +10,7 @@ use tcc_cli::tcc_process;
 use tcc_world::{OpenGate, VecSink};
 
 /// Command lines whose words don't stand as a command's do.
-const WORDS: [&str; 36] = [
+const WORDS: [&str; 37] = [
     "",
     "walk --raw a",
     "Run --raw a",
@@ -48,13 +48,14 @@ const WORDS: [&str; 36] = [
     "why --raw --steps 6 s a",
     "why --raw --record t s a",
     "phases --raw --record s --threads 2 a",
+    "phases --raw --record s --batch 2 a",
     // whatever stands in the fields
     "run --cores 65 --sets 3 --other 1 a",
     "walk --cores 65 a",
 ];
 
 /// Command lines with a value that isn't allowed, and the first field in which one stands.
-const VALUES: [(&str, &str); 53] = [
+const VALUES: [(&str, &str); 60] = [
     ("run --raw --cores 65 a", "cores"),
     (
         "run --cores 0 --dirs 0 --sets 0 --ways 0 --ram 0 --steps x a",
@@ -109,6 +110,17 @@ const VALUES: [(&str, &str); 53] = [
     ("run --raw --threads two --record s a", "threads"),
     // threads without a record
     ("run --raw --threads 2 a", "threads"),
+    ("run --raw --threads 2 --batch 0 a", "threads"),
+    ("run --raw --threads 2 --batch 0 --record s a", "batch"),
+    ("run --raw --threads 2 --batch 1025 --record s a", "batch"),
+    ("run --raw --threads 2 --batch 65537 --record s a", "batch"),
+    ("run --raw --threads 2 --batch two --record s a", "batch"),
+    // acts of a turn without threads, and before the images
+    ("run --raw --batch 2 --record s a", "batch"),
+    (
+        "run --batch 1 1 2 3 4 5 6 7 8 9 10 11 12 13 14 15 16 17",
+        "batch",
+    ),
     ("run 1 2 3 4 5 6 7 8 9 10 11 12 13 14 15 16 17", "images"),
     (
         "replay s 1 2 3 4 5 6 7 8 9 10 11 12 13 14 15 16 17",

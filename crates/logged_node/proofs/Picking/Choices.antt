@@ -1,7 +1,7 @@
 -- The useful events by number.
-use Rattle.std.proofs.Common.{◌≡◌, ℕ, zero, suc, ◌+◌, ◌%◌, ◌^◌, ◌<◌, ◌≤◌, ◌⊎◌, Bool, true, false, cond, List, [], ◌∷◌, length}
+use Rattle.std.proofs.Common.{◌≡◌, ℕ, zero, suc, ◌+◌, ◌^◌, ◌<◌, ◌≤◌, Bool, true, false, cond, List, [], ◌∷◌, length}
 use Rattle.std.proofs.Common.{map, Option, Some, None, length-append, refl, ap, sym, ◌∙◌, arith}
-use Rattle.std.specs.Prelude.{nat_lt, is_some, slice_get, option_map, MatchOption}
+use Rattle.std.specs.Prelude.{nat_lt, is_some, slice_get, option_map}
 use Rattle.std.proofs.lemmas.Bool.Decides.{nat_tests}
 use Rattle.std.proofs.lemmas.List.{length-map}
 use Rattle.std.proofs.lemmas.Option.{slice_get-map}
@@ -15,9 +15,9 @@ use Rattle.tcc_msg.specs.Plain.{event_of}
 use Rattle.tcc_rules.specs.Local.{Mail, NodeState, AtCore, AtDir, AtVendor, act}
 use Rattle.node_member.specs.Acting.{MayDo, acted_by}
 use Rattle.node_member.specs.Data.{MemberData, state_of}
-use Rattle.node_member.specs.Own.{own_events}
+use Rattle.node_member.specs.Own.{node_events, own_events}
 use Rattle.logged_node.specs.Choice.{all_deliveries, alone, own_choices, useful}
-use Rattle.logged_node.specs.Deeds.{IsChoice, IsFor, IsPossible, IsReady, mail_in}
+use Rattle.logged_node.specs.Deeds.{IsFor, IsPossible, IsReady}
 use Rattle.logged_node.specs.Node.{NodeData, last_stamp}
 use Rattle.logged_node.specs.Ports.{RoomData}
 use Rattle.logged_node.specs.declared.choosing.Deed.{Deed}
@@ -31,6 +31,13 @@ unfolding useful
 useful-length n = length-append (own_choices n.member (last_stamp n.log)) (all_deliveries n.member (last_stamp n.log) n.room.ports)
 
 -- ---- its own
+
+pub own-same : (m n : MemberData) → n.code ≡ m.code → n.node ≡ m.node → state_of n ≡ state_of m → own_events n ≡ own_events m
+unfolding own_events
+own-same m n code node state =
+    ap (λ k. node_events k.settings (program (started k)) (node_of n.node) (state_of n)) code
+    ∙ (ap (λ x. node_events m.code.settings (program (started m.code)) (node_of x) (state_of n)) node
+    ∙ ap (λ s. node_events m.code.settings (program (started m.code)) (node_of m.node) s) state)
 
 own-if : (b : Bool) (es : List Event) (k : ℕ) → k < length (cond b (map alone es) []) → (b ≡ true) × (k < length es)
 own-if true es k h = (refl, (let n = length-map es alone in omega (arith, h, n)))
@@ -119,9 +126,3 @@ none-useful n h = empty (useful n) h
     empty : (es : List (Event × Option Mail)) → length es ≡ 0 → es ≡ []
     empty [] h = refl
     empty (x ∷ es) h = absurd (omega (arith, h))
-
-pub choice-from : (n : NodeData) (pick k all : ℕ) (r : Option Deed) → all ≡ length (useful n) → (all ≡ 0 → ⊥) → k ≡ pick % all
-    → MatchOption r (length (useful n) ≤ k) (λ d. (slice_get (useful n) k ≡ Some (event_of d.event, mail_in d.waiting)) × IsPossible n d)
-    → MatchOption r ((useful n ≡ []) ⊎ (length n.log ≡ 4194304)) (IsChoice n pick)
-choice-from n pick k all None e z q h = absurd (let p : 0 < all = omega (arith, z) in omega (arith, e, q, h))
-choice-from n pick k all (Some d) e z q h = record { picked = rw (← e, ← q) h.0; possible = h.1 }

@@ -35,6 +35,10 @@ pub each-then_set : (P : PortData → PortData → Type 0) (a b : List PortData)
 each-then_set P a b i p q t r h e x l = λ k.
     both-then P P P (slice_get a k) (slice_get b k) (slice_get (slice_set b i q) k) t (h k) (each-set P b i p q e x r l k)
 
+pub each-then : (P : PortData → PortData → Type 0) (a b c : List PortData) → ((p q r : PortData) → P p q → P q r → P p r) → AtEach P a b
+    → AtEach P b c → AtEach P a c
+each-then P a b c t h g = λ k. both-then P P P (slice_get a k) (slice_get b k) (slice_get c k) t (h k) (g k)
+
 pub each-length : (P : PortData → PortData → Type 0) (a b : List PortData) → AtEach P a b → length b ≡ length a
 each-length P [] [] h = refl
 each-length P [] (q ∷ b) h = absurd (h 0)

@@ -41,14 +41,14 @@ loop-ports-preserved c =
     let code = arc_value c.args.code.now in
     let s = code.settings in
     let nodes = c.loop-ports.nodes.items in
-    let n = c.new.result in
+    let n = c.in_ok-new.field-0 in
     let left = reverse c.pop.new.self.items in
     let split = ap reverse c.in-Some.ensures.items ∙ left-first c.pop.new.self.items c.in-Some.ports in
     let all = ap (λ (l : List (List PortData)). ports_in nodes ++ l) (sym split) ∙ c.loop-ports.invariant.all in
     let i : c.len-in-Some.result ≡ length nodes = search rules in
     let settings : c.config.result.now ≡ s = search rules in
-    let ports : n.room.ports ≡ c.in-Some.ports = ap (λ (m : NodeData). m.room.ports) c.new.ensures ∙ c.ports.view_is in
-    let fresh : IsFresh code (length nodes) n = subst (λ (m : NodeData). IsFresh code (length nodes) m) (sym c.new.ensures) (record {
+    let ports : n.room.ports ≡ c.in-Some.ports = ap (λ (m : NodeData). m.room.ports) c.in_ok-new.ensures ∙ c.ports.view_is in
+    let fresh : IsFresh code (length nodes) n = subst (λ (m : NodeData). IsFresh code (length nodes) m) (sym c.in_ok-new.ensures) (record {
       placed = record { runs = c.in_ok-member.ensures.code; node = c.in_ok-member.ensures.node ∙ ap (nth_node s) i };
       log = refl;
       settings = settings;

@@ -4,14 +4,14 @@ use Rattle.clap.specs.Words.{found_of, rows_of}
 use Rattle.tcc_words.proofs.Order.{is_first}
 use Rattle.tcc_words.proofs.fields.read_values.Goals as goal
 use Rattle.tcc_words.specs.declared.command.Field.TheVariants.{Steps, Seed, From, To, Events, States, Longest, Tell}
-use Rattle.tcc_words.specs.declared.command.Field.TheVariants.{Threads, Images, Kind, Number}
+use Rattle.tcc_words.specs.declared.command.Field.TheVariants.{Threads, Batch, Images, Kind, Number}
 
 pub returns-in_err-steps-clause-first : goal.returns-in_err-steps-clause-first
 returns-in_err-steps-clause-first c =
     let p = err_from_is_err_and c.from_residual-in_err-steps.result c.from_residual-in_err-steps.ensures.1 in
     rw (p.1, p.2) (is_first (rows_of (found_of c.args.matches.now)) c.in_ok-config.config
     []
-    (Seed ∷ From ∷ To ∷ Events ∷ States ∷ Longest ∷ Tell ∷ Threads ∷ Images ∷ Kind ∷ Number ∷ [])
+    (Seed ∷ From ∷ To ∷ Events ∷ States ∷ Longest ∷ Tell ∷ Threads ∷ Batch ∷ Images ∷ Kind ∷ Number ∷ [])
     Steps _ c.in_ok-config.ensures.settings c.in_ok-config.ensures.allowed tt
     c.in_err-steps.ensures.faulty)
 
@@ -20,7 +20,7 @@ returns-in_err-seed-clause-first c =
     let p = err_from_is_err_and c.from_residual-in_err-seed.result c.from_residual-in_err-seed.ensures.1 in
     rw (p.1, p.2) (is_first (rows_of (found_of c.args.matches.now)) c.in_ok-config.config
     (Steps ∷ [])
-    (From ∷ To ∷ Events ∷ States ∷ Longest ∷ Tell ∷ Threads ∷ Images ∷ Kind ∷ Number ∷ [])
+    (From ∷ To ∷ Events ∷ States ∷ Longest ∷ Tell ∷ Threads ∷ Batch ∷ Images ∷ Kind ∷ Number ∷ [])
     Seed _ c.in_ok-config.ensures.settings c.in_ok-config.ensures.allowed
     (c.in_ok-steps.ensures.allowed, tt)
     c.in_err-seed.ensures.faulty)
@@ -30,7 +30,7 @@ returns-in_err-from-clause-first c =
     let p = err_from_is_err_and c.from_residual-in_err-from.result c.from_residual-in_err-from.ensures.1 in
     rw (p.1, p.2) (is_first (rows_of (found_of c.args.matches.now)) c.in_ok-config.config
     (Steps ∷ Seed ∷ [])
-    (To ∷ Events ∷ States ∷ Longest ∷ Tell ∷ Threads ∷ Images ∷ Kind ∷ Number ∷ [])
+    (To ∷ Events ∷ States ∷ Longest ∷ Tell ∷ Threads ∷ Batch ∷ Images ∷ Kind ∷ Number ∷ [])
     From _ c.in_ok-config.ensures.settings c.in_ok-config.ensures.allowed
     (c.in_ok-steps.ensures.allowed, ((_, c.in_ok-seed.ensures.said), tt))
     c.in_err-from.ensures.faulty)
@@ -40,7 +40,7 @@ returns-in_err-to-clause-first c =
     let p = err_from_is_err_and c.from_residual-in_err-to.result c.from_residual-in_err-to.ensures.1 in
     rw (p.1, p.2) (is_first (rows_of (found_of c.args.matches.now)) c.in_ok-config.config
     (Steps ∷ Seed ∷ From ∷ [])
-    (Events ∷ States ∷ Longest ∷ Tell ∷ Threads ∷ Images ∷ Kind ∷ Number ∷ [])
+    (Events ∷ States ∷ Longest ∷ Tell ∷ Threads ∷ Batch ∷ Images ∷ Kind ∷ Number ∷ [])
     To _ c.in_ok-config.ensures.settings c.in_ok-config.ensures.allowed
     (c.in_ok-steps.ensures.allowed, ((_, c.in_ok-seed.ensures.said), (c.in_ok-from.ensures.allowed, tt)))
     c.in_err-to.ensures.faulty)
@@ -50,7 +50,7 @@ returns-in_err-events-clause-first c =
     let p = err_from_is_err_and c.from_residual-in_err-events.result c.from_residual-in_err-events.ensures.1 in
     rw (p.1, p.2) (is_first (rows_of (found_of c.args.matches.now)) c.in_ok-config.config
     (Steps ∷ Seed ∷ From ∷ To ∷ [])
-    (States ∷ Longest ∷ Tell ∷ Threads ∷ Images ∷ Kind ∷ Number ∷ [])
+    (States ∷ Longest ∷ Tell ∷ Threads ∷ Batch ∷ Images ∷ Kind ∷ Number ∷ [])
     Events _ c.in_ok-config.ensures.settings c.in_ok-config.ensures.allowed (
       c.in_ok-steps.ensures.allowed,
       (
@@ -71,7 +71,7 @@ returns-in_err-states-clause-first c =
     let p = err_from_is_err_and c.from_residual-in_err-states.result c.from_residual-in_err-states.ensures.1 in
     rw (p.1, p.2) (is_first (rows_of (found_of c.args.matches.now)) c.in_ok-config.config
     (Steps ∷ Seed ∷ From ∷ To ∷ Events ∷ [])
-    (Longest ∷ Tell ∷ Threads ∷ Images ∷ Kind ∷ Number ∷ [])
+    (Longest ∷ Tell ∷ Threads ∷ Batch ∷ Images ∷ Kind ∷ Number ∷ [])
     States _ c.in_ok-config.ensures.settings c.in_ok-config.ensures.allowed (
       c.in_ok-steps.ensures.allowed,
       (
@@ -92,7 +92,7 @@ returns-in_err-longest-clause-first c =
     let p = err_from_is_err_and c.from_residual-in_err-longest.result c.from_residual-in_err-longest.ensures.1 in
     rw (p.1, p.2) (is_first (rows_of (found_of c.args.matches.now)) c.in_ok-config.config
     (Steps ∷ Seed ∷ From ∷ To ∷ Events ∷ States ∷ [])
-    (Tell ∷ Threads ∷ Images ∷ Kind ∷ Number ∷ [])
+    (Tell ∷ Threads ∷ Batch ∷ Images ∷ Kind ∷ Number ∷ [])
     Longest _ c.in_ok-config.ensures.settings c.in_ok-config.ensures.allowed (
       c.in_ok-steps.ensures.allowed,
       (
@@ -113,7 +113,7 @@ returns-in_err-tell-clause-first c =
     let p = err_from_is_err_and c.from_residual-in_err-tell.result c.from_residual-in_err-tell.ensures.1 in
     rw (p.1, p.2) (is_first (rows_of (found_of c.args.matches.now)) c.in_ok-config.config
     (Steps ∷ Seed ∷ From ∷ To ∷ Events ∷ States ∷ Longest ∷ [])
-    (Threads ∷ Images ∷ Kind ∷ Number ∷ [])
+    (Threads ∷ Batch ∷ Images ∷ Kind ∷ Number ∷ [])
     Tell _ c.in_ok-config.ensures.settings c.in_ok-config.ensures.allowed (
       c.in_ok-steps.ensures.allowed,
       (
@@ -134,7 +134,7 @@ returns-in_err-threads-clause-first c =
     let p = err_from_is_err_and c.from_residual-in_err-threads.result c.from_residual-in_err-threads.ensures.1 in
     rw (p.1, p.2) (is_first (rows_of (found_of c.args.matches.now)) c.in_ok-config.config
     (Steps ∷ Seed ∷ From ∷ To ∷ Events ∷ States ∷ Longest ∷ Tell ∷ [])
-    (Images ∷ Kind ∷ Number ∷ [])
+    (Batch ∷ Images ∷ Kind ∷ Number ∷ [])
     Threads _ c.in_ok-config.ensures.settings c.in_ok-config.ensures.allowed (
       c.in_ok-steps.ensures.allowed,
       (
@@ -162,13 +162,13 @@ returns-in_err-threads-clause-first c =
     )
     c.in_err-threads.ensures.faulty)
 
-pub returns-in_err-count_images-clause-first : goal.returns-in_err-count_images-clause-first
-returns-in_err-count_images-clause-first c =
-    let p = err_from_is_err_and c.from_residual-in_err-count_images.result c.from_residual-in_err-count_images.ensures.1 in
+pub returns-in_err-batch-clause-first : goal.returns-in_err-batch-clause-first
+returns-in_err-batch-clause-first c =
+    let p = err_from_is_err_and c.from_residual-in_err-batch.result c.from_residual-in_err-batch.ensures.1 in
     rw (p.1, p.2) (is_first (rows_of (found_of c.args.matches.now)) c.in_ok-config.config
     (Steps ∷ Seed ∷ From ∷ To ∷ Events ∷ States ∷ Longest ∷ Tell ∷ Threads ∷ [])
-    (Kind ∷ Number ∷ [])
-    Images _ c.in_ok-config.ensures.settings c.in_ok-config.ensures.allowed (
+    (Images ∷ Kind ∷ Number ∷ [])
+    Batch _ c.in_ok-config.ensures.settings c.in_ok-config.ensures.allowed (
       c.in_ok-steps.ensures.allowed,
       (
         (_, c.in_ok-seed.ensures.said),
@@ -193,13 +193,46 @@ returns-in_err-count_images-clause-first c =
         ),
       ),
     )
+    c.in_err-batch.ensures.faulty)
+
+pub returns-in_err-count_images-clause-first : goal.returns-in_err-count_images-clause-first
+returns-in_err-count_images-clause-first c =
+    let p = err_from_is_err_and c.from_residual-in_err-count_images.result c.from_residual-in_err-count_images.ensures.1 in
+    rw (p.1, p.2) (is_first (rows_of (found_of c.args.matches.now)) c.in_ok-config.config
+    (Steps ∷ Seed ∷ From ∷ To ∷ Events ∷ States ∷ Longest ∷ Tell ∷ Threads ∷ Batch ∷ [])
+    (Kind ∷ Number ∷ [])
+    Images _ c.in_ok-config.ensures.settings c.in_ok-config.ensures.allowed (
+      c.in_ok-steps.ensures.allowed,
+      (
+        (_, c.in_ok-seed.ensures.said),
+        (
+          c.in_ok-from.ensures.allowed,
+          (
+            c.in_ok-to.ensures.allowed,
+            (
+              c.in_ok-events.ensures.allowed,
+              (
+                c.in_ok-states.ensures.allowed,
+                (
+                  c.in_ok-longest.ensures.allowed,
+                  (
+                    c.in_ok-tell.ensures.allowed,
+                    (c.in_ok-threads.ensures.allowed, (c.in_ok-batch.ensures.allowed, tt)),
+                  ),
+                ),
+              ),
+            ),
+          ),
+        ),
+      ),
+    )
     c.in_err-count_images.ensures.faulty)
 
 pub returns-in_err-work-clause-first : goal.returns-in_err-work-clause-first
 returns-in_err-work-clause-first c =
     let p = err_from_is_err_and c.from_residual-in_err-work.result c.from_residual-in_err-work.ensures.1 in
     rw (p.1, p.2) (is_first (rows_of (found_of c.args.matches.now)) c.in_ok-config.config
-    (Steps ∷ Seed ∷ From ∷ To ∷ Events ∷ States ∷ Longest ∷ Tell ∷ Threads ∷ Images ∷ [])
+    (Steps ∷ Seed ∷ From ∷ To ∷ Events ∷ States ∷ Longest ∷ Tell ∷ Threads ∷ Batch ∷ Images ∷ [])
     (Number ∷ [])
     Kind _ c.in_ok-config.ensures.settings c.in_ok-config.ensures.allowed (
       c.in_ok-steps.ensures.allowed,
@@ -217,7 +250,7 @@ returns-in_err-work-clause-first c =
                   c.in_ok-longest.ensures.allowed,
                   (
                     c.in_ok-tell.ensures.allowed,
-                    (c.in_ok-threads.ensures.allowed, (c.in_ok-count_images.ensures.allowed, tt)),
+                    (c.in_ok-threads.ensures.allowed, (c.in_ok-batch.ensures.allowed, (c.in_ok-count_images.ensures.allowed, tt))),
                   ),
                 ),
               ),
@@ -232,7 +265,7 @@ pub returns-in_err-transactions-clause-first : goal.returns-in_err-transactions-
 returns-in_err-transactions-clause-first c =
     let p = err_from_is_err_and c.from_residual-in_err-transactions.result c.from_residual-in_err-transactions.ensures.1 in
     rw (p.1, p.2) (is_first (rows_of (found_of c.args.matches.now)) c.in_ok-config.config
-    (Steps ∷ Seed ∷ From ∷ To ∷ Events ∷ States ∷ Longest ∷ Tell ∷ Threads ∷ Images ∷ Kind ∷ [])
+    (Steps ∷ Seed ∷ From ∷ To ∷ Events ∷ States ∷ Longest ∷ Tell ∷ Threads ∷ Batch ∷ Images ∷ Kind ∷ [])
     ([])
     Number _ c.in_ok-config.ensures.settings c.in_ok-config.ensures.allowed (
       c.in_ok-steps.ensures.allowed,
@@ -250,7 +283,10 @@ returns-in_err-transactions-clause-first c =
                   c.in_ok-longest.ensures.allowed,
                   (
                     c.in_ok-tell.ensures.allowed,
-                    (c.in_ok-threads.ensures.allowed, (c.in_ok-count_images.ensures.allowed, (c.in_ok-work.ensures.allowed, tt))),
+                    (
+                      c.in_ok-threads.ensures.allowed,
+                      (c.in_ok-batch.ensures.allowed, (c.in_ok-count_images.ensures.allowed, (c.in_ok-work.ensures.allowed, tt))),
+                    ),
                   ),
                 ),
               ),

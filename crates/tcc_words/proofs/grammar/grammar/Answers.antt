@@ -11,10 +11,11 @@ of_schedule : (verb : Verb) → (verb ≡ Replay) ⊎ (verb ≡ Why) → rules v
 of_schedule verb (inl e) = ap rules e
 of_schedule verb (inr e) = ap rules e
 
-pub returns-in_ok-threads-in-Run : goal.returns-in_ok-threads-in-Run
-returns-in_ok-threads-in-Run c =
-    IfOk-weaker c.with_record.result _ _ (λ m h. run_made c.args.verb c.args.name.now _ _ _ _ _ c.in-Run.is c.requires c.bare-named.ensures
-    c.in_ok-machine-in-Run.ensures c.in_ok-events-in-Run.ensures c.in_ok-threads-in-Run.ensures h)
+pub returns-in_ok-batch-in-Run : goal.returns-in_ok-batch-in-Run
+returns-in_ok-batch-in-Run c =
+    IfOk-weaker c.with_record.result _ _ (λ m h. run_made c.args.verb c.args.name.now _ _ _ _ _ _ c.in-Run.is c.requires
+    c.bare-named.ensures c.in_ok-machine-in-Run.ensures c.in_ok-events-in-Run.ensures c.in_ok-threads-in-Run.ensures
+    c.in_ok-batch-in-Run.ensures h)
     c.with_record.ensures
 
 pub returns-in-Replay : goal.returns-in-Replay

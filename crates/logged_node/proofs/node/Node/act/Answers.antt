@@ -6,5 +6,6 @@ use Rattle.logged_node.proofs.node.Node.act.Goals as goal
 
 pub returns-then-is_err-2-clause-acted : goal.returns-then-is_err-2-clause-acted
 returns-then-is_err-2-clause-acted g c =
-    gathers-then _ _ _ c.refresh.ensures.gathers (on_err-of c.perform.result _ (sym c.is_err-2.ensures.value ∙ c.if-is_err-2.true)
-    c.perform.ensures.unchanged)
+    gathers-then _ _ _ c.refresh.ensures.gathers
+    (rw c.choose.ensures.same at (on_err-of c.perform.result _ (sym c.is_err-2.ensures.value ∙ c.if-is_err-2.true)
+    c.perform.ensures.unchanged))

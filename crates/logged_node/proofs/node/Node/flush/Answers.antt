@@ -16,4 +16,5 @@ invariant_of-self g c =
         room = c.flush.ensures.room;
         sent = rw c.self.invariant.last at c.flush.ensures.sent;
       })) c.self.invariant.node;
+      own = c.self.invariant.own;
     }

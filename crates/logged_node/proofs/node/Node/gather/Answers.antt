@@ -21,4 +21,5 @@ invariant_of-self g c = record {
         sent = c.gather.ensures.sent (last_stamp c.self.inside.log.items);
       })
       c.self.invariant.node;
+  own = c.self.invariant.own;
 }

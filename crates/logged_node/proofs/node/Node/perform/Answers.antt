@@ -1,12 +1,13 @@
 -- An event is done.
-use Rattle.std.proofs.Common.{[], ◌∷◌, ◌++◌, refl, ap, sym, ◌∙◌}
+use Rattle.std.proofs.Common.{[], ◌∷◌, ◌++◌, length, refl, ap, sym, ◌∙◌}
 use Rattle.tcc_maps.specs.Bridge.{node_of}
 use Rattle.tcc_msg.specs.Plain.{event_of}
 use Rattle.node_logs.specs.declared.logs.Logged.{Logged}
 use Rattle.logged_node.specs.Deeds.{IsPossible, mail_in}
 use Rattle.logged_node.specs.Node.{NodeData}
 use Rattle.logged_node.specs.NodeInside.{node_of_parts}
-use Rattle.logged_node.proofs.Keeping.Gathering.{gathers-refl, gathers-same}
+use Rattle.logged_node.proofs.Keeping.Gathering.{gathers-keep, gathers-refl, gathers-same}
+use Rattle.logged_node.proofs.Picking.Choices.{own-same}
 use Rattle.logged_node.proofs.Keeping.Performing.{Parts, may-perform, none-lost, on_err-from, performs-keep, performs-parts, waiting-is}
 use Rattle.logged_node.proofs.Running.Stamps.{last-push}
 use Rattle.logged_node.proofs.node.Node.perform.Goals as goal
@@ -25,6 +26,25 @@ returns-in_err-consumed-clause-unchanged c =
       state = c.in_err-consumed.ensures.unchanged;
     })
     (rw (← c.self.view_is) at c.requires.flushed) c.act.ensures.ports c.in_err-consumed.ensures.unsent))
+
+pub invariant_of-self-in_err-consumed : goal.invariant_of-self-in_err-consumed
+invariant_of-self-in_err-consumed c =
+    let mid = node_of_parts c.self.inside in
+    let new : NodeData = record { member = c.act.new.member; log = mid.log; room = c.act.new.self } in
+    record {
+      last = rw c.reserve.ensures.items c.self.invariant.last;
+      node = rw c.reserve.ensures.items (gathers-keep mid new
+          (gathers-same mid c.act.new.member c.act.new.self
+          (record {
+            code = c.act.ensures.code;
+            node = c.act.ensures.node;
+            done = c.in_err-consumed.ensures.uncounted;
+            state = c.in_err-consumed.ensures.unchanged;
+          })
+          (rw (← c.self.view_is) at c.requires.flushed) c.act.ensures.ports c.in_err-consumed.ensures.unsent) c.self.invariant.node);
+      own = c.self.invariant.own ∙ ap length (sym (own-same c.self.inside.member c.act.new.member c.act.ensures.code c.act.ensures.node
+          c.in_err-consumed.ensures.unchanged));
+    }
 
 -- the event took what waited
 taken : (c : goal.After-drop_waiting) → Parts (node_of_parts c.self.inside) (event_of c.args.deed.now.event)
@@ -70,6 +90,7 @@ invariant_of-self-in-Some c =
       last = rw (c.push_reserved.ensures.items, c.reserve.ensures.items) (sym (last-push 0 mid.log entry));
       node = rw (c.push_reserved.ensures.items, c.reserve.ensures.items)
           (performs-keep mid new (event_of d.event) (mail_in d.waiting) p (may-perform mid d h) c.self.invariant.node);
+      own = c.own_count-self-inside.ensures;
     }
 
 -- what waits stays
@@ -109,4 +130,5 @@ invariant_of-self-else-consumed c =
       last = rw (c.push_reserved.ensures.items, c.reserve.ensures.items) (sym (last-push 0 mid.log entry));
       node = rw (c.push_reserved.ensures.items, c.reserve.ensures.items)
           (performs-keep mid new (event_of d.event) (mail_in d.waiting) p (may-perform mid d h) c.self.invariant.node);
+      own = c.own_count-self-inside.ensures;
     }

@@ -1,9 +1,12 @@
 -- One more message is taken from the link.
 use Rattle.std.proofs.Common.{map, refl, arith}
-use Rattle.std.proofs.lemmas.List.{length_push}
+use Rattle.std.proofs.lemmas.List.{length-map, length_push}
 use Rattle.std.proofs.lemmas.List.Elements.{All-push}
 use Rattle.tcc_msg.specs.declared.event.Name.{Name}
+use Rattle.tcc_maps.specs.Bridge.{node_of}
 use Rattle.logged_node.specs.PortInside.{IsNamed, entry_of, port_of}
+use Rattle.logged_node.specs.Tally.{hangs}
+use Rattle.logged_node.proofs.Picking.Counts.{counted-push, filter-few, one-at-most}
 use Rattle.logged_node.proofs.Porting.Named.{entries-push, held-above}
 use Rattle.logged_node.proofs.Porting.Pools.{below-got, port-push}
 use Rattle.logged_node.proofs.Porting.SeveralMoves.{takes-push, takes-refl, takes-same}
@@ -39,7 +42,22 @@ invariant_of-self-2 g c =
           (All-push (IsNamed c.self.inside.peer c.self.inside.own) ms (n, c.in-Some.mail) i.names (record { src = refl; dst = refl }));
       port = rw (c.in-Some.ensures.taken, c.add_reserved.ensures.order, c.reserve.ensures.keeps, entries-push ms n c.in-Some.mail)
           (port-push (port_of c.self.inside) c.in-Some.mail c.self.inside.taken i.taken c.in-Some.ensures.carried i.port);
+      few = rw (c.add_reserved.ensures.order, c.reserve.ensures.keeps)
+          (omega (arith, c.len.ensures, c.if-len-ge-MOST.false, length_push ms (n, c.in-Some.mail)));
+      hanging = rw (c.in-Some.ensures.taken, c.add_reserved.ensures.order, c.reserve.ensures.keeps, entries-push ms n c.in-Some.mail)
+          (counted-push (hangs (node_of c.self.inside.inlet.ends.dst)) (map entry_of ms) (c.self.inside.taken, c.in-Some.mail)
+          c.self.inside.hanging c.hangs.result i.hanging (rw i.own at c.hangs.ensures c.self.inside.taken));
     }
+
+pub overflow_add-self-2 : goal.overflow_add-self-2
+overflow_add-self-2 g c =
+    let i = c.self.invariant in
+    let all = map entry_of c.self.inside.pool.messages in
+    let f = hangs (node_of c.self.inside.inlet.ends.dst) in
+    let one = one-at-most (f (c.self.inside.taken, c.in-Some.mail)) in
+    let is = rw i.own at c.hangs.ensures c.self.inside.taken in
+    let count = length-map c.self.inside.pool.messages entry_of in
+    omega (arith, c.len.ensures, c.if-len-ge-MOST.false, i.hanging, filter-few f all, count, one, is)
 
 pub returns : goal.returns
 returns g c =

@@ -8,24 +8,25 @@ use Rattle.logged_node.proofs.room.Mailroom.gather.Goals as goal
 
 pub invariant_of-self : goal.invariant_of-self
 invariant_of-self g c =
-    let t = subst (λ l. AtEach Takes l c.gather_all.new.ports) c.as_mut_slice.ensures.value c.gather_all.ensures in
-    let n : length c.gather_all.new.ports ≡ c.self.inside.ports.len = omega arith in
+    let ports = c.gather_rung.new.ports in
+    let t = subst (λ l. AtEach Takes l ports) c.as_mut_slice.ensures.value c.gather_rung.ensures.takes in
+    let n : length ports ≡ c.self.inside.ports.len = omega arith in
     record {
       placed = c.self.invariant.placed;
-      room = rw (with_items_is c.self.inside.ports c.gather_all.new.ports n)
-          (gathered-whole (room_of c.self.inside) c.gather_all.new.ports t c.self.invariant.room);
+      room = rw (with_items_is c.self.inside.ports ports n) (gathered-whole (room_of c.self.inside) ports t c.self.invariant.room);
+      tally = rw (with_items_is c.self.inside.ports ports n) c.gather_rung.ensures.tallied;
     }
 
 pub returns-clause-room : goal.returns-clause-room
 returns-clause-room g c =
-    let t = subst (λ l. AtEach Takes l c.gather_all.new.ports) c.as_mut_slice.ensures.value c.gather_all.ensures in
-    let n : length c.gather_all.new.ports ≡ c.self.inside.ports.len = omega arith in
-    rw (← c.self.view_is, with_items_is c.self.inside.ports c.gather_all.new.ports n)
-    (gathered-room (room_of c.self.inside) c.gather_all.new.ports t)
+    let ports = c.gather_rung.new.ports in
+    let t = subst (λ l. AtEach Takes l ports) c.as_mut_slice.ensures.value c.gather_rung.ensures.takes in
+    let n : length ports ≡ c.self.inside.ports.len = omega arith in
+    rw (← c.self.view_is, with_items_is c.self.inside.ports ports n) (gathered-room (room_of c.self.inside) ports t)
 
 pub returns-clause-sent : goal.returns-clause-sent
 returns-clause-sent g c = λ stamp dst.
-    let t = subst (λ l. AtEach Takes l c.gather_all.new.ports) c.as_mut_slice.ensures.value c.gather_all.ensures in
-    let n : length c.gather_all.new.ports ≡ c.self.inside.ports.len = omega arith in
-    rw (← c.self.view_is, with_items_is c.self.inside.ports c.gather_all.new.ports n)
-    (gathered-sent (room_of c.self.inside) c.gather_all.new.ports t stamp dst)
+    let ports = c.gather_rung.new.ports in
+    let t = subst (λ l. AtEach Takes l ports) c.as_mut_slice.ensures.value c.gather_rung.ensures.takes in
+    let n : length ports ≡ c.self.inside.ports.len = omega arith in
+    rw (← c.self.view_is, with_items_is c.self.inside.ports ports n) (gathered-sent (room_of c.self.inside) ports t stamp dst)

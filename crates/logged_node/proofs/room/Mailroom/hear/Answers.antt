@@ -76,6 +76,9 @@ invariant_of-self g c = record {
   room = rw (set-same c.self.inside.ports.items c.in-Some.there c.index_mut.result.now c.hear.new.self c.index_mut.ensures.value
       c.hear.ensures.unchanged)
       c.self.invariant.room;
+  tally = rw (set-same c.self.inside.ports.items c.in-Some.there c.index_mut.result.now c.hear.new.self c.index_mut.ensures.value
+      c.hear.ensures.unchanged)
+      c.self.invariant.tally;
 }
 
 pub invariant_of-peer : goal.invariant_of-peer
@@ -84,4 +87,7 @@ invariant_of-peer g c = record {
   room = rw (set-same c.peer.inside.ports.items c.in-Some-seat_of.back c.index_mut-2.result.now c.hear.new.peer c.index_mut-2.ensures.value
       c.hear.ensures.peer)
       c.peer.invariant.room;
+  tally = rw (set-same c.peer.inside.ports.items c.in-Some-seat_of.back c.index_mut-2.result.now c.hear.new.peer c.index_mut-2.ensures.value
+      c.hear.ensures.peer)
+      c.peer.invariant.tally;
 }

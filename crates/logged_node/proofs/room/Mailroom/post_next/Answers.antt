@@ -1,10 +1,13 @@
 -- The first message goes onto its link.
 use Rattle.std.proofs.Common.{◌<◌, drop, ◌+◌, length, length-drop, refl, sym, ◌∙◌, arith}
+use Rattle.std.specs.Prelude.{slice_set}
 use Rattle.std.proofs.lemmas.Option.{slice_get_read}
 use Rattle.tcc_maps.specs.Bridge.{node_of}
 use Rattle.tcc_msg.specs.Plain.{msg_of}
 use Rattle.logged_node.specs.RoomInside.{room_of}
-use Rattle.logged_node.proofs.Porting.Posted.{posted-same}
+use Rattle.logged_node.proofs.Picking.Tallied.{WaitsSame, same-tallied}
+use Rattle.logged_node.proofs.Porting.ChangedElement.{each-set}
+use Rattle.logged_node.proofs.Porting.Posted.{posted-same, with_sent}
 use Rattle.logged_node.proofs.Porting.Rooms.{first-carried, first-is, outlet-carries, posted-room, posted-whole, seat-within}
 use Rattle.logged_node.proofs.Porting.Seats.{seat-carried}
 use Rattle.logged_node.proofs.room.Mailroom.post_next.Goals as goal
@@ -52,6 +55,12 @@ invariant_of-self-2 g c =
       room = rw c.in_ok-send.ensures.sent (posted-whole r c.in-Some.seat c.index_mut.result.now
           (record { stamp = c.args.stamp; msg = x.1 }) x.0 x.1
           (drop (c.self.inside.placed + 1) c.self.inside.out.list.items) c.self.invariant.room f p l);
+      tally = rw c.in_ok-send.ensures.sent (same-tallied r.ports
+          (slice_set r.ports c.in-Some.seat (with_sent c.index_mut.result.now (record { stamp = c.args.stamp; msg = x.1 })))
+          c.self.inside.tally (each-set WaitsSame r.ports c.in-Some.seat c.index_mut.result.now
+          (with_sent c.index_mut.result.now (record { stamp = c.args.stamp; msg = x.1 })) p (record { inlet = refl; pool = refl })
+          (λ q. record { inlet = refl; pool = refl }) l)
+          c.self.invariant.tally);
     }
 
 pub returns-clause-room : goal.returns-clause-room
