@@ -1,5 +1,6 @@
 -- The first numbers that have a property, one by one; and what goes to the directories that have it.
-use Rattle.std.proofs.Common.{ℕ, ◌+◌, ◌≡◌, Bool, true, false, not, ◌&&◌, ◌||◌, nat_eq, nat_lt, if◌then◌else◌, [], ◌∷◌, ◌++◌, refl, ap, arith}
+use Rattle.std.proofs.Common.{ℕ, ◌+◌, ◌≡◌, Bool, true, false, not, ◌&&◌, ◌||◌, nat_eq, nat_lt, if◌then◌else◌, [], ◌∷◌, ◌++◌, refl, ap}
+use Rattle.std.proofs.Common.{arith}
 use Rattle.std.proofs.lemmas.Bool.Decides.{nat_tests}
 use Rattle.tcc_base.specs.Put.{put}
 use Rattle.tcc_maps.specs.Masks.{has}
@@ -50,7 +51,8 @@ first_out n p h = λ i d. (each d (nat_eq d n) refl) i
     each d true e = (let s : d ≡ n = grind (arith, nat_tests) in rw s (rw (lt_self n, lt_same n, h) refl))
     each d false e = rw (lt_next d n e) refl
 
-pub aborts_are : (sh : Shape) (c : Cache) (bits t : ℕ) → has bits ≡ first_with sh.dirs (writes_at sh c) → to_first sh.dirs (to_members bits (Abort t)) ≡ abort_written sh c t
+pub aborts_are : (sh : Shape) (c : Cache) (bits t : ℕ) → has bits ≡ first_with sh.dirs (writes_at sh c)
+    → to_first sh.dirs (to_members bits (Abort t)) ≡ abort_written sh c t
 unfolding to_first to_members abort_written first_with
 aborts_are sh c bits t e = λ i dst. (each dst) i
   where
@@ -70,12 +72,14 @@ pub grants_are : (sh : Shape) (c : Cache) (skips probes t : ℕ)
 unfolding followed to_first to_members grant_sends first_with
 grants_are sh c skips probes t e f = λ i dst. (each dst) i
   where
-    inside : (b w r : Bool) → (if b then when (b && not (b && w)) (Skip t ∷ []) else []) ++ (if b then when (b && w || b && r) (Probe t ∷ []) else [])
+    inside : (b w r : Bool) → (if b then when (b && not (b && w)) (Skip t ∷ []) else [])
+        ++ (if b then when (b && w || b && r) (Probe t ∷ []) else [])
         ≡ (if b then when (not w) (Skip t ∷ []) ++ when (w || r) (Probe t ∷ []) else [])
     inside true w r = refl
     inside false w r = refl
 
-    each : (dst : Node) → followed (to_first sh.dirs (to_members skips (Skip t))) (to_first sh.dirs (to_members probes (Probe t))) dst ≡ grant_sends sh c t dst
+    each : (dst : Node) → followed (to_first sh.dirs (to_members skips (Skip t))) (to_first sh.dirs (to_members probes (Probe t))) dst
+        ≡ grant_sends sh c t dst
     each (Dir d) = rw (e d, f d) (inside (nat_lt d sh.dirs) (writes_at sh c d) (reads_at sh c d))
     each (Core k) = refl
     each Vendor = refl

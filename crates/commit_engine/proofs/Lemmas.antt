@@ -1,6 +1,7 @@
 -- What goes to each node, message by message: for the proofs of callers too.
 pub use Rattle.commit_engine.proofs.Noting.{noted_all, solo_writes_elsewhere, writes_elsewhere}
-use Rattle.std.proofs.Common.{◌≡◌, ℕ, ◌+◌, Bool, true, false, List, [], ◌∷◌, ◌++◌, map, length, vec_capacity, length-append, ◌≤◌, nat_eq, nat_lt, ◌||◌, if◌then◌else◌, append_assoc, append-nil, refl, ap, sym, ◌∙◌, arith, inl, inr}
+use Rattle.std.proofs.Common.{◌≡◌, ℕ, ◌+◌, Bool, true, false, List, [], ◌∷◌, ◌++◌, map, length, vec_capacity, length-append, ◌≤◌, nat_eq}
+use Rattle.std.proofs.Common.{nat_lt, ◌||◌, if◌then◌else◌, append_assoc, append-nil, refl, ap, sym, ◌∙◌, arith, inl, inr}
 use Rattle.std.specs.List.{flat_map}
 use Rattle.std.proofs.lemmas.Bool.{cases_eq, ne_eqb}
 use Rattle.std.proofs.lemmas.Bool.Decides.{nat_tests}
@@ -26,7 +27,8 @@ unfolding followed
 followed_assoc r s t = λ i dst. (append_assoc (r dst) (s dst) (t dst)) i
 
 -- one more message
-pub sent-push : (xs : List (NodeId × CodeMsg)) (d : NodeId) (m : CodeMsg) → sends_of (xs ++ (d, m) ∷ []) ≡ followed (sends_of xs) (to (node_of d) (msg_of m ∷ []))
+pub sent-push : (xs : List (NodeId × CodeMsg)) (d : NodeId) (m : CodeMsg)
+    → sends_of (xs ++ (d, m) ∷ []) ≡ followed (sends_of xs) (to (node_of d) (msg_of m ∷ []))
 unfolding followed
 sent-push xs d m = λ i n. (sends_of-push xs d m n) i
 
@@ -36,7 +38,8 @@ to_first-zero f (Dir d) = (let e : nat_lt d 0 ≡ false = grind (arith, nat_test
 to_first-zero f (Core c) = refl
 to_first-zero f Vendor = refl
 
-first_more : (x y z : Bool) (ms : List Msg) → z ≡ (x || y) → (x ≡ true → y ≡ false) → (if z then ms else []) ≡ (if x then ms else []) ++ (if y then ms else [])
+first_more : (x y z : Bool) (ms : List Msg) → z ≡ (x || y) → (x ≡ true → y ≡ false) → (if z then ms else []) ≡ (if x then ms else [])
+    ++ (if y then ms else [])
 first_more true y z ms e d = rw (e, d refl) (sym (append-nil ms))
 first_more false y z ms e d = rw e refl
 
@@ -54,7 +57,8 @@ same_place f d n = elim (cases_eq d n) [
 
 pub to_first-more : (n : ℕ) (f : ℕ → List Msg) (dst : Node) → to_first (n + 1) f dst ≡ to_first n f dst ++ to (Dir n) (f n) dst
 unfolding to_first
-to_first-more n f (Dir d) = first_more (nat_lt d n) (nat_eq d n) (nat_lt d (n + 1)) (f d) (lt_more d n) (lt_other d n) ∙ ap (λ ms. (if nat_lt d n then f d else []) ++ ms) (same_place f d n)
+to_first-more n f (Dir d) = first_more (nat_lt d n) (nat_eq d n) (nat_lt d (n + 1)) (f d) (lt_more d n) (lt_other d n)
+    ∙ ap (λ ms. (if nat_lt d n then f d else []) ++ ms) (same_place f d n)
 to_first-more n f (Core c) = refl
 to_first-more n f Vendor = refl
 
@@ -84,9 +88,14 @@ to_first_sends n f = λ i dst. (to_first-more n f dst) i
 pub sent_none : (out : Outgoing) (f : ℕ → List Msg) → Sent out out (to_first 0 f) 0
 sent_none out f =
     let e : to_first 0 f ≡ (λ dst. []) = λ i dst. (to_first-zero f dst) i in
-    record { messages = sym (ap (followed (sends_of out.list.items)) e ∙ followed-nothing (sends_of out.list.items)); count = omega arith; room = refl }
+    record {
+      messages = sym (ap (followed (sends_of out.list.items)) e ∙ followed-nothing (sends_of out.list.items));
+      count = omega arith;
+      room = refl;
+    }
 
-pub sent_same : (old new : Outgoing) (f : ℕ → List Msg) (n : ℕ) → Sent old new (to_first n f) n → f n ≡ [] → Sent old new (to_first (n + 1) f) (n + 1)
+pub sent_same : (old new : Outgoing) (f : ℕ → List Msg) (n : ℕ) → Sent old new (to_first n f) n → f n ≡ []
+    → Sent old new (to_first (n + 1) f) (n + 1)
 sent_same old new f n s e =
     let m : to_first (n + 1) f ≡ to_first n f = to_first_skips n f e in
     record { messages = rw m s.messages; count = omega arith; room = s.room }
@@ -95,11 +104,14 @@ pub sent_more : (old mid new : Outgoing) (f : ℕ → List Msg) (n : ℕ) (d : N
     → Sent old mid (to_first n f) n → new.list.items ≡ mid.list.items ++ (d, m) ∷ [] → vec_capacity new.list ≡ vec_capacity mid.list
     → node_of d ≡ Dir n → f n ≡ msg_of m ∷ [] → Sent old new (to_first (n + 1) f) (n + 1)
 sent_more old mid new f n d m s i r e g =
-    let pushed : sends_of new.list.items ≡ followed (sends_of mid.list.items) (to (Dir n) (f n)) = rw i (rw (sent-push mid.list.items d m) (rw (e, g) refl)) in
-    let all : sends_of new.list.items ≡ followed (followed (sends_of old.list.items) (to_first n f)) (to (Dir n) (f n)) = pushed ∙ ap (λ (x : Sends). followed x (to (Dir n) (f n))) s.messages in
+    let pushed : sends_of new.list.items ≡ followed (sends_of mid.list.items) (to (Dir n) (f n)) =
+    rw i (rw (sent-push mid.list.items d m) (rw (e, g) refl)) in
+    let all : sends_of new.list.items ≡ followed (followed (sends_of old.list.items) (to_first n f)) (to (Dir n) (f n)) =
+    pushed ∙ ap (λ (x : Sends). followed x (to (Dir n) (f n))) s.messages in
     let long : length new.list.items ≡ length mid.list.items + 1 = rw i (length-append mid.list.items ((d, m) ∷ [])) in
     record {
-      messages = all ∙ followed_assoc (sends_of old.list.items) (to_first n f) (to (Dir n) (f n)) ∙ ap (followed (sends_of old.list.items)) (sym (to_first_sends n f));
+      messages = all ∙ followed_assoc (sends_of old.list.items) (to_first n f) (to (Dir n) (f n)) ∙ ap (followed (sends_of old.list.items))
+          (sym (to_first_sends n f));
       count = omega arith;
       room = r ∙ s.room;
     }
@@ -113,7 +125,8 @@ sent_both old mid new a b m n s t = record {
 }
 
 -- one message
-pub sent_one : (old new : Outgoing) (d : NodeId) (m : CodeMsg) → new.list.items ≡ old.list.items ++ (d, m) ∷ [] → vec_capacity new.list ≡ vec_capacity old.list
+pub sent_one : (old new : Outgoing) (d : NodeId) (m : CodeMsg) → new.list.items ≡ old.list.items ++ (d, m) ∷ []
+    → vec_capacity new.list ≡ vec_capacity old.list
     → Sent old new (to (node_of d) (msg_of m ∷ [])) 1
 sent_one old new d m i r =
     let long : length new.list.items ≡ length old.list.items + 1 = rw i (length-append old.list.items ((d, m) ∷ [])) in
@@ -121,7 +134,11 @@ sent_one old new d m i r =
 
 -- the same messages in other words, or with more room
 pub sent_as : (old new : Outgoing) (a b : Sends) (m n : ℕ) → Sent old new a m → a ≡ b → m ≤ n → Sent old new b n
-sent_as old new a b m n s e l = record { messages = s.messages ∙ ap (followed (sends_of old.list.items)) e; count = omega arith; room = s.room }
+sent_as old new a b m n s e l = record {
+  messages = s.messages ∙ ap (followed (sends_of old.list.items)) e;
+  count = omega arith;
+  room = s.room;
+}
 
 pub to-append : (n : Node) (xs ys : List Msg) → followed (to n xs) (to n ys) ≡ to n (xs ++ ys)
 unfolding followed
@@ -135,7 +152,8 @@ pub to-none : (n : Node) → to n [] ≡ (λ dst. [])
 to-none n = λ i dst. (same_either (node_eq dst n) []) i
 
 -- a message to every directory
-members_all : (bits n d : ℕ) (m : Msg) → has bits d ≡ nat_lt d n → (if nat_lt d n then to_members bits m d else []) ≡ (if nat_lt d n then m ∷ [] else [])
+members_all : (bits n d : ℕ) (m : Msg) → has bits d ≡ nat_lt d n
+    → (if nat_lt d n then to_members bits m d else []) ≡ (if nat_lt d n then m ∷ [] else [])
 unfolding to_members
 members_all bits n d m e = rw e (twice (nat_lt d n))
   where
@@ -152,7 +170,8 @@ skips_all sh bits t e = λ i dst. (each dst) i
     each (Core c) = refl
     each Vendor = refl
 
-pub probes_all : (sh : Shape) (bits t : ℕ) → has bits ≡ (λ d. nat_lt d sh.dirs) → to_first sh.dirs (to_members bits (Probe t)) ≡ probe_all sh t
+pub probes_all : (sh : Shape) (bits t : ℕ) → has bits ≡ (λ d. nat_lt d sh.dirs)
+    → to_first sh.dirs (to_members bits (Probe t)) ≡ probe_all sh t
 unfolding to_first probe_all
 probes_all sh bits t e = λ i dst. (each dst) i
   where
@@ -166,7 +185,8 @@ pub marks_are : (sh : Shape) (c : Cache) (t d : ℕ) → map (mark_at t) (marks_
 unfolding marks_by_home marks_for mark_at
 marks_are sh c t d = go (written_lines sh c d)
   where
-    go : (ls : List ℕ) → map (λ (m : ℕ × ℕ). Mark m.0 m.1 t) (map (λ (l : ℕ). (l, modified_mask c l)) ls) ≡ flat_map (λ l. Mark l (modified_mask c l) t ∷ []) ls
+    go : (ls : List ℕ) → map (λ (m : ℕ × ℕ). Mark m.0 m.1 t) (map (λ (l : ℕ). (l, modified_mask c l)) ls) ≡ flat_map
+        (λ l. Mark l (modified_mask c l) t ∷ []) ls
     go [] = refl
     go (l ∷ ls) = ap (λ ms. Mark l (modified_mask c l) t ∷ ms) (go ls)
 

@@ -1,5 +1,6 @@
 -- The commits that go to the written directories, and what is noted of them.
-use Rattle.std.proofs.Common.{ℕ, suc, zero, ◌+◌, ◌%◌, ◌<◌, ◌≡◌, ◌≢◌, Bool, true, false, not, cond, ◌==◌, ◌&&◌, ◌||◌, nat_eq, nat_lt, if◌then◌else◌, inl, inr, List, [], ◌∷◌, length, get_or, set, refl, ap, sym, ◌∙◌, arith}
+use Rattle.std.proofs.Common.{ℕ, suc, zero, ◌+◌, ◌%◌, ◌<◌, ◌≡◌, ◌≢◌, Bool, true, false, not, cond, ◌==◌, ◌&&◌, ◌||◌, nat_eq, nat_lt}
+use Rattle.std.proofs.Common.{if◌then◌else◌, inl, inr, List, [], ◌∷◌, length, get_or, set, refl, ap, sym, ◌∙◌, arith}
 use Rattle.std.proofs.Math.Nat.{mod-lt}
 use Rattle.std.proofs.lemmas.Bool.{cases_eq, ne_eqb}
 use Rattle.std.proofs.lemmas.Bool.Decides.{nat_tests}
@@ -61,7 +62,8 @@ pub note_none : (p : ℕ → Bool) (t : ℕ) (a : ℕ → ℕ) → a ≡ with_la
 unfolding with_last_commit
 note_none p t a = ap (λ (w : ℕ → Bool). with_last_commit w t a) (first_none p)
 
-pub note_in : (n : ℕ) (p : ℕ → Bool) (t : ℕ) (a : ℕ → ℕ) → p n ≡ true → put (with_last_commit (first_with n p) t a) n t ≡ with_last_commit (first_with (n + 1) p) t a
+pub note_in : (n : ℕ) (p : ℕ → Bool) (t : ℕ) (a : ℕ → ℕ) → p n ≡ true
+    → put (with_last_commit (first_with n p) t a) n t ≡ with_last_commit (first_with (n + 1) p) t a
 unfolding with_last_commit
 note_in n p t a h = (λ i d. (each d (first_with n p d) (nat_eq d n)) i) ∙ ap (λ (w : ℕ → Bool). with_last_commit w t a) (first_in n p h)
   where
@@ -69,7 +71,8 @@ note_in n p t a h = (λ i d. (each d (first_with n p d) (nat_eq d n)) i) ∙ ap 
     each d w true = refl
     each d w false = refl
 
-pub note_out : (n : ℕ) (p : ℕ → Bool) (t : ℕ) (a : ℕ → ℕ) → p n ≡ false → with_last_commit (first_with n p) t a ≡ with_last_commit (first_with (n + 1) p) t a
+pub note_out : (n : ℕ) (p : ℕ → Bool) (t : ℕ) (a : ℕ → ℕ) → p n ≡ false
+    → with_last_commit (first_with n p) t a ≡ with_last_commit (first_with (n + 1) p) t a
 note_out n p t a h = ap (λ (w : ℕ → Bool). with_last_commit w t a) (first_out n p h)
 
 pub after_of-set : (xs : List Tid) (n : ℕ) (t : Tid) → n < length xs → after_of (set xs n t) ≡ put (after_of xs) n t.0
@@ -86,7 +89,8 @@ after_of-set xs n t l = λ i d. (each d) i
     ]
 
 -- no line is at home at a directory that isn't there
-home_elsewhere : (sh : Shape) (q : ℕ → Bool) (d n : ℕ) → 0 < sh.dirs → nat_lt d sh.dirs ≡ false → any_below (λ l. d == home sh l && q l) n ≡ false
+home_elsewhere : (sh : Shape) (q : ℕ → Bool) (d n : ℕ) → 0 < sh.dirs → nat_lt d sh.dirs ≡ false
+    → any_below (λ l. d == home sh l && q l) n ≡ false
 unfolding any_below
 home_elsewhere sh q d zero s e = refl
 home_elsewhere sh q d (suc n) s e =
@@ -98,7 +102,8 @@ pub writes_elsewhere : (sh : Shape) (c : Cache) (d : ℕ) → 0 < sh.dirs → na
 unfolding writes_at
 writes_elsewhere sh c d s e = home_elsewhere sh (is_modified c) d (lines sh) s e
 
-pub solo_writes_elsewhere : (sh : Shape) (c : Cache) (sp : Spilled) (d : ℕ) → 0 < sh.dirs → nat_lt d sh.dirs ≡ false → solo_writes_at sh c sp d ≡ false
+pub solo_writes_elsewhere : (sh : Shape) (c : Cache) (sp : Spilled) (d : ℕ) → 0 < sh.dirs → nat_lt d sh.dirs ≡ false
+    → solo_writes_at sh c sp d ≡ false
 unfolding solo_writes_at
 solo_writes_elsewhere sh c sp d s e = home_elsewhere sh (is_written c sp) d (lines sh) s e
 

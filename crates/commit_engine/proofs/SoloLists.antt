@@ -1,5 +1,6 @@
 -- What goes to the homes of the lines of a list, directory by directory.
-use Rattle.std.proofs.Common.{ℕ, suc, zero, ◌%◌, ◌<◌, ◌≤◌, ◌≡◌, Bool, true, false, not, cond, ◌==◌, ◌&&◌, ◌||◌, nat_eq, nat_lt, if◌then◌else◌, List, [], ◌∷◌, ◌++◌, map, length, append_assoc, append-nil, refl, ap, sym, ◌∙◌, arith}
+use Rattle.std.proofs.Common.{ℕ, suc, zero, ◌%◌, ◌<◌, ◌≤◌, ◌≡◌, Bool, true, false, not, cond, ◌==◌, ◌&&◌, ◌||◌, nat_eq, nat_lt}
+use Rattle.std.proofs.Common.{if◌then◌else◌, List, [], ◌∷◌, ◌++◌, map, length, append_assoc, append-nil, refl, ap, sym, ◌∙◌, arith}
 use Rattle.std.specs.List.{flat_map}
 use Rattle.std.proofs.Math.Nat.{mod-lt}
 use Rattle.std.proofs.lemmas.Bool.Decides.{nat_tests}
@@ -20,7 +21,8 @@ flat_map-append f [] ys = refl
 flat_map-append f (x ∷ xs) ys = ap (λ r. f x ++ r) (flat_map-append f xs ys) ∙ sym (append_assoc (f x) (flat_map f xs) (flat_map f ys))
 
 -- of the numbers that pass one test, those of which something is said
-said : {A : Type 0} (g : ℕ × ℕ → List A) (h : ℕ → ℕ × ℕ) (k : ℕ → List A) (w v : Bool) (n : ℕ) → (if w then g (h n) else []) ≡ (if v then k n else [])
+said : {A : Type 0} (g : ℕ × ℕ → List A) (h : ℕ → ℕ × ℕ) (k : ℕ → List A) (w v : Bool) (n : ℕ)
+    → (if w then g (h n) else []) ≡ (if v then k n else [])
     → flat_map g (map h (cond w (n ∷ []) [])) ≡ flat_map k (cond v (n ∷ []) [])
 said g h k true true n e = append-nil (g (h n)) ∙ e ∙ sym (append-nil (k n))
 said g h k true false n e = append-nil (g (h n)) ∙ e
@@ -44,7 +46,8 @@ within true false xs = refl
 within false true xs = refl
 within false false xs = refl
 
-within_spilled : (m s e : Bool) (xs : List Msg) → (if m || s then if e then if s then xs else [] else [] else []) ≡ (if e && s then xs else [])
+within_spilled : (m s e : Bool) (xs : List Msg)
+    → (if m || s then if e then if s then xs else [] else [] else []) ≡ (if e && s then xs else [])
 within_spilled true true true xs = refl
 within_spilled true true false xs = refl
 within_spilled true false true xs = refl
@@ -59,17 +62,21 @@ abbrev written_here : Shape → Cache → Spilled → ℕ → ℕ → Bool
 written_here sh c sp d l = d == home sh l && is_written c sp l
 
 marks_here : (sh : Shape) (c : Cache) (sp : Spilled) (t d : ℕ)
-    → at_homes sh (marked_line t) (solo_list sh c sp) (Dir d) ≡ flat_map (λ l. Mark l (written_mask c sp l) t ∷ []) (those (written_here sh c sp d) (lines sh))
+    → at_homes sh (marked_line t) (solo_list sh c sp) (Dir d) ≡ flat_map (λ l. Mark l (written_mask c sp l) t ∷ [])
+    (those (written_here sh c sp d) (lines sh))
 unfolding at_homes marked_line solo_list
 marks_here sh c sp t d =
-    picked (is_written c sp) (written_here sh c sp d) (λ m. if d == home sh m.0 then Mark m.0 m.1 t ∷ [] else []) (λ l. (l, written_mask c sp l)) (λ l. Mark l (written_mask c sp l) t ∷ []) (lines sh)
+    picked (is_written c sp) (written_here sh c sp d) (λ m. if d == home sh m.0 then Mark m.0 m.1 t ∷ [] else [])
+    (λ l. (l, written_mask c sp l)) (λ l. Mark l (written_mask c sp l) t ∷ []) (lines sh)
     (λ l. within (is_written c sp l) (d == home sh l) (Mark l (written_mask c sp l) t ∷ []))
 
-backs_here : (sh : Shape) (c : Cache) (sp : Spilled) (t d : ℕ) → at_homes sh (spilled_back sp t) (solo_list sh c sp) (Dir d) ≡ solo_write_backs sh sp t d
+backs_here : (sh : Shape) (c : Cache) (sp : Spilled) (t d : ℕ)
+    → at_homes sh (spilled_back sp t) (solo_list sh c sp) (Dir d) ≡ solo_write_backs sh sp t d
 unfolding at_homes spilled_back solo_list solo_write_backs is_written
 backs_here sh c sp t d =
     picked (is_written c sp) (λ l. d == home sh l && holds sp l)
-    (λ m. if d == home sh m.0 then if holds sp m.0 then WriteBack m.0 (spilled_mask sp m.0) (spilled_words sp m.0) t ∷ [] else [] else []) (λ l. (l, written_mask c sp l))
+    (λ m. if d == home sh m.0 then if holds sp m.0 then WriteBack m.0 (spilled_mask sp m.0) (spilled_words sp m.0) t ∷ [] else [] else [])
+    (λ l. (l, written_mask c sp l))
     (λ l. WriteBack l (spilled_mask sp l) (spilled_words sp l) t ∷ []) (lines sh)
     (λ l. within_spilled (is_modified c l) (holds sp l) (d == home sh l) (WriteBack l (spilled_mask sp l) (spilled_words sp l) t ∷ []))
 
@@ -77,10 +84,12 @@ singles-length : {A : Type 0} (k : ℕ → A) (ls : List ℕ) → length (flat_m
 singles-length k [] = refl
 singles-length k (l ∷ ls) = ap suc (singles-length k ls)
 
-pub count_here-is : (sh : Shape) (c : Cache) (sp : Spilled) (d : ℕ) → length (here sh d (solo_list sh c sp)) ≡ count_below (written_here sh c sp d) (lines sh)
+pub count_here-is : (sh : Shape) (c : Cache) (sp : Spilled) (d : ℕ)
+    → length (here sh d (solo_list sh c sp)) ≡ count_below (written_here sh c sp d) (lines sh)
 unfolding here solo_list
 count_here-is sh c sp d =
-    ap length (picked (is_written c sp) (written_here sh c sp d) (λ m. if d == home sh m.0 then m ∷ [] else []) (λ l. (l, written_mask c sp l)) (λ l. (l, written_mask c sp l) ∷ []) (lines sh)
+    ap length (picked (is_written c sp) (written_here sh c sp d) (λ m. if d == home sh m.0 then m ∷ [] else [])
+    (λ l. (l, written_mask c sp l)) (λ l. (l, written_mask c sp l) ∷ []) (lines sh)
     (λ l. within (is_written c sp l) (d == home sh l) ((l, written_mask c sp l) ∷ [])))
     ∙ singles-length (λ l. (l, written_mask c sp l)) (those (written_here sh c sp d) (lines sh))
     ∙ length-those (written_here sh c sp d) (lines sh)
@@ -106,7 +115,8 @@ closes sh c sp t d =
     (either (nat_eq n 0) (flat_map f ls) (Skip t ∷ []) (Commit t n ∷ []) none)
 
 -- nothing goes to other nodes
-elsewhere : (sh : Shape) (f : ℕ × ℕ → List Msg) (ms : List (ℕ × ℕ)) (d : ℕ) → 0 < sh.dirs → nat_lt d sh.dirs ≡ false → at_homes sh f ms (Dir d) ≡ []
+elsewhere : (sh : Shape) (f : ℕ × ℕ → List Msg) (ms : List (ℕ × ℕ)) (d : ℕ) → 0 < sh.dirs → nat_lt d sh.dirs ≡ false
+    → at_homes sh f ms (Dir d) ≡ []
 unfolding at_homes
 elsewhere sh f [] d s e = refl
 elsewhere sh f (m ∷ ms) d s e =
@@ -125,9 +135,12 @@ no_vendor sh f [] = refl
 no_vendor sh f (m ∷ ms) = no_vendor sh f ms
 
 pub solo_are : (sh : Shape) (c : Cache) (sp : Spilled) (t : ℕ) (ms : List (ℕ × ℕ)) → 0 < sh.dirs → ms ≡ solo_list sh c sp
-    → followed (followed (at_homes sh (marked_line t) ms) (to_first sh.dirs (closing sh ms t))) (at_homes sh (spilled_back sp t) ms) ≡ solo_sends sh c sp t
+    → followed (followed (at_homes sh (marked_line t) ms) (to_first sh.dirs (closing sh ms t))) (at_homes sh (spilled_back sp t) ms)
+    ≡ solo_sends sh c sp t
 unfolding followed to_first solo_sends
-solo_are sh c sp t ms s e = ap (λ (xs : List (ℕ × ℕ)). followed (followed (at_homes sh (marked_line t) xs) (to_first sh.dirs (closing sh xs t))) (at_homes sh (spilled_back sp t) xs)) e ∙ (λ i dst. (each dst) i)
+solo_are sh c sp t ms s e =
+    ap (λ (xs : List (ℕ × ℕ)). followed (followed (at_homes sh (marked_line t) xs) (to_first sh.dirs (closing sh xs t)))
+    (at_homes sh (spilled_back sp t) xs)) e ∙ (λ i dst. (each dst) i)
   where
     all : List (ℕ × ℕ)
     all = solo_list sh c sp
@@ -138,7 +151,8 @@ solo_are sh c sp t ms s e = ap (λ (xs : List (ℕ × ℕ)). followed (followed 
     at d true q = rw (closes sh c sp t d, backs_here sh c sp t d) refl
     at d false q = rw (elsewhere sh (marked_line t) all d s q, elsewhere sh (spilled_back sp t) all d s q) refl
 
-    each : (dst : Node) → followed (followed (at_homes sh (marked_line t) all) (to_first sh.dirs (closing sh all t))) (at_homes sh (spilled_back sp t) all) dst ≡ solo_sends sh c sp t dst
+    each : (dst : Node) → followed (followed (at_homes sh (marked_line t) all) (to_first sh.dirs (closing sh all t)))
+        (at_homes sh (spilled_back sp t) all) dst ≡ solo_sends sh c sp t dst
     each (Dir d) = at d (nat_lt d sh.dirs) refl
     each (Core k) = rw (no_core sh (marked_line t) all k, no_core sh (spilled_back sp t) all k) refl
     each Vendor = rw (no_vendor sh (marked_line t) all, no_vendor sh (spilled_back sp t) all) refl
@@ -147,7 +161,8 @@ solo_are sh c sp t ms s e = ap (λ (xs : List (ℕ × ℕ)). followed (followed 
 count_small : (p : ℕ → Bool) (n : ℕ) → count_below p n ≤ n
 unfolding count_below
 count_small p zero = omega arith
-count_small p (suc n) = let rest : count_below p n ≤ n = count_small p n in let own : cond (p n) 1 0 ≤ 1 = by (p n) in omega (arith, rest, own)
+count_small p (suc n) = let rest : count_below p n ≤ n = count_small p n in let own : cond (p n) 1 0 ≤ 1 = by (p n) in
+    omega (arith, rest, own)
   where
     by : (b : Bool) → cond b 1 0 ≤ 1
     by true = omega arith
@@ -157,7 +172,8 @@ pub few_lines : (sh : Shape) (c : Cache) (sp : Spilled) (ms : List (ℕ × ℕ))
 unfolding solo_list
 few_lines sh c sp ms e =
     let long : length ms ≡ count_below (is_written c sp) (lines sh) =
-    ap length e ∙ length-map (those (is_written c sp) (lines sh)) (λ l. (l, written_mask c sp l)) ∙ length-those (is_written c sp) (lines sh) in
+    ap length e ∙ length-map (those (is_written c sp) (lines sh)) (λ l. (l, written_mask c sp l))
+    ∙ length-those (is_written c sp) (lines sh) in
     let small = count_small (is_written c sp) (lines sh) in
     omega (arith, long, small)
 
@@ -166,5 +182,6 @@ pub writes-here : (sh : Shape) (c : Cache) (sp : Spilled) (ms : List (ℕ × ℕ
     → solo_writes_at sh c sp d ≡ not (nat_eq n 0)
 unfolding solo_writes_at
 writes-here sh c sp ms d n e k =
-    let count : n ≡ count_below (written_here sh c sp d) (lines sh) = k ∙ ap (λ (xs : List (ℕ × ℕ)). length (here sh d xs)) e ∙ count_here-is sh c sp d in
+    let count : n ≡ count_below (written_here sh c sp d) (lines sh) = k ∙ ap (λ (xs : List (ℕ × ℕ)). length (here sh d xs)) e
+    ∙ count_here-is sh c sp d in
     rw count (any_below-count (written_here sh c sp d) (lines sh))

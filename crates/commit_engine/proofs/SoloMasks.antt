@@ -11,7 +11,16 @@ use Rattle.tcc_maps.proofs.Lemmas.{has-join, has-mask_of, mask_of-has, mask_of-s
 
 pub mask_of-same : (p q : ℕ → Bool) → ((k : ℕ) → k < 8 → p k ≡ q k) → mask_of p ≡ mask_of q
 unfolding mask_of
-mask_of-same p q e = rw (e 0 (omega arith), e 1 (omega arith), e 2 (omega arith), e 3 (omega arith), e 4 (omega arith), e 5 (omega arith), e 6 (omega arith), e 7 (omega arith)) refl
+mask_of-same p q e = rw (
+  e 0 (omega arith),
+  e 1 (omega arith),
+  e 2 (omega arith),
+  e 3 (omega arith),
+  e 4 (omega arith),
+  e 5 (omega arith),
+  e 6 (omega arith),
+  e 7 (omega arith),
+) refl
 
 mask_of-or : (p q : ℕ → Bool) → join (mask_of p) (mask_of q) ≡ mask_of (λ k. p k || q k)
 mask_of-or p q =
@@ -19,7 +28,8 @@ mask_of-or p q =
     let a : mask_of p < 2 ^ 8 = mask_of-small p in
     let b : mask_of q < 2 ^ 8 = mask_of-small q in
     let small : m < 256 = or_lt 8 (mask_of p) (mask_of q) a b in
-    sym (mask_of-has m small) ∙ mask_of-same (has m) (λ k. p k || q k) (λ k h. rw (has-join (mask_of p) (mask_of q) k, has-mask_of p k h, has-mask_of q k h) refl)
+    sym (mask_of-has m small) ∙ mask_of-same (has m) (λ k. p k || q k)
+    (λ k h. rw (has-join (mask_of p) (mask_of q) k, has-mask_of p k h, has-mask_of q k h) refl)
 
 pub masks_join : (c : Cache) (sp : Spilled) (l : ℕ) → bit_or (modified_mask c l) (spilled_mask sp l) ≡ written_mask c sp l
 unfolding modified_mask spilled_mask written_mask

@@ -1,5 +1,6 @@
 -- Spilled words are dropped from the frames line by line.
-use Rattle.std.proofs.Common.{◌≡◌, ℕ, [], Bool, true, false, ◌&&◌, nat_eq, Option, Some, None, is_some, get_or, if◌then◌else◌, refl, ap, ◌∙◌, arith}
+use Rattle.std.proofs.Common.{◌≡◌, ℕ, [], Bool, true, false, ◌&&◌, nat_eq, Option, Some, None, is_some, get_or, if◌then◌else◌, refl, ap}
+use Rattle.std.proofs.Common.{◌∙◌, arith}
 use Rattle.std.proofs.lemmas.Bool.Decides.{nat_tests}
 use Rattle.tcc_maps.specs.Cache.{Cache}
 use Rattle.tcc_maps.specs.CacheChange.{words_dropped}
@@ -29,7 +30,8 @@ first_is l f v = by (nat_eq l (line_of v)) refl
     by true e = has-mask_of (λ k. is_some (f (word_at l k))) (place_of v) (omega arith) ∙ ap (λ (w : ℕ). is_some (f w)) (at_place l v e)
 
 twice : {A : Type 0} (b : Bool) (o : Option ℕ) (w : ℕ) (x y : A)
-    → (if is_some (if b then None else o) then x else if is_some (if (b && is_some o) then Some w else None) then x else y) ≡ (if is_some o then x else y)
+    → (if is_some (if b then None else o) then x else if is_some (if (b && is_some o) then Some w else None) then x else y)
+    ≡ (if is_some o then x else y)
 twice true None w x y = refl
 twice true (Some z) w x y = refl
 twice false None w x y = refl
@@ -43,9 +45,12 @@ dropped_line l m f g c d e h k = rw (h, k, e) (ap (λ (p : ℕ → Bool). both p
   where
     both : (ℕ → Bool) → Cache
     both p = record c {
-      value = λ v. if is_some (if nat_eq l (line_of v) then None else f v) then None else if is_some {T = ℕ} (if p v then Some (get_or [] (place_of v) 0) else None) then None else c.value v;
-      modified = λ v. if is_some (if nat_eq l (line_of v) then None else f v) then false else if is_some {T = ℕ} (if p v then Some (get_or [] (place_of v) 0) else None) then false else c.modified v;
-      dirty = λ v. if is_some (if nat_eq l (line_of v) then None else f v) then None else if is_some {T = ℕ} (if p v then Some (get_or [] (place_of v) 0) else None) then None else c.dirty v;
+      value = λ v. if is_some (if nat_eq l (line_of v) then None else f v) then None
+          else if is_some {T = ℕ} (if p v then Some (get_or [] (place_of v) 0) else None) then None else c.value v;
+      modified = λ v. if is_some (if nat_eq l (line_of v) then None else f v) then false
+          else if is_some {T = ℕ} (if p v then Some (get_or [] (place_of v) 0) else None) then false else c.modified v;
+      dirty = λ v. if is_some (if nat_eq l (line_of v) then None else f v) then None
+          else if is_some {T = ℕ} (if p v then Some (get_or [] (place_of v) 0) else None) then None else c.dirty v;
     }
 
     rest : both (λ v. nat_eq l (line_of v) && is_some (f v)) ≡ words_dropped f c

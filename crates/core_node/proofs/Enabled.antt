@@ -10,7 +10,8 @@ use Rattle.tcc_maps.specs.Spilled.{holds}
 use Rattle.tcc_maps.specs.Words.{line_of}
 use Rattle.tcc_rules.specs.Attempt.{Out}
 use Rattle.tcc_rules.specs.CoreExec.{exec_in_phase}
-use Rattle.tcc_rules.specs.Execute.{miss, full_set, load, load_spilled, load_valid, word_store, partial_store, change_spilled, change_valid, execute, execute_need}
+use Rattle.tcc_rules.specs.Execute.{miss, full_set, load, load_spilled, load_valid, word_store, partial_store, change_spilled, change_valid}
+use Rattle.tcc_rules.specs.Execute.{execute, execute_need}
 use Rattle.tcc_rules.specs.State.{CoreState}
 use Rattle.tcc_rules.specs.Useful.{room_for_line, room_for_need, room_for_store, room_for_word}
 use Rattle.commit_engine.specs.Engine.{phase_of}

@@ -73,10 +73,12 @@ pub finished_ends : (p : Program) (x : ℕ) (s : CoreState) → finished p Ends 
 unfolding finished one_more_instruction concluded
 finished_ends p x s = refl
 
-pub finished_halts : (p : Program) (code x : ℕ) (s : CoreState) → finished p (Halts code) x s ≡ concluded (unreserved s.local) (Halted code) s
+pub finished_halts : (p : Program) (code x : ℕ) (s : CoreState)
+    → finished p (Halts code) x s ≡ concluded (unreserved s.local) (Halted code) s
 unfolding finished concluded
 finished_halts p code x s = refl
 
-pub finished_traps : (p : Program) (code x : ℕ) (s : CoreState) → finished p (Traps code) x s ≡ concluded (unreserved s.local) (Trapped code) s
+pub finished_traps : (p : Program) (code x : ℕ) (s : CoreState)
+    → finished p (Traps code) x s ≡ concluded (unreserved s.local) (Trapped code) s
 unfolding finished concluded
 finished_traps p code x s = refl

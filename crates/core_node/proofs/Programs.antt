@@ -10,7 +10,9 @@ use Rattle.tcc_maps.specs.Spilled.{holds}
 use Rattle.tcc_maps.specs.Words.{line_of}
 use Rattle.tcc_rules.specs.State.{CoreState}
 use Rattle.tcc_rules.specs.Attempt.{Out, moves, is_solo, is_running, new_word, one_more_instruction, finished}
-use Rattle.tcc_rules.specs.Execute.{request_line, overflow, place, with_read_mark, stored_in_buffer, stored_in_frame, marks_read, full_set, miss, load, load_spilled, load_valid, word_store, partial_store, change_spilled, change_valid, end_transaction, execute_need}
+use Rattle.tcc_rules.specs.Execute.{request_line, overflow, place, with_read_mark, stored_in_buffer, stored_in_frame, marks_read, full_set}
+use Rattle.tcc_rules.specs.Execute.{miss, load, load_spilled, load_valid, word_store, partial_store, change_spilled, change_valid}
+use Rattle.tcc_rules.specs.Execute.{end_transaction, execute_need}
 use Rattle.tcc_rules.specs.Sends.{nothing}
 
 -- two programs do the same at these registers and pc
@@ -53,7 +55,11 @@ word_same : (sh : Shape) (p q : Program) (n : Need) (w x : ℕ) (s : CoreState) 
     → word_store sh p n w x s ≡ word_store sh q n w x s
 unfolding word_store stored_in_buffer stored_in_frame place
 word_same sh p q n w x s e =
-    rw (finished_same p q n x (stored_in_buffer w x s) e, finished_same p q n x (stored_in_frame w x false s) e, finished_same p q n x (stored_in_frame w x false (place sh (line_of w) s)) e) refl
+    rw (
+      finished_same p q n x (stored_in_buffer w x s) e,
+      finished_same p q n x (stored_in_frame w x false s) e,
+      finished_same p q n x (stored_in_frame w x false (place sh (line_of w) s)) e,
+    ) refl
 
 partial_same : (sh : Shape) (p q : Program) (n : Need) (w : ℕ) (s : CoreState) → SameAt p q s.local
     → partial_store sh p n w s ≡ partial_store sh q n w s
@@ -62,7 +68,11 @@ partial_same sh p q n w s e = spilled (s.spilled w)
   where
     valid : (o : Option ℕ) → change_valid sh p n w s o ≡ change_valid sh q n w s o
     valid None = refl
-    valid (Some x) = rw (finished_same p q n x (stored_in_buffer w (new_word n x) s) e, finished_same p q n x (stored_in_frame w (new_word n x) (marks_read w s) s) e) refl
+    valid (Some x) =
+        rw (
+          finished_same p q n x (stored_in_buffer w (new_word n x) s) e,
+          finished_same p q n x (stored_in_frame w (new_word n x) (marks_read w s) s) e,
+        ) refl
 
     spilled : (o : Option ℕ) → change_spilled sh p n w s o ≡ change_spilled sh q n w s o
     spilled None = valid (s.cache.value w)
@@ -98,7 +108,8 @@ unnoted_full sh l s = unnoted_either (is_solo s.phase || not (all_marked sh s.ca
 
 unnoted_fetch : (sh : Shape) (l : ℕ) (s : CoreState) → Unnoted (miss sh l s)
 unfolding miss request_line
-unnoted_fetch sh l s = unnoted_either (s.cache.held l) _ _ refl (unnoted_either (is_some (free_way sh s.cache (set_of sh l))) _ _ refl (unnoted_full sh l s))
+unnoted_fetch sh l s =
+    unnoted_either (s.cache.held l) _ _ refl (unnoted_either (is_some (free_way sh s.cache (set_of sh l))) _ _ refl (unnoted_full sh l s))
 
 pub unnoted_load : (sh : Shape) (p : Program) (n : Need) (w : ℕ) (s : CoreState) → Unnoted (load sh p n w s)
 unfolding load

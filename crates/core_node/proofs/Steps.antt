@@ -1,5 +1,6 @@
 -- Steps that send nothing, and one more message behind those of a step.
-use Rattle.std.proofs.Common.{◌≡◌, ◌≤◌, ℕ, ◌+◌, Bool, true, false, ◌&&◌, ◌||◌, if◌then◌else◌, nat_lt, nat_eq, Option, Some, None, map, List, [], ◌∷◌, ◌++◌, vec_capacity, refl, subst, sym, ap, ◌∙◌, arith}
+use Rattle.std.proofs.Common.{◌≡◌, ◌≤◌, ℕ, ◌+◌, Bool, true, false, ◌&&◌, ◌||◌, if◌then◌else◌, nat_lt, nat_eq, Option, Some, None, map, List}
+use Rattle.std.proofs.Common.{[], ◌∷◌, ◌++◌, vec_capacity, refl, subst, sym, ap, ◌∙◌, arith}
 use Rattle.tcc_base.specs.declared.names.NodeId.TheVariants.{Dir as CodeDir}
 use Rattle.tcc_base.specs.declared.names.DirId.{DirId}
 use Rattle.tcc_base.specs.declared.names.LineAddr.{LineAddr}

@@ -1,5 +1,6 @@
 -- What a bank does is what its directory does.
-use Rattle.std.proofs.Common.{◌≡◌, ℕ, ◌<◌, Bool, true, not, ◌&&◌, List, length, Some, refl, ap, sym, ◌∙◌, subst, arith, inl, inr, if◌then◌else◌}
+use Rattle.std.proofs.Common.{◌≡◌, ℕ, ◌<◌, Bool, true, not, ◌&&◌, List, length, Some, refl, ap, sym, ◌∙◌, subst, arith, inl, inr}
+use Rattle.std.proofs.Common.{if◌then◌else◌}
 use Rattle.std.specs.Prelude.{slice_get, slice_set, get_or, ◌==◌, ◌%◌, Result, Ok, Err, IfOk}
 use Rattle.std.proofs.lemmas.Option.{slice_get_read}
 use Rattle.std.proofs.lemmas.Bool.{cases_eq, ne_eqb}
@@ -38,7 +39,8 @@ at b d x are h e =
 
 pub takes-at : (b : DirsData) (d : ℕ) (x : DirData) (c : ℕ) (m : Msg) (r : Bool) → At b d x
     → ((e : ℕ → ℕ) → r ≡ (not (is_foreign x.lines.place m) && is_taken (dir_deliver x.lines.place.shape (dir_of e x) c m)))
-    → (ram : ℕ → ℕ) → r ≡ (not (is_foreign (record { shape = b.settings; dir = d }) m) && is_taken (dir_deliver b.settings (dirs_of ram b d) c m))
+    → (ram : ℕ → ℕ)
+    → r ≡ (not (is_foreign (record { shape = b.settings; dir = d }) m) && is_taken (dir_deliver b.settings (dirs_of ram b d) c m))
 takes-at b d x c m r a h ram =
     subst (λ s. r ≡ (not (is_foreign (record { shape = b.settings; dir = d }) m) && is_taken (dir_deliver b.settings s c m)))
     (sym (dirs-at ram b d x a.got))
@@ -76,7 +78,8 @@ acted-at b d x y before after h c m a g = record {
   sent = g.sent;
   behind = g.behind;
   answer = λ ram.
-      subst (λ s. dir_deliver b.settings s c m ≡ answer_of h (dirs_of ram (with_dir b d y) d) (sends_of g.sent)) (sym (dirs-at ram b d x a.got))
+      subst (λ s. dir_deliver b.settings s c m ≡ answer_of h (dirs_of ram (with_dir b d y) d) (sends_of g.sent))
+      (sym (dirs-at ram b d x a.got))
       (subst (λ s. dir_deliver b.settings (dir_of ram x) c m ≡ answer_of h s (sends_of g.sent)) (sym (new-at ram b d x y a))
       (subst (λ p. dir_deliver p.shape (dir_of ram x) c m ≡ answer_of h (dir_of ram y) (sends_of g.sent)) a.place (g.answer ram)));
   others = λ ram. others-at ram b d x y a;
@@ -100,12 +103,14 @@ if-ok (Ok a) P Q f p = f a p
 if-ok (Err e) P Q f p = tt
 
 -- the same over the parts of a bank
-pub does : (i : Inside) (b : DirsData) (d : ℕ) (x y : DirData) (before after : List (NodeId × CodeMsg)) (r : Result Handled DirError) (c : ℕ) (m : Msg)
+pub does : (i : Inside) (b : DirsData) (d : ℕ) (x y : DirData) (before after : List (NodeId × CodeMsg)) (r : Result Handled DirError)
+    (c : ℕ) (m : Msg)
     → bank_of i ≡ b → IsBank i → d < b.settings.dirs → x ≡ get_or i.dirs d x
     → IfOk r (λ h. Gives x y before after h (λ s. dir_deliver x.lines.place.shape s c m))
     → IfOk r (λ h. Acted d b (with_dir (bank_of i) d y) before after h (λ s. dir_deliver b.settings s c m))
 does i b d x y before after r c m e k h is g =
-    subst (λ v. d < v.settings.dirs → IfOk r (λ a. Acted d v (with_dir (bank_of i) d y) before after a (λ s. dir_deliver v.settings s c m))) e
+    subst (λ v. d < v.settings.dirs → IfOk r (λ a. Acted d v (with_dir (bank_of i) d y) before after a (λ s. dir_deliver v.settings s c m)))
+    e
     (λ q. if-ok r _ _ (λ a p. acted-at (bank_of i) d x y before after a c m (at (bank_of i) d x k.dirs q is) p) g) h
 
 -- a line is at home at its home

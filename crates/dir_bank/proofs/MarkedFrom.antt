@@ -32,9 +32,11 @@ marked-core x d n old mid new w cs ds net own apart = record {
   dirs = ds ∙ w.dirs;
   net = net ∙ w.net;
   here = λ e c k m h fly. elim (cases_eq c n) [
-    | inl q ↦ (let there : in_flight (net_of mid) (Core n) (Dir d) k ≡ Some m = subst (λ j. in_flight (net_of mid) (Core j) (Dir d) k ≡ Some m) q
+    | inl q ↦ (let there : in_flight (net_of mid) (Core n) (Dir d) k ≡ Some m = subst
+        (λ j. in_flight (net_of mid) (Core j) (Dir d) k ≡ Some m) q
         (subst (λ f. in_flight f (Core c) (Dir d) k ≡ Some m) (sym w.net) fly) in
-        subst (λ j. is_ready new (Core j) (Dir d) k ≡ is_taken (dir_deliver x.lines.place.shape (dir_of e x) j m)) (sym q) (own e k m there))
+        subst (λ j. is_ready new (Core j) (Dir d) k ≡ is_taken (dir_deliver x.lines.place.shape (dir_of e x) j m)) (sym q)
+        (own e k m there))
     | inr a ↦ apart (Core c) (Dir d) k (other c d a) ∙ w.here e c k m (omega arith) fly
   ];
   others = λ t u k h. apart t u k (elsewhere t u h) ∙ w.others t u k h;

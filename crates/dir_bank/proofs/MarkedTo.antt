@@ -1,5 +1,6 @@
 -- The messages of one link looked at again, one after another.
-use Rattle.std.proofs.Common.{◌≡◌, ◌≢◌, ℕ, zero, suc, ◌+◌, ◌<◌, ◌≤◌, Bool, true, false, ◌&&◌, List, [], ◌∷◌, ◌++◌, length, Option, Some, None, refl, ap, sym, ◌∙◌, subst, arith, inl, inr, if◌then◌else◌}
+use Rattle.std.proofs.Common.{◌≡◌, ◌≢◌, ℕ, zero, suc, ◌+◌, ◌<◌, ◌≤◌, Bool, true, false, ◌&&◌, List, [], ◌∷◌, ◌++◌, length, Option, Some}
+use Rattle.std.proofs.Common.{None, refl, ap, sym, ◌∙◌, subst, arith, inl, inr, if◌then◌else◌}
 use Rattle.std.specs.Prelude.{slice_get, slice_index_or, is_some, ◌==◌}
 use Rattle.std.proofs.lemmas.Bool.{cases_eq, ne_eqb}
 use Rattle.std.proofs.lemmas.Bool.Decides.{nat_tests}
@@ -38,7 +39,8 @@ marked-skip x s d i old mid w none = record {
   dirs = w.dirs;
   net = w.net;
   here = λ e j k m h at fly. elim (cases_eq j i) [
-    | inl q ↦ (let gone : slice_get (waiting_of old s d) i ≡ None = subst (λ n. slice_get (those (λ l. is_some (in_flight n (Core s) (Dir d) l)) (length (n (Core s) (Dir d)))) i ≡ None) w.net none in
+    | inl q ↦ (let gone : slice_get (waiting_of old s d) i ≡ None = subst
+        (λ n. slice_get (those (λ l. is_some (in_flight n (Core s) (Dir d) l)) (length (n (Core s) (Dir d)))) i ≡ None) w.net none in
         let both : Some k ≡ None = sym (subst (λ l. slice_get (waiting_of old s d) l ≡ Some k) q at) ∙ gone in absurd (cc))
     | inr n ↦ w.here e j k m (omega arith) at fly
   ];
@@ -62,13 +64,15 @@ marked-step x s d i q m0 r old mid new w at fly takes cs ds net ready = record {
   others = λ t u k h. (λ o. ready o t u k) ∙ with_mark-other (is_ready mid) (Core s) (Dir d) q r t u k (apart t u k h) ∙ w.others t u k h;
 }
   where
-    apart : (t u : Node) (k : ℕ) → (node_eq t (Core s) && node_eq u (Dir d)) ≡ false → (node_eq t (Core s) && (node_eq u (Dir d) && k == q)) ≡ false
+    apart : (t u : Node) (k : ℕ) → (node_eq t (Core s) && node_eq u (Dir d)) ≡ false
+        → (node_eq t (Core s) && (node_eq u (Dir d) && k == q)) ≡ false
     apart t u k h = grind (arith, nat_tests)
 
     own : (e : ℕ → ℕ) (k : ℕ) (m : Msg) → k ≡ q → in_flight (net_of old) (Core s) (Dir d) k ≡ Some m
         → is_ready new (Core s) (Dir d) k ≡ is_taken (dir_deliver x.lines.place.shape (dir_of e x) s m)
     own e k m y there =
-        let same : Some m0 ≡ Some m = sym fly ∙ subst (λ l. in_flight (net_of mid) (Core s) (Dir d) l ≡ Some m) y (subst (λ n. in_flight n (Core s) (Dir d) k ≡ Some m) (sym w.net) there) in
+        let same : Some m0 ≡ Some m = sym fly ∙ subst (λ l. in_flight (net_of mid) (Core s) (Dir d) l ≡ Some m) y
+        (subst (λ n. in_flight n (Core s) (Dir d) k ≡ Some m) (sym w.net) there) in
         let is : m0 ≡ m = cc in
         ap (is_ready new (Core s) (Dir d)) y
         ∙ (λ o. ready o (Core s) (Dir d) q)
@@ -79,11 +83,13 @@ marked-step x s d i q m0 r old mid new w at fly takes cs ds net ready = record {
         → in_flight (net_of old) (Core s) (Dir d) k ≡ Some m → k ≢ q
         → is_ready new (Core s) (Dir d) k ≡ is_taken (dir_deliver x.lines.place.shape (dir_of e x) s m)
     other e j k m h got there n = elim (cases_eq j i) [
-      | inl y ↦ (let here : slice_get (waiting_of old s d) i ≡ Some q = subst (λ l. slice_get (those (λ z. is_some (in_flight l (Core s) (Dir d) z)) (length (l (Core s) (Dir d)))) i ≡ Some q) w.net at in
+      | inl y ↦ (let here : slice_get (waiting_of old s d) i ≡ Some q = subst
+          (λ l. slice_get (those (λ z. is_some (in_flight l (Core s) (Dir d) z)) (length (l (Core s) (Dir d)))) i ≡ Some q) w.net at in
           let both : Some k ≡ Some q = sym (subst (λ l. slice_get (waiting_of old s d) l ≡ Some k) y got) ∙ here in
           let is : k ≡ q = cc in absurd (n is))
       | inr a ↦ (λ o. ready o (Core s) (Dir d) k)
-          ∙ with_mark-other (is_ready mid) (Core s) (Dir d) q r (Core s) (Dir d) k (let b : (k == q) ≡ false = ne_eqb k q n in grind (arith, nat_tests))
+          ∙ with_mark-other (is_ready mid) (Core s) (Dir d) q r (Core s) (Dir d) k (let b : (k == q) ≡ false = ne_eqb k q n in
+          grind (arith, nat_tests))
           ∙ w.here e j k m (omega arith) got there
     ]
 

@@ -1,5 +1,6 @@
 -- How the states of the rules change with one directory, and what directories are at the start.
-use Rattle.std.proofs.Common.{◌≡◌, ℕ, ◌+◌, ◌/◌, ◌<◌, ◌^◌, Bool, true, false, ◌&&◌, List, length, Some, refl, ap, sym, ◌∙◌, subst, arith, inl, inr, if◌then◌else◌}
+use Rattle.std.proofs.Common.{◌≡◌, ℕ, ◌+◌, ◌/◌, ◌<◌, ◌^◌, Bool, true, false, ◌&&◌, List, length, Some, refl, ap, sym, ◌∙◌, subst, arith}
+use Rattle.std.proofs.Common.{inl, inr, if◌then◌else◌}
 use Rattle.std.specs.Prelude.{slice_get, slice_set, get_or, nat_lt, ◌==◌}
 use Rattle.std.proofs.lemmas.Bool.{cases_eq, ne_eqb, cases_Bool}
 use Rattle.std.proofs.lemmas.Bool.Decides.{nat_tests}
@@ -18,7 +19,8 @@ use Rattle.dir_bank.specs.Bank.{DirsData, dir_or, dirs_of}
 use Rattle.dir_bank.proofs.Lists.{get-set, get-set_other}
 
 pub dirs-put : (ram : ℕ → ℕ) (sh : Settings) (ds : List DirData) (d : ℕ) (x : DirData) → d < length ds
-    → dirs_of ram (record { settings = sh; dirs = slice_set ds d x }) ≡ put (dirs_of ram (record { settings = sh; dirs = ds })) d (dir_of ram x)
+    → dirs_of ram (record { settings = sh; dirs = slice_set ds d x }) ≡ put (dirs_of ram (record { settings = sh; dirs = ds })) d
+    (dir_of ram x)
 unfolding dirs_of
 dirs-put ram sh ds d x h = λ i j. (here j) i
   where
@@ -59,7 +61,8 @@ below : (ram w : ℕ) → w / 8 < ram / 32 → w < ram / 4
 below ram w h = omega arith
 
 -- a directory as it was loaded is one at the start
-pub dir-first : (s : Start) (x : DirData) → dir_of s.word x ≡ dir_start s.word → x.words.place ≡ x.lines.place → x.lines.place.shape ≡ s.settings
+pub dir-first : (s : Start) (x : DirData) → dir_of s.word x ≡ dir_start s.word → x.words.place ≡ x.lines.place
+    → x.lines.place.shape ≡ s.settings
     → ((w : ℕ) → IsAtHome x.lines.place (line_of w) → s.word w < 2 ^ 32) → dir_of (first_ram s) x ≡ dir_start (first_ram s)
 unfolding dir_of dir_start
 dir-first s x e same shape small = λ i. record {

@@ -13,7 +13,8 @@ use Rattle.dir_lines.specs.Owned.{owned_line}
 use Rattle.dir_lines.specs.Record.{Record, blank, lines_of}
 
 -- a field that is as before
-pub same-field : {A : Type 0} (field : Record → A) (f : ℕ → Record) (l : ℕ) (r : Record) (j : ℕ) → field r ≡ field (f l) → field (put f l r j) ≡ field (f j)
+pub same-field : {A : Type 0} (field : Record → A) (f : ℕ → Record) (l : ℕ) (r : Record) (j : ℕ) → field r ≡ field (f l)
+    → field (put f l r j) ≡ field (f j)
 same-field field f l r j e = by (j == l) refl
   where
     by : (b : Bool) → (j == l) ≡ b → field (if b then r else f j) ≡ field (f j)
@@ -21,14 +22,16 @@ same-field field f l r j e = by (j == l) refl
     by false t = refl
 
 -- the field that changes
-pub new-field : {A : Type 0} (field : Record → A) (f : ℕ → Record) (l : ℕ) (r : Record) (j : ℕ) (v : A) → field r ≡ v → field (put f l r j) ≡ put (λ k. field (f k)) l v j
+pub new-field : {A : Type 0} (field : Record → A) (f : ℕ → Record) (l : ℕ) (r : Record) (j : ℕ) (v : A) → field r ≡ v
+    → field (put f l r j) ≡ put (λ k. field (f k)) l v j
 new-field field f l r j v e = by (j == l)
   where
     by : (b : Bool) → field (if b then r else f j) ≡ (if b then v else field (f j))
     by true = e
     by false = refl
 
-pub lines_of-with_owner : (f : ℕ → Record) (l : ℕ) (o : Option CoreId) → lines_of (put f l (record (f l) { owner = o })) ≡ with_owner l (option_map (λ c. c.0) o) (lines_of f)
+pub lines_of-with_owner : (f : ℕ → Record) (l : ℕ) (o : Option CoreId)
+    → lines_of (put f l (record (f l) { owner = o })) ≡ with_owner l (option_map (λ c. c.0) o) (lines_of f)
 unfolding lines_of with_owner
 lines_of-with_owner f l o = λ i. record {
   sharers = λ j c. same-field (λ r. has r.sharers.0 c) f l (record (f l) { owner = o }) j refl i;
@@ -48,7 +51,8 @@ lines_of-with_tag f l t = λ i. record {
   mark = λ j. same-field (λ r. r.mark.0) f l (record (f l) { tag = t }) j refl i;
 }
 
-pub lines_of-with_asked : (f : ℕ → Record) (l : ℕ) (b : Bool) → lines_of (put f l (record (f l) { asked = b })) ≡ with_asked l b (lines_of f)
+pub lines_of-with_asked : (f : ℕ → Record) (l : ℕ) (b : Bool)
+    → lines_of (put f l (record (f l) { asked = b })) ≡ with_asked l b (lines_of f)
 unfolding lines_of with_asked
 lines_of-with_asked f l b = λ i. record {
   sharers = λ j c. same-field (λ r. has r.sharers.0 c) f l (record (f l) { asked = b }) j refl i;
@@ -98,7 +102,8 @@ lines_of-with_sharer f l c on s h = λ i. record {
 -- a commit of the line
 pub lines_of-owned : (f : ℕ → Record) (l : ℕ) (c : CoreId) (t : Tid) (s : CoreSet)
     → ((k : ℕ) → has s.0 k ≡ (if k == c.0 then true else has (f l).sharers.0 k))
-    → lines_of (put f l (record { sharers = s; owner = Some c; tag = t; asked = false; mark = (f l).mark })) ≡ owned_line l c.0 t.0 (lines_of f)
+    → lines_of (put f l (record { sharers = s; owner = Some c; tag = t; asked = false; mark = (f l).mark })) ≡ owned_line l c.0 t.0
+    (lines_of f)
 unfolding lines_of with_sharer with_owner with_tag with_asked
 lines_of-owned f l c t s h = λ i. record {
   sharers = λ j d. new-sharer f l c.0 true (owned_record f l c t s) j d h i;

@@ -1,5 +1,6 @@
 -- How many lines are at home at a directory, and that fewer are marked where one of them isn't.
-use Rattle.std.proofs.Common.{◌≡◌, ℕ, zero, suc, ◌+◌, ◌*◌, ◌/◌, ◌%◌, ◌<◌, ◌≤◌, Bool, true, false, ◌==◌, eqb, nat_lt, if◌then◌else◌, refl, ap, subst, ◌∙◌, arith}
+use Rattle.std.proofs.Common.{◌≡◌, ℕ, zero, suc, ◌+◌, ◌*◌, ◌/◌, ◌%◌, ◌<◌, ◌≤◌, Bool, true, false, ◌==◌, eqb, nat_lt, if◌then◌else◌, refl}
+use Rattle.std.proofs.Common.{ap, subst, ◌∙◌, arith}
 use Rattle.std.proofs.lemmas.Bool.Decides.{nat_tests}
 use borrow.Author.Tests.{ltb-true, ltb-false, eqb-true, eqb-false}
 use Rattle.std.proofs.Math.Nat.{mod-add-div', mod-lt, mul-add-mod_self_right, mod-eq_of_lt, mul-le-mul_right}
@@ -20,7 +21,8 @@ count_below-le p h (suc n) sub =
     by false false f = omega arith
 
 -- and one that has h doesn't have p
-pub count_below-lt : (p h : ℕ → Bool) (n l : ℕ) → ((k : ℕ) → p k ≡ true → h k ≡ true) → l < n → h l ≡ true → p l ≡ false → count_below p n < count_below h n
+pub count_below-lt : (p h : ℕ → Bool) (n l : ℕ) → ((k : ℕ) → p k ≡ true → h k ≡ true) → l < n → h l ≡ true → p l ≡ false
+    → count_below p n < count_below h n
 unfolding count_below
 count_below-lt p h zero l sub a b c = absurd (omega arith)
 count_below-lt p h (suc n) l sub a b c = by (eqb l n) refl (λ (q : l < n). count_below-lt p h n l sub q b c)
@@ -56,7 +58,8 @@ unfolding count_below
 row d h q x zero e le = let z : x + 0 ≡ x = omega arith in let f : num (nat_lt h 0) ≡ 0 = grind (arith, nat_tests) in rw z (omega arith)
 row d h q x (suc r) e le =
     let z : x + suc r ≡ suc (x + r) = omega arith in
-    let before : count_below (λ l. l % d == h) (x + r) ≡ count_below (λ l. l % d == h) x + num (nat_lt h r) = row d h q x r e (omega arith) in
+    let before : count_below (λ l. l % d == h) (x + r) ≡ count_below (λ l. l % d == h) x + num (nat_lt h r) =
+    row d h q x r e (omega arith) in
     let m : (x + r) % d ≡ r = ap (λ k. (k + r) % d) e ∙ (mul-add-mod_self_right q d r ∙ mod-eq_of_lt (omega arith)) in
     let one : num (nat_lt h r) + num (r == h) ≡ num (nat_lt h (suc r)) = grind (arith, nat_tests) in
     rw z (rw m (omega arith))
@@ -67,7 +70,8 @@ rows d h zero x lt e = let z : x ≡ 0 = e ∙ omega arith in rw z refl
 rows d h (suc q) x lt e =
     let f : x ≡ q * d + d = e ∙ omega arith in
     let one : num (nat_lt h d) ≡ 1 = grind (arith, nat_tests) in
-    let r : count_below (λ l. l % d == h) (q * d + d) ≡ count_below (λ l. l % d == h) (q * d) + num (nat_lt h d) = row d h q (q * d) d refl (omega arith) in
+    let r : count_below (λ l. l % d == h) (q * d + d) ≡ count_below (λ l. l % d == h) (q * d) + num (nat_lt h d) =
+    row d h q (q * d) d refl (omega arith) in
     let before : count_below (λ l. l % d == h) (q * d) ≡ q = rows d h q (q * d) lt refl in
     rw f (omega arith)
 
@@ -107,7 +111,8 @@ place-bound n d h l lt a e = by (nat_lt (l / d) (n / d)) refl (nat_lt (n / d) (l
         let x : n % d + n / d * d ≡ n = nn in let y : l % d + l / d * d ≡ l = ln in
         omega arith
 
-    by : (p : Bool) → nat_lt (l / d) (n / d) ≡ p → (q : Bool) → nat_lt (n / d) (l / d) ≡ q → (r : Bool) → nat_lt h (n % d) ≡ r → l / d < n / d + (if r then 1 else 0)
+    by : (p : Bool) → nat_lt (l / d) (n / d) ≡ p → (q : Bool) → nat_lt (n / d) (l / d) ≡ q → (r : Bool) → nat_lt h (n % d) ≡ r
+        → l / d < n / d + (if r then 1 else 0)
     by true f q g true k = omega (arith, ltb-true (l / d) (n / d) f)
     by true f q g false k = omega (arith, ltb-true (l / d) (n / d) f)
     by false f true g r k = absurd (above (ltb-true (n / d) (l / d) g))

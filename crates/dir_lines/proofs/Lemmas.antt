@@ -18,9 +18,11 @@ kept-at_home p l e = marked-at_home p l e
 -- a line in the list of the marked ones is at home
 pub listed-at_home : (p : Pages) (k l : ℕ) → slice_get (those (has_mark (kept p)) (lines p.place.shape)) k ≡ Some l → IsAtHome p.place l
 listed-at_home p k l e =
-    kept-at_home p l ((those-only (has_mark (kept p)) (lines p.place.shape) l (found (those (has_mark (kept p)) (lines p.place.shape)) k l e)).1)
+    kept-at_home p l ((those-only (has_mark (kept p)) (lines p.place.shape) l
+    (found (those (has_mark (kept p)) (lines p.place.shape)) k l e)).1)
 
-pub listed-count : (p : Pages) → length (those (has_mark (kept p)) (lines p.place.shape)) ≡ count_below (has_mark (kept p)) (lines p.place.shape)
+pub listed-count : (p : Pages) → length (those (has_mark (kept p)) (lines p.place.shape)) ≡ count_below (has_mark (kept p))
+    (lines p.place.shape)
 listed-count p = length-those (has_mark (kept p)) (lines p.place.shape)
 
 pub is_at_home-only : (h : Home) (l : ℕ) → is_at_home h l ≡ true → IsAtHome h l

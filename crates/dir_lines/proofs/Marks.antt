@@ -1,5 +1,7 @@
 -- The rising list of the numbers with a test, when the test changes at one number.
-use Rattle.std.proofs.Common.{◌≡◌, ℕ, zero, suc, ◌+◌, ◌-◌, ◌<◌, ◌≤◌, Bool, true, false, cond, nat_lt, if◌then◌else◌, List, [], ◌∷◌, ◌++◌, length, drop, get_or, All, append_assoc, append-nil, length-append, Result, Ok, Err, is_ok, IsOk, refl, ap, sym, subst, ◌∙◌, arith}
+use Rattle.std.proofs.Common.{◌≡◌, ℕ, zero, suc, ◌+◌, ◌-◌, ◌<◌, ◌≤◌, Bool, true, false, cond, nat_lt, if◌then◌else◌, List, [], ◌∷◌, ◌++◌}
+use Rattle.std.proofs.Common.{length, drop, get_or, All, append_assoc, append-nil, length-append, Result, Ok, Err, is_ok, IsOk, refl, ap}
+use Rattle.std.proofs.Common.{sym, subst, ◌∙◌, arith}
 use Rattle.std.specs.List.{insert, remove}
 use Rattle.std.proofs.lemmas.List.Elements.{All-get_or, All-append, All-cons, All-nil, All-weaker, All-push}
 use Rattle.std.proofs.Math.ListN.{get_or-append}
@@ -49,7 +51,8 @@ those-below p n = by n n (omega arith)
 between-above : (p : ℕ → Bool) (a m : ℕ) → All (λ x. a ≤ x) (between p a m)
 unfolding between
 between-above p a zero = All-nil (λ x. a ≤ x)
-between-above p a (suc m) = All-append (λ x. a ≤ x) (between p a m) (cond (p (a + m)) ((a + m) ∷ []) []) (between-above p a m) (one (p (a + m)))
+between-above p a (suc m) = All-append (λ x. a ≤ x) (between p a m) (cond (p (a + m)) ((a + m) ∷ []) []) (between-above p a m)
+    (one (p (a + m)))
   where
     one : (b : Bool) → All (λ x. a ≤ x) (cond b ((a + m) ∷ []) [])
     one true = All-cons (λ x. a ≤ x) (a + m) [] (omega arith) (All-nil (λ x. a ≤ x))
@@ -71,7 +74,8 @@ place-is cs bs l at low high within after before = by (nat_lt at (length cs)) re
         let n : length (cs ++ bs) ≡ length cs + length bs = length-append cs bs in
         let a : get_or (cs ++ bs) (at - 1) 0 ≤ l = before (omega arith) in
         let b : get_or (cs ++ bs) (at - 1) 0 ≡ get_or bs (at - 1 - length cs) 0 = get_or-append_right cs bs (at - 1) 0 (omega arith) in
-        let c : l + 1 ≤ get_or bs (at - 1 - length cs) 0 = All-get_or (λ x. l + 1 ≤ x) bs (at - 1 - length cs) 0 (omega arith) high in omega arith
+        let c : l + 1 ≤ get_or bs (at - 1 - length cs) 0 = All-get_or (λ x. l + 1 ≤ x) bs (at - 1 - length cs) 0 (omega arith) high in
+        omega arith
 
     by : (a : Bool) → nat_lt at (length cs) ≡ a → (b : Bool) → nat_lt (length cs) at ≡ b → at ≡ length cs
     by true e b f = absurd (early (ltb-true at (length cs) e))
@@ -86,10 +90,13 @@ put-own : (p : ℕ → Bool) (l : ℕ) (b : Bool) → put p l b l ≡ b
 put-own p l b = rw (eq-eqb l l refl) refl
 
 -- the three parts of the list, where the test at l is known
-those-parts : (p : ℕ → Bool) (l n : ℕ) (b : Bool) → l < n → p l ≡ b → those p n ≡ (those p l ++ cond b (l ∷ []) []) ++ between p (l + 1) (n - l - 1)
-those-parts p l n b h e = those-split p l (n - l - 1) n (omega arith) ∙ ap (λ c. (those p l ++ cond c (l ∷ []) []) ++ between p (l + 1) (n - l - 1)) e
+those-parts : (p : ℕ → Bool) (l n : ℕ) (b : Bool) → l < n → p l ≡ b → those p n ≡ (those p l ++ cond b (l ∷ []) [])
+    ++ between p (l + 1) (n - l - 1)
+those-parts p l n b h e = those-split p l (n - l - 1) n (omega arith)
+    ∙ ap (λ c. (those p l ++ cond c (l ∷ []) []) ++ between p (l + 1) (n - l - 1)) e
 
-those-put : (p : ℕ → Bool) (l n : ℕ) (b : Bool) → l < n → those (put p l b) n ≡ (those p l ++ cond b (l ∷ []) []) ++ between p (l + 1) (n - l - 1)
+those-put : (p : ℕ → Bool) (l n : ℕ) (b : Bool) → l < n → those (put p l b) n ≡ (those p l ++ cond b (l ∷ []) [])
+    ++ between p (l + 1) (n - l - 1)
 those-put p l n b h =
     those-parts (put p l b) l n b h (put-own p l b)
     ∙ (λ i. (those-same (put p l b) p l (λ k q. put-other p l b k (λ (e : k ≡ l). omega arith)) i ++ cond b (l ∷ []) [])
@@ -104,8 +111,12 @@ pub record IsPlace (xs : List ℕ) (l at : ℕ) : Type 0 where
 at-most : (p : ℕ → Bool) (l : ℕ) → All (λ x. x ≤ l) (those p l)
 at-most p l = All-weaker (λ x. x < l) (λ x. x ≤ l) (λ x (h : x < l). omega arith) (those p l) (those-below p l)
 
-pub those-note : (p : ℕ → Bool) (l n at : ℕ) (xs : List ℕ) → IsPlace xs l at → l < n → p l ≡ false → xs ≡ those p n → insert xs at l ≡ those (put p l true) n
-those-note p l n at xs place h e same = finish (those p l) (between p (l + 1) (n - l - 1)) (at-most p l) (between-above p (l + 1) (n - l - 1)) (same ∙ (those-parts p l n false h e ∙ ap (λ ys. ys ++ between p (l + 1) (n - l - 1)) (append-nil (those p l)))) ∙ sym (those-put p l n true h)
+pub those-note : (p : ℕ → Bool) (l n at : ℕ) (xs : List ℕ) → IsPlace xs l at → l < n → p l ≡ false → xs ≡ those p n
+    → insert xs at l ≡ those (put p l true) n
+those-note p l n at xs place h e same = finish (those p l) (between p (l + 1) (n - l - 1)) (at-most p l)
+    (between-above p (l + 1) (n - l - 1))
+    (same ∙ (those-parts p l n false h e ∙ ap (λ ys. ys ++ between p (l + 1) (n - l - 1)) (append-nil (those p l))))
+    ∙ sym (those-put p l n true h)
   where
     finish : (cs bs : List ℕ) → All (λ x. x ≤ l) cs → All (λ x. l + 1 ≤ x) bs → xs ≡ cs ++ bs → insert xs at l ≡ (cs ++ l ∷ []) ++ bs
     finish cs bs low high f =
@@ -115,13 +126,17 @@ those-note p l n at xs place h e same = finish (those p l) (between p (l + 1) (n
         ∙ (ap (λ k. insert (cs ++ bs) k l) c
         ∙ ((λ i. take-append_seam cs bs i ++ (l ∷ drop-append_seam cs bs i)) ∙ sym (append_assoc cs (l ∷ []) bs)))
 
-pub those-forget : (p : ℕ → Bool) (l n at : ℕ) (xs : List ℕ) → IsPlace xs l at → l < n → p l ≡ true → xs ≡ those p n → (0 < at) × (remove xs (at - 1) ≡ those (put p l false) n)
-those-forget p l n at xs place h e same = finish (those p l) (between p (l + 1) (n - l - 1)) (at-most p l) (between-above p (l + 1) (n - l - 1)) (same ∙ those-parts p l n true h e) (sym (those-put p l n false h))
+pub those-forget : (p : ℕ → Bool) (l n at : ℕ) (xs : List ℕ) → IsPlace xs l at → l < n → p l ≡ true → xs ≡ those p n
+    → (0 < at) × (remove xs (at - 1) ≡ those (put p l false) n)
+those-forget p l n at xs place h e same = finish (those p l) (between p (l + 1) (n - l - 1)) (at-most p l)
+    (between-above p (l + 1) (n - l - 1)) (same ∙ those-parts p l n true h e) (sym (those-put p l n false h))
   where
-    finish : (cs bs : List ℕ) → All (λ x. x ≤ l) cs → All (λ x. l + 1 ≤ x) bs → xs ≡ (cs ++ l ∷ []) ++ bs → (cs ++ []) ++ bs ≡ those (put p l false) n → (0 < at) × (remove xs (at - 1) ≡ those (put p l false) n)
+    finish : (cs bs : List ℕ) → All (λ x. x ≤ l) cs → All (λ x. l + 1 ≤ x) bs → xs ≡ (cs ++ l ∷ []) ++ bs
+        → (cs ++ []) ++ bs ≡ those (put p l false) n → (0 < at) × (remove xs (at - 1) ≡ those (put p l false) n)
     finish cs bs low high f last =
         let moved : IsPlace ((cs ++ l ∷ []) ++ bs) l at = subst (λ ys. IsPlace ys l at) f place in
-        let c : at ≡ length (cs ++ l ∷ []) = place-is (cs ++ l ∷ []) bs l at (All-push (λ x. x ≤ l) cs l low (omega arith)) high moved.within moved.after moved.before in
+        let c : at ≡ length (cs ++ l ∷ []) =
+        place-is (cs ++ l ∷ []) bs l at (All-push (λ x. x ≤ l) cs l low (omega arith)) high moved.within moved.after moved.before in
         let d : length (cs ++ l ∷ []) ≡ length cs + 1 = length-append cs (l ∷ []) in
         let k : at - 1 ≡ length cs = omega arith in (
           omega arith,

@@ -1,5 +1,6 @@
 -- The array of records as a map by line: reading it, and putting one record in another's place.
-use Rattle.std.proofs.Common.{◌≡◌, ◌≢◌, ℕ, zero, suc, ◌+◌, ◌*◌, ◌/◌, ◌<◌, Bool, true, false, ◌==◌, ◌&&◌, nat_lt, if◌then◌else◌, length, get_or, set, replicate, get_or-set_other, get_or-set_same, refl, ap, sym, subst, ◌∙◌}
+use Rattle.std.proofs.Common.{◌≡◌, ◌≢◌, ℕ, zero, suc, ◌+◌, ◌*◌, ◌/◌, ◌<◌, Bool, true, false, ◌==◌, ◌&&◌, nat_lt, if◌then◌else◌, length}
+use Rattle.std.proofs.Common.{get_or, set, replicate, get_or-set_other, get_or-set_same, refl, ap, sym, subst, ◌∙◌}
 use Rattle.std.proofs.Math.Nat.{mod-add-div'}
 use borrow.Author.Tests.{eqb-true, eqb-false, ltb-true, lt-ltb, eq-eqb}
 use Rattle.tcc_maps.specs.Words.{put}
@@ -27,7 +28,9 @@ pub record IsWhole (p : Pages) : Type 0 where
   pub count : length p.records ≡ home_lines p.place
 
 pub stands : (p : Pages) (l : ℕ) → IsWhole p → IsAtHome p.place l → l / p.place.shape.dirs < length p.records
-stands p l w h = subst (λ n. l / p.place.shape.dirs < n) (sym w.count) (place-bound (lines p.place.shape) p.place.shape.dirs p.place.dir l w.exists h.0 h.1)
+stands p l w h =
+    subst (λ n. l / p.place.shape.dirs < n) (sym w.count)
+    (place-bound (lines p.place.shape) p.place.shape.dirs p.place.dir l w.exists h.0 h.1)
 
 -- the record that the array has for a line of the home
 pub pages_at-own : (p : Pages) (l : ℕ) → IsAtHome p.place l → pages_at p l ≡ get_or p.records (l / p.place.shape.dirs) blank
@@ -58,13 +61,16 @@ pages_at-set p l r w h = λ i j. by j (j == l) refl (is_at_home p.place j) refl 
 
     apart : (j : ℕ) → (j ≡ l → ⊥) → IsAtHome p.place j → j / p.place.shape.dirs ≡ l / p.place.shape.dirs → ⊥
     apart j no_one k q =
-        no_one (sym (mod-add-div' j p.place.shape.dirs) ∙ ((λ i. (k.1 ∙ sym h.1) i + q i * p.place.shape.dirs) ∙ mod-add-div' l p.place.shape.dirs))
+        no_one (sym (mod-add-div' j p.place.shape.dirs)
+        ∙ ((λ i. (k.1 ∙ sym h.1) i + q i * p.place.shape.dirs) ∙ mod-add-div' l p.place.shape.dirs))
 
     by : (j : ℕ) (a : Bool) → (j == l) ≡ a → (b : Bool) → is_at_home p.place j ≡ b
-        → (if b then get_or (set p.records (l / p.place.shape.dirs) r) (j / p.place.shape.dirs) blank else blank) ≡ (if a then r else (if b then get_or p.records (j / p.place.shape.dirs) blank else blank))
+        → (if b then get_or (set p.records (l / p.place.shape.dirs) r) (j / p.place.shape.dirs) blank else blank)
+        ≡ (if a then r else (if b then get_or p.records (j / p.place.shape.dirs) blank else blank))
     by j true e true f =
         let lt : l / p.place.shape.dirs < length p.records = stands p l w h in
-        ap (λ k. get_or (set p.records (l / p.place.shape.dirs) r) (k / p.place.shape.dirs) blank) (eqb-true j l e) ∙ rw get_or-set_same refl
+        ap (λ k. get_or (set p.records (l / p.place.shape.dirs) r) (k / p.place.shape.dirs) blank) (eqb-true j l e)
+        ∙ rw get_or-set_same refl
     by j true e false f = absurd (clash (subst (λ k. is_at_home p.place k ≡ false) (eqb-true j l e) f))
     by j false e true f =
         let ne : j / p.place.shape.dirs ≢ l / p.place.shape.dirs = λ q. apart j (eqb-false j l e) (is_at_home-only p.place j f) q in

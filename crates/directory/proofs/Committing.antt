@@ -17,7 +17,8 @@ use Rattle.directory.proofs.RuleCases.{commit-marked}
 use Rattle.directory.proofs.Giving.{parts, Sent, takes}
 use Rattle.directory.proofs.Told.{told_all-sends}
 
-pub commit-takes : (sh : Shape) (ls : Pages) (ws : Words) (sv : Serving) (n : ℕ) (next : Pages) (m : ℕ) (new : DirData) (b a : Sent) (c t count : ℕ)
+pub commit-takes : (sh : Shape) (ls : Pages) (ws : Words) (sv : Serving) (n : ℕ) (next : Pages) (m : ℕ) (new : DirData) (b a : Sent)
+    (c t count : ℕ)
     → kept next ≡ rules.owned_by_committer c t (kept ls) → m ≡ rules.invalidation_count sh (kept ls) c → a ≡ b ++ told_all sh (kept ls) c t
     → ((e : ℕ → ℕ) → dir_of e new ≡ rules.moved_on_if_settled (dir_of e (parts next ws sv m)))
     → (sv.serving == t) ≡ true → (count_below (has_mark (kept ls)) (lines sh) == count) ≡ true
@@ -25,5 +26,6 @@ pub commit-takes : (sh : Shape) (ls : Pages) (ws : Words) (sv : Serving) (n : �
 unfolding dir_of
 commit-takes sh ls ws sv n next m new b a c t count q o p w f g = takes (told_all sh (kept ls) c t) p (λ e.
     commit-marked sh c t count (dir_of e (parts ls ws sv n)) f g
-    ∙ ((λ i. rules.Takes (rules.moved_on_if_settled (record { words = words_at e ws; serving = sv; lines = sym q i; owed = sym o i })) (told_all-sends sh (kept ls) c t i))
+    ∙ ((λ i. rules.Takes (rules.moved_on_if_settled (record { words = words_at e ws; serving = sv; lines = sym q i; owed = sym o i }))
+    (told_all-sends sh (kept ls) c t i))
     ∙ ap (λ s. rules.Takes s (sends_of (told_all sh (kept ls) c t))) (sym (w e))))

@@ -90,11 +90,13 @@ none-after h n own l from lt at = by (nat_lt (n / d) (l / d)) refl
 
 -- a line that was written
 pub loaded-here : (ram : ℕ → ℕ) (old new : Words) (n : ℕ) (ws : List ℕ)
-    → words_at ram new ≡ with_words n 255 ws (words_at ram old) → ws ≡ eight (λ k. ram (word_at n k)) → LoadedBelow ram old n → LoadedBelow ram new (n + 1)
+    → words_at ram new ≡ with_words n 255 ws (words_at ram old) → ws ≡ eight (λ k. ram (word_at n k)) → LoadedBelow ram old n
+    → LoadedBelow ram new (n + 1)
 unfolding hit
 loaded-here ram old new n ws e v h w lt = (λ i. e i w) ∙ by (eqb n (line_of w)) refl
   where
-    by : (b : Bool) → eqb n (line_of w) ≡ b → (if (n == line_of w) && has 255 (place_of w) then get_or ws (place_of w) 0 else words_at ram old w) ≡ ram w
+    by : (b : Bool) → eqb n (line_of w) ≡ b
+        → (if (n == line_of w) && has 255 (place_of w) then get_or ws (place_of w) 0 else words_at ram old w) ≡ ram w
     by true f =
         let same : n ≡ line_of w = eqb-true n (line_of w) f in
         let all : has 255 (place_of w) ≡ true = has-full (place_of w) (omega arith) in

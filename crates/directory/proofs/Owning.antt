@@ -1,5 +1,6 @@
 -- A commit's lines become the committer's one by one.
-use Rattle.std.proofs.Common.{◌≡◌, ℕ, zero, suc, ◌<◌, Bool, true, false, ◌&&◌, ◌||◌, ◌==◌, eqb, nat_lt, cond, if◌then◌else◌, List, [], ◌∷◌, ◌++◌, Some, refl, ap, sym, subst, ◌∙◌, arith}
+use Rattle.std.proofs.Common.{◌≡◌, ℕ, zero, suc, ◌<◌, Bool, true, false, ◌&&◌, ◌||◌, ◌==◌, eqb, nat_lt, cond, if◌then◌else◌, List, [], ◌∷◌}
+use Rattle.std.proofs.Common.{◌++◌, Some, refl, ap, sym, subst, ◌∙◌, arith}
 use Rattle.std.proofs.lemmas.Bool.Decides.{nat_tests}
 use borrow.Author.Tests.{lt-ltb, le-ltb, eqb-true, eqb-false}
 use Rattle.tcc_maps.specs.Words.{those}
@@ -58,7 +59,9 @@ choose-at false b e w = refl
 pub owned-more : (c t x : ℕ) (xs : List ℕ) (ls : Lines) → owned_line x c t (owned_some c t xs ls) ≡ owned_some c t (xs ++ x ∷ []) ls
 unfolding with_sharer with_owner with_tag with_asked
 owned-more c t x xs ls = λ i. record ls {
-  sharers = λ l j. (choose-at (l == x) (is_in l xs) (j == c) (ls.sharers l j) ∙ ap (λ b. if b && j == c then true else ls.sharers l j) (is_in-push l x xs)) i;
+  sharers =
+      λ l j. (choose-at (l == x) (is_in l xs) (j == c) (ls.sharers l j) ∙ ap (λ b. if b && j == c then true else ls.sharers l j)
+      (is_in-push l x xs)) i;
   owner = λ l. (choose (l == x) (is_in l xs) (Some c) (ls.owner l) ∙ ap (λ b. if b then Some c else ls.owner l) (is_in-push l x xs)) i;
   tag = λ l. (choose (l == x) (is_in l xs) t (ls.tag l) ∙ ap (λ b. if b then t else ls.tag l) (is_in-push l x xs)) i;
   asked = λ l. (choose (l == x) (is_in l xs) false (ls.asked l) ∙ ap (λ b. if b then false else ls.asked l) (is_in-push l x xs)) i;
@@ -72,7 +75,8 @@ is_in-those : (p : ℕ → Bool) (l n : ℕ) → is_in l (those p n) ≡ (nat_lt
 unfolding those is_in
 is_in-those p l zero = let f : nat_lt l 0 ≡ false = le-ltb l 0 (omega arith) in rw f refl
 is_in-those p l (suc n) =
-    is_in-append l (those p n) (cond (p n) (n ∷ []) []) ∙ (ap (λ b. is_in l (cond (p n) (n ∷ []) []) || b) (is_in-those p l n) ∙ by (eqb l n) refl)
+    is_in-append l (those p n) (cond (p n) (n ∷ []) [])
+    ∙ (ap (λ b. is_in l (cond (p n) (n ∷ []) []) || b) (is_in-those p l n) ∙ by (eqb l n) refl)
   where
     last : (b : Bool) → is_in l (cond b (n ∷ []) []) ≡ (b && (l == n))
     last true = is_in-one l n
@@ -102,7 +106,8 @@ is_in-those p l (suc n) =
         rw g (ap (λ b. b || (nat_lt l n && p l)) (last (p n) ∙ (ap (λ b. p n && b) e ∙ and-false (p n))))
 
 -- all marked lines
-pub owned-all : (c t n : ℕ) (ls : Lines) → ((l : ℕ) → has_mark ls l ≡ true → l < n) → owned_some c t (those (has_mark ls) n) ls ≡ owned_by_committer c t ls
+pub owned-all : (c t n : ℕ) (ls : Lines) → ((l : ℕ) → has_mark ls l ≡ true → l < n)
+    → owned_some c t (those (has_mark ls) n) ls ≡ owned_by_committer c t ls
 unfolding owned_by_committer
 owned-all c t n ls small = λ i. record ls {
   sharers = λ l j. ap (λ b. if b && j == c then true else ls.sharers l j) (all l) i;

@@ -1,5 +1,6 @@
 -- What each rule gives, by the tests that it makes.
-use Rattle.std.proofs.Common.{◌≡◌, ℕ, ◌-◌, ◌<◌, ◌≤◌, Bool, true, false, ◌==◌, ◌&&◌, nat_lt, if◌then◌else◌, List, [], ◌∷◌, Option, Some, None, refl, ap, arith}
+use Rattle.std.proofs.Common.{◌≡◌, ℕ, ◌-◌, ◌<◌, ◌≤◌, Bool, true, false, ◌==◌, ◌&&◌, nat_lt, if◌then◌else◌, List, [], ◌∷◌, Option, Some}
+use Rattle.std.proofs.Common.{None, refl, ap, arith}
 use Rattle.std.specs.Prelude.{nat_le}
 use Rattle.std.proofs.lemmas.Bool.Decides.{nat_tests}
 use Rattle.tcc_maps.specs.Words.{count_below}
@@ -11,7 +12,9 @@ use Rattle.tcc_maps.specs.Lines.{with_asked, with_mark, has_mark}
 use Rattle.tcc_maps.specs.Judge.{judge, Current, Outdated, TooEarly}
 use Rattle.tcc_rules.specs.State.{DirState}
 use Rattle.tcc_rules.specs.Sends.{nothing, to}
-use Rattle.tcc_rules.specs.DirDeliver.{Waits, Drops, Asks, Takes, skip, abort, probe, ask_owner, load_unless_owned, load_request, mark, mark_taken, mark_unless_owned, dir_commit, acknowledgement, write_back, judged, came_home, moved_on, moved_on_if_settled, owned_by_committer, invalidation_count, invalidations, unless_keeps}
+use Rattle.tcc_rules.specs.DirDeliver.{Waits, Drops, Asks, Takes, skip, abort, probe, ask_owner, load_unless_owned, load_request, mark}
+use Rattle.tcc_rules.specs.DirDeliver.{mark_taken, mark_unless_owned, dir_commit, acknowledgement, write_back, judged, came_home, moved_on}
+use Rattle.tcc_rules.specs.DirDeliver.{moved_on_if_settled, owned_by_committer, invalidation_count, invalidations, unless_keeps}
 
 pub le-true : (a b : ℕ) → a ≤ b → nat_le a b ≡ true
 le-true a b h = grind (arith, nat_tests)
@@ -23,7 +26,8 @@ pub skip-lower : (t : ℕ) (s : DirState) → nat_lt t s.serving.serving ≡ tru
 unfolding skip
 skip-lower t s f = rw f refl
 
-pub skip-other : (t : ℕ) (s : DirState) → nat_lt t s.serving.serving ≡ false → skip t s ≡ Takes (record s { serving = skipped t s.serving }) nothing
+pub skip-other : (t : ℕ) (s : DirState) → nat_lt t s.serving.serving ≡ false
+    → skip t s ≡ Takes (record s { serving = skipped t s.serving }) nothing
 unfolding skip
 skip-other t s f = rw f refl
 
@@ -39,11 +43,13 @@ pub abort-lower : (t : ℕ) (s : DirState) → nat_lt t s.serving.serving ≡ tr
 unfolding abort
 abort-lower t s f = rw f refl
 
-pub abort-served : (t : ℕ) (s : DirState) → nat_lt t s.serving.serving ≡ false → (s.serving.serving == t) ≡ true → abort t s ≡ Takes (moved_on s) nothing
+pub abort-served : (t : ℕ) (s : DirState) → nat_lt t s.serving.serving ≡ false → (s.serving.serving == t) ≡ true
+    → abort t s ≡ Takes (moved_on s) nothing
 unfolding abort
 abort-served t s f g = rw (f, g) refl
 
-pub abort-higher : (t : ℕ) (s : DirState) → nat_lt t s.serving.serving ≡ false → (s.serving.serving == t) ≡ false → abort t s ≡ Takes (record s { serving = kept_skip t s.serving }) nothing
+pub abort-higher : (t : ℕ) (s : DirState) → nat_lt t s.serving.serving ≡ false → (s.serving.serving == t) ≡ false
+    → abort t s ≡ Takes (record s { serving = kept_skip t s.serving }) nothing
 unfolding abort
 abort-higher t s f g = rw (f, g) refl
 
@@ -51,7 +57,8 @@ pub probe-early : (c t : ℕ) (s : DirState) → nat_lt s.serving.serving t ≡ 
 unfolding probe
 probe-early c t s f = rw f refl
 
-pub probe-served : (c t : ℕ) (s : DirState) → nat_lt s.serving.serving t ≡ false → probe c t s ≡ Takes s (to (Core c) (ProbeReply t s.serving.serving ∷ []))
+pub probe-served : (c t : ℕ) (s : DirState) → nat_lt s.serving.serving t ≡ false
+    → probe c t s ≡ Takes s (to (Core c) (ProbeReply t s.serving.serving ∷ []))
 unfolding probe
 probe-served c t s f = rw f refl
 
@@ -59,7 +66,8 @@ pub ask-asked : (o l : ℕ) (s : DirState) → s.lines.asked l ≡ true → ask_
 unfolding ask_owner
 ask-asked o l s f = rw f refl
 
-pub ask-first : (o l : ℕ) (s : DirState) → s.lines.asked l ≡ false → ask_owner o l s ≡ Asks (record s { lines = with_asked l true s.lines }) (to (Core o) (DataReq l ∷ []))
+pub ask-first : (o l : ℕ) (s : DirState) → s.lines.asked l ≡ false
+    → ask_owner o l s ≡ Asks (record s { lines = with_asked l true s.lines }) (to (Core o) (DataReq l ∷ []))
 unfolding ask_owner
 ask-first o l s f = rw f refl
 
@@ -67,11 +75,13 @@ pub load-early : (c l after : ℕ) (s : DirState) → nat_le s.serving.serving a
 unfolding load_request
 load-early c l after s f = rw f refl
 
-pub load-marked : (c l after : ℕ) (s : DirState) → nat_le s.serving.serving after ≡ false → has_mark s.lines l ≡ true → load_request c l after s ≡ Waits
+pub load-marked : (c l after : ℕ) (s : DirState) → nat_le s.serving.serving after ≡ false → has_mark s.lines l ≡ true
+    → load_request c l after s ≡ Waits
 unfolding load_request
 load-marked c l after s f g = rw (f, g) refl
 
-pub load-other : (c l after : ℕ) (s : DirState) → nat_le s.serving.serving after ≡ false → has_mark s.lines l ≡ false → load_request c l after s ≡ load_unless_owned c l s (s.lines.owner l)
+pub load-other : (c l after : ℕ) (s : DirState) → nat_le s.serving.serving after ≡ false → has_mark s.lines l ≡ false
+    → load_request c l after s ≡ load_unless_owned c l s (s.lines.owner l)
 unfolding load_request
 load-other c l after s f g = rw (f, g) refl
 
@@ -98,16 +108,23 @@ pub commit-early : (sh : Shape) (c t count : ℕ) (s : DirState) → (s.serving.
 unfolding dir_commit
 commit-early sh c t count s f = rw f refl
 
-pub commit-unmarked : (sh : Shape) (c t count : ℕ) (s : DirState) → (count_below (has_mark s.lines) (lines sh) == count) ≡ false → dir_commit sh c t count s ≡ Waits
+pub commit-unmarked : (sh : Shape) (c t count : ℕ) (s : DirState) → (count_below (has_mark s.lines) (lines sh) == count) ≡ false
+    → dir_commit sh c t count s ≡ Waits
 unfolding dir_commit
 commit-unmarked sh c t count s f = rw f (by (s.serving.serving == t))
   where
-    by : (b : Bool) → (if b && false then Takes (moved_on_if_settled (record s { lines = owned_by_committer c t s.lines; owed = invalidation_count sh s.lines c })) (invalidations sh s.lines c t) else Waits) ≡ Waits
+    by : (b : Bool)
+        → (if b && false then Takes
+        (moved_on_if_settled (record s { lines = owned_by_committer c t s.lines; owed = invalidation_count sh s.lines c }))
+        (invalidations sh s.lines c t) else Waits) ≡ Waits
     by true = refl
     by false = refl
 
-pub commit-marked : (sh : Shape) (c t count : ℕ) (s : DirState) → (s.serving.serving == t) ≡ true → (count_below (has_mark s.lines) (lines sh) == count) ≡ true
-    → dir_commit sh c t count s ≡ Takes (moved_on_if_settled (record s { lines = owned_by_committer c t s.lines; owed = invalidation_count sh s.lines c })) (invalidations sh s.lines c t)
+pub commit-marked : (sh : Shape) (c t count : ℕ) (s : DirState) → (s.serving.serving == t) ≡ true
+    → (count_below (has_mark s.lines) (lines sh) == count) ≡ true
+    → dir_commit sh c t count s ≡ Takes
+    (moved_on_if_settled (record s { lines = owned_by_committer c t s.lines; owed = invalidation_count sh s.lines c }))
+    (invalidations sh s.lines c t)
 unfolding dir_commit
 commit-marked sh c t count s f g = rw (f, g) refl
 
@@ -121,15 +138,18 @@ pub acknowledgement-owed : (c l : ℕ) (keeps : Bool) (s : DirState) → (s.owed
 unfolding acknowledgement
 acknowledgement-owed c l keeps s f = rw f refl
 
-pub home-early : (c l m : ℕ) (ws : List ℕ) (g : ℕ) (s : DirState) → judge (s.lines.owner l) (s.lines.tag l) c g ≡ TooEarly → write_back c l m ws g s ≡ Waits
+pub home-early : (c l m : ℕ) (ws : List ℕ) (g : ℕ) (s : DirState) → judge (s.lines.owner l) (s.lines.tag l) c g ≡ TooEarly
+    → write_back c l m ws g s ≡ Waits
 unfolding write_back
 home-early c l m ws g s f = ap (judged l m ws s) f
 
-pub home-dropped : (c l m : ℕ) (ws : List ℕ) (g : ℕ) (s : DirState) → judge (s.lines.owner l) (s.lines.tag l) c g ≡ Outdated → write_back c l m ws g s ≡ Drops
+pub home-dropped : (c l m : ℕ) (ws : List ℕ) (g : ℕ) (s : DirState) → judge (s.lines.owner l) (s.lines.tag l) c g ≡ Outdated
+    → write_back c l m ws g s ≡ Drops
 unfolding write_back
 home-dropped c l m ws g s f = ap (judged l m ws s) f
 
-pub home-taken : (c l m : ℕ) (ws : List ℕ) (g : ℕ) (s : DirState) → judge (s.lines.owner l) (s.lines.tag l) c g ≡ Current → write_back c l m ws g s ≡ Takes (came_home l m ws s) nothing
+pub home-taken : (c l m : ℕ) (ws : List ℕ) (g : ℕ) (s : DirState) → judge (s.lines.owner l) (s.lines.tag l) c g ≡ Current
+    → write_back c l m ws g s ≡ Takes (came_home l m ws s) nothing
 unfolding write_back
 home-taken c l m ws g s f = ap (judged l m ws s) f
 

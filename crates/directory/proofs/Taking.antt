@@ -3,7 +3,8 @@ use Rattle.std.proofs.Common.{◌≡◌, ℕ, Bool, true, false, not, ◌==◌, 
 use Rattle.tcc_rules.specs.State.{DirState}
 use Rattle.tcc_rules.specs.DirDeliver.{ask_owner, skip, abort, acknowledgement}
 use Rattle.directory.specs.Gives.{is_taken}
-use Rattle.directory.proofs.RuleCases.{ask-asked, ask-first, skip-lower, skip-other, abort-lower, abort-served, abort-higher, acknowledgement-none, acknowledgement-owed}
+use Rattle.directory.proofs.RuleCases.{ask-asked, ask-first, skip-lower, skip-other, abort-lower, abort-served, abort-higher}
+use Rattle.directory.proofs.RuleCases.{acknowledgement-none, acknowledgement-owed}
 
 pub ask-taken : (o l : ℕ) (s : DirState) → not (s.lines.asked l) ≡ is_taken (ask_owner o l s)
 ask-taken o l s = by (s.lines.asked l) refl

@@ -1,5 +1,7 @@
 -- What a commit sends, as one list: what each node gets of it, and how long it is.
-use Rattle.std.proofs.Common.{◌≡◌, ℕ, zero, suc, ◌+◌, ◌<◌, ◌≤◌, Bool, true, false, not, ◌&&◌, ◌==◌, eqb, nat_lt, cond, if◌then◌else◌, List, [], ◌∷◌, ◌++◌, length, length-append, append-nil, append_assoc, get_or, take, slice_get, Some, None, ◌⊎◌, inl, inr, refl, ap, sym, subst, ◌∙◌, arith}
+use Rattle.std.proofs.Common.{◌≡◌, ℕ, zero, suc, ◌+◌, ◌<◌, ◌≤◌, Bool, true, false, not, ◌&&◌, ◌==◌, eqb, nat_lt, cond, if◌then◌else◌, List}
+use Rattle.std.proofs.Common.{[], ◌∷◌, ◌++◌, length, length-append, append-nil, append_assoc, get_or, take, slice_get, Some, None, ◌⊎◌, inl}
+use Rattle.std.proofs.Common.{inr, refl, ap, sym, subst, ◌∙◌, arith}
 use Rattle.std.specs.List.{flat_map}
 use Rattle.std.proofs.Math.Seq.{take-suc}
 use Rattle.std.proofs.lemmas.Option.{slice_get_cases}
@@ -41,23 +43,30 @@ unfolding told
 told-grows b now next l m t q n x f g h e =
     let one : suc n ≡ n + 1 = omega arith in
     e ∙ ((λ i. h i ++ g i ∷ [])
-    ∙ (append_assoc b (told l m t q n) ((node.Core (record { 0 = n }), code.Inv (record { 0 = l }) (record { 0 = m }) (record { 0 = t })) ∷ [])
-    ∙ (ap (λ c. b ++ (told l m t q n ++ (if c then (node.Core (record { 0 = n }), code.Inv (record { 0 = l }) (record { 0 = m }) (record { 0 = t })) ∷ [] else []))) (sym f)
+    ∙ (append_assoc b (told l m t q n)
+    ((node.Core (record { 0 = n }), code.Inv (record { 0 = l }) (record { 0 = m }) (record { 0 = t })) ∷ [])
+    ∙ (ap (λ c. b ++ (told l m t q n
+    ++ (if c then (node.Core (record { 0 = n }), code.Inv (record { 0 = l }) (record { 0 = m }) (record { 0 = t })) ∷ []
+    else []))) (sym f)
     ∙ ap (λ k. b ++ told l m t q k) one)))
 
-pub told-stays : (b now : List (NodeId × Msg)) (l m t : ℕ) (q : ℕ → Bool) (n : ℕ) → q n ≡ false → now ≡ b ++ told l m t q n → now ≡ b ++ told l m t q (n + 1)
+pub told-stays : (b now : List (NodeId × Msg)) (l m t : ℕ) (q : ℕ → Bool) (n : ℕ) → q n ≡ false → now ≡ b ++ told l m t q n
+    → now ≡ b ++ told l m t q (n + 1)
 unfolding told
 told-stays b now l m t q n f h =
     let one : suc n ≡ n + 1 = omega arith in
     h ∙ (ap (λ xs. b ++ xs) (sym (append-nil (told l m t q n)))
-    ∙ (ap (λ c. b ++ (told l m t q n ++ (if c then (node.Core (record { 0 = n }), code.Inv (record { 0 = l }) (record { 0 = m }) (record { 0 = t })) ∷ [] else []))) (sym f)
+    ∙ (ap (λ c. b ++ (told l m t q n
+    ++ (if c then (node.Core (record { 0 = n }), code.Inv (record { 0 = l }) (record { 0 = m }) (record { 0 = t })) ∷ []
+    else []))) (sym f)
     ∙ ap (λ k. b ++ told l m t q k) one))
 
 -- the first lines of a list, and one more
 pub take-next : (xs : List ℕ) (k l : ℕ) → slice_get xs k ≡ Some l → take (k + 1) xs ≡ take k xs ++ l ∷ []
 take-next xs k l e = by (slice_get_cases xs k).1
   where
-    by : ((x : ℕ) × (k < length xs) × (slice_get xs k ≡ Some x) × (get_or xs k x ≡ x)) ⊎ ((length xs ≤ k) × (slice_get xs k ≡ None)) → take (k + 1) xs ≡ take k xs ++ l ∷ []
+    by : ((x : ℕ) × (k < length xs) × (slice_get xs k ≡ Some x) × (get_or xs k x ≡ x)) ⊎ ((length xs ≤ k) × (slice_get xs k ≡ None))
+        → take (k + 1) xs ≡ take k xs ++ l ∷ []
     by (inl s) =
         let g : slice_get xs k ≡ Some s.0 = s.2 in
         let q : s.0 ≡ l = cc in
@@ -74,12 +83,14 @@ take-whole (x ∷ xs) (suc k) h = ap (λ ys. x ∷ ys) (take-whole xs k (omega a
 pub take-past : (xs : List ℕ) (k : ℕ) → slice_get xs k ≡ None → take (k + 1) xs ≡ take k xs
 take-past xs k e = by (slice_get_cases xs k).1
   where
-    by : ((x : ℕ) × (k < length xs) × (slice_get xs k ≡ Some x) × (get_or xs k x ≡ x)) ⊎ ((length xs ≤ k) × (slice_get xs k ≡ None)) → take (k + 1) xs ≡ take k xs
+    by : ((x : ℕ) × (k < length xs) × (slice_get xs k ≡ Some x) × (get_or xs k x ≡ x)) ⊎ ((length xs ≤ k) × (slice_get xs k ≡ None))
+        → take (k + 1) xs ≡ take k xs
     by (inl s) = let g : slice_get xs k ≡ Some s.0 = s.2 in cc
     by (inr s) = take-whole xs (k + 1) (omega (arith, s.0)) ∙ sym (take-whole xs k s.0)
 
 pub told_of-grows : (b now next : List (NodeId × Msg)) (ls : Lines) (cores c t : ℕ) (xs : List ℕ) (k l : ℕ) → slice_get xs k ≡ Some l
-    → now ≡ b ++ told_of ls cores c t (take k xs) → next ≡ now ++ told l (ls.mark l) t (is_told ls c l) cores → next ≡ b ++ told_of ls cores c t (take (k + 1) xs)
+    → now ≡ b ++ told_of ls cores c t (take k xs) → next ≡ now ++ told l (ls.mark l) t (is_told ls c l) cores
+    → next ≡ b ++ told_of ls cores c t (take (k + 1) xs)
 told_of-grows b now next ls cores c t xs k l e h f =
     f ∙ (ap (λ ys. ys ++ told l (ls.mark l) t (is_told ls c l) cores) h
     ∙ (append_assoc b (told_of ls cores c t (take k xs)) (told l (ls.mark l) t (is_told ls c l) cores)
@@ -88,33 +99,46 @@ told_of-grows b now next ls cores c t xs k l e h f =
     ∙ ap (λ ys. b ++ told_of ls cores c t ys) (sym (take-next xs k l e))))))
 
 -- of one line
-told-core : (l m t : ℕ) (q : ℕ → Bool) (j n : ℕ) → sends_of (told l m t q n) (plain.Core j) ≡ (if nat_lt j n && q j then plain.Inv l m t ∷ [] else [])
+told-core : (l m t : ℕ) (q : ℕ → Bool) (j n : ℕ)
+    → sends_of (told l m t q n) (plain.Core j) ≡ (if nat_lt j n && q j then plain.Inv l m t ∷ [] else [])
 unfolding told sends_of
 told-core l m t q j zero = let f : nat_lt j 0 ≡ false = le-ltb j 0 (omega arith) in rw f refl
 told-core l m t q j (suc n) =
-    sends_of-append (told l m t q n) (if q n then (node.Core (record { 0 = n }), code.Inv (record { 0 = l }) (record { 0 = m }) (record { 0 = t })) ∷ [] else []) (plain.Core j)
-    ∙ (ap (λ xs. xs ++ sends_of (if q n then (node.Core (record { 0 = n }), code.Inv (record { 0 = l }) (record { 0 = m }) (record { 0 = t })) ∷ [] else []) (plain.Core j)) (told-core l m t q j n)
+    sends_of-append (told l m t q n)
+    (if q n then (node.Core (record { 0 = n }), code.Inv (record { 0 = l }) (record { 0 = m }) (record { 0 = t })) ∷ [] else [])
+    (plain.Core j)
+    ∙ (ap (λ xs. xs ++ sends_of
+    (if q n then (node.Core (record { 0 = n }), code.Inv (record { 0 = l }) (record { 0 = m }) (record { 0 = t })) ∷ [] else [])
+    (plain.Core j)) (told-core l m t q j n)
     ∙ by (eqb j n) refl)
   where
-    last : (c b : Bool) → sends_of (if b then (node.Core (record { 0 = n }), code.Inv (record { 0 = l }) (record { 0 = m }) (record { 0 = t })) ∷ [] else []) (plain.Core j) ≡ (if b && (j == n) then plain.Inv l m t ∷ [] else [])
+    last : (c b : Bool)
+        → sends_of (if b then (node.Core (record { 0 = n }), code.Inv (record { 0 = l }) (record { 0 = m }) (record { 0 = t })) ∷ []
+        else []) (plain.Core j) ≡ (if b && (j == n) then plain.Inv l m t ∷ [] else [])
     last c true = append-nil (if j == n then plain.Inv l m t ∷ [] else [])
     last c false = refl
 
     by : (c : Bool) → eqb j n ≡ c
-        → (if nat_lt j n && q j then plain.Inv l m t ∷ [] else []) ++ sends_of (if q n then (node.Core (record { 0 = n }), code.Inv (record { 0 = l }) (record { 0 = m }) (record { 0 = t })) ∷ [] else []) (plain.Core j)
+        → (if nat_lt j n && q j then plain.Inv l m t ∷ [] else [])
+        ++ sends_of (if q n then (node.Core (record { 0 = n }), code.Inv (record { 0 = l }) (record { 0 = m }) (record { 0 = t })) ∷ []
+        else []) (plain.Core j)
         ≡ (if nat_lt j (suc n) && q j then plain.Inv l m t ∷ [] else [])
     by true e =
         let same : j ≡ n = eqb-true j n e in
         let f : nat_lt j n ≡ false = le-ltb j n (omega arith) in
         let g : nat_lt j (suc n) ≡ true = lt-ltb j (suc n) (omega arith) in
-        rw (f, g) (last true (q n) ∙ (ap (λ c. if q n && c then plain.Inv l m t ∷ [] else []) e ∙ (and-true (q n) ∙ ap (λ k. if q k then plain.Inv l m t ∷ [] else []) (sym same))))
+        rw (f, g) (last true (q n)
+        ∙ (ap (λ c. if q n && c then plain.Inv l m t ∷ [] else []) e
+        ∙ (and-true (q n) ∙ ap (λ k. if q k then plain.Inv l m t ∷ [] else []) (sym same))))
       where
         and-true : (b : Bool) → (if b && true then plain.Inv l m t ∷ [] else []) ≡ (if b then plain.Inv l m t ∷ [] else [])
         and-true true = refl
         and-true false = refl
     by false e =
         let g : nat_lt j (suc n) ≡ nat_lt j n = below (nat_lt j n) refl in
-        rw g (ap (λ xs. (if nat_lt j n && q j then plain.Inv l m t ∷ [] else []) ++ xs) (last true (q n) ∙ (ap (λ c. if q n && c then plain.Inv l m t ∷ [] else []) e ∙ and-false (q n))) ∙ append-nil (if nat_lt j n && q j then plain.Inv l m t ∷ [] else []))
+        rw g (ap (λ xs. (if nat_lt j n && q j then plain.Inv l m t ∷ [] else []) ++ xs)
+        (last true (q n) ∙ (ap (λ c. if q n && c then plain.Inv l m t ∷ [] else []) e ∙ and-false (q n)))
+        ∙ append-nil (if nat_lt j n && q j then plain.Inv l m t ∷ [] else []))
       where
         and-false : (b : Bool) → (if b && false then plain.Inv l m t ∷ [] else []) ≡ []
         and-false true = refl
@@ -127,10 +151,16 @@ told-dir : (l m t : ℕ) (q : ℕ → Bool) (d n : ℕ) → sends_of (told l m t
 unfolding told sends_of
 told-dir l m t q d zero = refl
 told-dir l m t q d (suc n) =
-    sends_of-append (told l m t q n) (if q n then (node.Core (record { 0 = n }), code.Inv (record { 0 = l }) (record { 0 = m }) (record { 0 = t })) ∷ [] else []) (plain.Dir d)
-    ∙ (ap (λ xs. xs ++ sends_of (if q n then (node.Core (record { 0 = n }), code.Inv (record { 0 = l }) (record { 0 = m }) (record { 0 = t })) ∷ [] else []) (plain.Dir d)) (told-dir l m t q d n) ∙ by (q n))
+    sends_of-append (told l m t q n)
+    (if q n then (node.Core (record { 0 = n }), code.Inv (record { 0 = l }) (record { 0 = m }) (record { 0 = t })) ∷ [] else [])
+    (plain.Dir d)
+    ∙ (ap (λ xs. xs ++ sends_of
+    (if q n then (node.Core (record { 0 = n }), code.Inv (record { 0 = l }) (record { 0 = m }) (record { 0 = t })) ∷ [] else [])
+    (plain.Dir d)) (told-dir l m t q d n) ∙ by (q n))
   where
-    by : (b : Bool) → sends_of (if b then (node.Core (record { 0 = n }), code.Inv (record { 0 = l }) (record { 0 = m }) (record { 0 = t })) ∷ [] else []) (plain.Dir d) ≡ []
+    by : (b : Bool)
+        → sends_of (if b then (node.Core (record { 0 = n }), code.Inv (record { 0 = l }) (record { 0 = m }) (record { 0 = t })) ∷ []
+        else []) (plain.Dir d) ≡ []
     by true = refl
     by false = refl
 
@@ -138,15 +168,22 @@ told-vendor : (l m t : ℕ) (q : ℕ → Bool) (n : ℕ) → sends_of (told l m 
 unfolding told sends_of
 told-vendor l m t q zero = refl
 told-vendor l m t q (suc n) =
-    sends_of-append (told l m t q n) (if q n then (node.Core (record { 0 = n }), code.Inv (record { 0 = l }) (record { 0 = m }) (record { 0 = t })) ∷ [] else []) plain.Vendor
-    ∙ (ap (λ xs. xs ++ sends_of (if q n then (node.Core (record { 0 = n }), code.Inv (record { 0 = l }) (record { 0 = m }) (record { 0 = t })) ∷ [] else []) plain.Vendor) (told-vendor l m t q n) ∙ by (q n))
+    sends_of-append (told l m t q n)
+    (if q n then (node.Core (record { 0 = n }), code.Inv (record { 0 = l }) (record { 0 = m }) (record { 0 = t })) ∷ [] else [])
+    plain.Vendor
+    ∙ (ap (λ xs. xs ++ sends_of
+    (if q n then (node.Core (record { 0 = n }), code.Inv (record { 0 = l }) (record { 0 = m }) (record { 0 = t })) ∷ [] else [])
+    plain.Vendor) (told-vendor l m t q n) ∙ by (q n))
   where
-    by : (b : Bool) → sends_of (if b then (node.Core (record { 0 = n }), code.Inv (record { 0 = l }) (record { 0 = m }) (record { 0 = t })) ∷ [] else []) plain.Vendor ≡ []
+    by : (b : Bool)
+        → sends_of (if b then (node.Core (record { 0 = n }), code.Inv (record { 0 = l }) (record { 0 = m }) (record { 0 = t })) ∷ []
+        else []) plain.Vendor ≡ []
     by true = refl
     by false = refl
 
 -- nothing of all lines where nothing of each
-none-of : (ls : Lines) (cores c t : ℕ) (n : plain.Node) → ((l m : ℕ) (q : ℕ → Bool) → sends_of (told l m t q cores) n ≡ []) → (xs : List ℕ) → sends_of (told_of ls cores c t xs) n ≡ []
+none-of : (ls : Lines) (cores c t : ℕ) (n : plain.Node) → ((l m : ℕ) (q : ℕ → Bool) → sends_of (told l m t q cores) n ≡ []) → (xs : List ℕ)
+    → sends_of (told_of ls cores c t xs) n ≡ []
 unfolding sends_of
 none-of ls cores c t n h [] = refl
 none-of ls cores c t n h (x ∷ xs) =
@@ -155,16 +192,21 @@ none-of ls cores c t n h (x ∷ xs) =
 
 -- to one core
 told_of-core : (sh : Shape) (ls : Lines) (c t j n : ℕ)
-    → sends_of (told_of ls sh.cores c t (those (has_mark ls) n)) (plain.Core j) ≡ flat_map (λ l. plain.Inv l (ls.mark l) t ∷ []) (those (is_invalidated sh ls c j) n)
+    → sends_of (told_of ls sh.cores c t (those (has_mark ls) n)) (plain.Core j) ≡ flat_map (λ l. plain.Inv l (ls.mark l) t ∷ [])
+    (those (is_invalidated sh ls c j) n)
 unfolding those sends_of is_invalidated
 told_of-core sh ls c t j zero = refl
 told_of-core sh ls c t j (suc n) =
-    ap (λ xs. sends_of xs (plain.Core j)) (flat_map-append (λ l. told l (ls.mark l) t (is_told ls c l) sh.cores) (those (has_mark ls) n) (cond (has_mark ls n) (n ∷ []) []))
-    ∙ (sends_of-append (told_of ls sh.cores c t (those (has_mark ls) n)) (told_of ls sh.cores c t (cond (has_mark ls n) (n ∷ []) [])) (plain.Core j)
+    ap (λ xs. sends_of xs (plain.Core j))
+    (flat_map-append (λ l. told l (ls.mark l) t (is_told ls c l) sh.cores) (those (has_mark ls) n) (cond (has_mark ls n) (n ∷ []) []))
+    ∙ (sends_of-append (told_of ls sh.cores c t (those (has_mark ls) n)) (told_of ls sh.cores c t (cond (has_mark ls n) (n ∷ []) []))
+    (plain.Core j)
     ∙ ((λ i. told_of-core sh ls c t j n i ++ last (has_mark ls n) i)
-    ∙ sym (flat_map-append (λ l. plain.Inv l (ls.mark l) t ∷ []) (those (is_invalidated sh ls c j) n) (cond (is_invalidated sh ls c j n) (n ∷ []) []))))
+    ∙ sym (flat_map-append (λ l. plain.Inv l (ls.mark l) t ∷ []) (those (is_invalidated sh ls c j) n)
+    (cond (is_invalidated sh ls c j n) (n ∷ []) []))))
   where
-    pick : (a s e : Bool) → (if a && (not e && s) then plain.Inv n (ls.mark n) t ∷ [] else []) ≡ flat_map (λ l. plain.Inv l (ls.mark l) t ∷ []) (cond (a && true && s && not e) (n ∷ []) [])
+    pick : (a s e : Bool) → (if a && (not e && s) then plain.Inv n (ls.mark n) t ∷ [] else []) ≡ flat_map
+        (λ l. plain.Inv l (ls.mark l) t ∷ []) (cond (a && true && s && not e) (n ∷ []) [])
     pick true true true = refl
     pick true true false = refl
     pick true false true = refl
@@ -218,18 +260,23 @@ told-length : (l m t : ℕ) (q : ℕ → Bool) (n : ℕ) → length (told l m t 
 unfolding told count_below
 told-length l m t q zero = refl
 told-length l m t q (suc n) =
-    length-append (told l m t q n) (if q n then (node.Core (record { 0 = n }), code.Inv (record { 0 = l }) (record { 0 = m }) (record { 0 = t })) ∷ [] else [])
+    length-append (told l m t q n)
+    (if q n then (node.Core (record { 0 = n }), code.Inv (record { 0 = l }) (record { 0 = m }) (record { 0 = t })) ∷ [] else [])
     ∙ (λ i. told-length l m t q n i + by (q n) i)
   where
-    by : (b : Bool) → length {A = NodeId × Msg} (if b then (node.Core (record { 0 = n }), code.Inv (record { 0 = l }) (record { 0 = m }) (record { 0 = t })) ∷ [] else []) ≡ num b
+    by : (b : Bool)
+        → length {A = NodeId × Msg}
+        (if b then (node.Core (record { 0 = n }), code.Inv (record { 0 = l }) (record { 0 = m }) (record { 0 = t })) ∷ [] else []) ≡ num b
     by true = refl
     by false = refl
 
-told_of-length : (sh : Shape) (ls : Lines) (c t n : ℕ) → length (told_of ls sh.cores c t (those (has_mark ls) n)) ≡ sum_below (λ j. count_below (is_invalidated sh ls c j) n) sh.cores
+told_of-length : (sh : Shape) (ls : Lines) (c t n : ℕ) → length (told_of ls sh.cores c t (those (has_mark ls) n)) ≡ sum_below
+    (λ j. count_below (is_invalidated sh ls c j) n) sh.cores
 unfolding those count_below is_invalidated
 told_of-length sh ls c t zero = sym (total-none sh.cores)
 told_of-length sh ls c t (suc n) =
-    ap length (flat_map-append (λ l. told l (ls.mark l) t (is_told ls c l) sh.cores) (those (has_mark ls) n) (cond (has_mark ls n) (n ∷ []) []))
+    ap length (flat_map-append (λ l. told l (ls.mark l) t (is_told ls c l) sh.cores) (those (has_mark ls) n)
+    (cond (has_mark ls n) (n ∷ []) []))
     ∙ (length-append (told_of ls sh.cores c t (those (has_mark ls) n)) (told_of ls sh.cores c t (cond (has_mark ls n) (n ∷ []) []))
     ∙ ((λ i. told_of-length sh ls c t n i + last (has_mark ls n) i)
     ∙ sym (total-plus (λ j. count_below (is_invalidated sh ls c j) n) (λ j. num (is_invalidated sh ls c j n)) sh.cores)))
@@ -244,16 +291,19 @@ told_of-length sh ls c t (suc n) =
     unpicked true s e = refl
     unpicked false s e = refl
 
-    last : (p : Bool) → length (told_of ls sh.cores c t (cond p (n ∷ []) [])) ≡ sum_below (λ j. num (nat_lt j sh.cores && p && ls.sharers n j && not (j == c))) sh.cores
+    last : (p : Bool) → length (told_of ls sh.cores c t (cond p (n ∷ []) [])) ≡ sum_below
+        (λ j. num (nat_lt j sh.cores && p && ls.sharers n j && not (j == c))) sh.cores
     last true =
         ap length (append-nil (told n (ls.mark n) t (is_told ls c n) sh.cores))
         ∙ (told-length n (ls.mark n) t (is_told ls c n) sh.cores
         ∙ (total-count (is_told ls c n) sh.cores
         ∙ total-same (λ j. num (is_told ls c n j)) (λ j. num (nat_lt j sh.cores && true && ls.sharers n j && not (j == c))) sh.cores
-        (λ j lt. pick (ls.sharers n j) (j == c) ∙ ap (λ a. num (a && true && ls.sharers n j && not (j == c))) (sym (lt-ltb j sh.cores lt)))))
+        (λ j lt. pick (ls.sharers n j) (j == c) ∙ ap (λ a. num (a && true && ls.sharers n j && not (j == c)))
+        (sym (lt-ltb j sh.cores lt)))))
     last false =
         sym (total-none sh.cores)
-        ∙ total-same (λ j. 0) (λ j. num (nat_lt j sh.cores && false && ls.sharers n j && not (j == c))) sh.cores (λ j lt. unpicked (nat_lt j sh.cores) (ls.sharers n j) (j == c))
+        ∙ total-same (λ j. 0) (λ j. num (nat_lt j sh.cores && false && ls.sharers n j && not (j == c))) sh.cores
+        (λ j lt. unpicked (nat_lt j sh.cores) (ls.sharers n j) (j == c))
 
 pub told_all-length : (sh : Shape) (ls : Lines) (c t : ℕ) → length (told_all sh ls c t) ≡ invalidation_count sh ls c
 unfolding invalidation_count

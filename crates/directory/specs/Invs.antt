@@ -16,7 +16,8 @@ is_told ls c l j = not (j == c) && ls.sharers l j
 -- the line's invalidation, to each core below n that is told
 unfoldable pub told : (line mask tid : ℕ) → (ℕ → Bool) → ℕ → List (NodeId × Msg)
 told l m t q zero = []
-told l m t q (suc n) = told l m t q n ++ (if q n then (Core (record { 0 = n }), Inv (record { 0 = l }) (record { 0 = m }) (record { 0 = t })) ∷ [] else [])
+told l m t q (suc n) =
+    told l m t q n ++ (if q n then (Core (record { 0 = n }), Inv (record { 0 = l }) (record { 0 = m }) (record { 0 = t })) ∷ [] else [])
 
 -- those of some lines
 abbrev pub told_of : Lines → (cores core tid : ℕ) → List ℕ → List (NodeId × Msg)

@@ -22,13 +22,16 @@ first_fault-append_failed (x ∷ xs) ys fault failed = grind (arith, first_fault
 pub segments_tests-passed : (file : List ℕ) (i n : ℕ) → i < n → first_fault (segment_tests file i (header_of file i)) ≡ None →
     first_fault (segments_tests file i (n - i)) ≡ first_fault (segments_tests file (i + 1) (n - (i + 1)))
 segments_tests-passed file i n below passed =
-    rw (range_with_len-left i n below) (first_fault-append (segment_tests file i (header_of file i)) (segments_tests file (i + 1) (n - (i + 1))) passed)
+    rw (range_with_len-left i n below)
+    (first_fault-append (segment_tests file i (header_of file i)) (segments_tests file (i + 1) (n - (i + 1))) passed)
 
 -- a header that fails one
-pub segments_tests-failed : (file : List ℕ) (i n : ℕ) (fault : ElfFault) → i < n → first_fault (segment_tests file i (header_of file i)) ≡ Some fault →
+pub segments_tests-failed : (file : List ℕ) (i n : ℕ) (fault : ElfFault) → i < n
+    → first_fault (segment_tests file i (header_of file i)) ≡ Some fault →
     first_fault (segments_tests file i (n - i)) ≡ Some fault
 segments_tests-failed file i n fault below failed =
-    rw (range_with_len-left i n below) (first_fault-append_failed (segment_tests file i (header_of file i)) (segments_tests file (i + 1) (n - (i + 1))) fault failed)
+    rw (range_with_len-left i n below)
+    (first_fault-append_failed (segment_tests file i (header_of file i)) (segments_tests file (i + 1) (n - (i + 1))) fault failed)
 
 -- the segment of a header
 pub segments_from-left : (file : List ℕ) (i n : ℕ) → i < n →

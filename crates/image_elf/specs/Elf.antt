@@ -1,6 +1,7 @@
 -- The fields of a 32-bit little-endian ELF file, by their names in the System V ABI (generic ABI 4.1, chapter 4, "ELF
 -- Header", and chapter 5, "Program Header"), and the image that they describe.
-use Rattle.std.specs.Prelude.{ℕ, ◌+◌, ◌*◌, ◌%◌, Bool, not, ◌&&◌, ◌||◌, ◌==◌, ◌≤◌, if◌then◌else◌, List, take, drop, length, All, Option, Some, None}
+use Rattle.std.specs.Prelude.{ℕ, ◌+◌, ◌*◌, ◌%◌, Bool, not, ◌&&◌, ◌||◌, ◌==◌, ◌≤◌, if◌then◌else◌, List, take, drop, length, All, Option}
+use Rattle.std.specs.Prelude.{Some, None}
 use Rattle.std.specs.List.{range_with_len, filter_map}
 use Rattle.byteorder.specs.Endian.{little_number}
 use Rattle.image_elf.specs.declared.header.ProgramHeader.{ProgramHeader}

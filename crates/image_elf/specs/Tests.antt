@@ -1,5 +1,6 @@
 -- What an ELF file must be to be an image, as a table of tests with the fault of each, in the order in which they count.
-use Rattle.std.specs.Prelude.{ℕ, ◌+◌, ◌*◌, ◌%◌, ◌^◌, Bool, not, ◌||◌, ◌&&◌, ◌==◌, nat_eq, nat_le, if◌then◌else◌, List, [], ◌∷◌, ◌++◌, length, slice_index, Option, Some, None}
+use Rattle.std.specs.Prelude.{ℕ, ◌+◌, ◌*◌, ◌%◌, ◌^◌, Bool, not, ◌||◌, ◌&&◌, ◌==◌, nat_eq, nat_le, if◌then◌else◌, List, [], ◌∷◌, ◌++◌}
+use Rattle.std.specs.Prelude.{length, slice_index, Option, Some, None}
 use Rattle.std.specs.List.{range_with_len, flat_map, starts_with}
 use Rattle.image_elf.specs.Elf.{e_type, e_machine, e_version, e_phoff, e_flags, e_phentsize, e_phnum, header_of, is_loaded, is_dynamic}
 use Rattle.image_elf.specs.declared.header.ProgramHeader.{ProgramHeader}

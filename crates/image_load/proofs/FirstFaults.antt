@@ -1,5 +1,6 @@
 -- The first fault by the answers of the tests, one segment and one image at a time.
-use Rattle.std.proofs.Common.{◌≡◌, ℕ, ◌+◌, ◌<◌, ◌∙◌, length, take, drop, get_or, ◌≤◌, true, false, false, List, [], ◌∷◌, ◌++◌, Some, None, ap, sym, refl}
+use Rattle.std.proofs.Common.{◌≡◌, ℕ, ◌+◌, ◌<◌, ◌∙◌, length, take, drop, get_or, ◌≤◌, true, false, false, List, [], ◌∷◌, ◌++◌, Some, None}
+use Rattle.std.proofs.Common.{ap, sym, refl}
 use Rattle.std.specs.List.{find}
 use Rattle.std.proofs.lemmas.List.{append_assoc, map-append, drop_all}
 use Rattle.tcc_base.specs.Settings.{Settings}
@@ -49,7 +50,8 @@ pub laid-more : (earlier : List Laid) (i : ℕ) (xs : List Segment) (j : ℕ) (x
     (earlier ++ laid i (take j xs)) ++ laid i (x ∷ []) ≡ earlier ++ laid i (take (j + 1) xs)
 laid-more earlier i xs j x below is =
     append_assoc earlier (laid i (take j xs)) (laid i (x ∷ []))
-    ∙ ap (λ ls. earlier ++ ls) (sym (map-append (λ segment. record { image = i; segment = segment }) (take j xs) (x ∷ [])) ∙ ap (laid i) (sym (take-more xs j x below is)))
+    ∙ ap (λ ls. earlier ++ ls) (sym (map-append (λ segment. record { image = i; segment = segment }) (take j xs) (x ∷ []))
+    ∙ ap (laid i) (sym (take-more xs j x below is)))
 
 pub segments_fault-passed : (settings : Settings) (i : ℕ) (earlier : List Laid) (xs : List Segment) (j : ℕ) (x : Segment) →
     j < length xs → x ≡ get_or xs j x → segment_fault settings i (earlier ++ laid i (take j xs)) x ≡ None →
@@ -60,7 +62,8 @@ segments_fault-passed settings i earlier xs j x below is passed =
     ∙ segments_fault-rest settings i (earlier ++ laid i (take j xs)) x (drop (j + 1) xs) passed
     ∙ ap (λ ls. segments_fault settings i ls (drop (j + 1) xs)) (laid-more earlier i xs j x below is)
 
-pub segments_fault-failed : (settings : Settings) (i : ℕ) (earlier : List Laid) (xs : List Segment) (j : ℕ) (x : Segment) (fault : LoadFault) →
+pub segments_fault-failed : (settings : Settings) (i : ℕ) (earlier : List Laid) (xs : List Segment) (j : ℕ) (x : Segment)
+    (fault : LoadFault) →
     j < length xs → x ≡ get_or xs j x → segment_fault settings i (earlier ++ laid i (take j xs)) x ≡ Some fault →
     segments_fault settings i (earlier ++ laid i (take j xs)) (drop j xs) ≡ Some fault
 segments_fault-failed settings i earlier xs j x fault below is failed =

@@ -1,5 +1,6 @@
 -- Raw files, one after the other: the first that doesn't fit, and the images.
-use Rattle.std.proofs.Common.{◌≡◌, ℕ, ◌+◌, ◌%◌, ◌<◌, ◌≤◌, ◌∙◌, true, false, length, drop, get_or, List, [], ◌∷◌, ◌++◌, Some, None, ap, sym, refl, arith}
+use Rattle.std.proofs.Common.{◌≡◌, ℕ, ◌+◌, ◌%◌, ◌<◌, ◌≤◌, ◌∙◌, true, false, length, drop, get_or, List, [], ◌∷◌, ◌++◌, Some, None, ap, sym}
+use Rattle.std.proofs.Common.{refl, arith}
 use Rattle.std.proofs.lemmas.List.{append_assoc, append-nil, drop_all}
 use Rattle.tcc_base.specs.Settings.{Settings}
 use Rattle.image_elf.specs.declared.image.Image.{Image}
@@ -64,4 +65,5 @@ raw_images-more addr next files j file images below is after =
 pub raw_images-done : (addr : ℕ) (files : List (List ℕ)) (j : ℕ) (images : List Image) → length files ≤ j →
     images ++ raw_images addr (drop j files) ≡ images
 raw_images-done addr files j images past =
-    ap (λ left. images ++ raw_images addr left) (drop_all j files past) ∙ ap (λ left. images ++ left) (raw_images-nil addr) ∙ append-nil images
+    ap (λ left. images ++ raw_images addr left) (drop_all j files past) ∙ ap (λ left. images ++ left) (raw_images-nil addr)
+    ∙ append-nil images

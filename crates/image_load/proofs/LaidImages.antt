@@ -19,7 +19,8 @@ pub laid_all-nil : (n : ℕ) → laid_all n [] ≡ []
 unfolding laid_all
 laid_all-nil n = refl
 
-laid_all-append : (n m : ℕ) (xs : List Image) (x : Image) → n + length xs ≡ m → laid_all n (xs ++ x ∷ []) ≡ laid_all n xs ++ laid m x.segments
+laid_all-append : (n m : ℕ) (xs : List Image) (x : Image) → n + length xs ≡ m → laid_all n (xs ++ x ∷ []) ≡ laid_all n xs
+    ++ laid m x.segments
 unfolding laid_all
 laid_all-append n m [] x e =
     let same : n ≡ m = omega arith in append-nil (laid n x.segments) ∙ ap (λ i. laid i x.segments) same
@@ -62,7 +63,8 @@ images_fault-passed settings xs j x below is passed =
     ∙ images_fault-rest settings j (laid_all 0 (take j xs)) x (drop (j + 1) xs) passed
     ∙ ap (λ ls. images_fault settings (j + 1) ls (drop (j + 1) xs)) (laid_all-more xs j x below is)
 
-pub images_fault-failed : (settings : Settings) (xs : List Image) (j : ℕ) (x : Image) (fault : LoadFault) → j < length xs → x ≡ get_or xs j x →
+pub images_fault-failed : (settings : Settings) (xs : List Image) (j : ℕ) (x : Image) (fault : LoadFault) → j < length xs
+    → x ≡ get_or xs j x →
     image_fault settings j (laid_all 0 (take j xs)) x ≡ Some fault →
     images_fault settings j (laid_all 0 (take j xs)) (drop j xs) ≡ Some fault
 images_fault-failed settings xs j x fault below is failed =

@@ -1,5 +1,6 @@
 -- Memory after one more segment, which lies where no earlier one does.
-use Rattle.std.proofs.Common.{◌≡◌, ℕ, ◌+◌, ◌-◌, ◌<◌, ◌≤◌, ◌∙◌, Bool, true, false, List, [], ◌∷◌, ◌++◌, length, slice_index, Option, Some, None, is_some, sym, ap, arith, refl, inl, inr, replicate, take, drop, if◌then◌else◌}
+use Rattle.std.proofs.Common.{◌≡◌, ℕ, ◌+◌, ◌-◌, ◌<◌, ◌≤◌, ◌∙◌, Bool, true, false, List, [], ◌∷◌, ◌++◌, length, slice_index, Option, Some}
+use Rattle.std.proofs.Common.{None, is_some, sym, ap, arith, refl, inl, inr, replicate, take, drop, if◌then◌else◌}
 use Rattle.std.specs.Option.{option_or}
 use Rattle.std.proofs.lemmas.Bool.{cases_lt, lt-leb, le-leb}
 use Rattle.std.proofs.lemmas.Bool.Decides.{nat_tests}
@@ -57,8 +58,12 @@ outside_keeps : (base : ℕ) (bytes bytes' : List ℕ) (taken taken' code code' 
     × (code_at taken' k ≡ is_held (xs ++ s ∷ []) (base + k))
     × (code_at code' k ≡ is_code (xs ++ s ∷ []) (base + k))
 outside_keeps base bytes bytes' taken taken' code code' xs s k filled outside b t c =
-    let same = segment_at-outside xs s (base + k) outside in
-    (b ∙ filled.byte k ∙ sym (ap (byte_in (base + k)) same), t ∙ filled.held k ∙ sym (ap is_some same), c ∙ filled.executable k ∙ sym (ap executes same))
+    let same = segment_at-outside xs s (base + k) outside in (
+      b ∙ filled.byte k ∙ sym (ap (byte_in (base + k)) same),
+      t ∙ filled.held k ∙ sym (ap is_some same),
+      c ∙ filled.executable k
+          ∙ sym (ap executes same),
+    )
 
 -- a place of the segment: the byte that the file holds there, or zero after them
 inside_byte : (base : ℕ) (bytes bytes' : List ℕ) (taken code : List Bool) (xs : List Segment) (s : Segment) (first k : ℕ) →
@@ -75,7 +80,8 @@ inside_byte base bytes bytes' taken code xs s first k filled begins low free wri
     ]
 
 -- RAM after a segment's bytes were written, its places marked as taken, and as code where it is executable
-pub filled-more : (base : ℕ) (bytes bytes' : List ℕ) (taken taken' code code' : List Bool) (xs : List Segment) (s : Segment) (first end : ℕ) →
+pub filled-more : (base : ℕ) (bytes bytes' : List ℕ) (taken taken' code code' : List Bool) (xs : List Segment) (s : Segment) (first end : ℕ)
+    →
     IsFilled base bytes taken code xs →
     base + first ≡ s.addr → base + end ≡ s.addr + s.size → length s.bytes ≤ s.size →
     ((k : ℕ) → first ≤ k → k < end → code_at taken k ≡ false) →
@@ -89,7 +95,8 @@ pub filled-more : (base : ℕ) (bytes bytes' : List ℕ) (taken taken' code code
     ((k : ℕ) → k < first → code_at code' k ≡ code_at code k) →
     ((k : ℕ) → end ≤ k → code_at code' k ≡ code_at code k) →
     IsFilled base bytes' taken' code' (xs ++ s ∷ [])
-filled-more base bytes bytes' taken taken' code code' xs s first end filled begins ends within free b b_low b_high t t_low t_high c c_low c_high =
+filled-more base bytes bytes' taken taken' code code' xs s first end filled begins ends within free b b_low b_high t t_low t_high c c_low
+    c_high =
     record {
       byte = λ k. (all k).0;
       held = λ k. (all k).1;
@@ -115,12 +122,14 @@ filled-more base bytes bytes' taken taken' code code' xs s first end filled begi
         × (code_at code' k ≡ is_code (xs ++ s ∷ []) (base + k))
     all k =
         elim (cases_lt k first) [
-          | inl below ↦ outside_keeps base bytes bytes' taken taken' code code' xs s k filled (holds-below s (base + k) (omega arith)) (b_low k below) (t_low k below) (c_low k below)
+          | inl below ↦ outside_keeps base bytes bytes' taken taken' code code' xs s k filled (holds-below s (base + k) (omega arith))
+              (b_low k below) (t_low k below) (c_low k below)
           | inr low ↦
               elim (cases_lt k end) [
                 | inl high ↦ inside k low high
                 | inr above ↦
-                    outside_keeps base bytes bytes' taken taken' code code' xs s k filled (holds-above s (base + k) (omega arith)) (b_high k (omega arith)) (t_high k above) (c_high k above)
+                    outside_keeps base bytes bytes' taken taken' code code' xs s k filled (holds-above s (base + k) (omega arith))
+                    (b_high k (omega arith)) (t_high k above) (c_high k above)
               ]
         ]
 

@@ -1,5 +1,6 @@
 -- A filled RAM is the start: words, fetches and entries are those of the images.
-use Rattle.std.proofs.Common.{◌≡◌, ℕ, ◌+◌, ◌-◌, ◌*◌, ◌∙◌, Bool, true, false, List, slice_index, Some, None, ap, refl, arith, inl, inr, if◌then◌else◌}
+use Rattle.std.proofs.Common.{◌≡◌, ℕ, ◌+◌, ◌-◌, ◌*◌, ◌∙◌, Bool, true, false, List, slice_index, Some, None, ap, refl, arith, inl, inr}
+use Rattle.std.proofs.Common.{if◌then◌else◌}
 use Rattle.std.proofs.lemmas.Bool.{cases_lt, lt-leb, le-leb}
 use Rattle.tcc_base.specs.Settings.{Settings}
 use Rattle.image_elf.specs.declared.image.Image.{Image}
@@ -35,7 +36,8 @@ fetch_of-filled base bytes taken code xs pc filled =
       | inr from ↦
           let after = le-leb base pc from in
           let same = all_four-from_base base bytes taken code xs pc filled from in
-          rw (after, same) (by_cases (all_four (is_code xs) pc) (word_of-filled base bytes taken code xs (pc - base) pc filled (omega arith)))
+          rw (after, same) (by_cases (all_four (is_code xs) pc)
+          (word_of-filled base bytes taken code xs (pc - base) pc filled (omega arith)))
     ]
   where
     by_cases : (b : Bool) → word_of (slice_index bytes) (pc - base) ≡ word_of (byte_at xs) pc →

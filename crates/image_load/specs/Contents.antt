@@ -1,5 +1,6 @@
 -- What a loaded memory holds, as plain data, and the start that it stands for.
-use Rattle.std.specs.Prelude.{ℕ, ◌-◌, ◌*◌, Bool, false, ◌&&◌, nat_le, if◌then◌else◌, List, slice_index, slice_index_or, length, ◌≡◌, ◌≤◌, ◌<◌, Option, Some, None}
+use Rattle.std.specs.Prelude.{ℕ, ◌-◌, ◌*◌, Bool, false, ◌&&◌, nat_le, if◌then◌else◌, List, slice_index, slice_index_or, length, ◌≡◌, ◌≤◌}
+use Rattle.std.specs.Prelude.{◌<◌, Option, Some, None}
 use Rattle.tcc_base.specs.Settings.{Settings}
 use Rattle.image_load.specs.Memory.{word_of, all_four}
 use Rattle.image_load.specs.Start.{Start, entry_of}

@@ -23,6 +23,7 @@ sent-place cs ds s d ls all e =
     (t.0, t.1, omega (arith, (placed cs ds s d t.0 t.1).below))
 
 -- one message
-pub single : (cs ds : ℕ) (s : Node) (e : NodeId × Msg) (ls : List Lane) → with_sent cs ds s (e ∷ []) ls ≡ and_sent (place cs ds s (node_of e.0)) e.1 ls
+pub single : (cs ds : ℕ) (s : Node) (e : NodeId × Msg) (ls : List Lane)
+    → with_sent cs ds s (e ∷ []) ls ≡ and_sent (place cs ds s (node_of e.0)) e.1 ls
 unfolding with_sent
 single cs ds s e ls = refl

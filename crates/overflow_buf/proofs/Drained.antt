@@ -40,7 +40,8 @@ spilled-lost old new line k = λ i w. (at_word w) i
     at_word : (w : ℕ) → word_in (kept_at new (line_of w)) (place_of w)
         ≡ cond (nat_eq line (line_of w)) None (word_in (kept_at old (line_of w)) (place_of w))
     at_word w = rw (k (line_of w)) (elim (nat_eq line (line_of w))
-        as (λ t. word_in (cond t None (kept_at old (line_of w))) (place_of w) ≡ cond t None (word_in (kept_at old (line_of w)) (place_of w)))
+        as (λ t. word_in (cond t None (kept_at old (line_of w))) (place_of w) ≡ cond t None
+        (word_in (kept_at old (line_of w)) (place_of w)))
         [ true ↦ refl | false ↦ refl ])
 
 -- ---- the last entry
@@ -57,7 +58,8 @@ kept-last (e ∷ es) line s n = by (nat_eq line e.0) refl (kept-last es line s)
     by false q rest = rw q (rest (rw q at n))
 
 -- an entry that is taken off the end was what was kept of its line
-pub kept-popped : (old new : Entries) (line : ℕ) (s : SpilledLine) → old ≡ new ++ (line, s) ∷ [] → Loses old new line → Some s ≡ kept_at old line
+pub kept-popped : (old new : Entries) (line : ℕ) (s : SpilledLine) → old ≡ new ++ (line, s) ∷ [] → Loses old new line
+    → Some s ≡ kept_at old line
 kept-popped old new line s e k =
     let gone : kept_at new line ≡ None = k line ∙ rw (eq-eqb line line refl) refl in
     sym (ap (λ es. kept_at es line) e ∙ kept-last new line s gone)
@@ -74,7 +76,8 @@ no_entry [] b n = refl
 no_entry (e ∷ es) b n =
     let kept : is_some (kept_at (e ∷ es) e.0) ≡ true = unfold kept_at in (rw (eq-eqb e.0 e.0 refl) refl) in
     let none : holds none_spilled e.0 ≡ false = unfold holds any_word any_below none_spilled in refl in
-    absurd (false≢true (sym none ∙ ap (λ sp. holds sp e.0) (sym n) ∙ sym (holds-line (e ∷ es) e.0 (kept_at (e ∷ es) e.0) refl (b e.0)) ∙ kept))
+    absurd (false≢true (sym none ∙ ap (λ sp. holds sp e.0) (sym n) ∙ sym (holds-line (e ∷ es) e.0 (kept_at (e ∷ es) e.0) refl (b e.0))
+    ∙ kept))
 
 pub no_word : (es : Entries) → length es ≡ 0 → spilled es ≡ none_spilled
 no_word [] e = spilled-empty

@@ -1,5 +1,6 @@
 -- A word that decodes to an instruction is the word that the table has for it.
-use Rattle.std.proofs.Common.{◌≡◌, nat_eq, subst, ◌<◌, ◌+◌, ◌*◌, ◌%◌, ◌^◌, ◌==◌, ℕ, ℤ, pos, Bool, true, false, Option, Some, None, IfSome, if◌then◌else◌, refl, sym, ap, ◌∙◌, arith}
+use Rattle.std.proofs.Common.{◌≡◌, nat_eq, subst, ◌<◌, ◌+◌, ◌*◌, ◌%◌, ◌^◌, ◌==◌, ℕ, ℤ, pos, Bool, true, false, Option, Some, None, IfSome}
+use Rattle.std.proofs.Common.{if◌then◌else◌, refl, sym, ap, ◌∙◌, arith}
 use Rattle.std.specs.Option.{option_map}
 use Rattle.std.proofs.lemmas.Bool.{eqb-true}
 use Rattle.std.proofs.lemmas.Bool.Decides.{nat_tests}
@@ -11,9 +12,12 @@ use Rattle.rv_decode.specs.declared.instruction.Inst.{Inst}
 use Rattle.rv_decode.specs.declared.instruction.Inst.TheVariants.{Lui, Auipc, Jal, Branch, Load, Store, OpImm, Op, Lr, Sc, Amo}
 use Rattle.rv_decode.proofs.Rows.{encoding-Branch, encoding-Load, encoding-Store, encoding-Op, encoding-Amo}
 use Rattle.rv_decode.specs.Bits.{bits, signed, pattern}
-use Rattle.rv_decode.specs.Codes.{cond_code, cond_of, load_kind_code, load_kind_of, size_code, size_of, imm_op_code, imm_op_of, shift_of, reg_op_funct3, reg_op_funct7, reg_op_of, base_op_of, other_op_of, multiply_op_of, amo_op_code, amo_op_of}
-use Rattle.rv_decode.specs.Decoding.{decoded, inst_of, jalr_inst, branch_inst, load_inst, store_inst, imm_inst, op_inst, fence_inst, system_inst, atomic_inst, word_atomic_inst, lr_inst}
-use Rattle.rv_decode.specs.Formats.{opcode_of, rd_of, funct3_of, rs1_of, rs2_of, funct7_of, funct5_of, order_of, imm_i, imm_s, imm_b, imm_u, imm_j, r_type, a_type, i_type, s_type, b_type}
+use Rattle.rv_decode.specs.Codes.{cond_code, cond_of, load_kind_code, load_kind_of, size_code, size_of, imm_op_code, imm_op_of, shift_of}
+use Rattle.rv_decode.specs.Codes.{reg_op_funct3, reg_op_funct7, reg_op_of, base_op_of, other_op_of, multiply_op_of, amo_op_code, amo_op_of}
+use Rattle.rv_decode.specs.Decoding.{decoded, inst_of, jalr_inst, branch_inst, load_inst, store_inst, imm_inst, op_inst, fence_inst}
+use Rattle.rv_decode.specs.Decoding.{system_inst, atomic_inst, word_atomic_inst, lr_inst}
+use Rattle.rv_decode.specs.Formats.{opcode_of, rd_of, funct3_of, rs1_of, rs2_of, funct7_of, funct5_of, order_of, imm_i, imm_s, imm_b, imm_u}
+use Rattle.rv_decode.specs.Formats.{imm_j, r_type, a_type, i_type, s_type, b_type}
 use Rattle.rv_decode.specs.Table.{encoding, Encodes, IsImmediate, IsBranchOffset, IsJumpOffset, IsOperand}
 
 -- what two's complement gives, and that it leads back
@@ -94,9 +98,12 @@ shift_row Sltiu f7 rd rs1 rs2 e h = absurd (cc)
 shift_row Xori f7 rd rs1 rs2 e h = absurd (cc)
 shift_row Ori f7 rd rs1 rs2 e h = absurd (cc)
 shift_row Andi f7 rd rs1 rs2 e h = absurd (cc)
-shift_row Slli f7 rd rs1 rs2 e h = let same : 0 ≡ f7 = cc in ((omega (arith, ints), omega (arith, ints)), ap (λ f. r_type 0b0010011 1 f rd rs1 rs2) same)
-shift_row Srli f7 rd rs1 rs2 e h = let same : 0 ≡ f7 = cc in ((omega (arith, ints), omega (arith, ints)), ap (λ f. r_type 0b0010011 5 f rd rs1 rs2) same)
-shift_row Srai f7 rd rs1 rs2 e h = let same : 32 ≡ f7 = cc in ((omega (arith, ints), omega (arith, ints)), ap (λ f. r_type 0b0010011 5 f rd rs1 rs2) same)
+shift_row Slli f7 rd rs1 rs2 e h = let same : 0 ≡ f7 = cc in
+    ((omega (arith, ints), omega (arith, ints)), ap (λ f. r_type 0b0010011 1 f rd rs1 rs2) same)
+shift_row Srli f7 rd rs1 rs2 e h = let same : 0 ≡ f7 = cc in
+    ((omega (arith, ints), omega (arith, ints)), ap (λ f. r_type 0b0010011 5 f rd rs1 rs2) same)
+shift_row Srai f7 rd rs1 rs2 e h = let same : 32 ≡ f7 = cc in
+    ((omega (arith, ints), omega (arith, ints)), ap (λ f. r_type 0b0010011 5 f rd rs1 rs2) same)
 
 imm_row : (op : ImmOp) (rd rs1 : ℕ) (imm : ℤ) → imm_op_funct7 op ≡ None → IsImmediate imm →
     IsOperand op imm × (encoding (OpImm op rd rs1 imm) ≡ i_type 0b0010011 (imm_op_code op) rd rs1 imm)
@@ -195,7 +202,8 @@ row_branch w h o =
 row_load : (w : ℕ) → w < 2 ^ 32 → opcode_of w ≡ 0b0000011 → IfSome (load_inst w (funct3_of w) (rd_of w) (rs1_of w)) (Encodes w)
 row_load w h o =
     let b = registers_below w in
-    mapped (λ kind. Load kind (rd_of w) (rs1_of w) (imm_i w)) (Encodes w) (λ kind. load_kind_code kind ≡ funct3_of w) (load_kind_of (funct3_of w))
+    mapped (λ kind. Load kind (rd_of w) (rs1_of w) (imm_i w)) (Encodes w) (λ kind. load_kind_code kind ≡ funct3_of w)
+    (load_kind_of (funct3_of w))
     (load_kind_code-load_kind_of (funct3_of w))
     (λ kind e. let r = i_row w _ (load_kind_code kind) h o (sym e) in
     record { registers = (b.0, b.1); range = r.0; row = r.1 ∙ sym (encoding-Load kind _ _ _) })
@@ -212,16 +220,23 @@ row_op : (w : ℕ) → w < 2 ^ 32 → opcode_of w ≡ 0b0110011 →
     IfSome (op_inst (funct3_of w) (funct7_of w) (rd_of w) (rs1_of w) (rs2_of w)) (Encodes w)
 row_op w h o =
     let b = registers_below w in
-    mapped (λ op. Op op (rd_of w) (rs1_of w) (rs2_of w)) (Encodes w) (λ op. (reg_op_funct3 op ≡ funct3_of w) × (reg_op_funct7 op ≡ funct7_of w))
+    mapped (λ op. Op op (rd_of w) (rs1_of w) (rs2_of w)) (Encodes w)
+    (λ op. (reg_op_funct3 op ≡ funct3_of w) × (reg_op_funct7 op ≡ funct7_of w))
     (reg_op_of (funct3_of w) (funct7_of w))
     (reg_op-reg_op_of (funct3_of w) (funct7_of w))
-    (λ op e. record { registers = b; range = tt; row = r_row w _ (reg_op_funct3 op) (reg_op_funct7 op) h o (sym e.0) (sym e.1) ∙ sym (encoding-Op op _ _ _) })
+    (λ op e. record {
+      registers = b;
+      range = tt;
+      row = r_row w _ (reg_op_funct3 op) (reg_op_funct7 op) h o (sym e.0) (sym e.1)
+          ∙ sym (encoding-Op op _ _ _);
+    })
 
 shift_inst : (w : ℕ) → w < 2 ^ 32 → opcode_of w ≡ 0b0010011 →
     IfSome (option_map (λ op. OpImm op (rd_of w) (rs1_of w) (pos (rs2_of w))) (shift_of (funct3_of w) (funct7_of w))) (Encodes w)
 shift_inst w h o =
     let b = registers_below w in
-    mapped (λ op. OpImm op (rd_of w) (rs1_of w) (pos (rs2_of w))) (Encodes w) (λ op. (imm_op_code op ≡ funct3_of w) × (imm_op_funct7 op ≡ Some (funct7_of w)))
+    mapped (λ op. OpImm op (rd_of w) (rs1_of w) (pos (rs2_of w))) (Encodes w)
+    (λ op. (imm_op_code op ≡ funct3_of w) × (imm_op_funct7 op ≡ Some (funct7_of w)))
     (shift_of (funct3_of w) (funct7_of w))
     (imm_op-shift_of (funct3_of w) (funct7_of w))
     (λ op e. let s = shift_row op (funct7_of w) (rd_of w) (rs1_of w) (rs2_of w) e.1 b.2 in
@@ -233,7 +248,8 @@ row_imm w h o =
     let b = registers_below w in
     chosen (λ i. IfSome i (Encodes w)) (funct3_of w == 0b001) _ _ (λ _. shift_inst w h o)
     (λ _. chosen (λ i. IfSome i (Encodes w)) (funct3_of w == 0b101) _ _ (λ _. shift_inst w h o)
-    (λ _. mapped (λ op. OpImm op (rd_of w) (rs1_of w) (imm_i w)) (Encodes w) (λ op. (imm_op_code op ≡ funct3_of w) × (imm_op_funct7 op ≡ None))
+    (λ _. mapped (λ op. OpImm op (rd_of w) (rs1_of w) (imm_i w)) (Encodes w)
+    (λ op. (imm_op_code op ≡ funct3_of w) × (imm_op_funct7 op ≡ None))
     (imm_op_of (funct3_of w))
     (imm_op-imm_op_of (funct3_of w))
     (λ op e. let r = i_row w _ (imm_op_code op) h o (sym e.0) in
@@ -294,7 +310,8 @@ row_system : (w : ℕ) → IfSome (system_inst w) (Encodes w)
 unfolding encoding
 row_system w =
     chosen (λ i. IfSome i (Encodes w)) (w == 0x0000_0073) _ _ (λ t. record { registers = tt; range = tt; row = eqb-true _ _ t })
-    (λ _. chosen (λ i. IfSome i (Encodes w)) (w == 0x0010_0073) _ _ (λ t. record { registers = tt; range = tt; row = eqb-true _ _ t }) (λ _. tt))
+    (λ _. chosen (λ i. IfSome i (Encodes w)) (w == 0x0010_0073) _ _ (λ t. record { registers = tt; range = tt; row = eqb-true _ _ t })
+    (λ _. tt))
 
 pub Encodes-decoded : (w : ℕ) → w < 2 ^ 32 → IfSome (decoded w) (Encodes w)
 unfolding decoded inst_of

@@ -9,13 +9,15 @@ use Rattle.rv_decode.specs.declared.instruction.LoadKind.TheVariants.{Lb, Lh, Lw
 use Rattle.rv_decode.specs.declared.instruction.AmoOp.{AmoOp}
 use Rattle.rv_decode.specs.declared.instruction.AmoOp.TheVariants.{Amoswap, Amoadd, Amoxor, Amoand, Amoor, Amomin, Amomax, Amominu, Amomaxu}
 use Rattle.rv_decode.specs.declared.instruction.RegOp.{RegOp}
-use Rattle.rv_decode.specs.declared.instruction.RegOp.TheVariants.{Add, Sub, Sll, Slt, Sltu, Xor, Srl, Sra, Or, And, Mul, Mulh, Mulhsu, Mulhu, Div, Divu, Rem, Remu}
+use Rattle.rv_decode.specs.declared.instruction.RegOp.TheVariants.{Add, Sub, Sll, Slt, Sltu, Xor, Srl, Sra, Or, And, Mul, Mulh, Mulhsu}
+use Rattle.rv_decode.specs.declared.instruction.RegOp.TheVariants.{Mulhu, Div, Divu, Rem, Remu}
 use Rattle.rv_decode.specs.declared.instruction.Inst.TheVariants.{Branch, Load, Store, Op, Amo}
 use Rattle.rv_decode.specs.Codes.{cond_code, load_kind_code, size_code, reg_op_funct3, reg_op_funct7, amo_op_code}
 use Rattle.rv_decode.specs.Formats.{r_type, a_type, i_type, s_type, b_type}
 use Rattle.rv_decode.specs.Table.{encoding}
 
-pub encoding-Branch : (cond : Cond) (rs1 rs2 : ℕ) (offset : ℤ) → encoding (Branch cond rs1 rs2 offset) ≡ b_type 0b1100011 (cond_code cond) rs1 rs2 offset
+pub encoding-Branch : (cond : Cond) (rs1 rs2 : ℕ) (offset : ℤ)
+    → encoding (Branch cond rs1 rs2 offset) ≡ b_type 0b1100011 (cond_code cond) rs1 rs2 offset
 unfolding encoding
 encoding-Branch Beq rs1 rs2 offset = refl
 encoding-Branch Bne rs1 rs2 offset = refl
@@ -24,7 +26,8 @@ encoding-Branch Bge rs1 rs2 offset = refl
 encoding-Branch Bltu rs1 rs2 offset = refl
 encoding-Branch Bgeu rs1 rs2 offset = refl
 
-pub encoding-Load : (kind : LoadKind) (rd rs1 : ℕ) (imm : ℤ) → encoding (Load kind rd rs1 imm) ≡ i_type 0b0000011 (load_kind_code kind) rd rs1 imm
+pub encoding-Load : (kind : LoadKind) (rd rs1 : ℕ) (imm : ℤ)
+    → encoding (Load kind rd rs1 imm) ≡ i_type 0b0000011 (load_kind_code kind) rd rs1 imm
 unfolding encoding
 encoding-Load Lb rd rs1 imm = refl
 encoding-Load Lh rd rs1 imm = refl
@@ -32,13 +35,15 @@ encoding-Load Lw rd rs1 imm = refl
 encoding-Load Lbu rd rs1 imm = refl
 encoding-Load Lhu rd rs1 imm = refl
 
-pub encoding-Store : (size : Size) (rs1 rs2 : ℕ) (imm : ℤ) → encoding (Store size rs1 rs2 imm) ≡ s_type 0b0100011 (size_code size) rs1 rs2 imm
+pub encoding-Store : (size : Size) (rs1 rs2 : ℕ) (imm : ℤ)
+    → encoding (Store size rs1 rs2 imm) ≡ s_type 0b0100011 (size_code size) rs1 rs2 imm
 unfolding encoding
 encoding-Store Byte rs1 rs2 imm = refl
 encoding-Store Half rs1 rs2 imm = refl
 encoding-Store Word rs1 rs2 imm = refl
 
-pub encoding-Op : (op : RegOp) (rd rs1 rs2 : ℕ) → encoding (Op op rd rs1 rs2) ≡ r_type 0b0110011 (reg_op_funct3 op) (reg_op_funct7 op) rd rs1 rs2
+pub encoding-Op : (op : RegOp) (rd rs1 rs2 : ℕ)
+    → encoding (Op op rd rs1 rs2) ≡ r_type 0b0110011 (reg_op_funct3 op) (reg_op_funct7 op) rd rs1 rs2
 unfolding encoding
 encoding-Op Add rd rs1 rs2 = refl
 encoding-Op Sub rd rs1 rs2 = refl

@@ -12,14 +12,17 @@ use Rattle.rv_decode.specs.declared.instruction.ImmOp.TheVariants.{Addi, Slti, S
 use Rattle.rv_decode.specs.declared.instruction.AmoOp.{AmoOp}
 use Rattle.rv_decode.specs.declared.instruction.AmoOp.TheVariants.{Amoswap, Amoadd, Amoxor, Amoand, Amoor, Amomin, Amomax, Amominu, Amomaxu}
 use Rattle.rv_decode.specs.declared.instruction.RegOp.{RegOp}
-use Rattle.rv_decode.specs.declared.instruction.RegOp.TheVariants.{Add, Sub, Sll, Slt, Sltu, Xor, Srl, Sra, Or, And, Mul, Mulh, Mulhsu, Mulhu, Div, Divu, Rem, Remu}
+use Rattle.rv_decode.specs.declared.instruction.RegOp.TheVariants.{Add, Sub, Sll, Slt, Sltu, Xor, Srl, Sra, Or, And, Mul, Mulh, Mulhsu}
+use Rattle.rv_decode.specs.declared.instruction.RegOp.TheVariants.{Mulhu, Div, Divu, Rem, Remu}
 use Rattle.rv_decode.specs.declared.instruction.Inst.{Inst}
-use Rattle.rv_decode.specs.declared.instruction.Inst.TheVariants.{Lui, Auipc, Jal, Jalr, Branch, Load, Store, OpImm, Op, Fence, Lr, Sc, Amo, Ecall, Ebreak}
+use Rattle.rv_decode.specs.declared.instruction.Inst.TheVariants.{Lui, Auipc, Jal, Jalr, Branch, Load, Store, OpImm, Op, Fence, Lr, Sc, Amo}
+use Rattle.rv_decode.specs.declared.instruction.Inst.TheVariants.{Ecall, Ebreak}
 use Rattle.rv_decode.proofs.Rows.{encoding-Branch, encoding-Load, encoding-Store, encoding-Op, encoding-Amo}
 use Rattle.rv_decode.specs.Bits.{bits, signed, pattern}
 use Rattle.rv_decode.specs.Codes.{cond_code, load_kind_code, size_code, reg_op_funct3, reg_op_funct7, amo_op_code}
 use Rattle.rv_decode.specs.Decoding.{decoded, inst_of, word_atomic_inst}
-use Rattle.rv_decode.specs.Formats.{opcode_of, rd_of, funct3_of, rs1_of, rs2_of, funct7_of, funct5_of, order_of, imm_i, imm_s, imm_b, imm_u, imm_j, r_type, a_type, i_type, s_type, b_type, u_type, j_type}
+use Rattle.rv_decode.specs.Formats.{opcode_of, rd_of, funct3_of, rs1_of, rs2_of, funct7_of, funct5_of, order_of, imm_i, imm_s, imm_b, imm_u}
+use Rattle.rv_decode.specs.Formats.{imm_j, r_type, a_type, i_type, s_type, b_type, u_type, j_type}
 use Rattle.rv_decode.specs.Table.{encoding, Encodes, IsImmediate, IsShiftAmount, IsBranchOffset, IsJumpOffset}
 
 -- two's complement, there and back
@@ -348,17 +351,20 @@ decoded-encoding w (Branch cond rs1 rs2 offset) e =
     let row : w ≡ b_type 0b1100011 (cond_code cond) rs1 rs2 offset = e.row ∙ encoding-Branch cond rs1 rs2 offset in
     decoded-b_type w _ _ rs1 rs2 offset row (lit< tt) (cond_code_below cond) e.registers.0 e.registers.1 (pattern_13_below offset e.range)
     ∙ inst_of-Branch cond w (funct7_of w) (rd_of w) rs1 rs2
-    ∙ ap (λ m. Some (Branch cond rs1 rs2 m)) (imm_b-b_type w _ _ rs1 rs2 offset row (lit< tt) (cond_code_below cond) e.registers.0 e.registers.1 e.range)
+    ∙ ap (λ m. Some (Branch cond rs1 rs2 m))
+    (imm_b-b_type w _ _ rs1 rs2 offset row (lit< tt) (cond_code_below cond) e.registers.0 e.registers.1 e.range)
 decoded-encoding w (Load kind rd rs1 imm) e =
     let row : w ≡ i_type 0b0000011 (load_kind_code kind) rd rs1 imm = e.row ∙ encoding-Load kind rd rs1 imm in
     decoded-i_type w _ _ rd rs1 imm row (lit< tt) (load_kind_code_below kind) e.registers.0 e.registers.1 (pattern_12_below imm e.range)
     ∙ inst_of-Load kind w (funct7_of w) rd rs1 (rs2_of w)
-    ∙ ap (λ m. Some (Load kind rd rs1 m)) (imm_i-i_type w _ _ rd rs1 imm row (lit< tt) (load_kind_code_below kind) e.registers.0 e.registers.1 e.range)
+    ∙ ap (λ m. Some (Load kind rd rs1 m))
+    (imm_i-i_type w _ _ rd rs1 imm row (lit< tt) (load_kind_code_below kind) e.registers.0 e.registers.1 e.range)
 decoded-encoding w (Store size rs1 rs2 imm) e =
     let row : w ≡ s_type 0b0100011 (size_code size) rs1 rs2 imm = e.row ∙ encoding-Store size rs1 rs2 imm in
     decoded-s_type w _ _ rs1 rs2 imm row (lit< tt) (size_code_below size) e.registers.0 e.registers.1 (pattern_12_below imm e.range)
     ∙ inst_of-Store size w (funct7_of w) (rd_of w) rs1 rs2
-    ∙ ap (λ m. Some (Store size rs1 rs2 m)) (imm_s-s_type w _ _ rs1 rs2 imm row (lit< tt) (size_code_below size) e.registers.0 e.registers.1 e.range)
+    ∙ ap (λ m. Some (Store size rs1 rs2 m))
+    (imm_s-s_type w _ _ rs1 rs2 imm row (lit< tt) (size_code_below size) e.registers.0 e.registers.1 e.range)
 decoded-encoding w (OpImm Addi rd rs1 imm) e =
     let both = row_imm w 0 rd rs1 imm e.row (lit< tt) e.registers.0 e.registers.1 e.range in
     both.0 ∙ ap (λ m. Some (OpImm Addi rd rs1 m)) both.1
@@ -391,7 +397,8 @@ decoded-encoding w (OpImm Srai rd rs1 imm) e =
     ∙ ap (λ m. Some (OpImm Srai rd rs1 m)) (shift_same imm e.range)
 decoded-encoding w (Op op rd rs1 rs2) e =
     let row : w ≡ r_type 0b0110011 (reg_op_funct3 op) (reg_op_funct7 op) rd rs1 rs2 = e.row ∙ encoding-Op op rd rs1 rs2 in
-    decoded-r_type w _ _ _ rd rs1 rs2 row (lit< tt) (reg_op_funct3_below op) (reg_op_funct7_below op) e.registers.0 e.registers.1 e.registers.2
+    decoded-r_type w _ _ _ rd rs1 rs2 row (lit< tt) (reg_op_funct3_below op) (reg_op_funct7_below op) e.registers.0 e.registers.1
+    e.registers.2
     ∙ inst_of-Op op w rd rs1 rs2
 decoded-encoding w (Fence hints) e = row_fence w hints e.row e.range.0 e.range.1 e.registers
 decoded-encoding w (Lr rd rs1 order) e =

@@ -11,7 +11,8 @@ use Rattle.rv_decode.specs.declared.instruction.ImmOp.TheVariants.{Addi, Slti, S
 use Rattle.rv_decode.specs.declared.instruction.AmoOp.{AmoOp}
 use Rattle.rv_decode.specs.declared.instruction.AmoOp.TheVariants.{Amoswap, Amoadd, Amoxor, Amoand, Amoor, Amomin, Amomax, Amominu, Amomaxu}
 use Rattle.rv_decode.specs.declared.instruction.RegOp.{RegOp}
-use Rattle.rv_decode.specs.declared.instruction.RegOp.TheVariants.{Add, Sub, Sll, Slt, Sltu, Xor, Srl, Sra, Or, And, Mul, Mulh, Mulhsu, Mulhu, Div, Divu, Rem, Remu}
+use Rattle.rv_decode.specs.declared.instruction.RegOp.TheVariants.{Add, Sub, Sll, Slt, Sltu, Xor, Srl, Sra, Or, And, Mul, Mulh, Mulhsu}
+use Rattle.rv_decode.specs.declared.instruction.RegOp.TheVariants.{Mulhu, Div, Divu, Rem, Remu}
 
 abbrev pub cond_code : Cond → ℕ
 cond_code Beq = 0b000

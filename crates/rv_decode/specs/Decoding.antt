@@ -2,9 +2,11 @@
 use Rattle.std.specs.Prelude.{ℕ, pos, Option, Some, None, ◌-◌, ◌==◌, if◌then◌else◌}
 use Rattle.std.specs.Option.{option_map}
 use Rattle.rv_decode.specs.declared.instruction.Inst.{Inst}
-use Rattle.rv_decode.specs.declared.instruction.Inst.TheVariants.{Lui, Auipc, Jal, Jalr, Branch, Load, Store, OpImm, Op, Fence, Lr, Sc, Amo, Ecall, Ebreak}
+use Rattle.rv_decode.specs.declared.instruction.Inst.TheVariants.{Lui, Auipc, Jal, Jalr, Branch, Load, Store, OpImm, Op, Fence, Lr, Sc, Amo}
+use Rattle.rv_decode.specs.declared.instruction.Inst.TheVariants.{Ecall, Ebreak}
 use Rattle.rv_decode.specs.Codes.{cond_of, load_kind_of, size_of, imm_op_of, shift_of, reg_op_of, amo_op_of}
-use Rattle.rv_decode.specs.Formats.{opcode_of, rd_of, funct3_of, rs1_of, rs2_of, funct7_of, funct5_of, order_of, imm_i, imm_s, imm_b, imm_u, imm_j}
+use Rattle.rv_decode.specs.Formats.{opcode_of, rd_of, funct3_of, rs1_of, rs2_of, funct7_of, funct5_of, order_of, imm_i, imm_s, imm_b, imm_u}
+use Rattle.rv_decode.specs.Formats.{imm_j}
 
 abbrev pub jalr_inst : (w funct3 rd rs1 : ℕ) → Option Inst
 jalr_inst w funct3 rd rs1 = (if funct3 == 0b000 then Some (Jalr rd rs1 (imm_i w)) else None)

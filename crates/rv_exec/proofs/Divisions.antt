@@ -1,5 +1,7 @@
 -- Quotients and remainders of integers, and of the words that stand for them.
-use Rattle.std.proofs.Common.{◌≡◌, ◌<◌, ◌≤◌, ◌+◌, ◌-◌, ◌*◌, ◌/◌, ◌%◌, ◌^◌, ◌==◌, ◌+ℤ◌, ◌*ℤ◌, ◌<ℤ◌, ◌≤ℤ◌, neg_ℤ, ℕ, ℤ, zero, suc, pos, negsuc, false, unsigned_abs, FitsSigned, w32, arith, refl, sym, ap, ◌∙◌, subst, ⊎_elim, mod-lt, div-add-mod', eq-or-lt_of_le, if◌then◌else◌}
+use Rattle.std.proofs.Common.{◌≡◌, ◌<◌, ◌≤◌, ◌+◌, ◌-◌, ◌*◌, ◌/◌, ◌%◌, ◌^◌, ◌==◌, ◌+ℤ◌, ◌*ℤ◌, ◌<ℤ◌, ◌≤ℤ◌, neg_ℤ, ℕ, ℤ, zero, suc, pos}
+use Rattle.std.proofs.Common.{negsuc, false, unsigned_abs, FitsSigned, w32, arith, refl, sym, ap, ◌∙◌, subst, ⊎_elim, mod-lt, div-add-mod'}
+use Rattle.std.proofs.Common.{eq-or-lt_of_le, if◌then◌else◌}
 use Rattle.std.specs.Int.{cast_unsigned, int_wrap}
 use Rattle.std.specs.Prelude.{int_div, int_rem}
 use Rattle.std.proofs.lemmas.Bool.Decides.{nat_tests}

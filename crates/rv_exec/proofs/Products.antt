@@ -1,5 +1,6 @@
 -- The high word of a product.
-use Rattle.std.proofs.Common.{◌≡◌, ◌<◌, ◌≤◌, ◌+◌, ◌-◌, ◌*◌, ◌+ℤ◌, ◌*ℤ◌, ◌/◌, ◌%◌, ◌^◌, ℕ, ℤ, suc, pos, negsuc, Bool, true, false, cond, ltb, unsigned_abs, FitsSigned, w32, w64, arith, lit<, refl, sym, ap, ◌∙◌, mod-lt, div-add-mod'}
+use Rattle.std.proofs.Common.{◌≡◌, ◌<◌, ◌≤◌, ◌+◌, ◌-◌, ◌*◌, ◌+ℤ◌, ◌*ℤ◌, ◌/◌, ◌%◌, ◌^◌, ℕ, ℤ, suc, pos, negsuc, Bool, true, false, cond, ltb}
+use Rattle.std.proofs.Common.{unsigned_abs, FitsSigned, w32, w64, arith, lit<, refl, sym, ap, ◌∙◌, mod-lt, div-add-mod'}
 use Rattle.std.specs.Int.{cast_unsigned, int_div_euclid, int_wrap}
 use Rattle.std.proofs.lemmas.Bool.Decides.{nat_tests}
 use Rattle.std.proofs.lemmas.Int.{ints, fits_signed_mul, of_z-to_z, int_rem_euclid_is, wrapping_mul-bits}

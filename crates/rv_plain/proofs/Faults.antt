@@ -1,6 +1,7 @@
 -- Which instruction is at fault.
 use Rattle.image_load.specs.Contents.{started}
-use Rattle.std.proofs.Common.{ℕ, zero, suc, ◌≡◌, ◌+◌, ◌-◌, ◌<◌, Option, Some, None, Result, Ok, Err, IfErr, IsSomeAnd, refl, add-one, add-zero, inl, inr, arith, subst}
+use Rattle.std.proofs.Common.{ℕ, zero, suc, ◌≡◌, ◌+◌, ◌-◌, ◌<◌, Option, Some, None, Result, Ok, Err, IfErr, IsSomeAnd, refl, add-one}
+use Rattle.std.proofs.Common.{add-zero, inl, inr, arith, subst}
 use Rattle.std.proofs.Math.Nat.{add-suc}
 use Rattle.rv_plain.specs.Endings.{HasEnded, IsFault, IsCoreFault}
 use Rattle.rv_code.specs.Machine.{program}
@@ -9,7 +10,8 @@ use Rattle.rv_plain.specs.declared.plain.PlainFault.{PlainFault}
 use Rattle.rv_plain.specs.declared.plain.PlainFault.TheVariants.{NotEnding, Memory}
 use Rattle.tcc_base.specs.declared.access.CoreEnd.{CoreEnd}
 use Rattle.tcc_base.specs.declared.access.CoreEnd.TheVariants.{Run, Halt, Trap}
-use Rattle.tcc_program.specs.Plain.{Attempt, Outcome, Goes, Ended, Halted, Trapped, Plain, steps, begun, transaction, close_if, if_runs, when_going}
+use Rattle.tcc_program.specs.Plain.{Attempt, Outcome, Goes, Ended, Halted, Trapped, Plain, steps, begun, transaction, close_if, if_runs}
+use Rattle.tcc_program.specs.Plain.{when_going}
 use Rattle.tcc_program.specs.Program.{Program}
 
 pub fault-early : (st : ℕ → Option Attempt) (n k : ℕ) (a : Attempt) → k < n → (k + 1 ≡ n → ⊥) → st (k + 1) ≡ Some a

@@ -1,6 +1,7 @@
 -- One more order of a serial execution of the code's plain machine.
 use Rattle.image_load.specs.Contents.{started}
-use Rattle.std.proofs.Common.{ℕ, ◌≡◌, ◌+◌, ◌<◌, ◌≤◌, true, List, [], ◌∷◌, ◌++◌, Option, Some, None, IsSomeAnd, map, take, length, get_or, nat_lt, refl, add-one, ◌∙◌}
+use Rattle.std.proofs.Common.{ℕ, ◌≡◌, ◌+◌, ◌<◌, ◌≤◌, true, List, [], ◌∷◌, ◌++◌, Option, Some, None, IsSomeAnd, map, take, length, get_or}
+use Rattle.std.proofs.Common.{nat_lt, refl, add-one, ◌∙◌}
 use Rattle.std.proofs.Math.Seq.{take-suc}
 use Rattle.std.proofs.lemmas.Bool.{lt-ltb}
 use Rattle.std.proofs.lemmas.List.{map-append}

@@ -1,5 +1,6 @@
 -- From one core's transaction to the machine's.
-use Rattle.std.proofs.Common.{ℕ, ◌≡◌, ◌<◌, List, [], ◌++◌, Some, Result, Ok, Err, IfOk, IfErr, OnOk, refl, length, slice_index_or, slice_set, arith, ap, sym, ◌∙◌, subst}
+use Rattle.std.proofs.Common.{ℕ, ◌≡◌, ◌<◌, List, [], ◌++◌, Some, Result, Ok, Err, IfOk, IfErr, OnOk, refl, length, slice_index_or}
+use Rattle.std.proofs.Common.{slice_set, arith, ap, sym, ◌∙◌, subst}
 use Rattle.std.proofs.lemmas.Grind.{common_steps}
 use Rattle.rv_plain.specs.Attempts.{attempt_of, outcome_of}
 use Rattle.rv_plain.specs.Buffered.{plain_view, seen}
@@ -65,7 +66,12 @@ did-transacts l cores before c n new after d lt t =
       λ i. record {
         ram = t.ram i;
         cores = λ j. (cores-put cores c new
-            (record { local = t.attempt.local; ended = new.ended; console = (slice_index_or cores c no_state).console ++ t.attempt.console })
+            (record {
+              local = t.attempt.local;
+              ended = new.ended;
+              console = (slice_index_or cores c no_state).console
+                  ++ t.attempt.console;
+            })
             (λ k. record { local = t.local k; ended = new.ended; console = t.prints k }) lt j) i;
       },
       t.loads,

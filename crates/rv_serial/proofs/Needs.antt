@@ -4,8 +4,10 @@ use Rattle.std.proofs.Common.{arith, refl}
 use Rattle.std.proofs.lemmas.Bool.Decides.{nat_tests}
 use Rattle.rv_decode.specs.Decoding.{decoded}
 use Rattle.rv_decode.specs.declared.instruction.Inst.{Inst}
-use Rattle.rv_decode.specs.declared.instruction.Inst.TheVariants.{Lui, Auipc, Jal, Jalr, Branch, Load, Store, OpImm, Op, Fence, Lr, Sc, Amo, Ecall, Ebreak}
-use Rattle.rv_exec.specs.Effects.{planned, target_of, lands, load_need, store_need, is_reserved, conditional_need, change_need, call_need, size_read}
+use Rattle.rv_decode.specs.declared.instruction.Inst.TheVariants.{Lui, Auipc, Jal, Jalr, Branch, Load, Store, OpImm, Op, Fence, Lr, Sc, Amo}
+use Rattle.rv_decode.specs.declared.instruction.Inst.TheVariants.{Ecall, Ebreak}
+use Rattle.rv_exec.specs.Effects.{planned, target_of, lands, load_need, store_need, is_reserved, conditional_need, change_need, call_need}
+use Rattle.rv_exec.specs.Effects.{size_read}
 use Rattle.rv_exec.specs.Operations.{amo_result}
 use Rattle.rv_exec.specs.Running.{bounded, need_of_inst, need_of_word, program as rv32ima_program}
 use Rattle.rv_exec.specs.Words.{displaced}
@@ -62,7 +64,8 @@ call-fits x17 x10 = go (x17 == 0) (x17 == 1) (x17 == 93)
 conditional-fits : (reserved : Option ℕ) (addr value : ℕ) → NeedFits (conditional_need reserved addr value)
 conditional-fits reserved addr value = go (addr % 4 == 0) refl (is_reserved reserved addr)
   where
-    go : (b : Bool) → (addr % 4 == 0) ≡ b → (c : Bool) → NeedFits (if b then (if c then Stores addr Word (value % 2 ^ 32) else Nothing) else Traps 6)
+    go : (b : Bool) → (addr % 4 == 0) ≡ b → (c : Bool)
+        → NeedFits (if b then (if c then Stores addr Word (value % 2 ^ 32) else Nothing) else Traps 6)
     go true e true = (grind (arith, nat_tests), low-bytes value Word)
     go true e false = tt
     go false e c = tt

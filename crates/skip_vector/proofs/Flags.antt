@@ -1,5 +1,6 @@
 -- Setting a flag in a list that may be too short for it, and serving from a list of flags.
-use Rattle.std.proofs.Common.{◌≡◌, ℕ, zero, suc, ◌+◌, ◌-◌, ◌<◌, ◌≤◌, Bool, true, false, List, [], ◌∷◌, ◌++◌, max, nat_lt, length, length-append, append-nil, replicate, set, refl, ap, ◌∙◌, arith}
+use Rattle.std.proofs.Common.{◌≡◌, ℕ, zero, suc, ◌+◌, ◌-◌, ◌<◌, ◌≤◌, Bool, true, false, List, [], ◌∷◌, ◌++◌, max, nat_lt, length}
+use Rattle.std.proofs.Common.{length-append, append-nil, replicate, set, refl, ap, ◌∙◌, arith}
 use Rattle.std.proofs.lemmas.List.{length-replicate}
 use Rattle.std.proofs.lemmas.Bool.Decides.{nat_tests}
 use borrow.Author.Tests.{ltb-true, ltb-false}
@@ -86,7 +87,8 @@ pub skipped-served : (t : ℕ) (s : Serving) → t ≡ s.serving → skipped t s
 unfolding skipped
 skipped-served t s h = grind (arith, nat_tests)
 
-pub skipped-higher : (t : ℕ) (s : Serving) → s.serving < t → skipped t s ≡ record { serving = s.serving; skips = skip_at (t - s.serving - 1) s.skips }
+pub skipped-higher : (t : ℕ) (s : Serving) → s.serving < t
+    → skipped t s ≡ record { serving = s.serving; skips = skip_at (t - s.serving - 1) s.skips }
 unfolding skipped kept
 skipped-higher t s h = grind (arith, nat_tests)
 

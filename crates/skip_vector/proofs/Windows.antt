@@ -1,15 +1,18 @@
 -- An ordered set of TIDs against the flags that it stands for.
-use Rattle.std.proofs.Common.{◌≡◌, ℕ, zero, suc, ◌+◌, ◌-◌, ◌^◌, ◌<◌, ◌≤◌, Bool, true, false, List, [], ◌∷◌, Some, length, slice_get, refl, ap, sym, ◌∙◌, arith, nat_lt, eqb, cond}
+use Rattle.std.proofs.Common.{◌≡◌, ℕ, zero, suc, ◌+◌, ◌-◌, ◌^◌, ◌<◌, ◌≤◌, Bool, true, false, List, [], ◌∷◌, Some, length, slice_get, refl}
+use Rattle.std.proofs.Common.{ap, sym, ◌∙◌, arith, nat_lt, eqb, cond}
 use Rattle.std.specs.Ordering.{nat_cmp, match_ordering}
 use Rattle.std.specs.declared.cmp.Ordering.TheVariants.{Less, Equal, Greater}
 use borrow.Author.Tests.{ltb-true, ltb-false, eqb-true, eqb-false}
 use Rattle.std.specs.BTreeSet.{insert_key}
 use Rattle.tcc_maps.specs.Serving.{serve_from, skip_at, skipped}
 use Rattle.skip_vector.specs.Window.{clear_before, window, Rises}
-use Rattle.skip_vector.proofs.Flags.{serve_from-none, serve_from-clear, serve_from-set, advance-serve_from, skipped-lower, skipped-served, skipped-higher}
+use Rattle.skip_vector.proofs.Flags.{serve_from-none, serve_from-clear, serve_from-set, advance-serve_from, skipped-lower, skipped-served}
+use Rattle.skip_vector.proofs.Flags.{skipped-higher}
 
 -- the flag after some clear ones, before the end of the clear ones, and behind them
-pub skip_at-clear_before-lower : (j n m : ℕ) (xs : List Bool) → n ≡ j + suc m → skip_at j (clear_before n xs) ≡ clear_before j (true ∷ clear_before m xs)
+pub skip_at-clear_before-lower : (j n m : ℕ) (xs : List Bool) → n ≡ j + suc m
+    → skip_at j (clear_before n xs) ≡ clear_before j (true ∷ clear_before m xs)
 unfolding skip_at clear_before
 skip_at-clear_before-lower zero n m xs e = rw (let f : n ≡ suc m = omega arith in f) refl
 skip_at-clear_before-lower (suc j) zero m xs e = absurd (omega arith)
@@ -38,7 +41,8 @@ pub serve_from-window_none : (s : ℕ) → serve_from s (window s []) ≡ record
 unfolding window
 serve_from-window_none s = serve_from-none s
 
-pub serve_from-window_later : (s t n : ℕ) (ts : List ℕ) → t ≡ s + suc n → serve_from s (window s (t ∷ ts)) ≡ record { serving = s; skips = window (s + 1) (t ∷ ts) }
+pub serve_from-window_later : (s t n : ℕ) (ts : List ℕ) → t ≡ s + suc n
+    → serve_from s (window s (t ∷ ts)) ≡ record { serving = s; skips = window (s + 1) (t ∷ ts) }
 unfolding window clear_before
 serve_from-window_later s t n ts e =
     let a : t - s ≡ suc n = omega arith in
@@ -46,7 +50,8 @@ serve_from-window_later s t n ts e =
     rw (a, b) (serve_from-clear s (clear_before n (true ∷ window (t + 1) ts)))
 
 -- where the served TID is not the first that was skipped, it stays
-pub serve_from-window_stays : (s : ℕ) (ts : List ℕ) → Rises s ts → (slice_get ts 0 ≡ Some s → ⊥) → serve_from s (window s ts) ≡ record { serving = s; skips = window (s + 1) ts }
+pub serve_from-window_stays : (s : ℕ) (ts : List ℕ) → Rises s ts → (slice_get ts 0 ≡ Some s → ⊥)
+    → serve_from s (window s ts) ≡ record { serving = s; skips = window (s + 1) ts }
 unfolding Rises
 serve_from-window_stays s [] h away = serve_from-window_none s
 serve_from-window_stays s (t ∷ ts) h away = by (eqb t s) refl
@@ -74,7 +79,8 @@ unfolding Rises
 Rises-insert_key s k [] h a b = (a, b, tt)
 Rises-insert_key s k (t ∷ ts) h a b = by (nat_lt k t) refl (eqb k t) refl (λ (above : t + 1 ≤ k). Rises-insert_key (t + 1) k ts h.2 above b)
   where
-    by : (p : Bool) → nat_lt k t ≡ p → (q : Bool) → eqb k t ≡ q → (t + 1 ≤ k → Rises (t + 1) (insert_key nat_cmp ts k)) → Rises s (match_ordering (cond p Less (cond q Equal Greater)) (k ∷ t ∷ ts) (t ∷ ts) (t ∷ insert_key nat_cmp ts k))
+    by : (p : Bool) → nat_lt k t ≡ p → (q : Bool) → eqb k t ≡ q → (t + 1 ≤ k → Rises (t + 1) (insert_key nat_cmp ts k))
+        → Rises s (match_ordering (cond p Less (cond q Equal Greater)) (k ∷ t ∷ ts) (t ∷ ts) (t ∷ insert_key nat_cmp ts k))
     by true e q f rest = (a, b, (omega (arith, ltb-true k t e), h.1, h.2))
     by false e true f rest = h
     by false e false f rest = (h.0, h.1, rest (omega (arith, ltb-false k t e, eqb-false k t f)))
@@ -90,22 +96,30 @@ unfolding window Rises
 window-insert_key s k [] h a = sym (skip_at-nil (k - s))
 window-insert_key s k (t ∷ ts) h a = by (nat_lt k t) refl (eqb k t) refl (λ (above : t + 1 ≤ k). window-insert_key (t + 1) k ts h.2 above)
   where
-    by : (p : Bool) → nat_lt k t ≡ p → (q : Bool) → eqb k t ≡ q → (t + 1 ≤ k → window (t + 1) (insert_key nat_cmp ts k) ≡ skip_at (k - (t + 1)) (window (t + 1) ts))
-        → window s (match_ordering (cond p Less (cond q Equal Greater)) (k ∷ t ∷ ts) (t ∷ ts) (t ∷ insert_key nat_cmp ts k)) ≡ skip_at (k - s) (clear_before (t - s) (true ∷ window (t + 1) ts))
-    by true e q f same = sym (skip_at-clear_before-lower (k - s) (t - s) (t - (k + 1)) (true ∷ window (t + 1) ts) (omega (arith, ltb-true k t e)))
-    by false e true f same = sym (skip_at-clear_before-higher (k - s) (t - s) 0 (true ∷ window (t + 1) ts) (omega (arith, eqb-true k t f)) ∙ ap (clear_before (t - s)) (skip_at-first true (window (t + 1) ts)))
+    by : (p : Bool) → nat_lt k t ≡ p → (q : Bool) → eqb k t ≡ q
+        → (t + 1 ≤ k → window (t + 1) (insert_key nat_cmp ts k) ≡ skip_at (k - (t + 1)) (window (t + 1) ts))
+        → window s (match_ordering (cond p Less (cond q Equal Greater)) (k ∷ t ∷ ts) (t ∷ ts) (t ∷ insert_key nat_cmp ts k)) ≡ skip_at
+        (k - s) (clear_before (t - s) (true ∷ window (t + 1) ts))
+    by true e q f same =
+        sym (skip_at-clear_before-lower (k - s) (t - s) (t - (k + 1)) (true ∷ window (t + 1) ts) (omega (arith, ltb-true k t e)))
+    by false e true f same =
+        sym (skip_at-clear_before-higher (k - s) (t - s) 0 (true ∷ window (t + 1) ts) (omega (arith, eqb-true k t f))
+        ∙ ap (clear_before (t - s)) (skip_at-first true (window (t + 1) ts)))
     by false e false f same =
         ap (λ ys. clear_before (t - s) (true ∷ ys)) (same (omega (arith, ltb-false k t e, eqb-false k t f)))
         ∙ sym (skip_at-clear_before-higher (k - s) (t - s) (k - t) (true ∷ window (t + 1) ts) (omega (arith, ltb-false k t e, h.0))
-        ∙ ap (clear_before (t - s)) (skip_at-later (k - (t + 1)) (k - t) true (window (t + 1) ts) (omega (arith, ltb-false k t e, eqb-false k t f))))
+        ∙ ap (clear_before (t - s))
+        (skip_at-later (k - (t + 1)) (k - t) true (window (t + 1) ts) (omega (arith, ltb-false k t e, eqb-false k t f))))
 
 -- a skip of a later TID is an insertion
 pub skipped-insert_key : (s k : ℕ) (ts : List ℕ) → Rises (s + 1) ts → s < k
-    → skipped k (record { serving = s; skips = window (s + 1) ts }) ≡ record { serving = s; skips = window (s + 1) (insert_key nat_cmp ts k) }
+    → skipped k (record { serving = s; skips = window (s + 1) ts })
+    ≡ record { serving = s; skips = window (s + 1) (insert_key nat_cmp ts k) }
 skipped-insert_key s k ts h a =
     let e : k - s - 1 ≡ k - (s + 1) = omega arith in
     skipped-higher k (record { serving = s; skips = window (s + 1) ts }) a
-    ∙ ap (λ xs. record { serving = s; skips = xs }) (ap (λ j. skip_at j (window (s + 1) ts)) e ∙ sym (window-insert_key (s + 1) k ts h (omega arith)))
+    ∙ ap (λ xs. record { serving = s; skips = xs })
+    (ap (λ j. skip_at j (window (s + 1) ts)) e ∙ sym (window-insert_key (s + 1) k ts h (omega arith)))
 
 -- all flags are of TIDs that can be skipped
 length-clear_before : (n : ℕ) (xs : List Bool) → length (clear_before n xs) ≡ n + length xs

@@ -9,11 +9,14 @@ use Rattle.spec_cache.specs.declared.frame.Change.TheVariants.{RollBack, ClearRe
 use Rattle.spec_cache.specs.Change.{all_changed}
 use Rattle.spec_cache.proofs.MapsAll.{maps-rolled_back, maps-read_cleared, maps-committed}
 use Rattle.spec_cache.specs.declared.frame.FrameView.{FrameView}
-use Rattle.spec_cache.specs.Frame.{value_in, modified_in, dirty_in, IsWay, IsFrame, marked_frame, stored_frame, filled_frame, invalidated_frame, cleaned_frame, dropped_frame}
+use Rattle.spec_cache.specs.Frame.{value_in, modified_in, dirty_in, IsWay, IsFrame, marked_frame, stored_frame, filled_frame}
+use Rattle.spec_cache.specs.Frame.{invalidated_frame, cleaned_frame, dropped_frame}
 use Rattle.spec_cache.specs.Held.{Held, IsHeld, FitsWay, IsWayOf, frame_of, maps}
-use Rattle.spec_cache.proofs.FrameKept.{IsFrame-marked, IsFrame-stored, IsFrame-filled, IsFrame-invalidated, IsFrame-cleaned, IsFrame-dropped}
+use Rattle.spec_cache.proofs.FrameKept.{IsFrame-marked, IsFrame-stored, IsFrame-filled, IsFrame-invalidated, IsFrame-cleaned}
+use Rattle.spec_cache.proofs.FrameKept.{IsFrame-dropped}
 use Rattle.spec_cache.proofs.FrameFound.{frame_of-way, frame_of-changed}
-use Rattle.spec_cache.proofs.MapsChanged.{same_cache, maps-marked, maps-stored, maps-filled, maps-invalidated, maps-cleaned, maps-dropped, line_dropped, words_dropped-line}
+use Rattle.spec_cache.proofs.MapsChanged.{same_cache, maps-marked, maps-stored, maps-filled, maps-invalidated, maps-cleaned, maps-dropped}
+use Rattle.spec_cache.proofs.MapsChanged.{line_dropped, words_dropped-line}
 use Rattle.spec_cache.proofs.HeldKept.{FitsWay-changed}
 
 -- the cache with another frame at a place
@@ -42,7 +45,8 @@ module _ (h : Held) (s : IsHeld h) (l : ℕ) (p : ℕ × FrameView) (w : IsWayOf
     cleaned_maps q = rw (e, q) (maps-cleaned h s p.0 p.1 w.here ∙ ap (λ x. cleaned x (maps h)) w.line)
 
     pub dropped_maps : (m : ℕ) → f ≡ dropped_frame m p.1 → maps n ≡ words_dropped (spill l m [] none_spilled) (maps h)
-    dropped_maps m q = rw (e, q) (maps-dropped h s p.0 p.1 w.here m ∙ ap (λ x. line_dropped x m (maps h)) w.line ∙ sym (words_dropped-line l m (maps h)))
+    dropped_maps m q =
+        rw (e, q) (maps-dropped h s p.0 p.1 w.here m ∙ ap (λ x. line_dropped x m (maps h)) w.line ∙ sym (words_dropped-line l m (maps h)))
 
     module _ (v : ℕ) (line : l ≡ line_of v) where
       pub marked_maps : f ≡ marked_frame (place_of v) p.1 → maps n ≡ marked v (maps h)
@@ -117,5 +121,6 @@ module _ (h : Held) (s : IsHeld h) where
   pub all_read_cleared : (n : Held) → n ≡ record h { frames = all_changed ClearRead h.frames } → maps n ≡ read_cleared (maps h)
   all_read_cleared n e = rw e (maps-read_cleared h)
 
-  pub all_committed : (t : ℕ) (n : Held) → n ≡ record h { frames = all_changed (Commit (record { 0 = t })) h.frames } → maps n ≡ committed t (maps h)
+  pub all_committed : (t : ℕ) (n : Held) → n ≡ record h { frames = all_changed (Commit (record { 0 = t })) h.frames }
+      → maps n ≡ committed t (maps h)
   all_committed t n e = rw e (maps-committed h s t)

@@ -1,5 +1,6 @@
 -- The maps of a cache fit together: the ways and the lines, and the marks of a line.
-use Rattle.std.proofs.Common.{ℕ, zero, suc, ◌+◌, ◌*◌, ◌/◌, ◌%◌, ◌<◌, ◌≡◌, ◌≢◌, Bool, true, false, cond, List, [], ◌∷◌, length, get_or, Option, Some, None, is_some, nat_lt, refl, sym, ◌∙◌, ap, subst, arith}
+use Rattle.std.proofs.Common.{ℕ, zero, suc, ◌+◌, ◌*◌, ◌/◌, ◌%◌, ◌<◌, ◌≡◌, ◌≢◌, Bool, true, false, cond, List, [], ◌∷◌, length, get_or}
+use Rattle.std.proofs.Common.{Option, Some, None, is_some, nat_lt, refl, sym, ◌∙◌, ap, subst, arith}
 use Rattle.std.proofs.lemmas.Bool.{false≢true, ltb-true, eqb-true}
 use Rattle.std.proofs.lemmas.Nat.{div_below, div-mul-add}
 use Rattle.tcc_maps.specs.Words.{line_of, place_of}
@@ -43,15 +44,18 @@ is_some-cond : (b : Bool) (x : ℕ) → is_some (cond b (Some x) None) ≡ b
 is_some-cond true x = refl
 is_some-cond false x = refl
 
-modified_is_valid : (o : Option FrameView) (s : (f : FrameView) → o ≡ Some f → IsFrame f) (k : ℕ) → modified_in o k ≡ true → is_some (value_in o k) ≡ true
+modified_is_valid : (o : Option FrameView) (s : (f : FrameView) → o ≡ Some f → IsFrame f) (k : ℕ) → modified_in o k ≡ true
+    → is_some (value_in o k) ≡ true
 unfolding modified_in value_in
 modified_is_valid None s k e = absurd (false≢true e)
 modified_is_valid (Some f) s k e = is_some-cond (has f.valid.0 k) (get_or f.words k 0) ∙ (s f refl).modified_valid k e
 
-dirty_is_valid : (o : Option FrameView) (s : (f : FrameView) → o ≡ Some f → IsFrame f) (k : ℕ) → is_some (dirty_in o k) ≡ true → is_some (value_in o k) ≡ true
+dirty_is_valid : (o : Option FrameView) (s : (f : FrameView) → o ≡ Some f → IsFrame f) (k : ℕ) → is_some (dirty_in o k) ≡ true
+    → is_some (value_in o k) ≡ true
 unfolding dirty_in value_in
 dirty_is_valid None s k e = absurd (false≢true e)
-dirty_is_valid (Some f) s k e = is_some-cond (has f.valid.0 k) (get_or f.words k 0) ∙ (s f refl).dirty_valid k (sym (is_some-cond (has f.dirty.0 k) f.tag.0) ∙ e)
+dirty_is_valid (Some f) s k e = is_some-cond (has f.valid.0 k) (get_or f.words k 0)
+    ∙ (s f refl).dirty_valid k (sym (is_some-cond (has f.dirty.0 k) f.tag.0) ∙ e)
 
 not_either : (o : Option FrameView) (s : (f : FrameView) → o ≡ Some f → IsFrame f) (j k : ℕ) → modified_in o j ≡ true → dirty_in o k ≡ None
 unfolding modified_in dirty_in
@@ -80,7 +84,8 @@ some-within (o ∷ os) (suc i) f e = let b = some-within os i f e in omega (arit
 
 module _ (h : Held) (s : IsHeld h) where
   -- what stands at a set and way
-  pub way_of : (t y l : ℕ) → (maps h).at t y ≡ Some l → (y < h.config.ways) × ((f : FrameView) × (get_or h.frames (t * h.config.ways + y) None ≡ Some f) × (f.line.0 ≡ l))
+  pub way_of : (t y l : ℕ) → (maps h).at t y ≡ Some l
+      → (y < h.config.ways) × ((f : FrameView) × (get_or h.frames (t * h.config.ways + y) None ≡ Some f) × (f.line.0 ≡ l))
   unfolding maps frame_at
   way_of t y l e = go (nat_lt y h.config.ways) refl e
     where
@@ -102,25 +107,34 @@ module _ (h : Held) (s : IsHeld h) where
       let positive : 0 < h.config.ways = s.allowed.3.0 in
       let set : l % h.config.sets ≡ i / h.config.ways = sym (ap (λ x. x % h.config.sets) line) ∙ s.placed i f r.1 in
       let below : i % h.config.ways < h.config.ways = omega (arith, positive) in
-      let place : l % h.config.sets * h.config.ways + i % h.config.ways ≡ i = ap (λ x. x * h.config.ways + i % h.config.ways) set ∙ omega (arith, positive) in
+      let place : l % h.config.sets * h.config.ways + i % h.config.ways ≡ i = ap (λ x. x * h.config.ways + i % h.config.ways) set
+      ∙ omega (arith, positive) in
       (i % h.config.ways, at_way h (set_of h.config l) (i % h.config.ways) below ∙ (rw (place, r.1) (ap Some line)))
 
   pub IsCache-maps : IsCache h.config (maps h)
   IsCache-maps = record {
     placed = λ t y l e.
         (let r = way_of t y l e in
-        let p : l % h.config.sets ≡ (t * h.config.ways + y) / h.config.ways = sym (ap (λ x. x % h.config.sets) r.1.2) ∙ s.placed (t * h.config.ways + y) r.1.0 r.1.1 in
-        (sym (p ∙ div-mul-add t h.config.ways y r.0), r.0, subst (λ (x : ℕ). (maps h).held x ≡ true) r.1.2 (held_way r.1.0 (t * h.config.ways + y) r.1.1)));
+        let p : l % h.config.sets ≡ (t * h.config.ways + y) / h.config.ways = sym (ap (λ x. x % h.config.sets) r.1.2)
+        ∙ s.placed (t * h.config.ways + y) r.1.0 r.1.1 in (
+          sym (p ∙ div-mul-add t h.config.ways y r.0),
+          r.0,
+          subst (λ (x : ℕ). (maps h).held x ≡ true) r.1.2
+              (held_way r.1.0 (t * h.config.ways + y) r.1.1),
+        ));
     held = λ l e. let r = is_some-some (frame_of h.frames l) (unfold maps in e) in at_line l r.0 r.1;
     once = λ t y z l e d.
         (let r = way_of t y l e in let q = way_of t z l d in
-        (same_place h.config.ways t y t z r.0 q.0 (s.once (t * h.config.ways + y) (t * h.config.ways + z) r.1.0 q.1.0 r.1.1 q.1.1 (r.1.2 ∙ sym q.1.2))).1);
+        (same_place h.config.ways t y t z r.0 q.0
+        (s.once (t * h.config.ways + y) (t * h.config.ways + z) r.1.0 q.1.0 r.1.1 q.1.1 (r.1.2 ∙ sym q.1.2))).1);
     valued = λ w e. unfold maps in value_none (frame_of h.frames (line_of w)) (frame_found h s (line_of w)) (place_of w) e;
     unread = λ w e. unfold maps in read_none (frame_of h.frames (line_of w)) (frame_found h s (line_of w)) (place_of w) e;
     modified = λ w e. unfold maps in modified_is_valid (frame_of h.frames (line_of w)) (frame_found h s (line_of w)) (place_of w) e;
     dirty = λ w e. unfold maps in dirty_is_valid (frame_of h.frames (line_of w)) (frame_found h s (line_of w)) (place_of w) e;
-    either = λ v w e m. unfold maps in not_either (frame_of h.frames (line_of w)) (frame_found h s (line_of w)) (place_of v) (place_of w) (subst (λ (x : ℕ). modified_in (frame_of h.frames x) (place_of v) ≡ true) e m);
-    one_tag = λ v w t u e m n. unfold maps in same_tag (frame_of h.frames (line_of w)) (place_of v) (place_of w) t u (subst (λ (x : ℕ). dirty_in (frame_of h.frames x) (place_of v) ≡ Some t) e m) n;
+    either = λ v w e m. unfold maps in not_either (frame_of h.frames (line_of w)) (frame_found h s (line_of w)) (place_of v) (place_of w)
+        (subst (λ (x : ℕ). modified_in (frame_of h.frames x) (place_of v) ≡ true) e m);
+    one_tag = λ v w t u e m n. unfold maps in same_tag (frame_of h.frames (line_of w)) (place_of v) (place_of w) t u
+        (subst (λ (x : ℕ). dirty_in (frame_of h.frames x) (place_of v) ≡ Some t) e m) n;
   }
 
   -- there is no such set, or no such way

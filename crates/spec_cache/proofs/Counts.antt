@@ -1,5 +1,6 @@
 -- What the readers of a cache answer: single frames, and ways counted by what they hold.
-use Rattle.std.proofs.Common.{ℕ, zero, suc, ◌+◌, ◌*◌, ◌/◌, ◌%◌, ◌<◌, ◌≡◌, Bool, true, false, not, cond, ◌&&◌, ◌||◌, length, get_or, Option, Some, None, is_some, nat_eq, refl, sym, ◌∙◌, ap, subst, arith, add-one}
+use Rattle.std.proofs.Common.{ℕ, zero, suc, ◌+◌, ◌*◌, ◌/◌, ◌%◌, ◌<◌, ◌≡◌, Bool, true, false, not, cond, ◌&&◌, ◌||◌, length, get_or, Option}
+use Rattle.std.proofs.Common.{Some, None, is_some, nat_eq, refl, sym, ◌∙◌, ap, subst, arith, add-one}
 use Rattle.std.specs.Option.{MatchOption}
 use Rattle.std.proofs.lemmas.Bool.{eqb-true}
 use Rattle.std.proofs.Math.Bool.{and-false}
@@ -34,7 +35,8 @@ module _ (p : ℕ → Bool) (i n : ℕ) (counted : n ≡ count_below p i) where
 
 -- ---- one line, one way
 
-pub held_as_found : (h : Held) (s : IsHeld h) (l : ℕ) (o : Option (ℕ × FrameView)) → MatchOption o (frame_of h.frames l ≡ None) (λ p. IsWayOf h l p) →
+pub held_as_found : (h : Held) (s : IsHeld h) (l : ℕ) (o : Option (ℕ × FrameView))
+    → MatchOption o (frame_of h.frames l ≡ None) (λ p. IsWayOf h l p) →
     (b : Bool) → b ≡ is_some o → b ≡ (maps h).held l
 held_as_found h s l None m b e = e ∙ sym (not_held h l m)
 held_as_found h s l (Some p) m b e = e ∙ sym (is_held h s l p m)
@@ -46,7 +48,8 @@ modified_none h l w q absent = rw (subst (λ (x : ℕ). frame_of h.frames x ≡ 
 pub modified_here : (h : Held) (s : IsHeld h) (l : ℕ) (p : ℕ × FrameView) (k : IsWayOf h l p) (w : ℕ) → l ≡ line_of w →
     (i : ℕ) → i ≡ place_of w → (b : Bool) → b ≡ has p.1.modified.0 i → b ≡ (maps h).modified w
 unfolding maps modified_in
-modified_here h s l p k w q i e b r = rw (subst (λ (x : ℕ). frame_of h.frames x ≡ Some p.1) q (found_line h s l p k)) (r ∙ ap (has p.1.modified.0) e)
+modified_here h s l p k w q i e b r = rw (subst (λ (x : ℕ). frame_of h.frames x ≡ Some p.1) q (found_line h s l p k))
+    (r ∙ ap (has p.1.modified.0) e)
 
 pub keeps_here : (h : Held) (s : IsHeld h) (l : ℕ) (p : ℕ × FrameView) (k : IsWayOf h l p) → not (nat_eq p.1.valid.0 0) ≡ keeps (maps h) l
 keeps_here h s l p k = sym (keeps-frame h l p.1 (found_line h s l p k) (frame_here h s l p k))
@@ -62,7 +65,8 @@ module _ (h : Held) (t y : ℕ) (way : y < h.config.ways) (i : ℕ) (place : i �
   pub way_here : (s : IsHeld h) (f : FrameView) → Some f ≡ get_or h.frames i None → (b : Bool) → b ≡ is_marked_frame f →
       ((maps h).at t y ≡ Some f.line.0) × (b ≡ is_marked (maps h) f.line.0)
   unfolding line_in IsWay
-  way_here s f e b m = ((rw (at_place, ← e) refl), m ∙ sym (is_marked-frame h f.line.0 f (frame_of-way h s i f (sym e)) (rw (sym e) at (s.frame i))))
+  way_here s f e b m =
+      ((rw (at_place, ← e) refl), m ∙ sym (is_marked-frame h f.line.0 f (frame_of-way h s i f (sym e)) (rw (sym e) at (s.frame i))))
 
 -- ---- a line's words, read off its frame or where it has none
 
@@ -79,7 +83,8 @@ module _ (h : Held) (s : IsHeld h) where
   unfolding IsWay holds_line
   frame_in l f e = let r = frame_of-found h.frames l f e in ((rw r.1 at (s.frame r.0)), eqb-true f.line.0 l r.2)
 
-  pub modified-frame : (l : ℕ) (f : FrameView) → frame_of h.frames l ≡ Some f → IsFrame f → is_modified (maps h) l ≡ not (nat_eq f.modified.0 0)
+  pub modified-frame : (l : ℕ) (f : FrameView) → frame_of h.frames l ≡ Some f → IsFrame f
+      → is_modified (maps h) l ≡ not (nat_eq f.modified.0 0)
   unfolding is_modified any_word
   modified-frame l f e k = any_below-same _ (has f.modified.0) 8 (modified-at h l f e) ∙ any-has f.modified.0 k.modified_fits
 
@@ -97,7 +102,8 @@ module _ (h : Held) (s : IsHeld h) where
   chosen true x = refl
   chosen false x = refl
 
-  line_writes : (d l : ℕ) (o : Option FrameView) → frame_of h.frames l ≡ o → writes_in h.config.dirs d o ≡ (nat_eq d (l % h.config.dirs) && is_modified (maps h) l)
+  line_writes : (d l : ℕ) (o : Option FrameView) → frame_of h.frames l ≡ o
+      → writes_in h.config.dirs d o ≡ (nat_eq d (l % h.config.dirs) && is_modified (maps h) l)
   unfolding written_in
   line_writes d l None e = rw (unmodified l e) (sym (and-false (nat_eq d (l % h.config.dirs))))
   line_writes d l (Some f) e =
@@ -123,10 +129,12 @@ module _ (h : Held) (s : IsHeld h) where
   unfolding dirty_way
   dirty_none = refl
 
-  pub dirty_counted : (n : ℕ) → n ≡ count_below (λ i. dirty_way (get_or h.frames i None)) (length h.frames) → not (nat_eq n 0) ≡ any_below (is_dirty (maps h)) (lines h.config)
+  pub dirty_counted : (n : ℕ) → n ≡ count_below (λ i. dirty_way (get_or h.frames i None)) (length h.frames)
+      → not (nat_eq n 0) ≡ any_below (is_dirty (maps h)) (lines h.config)
   dirty_counted n e =
       let all : n ≡ count_below (is_dirty (maps h)) (lines h.config) =
-      e ∙ lines_counted dirty_way dirty_none (lines h.config) h.frames s.once s.exists ∙ count_below-same _ _ (lines h.config) (λ l b. line_dirty l (frame_of h.frames l) refl) in
+      e ∙ lines_counted dirty_way dirty_none (lines h.config) h.frames s.once s.exists ∙ count_below-same _ _ (lines h.config)
+      (λ l b. line_dirty l (frame_of h.frames l) refl) in
       ap (λ x. not (nat_eq x 0)) all ∙ sym (any_below-count (is_dirty (maps h)) (lines h.config))
 
   -- ---- the useful ways
@@ -141,14 +149,16 @@ module _ (h : Held) (s : IsHeld h) where
   may false false false true false z = refl
   may false false false false y z = refl
 
-  useful-in : (q : Wants) (t : ℕ) (o : Option FrameView) (i : ℕ) → get_or h.frames i None ≡ o → is_useful_way q (maps h) t (line_in o) ≡ useful_in q t o
+  useful-in : (q : Wants) (t : ℕ) (o : Option FrameView) (i : ℕ) → get_or h.frames i None ≡ o
+      → is_useful_way q (maps h) t (line_in o) ≡ useful_in q t o
   unfolding is_useful_way useful_in line_in IsWay
   useful-in q t None i e = refl
   useful-in q t (Some f) i e =
       let found = frame_of-way h s i f e in
       let k : IsFrame f = rw e at (s.frame i) in
       rw (modified-frame f.line.0 f found k, is_dirty-frame h f.line.0 f found k, is_marked-frame h f.line.0 f found k)
-      (sym (may (is_number q.awaited f.line.0) q.alone (is_marked_frame f) (nat_eq f.modified.0 0) (nat_eq f.dirty.0 0) (is_number q.room t)))
+      (sym (may (is_number q.awaited f.line.0) q.alone (is_marked_frame f) (nat_eq f.modified.0 0) (nat_eq f.dirty.0 0)
+      (is_number q.room t)))
 
   useful-here : (q : Wants) (i : ℕ) → useful_at h.config q (maps h) i ≡ useful_in q (i / h.config.ways) (get_or h.frames i None)
   unfolding useful_at
@@ -156,14 +166,18 @@ module _ (h : Held) (s : IsHeld h) where
       let positive : 0 < h.config.ways = s.allowed.3.0 in
       let below : i % h.config.ways < h.config.ways = omega (arith, positive) in
       let place : i / h.config.ways * h.config.ways + i % h.config.ways ≡ i = omega (arith, positive) in
-      ap (is_useful_way q (maps h) (i / h.config.ways)) (at_way h (i / h.config.ways) (i % h.config.ways) below ∙ ap (λ x. line_in (get_or h.frames x None)) place)
+      ap (is_useful_way q (maps h) (i / h.config.ways))
+      (at_way h (i / h.config.ways) (i % h.config.ways) below ∙ ap (λ x. line_in (get_or h.frames x None)) place)
       ∙ useful-in q (i / h.config.ways) (get_or h.frames i None) i refl
 
-  pub useful_counted : (q : Wants) → length (useful_ways h.config q (maps h)) ≡ count_below (λ i. useful_in q (i / h.config.ways) (get_or h.frames i None)) (h.config.sets * h.config.ways)
+  pub useful_counted : (q : Wants)
+      → length (useful_ways h.config q (maps h)) ≡ count_below (λ i. useful_in q (i / h.config.ways) (get_or h.frames i None))
+      (h.config.sets * h.config.ways)
   unfolding useful_ways
   useful_counted q = length-those _ _ ∙ count_below-same _ _ (h.config.sets * h.config.ways) (λ i b. useful-here q i)
 
-  module _ (q : Wants) (i k : ℕ) (inside : i < h.config.sets * h.config.ways) (here : useful_in q (i / h.config.ways) (get_or h.frames i None) ≡ true)
+  module _ (q : Wants) (i k : ℕ) (inside : i < h.config.sets * h.config.ways)
+      (here : useful_in q (i / h.config.ways) (get_or h.frames i None) ≡ true)
       (before : count_below (λ j. useful_in q (j / h.config.ways) (get_or h.frames j None)) i ≡ k) where
     passed : count_below (useful_at h.config q (maps h)) i ≡ k
     passed = count_below-same _ _ i (λ j b. useful-here q j) ∙ before
@@ -179,6 +193,8 @@ module _ (h : Held) (s : IsHeld h) where
         let b = length-those (useful_at h.config q (maps h)) (h.config.sets * h.config.ways) in
         omega (arith, a, b, passed)
 
-pub writes-count : (h : Held) (d : ℕ) → writes_at h.config (maps h) d ≡ not (nat_eq (count_below (λ l. nat_eq d (l % h.config.dirs) && is_modified (maps h) l) (lines h.config)) 0)
+pub writes-count : (h : Held) (d : ℕ)
+    → writes_at h.config (maps h) d ≡ not
+    (nat_eq (count_below (λ l. nat_eq d (l % h.config.dirs) && is_modified (maps h) l) (lines h.config)) 0)
 unfolding writes_at
 writes-count h d = any_below-count (λ l. nat_eq d (l % h.config.dirs) && is_modified (maps h) l) (lines h.config)

@@ -1,5 +1,7 @@
 -- What both forms of the frames show: their ways are in order at the start, after a change, and a search finds a line.
-use Rattle.std.proofs.Common.{ℕ, suc, zero, ◌+◌, ◌*◌, ◌/◌, ◌%◌, ◌<◌, ◌≤◌, ◌≡◌, ◌≢◌, Bool, true, false, not, cond, ◌⊎◌, inl, inr, List, [], ◌∷◌, ◌++◌, length, get_or, set, take, drop, map, replicate, Option, Some, None, is_some, refl, sym, ◌∙◌, ap, subst, arith, length-drop}
+use Rattle.std.proofs.Common.{ℕ, suc, zero, ◌+◌, ◌*◌, ◌/◌, ◌%◌, ◌<◌, ◌≤◌, ◌≡◌, ◌≢◌, Bool, true, false, not, cond, ◌⊎◌, inl, inr, List, []}
+use Rattle.std.proofs.Common.{◌∷◌, ◌++◌, length, get_or, set, take, drop, map, replicate, Option, Some, None, is_some, refl, sym, ◌∙◌, ap}
+use Rattle.std.proofs.Common.{subst, arith, length-drop}
 use Rattle.std.specs.Option.{option_map, MatchOption}
 use Rattle.std.proofs.lemmas.Bool.{cases_Bool}
 use Rattle.std.proofs.lemmas.List.{length-map, length-replicate, take-append-le, take_all}
@@ -60,7 +62,12 @@ IsHeld-empty s a = record {
 
 frame_at-none : (s : Settings) (n t y : ℕ) → frame_at (record { config = s; frames = replicate n None }) t y ≡ None
 unfolding frame_at
-frame_at-none s n t y = rw (get_or-none n (t * s.ways + y)) (elim (Rattle.std.proofs.Common.nat_lt y s.ways) as (λ b. cond {A = Option FrameView} b None None ≡ None) [ true ↦ refl | false ↦ refl ])
+frame_at-none s n t y =
+    rw (get_or-none n (t * s.ways + y))
+    (elim (Rattle.std.proofs.Common.nat_lt y s.ways) as (λ b. cond {A = Option FrameView} b None None ≡ None) [
+      | true ↦ refl
+      | false ↦ refl
+    ])
 
 pub maps-empty : (s : Settings) (n : ℕ) → maps (record { config = s; frames = replicate n None }) ≡ empty_cache
 unfolding maps empty_cache value_in read_in modified_in dirty_in line_in
@@ -75,13 +82,15 @@ maps-empty s n = same_cache _ _
 -- ---- a slice of all of a vector written back
 
 pub written_back : {A : Type 0} (xs ys : List A) (n : ℕ) → length xs ≡ length ys → n ≡ length ys → take n (xs ++ drop (length xs) ys) ≡ xs
-written_back xs ys n l e = rw (e, ← l) (take-append-le (length xs) xs (drop (length xs) ys) (omega arith) ∙ take_all (length xs) xs (omega arith))
+written_back xs ys n l e =
+    rw (e, ← l) (take-append-le (length xs) xs (drop (length xs) ys) (omega arith) ∙ take_all (length xs) xs (omega arith))
 
 -- ---- a search
 
 module _ (h : Held) (s : IsHeld h) (l : ℕ) where
   -- a line is held in its set alone
-  pub absent_set : (first : ℕ) → first ≡ l % h.config.sets * h.config.ways → ((j : ℕ) → first ≤ j → j < first + h.config.ways → holds_line l (get_or h.frames j None) ≡ false) → frame_of h.frames l ≡ None
+  pub absent_set : (first : ℕ) → first ≡ l % h.config.sets * h.config.ways
+      → ((j : ℕ) → first ≤ j → j < first + h.config.ways → holds_line l (get_or h.frames j None) ≡ false) → frame_of h.frames l ≡ None
   absent_set first e none = frame_of-absent h.frames l (λ j. elim (cases_Bool (holds_line l (get_or h.frames j None))) [
     | inr n ↦ n
     | inl t ↦ (let r = holds_line-true (get_or h.frames j None) l t in
@@ -97,20 +106,23 @@ module _ (h : Held) (s : IsHeld h) (l : ℕ) where
 
   -- what a search in the line's set finds
   pub found_set : (first : ℕ) → first ≡ l % h.config.sets * h.config.ways → (o : Option (ℕ × FrameView)) →
-      MatchOption o ((j : ℕ) → first ≤ j → j < first + h.config.ways → holds_line l (get_or h.frames j None) ≡ false) (λ p. (get_or h.frames p.0 None ≡ Some p.1) × (p.1.line.0 ≡ l)) →
+      MatchOption o ((j : ℕ) → first ≤ j → j < first + h.config.ways → holds_line l (get_or h.frames j None) ≡ false)
+      (λ p. (get_or h.frames p.0 None ≡ Some p.1) × (p.1.line.0 ≡ l)) →
       MatchOption o (frame_of h.frames l ≡ None) (λ p. IsWayOf h l p)
   found_set first e None m = absent_set first e m
   found_set first e (Some p) m = found_here p.0 p.1 m.0 m.1
 
 -- no way of the list holds the line
-pub absent_all : (fs : List (Option FrameView)) (n l : ℕ) → length fs ≤ n → ((j : ℕ) → j < n → holds_line l (get_or fs j None) ≡ false) → frame_of fs l ≡ None
+pub absent_all : (fs : List (Option FrameView)) (n l : ℕ) → length fs ≤ n → ((j : ℕ) → j < n → holds_line l (get_or fs j None) ≡ false)
+    → frame_of fs l ≡ None
 absent_all fs n l past none = frame_of-absent fs l (λ j. elim (cases_Bool (holds_line l (get_or fs j None))) [
   | inr f ↦ f
   | inl t ↦ (let r = holds_line-true (get_or fs j None) l t in let b : j < length fs = some_within fs j r.0 r.1 in none j (omega arith))
 ])
 
 -- all ways, changed in a slice and written back
-pub changed_back : (c : Change) (now old items : List (Option FrameView)) (n : ℕ) → now ≡ all_changed c old → old ≡ items → n ≡ length items → take n (now ++ drop (length now) items) ≡ all_changed c items
+pub changed_back : (c : Change) (now old items : List (Option FrameView)) (n : ℕ) → now ≡ all_changed c old → old ≡ items → n ≡ length items
+    → take n (now ++ drop (length now) items) ≡ all_changed c items
 changed_back c now old items n e q l =
     let s : length now ≡ length items = rw (e, q) (length-map items (option_map (changed_frame c))) in
     written_back now items n s l ∙ (rw (e, q) refl)

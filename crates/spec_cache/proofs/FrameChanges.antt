@@ -1,9 +1,12 @@
 -- What each change of a frame does to each of its words, and that it leaves a frame.
-use Rattle.std.proofs.Common.{ℕ, ◌<◌, ◌≡◌, Bool, true, false, not, cond, ◌&&◌, ◌||◌, List, length, get_or, unwrap_or, Some, None, nat_eq, refl, sym, ap, get_or-set_same, get_or-set_other}
+use Rattle.std.proofs.Common.{ℕ, ◌<◌, ◌≡◌, Bool, true, false, not, cond, ◌&&◌, ◌||◌, List, length, get_or, unwrap_or, Some, None, nat_eq}
+use Rattle.std.proofs.Common.{refl, sym, ap, get_or-set_same, get_or-set_other}
 use Rattle.std.proofs.lemmas.Bool.{eqb-true, eqb-false}
 use Rattle.tcc_maps.specs.Masks.{has}
 use Rattle.spec_cache.specs.declared.frame.FrameView.{FrameView}
-use Rattle.spec_cache.specs.Frame.{value_in, read_in, modified_in, dirty_in, IsFrame, marked_frame, stored_frame, filled_up, filled_frame, invalidated_frame, cleaned_frame, dropped_frame, rolled_back_frame, read_cleared_frame, committed_frame, committed_modified}
+use Rattle.spec_cache.specs.Frame.{value_in, read_in, modified_in, dirty_in, IsFrame, marked_frame, stored_frame, filled_up, filled_frame}
+use Rattle.spec_cache.specs.Frame.{invalidated_frame, cleaned_frame, dropped_frame, rolled_back_frame, read_cleared_frame, committed_frame}
+use Rattle.spec_cache.specs.Frame.{committed_modified}
 use Rattle.spec_cache.proofs.MaskLaws.{has-join, has-minus, has-pow, has-zero, has-full}
 use Rattle.spec_cache.proofs.Eights.{get_or-eight}
 
@@ -19,7 +22,8 @@ minus_some false false x = refl
 pub value_in-invalidated : (m : ℕ) (f : FrameView) (k : ℕ) →
     value_in (Some (invalidated_frame m f)) k ≡ cond (has m k && not (modified_in (Some f) k)) None (value_in (Some f) k)
 unfolding value_in invalidated_frame modified_in
-value_in-invalidated m f k = rw (has-minus, has-minus) (minus_some (has f.valid.0 k) (has m k && not (has f.modified.0 k)) (get_or f.words k 0))
+value_in-invalidated m f k =
+    rw (has-minus, has-minus) (minus_some (has f.valid.0 k) (has m k && not (has f.modified.0 k)) (get_or f.words k 0))
 
 pub dirty_in-invalidated : (m : ℕ) (f : FrameView) (k : ℕ) →
     dirty_in (Some (invalidated_frame m f)) k ≡ cond (has m k && not (modified_in (Some f) k)) None (dirty_in (Some f) k)
@@ -45,7 +49,8 @@ pub read_in-marked : (j : ℕ) (f : FrameView) (k : ℕ) →
 unfolding read_in marked_frame modified_in
 read_in-marked j f k = rw (has-join, has-minus, has-pow) (flip_some (has f.read.0 k) (nat_eq j k) (has f.modified.0 k))
 
-value_stored : (a b : Bool) (x y z : ℕ) → (b ≡ true → x ≡ y) → (b ≡ false → x ≡ z) → cond (a || b) (Some x) None ≡ cond b (Some y) (cond a (Some z) None)
+value_stored : (a b : Bool) (x y z : ℕ) → (b ≡ true → x ≡ y) → (b ≡ false → x ≡ z)
+    → cond (a || b) (Some x) None ≡ cond b (Some y) (cond a (Some z) None)
 value_stored true true x y z p q = ap Some (p refl)
 value_stored true false x y z p q = ap Some (q refl)
 value_stored false true x y z p q = ap Some (p refl)

@@ -1,5 +1,6 @@
 -- In a cache's list of ways each line stands once: its frame before and after a change of one way.
-use Rattle.std.proofs.Common.{ℕ, suc, zero, ◌<◌, ◌≡◌, ◌≢◌, true, false, cond, inl, inr, List, [], ◌∷◌, length, get_or, set, Option, Some, None, nat_eq, refl, sym, ◌∙◌, subst, arith, get_or-set_same, get_or-set_other}
+use Rattle.std.proofs.Common.{ℕ, suc, zero, ◌<◌, ◌≡◌, ◌≢◌, true, false, cond, inl, inr, List, [], ◌∷◌, length, get_or, set, Option, Some}
+use Rattle.std.proofs.Common.{None, nat_eq, refl, sym, ◌∙◌, subst, arith, get_or-set_same, get_or-set_other}
 use Rattle.std.proofs.lemmas.Bool.{false≢true, cases_eq, eq-eqb, ne_eqb, eqb-true, cases_Bool}
 use Rattle.spec_cache.specs.declared.frame.FrameView.{FrameView}
 use Rattle.spec_cache.specs.Frame.{holds_line}
@@ -30,7 +31,8 @@ some_within (o ∷ os) (suc i) f h = let r = some_within os i f h in omega arith
 
 module _ (h : Held) (s : IsHeld h) where
   -- a way that holds the line, where one is known
-  pub only_way : (i : ℕ) (f : FrameView) → get_or h.frames i None ≡ Some f → (j : ℕ) → holds_line f.line.0 (get_or h.frames j None) ≡ true → j ≡ i
+  pub only_way : (i : ℕ) (f : FrameView) → get_or h.frames i None ≡ Some f → (j : ℕ) → holds_line f.line.0 (get_or h.frames j None) ≡ true
+      → j ≡ i
   only_way i f p j t = let r = holds_line-true (get_or h.frames j None) f.line.0 t in s.once j i r.0 f r.1 p r.2
 
   pub frame_of-way : (i : ℕ) (f : FrameView) → get_or h.frames i None ≡ Some f → frame_of h.frames f.line.0 ≡ Some f
@@ -60,7 +62,8 @@ module _ (h : Held) (s : IsHeld h) where
     | inr n ↦ elsewhere i None l only j n
   ])
 
-  frame_of-set_some : (i l : ℕ) (g : FrameView) → i < length h.frames → g.line.0 ≡ l → ((j : ℕ) → holds_line l (get_or h.frames j None) ≡ true → j ≡ i) →
+  frame_of-set_some : (i l : ℕ) (g : FrameView) → i < length h.frames → g.line.0 ≡ l
+      → ((j : ℕ) → holds_line l (get_or h.frames j None) ≡ true → j ≡ i) →
       frame_of (set h.frames i (Some g)) l ≡ Some g
   frame_of-set_some i l g inside e only =
       let here : get_or (set h.frames i (Some g)) i None ≡ Some g = get_or-set_same h.frames i (Some g) None inside in
@@ -74,7 +77,8 @@ module _ (h : Held) (s : IsHeld h) where
       (l : ℕ) → frame_of (set h.frames i (Some g)) l ≡ cond (nat_eq f.line.0 l) (Some g) (frame_of h.frames l)
   frame_of-changed i f g p e l = elim (cases_eq f.line.0 l) [
     | inl q ↦ rw (eq-eqb f.line.0 l q) (rw (← q) (frame_of-set_some i f.line.0 g (some_within h.frames i f p) e (only_way i f p)))
-    | inr n ↦ rw (ne_eqb f.line.0 l n) (frame_of-set_other h.frames i (Some g) l (rw p (holds_line-other f l n)) (holds_line-other g l (λ q. n (sym e ∙ q))))
+    | inr n ↦ rw (ne_eqb f.line.0 l n)
+        (frame_of-set_other h.frames i (Some g) l (rw p (holds_line-other f l n)) (holds_line-other g l (λ q. n (sym e ∙ q))))
   ]
 
   -- way i is emptied
@@ -89,6 +93,7 @@ module _ (h : Held) (s : IsHeld h) where
   pub frame_of-placed : (i : ℕ) (g : FrameView) → i < length h.frames → get_or h.frames i None ≡ None → frame_of h.frames g.line.0 ≡ None →
       (l : ℕ) → frame_of (set h.frames i (Some g)) l ≡ cond (nat_eq g.line.0 l) (Some g) (frame_of h.frames l)
   frame_of-placed i g inside p none l = elim (cases_eq g.line.0 l) [
-    | inl q ↦ rw (eq-eqb g.line.0 l q) (rw (← q) (frame_of-set_some i g.line.0 g inside refl (λ j t. absurd (false≢true (sym (frame_of-none g.line.0 j none) ∙ t)))))
+    | inl q ↦ rw (eq-eqb g.line.0 l q)
+        (rw (← q) (frame_of-set_some i g.line.0 g inside refl (λ j t. absurd (false≢true (sym (frame_of-none g.line.0 j none) ∙ t)))))
     | inr n ↦ rw (ne_eqb g.line.0 l n) (frame_of-set_other h.frames i (Some g) l (rw p (holds_line-none l)) (holds_line-other g l n))
   ]

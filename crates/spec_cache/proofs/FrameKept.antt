@@ -1,12 +1,14 @@
 -- Each change of a frame leaves a frame.
-use Rattle.std.proofs.Common.{ℕ, ◌/◌, ◌^◌, ◌<◌, ◌≤◌, ◌≡◌, Bool, true, false, not, cond, ◌&&◌, ◌||◌, inl, inr, List, nat_eq, bit_and, refl, sym, ◌∙◌, arith, length-set, lit<}
+use Rattle.std.proofs.Common.{ℕ, ◌/◌, ◌^◌, ◌<◌, ◌≤◌, ◌≡◌, Bool, true, false, not, cond, ◌&&◌, ◌||◌, inl, inr, List, nat_eq, bit_and, refl}
+use Rattle.std.proofs.Common.{sym, ◌∙◌, arith, length-set, lit<}
 use Rattle.std.proofs.Math.Pow.{pow_mono, pow_pos}
 use Rattle.std.proofs.Math.Bool.{and-false}
 use Rattle.std.proofs.lemmas.Bool.{false≢true, cases_eq, cases_lt, or_cases, or_left, or_right}
 use Rattle.std.proofs.lemmas.Nat.{or_of_8, xor_of_8, and_le_l, pow_below, div_below}
 use Rattle.tcc_maps.specs.Masks.{has, minus, join}
 use Rattle.spec_cache.specs.declared.frame.FrameView.{FrameView}
-use Rattle.spec_cache.specs.Frame.{IsFrame, empty_frame, marked_frame, stored_frame, filled_up, filled_frame, invalidated_frame, cleaned_frame, dropped_frame, rolled_back_frame, read_cleared_frame, committed_frame, committed_modified}
+use Rattle.spec_cache.specs.Frame.{IsFrame, empty_frame, marked_frame, stored_frame, filled_up, filled_frame, invalidated_frame}
+use Rattle.spec_cache.specs.Frame.{cleaned_frame, dropped_frame, rolled_back_frame, read_cleared_frame, committed_frame, committed_modified}
 use Rattle.spec_cache.proofs.MaskLaws.{has-join, has-minus, has-zero, has-full}
 use Rattle.spec_cache.proofs.Eights.{length-eight}
 
@@ -82,7 +84,10 @@ module _ (f : FrameView) (s : IsFrame f) where
   IsFrame-stored k v also h = record {
     eight_words = length-set _ _ _ ∙ s.eight_words;
     valid_fits = or_of_8 _ _ s.valid_fits (pow_below k 8 h);
-    read_fits = elim also as (λ a. cond a (join f.read.0 (2 ^ k)) f.read.0 < 256) [ true ↦ or_of_8 _ _ s.read_fits (pow_below k 8 h) | false ↦ s.read_fits ];
+    read_fits = elim also as (λ a. cond a (join f.read.0 (2 ^ k)) f.read.0 < 256) [
+      | true ↦ or_of_8 _ _ s.read_fits (pow_below k 8 h)
+      | false ↦ s.read_fits
+    ];
     modified_fits = or_of_8 _ _ s.modified_fits (pow_below k 8 h);
     dirty_fits = lit< tt;
     modified_valid = λ j e. joined f.modified.0 f.valid.0 (2 ^ k) j (s.modified_valid j) e;

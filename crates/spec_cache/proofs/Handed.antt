@@ -1,5 +1,6 @@
 -- What a cache shows and hands out of its frames.
-use Rattle.std.proofs.Common.{ℕ, suc, zero, ◌+◌, ◌*◌, ◌<◌, ◌≡◌, Bool, true, false, not, get_or, set, Option, Some, None, is_some, nat_eq, bit_and, refl, sym, ◌∙◌, ap, arith}
+use Rattle.std.proofs.Common.{ℕ, suc, zero, ◌+◌, ◌*◌, ◌<◌, ◌≡◌, Bool, true, false, not, get_or, set, Option, Some, None, is_some, nat_eq}
+use Rattle.std.proofs.Common.{bit_and, refl, sym, ◌∙◌, ap, arith}
 use Rattle.std.specs.Option.{MatchOption, option_map}
 use Rattle.tcc_maps.specs.Words.{line_of, place_of, word_at, any_below, any_word}
 use Rattle.tcc_maps.specs.Cache.{dirty_copy, is_dirty, keeps}
@@ -15,7 +16,8 @@ use Rattle.spec_cache.specs.Frame.{value_in, read_in, dirty_in, line_in, IsFrame
 use Rattle.spec_cache.specs.Held.{Held, IsHeld, IsWayOf, frame_of, maps}
 use Rattle.spec_cache.specs.Look.{Views, Gives}
 use Rattle.spec_cache.proofs.FrameFound.{frame_of-way}
-use Rattle.spec_cache.proofs.Readings.{views-frame, value-word, modified_mask-frame, dirty_copy-frame, keeps-frame, reads_masked-frame, line_of-word_at}
+use Rattle.spec_cache.proofs.Readings.{views-frame, value-word, modified_mask-frame, dirty_copy-frame, keeps-frame, reads_masked-frame}
+use Rattle.spec_cache.proofs.Readings.{line_of-word_at}
 use Rattle.spec_cache.proofs.MapsPlaced.{maps-emptied}
 use Rattle.spec_cache.proofs.Calls.{found_line, frame_here, found_then, with_way}
 use Rattle.spec_cache.proofs.Looks.{at_way, is_held}
@@ -28,7 +30,8 @@ module _ (h : Held) (s : IsHeld h) (t y : ℕ) (way : y < h.config.ways) (i : �
   unfolding IsWay
   frame_in f e = rw (sym e) at (s.frame i)
 
-  pub way_view : (o : Option FrameView) → o ≡ get_or h.frames i None → MatchOption o ((maps h).at t y ≡ None) (λ f. ((maps h).at t y ≡ Some f.line.0) × Views (maps h) f.line.0 f)
+  pub way_view : (o : Option FrameView) → o ≡ get_or h.frames i None
+      → MatchOption o ((maps h).at t y ≡ None) (λ f. ((maps h).at t y ≡ Some f.line.0) × Views (maps h) f.line.0 f)
   unfolding line_in
   way_view None e = at_place None e
   way_view (Some f) e = (at_place (Some f) e, views-frame h f.line.0 f (frame_of-way h s i f (sym e)) (frame_in f e) refl)
@@ -37,12 +40,14 @@ module _ (h : Held) (s : IsHeld h) (t y : ℕ) (way : y < h.config.ways) (i : �
   unfolding evicted line_in evicted_line
   evicted_none e = rw (at_place None e) refl
 
-  pub evicted_some : (f : FrameView) → Some f ≡ get_or h.frames i None → (n : Held) → n ≡ record h { frames = set h.frames i None } → maps n ≡ evicted t y (maps h)
+  pub evicted_some : (f : FrameView) → Some f ≡ get_or h.frames i None → (n : Held) → n ≡ record h { frames = set h.frames i None }
+      → maps n ≡ evicted t y (maps h)
   unfolding evicted line_in
   evicted_some f e n q = rw (q, at_place (Some f) e) (maps-emptied h s i t y place way f (sym e))
 
   pub gives : (f : FrameView) → Some f ≡ get_or h.frames i None → (b : Option Tagged) → b ≡ dirty_part f →
-      ((maps h).at t y ≡ Some f.line.0) × Gives (maps h) f.line.0 (record { line = f.line; modified = f.modified; words = f.words; back = b })
+      ((maps h).at t y ≡ Some f.line.0)
+      × Gives (maps h) f.line.0 (record { line = f.line; modified = f.modified; words = f.words; back = b })
   unfolding line_in
   gives f p b e =
       let found : frame_of h.frames f.line.0 ≡ Some f = frame_of-way h s i f (sym p) in (
@@ -60,7 +65,8 @@ pub line_view : (h : Held) (s : IsHeld h) (l : ℕ) (p : ℕ × FrameView) (w : 
 line_view h s l p w = (is_held h s l p w, views-frame h l p.1 (found_line h s l p w) (frame_here h s l p w) w.line)
 
 -- what is handed out of the frame of a line, and of no frame
-pub part_of : (h : Held) (s : IsHeld h) (l : ℕ) (p : ℕ × FrameView) (w : IsWayOf h l p) (b : Option Tagged) → b ≡ dirty_part p.1 → option_map tagged_of b ≡ dirty_copy (maps h) l
+pub part_of : (h : Held) (s : IsHeld h) (l : ℕ) (p : ℕ × FrameView) (w : IsWayOf h l p) (b : Option Tagged) → b ≡ dirty_part p.1
+    → option_map tagged_of b ≡ dirty_copy (maps h) l
 part_of h s l p w b e = ap (option_map tagged_of) e ∙ dirty_copy-frame h l p.1 (found_line h s l p w) (frame_here h s l p w) w.line
 
 none_below : (p : ℕ → Bool) (n : ℕ) → ((k : ℕ) → k < n → p k ≡ false) → any_below p n ≡ false
@@ -74,7 +80,9 @@ module _ (h : Held) (l : ℕ) (absent : frame_of h.frames l ≡ None) where
 
   pub nothing_dirty : None ≡ dirty_copy (maps h) l
   unfolding dirty_copy is_dirty any_word maps dirty_in
-  nothing_dirty = rw (none_below (λ k. is_some (dirty_in (frame_of h.frames (line_of (word_at l k))) (place_of (word_at l k)))) 8 (λ k b. rw (absent_word k b) refl)) refl
+  nothing_dirty =
+      rw (none_below (λ k. is_some (dirty_in (frame_of h.frames (line_of (word_at l k))) (place_of (word_at l k)))) 8
+      (λ k b. rw (absent_word k b) refl)) refl
 
   pub nothing_read : (m : ℕ) → false ≡ reads_masked l m (maps h)
   unfolding reads_masked any_word maps read_in
@@ -89,7 +97,8 @@ module _ (h : Held) (s : IsHeld h) (l : ℕ) (p : ℕ × FrameView) (w : IsWayOf
   pub read_hits : (b : Bool) → b ≡ not (nat_eq (bit_and p.1.read.0 m) 0) → b ≡ reads_masked l m (maps h)
   read_hits b e = e ∙ sym (reads_masked-frame h l p.1 (found_line h s l p w) (frame_here h s l p w) m)
 
-  pub kept_then : (f : FrameView) (n : Held) → f ≡ invalidated_frame m p.1 → n ≡ with_way h p.0 (Some f) → (b : Bool) → b ≡ not (nat_eq f.valid.0 0) → b ≡ keeps (maps n) l
+  pub kept_then : (f : FrameView) (n : Held) → f ≡ invalidated_frame m p.1 → n ≡ with_way h p.0 (Some f) → (b : Bool)
+      → b ≡ not (nat_eq f.valid.0 0) → b ≡ keeps (maps n) l
   kept_then f n q e b r =
       let same : f.line.0 ≡ p.1.line.0 = rw q (unfold invalidated_frame in refl) in
       r ∙ sym (keeps-frame n l f (found_then h s l p w f n e same) (rw q (IsFrame-invalidated p.1 (frame_here h s l p w) m)))

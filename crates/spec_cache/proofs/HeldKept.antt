@@ -1,5 +1,6 @@
 -- The ways of a cache stay in order when one of them changes, and when all frames do.
-use Rattle.std.proofs.Common.{ℕ, ◌/◌, ◌%◌, ◌<◌, ◌≡◌, ◌≢◌, ◌⊎◌, inl, inr, length, get_or, set, map, Option, Some, None, refl, sym, ◌∙◌, ap, subst, length-set, get_or-set_same, get_or-set_other}
+use Rattle.std.proofs.Common.{ℕ, ◌/◌, ◌%◌, ◌<◌, ◌≡◌, ◌≢◌, ◌⊎◌, inl, inr, length, get_or, set, map, Option, Some, None, refl, sym, ◌∙◌, ap}
+use Rattle.std.proofs.Common.{subst, length-set, get_or-set_same, get_or-set_other}
 use Rattle.std.specs.Option.{option_map}
 use Rattle.std.proofs.lemmas.Bool.{cases_eq}
 use Rattle.std.proofs.lemmas.List.{length-map}
@@ -71,28 +72,36 @@ module _ (h : Held) (s : IsHeld h) where
   unfolding FitsWay
   FitsWay-none i = tt
 
-  pub FitsWay-empty : (i l : ℕ) → l % h.config.sets ≡ i / h.config.ways → l < lines h.config → frame_of h.frames l ≡ None → FitsWay h i (Some (empty_frame l))
+  pub FitsWay-empty : (i l : ℕ) → l % h.config.sets ≡ i / h.config.ways → l < lines h.config → frame_of h.frames l ≡ None
+      → FitsWay h i (Some (empty_frame l))
   unfolding FitsWay
   FitsWay-empty i l p x n = record {
     frame = IsFrame-empty l;
     placed = unfold empty_frame in p;
     exists = unfold empty_frame in x;
-    alone = λ j q d e. absurd (let r : None ≡ Some q = sym n ∙ subst (λ (z : ℕ). frame_of h.frames z ≡ Some q) (e ∙ (unfold empty_frame in refl)) (frame_of-way h s j q d) in cc);
+    alone =
+        λ j q d e. absurd (let r : None ≡ Some q = sym n ∙ subst (λ (z : ℕ). frame_of h.frames z ≡ Some q)
+        (e ∙ (unfold empty_frame in refl)) (frame_of-way h s j q d) in cc);
   }
 
-some_of : (g : FrameView → FrameView) (o : Option FrameView) (f : FrameView) → option_map g o ≡ Some f → (e : FrameView) × (o ≡ Some e) × (f ≡ g e)
+some_of : (g : FrameView → FrameView) (o : Option FrameView) (f : FrameView) → option_map g o ≡ Some f
+    → (e : FrameView) × (o ≡ Some e) × (f ≡ g e)
 some_of g None f p = absurd (cc)
 some_of g (Some e) f p = (e, refl, (let q : f ≡ g e = cc in q))
 
-way_all : (g : FrameView → FrameView) → ((f : FrameView) → IsFrame f → IsFrame (g f)) → (o : Option FrameView) → IsWay o → IsWay (option_map g o)
+way_all : (g : FrameView → FrameView) → ((f : FrameView) → IsFrame f → IsFrame (g f)) → (o : Option FrameView) → IsWay o
+    → IsWay (option_map g o)
 unfolding IsWay
 way_all g k None w = tt
 way_all g k (Some f) w = k f w
 
 -- a change of all frames that keeps their lines
-module _ (g : FrameView → FrameView) (same_line : (f : FrameView) → (g f).line.0 ≡ f.line.0) (keeps : (f : FrameView) → IsFrame f → IsFrame (g f)) where
-  was : (h : Held) (i : ℕ) (f : FrameView) → get_or (map (option_map g) h.frames) i None ≡ Some f → (e : FrameView) × (get_or h.frames i None ≡ Some e) × (f.line.0 ≡ e.line.0)
-  was h i f p = let r = some_of g (get_or h.frames i None) f (sym (get_or-all g h.frames i) ∙ p) in (r.0, r.1, ap (λ (x : FrameView). x.line.0) r.2 ∙ same_line r.0)
+module _ (g : FrameView → FrameView) (same_line : (f : FrameView) → (g f).line.0 ≡ f.line.0) (keeps : (f : FrameView) → IsFrame f
+    → IsFrame (g f)) where
+  was : (h : Held) (i : ℕ) (f : FrameView) → get_or (map (option_map g) h.frames) i None ≡ Some f
+      → (e : FrameView) × (get_or h.frames i None ≡ Some e) × (f.line.0 ≡ e.line.0)
+  was h i f p = let r = some_of g (get_or h.frames i None) f (sym (get_or-all g h.frames i) ∙ p) in
+      (r.0, r.1, ap (λ (x : FrameView). x.line.0) r.2 ∙ same_line r.0)
 
   pub IsHeld-all : (h : Held) → IsHeld h → IsHeld (record h { frames = map (option_map g) h.frames })
   IsHeld-all h s = record {

@@ -1,5 +1,6 @@
 -- What holds of the ways is kept where a word is stored in place, and what is read and stored there.
-use Rattle.std.proofs.Common.{◌≡◌, ◌<◌, ◌∙◌, ◌==◌, ◌&&◌, not, ℕ, Bool, true, false, List, length, get_or, set, Option, Some, None, refl, sym, ap, subst}
+use Rattle.std.proofs.Common.{◌≡◌, ◌<◌, ◌∙◌, ◌==◌, ◌&&◌, not, ℕ, Bool, true, false, List, length, get_or, set, Option, Some, None, refl}
+use Rattle.std.proofs.Common.{sym, ap, subst}
 use Rattle.std.proofs.lemmas.List.{set-get_or}
 use Rattle.std.specs.Bool.{MatchBool}
 use Rattle.std.specs.Option.{IfSome}
@@ -86,4 +87,5 @@ module _ (h : Held) (s : IsHeld h) (l : ℕ) where
         let way = way_at t.at f t.stored.was t.stored.into.line in
         let was : marked_in (get_or h.frames t.at None) ≡ true = ap marked_in t.stored.was ∙ modified_marks f t.stored.into.modified in
         rw t.is (IsIndexed-set h p i t.at t.way way.inside
-        (rw t.stored.into.is (fits_stored h s l (t.at, f) way (stored_frame k x also f) k x also inside refl)) p refl (λ m. i.marked t.at was) (λ j m. m))
+        (rw t.stored.into.is (fits_stored h s l (t.at, f) way (stored_frame k x also f) k x also inside refl)) p refl
+        (λ m. i.marked t.at was) (λ j m. m))

@@ -1,5 +1,6 @@
 -- What a set has free and marked, and what a load or a store finds, read off the frames.
-use Rattle.std.proofs.Common.{ℕ, suc, zero, ◌+◌, ◌*◌, ◌<◌, ◌≤◌, ◌≡◌, Bool, true, false, not, inl, inr, get_or, Option, Some, None, is_some, is_none, refl, sym, ◌∙◌, ap, subst, arith, add-one}
+use Rattle.std.proofs.Common.{ℕ, suc, zero, ◌+◌, ◌*◌, ◌<◌, ◌≤◌, ◌≡◌, Bool, true, false, not, inl, inr, get_or, Option, Some, None, is_some}
+use Rattle.std.proofs.Common.{is_none, refl, sym, ◌∙◌, ap, subst, arith, add-one}
 use Rattle.std.proofs.lemmas.Bool.{cases_eq, lt-ltb}
 use Rattle.std.proofs.Math.Bool.{and-false}
 use Rattle.tcc_base.specs.Settings.{Settings}
@@ -56,10 +57,13 @@ module _ (h : Held) (t y : ℕ) (way : y < h.config.ways) where
   frame_at_way = rw (lt-ltb y h.config.ways way) refl
 
   module _ (s : IsHeld h) where
-    pub way_marked-at : (o : Option FrameView) → o ≡ get_or h.frames (t * h.config.ways + y) None → way_marked (maps h) ((maps h).at t y) ≡ marked_in o
+    pub way_marked-at : (o : Option FrameView) → o ≡ get_or h.frames (t * h.config.ways + y) None
+        → way_marked (maps h) ((maps h).at t y) ≡ marked_in o
     unfolding way_marked line_in marked_in IsWay
     way_marked-at None e = rw (at_way, ← e) refl
-    way_marked-at (Some f) e = rw (at_way, ← e) (is_marked-frame h f.line.0 f (frame_of-way h s (t * h.config.ways + y) f (sym e)) (rw (sym e) at (s.frame (t * h.config.ways + y))))
+    way_marked-at (Some f) e =
+        rw (at_way, ← e) (is_marked-frame h f.line.0 f (frame_of-way h s (t * h.config.ways + y) f (sym e))
+        (rw (sym e) at (s.frame (t * h.config.ways + y))))
 
 module _ (h : Held) (l : ℕ) (absent : frame_of h.frames l ≡ None) where
   pub not_held : (maps h).held l ≡ false
@@ -131,12 +135,14 @@ is_free h t y = not (is_some ((maps h).at t y))
 abbrev pub marked_way : Held → ℕ → ℕ → Bool
 marked_way h t y = way_marked (maps h) ((maps h).at t y)
 
-free-at : (h : Held) (t y : ℕ) (o : Option FrameView) → y < h.config.ways → o ≡ get_or h.frames (t * h.config.ways + y) None → is_free h t y ≡ not (is_some o)
+free-at : (h : Held) (t y : ℕ) (o : Option FrameView) → y < h.config.ways → o ≡ get_or h.frames (t * h.config.ways + y) None
+    → is_free h t y ≡ not (is_some o)
 unfolding line_in
 free-at h t y None b e = rw (at_way h t y b, ← e) refl
 free-at h t y (Some f) b e = rw (at_way h t y b, ← e) refl
 
-module _ (h : Held) (t y i : ℕ) (o : Option FrameView) (b : y < h.config.ways) (place : i ≡ t * h.config.ways + y) (e : o ≡ get_or h.frames i None) where
+module _ (h : Held) (t y i : ℕ) (o : Option FrameView) (b : y < h.config.ways) (place : i ≡ t * h.config.ways + y)
+    (e : o ≡ get_or h.frames i None) where
   here : o ≡ get_or h.frames (t * h.config.ways + y) None
   here = e ∙ ap (λ x. get_or h.frames x None) place
 
@@ -151,13 +157,15 @@ module _ (h : Held) (t y i : ℕ) (o : Option FrameView) (b : y < h.config.ways)
   unfolding all_marked
   marked_not s n = sym (all_below-not (λ y. marked_way h t y) h.config.ways y b (way_marked-at h t y b s o here ∙ n))
 
-  pub marked_next : (s : IsHeld h) → marked_in o ≡ true → all_below (λ y. marked_way h t y) y ≡ true → all_below (λ y. marked_way h t y) (y + 1) ≡ true
+  pub marked_next : (s : IsHeld h) → marked_in o ≡ true → all_below (λ y. marked_way h t y) y ≡ true
+      → all_below (λ y. marked_way h t y) (y + 1) ≡ true
   marked_next s n inv = all_below-further (λ y. marked_way h t y) y inv (way_marked-at h t y b s o here ∙ n)
 
 pub free_none : (h : Held) (t n : ℕ) → n ≡ h.config.ways → lowest (λ y. is_free h t y) n ≡ None → None ≡ free_way h.config (maps h) t
 unfolding free_way
 free_none h t n e inv = sym (ap (lowest (λ y. is_free h t y)) (sym e) ∙ inv)
 
-pub marked_all : (h : Held) (t n : ℕ) → n ≡ h.config.ways → all_below (λ y. marked_way h t y) n ≡ true → true ≡ all_marked h.config (maps h) t
+pub marked_all : (h : Held) (t n : ℕ) → n ≡ h.config.ways → all_below (λ y. marked_way h t y) n ≡ true
+    → true ≡ all_marked h.config (maps h) t
 unfolding all_marked
 marked_all h t n e inv = sym (ap (all_below (λ y. marked_way h t y)) (sym e) ∙ inv)

@@ -1,5 +1,7 @@
 -- Where all marked frames stand at noted places, to change or to search these places is to change or to search all.
-use Rattle.std.proofs.Common.{ℕ, suc, zero, ◌+◌, ◌%◌, ◌<◌, ◌≤◌, ◌≡◌, Bool, true, false, not, ◌&&◌, ◌⊎◌, inl, inr, List, [], ◌∷◌, length, get_or, set, Option, Some, None, nat_eq, bit_xor, refl, sym, ◌∙◌, ap, subst, arith, Contains, get_or-set_same, get_or-set_other}
+use Rattle.std.proofs.Common.{ℕ, suc, zero, ◌+◌, ◌%◌, ◌<◌, ◌≤◌, ◌≡◌, Bool, true, false, not, ◌&&◌, ◌⊎◌, inl, inr, List, [], ◌∷◌, length}
+use Rattle.std.proofs.Common.{get_or, set, Option, Some, None, nat_eq, bit_xor, refl, sym, ◌∙◌, ap, subst, arith, Contains, get_or-set_same}
+use Rattle.std.proofs.Common.{get_or-set_other}
 use Rattle.std.specs.Option.{option_map}
 use Rattle.std.proofs.lemmas.Bool.{false≢true, cases_eq, cases_Bool, and_parts, eqb-true}
 use Rattle.std.proofs.lemmas.Nat.{and_comm, xor_comm}
@@ -33,25 +35,31 @@ marked_by false b e = refl
 reads_marked : (dirs d : ℕ) (o : Option FrameView) → reads_in dirs d o ≡ true → marked_in o ≡ true
 unfolding reads_in marked_in
 reads_marked dirs d None e = e
-reads_marked dirs d (Some f) e = marked_by (nat_eq f.read.0 0) (nat_eq f.modified.0 0) (inl (and_parts (nat_eq d (f.line.0 % dirs)) (not (nat_eq f.read.0 0)) e).1)
+reads_marked dirs d (Some f) e =
+    marked_by (nat_eq f.read.0 0) (nat_eq f.modified.0 0) (inl (and_parts (nat_eq d (f.line.0 % dirs)) (not (nat_eq f.read.0 0)) e).1)
 
 written_marked : (dirs d x : ℕ) (o : Option FrameView) → written_in dirs d o ≡ Some x → marked_in o ≡ true
 unfolding written_in marked_in
 written_marked dirs d x None e = absurd (let z : None ≡ Some x = e in cc)
 written_marked dirs d x (Some f) e = elim (cases_Bool (nat_eq d (f.line.0 % dirs) && not (nat_eq f.modified.0 0))) [
-  | inl t ↦ marked_by (nat_eq f.read.0 0) (nat_eq f.modified.0 0) (inr (and_parts (nat_eq d (f.line.0 % dirs)) (not (nat_eq f.modified.0 0)) t).1)
+  | inl t ↦ marked_by (nat_eq f.read.0 0) (nat_eq f.modified.0 0)
+      (inr (and_parts (nat_eq d (f.line.0 % dirs)) (not (nat_eq f.modified.0 0)) t).1)
   | inr n ↦ absurd (let z : None ≡ Some x = rw n at e in cc)
 ]
 
-module _ (dirs d : ℕ) (fs : List (Option FrameView)) (ps : List ℕ) (marked : (i : ℕ) → marked_in (get_or fs i None) ≡ true → Contains ps i) (n : ℕ) (whole : length ps ≤ n) where
-  pub none_read : ((j : ℕ) → j < n → reads_in dirs d (get_or fs (get_or ps j 0) None) ≡ false) → (i : ℕ) → reads_in dirs d (get_or fs i None) ≡ false
+module _ (dirs d : ℕ) (fs : List (Option FrameView)) (ps : List ℕ) (marked : (i : ℕ) → marked_in (get_or fs i None) ≡ true → Contains ps i)
+    (n : ℕ) (whole : length ps ≤ n) where
+  pub none_read : ((j : ℕ) → j < n → reads_in dirs d (get_or fs (get_or ps j 0) None) ≡ false) → (i : ℕ)
+      → reads_in dirs d (get_or fs i None) ≡ false
   none_read none i = elim (cases_Bool (reads_in dirs d (get_or fs i None))) [
     | inr f ↦ f
     | inl t ↦ (let p = place_in ps i (marked i (reads_marked dirs d (get_or fs i None) t)) in
-        let e : reads_in dirs d (get_or fs i None) ≡ false = subst (λ (x : ℕ). reads_in dirs d (get_or fs x None) ≡ false) p.2 (none p.0 (let h : p.0 < length ps = p.1 in omega arith)) in e)
+        let e : reads_in dirs d (get_or fs i None) ≡ false = subst (λ (x : ℕ). reads_in dirs d (get_or fs x None) ≡ false) p.2
+        (none p.0 (let h : p.0 < length ps = p.1 in omega arith)) in e)
   ]
 
-  pub each_written : (xs : List ℕ) → ((j x : ℕ) → j < n → written_found dirs d fs (get_or ps j 0) ≡ Some x → Contains xs x) → (i x : ℕ) → written_found dirs d fs i ≡ Some x → Contains xs x
+  pub each_written : (xs : List ℕ) → ((j x : ℕ) → j < n → written_found dirs d fs (get_or ps j 0) ≡ Some x → Contains xs x) → (i x : ℕ)
+      → written_found dirs d fs i ≡ Some x → Contains xs x
   each_written xs each i x e =
       let p = place_in ps i (marked i (written_marked dirs d x (get_or fs i None) e)) in
       each p.0 x (let h : p.0 < length ps = p.1 in omega arith) (ap (written_found dirs d fs) p.2 ∙ e)
@@ -61,7 +69,8 @@ module _ (dirs d : ℕ) (fs : List (Option FrameView)) (ps : List ℕ) (marked :
 minus-zero : (v : ℕ) → minus v 0 ≡ v
 minus-zero v = ap (bit_xor v) (and_comm v 0) ∙ xor_comm v 0
 
-committed_modified-twice : (t : ℕ) (f : FrameView) (b : Bool) → nat_eq f.modified.0 0 ≡ b → committed_frame t (committed_modified b t f) ≡ committed_modified b t f
+committed_modified-twice : (t : ℕ) (f : FrameView) (b : Bool) → nat_eq f.modified.0 0 ≡ b
+    → committed_frame t (committed_modified b t f) ≡ committed_modified b t f
 unfolding committed_frame committed_modified
 committed_modified-twice t f true e = rw e refl
 committed_modified-twice t f false e = refl
@@ -90,7 +99,8 @@ unmarked_frame (Commit t) f r m = rw m (rw (← r) refl)
 unmarked : (c : Change) (o : Option FrameView) → marked_in o ≡ false → option_map (changed_frame c) o ≡ o
 unfolding marked_in
 unmarked c None e = refl
-unmarked c (Some f) e = let p = unmarked_parts (nat_eq f.read.0 0) (nat_eq f.modified.0 0) e in ap Some (unmarked_frame c f (eqb-true f.read.0 0 p.0) (eqb-true f.modified.0 0 p.1))
+unmarked c (Some f) e = let p = unmarked_parts (nat_eq f.read.0 0) (nat_eq f.modified.0 0) e in
+    ap Some (unmarked_frame c f (eqb-true f.read.0 0 p.0) (eqb-true f.modified.0 0 p.1))
 
 -- ---- one place changed
 
@@ -100,7 +110,8 @@ Either c old new i = (get_or new i None ≡ get_or old i None) ⊎ (get_or new i
 abbrev pub IsDone : Change → List (Option FrameView) → List (Option FrameView) → ℕ → Type 0
 IsDone c old new i = get_or new i None ≡ option_map (changed_frame c) (get_or old i None)
 
-module _ (c : Change) (old now : List (Option FrameView)) (at : ℕ) (inside : at < length now) (either : (i : ℕ) → Either c old now i) (x : Option FrameView) (e : x ≡ option_map (changed_frame c) (get_or now at None)) where
+module _ (c : Change) (old now : List (Option FrameView)) (at : ℕ) (inside : at < length now) (either : (i : ℕ) → Either c old now i)
+    (x : Option FrameView) (e : x ≡ option_map (changed_frame c) (get_or now at None)) where
   here : IsDone c old (set now at x) at
   here = get_or-set_same now at x None inside ∙ e ∙ elim (either at) [
     | inl q ↦ ap (option_map (changed_frame c)) q
@@ -116,19 +127,24 @@ module _ (c : Change) (old now : List (Option FrameView)) (at : ℕ) (inside : a
     ]
   ]
 
-  pub done_then : (ps : List ℕ) (n : ℕ) → get_or ps n 0 ≡ at → ((j : ℕ) → j < n → IsDone c old now (get_or ps j 0)) → (j : ℕ) → j < n + 1 → IsDone c old (set now at x) (get_or ps j 0)
+  pub done_then : (ps : List ℕ) (n : ℕ) → get_or ps n 0 ≡ at → ((j : ℕ) → j < n → IsDone c old now (get_or ps j 0)) → (j : ℕ) → j < n + 1
+      → IsDone c old (set now at x) (get_or ps j 0)
   done_then ps n p done j h = elim (cases_eq (get_or ps j 0) at) [
     | inl q ↦ subst (λ (k : ℕ). IsDone c old (set now at x) k) (sym q) here
-    | inr m ↦ get_or-set_other now at (get_or ps j 0) x None m ∙ done j (elim (cases_eq j n) [ inl q ↦ absurd (m (ap (λ k. get_or ps k 0) q ∙ p)) | inr k ↦ omega arith ])
+    | inr m ↦ get_or-set_other now at (get_or ps j 0) x None m
+        ∙ done j (elim (cases_eq j n) [ inl q ↦ absurd (m (ap (λ k. get_or ps k 0) q ∙ p)) | inr k ↦ omega arith ])
   ]
 
 -- all noted places changed
-pub all_done : (c : Change) (old new : List (Option FrameView)) (ps : List ℕ) (n : ℕ) → length new ≡ length old → length ps ≤ n → ((i : ℕ) → marked_in (get_or old i None) ≡ true → Contains ps i) →
+pub all_done : (c : Change) (old new : List (Option FrameView)) (ps : List ℕ) (n : ℕ) → length new ≡ length old → length ps ≤ n
+    → ((i : ℕ) → marked_in (get_or old i None) ≡ true → Contains ps i) →
     ((i : ℕ) → Either c old new i) → ((j : ℕ) → j < n → IsDone c old new (get_or ps j 0)) → new ≡ all_changed c old
-all_done c old new ps n l whole marked either done = all_of (changed_frame c) old new l (λ i h. elim (cases_Bool (marked_in (get_or old i None))) [
-  | inl t ↦ (let p = place_in ps i (marked i t) in subst (λ (k : ℕ). IsDone c old new k) p.2 (done p.0 (let b : p.0 < length ps = p.1 in omega arith)))
-  | inr f ↦ elim (either i) [
-    | inl q ↦ q ∙ sym (unmarked c (get_or old i None) f)
-    | inr q ↦ q
-  ]
-])
+all_done c old new ps n l whole marked either done =
+    all_of (changed_frame c) old new l (λ i h. elim (cases_Bool (marked_in (get_or old i None))) [
+      | inl t ↦ (let p = place_in ps i (marked i t) in
+          subst (λ (k : ℕ). IsDone c old new k) p.2 (done p.0 (let b : p.0 < length ps = p.1 in omega arith)))
+      | inr f ↦ elim (either i) [
+        | inl q ↦ q ∙ sym (unmarked c (get_or old i None) f)
+        | inr q ↦ q
+      ]
+    ])

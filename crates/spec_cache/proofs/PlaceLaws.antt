@@ -1,5 +1,6 @@
 -- Flags and the list of what they flag.
-use Rattle.std.proofs.Common.{ℕ, suc, zero, ◌+◌, ◌<◌, ◌≤◌, ◌≡◌, Bool, true, false, inl, inr, List, [], ◌∷◌, ◌++◌, length, get_or, set, replicate, refl, sym, ◌∙◌, subst, arith, Contains, length-set, length-append, get_or-set_other}
+use Rattle.std.proofs.Common.{ℕ, suc, zero, ◌+◌, ◌<◌, ◌≤◌, ◌≡◌, Bool, true, false, inl, inr, List, [], ◌∷◌, ◌++◌, length, get_or, set}
+use Rattle.std.proofs.Common.{replicate, refl, sym, ◌∙◌, subst, arith, Contains, length-set, length-append, get_or-set_other}
 use Rattle.std.proofs.lemmas.Bool.{false≢true, cases_eq, cases_lt}
 use Rattle.std.proofs.lemmas.List.{get_or_push, get_or_append_left}
 use Rattle.std.proofs.lemmas.List.Elements.{Contains-append_left, Contains-push}
@@ -53,7 +54,8 @@ IsNoted-none n fs none l = record {
 }
 
 -- one more noted
-pub IsNoted-more : (n : ℕ) (fs : List Bool) (ps : List ℕ) → IsNoted n fs ps → (at : ℕ) → at < n → get_or fs at false ≡ false → IsNoted n (set fs at true) (ps ++ at ∷ [])
+pub IsNoted-more : (n : ℕ) (fs : List Bool) (ps : List ℕ) → IsNoted n fs ps → (at : ℕ) → at < n → get_or fs at false ≡ false
+    → IsNoted n (set fs at true) (ps ++ at ∷ [])
 IsNoted-more n fs ps k at h e =
     let b : at < length fs = rw k.flagged h in record {
       flagged = length-set fs at true ∙ k.flagged;

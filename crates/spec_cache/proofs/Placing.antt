@@ -1,5 +1,6 @@
 -- What a load marks, and how a line gets a way.
-use Rattle.std.proofs.Common.{ℕ, ◌+◌, ◌*◌, ◌/◌, ◌%◌, ◌<◌, ◌≡◌, Bool, true, false, not, ◌&&◌, length, get_or, set, Option, Some, None, is_some, refl, sym, ◌∙◌, ap, subst}
+use Rattle.std.proofs.Common.{ℕ, ◌+◌, ◌*◌, ◌/◌, ◌%◌, ◌<◌, ◌≡◌, Bool, true, false, not, ◌&&◌, length, get_or, set, Option, Some, None}
+use Rattle.std.proofs.Common.{is_some, refl, sym, ◌∙◌, ap, subst}
 use Rattle.std.specs.Option.{MatchOption}
 use Rattle.std.proofs.lemmas.Bool.{false≢true}
 use Rattle.std.proofs.lemmas.List.{set-get_or}
@@ -25,7 +26,8 @@ no_mark : (mark : Bool) (w : ℕ) (c : Cache) → (mark && is_some (c.value w)) 
 unfolding loaded
 no_mark mark w c e = rw e refl
 
-pub loaded_absent : (h : Held) (l : ℕ) → frame_of h.frames l ≡ None → (w : ℕ) → l ≡ line_of w → (mark : Bool) → maps h ≡ loaded w mark (maps h)
+pub loaded_absent : (h : Held) (l : ℕ) → frame_of h.frames l ≡ None → (w : ℕ) → l ≡ line_of w → (mark : Bool)
+    → maps h ≡ loaded w mark (maps h)
 unfolding maps value_in
 loaded_absent h l absent w q mark = no_mark mark w (maps h) (rw (subst (λ (x : ℕ). frame_of h.frames x ≡ None) q absent) (and-false mark))
 
@@ -41,12 +43,14 @@ module _ (h : Held) (s : IsHeld h) (l : ℕ) (p : ℕ × FrameView) (k : IsWayOf
   pub loaded_miss : None ≡ value_in (Some p.1) (place_of w) → maps h ≡ loaded w mark (maps h)
   loaded_miss e = no_mark mark w (maps h) (rw (value_here, ← e) (and-false mark))
 
-  pub loaded_marked : (x : ℕ) → Some x ≡ value_in (Some p.1) (place_of w) → mark ≡ true → (n : Held) → maps n ≡ marked w (maps h) → maps n ≡ loaded w mark (maps h)
+  pub loaded_marked : (x : ℕ) → Some x ≡ value_in (Some p.1) (place_of w) → mark ≡ true → (n : Held) → maps n ≡ marked w (maps h)
+      → maps n ≡ loaded w mark (maps h)
   unfolding loaded
   loaded_marked x e m n d = rw (m, value_here, ← e) d
 
   -- the mark was there
-  pub loaded_same : (x : ℕ) → Some x ≡ value_in (Some p.1) (place_of w) → mark ≡ true → (f : FrameView) → f ≡ marked_frame (place_of w) p.1 → f ≡ p.1
+  pub loaded_same : (x : ℕ) → Some x ≡ value_in (Some p.1) (place_of w) → mark ≡ true → (f : FrameView) → f ≡ marked_frame (place_of w) p.1
+      → f ≡ p.1
       → maps h ≡ loaded w mark (maps h)
   loaded_same x e m f marks same = loaded_marked x e m h (marked_maps h s l p k _ _ put_back w q (sym same ∙ marks))
     where
@@ -74,7 +78,8 @@ some_case (Some x) P Q y m e = let z : x ≡ y = cc in subst Q z m
 
 lowest-passes : (p : ℕ → Bool) (n y : ℕ) → lowest p n ≡ Some y → p y ≡ true
 lowest-passes p n y e =
-    (some_case (lowest p n) ((k : ℕ) → k < n → p k ≡ false) (λ k. (k < n) × (p k ≡ true) × ((j : ℕ) → j < k → p j ≡ false)) y (lowest-cases p n) e).1
+    (some_case (lowest p n) ((k : ℕ) → k < n → p k ≡ false) (λ k. (k < n) × (p k ≡ true) × ((j : ℕ) → j < k → p j ≡ false)) y
+    (lowest-cases p n) e).1
 
 pub absent_line : (h : Held) (l : ℕ) → (maps h).held l ≡ false → frame_of h.frames l ≡ None
 unfolding maps
@@ -88,18 +93,23 @@ module _ (h : Held) (s : IsHeld h) (l : ℕ) (t : ℕ) (set_is : t ≡ set_of h.
   unfolding placed placed_at
   placed_none e = rw (free_there, ← e) refl
 
-  module _ (y : ℕ) (free : Some y ≡ free_way h.config (maps h) t) (way : y < h.config.ways) (i : ℕ) (place : i ≡ t * h.config.ways + y) (absent : frame_of h.frames l ≡ None) (f : FrameView) (e : f ≡ empty_frame l) where
+  module _ (y : ℕ) (free : Some y ≡ free_way h.config (maps h) t) (way : y < h.config.ways) (i : ℕ) (place : i ≡ t * h.config.ways + y)
+      (absent : frame_of h.frames l ≡ None) (f : FrameView) (e : f ≡ empty_frame l) where
     pub fits_empty : l < lines h.config → FitsWay h i (Some f)
     fits_empty exists =
-        let p : l % h.config.sets ≡ i / h.config.ways = sym set_is ∙ sym (div-mul-add t h.config.ways y way) ∙ ap (λ x. x / h.config.ways) (sym place) in
+        let p : l % h.config.sets ≡ i / h.config.ways = sym set_is ∙ sym (div-mul-add t h.config.ways y way)
+        ∙ ap (λ x. x / h.config.ways) (sym place) in
         rw e (FitsWay-empty h s i l p exists absent)
 
     free_before : get_or h.frames i None ≡ None
     unfolding free_way
     free_before =
         let p : not (is_some ((maps h).at t y)) ≡ true = lowest-passes (λ z. not (is_some ((maps h).at t z))) h.config.ways y (sym free) in
-        line_in-none (get_or h.frames i None) (ap (λ x. is_some (line_in (get_or h.frames x None))) place ∙ ap (λ (x : Option ℕ). is_some x) (sym (at_way h t y way)) ∙ not-true (is_some ((maps h).at t y)) p)
+        line_in-none (get_or h.frames i None)
+        (ap (λ x. is_some (line_in (get_or h.frames x None))) place ∙ ap (λ (x : Option ℕ). is_some x) (sym (at_way h t y way))
+        ∙ not-true (is_some ((maps h).at t y)) p)
 
-    pub placed_some : i < length h.frames → (n : Held) → n ≡ record h { frames = set h.frames i (Some f) } → maps n ≡ placed h.config l (maps h)
+    pub placed_some : i < length h.frames → (n : Held) → n ≡ record h { frames = set h.frames i (Some f) }
+        → maps n ≡ placed h.config l (maps h)
     unfolding placed
     placed_some inside n d = rw (d, e, free_there, ← free, ← set_is) (maps-placed h s i t y place way l inside free_before absent)

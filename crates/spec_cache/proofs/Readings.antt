@@ -1,5 +1,6 @@
 -- What the maps say of a line, read off its frame.
-use Rattle.std.proofs.Common.{ℕ, suc, zero, ◌<◌, ◌≤◌, ◌≡◌, Bool, true, false, not, cond, ◌&&◌, ◌||◌, inl, inr, get_or, unwrap_or, bit_or, Some, None, is_some, nat_eq, bit_and, refl, sym, ◌∙◌, ap, subst, arith}
+use Rattle.std.proofs.Common.{ℕ, suc, zero, ◌<◌, ◌≤◌, ◌≡◌, Bool, true, false, not, cond, ◌&&◌, ◌||◌, inl, inr, get_or, unwrap_or, bit_or}
+use Rattle.std.proofs.Common.{Some, None, is_some, nat_eq, bit_and, refl, sym, ◌∙◌, ap, subst, arith}
 use Rattle.std.specs.Option.{option_map}
 use Rattle.std.proofs.lemmas.Bool.{false≢true, cases_eq, cases_Bool, eq-eqb, ne_eqb}
 use Rattle.std.proofs.lemmas.Nat.{and_le_l, le_or_l, or_of_8}
@@ -30,12 +31,30 @@ any_below-same p q (suc n) e = rw (any_below-same p q n (λ k h. e k (omega arit
 pub mask_of-same : (p q : ℕ → Bool) → ((k : ℕ) → k < 8 → p k ≡ q k) → mask_of p ≡ mask_of q
 unfolding mask_of
 mask_of-same p q e =
-    rw (e 0 (omega arith), e 1 (omega arith), e 2 (omega arith), e 3 (omega arith), e 4 (omega arith), e 5 (omega arith), e 6 (omega arith), e 7 (omega arith)) refl
+    rw (
+      e 0 (omega arith),
+      e 1 (omega arith),
+      e 2 (omega arith),
+      e 3 (omega arith),
+      e 4 (omega arith),
+      e 5 (omega arith),
+      e 6 (omega arith),
+      e 7 (omega arith),
+    ) refl
 
 pub eight-same : (f g : ℕ → ℕ) → ((k : ℕ) → k < 8 → f k ≡ g k) → eight f ≡ eight g
 unfolding eight
 eight-same f g e =
-    rw (e 0 (omega arith), e 1 (omega arith), e 2 (omega arith), e 3 (omega arith), e 4 (omega arith), e 5 (omega arith), e 6 (omega arith), e 7 (omega arith)) refl
+    rw (
+      e 0 (omega arith),
+      e 1 (omega arith),
+      e 2 (omega arith),
+      e 3 (omega arith),
+      e 4 (omega arith),
+      e 5 (omega arith),
+      e 6 (omega arith),
+      e 7 (omega arith),
+    ) refl
 
 -- ---- a mask has a place where it isn't zero
 
@@ -53,7 +72,16 @@ none_below p (suc n) k e h = elim (cases_Bool (any_below p n)) [
 mask_of-none : (p : ℕ → Bool) → ((k : ℕ) → k < 8 → p k ≡ false) → mask_of p ≡ 0
 unfolding mask_of
 mask_of-none p e =
-    rw (e 0 (omega arith), e 1 (omega arith), e 2 (omega arith), e 3 (omega arith), e 4 (omega arith), e 5 (omega arith), e 6 (omega arith), e 7 (omega arith)) refl
+    rw (
+      e 0 (omega arith),
+      e 1 (omega arith),
+      e 2 (omega arith),
+      e 3 (omega arith),
+      e 4 (omega arith),
+      e 5 (omega arith),
+      e 6 (omega arith),
+      e 7 (omega arith),
+    ) refl
 
 any-zero : any_below (has 0) 8 ≡ false
 any-zero = any_below-same (has 0) (λ _. false) 8 (λ k h. has-zero k) ∙ (unfold any_below in refl)
@@ -124,11 +152,13 @@ module _ (h : Held) (l : ℕ) (f : FrameView) (found : frame_of h.frames l ≡ S
   module _ (s : IsFrame f) where
     pub keeps-frame : keeps (maps h) l ≡ not (nat_eq f.valid.0 0)
     unfolding keeps any_word
-    keeps-frame = any_below-same _ (has f.valid.0) 8 (λ k b. rw (value-at k b) (is_some-cond (has f.valid.0 k) (get_or f.words k 0))) ∙ any-has f.valid.0 s.valid_fits
+    keeps-frame = any_below-same _ (has f.valid.0) 8 (λ k b. rw (value-at k b) (is_some-cond (has f.valid.0 k) (get_or f.words k 0)))
+        ∙ any-has f.valid.0 s.valid_fits
 
     pub is_dirty-frame : is_dirty (maps h) l ≡ not (nat_eq f.dirty.0 0)
     unfolding is_dirty any_word
-    is_dirty-frame = any_below-same _ (has f.dirty.0) 8 (λ k b. rw (dirty-at k b) (is_some-cond (has f.dirty.0 k) f.tag.0)) ∙ any-has f.dirty.0 s.dirty_fits
+    is_dirty-frame = any_below-same _ (has f.dirty.0) 8 (λ k b. rw (dirty-at k b) (is_some-cond (has f.dirty.0 k) f.tag.0))
+        ∙ any-has f.dirty.0 s.dirty_fits
 
     pub modified_mask-frame : modified_mask (maps h) l ≡ f.modified.0
     unfolding modified_mask
@@ -136,7 +166,8 @@ module _ (h : Held) (l : ℕ) (f : FrameView) (found : frame_of h.frames l ≡ S
 
     pub dirty_mask-frame : dirty_mask (maps h) l ≡ f.dirty.0
     unfolding dirty_mask
-    dirty_mask-frame = mask_of-same _ (has f.dirty.0) (λ k b. rw (dirty-at k b) (is_some-cond (has f.dirty.0 k) f.tag.0)) ∙ mask_of-has f.dirty.0 s.dirty_fits
+    dirty_mask-frame = mask_of-same _ (has f.dirty.0) (λ k b. rw (dirty-at k b) (is_some-cond (has f.dirty.0 k) f.tag.0))
+        ∙ mask_of-has f.dirty.0 s.dirty_fits
 
     hit-word_at : (m k : ℕ) → k < 8 → hit l m (word_at l k) ≡ has m k
     unfolding hit
@@ -145,7 +176,8 @@ module _ (h : Held) (l : ℕ) (f : FrameView) (found : frame_of h.frames l ≡ S
     pub reads_masked-frame : (m : ℕ) → reads_masked l m (maps h) ≡ not (nat_eq (bit_and f.read.0 m) 0)
     unfolding reads_masked any_word
     reads_masked-frame m =
-        any_below-same _ (has (meet f.read.0 m)) 8 (λ k b. rw (hit-word_at m k b, read-at k b, has-meet) (and-swap (has m k) (has f.read.0 k)))
+        any_below-same _ (has (meet f.read.0 m)) 8
+        (λ k b. rw (hit-word_at m k b, read-at k b, has-meet) (and-swap (has m k) (has f.read.0 k)))
         ∙ any-has (bit_and f.read.0 m) (omega (arith, and_le_l f.read.0 m, s.read_fits))
 
     pub is_marked-frame : is_marked (maps h) l ≡ not (nat_eq f.read.0 0 && nat_eq f.modified.0 0)
@@ -155,7 +187,9 @@ module _ (h : Held) (l : ℕ) (f : FrameView) (found : frame_of h.frames l ≡ S
         ∙ any-has (bit_or f.read.0 f.modified.0) (or_of_8 _ _ s.read_fits s.modified_fits)
         ∙ neither f.read.0 f.modified.0
 
-    word-dirty : (k : ℕ) → k < 8 → cond (is_some (cond (has f.dirty.0 k) (Some f.tag.0) None)) (unwrap_or (cond (has f.valid.0 k) (Some (get_or f.words k 0)) None) 0) 0 ≡ cond (has f.dirty.0 k) (get_or f.words k 0) 0
+    word-dirty : (k : ℕ) → k < 8
+        → cond (is_some (cond (has f.dirty.0 k) (Some f.tag.0) None))
+        (unwrap_or (cond (has f.valid.0 k) (Some (get_or f.words k 0)) None) 0) 0 ≡ cond (has f.dirty.0 k) (get_or f.words k 0) 0
     word-dirty k b = elim (cases_Bool (has f.dirty.0 k)) [
       | inl t ↦ rw (t, s.dirty_valid k t) refl
       | inr n ↦ rw n refl
@@ -166,7 +200,12 @@ module _ (h : Held) (l : ℕ) (f : FrameView) (found : frame_of h.frames l ≡ S
     dirty_words-frame = eight-same _ _ (λ k b. rw (dirty-at k b, value-at k b) (word-dirty k b))
 
     first_dirty : (t : ℕ) (a b c d e g i j : Bool) → (((((((a || b) || c) || d) || e) || g) || i) || j) ≡ true →
-        unwrap_or (or_else (cond a (Some t) None) (or_else (cond b (Some t) None) (or_else (cond c (Some t) None) (or_else (cond d (Some t) None) (or_else (cond e (Some t) None) (or_else (cond g (Some t) None) (or_else (cond i (Some t) None) (cond j (Some t) None)))))))) 0 ≡ t
+        unwrap_or (or_else (cond a (Some t) None)
+        (or_else (cond b (Some t) None)
+        (or_else (cond c (Some t) None)
+        (or_else (cond d (Some t) None)
+        (or_else (cond e (Some t) None)
+        (or_else (cond g (Some t) None) (or_else (cond i (Some t) None) (cond j (Some t) None)))))))) 0 ≡ t
     first_dirty t true b c d e g i j p = refl
     first_dirty t false true c d e g i j p = refl
     first_dirty t false false true d e g i j p = refl
@@ -180,8 +219,18 @@ module _ (h : Held) (l : ℕ) (f : FrameView) (found : frame_of h.frames l ≡ S
     pub dirty_tag-frame : nat_eq f.dirty.0 0 ≡ false → dirty_tag (maps h) l ≡ f.tag.0
     unfolding dirty_tag first_of_line any_below
     dirty_tag-frame n =
-        rw (dirty-at 0 (omega arith), dirty-at 1 (omega arith), dirty-at 2 (omega arith), dirty-at 3 (omega arith), dirty-at 4 (omega arith), dirty-at 5 (omega arith), dirty-at 6 (omega arith), dirty-at 7 (omega arith))
-        (first_dirty f.tag.0 (has f.dirty.0 0) (has f.dirty.0 1) (has f.dirty.0 2) (has f.dirty.0 3) (has f.dirty.0 4) (has f.dirty.0 5) (has f.dirty.0 6) (has f.dirty.0 7) (any-has f.dirty.0 s.dirty_fits ∙ ap not n))
+        rw (
+          dirty-at 0 (omega arith),
+          dirty-at 1 (omega arith),
+          dirty-at 2 (omega arith),
+          dirty-at 3 (omega arith),
+          dirty-at 4 (omega arith),
+          dirty-at 5 (omega arith),
+          dirty-at 6 (omega arith),
+          dirty-at 7 (omega arith),
+        )
+        (first_dirty f.tag.0 (has f.dirty.0 0) (has f.dirty.0 1) (has f.dirty.0 2) (has f.dirty.0 3) (has f.dirty.0 4) (has f.dirty.0 5)
+        (has f.dirty.0 6) (has f.dirty.0 7) (any-has f.dirty.0 s.dirty_fits ∙ ap not n))
 
     pub dirty_copy-frame : f.line.0 ≡ l → option_map tagged_of (dirty_part f) ≡ dirty_copy (maps h) l
     unfolding dirty_copy dirty_part
@@ -193,7 +242,9 @@ module _ (h : Held) (l : ℕ) (f : FrameView) (found : frame_of h.frames l ≡ S
     pub views-frame : f.line.0 ≡ l → Views (maps h) l f
     views-frame line = record {
       line = line;
-      valid = sym (mask_of-same _ (has f.valid.0) (λ k b. rw (value-at k b) (is_some-cond (has f.valid.0 k) (get_or f.words k 0))) ∙ mask_of-has f.valid.0 s.valid_fits);
+      valid =
+          sym (mask_of-same _ (has f.valid.0) (λ k b. rw (value-at k b) (is_some-cond (has f.valid.0 k) (get_or f.words k 0)))
+          ∙ mask_of-has f.valid.0 s.valid_fits);
       words = λ w q e. value-word w q e;
       read = sym (mask_of-same _ (has f.read.0) read-at ∙ mask_of-has f.read.0 s.read_fits);
       modified = sym modified_mask-frame;

@@ -1,5 +1,6 @@
 -- What is counted of the ways, after one of them changed.
-use Rattle.std.proofs.Common.{ℕ, suc, zero, ◌+◌, ◌*◌, ◌%◌, ◌<◌, ◌≤◌, ◌≡◌, Bool, true, false, not, cond, ◌&&◌, inl, inr, List, [], ◌∷◌, length, get_or, set, map, replicate, Option, Some, None, is_some, nat_eq, refl, sym, ◌∙◌, ap, arith}
+use Rattle.std.proofs.Common.{ℕ, suc, zero, ◌+◌, ◌*◌, ◌%◌, ◌<◌, ◌≤◌, ◌≡◌, Bool, true, false, not, cond, ◌&&◌, inl, inr, List, [], ◌∷◌}
+use Rattle.std.proofs.Common.{length, get_or, set, map, replicate, Option, Some, None, is_some, nat_eq, refl, sym, ◌∙◌, ap, arith}
 use Rattle.std.specs.Option.{IfSome}
 use Rattle.std.specs.Bool.{MatchBool}
 use Rattle.std.proofs.lemmas.Bool.{false≢true, cases_lt, cases_Bool, eq-eqb, ne_eqb}
@@ -24,7 +25,8 @@ module _ (q : Option FrameView → Bool) where
       count_ways q (set fs i o) + num (q (get_or fs i None)) ≡ count_ways q fs + num (q o)
   count-set [] i o b = absurd (omega arith)
   count-set (p ∷ ps) zero o b = rw (count-head o ps, count-head p ps) (omega arith)
-  count-set (p ∷ ps) (suc i) o b = let r = count-set ps i o (omega arith) in rw (count-head p (set ps i o), count-head p ps) (omega (arith, r))
+  count-set (p ∷ ps) (suc i) o b = let r = count-set ps i o (omega arith) in
+      rw (count-head p (set ps i o), count-head p ps) (omega (arith, r))
 
   pub count-most : (fs : List (Option FrameView)) → count_ways q fs ≤ length fs
   unfolding count_ways
@@ -56,7 +58,8 @@ chosen false x = refl
 pub writes-home : (dirs d : ℕ) (o : Option FrameView) → writes_in dirs d o ≡ is_home (written_home dirs o) d
 unfolding written_in written_home
 writes-home dirs d None = refl
-writes-home dirs d (Some f) = chosen (nat_eq d (f.line.0 % dirs) && not (nat_eq f.modified.0 0)) f.line.0 ∙ sym (home_test (not (nat_eq f.modified.0 0)) (f.line.0 % dirs) d)
+writes-home dirs d (Some f) = chosen (nat_eq d (f.line.0 % dirs) && not (nat_eq f.modified.0 0)) f.line.0
+    ∙ sym (home_test (not (nat_eq f.modified.0 0)) (f.line.0 % dirs) d)
 
 pub reads-home : (dirs d : ℕ) (o : Option FrameView) → reads_in dirs d o ≡ is_home (read_home dirs o) d
 unfolding reads_in read_home
@@ -91,7 +94,8 @@ module _ (dirs : ℕ) (some_dirs : 1 ≤ dirs) (few : dirs ≤ 64) where
   pub never-written : (d : ℕ) → dirs ≤ d → (o : Option FrameView) → writes_in dirs d o ≡ false
   unfolding written_in
   never-written d b None = refl
-  never-written d b (Some f) = chosen (nat_eq d (f.line.0 % dirs) && not (nat_eq f.modified.0 0)) f.line.0 ∙ apart f.line.0 d (not (nat_eq f.modified.0 0)) b
+  never-written d b (Some f) = chosen (nat_eq d (f.line.0 % dirs) && not (nat_eq f.modified.0 0)) f.line.0
+      ∙ apart f.line.0 d (not (nat_eq f.modified.0 0)) b
 
   pub never-read : (d : ℕ) → dirs ≤ d → (o : Option FrameView) → reads_in dirs d o ≡ false
   unfolding reads_in
@@ -103,22 +107,27 @@ itself d = eq-eqb d d refl
 
 -- where a way counts at a home, the number there isn't zero
 module _ (fs : List (Option FrameView)) (i : ℕ) (inside : i < length fs) (ns : List ℕ) where
-  counted-some : (q : ℕ → Option FrameView → Bool) (home : Option FrameView → Option ℕ) → ((d : ℕ) (o : Option FrameView) → q d o ≡ is_home (home o) d) →
-      ((d : ℕ) → d < 64 → get_or ns d 0 ≡ count_ways (q d) fs) → (r : Option ℕ) → IfSome r (λ d. d < 64) → r ≡ home (get_or fs i None) → IfSome r (λ d. 0 < get_or ns d 0)
+  counted-some : (q : ℕ → Option FrameView → Bool) (home : Option FrameView → Option ℕ)
+      → ((d : ℕ) (o : Option FrameView) → q d o ≡ is_home (home o) d) →
+      ((d : ℕ) → d < 64 → get_or ns d 0 ≡ count_ways (q d) fs) → (r : Option ℕ) → IfSome r (λ d. d < 64) → r ≡ home (get_or fs i None)
+      → IfSome r (λ d. 0 < get_or ns d 0)
   counted-some q home same is None b e = tt
   counted-some q home same is (Some d) b e =
       let t : q d (get_or fs i None) ≡ true = same d (get_or fs i None) ∙ (rw (← e) (itself d)) in
       rw (is d b) (count-some (q d) fs i inside t)
 
-  pub written-some : (dirs : ℕ) → ((d : ℕ) → d < 64 → get_or ns d 0 ≡ count_ways (writes_in dirs d) fs) → (r : Option ℕ) → IfSome r (λ d. d < 64) →
+  pub written-some : (dirs : ℕ) → ((d : ℕ) → d < 64 → get_or ns d 0 ≡ count_ways (writes_in dirs d) fs) → (r : Option ℕ)
+      → IfSome r (λ d. d < 64) →
       r ≡ written_home dirs (get_or fs i None) → IfSome r (λ d. 0 < get_or ns d 0)
   written-some dirs is r b e = counted-some (writes_in dirs) (written_home dirs) (writes-home dirs) is r b e
 
-  pub read-some : (dirs : ℕ) → ((d : ℕ) → d < 64 → get_or ns d 0 ≡ count_ways (reads_in dirs d) fs) → (r : Option ℕ) → IfSome r (λ d. d < 64) →
+  pub read-some : (dirs : ℕ) → ((d : ℕ) → d < 64 → get_or ns d 0 ≡ count_ways (reads_in dirs d) fs) → (r : Option ℕ)
+      → IfSome r (λ d. d < 64) →
       r ≡ read_home dirs (get_or fs i None) → IfSome r (λ d. 0 < get_or ns d 0)
   read-some dirs is r b e = counted-some (reads_in dirs) (read_home dirs) (reads-home dirs) is r b e
 
-pub counted-small : (q : ℕ → Option FrameView → Bool) (fs : List (Option FrameView)) (ns : List ℕ) → ((d : ℕ) → d < 64 → get_or ns d 0 ≡ count_ways (q d) fs) →
+pub counted-small : (q : ℕ → Option FrameView → Bool) (fs : List (Option FrameView)) (ns : List ℕ)
+    → ((d : ℕ) → d < 64 → get_or ns d 0 ≡ count_ways (q d) fs) →
     length fs ≤ 16384 → (d : ℕ) → d < 64 → get_or ns d 0 ≤ 16384
 counted-small q fs ns is small d b = let m = count-most (q d) fs in let e = is d b in omega (arith, m, e, small)
 
@@ -129,7 +138,8 @@ num-most false = omega arith
 pub dirty-fits : (fs : List (Option FrameView)) (n : ℕ) (b : Bool) → n ≡ count_ways dirty_way fs → length fs ≤ 16384 → n + num b ≤ 16385
 dirty-fits fs n b e small = let m = count-most dirty_way fs in let k = num-most b in omega (arith, m, e, small, k)
 
-pub dirty-enough : (fs : List (Option FrameView)) (i n m : ℕ) (b : Bool) → i < length fs → n ≡ count_ways dirty_way fs → b ≡ dirty_way (get_or fs i None) → num b ≤ n + m
+pub dirty-enough : (fs : List (Option FrameView)) (i n m : ℕ) (b : Bool) → i < length fs → n ≡ count_ways dirty_way fs
+    → b ≡ dirty_way (get_or fs i None) → num b ≤ n + m
 dirty-enough fs i n m true inside e t = let c = count-some dirty_way fs i inside (sym t) in omega (arith, c, e)
 dirty-enough fs i n m false inside e t = omega arith
 
@@ -160,7 +170,8 @@ unfolding holds_line tag_of
 other-line None l n = refl
 other-line (Some f) l n = ne_eqb f.line.0 l n
 
-pub other-tag : (fs : List (Option FrameView)) (ts : List ℕ) → ts ≡ map tag_of fs → (i l d : ℕ) → i < length fs → (get_or ts i d ≡ l → ⊥) → holds_line l (get_or fs i None) ≡ false
+pub other-tag : (fs : List (Option FrameView)) (ts : List ℕ) → ts ≡ map tag_of fs → (i l d : ℕ) → i < length fs → (get_or ts i d ≡ l → ⊥)
+    → holds_line l (get_or fs i None) ≡ false
 other-tag fs ts e i l d b n = other-line (get_or fs i None) l (λ t. n (rw e (tag-get fs i d b ∙ t)))
 
 -- ---- whether any way is read
@@ -175,9 +186,11 @@ unfolding reads_in
 none-read dirs d = refl
 
 pub any-read : (dirs d : ℕ) (fs : List (Option FrameView)) (n : ℕ) → n ≡ count_ways (reads_in dirs d) fs →
-    MatchBool (not (nat_eq n 0)) ((i : ℕ) × (reads_in dirs d (get_or fs i None) ≡ true)) ((i : ℕ) → reads_in dirs d (get_or fs i None) ≡ false)
+    MatchBool (not (nat_eq n 0)) ((i : ℕ) × (reads_in dirs d (get_or fs i None) ≡ true))
+    ((i : ℕ) → reads_in dirs d (get_or fs i None) ≡ false)
 unfolding count_ways
-any-read dirs d fs n e = go (not (nat_eq n 0)) (ap (λ x. not (nat_eq x 0)) e ∙ sym (any_below-count (λ i. reads_in dirs d (get_or fs i None)) (length fs)))
+any-read dirs d fs n e =
+    go (not (nat_eq n 0)) (ap (λ x. not (nat_eq x 0)) e ∙ sym (any_below-count (λ i. reads_in dirs d (get_or fs i None)) (length fs)))
   where
     within : (i : ℕ) → reads_in dirs d (get_or fs i None) ≡ true → i < length fs
     within i t = elim (cases_lt i (length fs)) [

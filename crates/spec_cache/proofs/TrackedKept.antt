@@ -15,10 +15,13 @@ use Rattle.spec_cache.proofs.Counted.{count_below-same}
 use Rattle.spec_cache.proofs.Tallied.{recounted, writes-home, reads-home, count-none, map-none, zeros}
 use Rattle.spec_cache.proofs.SetTallies.{IsPerSet-empty}
 
-module _ (h : Held) (ts ws rs : List ℕ) (n : ℕ) (idle used : Counted) (k : IsTracked h ts ws rs n idle used) (i : ℕ) (o : Option FrameView) (inside : i < length h.frames) where
+module _ (h : Held) (ts ws rs : List ℕ) (n : ℕ) (idle used : Counted) (k : IsTracked h ts ws rs n idle used) (i : ℕ) (o : Option FrameView)
+    (inside : i < length h.frames) where
   pub IsTracked-set : (t : ℕ) → t ≡ tag_of o → (us vs : List ℕ) (m : ℕ) (a b : Counted) →
-      ((d : ℕ) → get_or us d 0 + num (is_home (written_home h.config.dirs (get_or h.frames i None)) d) ≡ get_or ws d 0 + num (is_home (written_home h.config.dirs o) d)) →
-      ((d : ℕ) → get_or vs d 0 + num (is_home (read_home h.config.dirs (get_or h.frames i None)) d) ≡ get_or rs d 0 + num (is_home (read_home h.config.dirs o) d)) →
+      ((d : ℕ) → get_or us d 0 + num (is_home (written_home h.config.dirs (get_or h.frames i None)) d) ≡ get_or ws d 0 + num
+      (is_home (written_home h.config.dirs o) d)) →
+      ((d : ℕ) → get_or vs d 0 + num (is_home (read_home h.config.dirs (get_or h.frames i None)) d) ≡ get_or rs d 0 + num
+      (is_home (read_home h.config.dirs o) d)) →
       m + num (dirty_way (get_or h.frames i None)) ≡ n + num (dirty_way o) →
       IsPerSet idle_way (record h { frames = set h.frames i o }) a → IsPerSet used_way (record h { frames = set h.frames i o }) b →
       IsTracked (record h { frames = set h.frames i o }) (set ts i t) us vs m a b
@@ -36,7 +39,8 @@ module _ (h : Held) (ts ws rs : List ℕ) (n : ℕ) (idle used : Counted) (k : I
   }
 
 pub IsTracked-empty : (s : Settings) → s.sets * s.ways ≤ 16384 →
-    IsTracked (record { config = s; frames = replicate (s.sets * s.ways) None }) (replicate (s.sets * s.ways) 4294967295) (replicate 64 0) (replicate 64 0) 0
+    IsTracked (record { config = s; frames = replicate (s.sets * s.ways) None }) (replicate (s.sets * s.ways) 4294967295) (replicate 64 0)
+    (replicate 64 0) 0
     (record { counts = replicate s.sets 0; all = 0 }) (record { counts = replicate s.sets 0; all = 0 })
 IsTracked-empty s b = record {
   tags = map-none (s.sets * s.ways);
@@ -93,7 +97,8 @@ same-tags [] i o b e = absurd (omega arith)
 same-tags (p ∷ ps) zero o b e = ap (λ (t : ℕ). t ∷ map tag_of ps) e
 same-tags (p ∷ ps) (suc i) o b e = ap (λ (ts : List ℕ). tag_of p ∷ ts) (same-tags ps i o (omega arith) e)
 
-same-test : (q : Option FrameView → Bool) (fs : List (Option FrameView)) (i : ℕ) (o : Option FrameView) → i < length fs → q (get_or fs i None) ≡ q o
+same-test : (q : Option FrameView → Bool) (fs : List (Option FrameView)) (i : ℕ) (o : Option FrameView) → i < length fs
+    → q (get_or fs i None) ≡ q o
     → (j : ℕ) → q (get_or fs j None) ≡ q (get_or (set fs i o) j None)
 same-test q fs i o b e j = elim (cases_eq j i) [
   | inl z ↦ rw z (e ∙ sym (ap q (get_or-set_same fs i o None b)))

@@ -1,5 +1,6 @@
 -- A frame: one line's words with their marks, what it says of each word, and how each call changes it.
-use Rattle.std.specs.Prelude.{ℕ, ◌^◌, ◌<◌, ◌≡◌, ◌≢◌, Bool, true, false, not, cond, ◌==◌, ◌&&◌, List, length, get_or, slice_set, Option, Some, None, if◌then◌else◌}
+use Rattle.std.specs.Prelude.{ℕ, ◌^◌, ◌<◌, ◌≡◌, ◌≢◌, Bool, true, false, not, cond, ◌==◌, ◌&&◌, List, length, get_or, slice_set, Option}
+use Rattle.std.specs.Prelude.{Some, None, if◌then◌else◌}
 use Rattle.tcc_base.specs.declared.access.Tagged.{Tagged}
 use Rattle.tcc_maps.specs.Masks.{has, minus, join, masked}
 use Rattle.tcc_maps.specs.Words.{eight}
@@ -55,7 +56,15 @@ IsWay (Some f) = IsFrame f
 
 -- a frame of the line with no valid word
 unfoldable pub empty_frame : ℕ → FrameView
-empty_frame l = record { line = record { 0 = l }; words = eight (λ _. 0); valid = record { 0 = 0 }; read = record { 0 = 0 }; modified = record { 0 = 0 }; dirty = record { 0 = 0 }; tag = record { 0 = 0 } }
+empty_frame l = record {
+  line = record { 0 = l };
+  words = eight (λ _. 0);
+  valid = record { 0 = 0 };
+  read = record { 0 = 0 };
+  modified = record { 0 = 0 };
+  dirty = record { 0 = 0 };
+  tag = record { 0 = 0 };
+}
 
 -- the word is marked read, unless it is modified
 unfoldable pub marked_frame : ℕ → FrameView → FrameView

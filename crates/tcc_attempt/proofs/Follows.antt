@@ -1,5 +1,6 @@
 -- An instruction of a core is one of the plain machine, where the memory agrees with what was used.
-use Rattle.std.proofs.Common.{◌≡◌, ℕ, suc, zero, ◌+◌, ◌*◌, ◌/◌, ◌%◌, ◌^◌, ◌<◌, Bool, true, false, cond, [], ◌∷◌, ◌++◌, Option, Some, None, add-one, refl, ap, sym, ◌∙◌, arith}
+use Rattle.std.proofs.Common.{◌≡◌, ℕ, suc, zero, ◌+◌, ◌*◌, ◌/◌, ◌%◌, ◌^◌, ◌<◌, Bool, true, false, cond, [], ◌∷◌, ◌++◌, Option, Some, None}
+use Rattle.std.proofs.Common.{add-one, refl, ap, sym, ◌∙◌, arith}
 use Rattle.std.specs.Prelude.{IsSomeAnd, ◌==◌}
 use Rattle.tcc_base.specs.Bytes.{bytes_of}
 use Rattle.tcc_base.specs.Put.{put}
@@ -27,19 +28,24 @@ patched-whole : (word addr value : ℕ) → word < 2 ^ 32 → addr % 4 ≡ 0 →
 unfolding patched unit_of
 patched-whole word addr value h e l = rw e (omega arith)
 
-pub patched-small : (word addr : ℕ) (size : Size) (value : ℕ) → word < 2 ^ 32 → addr % bytes_of size ≡ 0 → patched word addr size value < 2 ^ 32
+pub patched-small : (word addr : ℕ) (size : Size) (value : ℕ) → word < 2 ^ 32 → addr % bytes_of size ≡ 0
+    → patched word addr size value < 2 ^ 32
 unfolding patched unit_of
 patched-small word addr Word value h e = rw e (omega arith)
 patched-small word addr Half value h e = halves (addr % 4) refl (omega arith) (omega arith)
   where
-    halves : (k : ℕ) → addr % 4 ≡ k → k < 4 → k % 2 ≡ 0 → (word % 256 ^ (addr % 4)) + (value % 65536) * 256 ^ (addr % 4) + (word / (256 ^ (addr % 4) * 65536)) * (256 ^ (addr % 4) * 65536) < 2 ^ 32
+    halves : (k : ℕ) → addr % 4 ≡ k → k < 4 → k % 2 ≡ 0
+        → (word % 256 ^ (addr % 4)) + (value % 65536) * 256 ^ (addr % 4) + (word / (256 ^ (addr % 4) * 65536)) *
+        (256 ^ (addr % 4) * 65536) < 2 ^ 32
     halves zero q l m = rw q (omega arith)
     halves (suc zero) q l m = absurd (omega arith)
     halves (suc (suc zero)) q l m = rw q (omega arith)
     halves (suc (suc (suc k))) q l m = absurd (omega arith)
 patched-small word addr Byte value h e = bytes (addr % 4) refl (omega arith)
   where
-    bytes : (k : ℕ) → addr % 4 ≡ k → k < 4 → (word % 256 ^ (addr % 4)) + (value % 256) * 256 ^ (addr % 4) + (word / (256 ^ (addr % 4) * 256)) * (256 ^ (addr % 4) * 256) < 2 ^ 32
+    bytes : (k : ℕ) → addr % 4 ≡ k → k < 4
+        → (word % 256 ^ (addr % 4)) + (value % 256) * 256 ^ (addr % 4) + (word / (256 ^ (addr % 4) * 256)) *
+        (256 ^ (addr % 4) * 256) < 2 ^ 32
     bytes zero q l = rw q (omega arith)
     bytes (suc zero) q l = rw q (omega arith)
     bytes (suc (suc zero)) q l = rw q (omega arith)
@@ -54,7 +60,8 @@ put-small f w x h k v = at (v == w)
     at false = h v
 
 -- one more plain step
-pub steps-next : (base : ℕ) (p : Program) (n : ℕ) (from a : Attempt) → steps base p n from ≡ Some a → a.outcome ≡ Goes → steps base p (n + 1) from ≡ Some (stepped base p a (p.need a.local))
+pub steps-next : (base : ℕ) (p : Program) (n : ℕ) (from a : Attempt) → steps base p n from ≡ Some a → a.outcome ≡ Goes
+    → steps base p (n + 1) from ≡ Some (stepped base p a (p.need a.local))
 unfolding steps plain_step
 steps-next base p n from a e f = rw (add-one, e, f)
 
@@ -82,29 +89,36 @@ seen_after base Ends x old v = old v
 seen_after base (Halts code) x old v = old v
 seen_after base (Traps code) x old v = old v
 
-put-seen : (base addr : ℕ) (f old : ℕ → ℕ) (x y : ℕ) → ((v : ℕ) → f v ≡ old v) → x ≡ y → (v : ℕ) → put f (word_of base addr) x v ≡ cond (v == word_of base addr) y (old v)
+put-seen : (base addr : ℕ) (f old : ℕ → ℕ) (x y : ℕ) → ((v : ℕ) → f v ≡ old v) → x ≡ y → (v : ℕ)
+    → put f (word_of base addr) x v ≡ cond (v == word_of base addr) y (old v)
 put-seen base addr f old x y h e v = at (v == word_of base addr)
   where
     at : (b : Bool) → cond b x (f v) ≡ cond b y (old v)
     at true = e
     at false = h v
 
-stored-seen : (base : ℕ) (p : Program) (s t : CoreState) (ram : ℕ → ℕ) (a : Attempt) (addr : ℕ) (size : Size) (value y : ℕ) → Reaches s ram a → patched (a.ram (word_of base addr)) addr size value ≡ y →
+stored-seen : (base : ℕ) (p : Program) (s t : CoreState) (ram : ℕ → ℕ) (a : Attempt) (addr : ℕ) (size : Size) (value y : ℕ)
+    → Reaches s ram a → patched (a.ram (word_of base addr)) addr size value ≡ y →
     ((v : ℕ) → sees t ram v ≡ cond (v == word_of base addr) y (sees s ram v)) → (v : ℕ) → stored base a.ram addr size value v ≡ sees t ram v
 unfolding stored
-stored-seen base p s t ram a addr size value y r e f v = put-seen base addr a.ram (sees s ram) (patched (a.ram (word_of base addr)) addr size value) y r.words e v ∙ sym (f v)
+stored-seen base p s t ram a addr size value y r e f v =
+    put-seen base addr a.ram (sees s ram) (patched (a.ram (word_of base addr)) addr size value) y r.words e v ∙ sym (f v)
 
-stored-small : (base : ℕ) (ram : ℕ → ℕ) (addr : ℕ) (size : Size) (value : ℕ) → IsSmall ram → addr % bytes_of size ≡ 0 → IsSmall (stored base ram addr size value)
+stored-small : (base : ℕ) (ram : ℕ → ℕ) (addr : ℕ) (size : Size) (value : ℕ) → IsSmall ram → addr % bytes_of size ≡ 0
+    → IsSmall (stored base ram addr size value)
 unfolding stored
-stored-small base ram addr size value h e = put-small ram (word_of base addr) (patched (ram (word_of base addr)) addr size value) h (patched-small (ram (word_of base addr)) addr size value (h (word_of base addr)) e)
+stored-small base ram addr size value h e = put-small ram (word_of base addr) (patched (ram (word_of base addr)) addr size value) h
+    (patched-small (ram (word_of base addr)) addr size value (h (word_of base addr)) e)
 
 -- the core with another cache and other spilled words
 abbrev pub with_words : CoreState → Cache → (ℕ → Option ℕ) → CoreState
 with_words s c sp = record s { cache = c; spilled = sp }
 
 -- a plain step with this need, where the core's instruction is finished
-pub reaches-next : (base : ℕ) (p : Program) (s : CoreState) (c : Cache) (sp : ℕ → Option ℕ) (ram : ℕ → ℕ) (a : Attempt) (need : Need) (x : ℕ) → NeedFits need → Reaches s ram a → TakesOld base need x (sees s ram) →
-    ((v : ℕ) → sees (with_words s c sp) ram v ≡ seen_after base need x (sees s ram) v) → Reaches (finished p need x (with_words s c sp)) ram (stepped base p a need)
+pub reaches-next : (base : ℕ) (p : Program) (s : CoreState) (c : Cache) (sp : ℕ → Option ℕ) (ram : ℕ → ℕ) (a : Attempt) (need : Need)
+    (x : ℕ) → NeedFits need → Reaches s ram a → TakesOld base need x (sees s ram) →
+    ((v : ℕ) → sees (with_words s c sp) ram v ≡ seen_after base need x (sees s ram) v)
+    → Reaches (finished p need x (with_words s c sp)) ram (stepped base p a need)
 unfolding finished one_more_instruction sees loaded
 reaches-next base p s c sp ram a Nothing x f r t h = record {
   local = ap (λ l. p.after l None) r.local;
@@ -155,7 +169,8 @@ reaches-next base p s c sp ram a (Loads addr size) x f r t h =
     let e : a.ram (word_of base addr) ≡ x = r.words (word_of base addr) ∙ t in
     record {
       local = ap (λ y. p.after a.local (Some (part y addr size))) e ∙ ap (λ l. p.after l (Some (part x addr size))) r.local;
-      loads = ap (λ y. a.loads ++ load_of addr size (part y addr size) ∷ []) e ∙ ap (λ l. l ++ load_of addr size (part x addr size) ∷ []) r.loads;
+      loads = ap (λ y. a.loads ++ load_of addr size (part y addr size) ∷ []) e
+          ∙ ap (λ l. l ++ load_of addr size (part x addr size) ∷ []) r.loads;
       stores = r.stores;
       console = r.console;
       outcome = r.outcome;
@@ -168,7 +183,8 @@ reaches-next base p s c sp ram a (Stores addr Word value) x f r t h = record {
   stores = ap (λ l. l ++ store_of addr Word value ∷ []) r.stores;
   console = r.console;
   outcome = r.outcome;
-  words = stored-seen base p s (with_words s c sp) ram a addr Word value value r (patched-whole (a.ram (word_of base addr)) addr value (r.small (word_of base addr)) f.0 f.1) h;
+  words = stored-seen base p s (with_words s c sp) ram a addr Word value value r
+      (patched-whole (a.ram (word_of base addr)) addr value (r.small (word_of base addr)) f.0 f.1) h;
   small = stored-small base a.ram addr Word value r.small f.0;
 }
 reaches-next base p s c sp ram a (Stores addr Half value) x f r t h = record {
@@ -177,7 +193,8 @@ reaches-next base p s c sp ram a (Stores addr Half value) x f r t h = record {
   stores = ap (λ l. l ++ store_of addr Half value ∷ []) r.stores;
   console = r.console;
   outcome = r.outcome;
-  words = stored-seen base p s (with_words s c sp) ram a addr Half value (patched x addr Half value) r (ap (λ y. patched y addr Half value) (r.words (word_of base addr) ∙ t)) h;
+  words = stored-seen base p s (with_words s c sp) ram a addr Half value (patched x addr Half value) r
+      (ap (λ y. patched y addr Half value) (r.words (word_of base addr) ∙ t)) h;
   small = stored-small base a.ram addr Half value r.small f.0;
 }
 reaches-next base p s c sp ram a (Stores addr Byte value) x f r t h = record {
@@ -186,18 +203,22 @@ reaches-next base p s c sp ram a (Stores addr Byte value) x f r t h = record {
   stores = ap (λ l. l ++ store_of addr Byte value ∷ []) r.stores;
   console = r.console;
   outcome = r.outcome;
-  words = stored-seen base p s (with_words s c sp) ram a addr Byte value (patched x addr Byte value) r (ap (λ y. patched y addr Byte value) (r.words (word_of base addr) ∙ t)) h;
+  words = stored-seen base p s (with_words s c sp) ram a addr Byte value (patched x addr Byte value) r
+      (ap (λ y. patched y addr Byte value) (r.words (word_of base addr) ∙ t)) h;
   small = stored-small base a.ram addr Byte value r.small f.0;
 }
 reaches-next base p s c sp ram a (Changes addr changed) x f r t h =
     let e : a.ram (word_of base addr) ≡ x = r.words (word_of base addr) ∙ t in
     record {
       local = ap (λ y. p.after a.local (Some (part y addr Word))) e ∙ ap (λ l. p.after l (Some (part x addr Word))) r.local;
-      loads = ap (λ y. a.loads ++ load_of addr Word (part y addr Word) ∷ []) e ∙ ap (λ l. l ++ load_of addr Word (part x addr Word) ∷ []) r.loads;
-      stores = ap (λ y. a.stores ++ store_of addr Word (changed (part y addr Word)) ∷ []) e ∙ ap (λ l. l ++ store_of addr Word (changed (part x addr Word)) ∷ []) r.stores;
+      loads = ap (λ y. a.loads ++ load_of addr Word (part y addr Word) ∷ []) e
+          ∙ ap (λ l. l ++ load_of addr Word (part x addr Word) ∷ []) r.loads;
+      stores = ap (λ y. a.stores ++ store_of addr Word (changed (part y addr Word)) ∷ []) e
+          ∙ ap (λ l. l ++ store_of addr Word (changed (part x addr Word)) ∷ []) r.stores;
       console = r.console;
       outcome = r.outcome;
-      words = stored-seen base p s (with_words s c sp) ram a addr Word (changed (part (a.ram (word_of base addr)) addr Word)) (patched x addr Word (changed (part x addr Word))) r (ap (λ y. patched y addr Word (changed (part y addr Word))) e) h;
+      words = stored-seen base p s (with_words s c sp) ram a addr Word (changed (part (a.ram (word_of base addr)) addr Word))
+          (patched x addr Word (changed (part x addr Word))) r (ap (λ y. patched y addr Word (changed (part y addr Word))) e) h;
       small = stored-small base a.ram addr Word (changed (part (a.ram (word_of base addr)) addr Word)) r.small f;
     }
 
@@ -208,10 +229,13 @@ Claim sh p s us = (ram : ℕ → ℕ) → IsSmall ram → Agrees us ram → IsSo
 some-and : {A : Type 0} (o : Option A) (P : A → Type 0) (x : A) → o ≡ Some x → P x → IsSomeAnd o P
 some-and o P x e h = rw e h
 
-next-from : (base : ℕ) (p : Program) (s t : CoreState) (ram : ℕ → ℕ) (o : Option Attempt) → steps base p s.n (begun s.saved ram) ≡ o → s.ended ≡ Goes → IsSomeAnd o (Reaches s ram) →
-    ((a : Attempt) → Reaches s ram a → Reaches t ram (stepped base p a (p.need a.local))) → IsSomeAnd (steps base p (s.n + 1) (begun s.saved ram)) (Reaches t ram)
+next-from : (base : ℕ) (p : Program) (s t : CoreState) (ram : ℕ → ℕ) (o : Option Attempt) → steps base p s.n (begun s.saved ram) ≡ o
+    → s.ended ≡ Goes → IsSomeAnd o (Reaches s ram) →
+    ((a : Attempt) → Reaches s ram a → Reaches t ram (stepped base p a (p.need a.local)))
+    → IsSomeAnd (steps base p (s.n + 1) (begun s.saved ram)) (Reaches t ram)
 next-from base p s t ram None q g h f = absurd h
-next-from base p s t ram (Some a) q g h f = some-and (steps base p (s.n + 1) (begun s.saved ram)) (Reaches t ram) (stepped base p a (p.need a.local)) (steps-next base p s.n (begun s.saved ram) a q (h.outcome ∙ g)) (f a h)
+next-from base p s t ram (Some a) q g h f = some-and (steps base p (s.n + 1) (begun s.saved ram)) (Reaches t ram)
+    (stepped base p a (p.need a.local)) (steps-next base p s.n (begun s.saved ram) a q (h.outcome ∙ g)) (f a h)
 
 finished-n : (p : Program) (need : Need) (x : ℕ) (s : CoreState) → (finished p need x s).n ≡ s.n + 1
 unfolding finished one_more_instruction
@@ -236,7 +260,8 @@ finished-saved p (Halts code) x s = refl
 finished-saved p (Traps code) x s = refl
 
 -- an instruction that is finished: its attempt claims what it did before, and the step
-pub finished-claims : (sh : Shape) (p : Program) (s : CoreState) (us vs : Uses) (c : Cache) (sp : ℕ → Option ℕ) (need : Need) (x : ℕ) → NeedFits need → p.need s.local ≡ need → s.ended ≡ Goes → Claim sh p s us →
+pub finished-claims : (sh : Shape) (p : Program) (s : CoreState) (us vs : Uses) (c : Cache) (sp : ℕ → Option ℕ) (need : Need) (x : ℕ)
+    → NeedFits need → p.need s.local ≡ need → s.ended ≡ Goes → Claim sh p s us →
     ((ram : ℕ → ℕ) → Agrees vs ram → TakesOld sh.base need x (sees s ram)) →
     ((ram : ℕ → ℕ) → Agrees vs ram → (v : ℕ) → sees (with_words s c sp) ram v ≡ seen_after sh.base need x (sees s ram) v) →
     Claim sh p (finished p need x (with_words s c sp)) (us ++ vs)
@@ -244,8 +269,10 @@ unfolding finished
 finished-claims sh p s us vs c sp need x f e g k t h ram small agrees =
     let w = agrees-right us vs ram agrees in
     rw (finished-n p need x (with_words s c sp), finished-saved p need x (with_words s c sp))
-    (next-from sh.base p s (finished p need x (with_words s c sp)) ram (steps sh.base p s.n (begun s.saved ram)) refl g (k ram small (agrees-left us vs ram agrees))
-    (λ a r. let q : p.need a.local ≡ need = ap p.need r.local ∙ e in rw q (reaches-next sh.base p s c sp ram a need x f r (t ram w) (h ram w))))
+    (next-from sh.base p s (finished p need x (with_words s c sp)) ram (steps sh.base p s.n (begun s.saved ram)) refl g
+    (k ram small (agrees-left us vs ram agrees))
+    (λ a r. let q : p.need a.local ≡ need = ap p.need r.local ∙ e in
+    rw q (reaches-next sh.base p s c sp ram a need x f r (t ram w) (h ram w))))
 
 -- in a phase with an attempt
 abbrev pub is_live : Phase → Bool
@@ -282,19 +309,34 @@ in-to sh p s us (Solo t) e k = k
 abbrev pub with_all : CoreState → Cache → (ℕ → Option ℕ) → Phase → Option Awaited → (ℕ → Bool) → CoreState
 with_all s c sp q aw ow = record s { cache = c; spilled = sp; phase = q; awaited = aw; owing = ow }
 
-reaches-same : (s : CoreState) (c : Cache) (sp : ℕ → Option ℕ) (q : Phase) (aw : Option Awaited) (ow : ℕ → Bool) (ram : ℕ → ℕ) (a : Attempt) → ((v : ℕ) → sees (with_words s c sp) ram v ≡ sees s ram v) → Reaches s ram a → Reaches (with_all s c sp q aw ow) ram a
+reaches-same : (s : CoreState) (c : Cache) (sp : ℕ → Option ℕ) (q : Phase) (aw : Option Awaited) (ow : ℕ → Bool) (ram : ℕ → ℕ) (a : Attempt)
+    → ((v : ℕ) → sees (with_words s c sp) ram v ≡ sees s ram v) → Reaches s ram a → Reaches (with_all s c sp q aw ow) ram a
 unfolding sees
-reaches-same s c sp q aw ow ram a h r = record { local = r.local; loads = r.loads; stores = r.stores; console = r.console; outcome = r.outcome; words = λ v. r.words v ∙ sym (h v); small = r.small }
+reaches-same s c sp q aw ow ram a h r =
+    record {
+      local = r.local;
+      loads = r.loads;
+      stores = r.stores;
+      console = r.console;
+      outcome = r.outcome;
+      words = λ v. r.words v ∙ sym (h v);
+      small = r.small;
+    }
 
 some-weaken : {A : Type 0} (o : Option A) (P Q : A → Type 0) → ((x : A) → P x → Q x) → IsSomeAnd o P → IsSomeAnd o Q
 some-weaken None P Q f h = h
 some-weaken (Some x) P Q f h = f x h
 
-pub claim-same : (sh : Shape) (p : Program) (s : CoreState) (us : Uses) (c : Cache) (sp : ℕ → Option ℕ) (q : Phase) (aw : Option Awaited) (ow : ℕ → Bool) → ((ram : ℕ → ℕ) (v : ℕ) → sees (with_words s c sp) ram v ≡ sees s ram v) → Claim sh p s us → Claim sh p (with_all s c sp q aw ow) us
+pub claim-same : (sh : Shape) (p : Program) (s : CoreState) (us : Uses) (c : Cache) (sp : ℕ → Option ℕ) (q : Phase) (aw : Option Awaited)
+    (ow : ℕ → Bool) → ((ram : ℕ → ℕ) (v : ℕ) → sees (with_words s c sp) ram v ≡ sees s ram v) → Claim sh p s us
+    → Claim sh p (with_all s c sp q aw ow) us
 claim-same sh p s us c sp q aw ow h k ram small agrees =
-    some-weaken (steps sh.base p s.n (begun s.saved ram)) (Reaches s ram) (Reaches (with_all s c sp q aw ow) ram) (λ a r. reaches-same s c sp q aw ow ram a (h ram) r) (k ram small agrees)
+    some-weaken (steps sh.base p s.n (begun s.saved ram)) (Reaches s ram) (Reaches (with_all s c sp q aw ow) ram)
+    (λ a r. reaches-same s c sp q aw ow ram a (h ram) r) (k ram small agrees)
 
-in-same : (sh : Shape) (p : Program) (s : CoreState) (us : Uses) (c : Cache) (sp : ℕ → Option ℕ) (q : Phase) (aw : Option Awaited) (ow : ℕ → Bool) (r : Phase) → ((ram : ℕ → ℕ) (v : ℕ) → sees (with_words s c sp) ram v ≡ sees s ram v) → FollowsIn sh p s us r → FollowsIn sh p (with_all s c sp q aw ow) us r
+in-same : (sh : Shape) (p : Program) (s : CoreState) (us : Uses) (c : Cache) (sp : ℕ → Option ℕ) (q : Phase) (aw : Option Awaited)
+    (ow : ℕ → Bool) (r : Phase) → ((ram : ℕ → ℕ) (v : ℕ) → sees (with_words s c sp) ram v ≡ sees s ram v) → FollowsIn sh p s us r
+    → FollowsIn sh p (with_all s c sp q aw ow) us r
 in-same sh p s us c sp q aw ow Halted h k = tt
 in-same sh p s us c sp q aw ow Running h k = claim-same sh p s us c sp q aw ow h k
 in-same sh p s us c sp q aw ow AwaitTid h k = claim-same sh p s us c sp q aw ow h k
@@ -305,9 +347,17 @@ in-same sh p s us c sp q aw ow (Overflowing t) h k = claim-same sh p s us c sp q
 in-same sh p s us c sp q aw ow (Solo t) h k = claim-same sh p s us c sp q aw ow h k
 
 -- in the same phase
-pub follows-same : (sh : Shape) (p : Program) (s : CoreState) (us : Uses) (c : Cache) (sp : ℕ → Option ℕ) (aw : Option Awaited) (ow : ℕ → Bool) → ((ram : ℕ → ℕ) (v : ℕ) → sees (with_words s c sp) ram v ≡ sees s ram v) → Follows sh p s us → Follows sh p (with_all s c sp s.phase aw ow) us
+pub follows-same : (sh : Shape) (p : Program) (s : CoreState) (us : Uses) (c : Cache) (sp : ℕ → Option ℕ) (aw : Option Awaited)
+    (ow : ℕ → Bool) → ((ram : ℕ → ℕ) (v : ℕ) → sees (with_words s c sp) ram v ≡ sees s ram v) → Follows sh p s us
+    → Follows sh p (with_all s c sp s.phase aw ow) us
 follows-same sh p s us c sp aw ow h k = record { ends = k.ends; steps = in-same sh p s us c sp s.phase aw ow s.phase h k.steps }
 
 -- from one phase with an attempt into another
-pub follows-into : (sh : Shape) (p : Program) (s : CoreState) (us : Uses) (c : Cache) (sp : ℕ → Option ℕ) (q : Phase) (aw : Option Awaited) (ow : ℕ → Bool) → ((ram : ℕ → ℕ) (v : ℕ) → sees (with_words s c sp) ram v ≡ sees s ram v) → is_live s.phase ≡ true → EndFits q s.ended → Follows sh p s us → Follows sh p (with_all s c sp q aw ow) us
-follows-into sh p s us c sp q aw ow h l e k = record { ends = e; steps = in-from sh p (with_all s c sp q aw ow) us q (claim-same sh p s us c sp q aw ow h (in-to sh p s us s.phase l k.steps)) }
+pub follows-into : (sh : Shape) (p : Program) (s : CoreState) (us : Uses) (c : Cache) (sp : ℕ → Option ℕ) (q : Phase) (aw : Option Awaited)
+    (ow : ℕ → Bool) → ((ram : ℕ → ℕ) (v : ℕ) → sees (with_words s c sp) ram v ≡ sees s ram v) → is_live s.phase ≡ true → EndFits q s.ended
+    → Follows sh p s us → Follows sh p (with_all s c sp q aw ow) us
+follows-into sh p s us c sp q aw ow h l e k =
+    record {
+      ends = e;
+      steps = in-from sh p (with_all s c sp q aw ow) us q (claim-same sh p s us c sp q aw ow h (in-to sh p s us s.phase l k.steps));
+    }

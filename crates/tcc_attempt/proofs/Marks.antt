@@ -1,5 +1,6 @@
 -- Exec keeps what a core's marks say of its attempt.
-use Rattle.std.proofs.Common.{◌≡◌, ℕ, Bool, true, false, not, cond, ◌||◌, ◌⊎◌, inl, inr, ⊎_elim, [], ◌∷◌, ◌++◌, Option, Some, None, is_some, append-nil, refl, ap, sym, ◌∙◌, subst, arith}
+use Rattle.std.proofs.Common.{◌≡◌, ℕ, Bool, true, false, not, cond, ◌||◌, ◌⊎◌, inl, inr, ⊎_elim, [], ◌∷◌, ◌++◌, Option, Some, None, is_some}
+use Rattle.std.proofs.Common.{append-nil, refl, ap, sym, ◌∙◌, subst, arith}
 use Rattle.std.specs.Prelude.{IfSome, ◌==◌}
 use Rattle.std.proofs.lemmas.Bool.{cases_eq}
 use Rattle.std.proofs.lemmas.Bool.Decides.{nat_tests}
@@ -18,7 +19,9 @@ use Rattle.tcc_rules.specs.State.{CoreState, Awaited, Phase, Running, AwaitTid, 
 use Rattle.tcc_rules.specs.Sends.{nothing, flush_line}
 use Rattle.tcc_rules.specs.Attempt.{Out, moves, is_solo, is_running, finished, new_word, one_more_instruction}
 use Rattle.tcc_rules.specs.Commit.{phase_after_commit, ended_after_commit, committed_core, commit, solo_commit}
-use Rattle.tcc_rules.specs.Execute.{request_line, place, overflow, full_set, miss, with_read_mark, load_valid, load_spilled, load, stored_in_buffer, stored_in_frame, word_store, marks_read, change_valid, change_spilled, partial_store, end_transaction, store_by_size, execute_need, execute}
+use Rattle.tcc_rules.specs.Execute.{request_line, place, overflow, full_set, miss, with_read_mark, load_valid, load_spilled, load}
+use Rattle.tcc_rules.specs.Execute.{stored_in_buffer, stored_in_frame, word_store, marks_read, change_valid, change_spilled, partial_store}
+use Rattle.tcc_rules.specs.Execute.{end_transaction, store_by_size, execute_need, execute}
 use Rattle.tcc_rules.specs.CoreExec.{unless_awaiting, exec_in_phase, core_exec}
 use Rattle.tcc_attempt.specs.Sound.{SoundCore}
 use Rattle.tcc_attempt.specs.Follows.{Uses, used_in, used_at, used_by}
@@ -35,7 +38,14 @@ pub record Keeps (c d : Cache) : Type 0 where
 
 pub all-keep : (g : Bool) (c d : Cache) (us : Uses) → Keeps c d → AllStand g c us → AllStand g d us
 all-keep g c d [] k h = tt
-all-keep g c d (u ∷ us) k h = (record { marked = k.reads u.0 h.0.marked; value = λ m. subst (λ (o : Option ℕ). StillHas g o u.1) (sym (k.value u.0 m)) (h.0.value (k.stays u.0 m)) }, all-keep g c d us k h.1)
+all-keep g c d (u ∷ us) k h = (
+  record {
+    marked = k.reads u.0 h.0.marked;
+    value = λ m. subst (λ (o : Option ℕ). StillHas g o u.1) (sym (k.value u.0 m))
+        (h.0.value (k.stays u.0 m));
+  },
+  all-keep g c d us k h.1,
+)
 
 pub all-append : (g : Bool) (c : Cache) (us vs : Uses) → AllStand g c us → AllStand g c vs → AllStand g c (us ++ vs)
 all-append g c [] vs h k = k
@@ -50,16 +60,27 @@ keeps-marked w c = record { reads = λ v h. grind (arith, nat_tests); stays = λ
 
 keeps-stored : (w x : ℕ) (also : Bool) (c : Cache) → Keeps c (stored w x also c)
 unfolding stored
-keeps-stored w x also c = record { reads = λ v h. grind (arith, nat_tests); stays = λ v h. grind (arith, nat_tests); value = λ v h. grind (arith, nat_tests) }
+keeps-stored w x also c =
+    record { reads = λ v h. grind (arith, nat_tests); stays = λ v h. grind (arith, nat_tests); value = λ v h. grind (arith, nat_tests) }
 
 keeps-placed : (sh : Shape) (l : ℕ) (c : Cache) → Keeps c (placed sh l c)
-keeps-placed sh l c = record { reads = λ v h. read-placed sh l c v ∙ h; stays = λ v h. sym (modified-placed sh l c v) ∙ h; value = λ v h. value-placed sh l c v }
+keeps-placed sh l c = record {
+  reads = λ v h. read-placed sh l c v ∙ h;
+  stays = λ v h. sym (modified-placed sh l c v) ∙ h;
+  value = λ v h. value-placed sh l c v;
+}
 
 keeps-then : (b c d : Cache) → Keeps b c → Keeps c d → Keeps b d
-keeps-then b c d h k = record { reads = λ v r. k.reads v (h.reads v r); stays = λ v m. h.stays v (k.stays v m); value = λ v m. k.value v m ∙ h.value v (k.stays v m) }
+keeps-then b c d h k =
+    record {
+      reads = λ v r. k.reads v (h.reads v r);
+      stays = λ v m. h.stays v (k.stays v m);
+      value = λ v m. k.value v m ∙ h.value v (k.stays v m);
+    }
 
 -- a new use stands: it was marked, and stored since or as it was found
-pub stands-new : (d : Cache) (w : ℕ) (sp : Option ℕ) (m : Bool) (o : Option ℕ) → (m ≡ false → (x : ℕ) → o ≡ Some x → UseStands false d w x) → AllStand false d (used_in w sp m o)
+pub stands-new : (d : Cache) (w : ℕ) (sp : Option ℕ) (m : Bool) (o : Option ℕ) → (m ≡ false → (x : ℕ) → o ≡ Some x → UseStands false d w x)
+    → AllStand false d (used_in w sp m o)
 stands-new d w (Some z) m o f = tt
 stands-new d w None true o f = tt
 stands-new d w None false None f = tt
@@ -127,12 +148,16 @@ owes-none : (sh : Shape) (s : CoreState) (us : Uses) → owed_in s.phase ≡ fal
 owes-none sh s us h m d o = let i = m.owes d o in let j = i.0 in cc
 
 -- the phase stays, and the cache keeps its read marks and the values of words that aren't modified
-stays-fit : (sh : Shape) (s t : CoreState) (us new : Uses) (q : Phase) → Runs sh s us q → t.phase ≡ s.phase → t.owing ≡ s.owing → Keeps s.cache t.cache →
-    (is_running q ≡ true → AllStand false t.cache new) → (is_running q ≡ false → (v : ℕ) → s.cache.read v ≡ false → t.cache.read v ≡ false) → Adds s.cache t.cache new → MarksFit sh t (us ++ new)
+stays-fit : (sh : Shape) (s t : CoreState) (us new : Uses) (q : Phase) → Runs sh s us q → t.phase ≡ s.phase → t.owing ≡ s.owing
+    → Keeps s.cache t.cache →
+    (is_running q ≡ true → AllStand false t.cache new) → (is_running q ≡ false → (v : ℕ) → s.cache.read v ≡ false → t.cache.read v ≡ false)
+    → Adds s.cache t.cache new → MarksFit sh t (us ++ new)
 stays-fit sh s t us new Running r p o k f g a =
     let i : t.phase ≡ Running = p ∙ r.is in
     record {
-      stand = subst (λ (x : Phase). UsesStand t.cache (us ++ new) x) (sym i) (all-append false t.cache us new (all-keep false s.cache t.cache us k (subst (λ (x : Phase). UsesStand s.cache us x) r.is r.fit.stand)) (f refl));
+      stand = subst (λ (x : Phase). UsesStand t.cache (us ++ new) x) (sym i)
+          (all-append false t.cache us new
+          (all-keep false s.cache t.cache us k (subst (λ (x : Phase). UsesStand s.cache us x) r.is r.fit.stand)) (f refl));
       used = used-added s.cache t.cache us new a r.fit.used;
       awaits = λ h. absurd (let j = ap awaits_in i in cc);
       owes = λ d h. absurd (owes-none sh s us (ap owed_in r.is) r.fit d (ap (λ (w : ℕ → Bool). w d) (sym o) ∙ h));
@@ -140,7 +165,8 @@ stays-fit sh s t us new Running r p o k f g a =
 stays-fit sh s t us new (Solo tid) r p o k f g a =
     let i : t.phase ≡ Solo tid = p ∙ r.is in
     record {
-      stand = subst (λ (x : Phase). UsesStand t.cache (us ++ new) x) (sym i) (λ v. g refl v ((subst (λ (x : Phase). UsesStand s.cache us x) r.is r.fit.stand) v));
+      stand = subst (λ (x : Phase). UsesStand t.cache (us ++ new) x) (sym i)
+          (λ v. g refl v ((subst (λ (x : Phase). UsesStand s.cache us x) r.is r.fit.stand) v));
       used = used-added s.cache t.cache us new a r.fit.used;
       awaits = λ h. absurd (let j = ap awaits_in i in cc);
       owes = λ d h. absurd (owes-none sh s us (ap owed_in r.is) r.fit d (ap (λ (w : ℕ → Bool). w d) (sym o) ∙ h));
@@ -156,12 +182,15 @@ abbrev pub OutFits : Shape → Uses → Option Out → Type 0
 OutFits sh us o = IfSome o (λ t. MarksFit sh t.core (uses_after t us))
 
 -- an instruction that is finished in a state with another cache
-done-fit : (sh : Shape) (p : Program) (need : Need) (x : ℕ) (s t : CoreState) (us new : Uses) (q : Phase) → Runs sh s us q → t.phase ≡ s.phase → t.owing ≡ s.owing → Keeps s.cache t.cache →
-    (is_running q ≡ true → AllStand false t.cache new) → (is_running q ≡ false → (v : ℕ) → s.cache.read v ≡ false → t.cache.read v ≡ false) → Adds s.cache t.cache new → MarksFit sh (finished p need x t) (us ++ new)
+done-fit : (sh : Shape) (p : Program) (need : Need) (x : ℕ) (s t : CoreState) (us new : Uses) (q : Phase) → Runs sh s us q
+    → t.phase ≡ s.phase → t.owing ≡ s.owing → Keeps s.cache t.cache →
+    (is_running q ≡ true → AllStand false t.cache new) → (is_running q ≡ false → (v : ℕ) → s.cache.read v ≡ false → t.cache.read v ≡ false)
+    → Adds s.cache t.cache new → MarksFit sh (finished p need x t) (us ++ new)
 done-fit sh p need x s t us new q r e o k f g a =
     let b = finished-same p need x t in
     stays-fit sh s (finished p need x t) us new q r (b.phase ∙ e) (b.owing ∙ o) (subst (Keeps s.cache) (sym b.cache) k)
-    (λ h. subst (λ (c : Cache). AllStand false c new) (sym b.cache) (f h)) (λ h v i. ap (λ (c : Cache). c.read v) b.cache ∙ g h v i) (subst (λ (c : Cache). Adds s.cache c new) (sym b.cache) a)
+    (λ h. subst (λ (c : Cache). AllStand false c new) (sym b.cache) (f h)) (λ h v i. ap (λ (c : Cache). c.read v) b.cache ∙ g h v i)
+    (subst (λ (c : Cache). Adds s.cache c new) (sym b.cache) a)
 
 none-stand : (c : Cache) (vs : Uses) → vs ≡ [] → AllStand false c vs
 none-stand c vs e = subst (AllStand false c) (sym e) tt
@@ -169,7 +198,8 @@ none-stand c vs e = subst (AllStand false c) (sym e) tt
 spilled-unused : (s : CoreState) (w x : ℕ) → s.spilled w ≡ Some x → used_at s w ≡ []
 spilled-unused s w x e = rw e
 
-overflow-fit : (sh : Shape) (s : CoreState) (us : Uses) (q : Phase) → is_solo s.phase ≡ false → Runs sh s us q → MarksFit sh (overflow s).core us
+overflow-fit : (sh : Shape) (s : CoreState) (us : Uses) (q : Phase) → is_solo s.phase ≡ false → Runs sh s us q
+    → MarksFit sh (overflow s).core us
 unfolding overflow
 overflow-fit sh s us Running h r = record {
   stand = subst (λ (x : Phase). UsesStand s.cache us x) r.is r.fit.stand;
@@ -197,11 +227,15 @@ full_set-fit sh l s us q r = at (is_solo s.phase) refl (not (all_marked sh s.cac
 request_line-fit : (sh : Shape) (l : ℕ) (s : CoreState) (us : Uses) (q : Phase) → Runs sh s us q →
     MarksFit sh (request_line sh l s).core (us ++ [])
 unfolding request_line
-request_line-fit sh l s us q r = stays-fit sh s (record s { awaited = Some (record { line = l; stale = false }) }) us [] q r refl refl (keeps-itself s.cache) (λ h. tt) (λ h v i. i) (adds-none s.cache [])
+request_line-fit sh l s us q r = stays-fit sh s (record s { awaited = Some (record { line = l; stale = false }) }) us [] q r refl refl
+    (keeps-itself s.cache) (λ h. tt) (λ h v i. i) (adds-none s.cache [])
 
-place_ask-fit : (sh : Shape) (l : ℕ) (s : CoreState) (us : Uses) (q : Phase) → Runs sh s us q → MarksFit sh (request_line sh l (place sh l s)).core (us ++ [])
+place_ask-fit : (sh : Shape) (l : ℕ) (s : CoreState) (us : Uses) (q : Phase) → Runs sh s us q
+    → MarksFit sh (request_line sh l (place sh l s)).core (us ++ [])
 unfolding request_line place
-place_ask-fit sh l s us q r = stays-fit sh s (record s { cache = placed sh l s.cache; awaited = Some (record { line = l; stale = false }) }) us [] q r refl refl (keeps-placed sh l s.cache) (λ h. tt) (λ h v i. read-placed sh l s.cache v ∙ i) (λ v i. inl (sym (read-placed sh l s.cache v) ∙ i))
+place_ask-fit sh l s us q r = stays-fit sh s (record s { cache = placed sh l s.cache; awaited = Some (record { line = l; stale = false }) })
+    us [] q r refl refl (keeps-placed sh l s.cache) (λ h. tt) (λ h v i. read-placed sh l s.cache v ∙ i)
+    (λ v i. inl (sym (read-placed sh l s.cache v) ∙ i))
 
 unused-fit : (sh : Shape) (us vs : Uses) (o : Option Out) → vs ≡ [] → OutFits sh us o → OutFits sh (us ++ vs) o
 unused-fit sh us vs o e h = subst (λ (l : Uses). OutFits sh l o) (sym (ap (λ (l : Uses). us ++ l) e ∙ append-nil us)) h
@@ -210,16 +244,20 @@ miss-fit : (sh : Shape) (l : ℕ) (s : CoreState) (us : Uses) (q : Phase) → Ru
 unfolding miss request_line
 miss-fit sh l s us q r = at (s.cache.held l) (free_way sh s.cache (set_of sh l))
   where
-    at : (b : Bool) (o : Option ℕ) → OutFits sh (us ++ []) (cond b (Some (request_line sh l s)) (cond (is_some o) (Some (request_line sh l (place sh l s))) (full_set sh l s)))
+    at : (b : Bool) (o : Option ℕ)
+        → OutFits sh (us ++ []) (cond b (Some (request_line sh l s))
+        (cond (is_some o) (Some (request_line sh l (place sh l s))) (full_set sh l s)))
     at true o = request_line-fit sh l s us q r
     at false (Some y) = place_ask-fit sh l s us q r
     at false None = unused-fit sh us [] (full_set sh l s) refl (full_set-fit sh l s us q r)
 
-missed-fit : (sh : Shape) (l : ℕ) (s : CoreState) (us vs : Uses) (q : Phase) → vs ≡ [] → Runs sh s us q → OutFits sh (us ++ vs) (miss sh l s)
+missed-fit : (sh : Shape) (l : ℕ) (s : CoreState) (us vs : Uses) (q : Phase) → vs ≡ [] → Runs sh s us q
+    → OutFits sh (us ++ vs) (miss sh l s)
 missed-fit sh l s us vs q e r = subst (λ (x : Uses). OutFits sh (us ++ x) (miss sh l s)) (sym e) (miss-fit sh l s us q r)
 
 -- only a word that is used becomes marked
-used-new : (w x : ℕ) (s : CoreState) → s.spilled w ≡ None → s.cache.modified w ≡ false → s.cache.value w ≡ Some x → is_used (used_at s w) w ≡ true
+used-new : (w x : ℕ) (s : CoreState) → s.spilled w ≡ None → s.cache.modified w ≡ false → s.cache.value w ≡ Some x
+    → is_used (used_at s w) w ≡ true
 unfolding is_used
 used-new w x s n m e = rw (n, m, e) (grind (arith, nat_tests))
 
@@ -231,7 +269,8 @@ adds-marked w x s n e v h = at (cases_eq w v) (s.cache.modified w) refl
     at (inl i) true q = inl (let j = read-marked w s.cache v in grind (arith, nat_tests))
     at (inr i) m q = inl (let j = read-marked w s.cache v in grind (arith, nat_tests))
 
-adds-stored : (w y x : ℕ) (s : CoreState) → s.spilled w ≡ None → s.cache.value w ≡ Some x → Adds s.cache (stored w y (marks_read w s) s.cache) (used_at s w)
+adds-stored : (w y x : ℕ) (s : CoreState) → s.spilled w ≡ None → s.cache.value w ≡ Some x
+    → Adds s.cache (stored w y (marks_read w s) s.cache) (used_at s w)
 adds-stored w y x s n e v h = at (cases_eq w v) (s.cache.modified w) refl
   where
     at : (w ≡ v) ⊎ (w ≡ v → ⊥) → (m : Bool) → s.cache.modified w ≡ m → (s.cache.read v ≡ true) ⊎ (is_used (used_at s w) v ≡ true)
@@ -247,23 +286,28 @@ used-marked w x c m e = record { marked = grind (arith, nat_tests); value = λ h
 running-is : (s : CoreState) (q : Phase) (b : Bool) → s.phase ≡ q → is_running s.phase ≡ b → is_running q ≡ b
 running-is s q b e h = ap is_running (sym e) ∙ h
 
-load-fit : (sh : Shape) (p : Program) (need : Need) (w : ℕ) (s : CoreState) (us : Uses) (q : Phase) → Runs sh s us q → OutFits sh (us ++ used_at s w) (load sh p need w s)
+load-fit : (sh : Shape) (p : Program) (need : Need) (w : ℕ) (s : CoreState) (us : Uses) (q : Phase) → Runs sh s us q
+    → OutFits sh (us ++ used_at s w) (load sh p need w s)
 unfolding load with_read_mark
 load-fit sh p need w s us q r = spilled_in (s.spilled w) refl
   where
-    valid_as : (x : ℕ) → s.spilled w ≡ None → s.cache.value w ≡ Some x → (b : Bool) → is_running s.phase ≡ b → MarksFit sh (finished p need x (cond b (record s { cache = marked w s.cache }) s)) (us ++ used_at s w)
-    valid_as x n v true e = done-fit sh p need x s (record s { cache = marked w s.cache }) us (used_at s w) q r refl refl (keeps-marked w s.cache)
+    valid_as : (x : ℕ) → s.spilled w ≡ None → s.cache.value w ≡ Some x → (b : Bool) → is_running s.phase ≡ b
+        → MarksFit sh (finished p need x (cond b (record s { cache = marked w s.cache }) s)) (us ++ used_at s w)
+    valid_as x n v true e = done-fit sh p need x s (record s { cache = marked w s.cache }) us (used_at s w) q r refl refl
+        (keeps-marked w s.cache)
         (λ h. stands-new (marked w s.cache) w (s.spilled w) (s.cache.modified w) (s.cache.value w) (λ m y f. used-marked w y s.cache m f))
         (λ h. absurd (let i = running-is s q true r.is e in cc))
         (adds-marked w x s n v)
-    valid_as x n v false e = done-fit sh p need x s s us (used_at s w) q r refl refl (keeps-itself s.cache) (λ h. absurd (let i = running-is s q false r.is e in cc)) (λ h u i. i) (adds-none s.cache (used_at s w))
+    valid_as x n v false e = done-fit sh p need x s s us (used_at s w) q r refl refl (keeps-itself s.cache)
+        (λ h. absurd (let i = running-is s q false r.is e in cc)) (λ h u i. i) (adds-none s.cache (used_at s w))
 
     valid_in : (o : Option ℕ) → s.spilled w ≡ None → s.cache.value w ≡ o → OutFits sh (us ++ used_at s w) (load_valid sh p need w s o)
     valid_in (Some x) n v = valid_as x n v (is_running s.phase) refl
     valid_in None n v = missed-fit sh (line_of w) s us (used_at s w) q (nothing-used s w n v) r
 
     spilled_in : (o : Option ℕ) → s.spilled w ≡ o → OutFits sh (us ++ used_at s w) (load_spilled sh p need w s o)
-    spilled_in (Some x) e = done-fit sh p need x s s us (used_at s w) q r refl refl (keeps-itself s.cache) (λ h. none-stand s.cache (used_at s w) (spilled-unused s w x e)) (λ h v i. i) (adds-none s.cache (used_at s w))
+    spilled_in (Some x) e = done-fit sh p need x s s us (used_at s w) q r refl refl (keeps-itself s.cache)
+        (λ h. none-stand s.cache (used_at s w) (spilled-unused s w x e)) (λ h v i. i) (adds-none s.cache (used_at s w))
     spilled_in None e = valid_in (s.cache.value w) e refl
 
 stored-same : (w x : ℕ) (c : Cache) (v : ℕ) → (stored w x false c).read v ≡ c.read v
@@ -272,17 +316,24 @@ stored-same w x c v = read-stored w x false c v ∙ grind (arith, nat_tests)
 stored-unread : (w x : ℕ) (c : Cache) (v : ℕ) → c.read v ≡ false → (stored w x false c).read v ≡ false
 stored-unread w x c v h = stored-same w x c v ∙ h
 
-word_store-fit : (sh : Shape) (p : Program) (need : Need) (w x : ℕ) (s : CoreState) (us : Uses) (q : Phase) → Runs sh s us q → OutFits sh (us ++ []) (word_store sh p need w x s)
+word_store-fit : (sh : Shape) (p : Program) (need : Need) (w x : ℕ) (s : CoreState) (us : Uses) (q : Phase) → Runs sh s us q
+    → OutFits sh (us ++ []) (word_store sh p need w x s)
 unfolding word_store stored_in_buffer stored_in_frame place
-word_store-fit sh p need w x s us q r = at (holds s.spilled (line_of w)) (s.cache.held (line_of w)) (free_way sh s.cache (set_of sh (line_of w)))
+word_store-fit sh p need w x s us q r = at (holds s.spilled (line_of w)) (s.cache.held (line_of w))
+    (free_way sh s.cache (set_of sh (line_of w)))
   where
     at : (a b : Bool) (o : Option ℕ) →
         OutFits sh (us ++ []) (cond a (Some (moves (finished p need x (stored_in_buffer w x s)) nothing))
         (cond b (Some (moves (finished p need x (stored_in_frame w x false s)) (flush_line sh s.cache (line_of w))))
-        (cond (is_some o) (Some (moves (finished p need x (stored_in_frame w x false (place sh (line_of w) s))) nothing)) (full_set sh (line_of w) s))))
-    at true b o = done-fit sh p need x s (stored_in_buffer w x s) us [] q r refl refl (keeps-itself s.cache) (λ h. tt) (λ h v i. i) (adds-none s.cache [])
-    at false true o = done-fit sh p need x s (stored_in_frame w x false s) us [] q r refl refl (keeps-stored w x false s.cache) (λ h. tt) (λ h v i. stored-unread w x s.cache v i) (λ v i. inl (sym (stored-same w x s.cache v) ∙ i))
-    at false false (Some y) = done-fit sh p need x s (stored_in_frame w x false (place sh (line_of w) s)) us [] q r refl refl (keeps-then s.cache (placed sh (line_of w) s.cache) (stored w x false (placed sh (line_of w) s.cache)) (keeps-placed sh (line_of w) s.cache) (keeps-stored w x false (placed sh (line_of w) s.cache)))
+        (cond (is_some o) (Some (moves (finished p need x (stored_in_frame w x false (place sh (line_of w) s))) nothing))
+        (full_set sh (line_of w) s))))
+    at true b o = done-fit sh p need x s (stored_in_buffer w x s) us [] q r refl refl (keeps-itself s.cache) (λ h. tt)
+        (λ h v i. i) (adds-none s.cache [])
+    at false true o = done-fit sh p need x s (stored_in_frame w x false s) us [] q r refl refl (keeps-stored w x false s.cache) (λ h. tt)
+        (λ h v i. stored-unread w x s.cache v i) (λ v i. inl (sym (stored-same w x s.cache v) ∙ i))
+    at false false (Some y) = done-fit sh p need x s (stored_in_frame w x false (place sh (line_of w) s)) us [] q r refl refl
+        (keeps-then s.cache (placed sh (line_of w) s.cache) (stored w x false (placed sh (line_of w) s.cache))
+        (keeps-placed sh (line_of w) s.cache) (keeps-stored w x false (placed sh (line_of w) s.cache)))
         (λ h. tt) (λ h v i. stored-unread w x (placed sh (line_of w) s.cache) v (read-placed sh (line_of w) s.cache v ∙ i))
         (λ v i. inl (sym (stored-same w x (placed sh (line_of w) s.cache) v ∙ read-placed sh (line_of w) s.cache v) ∙ i))
     at false false None = unused-fit sh us [] (full_set sh (line_of w) s) refl (full_set-fit sh (line_of w) s us q r)
@@ -295,7 +346,8 @@ changed-stands w y x c also e = record { marked = grind (arith, nat_tests); valu
 also-unread : (w y : ℕ) (c : Cache) (also : Bool) (v : ℕ) → also ≡ false → c.read v ≡ false → (stored w y also c).read v ≡ false
 also-unread w y c also v e h = read-stored w y also c v ∙ grind (arith, nat_tests)
 
-partial_store-fit : (sh : Shape) (p : Program) (need : Need) (w : ℕ) (s : CoreState) (us : Uses) (q : Phase) → Runs sh s us q → OutFits sh (us ++ used_at s w) (partial_store sh p need w s)
+partial_store-fit : (sh : Shape) (p : Program) (need : Need) (w : ℕ) (s : CoreState) (us : Uses) (q : Phase) → Runs sh s us q
+    → OutFits sh (us ++ used_at s w) (partial_store sh p need w s)
 unfolding partial_store stored_in_buffer stored_in_frame
 partial_store-fit sh p need w s us q r = spilled_in (s.spilled w) refl
   where
@@ -317,12 +369,19 @@ partial_store-fit sh p need w s us q r = spilled_in (s.spilled w) refl
         running_alone Halted e = absurd (cc)
 
     held_in : (x : ℕ) → s.spilled w ≡ None → s.cache.value w ≡ Some x → (b : Bool) → holds s.spilled (line_of w) ≡ b →
-        OutFits sh (us ++ used_at s w) (cond b (Some (moves (finished p need x (stored_in_buffer w (new_word need x) s)) nothing)) (Some (moves (finished p need x (stored_in_frame w (new_word need x) (marks_read w s) s)) (flush_line sh s.cache (line_of w)))))
-    held_in x n v true h = done-fit sh p need x s (stored_in_buffer w (new_word need x) s) us (used_at s w) q r refl refl (keeps-itself s.cache) (λ i. absurd (solo_holds h i)) (λ i u j. j) (adds-none s.cache (used_at s w))
-    held_in x n v false h = done-fit sh p need x s (stored_in_frame w (new_word need x) (marks_read w s) s) us (used_at s w) q r refl refl (keeps-stored w (new_word need x) (marks_read w s) s.cache)
+        OutFits sh (us ++ used_at s w)
+        (cond b (Some (moves (finished p need x (stored_in_buffer w (new_word need x) s)) nothing))
+        (Some (moves (finished p need x (stored_in_frame w (new_word need x) (marks_read w s) s))
+        (flush_line sh s.cache (line_of w)))))
+    held_in x n v true h = done-fit sh p need x s (stored_in_buffer w (new_word need x) s) us (used_at s w) q r refl refl
+        (keeps-itself s.cache) (λ i. absurd (solo_holds h i)) (λ i u j. j) (adds-none s.cache (used_at s w))
+    held_in x n v false h = done-fit sh p need x s (stored_in_frame w (new_word need x) (marks_read w s) s) us (used_at s w) q r refl refl
+        (keeps-stored w (new_word need x) (marks_read w s) s.cache)
         (λ i. stands-new (stored w (new_word need x) (marks_read w s) s.cache) w (s.spilled w) (s.cache.modified w) (s.cache.value w)
-        (λ m y f. changed-stands w (new_word need x) y s.cache (marks_read w s) (let j : is_running s.phase ≡ true = ap is_running r.is ∙ i in grind (arith, nat_tests))))
-        (λ i u j. also-unread w (new_word need x) s.cache (marks_read w s) u (let k : is_running s.phase ≡ false = ap is_running r.is ∙ i in grind (arith, nat_tests)) j)
+        (λ m y f. changed-stands w (new_word need x) y s.cache (marks_read w s)
+        (let j : is_running s.phase ≡ true = ap is_running r.is ∙ i in grind (arith, nat_tests))))
+        (λ i u j. also-unread w (new_word need x) s.cache (marks_read w s) u (let k : is_running s.phase ≡ false = ap is_running r.is ∙ i in
+        grind (arith, nat_tests)) j)
         (adds-stored w (new_word need x) x s n v)
 
     valid_in : (o : Option ℕ) → s.spilled w ≡ None → s.cache.value w ≡ o → OutFits sh (us ++ used_at s w) (change_valid sh p need w s o)
@@ -330,20 +389,27 @@ partial_store-fit sh p need w s us q r = spilled_in (s.spilled w) refl
     valid_in (Some x) n v = held_in x n v (holds s.spilled (line_of w)) refl
 
     spilled_in : (o : Option ℕ) → s.spilled w ≡ o → OutFits sh (us ++ used_at s w) (change_spilled sh p need w s o)
-    spilled_in (Some x) e = done-fit sh p need x s (stored_in_buffer w (new_word need x) s) us (used_at s w) q r refl refl (keeps-itself s.cache) (λ h. none-stand s.cache (used_at s w) (spilled-unused s w x e)) (λ h v i. i) (adds-none s.cache (used_at s w))
+    spilled_in (Some x) e = done-fit sh p need x s (stored_in_buffer w (new_word need x) s) us (used_at s w) q r refl refl
+        (keeps-itself s.cache) (λ h. none-stand s.cache (used_at s w) (spilled-unused s w x e))
+        (λ h v i. i) (adds-none s.cache (used_at s w))
     spilled_in None e = valid_in (s.cache.value w) e refl
 
 -- the transaction has ended: the core asks for a TID with the same uses, or has committed and has none
-awaits-fit : (sh : Shape) (t : CoreState) (us : Uses) → AllStand false t.cache us → OnlyUsed t.cache us → t.awaited ≡ None → ((d : ℕ) → t.owing d ≡ true → ⊥) → MarksFit sh (record t { phase = AwaitTid }) us
+awaits-fit : (sh : Shape) (t : CoreState) (us : Uses) → AllStand false t.cache us → OnlyUsed t.cache us → t.awaited ≡ None
+    → ((d : ℕ) → t.owing d ≡ true → ⊥) → MarksFit sh (record t { phase = AwaitTid }) us
 awaits-fit sh t us h k n o = record { stand = h; used = k; awaits = λ i. n; owes = λ d i. absurd (o d i) }
 
-committed-fit : (sh : Shape) (t : CoreState) (o : Outcome) → ((v : ℕ) → t.cache.read v ≡ false) → t.awaited ≡ None → ((d : ℕ) → t.owing d ≡ true → ⊥) → MarksFit sh (record t { ended = ended_after_commit o; phase = phase_after_commit o }) []
+committed-fit : (sh : Shape) (t : CoreState) (o : Outcome) → ((v : ℕ) → t.cache.read v ≡ false) → t.awaited ≡ None
+    → ((d : ℕ) → t.owing d ≡ true → ⊥) → MarksFit sh (record t { ended = ended_after_commit o; phase = phase_after_commit o }) []
 committed-fit sh t Goes u n f = record { stand = tt; used = none-used t.cache u; awaits = λ i. n; owes = λ d i. absurd (f d i) }
 committed-fit sh t Ended u n f = record { stand = tt; used = none-used t.cache u; awaits = λ i. n; owes = λ d i. absurd (f d i) }
-committed-fit sh t (HaltedWith code) u n f = record { stand = tt; used = none-used t.cache u; awaits = λ i. n; owes = λ d i. absurd (f d i) }
-committed-fit sh t (TrappedWith code) u n f = record { stand = tt; used = none-used t.cache u; awaits = λ i. n; owes = λ d i. absurd (f d i) }
+committed-fit sh t (HaltedWith code) u n f =
+    record { stand = tt; used = none-used t.cache u; awaits = λ i. n; owes = λ d i. absurd (f d i) }
+committed-fit sh t (TrappedWith code) u n f =
+    record { stand = tt; used = none-used t.cache u; awaits = λ i. n; owes = λ d i. absurd (f d i) }
 
-solo_commit-fit : (sh : Shape) (id t : ℕ) (s : CoreState) → s.awaited ≡ None → ((d : ℕ) → s.owing d ≡ true → ⊥) → MarksFit sh (solo_commit sh id t s).core []
+solo_commit-fit : (sh : Shape) (id t : ℕ) (s : CoreState) → s.awaited ≡ None → ((d : ℕ) → s.owing d ≡ true → ⊥)
+    → MarksFit sh (solo_commit sh id t s).core []
 unfolding solo_commit committed_core
 solo_commit-fit sh id t s n o = committed-fit sh (record (record (committed_core t s) {
   cache = Rattle.tcc_maps.specs.CacheChange.committed t (Rattle.tcc_maps.specs.CacheChange.words_dropped s.spilled s.cache);
@@ -352,25 +418,29 @@ solo_commit-fit sh id t s n o = committed-fit sh (record (record (committed_core
       Rattle.tcc_rules.specs.Commit.with_last_commit (Rattle.tcc_rules.specs.Commit.solo_writes_at sh s.cache s.spilled) t s.last_commit;
 }) { ended = s.ended; phase = s.phase }) s.ended (read-committed t (Rattle.tcc_maps.specs.CacheChange.words_dropped s.spilled s.cache)) n o
 
-commit-fit : (sh : Shape) (id t : ℕ) (s : CoreState) → s.awaited ≡ None → ((d : ℕ) → s.owing d ≡ true → ⊥) → MarksFit sh (commit sh id t s).core []
+commit-fit : (sh : Shape) (id t : ℕ) (s : CoreState) → s.awaited ≡ None → ((d : ℕ) → s.owing d ≡ true → ⊥)
+    → MarksFit sh (commit sh id t s).core []
 unfolding commit committed_core
 commit-fit sh id t s n o = committed-fit sh (record (record (committed_core t s) {
   last_commit = Rattle.tcc_rules.specs.Commit.with_last_commit (Rattle.tcc_maps.specs.Cache.writes_at sh s.cache) t s.last_commit;
 }) { ended = s.ended; phase = s.phase }) s.ended (read-committed t s.cache) n o
 
 -- an ending instruction
-end_transaction-fit : (sh : Shape) (id : ℕ) (p : Program) (need : Need) (s : CoreState) (us : Uses) (q : Phase) → Runs sh s us q → OutFits sh (us ++ []) (Some (end_transaction sh id q (finished p need 0 s)))
+end_transaction-fit : (sh : Shape) (id : ℕ) (p : Program) (need : Need) (s : CoreState) (us : Uses) (q : Phase) → Runs sh s us q
+    → OutFits sh (us ++ []) (Some (end_transaction sh id q (finished p need 0 s)))
 unfolding solo_commit
 end_transaction-fit sh id p need s us Running r =
     let b = finished-same p need 0 s in
     awaits-fit sh (finished p need 0 s) (us ++ [])
-    (subst (λ (c : Cache). AllStand false c (us ++ [])) (sym b.cache) (all-append false s.cache us [] (subst (λ (x : Phase). UsesStand s.cache us x) r.is r.fit.stand) tt))
+    (subst (λ (c : Cache). AllStand false c (us ++ [])) (sym b.cache)
+    (all-append false s.cache us [] (subst (λ (x : Phase). UsesStand s.cache us x) r.is r.fit.stand) tt))
     (subst (λ (c : Cache). OnlyUsed c (us ++ [])) (sym b.cache) (used-added s.cache s.cache us [] (adds-none s.cache []) r.fit.used))
     (b.awaited ∙ r.none)
     (λ d i. owes-none sh s us (ap owed_in r.is) r.fit d (ap (λ (w : ℕ → Bool). w d) (sym b.owing) ∙ i))
 end_transaction-fit sh id p need s us (Solo t) r =
     let b = finished-same p need 0 s in
-    solo_commit-fit sh id t (finished p need 0 s) (b.awaited ∙ r.none) (λ d i. owes-none sh s us (ap owed_in r.is) r.fit d (ap (λ (w : ℕ → Bool). w d) (sym b.owing) ∙ i))
+    solo_commit-fit sh id t (finished p need 0 s) (b.awaited ∙ r.none)
+    (λ d i. owes-none sh s us (ap owed_in r.is) r.fit d (ap (λ (w : ℕ → Bool). w d) (sym b.owing) ∙ i))
 end_transaction-fit sh id p need s us AwaitTid r = absurd (let j = r.executes in cc)
 end_transaction-fit sh id p need s us DoomedTid r = absurd (let j = r.executes in cc)
 end_transaction-fit sh id p need s us (Probing u) r = absurd (let j = r.executes in cc)
@@ -378,17 +448,23 @@ end_transaction-fit sh id p need s us (Ready u) r = absurd (let j = r.executes i
 end_transaction-fit sh id p need s us (Overflowing u) r = absurd (let j = r.executes in cc)
 end_transaction-fit sh id p need s us Halted r = absurd (let j = r.executes in cc)
 
-closed-fit : (sh : Shape) (id : ℕ) (p : Program) (need : Need) (s : CoreState) (us : Uses) (q : Phase) → Runs sh s us q → OutFits sh (us ++ []) (Some (end_transaction sh id s.phase (finished p need 0 s)))
-closed-fit sh id p need s us q r = subst (λ (x : Phase). OutFits sh (us ++ []) (Some (end_transaction sh id x (finished p need 0 s)))) (sym r.is) (end_transaction-fit sh id p need s us q r)
+closed-fit : (sh : Shape) (id : ℕ) (p : Program) (need : Need) (s : CoreState) (us : Uses) (q : Phase) → Runs sh s us q
+    → OutFits sh (us ++ []) (Some (end_transaction sh id s.phase (finished p need 0 s)))
+closed-fit sh id p need s us q r = subst (λ (x : Phase). OutFits sh (us ++ []) (Some (end_transaction sh id x (finished p need 0 s))))
+    (sym r.is) (end_transaction-fit sh id p need s us q r)
 
-store_by_size-fit : (sh : Shape) (p : Program) (addr : ℕ) (size : Size) (value : ℕ) (s : CoreState) (us : Uses) (q : Phase) → Runs sh s us q → OutFits sh (us ++ used_by sh.base s (Stores addr size value)) (store_by_size sh p addr size value s)
+store_by_size-fit : (sh : Shape) (p : Program) (addr : ℕ) (size : Size) (value : ℕ) (s : CoreState) (us : Uses) (q : Phase) → Runs sh s us q
+    → OutFits sh (us ++ used_by sh.base s (Stores addr size value)) (store_by_size sh p addr size value s)
 store_by_size-fit sh p addr Word value s us q r = word_store-fit sh p (Stores addr Word value) (word_of sh.base addr) value s us q r
 store_by_size-fit sh p addr Half value s us q r = partial_store-fit sh p (Stores addr Half value) (word_of sh.base addr) s us q r
 store_by_size-fit sh p addr Byte value s us q r = partial_store-fit sh p (Stores addr Byte value) (word_of sh.base addr) s us q r
 
-need-fit : (sh : Shape) (p : Program) (id : ℕ) (s : CoreState) (us : Uses) (q : Phase) (need : Need) → Runs sh s us q → OutFits sh (us ++ used_by sh.base s need) (execute_need sh p id s need)
-need-fit sh p id s us q Nothing r = done-fit sh p Nothing 0 s s us [] q r refl refl (keeps-itself s.cache) (λ h. tt) (λ h v i. i) (adds-none s.cache [])
-need-fit sh p id s us q (Prints byte) r = done-fit sh p (Prints byte) 0 s s us [] q r refl refl (keeps-itself s.cache) (λ h. tt) (λ h v i. i) (adds-none s.cache [])
+need-fit : (sh : Shape) (p : Program) (id : ℕ) (s : CoreState) (us : Uses) (q : Phase) (need : Need) → Runs sh s us q
+    → OutFits sh (us ++ used_by sh.base s need) (execute_need sh p id s need)
+need-fit sh p id s us q Nothing r = done-fit sh p Nothing 0 s s us [] q r refl refl (keeps-itself s.cache) (λ h. tt)
+    (λ h v i. i) (adds-none s.cache [])
+need-fit sh p id s us q (Prints byte) r = done-fit sh p (Prints byte) 0 s s us [] q r refl refl (keeps-itself s.cache) (λ h. tt)
+    (λ h v i. i) (adds-none s.cache [])
 need-fit sh p id s us q (Loads addr size) r = load-fit sh p (Loads addr size) (word_of sh.base addr) s us q r
 need-fit sh p id s us q (Stores addr size value) r = store_by_size-fit sh p addr size value s us q r
 need-fit sh p id s us q (Changes addr changed) r = partial_store-fit sh p (Changes addr changed) (word_of sh.base addr) s us q r
@@ -396,15 +472,19 @@ need-fit sh p id s us q Ends r = closed-fit sh id p Ends s us q r
 need-fit sh p id s us q (Halts code) r = closed-fit sh id p (Halts code) s us q r
 need-fit sh p id s us q (Traps code) r = closed-fit sh id p (Traps code) s us q r
 
-execute-fit : (sh : Shape) (p : Program) (id : ℕ) (s : CoreState) (us : Uses) (q : Phase) → Runs sh s us q → OutFits sh (us ++ used_by sh.base s (p.need s.local)) (execute sh p id s)
+execute-fit : (sh : Shape) (p : Program) (id : ℕ) (s : CoreState) (us : Uses) (q : Phase) → Runs sh s us q
+    → OutFits sh (us ++ used_by sh.base s (p.need s.local)) (execute sh p id s)
 unfolding execute
 execute-fit sh p id s us q r = need-fit sh p id s us q (p.need s.local) r
 
-unless-fit : (sh : Shape) (p : Program) (id : ℕ) (s : CoreState) (us : Uses) (q : Phase) (o : Option Awaited) → s.awaited ≡ o → s.phase ≡ q → (is_running q || is_solo q) ≡ true → SoundCore sh s → MarksFit sh s us → OutFits sh (us ++ used_by sh.base s (p.need s.local)) (unless_awaiting sh p id s o)
+unless-fit : (sh : Shape) (p : Program) (id : ℕ) (s : CoreState) (us : Uses) (q : Phase) (o : Option Awaited) → s.awaited ≡ o → s.phase ≡ q
+    → (is_running q || is_solo q) ≡ true → SoundCore sh s → MarksFit sh s us
+    → OutFits sh (us ++ used_by sh.base s (p.need s.local)) (unless_awaiting sh p id s o)
 unless-fit sh p id s us q (Some a) n e x k m = tt
 unless-fit sh p id s us q None n e x k m = execute-fit sh p id s us q (record { is = e; executes = x; fit = m; sound = k; none = n })
 
-phase-fit : (sh : Shape) (p : Program) (id : ℕ) (s : CoreState) (us : Uses) (q : Phase) → s.phase ≡ q → SoundCore sh s → MarksFit sh s us → OutFits sh (us ++ used_by sh.base s (p.need s.local)) (exec_in_phase sh p id s q)
+phase-fit : (sh : Shape) (p : Program) (id : ℕ) (s : CoreState) (us : Uses) (q : Phase) → s.phase ≡ q → SoundCore sh s → MarksFit sh s us
+    → OutFits sh (us ++ used_by sh.base s (p.need s.local)) (exec_in_phase sh p id s q)
 unfolding commit
 phase-fit sh p id s us Running e k m = unless-fit sh p id s us Running s.awaited refl e refl k m
 phase-fit sh p id s us (Solo t) e k m = unless-fit sh p id s us (Solo t) s.awaited refl e refl k m
@@ -415,6 +495,7 @@ phase-fit sh p id s us (Probing t) e k m = tt
 phase-fit sh p id s us (Overflowing t) e k m = tt
 phase-fit sh p id s us Halted e k m = tt
 
-pub core_exec-fit : (sh : Shape) (p : Program) (id : ℕ) (s : CoreState) (us : Uses) → SoundCore sh s → MarksFit sh s us → OutFits sh (us ++ used_by sh.base s (p.need s.local)) (core_exec sh p id s)
+pub core_exec-fit : (sh : Shape) (p : Program) (id : ℕ) (s : CoreState) (us : Uses) → SoundCore sh s → MarksFit sh s us
+    → OutFits sh (us ++ used_by sh.base s (p.need s.local)) (core_exec sh p id s)
 unfolding core_exec
 core_exec-fit sh p id s us k m = phase-fit sh p id s us s.phase refl k m

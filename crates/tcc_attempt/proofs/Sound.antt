@@ -1,5 +1,6 @@
 -- Each event of a core keeps what holds of it.
-use Rattle.std.proofs.Common.{◌≡◌, ℕ, ◌%◌, Bool, true, false, not, cond, ◌||◌, ◌⊎◌, inl, inr, ⊎_elim, Option, Some, None, is_some, refl, ap, sym, ◌∙◌, arith}
+use Rattle.std.proofs.Common.{◌≡◌, ℕ, ◌%◌, Bool, true, false, not, cond, ◌||◌, ◌⊎◌, inl, inr, ⊎_elim, Option, Some, None, is_some, refl, ap}
+use Rattle.std.proofs.Common.{sym, ◌∙◌, arith}
 use Rattle.std.specs.Prelude.{IfSome}
 use Rattle.std.proofs.lemmas.Bool.{cases_Bool, cases_eq}
 use Rattle.std.proofs.lemmas.Bool.Decides.{nat_tests}
@@ -10,7 +11,9 @@ use Rattle.tcc_maps.specs.Shape.{Shape, set_of}
 use Rattle.tcc_maps.specs.Cache.{Cache, IsCache, free_way, all_marked}
 use Rattle.tcc_maps.specs.CacheChange.{marked, stored, placed}
 use Rattle.tcc_maps.specs.Spilled.{holds}
-use Rattle.tcc_maps.proofs.Lemmas.{marked-keeps, stored-keeps, placed-keeps, any_below-at, any_below-found, held-placed, modified-placed, dirty-placed, read-placed, modified-marked, dirty-marked, held-marked, held-stored, modified-stored, dirty-stored}
+use Rattle.tcc_maps.proofs.Lemmas.{marked-keeps, stored-keeps, placed-keeps, any_below-at, any_below-found, held-placed, modified-placed}
+use Rattle.tcc_maps.proofs.Lemmas.{dirty-placed, read-placed, modified-marked, dirty-marked, held-marked, held-stored, modified-stored}
+use Rattle.tcc_maps.proofs.Lemmas.{dirty-stored}
 use Rattle.tcc_rules.specs.State.{CoreState, Awaited}
 use Rattle.tcc_rules.specs.Attempt.{Out, is_solo, is_running, one_more_instruction, finished}
 use Rattle.tcc_rules.specs.Execute.{request_line, place, overflow, full_set, miss, with_read_mark, stored_in_buffer, stored_in_frame}
@@ -20,13 +23,19 @@ use Rattle.tcc_attempt.specs.Sound.{AwaitsHeld, is_idle, SoundCore}
 pub finished-sound : (sh : Shape) (p : Program) (need : Need) (x : ℕ) (s : CoreState) → SoundCore sh s → SoundCore sh (finished p need x s)
 unfolding finished one_more_instruction
 finished-sound sh p Nothing x s k = record { cache = k.cache; awaits = k.awaits; alone = k.alone; apart = k.apart; unmarked = k.unmarked }
-finished-sound sh p (Loads addr size) x s k = record { cache = k.cache; awaits = k.awaits; alone = k.alone; apart = k.apart; unmarked = k.unmarked }
-finished-sound sh p (Stores addr size value) x s k = record { cache = k.cache; awaits = k.awaits; alone = k.alone; apart = k.apart; unmarked = k.unmarked }
-finished-sound sh p (Changes addr changed) x s k = record { cache = k.cache; awaits = k.awaits; alone = k.alone; apart = k.apart; unmarked = k.unmarked }
-finished-sound sh p (Prints byte) x s k = record { cache = k.cache; awaits = k.awaits; alone = k.alone; apart = k.apart; unmarked = k.unmarked }
+finished-sound sh p (Loads addr size) x s k =
+    record { cache = k.cache; awaits = k.awaits; alone = k.alone; apart = k.apart; unmarked = k.unmarked }
+finished-sound sh p (Stores addr size value) x s k =
+    record { cache = k.cache; awaits = k.awaits; alone = k.alone; apart = k.apart; unmarked = k.unmarked }
+finished-sound sh p (Changes addr changed) x s k =
+    record { cache = k.cache; awaits = k.awaits; alone = k.alone; apart = k.apart; unmarked = k.unmarked }
+finished-sound sh p (Prints byte) x s k =
+    record { cache = k.cache; awaits = k.awaits; alone = k.alone; apart = k.apart; unmarked = k.unmarked }
 finished-sound sh p Ends x s k = record { cache = k.cache; awaits = k.awaits; alone = k.alone; apart = k.apart; unmarked = k.unmarked }
-finished-sound sh p (Halts code) x s k = record { cache = k.cache; awaits = k.awaits; alone = k.alone; apart = k.apart; unmarked = k.unmarked }
-finished-sound sh p (Traps code) x s k = record { cache = k.cache; awaits = k.awaits; alone = k.alone; apart = k.apart; unmarked = k.unmarked }
+finished-sound sh p (Halts code) x s k =
+    record { cache = k.cache; awaits = k.awaits; alone = k.alone; apart = k.apart; unmarked = k.unmarked }
+finished-sound sh p (Traps code) x s k =
+    record { cache = k.cache; awaits = k.awaits; alone = k.alone; apart = k.apart; unmarked = k.unmarked }
 
 -- spilled words of a line
 pub holds-found : (sp : ℕ → Option ℕ) (l : ℕ) → holds sp l ≡ true → (v : ℕ) × (line_of v ≡ l) × (is_some (sp v) ≡ true)
@@ -51,11 +60,13 @@ pub request_line-sound : (sh : Shape) (l : ℕ) (s : CoreState) → s.cache.held
 unfolding request_line
 request_line-sound sh l s h k = record { cache = k.cache; awaits = h; alone = k.alone; apart = k.apart; unmarked = k.unmarked }
 
-placed-awaits : (sh : Shape) (l y : ℕ) (c : Cache) (o : Option Awaited) → free_way sh c (set_of sh l) ≡ Some y → AwaitsHeld c o → AwaitsHeld (placed sh l c) o
+placed-awaits : (sh : Shape) (l y : ℕ) (c : Cache) (o : Option Awaited) → free_way sh c (set_of sh l) ≡ Some y → AwaitsHeld c o
+    → AwaitsHeld (placed sh l c) o
 placed-awaits sh l y c None e h = tt
 placed-awaits sh l y c (Some a) e h = held-placed sh l c a.line y e ∙ grind (arith, nat_tests)
 
-pub place-sound : (sh : Shape) (l y : ℕ) (s : CoreState) → s.cache.held l ≡ false → free_way sh s.cache (set_of sh l) ≡ Some y → SoundCore sh s → SoundCore sh (place sh l s)
+pub place-sound : (sh : Shape) (l y : ℕ) (s : CoreState) → s.cache.held l ≡ false → free_way sh s.cache (set_of sh l) ≡ Some y
+    → SoundCore sh s → SoundCore sh (place sh l s)
 unfolding place
 place-sound sh l y s n e k = record {
   cache = placed-keeps sh l s.cache n k.cache;
@@ -93,7 +104,8 @@ with_read_mark-sound sh w x s m e k = at (is_running s.phase)
     at false = k
 
 -- only a core that is alone puts words into its buffer, and then of a line that has spilled words already
-pub stored_in_buffer-sound : (sh : Shape) (w x : ℕ) (s : CoreState) → MayAct s → holds s.spilled (line_of w) ≡ true → SoundCore sh s → SoundCore sh (stored_in_buffer w x s)
+pub stored_in_buffer-sound : (sh : Shape) (w x : ℕ) (s : CoreState) → MayAct s → holds s.spilled (line_of w) ≡ true → SoundCore sh s
+    → SoundCore sh (stored_in_buffer w x s)
 unfolding stored_in_buffer
 stored_in_buffer-sound sh w x s m h k =
     let f = holds-found s.spilled (line_of w) h in
@@ -105,7 +117,8 @@ stored_in_buffer-sound sh w x s m h k =
       unmarked = λ i u. absurd (cc);
     }
   where
-    buffered_apart : (q : ℕ) → line_of q ≡ line_of w → is_some (s.spilled q) ≡ true → (v u : ℕ) → line_of v ≡ line_of u → is_some (put s.spilled w (Some x) v) ≡ true → (v ≡ w) ⊎ (v ≡ w → ⊥) → (s.cache.modified u ≡ false) × (s.cache.dirty u ≡ None)
+    buffered_apart : (q : ℕ) → line_of q ≡ line_of w → is_some (s.spilled q) ≡ true → (v u : ℕ) → line_of v ≡ line_of u
+        → is_some (put s.spilled w (Some x) v) ≡ true → (v ≡ w) ⊎ (v ≡ w → ⊥) → (s.cache.modified u ≡ false) × (s.cache.dirty u ≡ None)
     buffered_apart q l t v u i p (inl e) = k.apart q u (l ∙ (ap line_of (sym e) ∙ i)) t
     buffered_apart q l t v u i p (inr n) = k.apart v u i (grind (arith, nat_tests))
 
@@ -114,7 +127,8 @@ stored-awaits w x also c None h = tt
 stored-awaits w x also c (Some a) h = held-stored w x also c a.line ∙ h
 
 -- a word goes into a frame of a line without spilled words
-pub stored_in_frame-sound : (sh : Shape) (w x : ℕ) (also : Bool) (s : CoreState) → MayAct s → s.cache.held (line_of w) ≡ true → holds s.spilled (line_of w) ≡ false → SoundCore sh s → SoundCore sh (stored_in_frame w x also s)
+pub stored_in_frame-sound : (sh : Shape) (w x : ℕ) (also : Bool) (s : CoreState) → MayAct s → s.cache.held (line_of w) ≡ true
+    → holds s.spilled (line_of w) ≡ false → SoundCore sh s → SoundCore sh (stored_in_frame w x also s)
 unfolding stored_in_frame
 stored_in_frame-sound sh w x also s m h n k = record {
   cache = stored-keeps sh w x also s.cache h k.cache;
@@ -128,7 +142,8 @@ stored_in_frame-sound sh w x also s m h n k = record {
 
 pub overflow-sound : (sh : Shape) (s : CoreState) → is_solo s.phase ≡ false → SoundCore sh s → SoundCore sh (overflow s).core
 unfolding overflow
-overflow-sound sh s h k = record { cache = k.cache; awaits = k.awaits; alone = λ i. k.alone h; apart = k.apart; unmarked = λ i w. absurd (cc) }
+overflow-sound sh s h k =
+    record { cache = k.cache; awaits = k.awaits; alone = λ i. k.alone h; apart = k.apart; unmarked = λ i w. absurd (cc) }
 
 -- what an event of a core leaves is sound
 abbrev pub OutSound : Shape → Option Out → Type 0
@@ -147,7 +162,8 @@ pub miss-sound : (sh : Shape) (l : ℕ) (s : CoreState) → SoundCore sh s → O
 unfolding miss
 miss-sound sh l s k = at (s.cache.held l) refl (free_way sh s.cache (set_of sh l)) refl
   where
-    at : (b : Bool) → s.cache.held l ≡ b → (o : Option ℕ) → free_way sh s.cache (set_of sh l) ≡ o → OutSound sh (cond b (Some (request_line sh l s)) (cond (is_some o) (Some (request_line sh l (place sh l s))) (full_set sh l s)))
+    at : (b : Bool) → s.cache.held l ≡ b → (o : Option ℕ) → free_way sh s.cache (set_of sh l) ≡ o
+        → OutSound sh (cond b (Some (request_line sh l s)) (cond (is_some o) (Some (request_line sh l (place sh l s))) (full_set sh l s)))
     at true h o e = request_line-sound sh l s h k
     at false h (Some y) e = request_line-sound sh l (place sh l s) (place-held sh l y s e) (place-sound sh l y s h e k)
     at false h None e = full_set-sound sh l s k

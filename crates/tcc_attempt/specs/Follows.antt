@@ -1,6 +1,7 @@
 -- A core's attempt is what the plain machine does from the checkpoint, over any memory that agrees with the words that the
 -- attempt used: a fact of the core by itself, whatever messages come.
-use Rattle.std.specs.Prelude.{ℕ, ◌<◌, ◌≡◌, ◌%◌, ◌^◌, Bool, true, false, cond, List, [], ◌∷◌, Option, Some, None, IsSomeAnd, is_some, unwrap_or}
+use Rattle.std.specs.Prelude.{ℕ, ◌<◌, ◌≡◌, ◌%◌, ◌^◌, Bool, true, false, cond, List, [], ◌∷◌, Option, Some, None, IsSomeAnd, is_some}
+use Rattle.std.specs.Prelude.{unwrap_or}
 use Rattle.tcc_base.specs.Bytes.{bytes_of}
 use Rattle.tcc_base.specs.declared.access.Size.TheVariants.{Byte, Half, Word}
 use Rattle.tcc_program.specs.Plain.{Attempt, Outcome, Goes, begun, end_of, steps}

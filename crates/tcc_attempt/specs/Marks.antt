@@ -80,4 +80,6 @@ pub record AttemptFits (sh : Shape) (p : Program) (s : CoreState) (us : Uses) : 
 -- in every state that a run reaches each core's attempt fits its view
 abbrev pub AttemptsFit : Type 0
 AttemptsFit = (sh : Shape) (p : Program) (entries : ℕ → Local) (ram : ℕ → ℕ) (es : List Event) → Fits p →
-    IfSome (run sh p (start entries ram) es) (λ h. (c : ℕ) → AttemptFits sh p (h.world.cores c) (views_from sh p es no_views (record { world = start entries ram; commits = [] }) c))
+    IfSome (run sh p (start entries ram) es)
+    (λ h. (c : ℕ)
+    → AttemptFits sh p (h.world.cores c) (views_from sh p es no_views (record { world = start entries ram; commits = [] }) c))

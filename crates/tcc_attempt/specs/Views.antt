@@ -3,7 +3,8 @@
 use Rattle.std.specs.Prelude.{ℕ, Bool, true, false, cond, ◌&&◌, List, [], ◌∷◌, ◌++◌, Option, Some, None, is_some}
 use Rattle.tcc_base.specs.Put.{put}
 use Rattle.tcc_program.specs.Program.{Program}
-use Rattle.tcc_maps.specs.Nodes.{Node, Core, Dir, Vendor, Msg, TidReq, TidGrant, LoadReq, Fill, Skip, Probe, ProbeReply, Mark, Commit, Abort, WriteBack, Flush, DataReq, Inv, InvAck, Event, Exec, Evict, Deliver}
+use Rattle.tcc_maps.specs.Nodes.{Node, Core, Dir, Vendor, Msg, TidReq, TidGrant, LoadReq, Fill, Skip, Probe, ProbeReply, Mark, Commit}
+use Rattle.tcc_maps.specs.Nodes.{Abort, WriteBack, Flush, DataReq, Inv, InvAck, Event, Exec, Evict, Deliver}
 use Rattle.tcc_maps.specs.Shape.{Shape}
 use Rattle.tcc_rules.specs.State.{CoreState, Phase, Running, AwaitTid, DoomedTid, Probing, Ready, Overflowing, Solo, Halted, World}
 use Rattle.tcc_rules.specs.Attempt.{Out}
@@ -71,7 +72,8 @@ views_delivered cores Vendor o vs = vs
 
 -- the views after an event
 abbrev pub views_after : Shape → Program → World → Event → Views → Views
-views_after sh p w (Exec c) vs = put vs c (uses_executed (core_exec sh p c (w.cores c)) (vs c) (used_by sh.base (w.cores c) (p.need (w.cores c).local)))
+views_after sh p w (Exec c) vs =
+    put vs c (uses_executed (core_exec sh p c (w.cores c)) (vs c) (used_by sh.base (w.cores c) (p.need (w.cores c).local)))
 views_after sh p w (Evict c x y) vs = vs
 views_after sh p w (Deliver src dst k) vs = views_delivered w.cores dst (in_flight w.net src dst k) vs
 

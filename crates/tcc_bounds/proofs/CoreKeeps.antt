@@ -1,5 +1,6 @@
 -- What a core's event keeps: it sends of lines of memory only, and its attempt and what it commits have one instruction more at most.
-use Rattle.std.specs.Prelude.{ℕ, ◌+◌, ◌≡◌, ◌<◌, ◌≤◌, Bool, true, false, not, ◌==◌, ◌&&◌, ◌||◌, List, [], ◌∷◌, ◌++◌, Option, Some, None, is_some, IfSome, if◌then◌else◌}
+use Rattle.std.specs.Prelude.{ℕ, ◌+◌, ◌≡◌, ◌<◌, ◌≤◌, Bool, true, false, not, ◌==◌, ◌&&◌, ◌||◌, List, [], ◌∷◌, ◌++◌, Option, Some, None}
+use Rattle.std.specs.Prelude.{is_some, IfSome, if◌then◌else◌}
 use Rattle.std.specs.List.{flat_map}
 use Rattle.std.proofs.Common.{arith, refl}
 use Rattle.std.proofs.lemmas.Bool.Decides.{nat_tests}
@@ -7,21 +8,30 @@ use Rattle.tcc_base.specs.declared.access.Size.TheVariants.{Byte, Half, Word}
 use Rattle.tcc_program.specs.Program.{Need, Nothing, Loads, Stores, Changes, Prints, Ends, Halts, Traps, Program}
 use Rattle.tcc_program.specs.Ram.{word_of}
 use Rattle.tcc_maps.specs.Words.{line_of, those, count_below}
-use Rattle.tcc_maps.specs.Cache.{Cache, free_way, all_marked, modified_mask, is_modified, dirty_copy, written_lines, writes_at, reads_at, is_marked}
-use Rattle.tcc_maps.specs.Nodes.{Dir, Vendor, Msg, TidReq, LoadReq, Fill, Skip, Probe, ProbeReply, Mark, Commit, Abort, WriteBack, Flush, DataReq, Inv, InvAck, Tagged}
+use Rattle.tcc_maps.specs.Cache.{Cache, free_way, all_marked, modified_mask, is_modified, dirty_copy, written_lines, writes_at, reads_at}
+use Rattle.tcc_maps.specs.Cache.{is_marked}
+use Rattle.tcc_maps.specs.Nodes.{Dir, Vendor, Msg, TidReq, LoadReq, Fill, Skip, Probe, ProbeReply, Mark, Commit, Abort, WriteBack, Flush}
+use Rattle.tcc_maps.specs.Nodes.{DataReq, Inv, InvAck, Tagged}
 use Rattle.tcc_maps.specs.Shape.{Shape, home, lines, set_of}
 use Rattle.tcc_maps.specs.Spilled.{Spilled, holds, spilled_mask, spilled_words}
 use Rattle.tcc_rules.specs.State.{CoreState, Awaited, Phase, Running, AwaitTid, DoomedTid, Probing, Ready, Overflowing, Solo}
 use Rattle.tcc_rules.specs.Attempt.{Out, moves, is_solo, new_word, finished}
-use Rattle.tcc_rules.specs.Commit.{noted, committed_core, commit_sends, commit, is_written, written_mask, solo_writes_at, solo_marks_or_skip, solo_write_backs, solo_sends, solo_commit}
-use Rattle.tcc_rules.specs.CoreDeliver.{grant_sends, grant_in_phase, grant, replied, all_replied, ready_once_replied, solo_once_replied, reply_in_phase, probe_reply, fill_awaited, fill, data_request, violated_in_phase, if_violated, is_violated, words_invalidated, acknowledged, invalidate, from_dir, ignored}
+use Rattle.tcc_rules.specs.Commit.{noted, committed_core, commit_sends, commit, is_written, written_mask, solo_writes_at}
+use Rattle.tcc_rules.specs.Commit.{solo_marks_or_skip, solo_write_backs, solo_sends, solo_commit}
+use Rattle.tcc_rules.specs.CoreDeliver.{grant_sends, grant_in_phase, grant, replied, all_replied, ready_once_replied, solo_once_replied}
+use Rattle.tcc_rules.specs.CoreDeliver.{reply_in_phase, probe_reply, fill_awaited, fill, data_request, violated_in_phase, if_violated}
+use Rattle.tcc_rules.specs.CoreDeliver.{is_violated, words_invalidated, acknowledged, invalidate, from_dir, ignored}
 use Rattle.tcc_rules.specs.CoreEvict.{is_awaited, evict_line, core_evict}
 use Rattle.tcc_rules.specs.CoreExec.{unless_awaiting, exec_in_phase, core_exec}
-use Rattle.tcc_rules.specs.Execute.{request_line, place, overflow, full_set, miss, with_read_mark, load_valid, load_spilled, load, stored_in_buffer, stored_in_frame, word_store, marks_read, change_valid, change_spilled, partial_store, end_transaction, execute_need, execute}
-use Rattle.tcc_rules.specs.Sends.{Sends, nothing, to, when, write_back_of, flush_of, write_back_line, flush_line, skip_all, probe_all, abort_written, marks_for}
+use Rattle.tcc_rules.specs.Execute.{request_line, place, overflow, full_set, miss, with_read_mark, load_valid, load_spilled, load}
+use Rattle.tcc_rules.specs.Execute.{stored_in_buffer, stored_in_frame, word_store, marks_read, change_valid, change_spilled, partial_store}
+use Rattle.tcc_rules.specs.Execute.{end_transaction, execute_need, execute}
+use Rattle.tcc_rules.specs.Sends.{Sends, nothing, to, when, write_back_of, flush_of, write_back_line, flush_line, skip_all, probe_all}
+use Rattle.tcc_rules.specs.Sends.{abort_written, marks_for}
 use Rattle.tcc_serial.specs.InMemory.{NeedInMemory, WordInMemory}
 use Rattle.tcc_bounds.specs.Bounds.{most_sent, AttemptCounted, CommitCounted}
-use Rattle.tcc_bounds.proofs.Outside.{is_inside, Inside, SendsInside, no-message, one-message, some, and-messages, when-messages, wider, those-messages, nothing-inside, then-inside, to-inside, dirs-inside, below}
+use Rattle.tcc_bounds.proofs.Outside.{is_inside, Inside, SendsInside, no-message, one-message, some, and-messages, when-messages, wider}
+use Rattle.tcc_bounds.proofs.Outside.{those-messages, nothing-inside, then-inside, to-inside, dirs-inside, below}
 use Rattle.tcc_bounds.proofs.Counted.{weak, none, rolled, finishes, placed, marked_read, in_buffer, in_frame}
 
 -- with so many messages to a node at most; before this event there were so many events

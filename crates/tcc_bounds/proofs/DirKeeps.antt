@@ -5,12 +5,16 @@ use Rattle.tcc_maps.specs.Words.{count_below}
 use Rattle.tcc_maps.specs.Judge.{Judgement, judge, Current, Outdated, TooEarly}
 use Rattle.tcc_maps.specs.Lines.{Lines, has_mark}
 use Rattle.tcc_maps.specs.Masks.{full}
-use Rattle.tcc_maps.specs.Nodes.{Core, Dir, Vendor, Msg, LoadReq, Fill, Skip, Probe, ProbeReply, Mark, Commit, Abort, WriteBack, Flush, DataReq, Inv, InvAck}
+use Rattle.tcc_maps.specs.Nodes.{Core, Dir, Vendor, Msg, LoadReq, Fill, Skip, Probe, ProbeReply, Mark, Commit, Abort, WriteBack, Flush}
+use Rattle.tcc_maps.specs.Nodes.{DataReq, Inv, InvAck}
 use Rattle.tcc_maps.specs.Shape.{Shape, lines}
-use Rattle.tcc_rules.specs.DirDeliver.{Answer, Waits, Drops, Asks, Takes, skip, abort, probe, ask_owner, home_words, load_unless_owned, load_request, mark_unless_owned, mark, is_invalidated, invs_to, invalidations, dir_commit, acknowledgement, judged, write_back, dir_deliver}
+use Rattle.tcc_rules.specs.DirDeliver.{Answer, Waits, Drops, Asks, Takes, skip, abort, probe, ask_owner, home_words, load_unless_owned}
+use Rattle.tcc_rules.specs.DirDeliver.{load_request, mark_unless_owned, mark, is_invalidated, invs_to, invalidations, dir_commit}
+use Rattle.tcc_rules.specs.DirDeliver.{acknowledgement, judged, write_back, dir_deliver}
 use Rattle.tcc_rules.specs.State.{DirState}
 use Rattle.tcc_bounds.specs.Bounds.{most_sent}
-use Rattle.tcc_bounds.proofs.Outside.{is_inside, SendsInside, no-message, one-message, some, wider, those-messages, nothing-inside, to-inside, below}
+use Rattle.tcc_bounds.proofs.Outside.{is_inside, SendsInside, no-message, one-message, some, wider, those-messages, nothing-inside}
+use Rattle.tcc_bounds.proofs.Outside.{to-inside, below}
 
 abbrev pub AnswerInside : Shape → Answer → Type 0
 AnswerInside sh Waits = Unit {0}

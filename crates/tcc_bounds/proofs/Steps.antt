@@ -1,5 +1,6 @@
 -- Every event keeps what is counted by events and that messages are of lines of memory, and so does every run.
-use Rattle.std.specs.Prelude.{ℕ, zero, suc, ◌+◌, ◌*◌, ◌≡◌, ◌<◌, ◌≤◌, ◌==◌, Bool, true, false, List, [], ◌∷◌, length, slice_index_or, Contains, Option, Some, None, IfSome, nat_lt, if◌then◌else◌}
+use Rattle.std.specs.Prelude.{ℕ, zero, suc, ◌+◌, ◌*◌, ◌≡◌, ◌<◌, ◌≤◌, ◌==◌, Bool, true, false, List, [], ◌∷◌, length, slice_index_or}
+use Rattle.std.specs.Prelude.{Contains, Option, Some, None, IfSome, nat_lt, if◌then◌else◌}
 use Rattle.std.proofs.Common.{arith, refl}
 use Rattle.tcc_base.specs.Put.{put}
 use Rattle.tcc_base.specs.declared.access.Commit.{Commit as Noted}
@@ -15,10 +16,13 @@ use Rattle.tcc_rules.specs.DirDeliver.{Answer, Waits, Drops, Asks, Takes, dir_de
 use Rattle.tcc_rules.specs.Links.{in_flight, sending, taking}
 use Rattle.tcc_rules.specs.Sends.{Sends, to}
 use Rattle.tcc_rules.specs.VendorDeliver.{vendor_deliver}
-use Rattle.tcc_rules.specs.Step.{Stepped, core_moves, core_takes, dir_takes, dir_asks, vendor_gives, if_core_moves, if_core_takes, answered, if_vendor_gives, delivered, if_in_flight, names_nodes, happens, step, History, insert_commit, and_noted, recorded, next_history, and_then, run_from, run}
+use Rattle.tcc_rules.specs.Step.{Stepped, core_moves, core_takes, dir_takes, dir_asks, vendor_gives, if_core_moves, if_core_takes, answered}
+use Rattle.tcc_rules.specs.Step.{if_vendor_gives, delivered, if_in_flight, names_nodes, happens, step, History, insert_commit, and_noted}
+use Rattle.tcc_rules.specs.Step.{recorded, next_history, and_then, run_from, run}
 use Rattle.tcc_serial.specs.InMemory.{StaysInMemory}
 use Rattle.tcc_bounds.specs.Bounds.{most_sent, AttemptCounted, CommitCounted}
-use Rattle.tcc_bounds.proofs.Outside.{is_inside, SendsInside, LinksInside, link-none, link-wider, link-inside, sending-inside, taking-inside, nothing-inside, to-inside, one-message, some}
+use Rattle.tcc_bounds.proofs.Outside.{is_inside, SendsInside, LinksInside, link-none, link-wider, link-inside, sending-inside}
+use Rattle.tcc_bounds.proofs.Outside.{taking-inside, nothing-inside, to-inside, one-message, some}
 use Rattle.tcc_bounds.proofs.Counted.{weak, none}
 use Rattle.tcc_bounds.proofs.CoreKeeps.{CoreKeeps, exec-keeps, evict-keeps, grant-keeps, back-keeps}
 use Rattle.tcc_bounds.proofs.DirKeeps.{AnswerInside, answer-inside}

@@ -1,6 +1,7 @@
 -- Which lines and TIDs the messages in flight name: only lines that memory has, and only TIDs that were granted.
 use Rattle.std.specs.Prelude.{ℕ, ◌≡◌, ◌<◌, ◌≤◌, true, Option, Some, None, IfSome}
-use Rattle.tcc_maps.specs.Nodes.{Node, Core, Dir, Msg, TidGrant, LoadReq, Fill, Skip, Probe, ProbeReply, Mark, Commit, Abort, WriteBack, Flush, DataReq, Inv, InvAck}
+use Rattle.tcc_maps.specs.Nodes.{Node, Core, Dir, Msg, TidGrant, LoadReq, Fill, Skip, Probe, ProbeReply, Mark, Commit, Abort, WriteBack}
+use Rattle.tcc_maps.specs.Nodes.{Flush, DataReq, Inv, InvAck}
 use Rattle.tcc_maps.specs.Shape.{Shape, home, lines}
 use Rattle.tcc_rules.specs.State.{World}
 use Rattle.tcc_rules.specs.Links.{in_flight}

@@ -1,25 +1,33 @@
 -- What a core sends fits: to directories that the machine has, and to the vendor requests for TIDs.
-use Rattle.std.specs.Prelude.{ℕ, ◌≡◌, ◌<◌, ◌≤◌, Bool, true, false, not, ◌==◌, ◌&&◌, ◌||◌, List, [], ◌∷◌, ◌++◌, Option, Some, None, is_some, IfSome, if◌then◌else◌}
+use Rattle.std.specs.Prelude.{ℕ, ◌≡◌, ◌<◌, ◌≤◌, Bool, true, false, not, ◌==◌, ◌&&◌, ◌||◌, List, [], ◌∷◌, ◌++◌, Option, Some, None, is_some}
+use Rattle.std.specs.Prelude.{IfSome, if◌then◌else◌}
 use Rattle.std.specs.List.{flat_map}
 use Rattle.std.proofs.Common.{arith, refl}
 use Rattle.tcc_base.specs.declared.access.Size.TheVariants.{Byte, Half, Word}
 use Rattle.tcc_program.specs.Program.{Need, Nothing, Loads, Stores, Changes, Prints, Ends, Halts, Traps, Program}
 use Rattle.tcc_program.specs.Ram.{word_of}
 use Rattle.tcc_maps.specs.Words.{line_of, those, count_below}
-use Rattle.tcc_maps.specs.Cache.{Cache, free_way, all_marked, modified_mask, is_modified, dirty_copy, written_lines, writes_at, reads_at, is_marked}
-use Rattle.tcc_maps.specs.Nodes.{Core, Dir, Vendor, Msg, TidReq, LoadReq, Fill, Skip, Probe, ProbeReply, Mark, Commit, Abort, WriteBack, Flush, DataReq, Inv, InvAck, Tagged}
+use Rattle.tcc_maps.specs.Cache.{Cache, free_way, all_marked, modified_mask, is_modified, dirty_copy, written_lines, writes_at, reads_at}
+use Rattle.tcc_maps.specs.Cache.{is_marked}
+use Rattle.tcc_maps.specs.Nodes.{Core, Dir, Vendor, Msg, TidReq, LoadReq, Fill, Skip, Probe, ProbeReply, Mark, Commit, Abort, WriteBack}
+use Rattle.tcc_maps.specs.Nodes.{Flush, DataReq, Inv, InvAck, Tagged}
 use Rattle.tcc_maps.specs.Shape.{Shape, home, lines, set_of}
 use Rattle.tcc_maps.specs.Spilled.{Spilled, holds, spilled_mask, spilled_words}
 use Rattle.tcc_rules.specs.State.{CoreState, Awaited, Phase, Running, AwaitTid, DoomedTid, Probing, Ready, Overflowing, Solo}
 use Rattle.tcc_rules.specs.Attempt.{Out, is_solo, finished}
-use Rattle.tcc_rules.specs.Commit.{commit_sends, commit, is_written, written_mask, solo_writes_at, solo_marks_or_skip, solo_write_backs, solo_sends, solo_commit}
-use Rattle.tcc_rules.specs.CoreDeliver.{grant_sends, grant_in_phase, grant, reply_in_phase, probe_reply, fill_awaited, fill, data_request, violated_in_phase, if_violated, is_violated, words_invalidated, acknowledged, invalidate, from_dir, ignored}
+use Rattle.tcc_rules.specs.Commit.{commit_sends, commit, is_written, written_mask, solo_writes_at, solo_marks_or_skip, solo_write_backs}
+use Rattle.tcc_rules.specs.Commit.{solo_sends, solo_commit}
+use Rattle.tcc_rules.specs.CoreDeliver.{grant_sends, grant_in_phase, grant, reply_in_phase, probe_reply, fill_awaited, fill, data_request}
+use Rattle.tcc_rules.specs.CoreDeliver.{violated_in_phase, if_violated, is_violated, words_invalidated, acknowledged, invalidate, from_dir}
+use Rattle.tcc_rules.specs.CoreDeliver.{ignored}
 use Rattle.tcc_rules.specs.CoreEvict.{is_awaited, evict_line, core_evict}
 use Rattle.tcc_rules.specs.CoreExec.{unless_awaiting, exec_in_phase, core_exec}
-use Rattle.tcc_rules.specs.Execute.{request_line, place, overflow, full_set, miss, load_valid, load_spilled, load, word_store, change_valid, change_spilled, partial_store, end_transaction, execute_need, execute}
+use Rattle.tcc_rules.specs.Execute.{request_line, place, overflow, full_set, miss, load_valid, load_spilled, load, word_store, change_valid}
+use Rattle.tcc_rules.specs.Execute.{change_spilled, partial_store, end_transaction, execute_need, execute}
 use Rattle.tcc_rules.specs.Sends.{to, when, write_back_of, flush_of, write_back_line, flush_line, skip_all, probe_all, abort_written}
 use Rattle.tcc_rules.specs.Sends.{marks_for}
-use Rattle.tcc_live.proofs.Strays.{strays, AllFit, strays-append, strays-none, strays-flat, strays-when, out_fits, ask_fits, fit-nothing, fit-then, fit-to, fit-dirs}
+use Rattle.tcc_live.proofs.Strays.{strays, AllFit, strays-append, strays-none, strays-flat, strays-when, out_fits, ask_fits, fit-nothing}
+use Rattle.tcc_live.proofs.Strays.{fit-then, fit-to, fit-dirs}
 
 -- a core of a machine that has a directory
 pub record IsCore (sh : Shape) (c : ℕ) : Type 0 where

@@ -1,5 +1,6 @@
 -- What a directory sends fits: to cores that the machine has; and lines have owners among these, and the served TID doesn't fall.
-use Rattle.std.specs.Prelude.{ℕ, ◌-◌, ◌≡◌, ◌<◌, ◌≤◌, Bool, true, false, ◌==◌, ◌&&◌, ◌||◌, List, [], ◌∷◌, Option, Some, None, nat_lt, nat_le, if◌then◌else◌}
+use Rattle.std.specs.Prelude.{ℕ, ◌-◌, ◌≡◌, ◌<◌, ◌≤◌, Bool, true, false, ◌==◌, ◌&&◌, ◌||◌, List, [], ◌∷◌, Option, Some, None, nat_lt, nat_le}
+use Rattle.std.specs.Prelude.{if◌then◌else◌}
 use Rattle.std.specs.List.{flat_map}
 use Rattle.std.proofs.Common.{arith, refl}
 use Rattle.std.proofs.lemmas.Bool.Decides.{nat_tests}
@@ -7,11 +8,15 @@ use Rattle.tcc_maps.specs.Words.{those, count_below}
 use Rattle.tcc_maps.specs.Judge.{Judgement, judge, Current, Outdated, TooEarly}
 use Rattle.tcc_maps.specs.Lines.{Lines, with_sharer, with_owner, with_asked, with_mark, unmarked, has_mark}
 use Rattle.tcc_maps.specs.Masks.{full}
-use Rattle.tcc_maps.specs.Nodes.{Core, Dir, Vendor, Msg, LoadReq, Fill, Skip, Probe, ProbeReply, Mark, Commit, Abort, WriteBack, Flush, DataReq, Inv, InvAck}
+use Rattle.tcc_maps.specs.Nodes.{Core, Dir, Vendor, Msg, LoadReq, Fill, Skip, Probe, ProbeReply, Mark, Commit, Abort, WriteBack, Flush}
+use Rattle.tcc_maps.specs.Nodes.{DataReq, Inv, InvAck}
 use Rattle.tcc_maps.specs.Serving.{Serving, advance, skipped, kept}
 use Rattle.tcc_maps.specs.Shape.{Shape, lines}
 use Rattle.tcc_maps.proofs.Lemmas.{advance-rises}
-use Rattle.tcc_rules.specs.DirDeliver.{Answer, Waits, Drops, Asks, Takes, moved_on, skip, abort, probe, ask_owner, home_words, load_unless_owned, load_request, mark_unless_owned, mark, is_invalidated, invs_to, invalidations, invalidation_count, owned_by_committer, moved_on_if_settled, dir_commit, unless_keeps, acknowledgement, came_home, judged, write_back, dir_deliver}
+use Rattle.tcc_rules.specs.DirDeliver.{Answer, Waits, Drops, Asks, Takes, moved_on, skip, abort, probe, ask_owner, home_words}
+use Rattle.tcc_rules.specs.DirDeliver.{load_unless_owned, load_request, mark_unless_owned, mark, is_invalidated, invs_to, invalidations}
+use Rattle.tcc_rules.specs.DirDeliver.{invalidation_count, owned_by_committer, moved_on_if_settled, dir_commit, unless_keeps}
+use Rattle.tcc_rules.specs.DirDeliver.{acknowledgement, came_home, judged, write_back, dir_deliver}
 use Rattle.tcc_rules.specs.Sends.{Sends, nothing}
 use Rattle.tcc_rules.specs.State.{DirState}
 use Rattle.tcc_serial.proofs.Lemmas.{those-none}

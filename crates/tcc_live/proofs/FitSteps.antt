@@ -17,7 +17,9 @@ use Rattle.tcc_rules.specs.DirDeliver.{Answer, Waits, Drops, Asks, Takes, dir_de
 use Rattle.tcc_rules.specs.Links.{in_flight, taking}
 use Rattle.tcc_rules.specs.Sends.{to}
 use Rattle.tcc_rules.specs.VendorDeliver.{vendor_deliver}
-use Rattle.tcc_rules.specs.Step.{Stepped, core_moves, core_takes, dir_takes, dir_asks, vendor_gives, if_core_moves, if_core_takes, answered, if_vendor_gives, delivered, if_in_flight, is_node, names_nodes, happens, step, History, and_noted, recorded, next_history, and_then, run_from, run}
+use Rattle.tcc_rules.specs.Step.{Stepped, core_moves, core_takes, dir_takes, dir_asks, vendor_gives, if_core_moves, if_core_takes, answered}
+use Rattle.tcc_rules.specs.Step.{if_vendor_gives, delivered, if_in_flight, is_node, names_nodes, happens, step, History, and_noted}
+use Rattle.tcc_rules.specs.Step.{recorded, next_history, and_then, run_from, run}
 use Rattle.tcc_live.specs.Fits.{KeptFits, LinksFitAlways}
 use Rattle.tcc_live.proofs.CoreFits.{IsCore, Fit, fit-exec, fit-evict, fit-grant, fit-back}
 use Rattle.tcc_live.proofs.DirFits.{KeptDir, FitAnswer, fit-answer}

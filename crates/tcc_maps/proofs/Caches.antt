@@ -6,7 +6,8 @@ use Rattle.tcc_maps.specs.Words.{put_at, line_of}
 use Rattle.tcc_maps.specs.Shape.{Shape, set_of}
 use Rattle.tcc_maps.specs.Cache.{Cache, IsCache, free_way, empty_cache}
 use Rattle.tcc_maps.proofs.Numbers.{LowestIs, lowest-is}
-use Rattle.tcc_maps.specs.CacheChange.{marked, stored, placed, placed_at, filled, invalidated, cleaned, evicted, evicted_line, rolled_back, read_cleared, committed, word_dropped, words_dropped}
+use Rattle.tcc_maps.specs.CacheChange.{marked, stored, placed, placed_at, filled, invalidated, cleaned, evicted, evicted_line, rolled_back}
+use Rattle.tcc_maps.specs.CacheChange.{read_cleared, committed, word_dropped, words_dropped}
 
 pub empty-keeps : (sh : Shape) → IsCache sh empty_cache
 unfolding empty_cache
@@ -36,7 +37,8 @@ marked-keeps sh w c here k = record {
   one_tag = λ v u s t e f g. let a = k.one_tag v u s t e in grind (arith, nat_tests);
 }
 
-pub stored-keeps : (sh : Shape) (w x : ℕ) (also : Bool) (c : Cache) → c.held (line_of w) ≡ true → IsCache sh c → IsCache sh (stored w x also c)
+pub stored-keeps : (sh : Shape) (w x : ℕ) (also : Bool) (c : Cache) → c.held (line_of w) ≡ true → IsCache sh c
+    → IsCache sh (stored w x also c)
 unfolding stored
 stored-keeps sh w x also c here k = record {
   placed = k.placed;
@@ -131,7 +133,8 @@ committed-keeps sh t c k = record {
   modified = λ v h. absurd (cc);
   dirty = λ v h. let a = k.dirty v in let b = k.modified v in grind (arith, nat_tests);
   either = λ v u e h. absurd (cc);
-  one_tag = λ v u s q e f g. let a = k.one_tag v u s q e in let b = k.either v u e in let d = k.either u v (sym e) in grind (arith, nat_tests);
+  one_tag = λ v u s q e f g. let a = k.one_tag v u s q e in let b = k.either v u e in let d = k.either u v (sym e) in
+      grind (arith, nat_tests);
 }
 
 pub word_dropped-keeps : (sh : Shape) (w : ℕ) (c : Cache) → IsCache sh c → IsCache sh (word_dropped w c)
@@ -176,7 +179,8 @@ placed_there at s y l m t z e f = grind (arith, nat_tests)
 kept_there : (at : ℕ → ℕ → Option ℕ) (s y l m t z : ℕ) → at s y ≡ Some l → (m ≡ l → ⊥) → at t z ≡ Some m → put_at at s y None t z ≡ Some m
 kept_there at s y l m t z e n f = grind (arith, nat_tests)
 
-placed_at-keeps : (sh : Shape) (l : ℕ) (c : Cache) (o : Option ℕ) → LowestIs (λ y. not (is_some (c.at (set_of sh l) y))) sh.ways o → c.held l ≡ false → IsCache sh c → IsCache sh (placed_at o (set_of sh l) l c)
+placed_at-keeps : (sh : Shape) (l : ℕ) (c : Cache) (o : Option ℕ) → LowestIs (λ y. not (is_some (c.at (set_of sh l) y))) sh.ways o
+    → c.held l ≡ false → IsCache sh c → IsCache sh (placed_at o (set_of sh l) l c)
 unfolding placed_at
 placed_at-keeps sh l c None f h k = k
 placed_at-keeps sh l c (Some y) f h k =
@@ -199,15 +203,18 @@ placed_at-keeps sh l c (Some y) f h k =
 
 pub placed-keeps : (sh : Shape) (l : ℕ) (c : Cache) → c.held l ≡ false → IsCache sh c → IsCache sh (placed sh l c)
 unfolding placed free_way
-placed-keeps sh l c h k = placed_at-keeps sh l c (free_way sh c (set_of sh l)) (lowest-is (λ y. not (is_some (c.at (set_of sh l) y))) sh.ways) h k
+placed-keeps sh l c h k =
+    placed_at-keeps sh l c (free_way sh c (set_of sh l)) (lowest-is (λ y. not (is_some (c.at (set_of sh l) y))) sh.ways) h k
 
 evicted_line-keeps : (sh : Shape) (s y : ℕ) (c : Cache) (o : Option ℕ) → c.at s y ≡ o → IsCache sh c → IsCache sh (evicted_line o s y c)
 unfolding evicted_line
 evicted_line-keeps sh s y c None e k = k
 evicted_line-keeps sh s y c (Some l) here k =
     record {
-      placed = λ t z m e. let a = k.placed t z m in let b = k.once s y z l here in let d = k.placed s y l here in (grind (arith, nat_tests), grind (arith, nat_tests), grind (arith, nat_tests));
-      held = λ m e. let b = k.held m (grind (arith, nat_tests)) in (b.0, kept_there c.at s y l m (set_of sh m) b.0 here (grind (arith, nat_tests)) b.1);
+      placed = λ t z m e. let a = k.placed t z m in let b = k.once s y z l here in let d = k.placed s y l here in
+          (grind (arith, nat_tests), grind (arith, nat_tests), grind (arith, nat_tests));
+      held = λ m e. let b = k.held m (grind (arith, nat_tests)) in
+          (b.0, kept_there c.at s y l m (set_of sh m) b.0 here (grind (arith, nat_tests)) b.1);
       once = λ t z u m e g. let a = k.once t z u m in grind (arith, nat_tests);
       valued = λ v e. let a = k.valued v in grind (arith, nat_tests);
       unread = λ v e. let a = k.unread v in grind (arith, nat_tests);

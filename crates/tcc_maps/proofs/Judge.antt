@@ -17,5 +17,8 @@ some-is_owner owner c e = rw e (grind (arith, nat_tests))
 
 pub judge-takes : (owner : Option ℕ) (tag from back : ℕ) → (judge owner tag from back ≡ Current) ↔ ((back ≡ tag) × (owner ≡ Some from))
 unfolding judge
-judge-takes owner tag from back =
-    (λ e. (grind (arith, nat_tests), is_owner-some owner from (grind (arith, nat_tests))), λ h. let i = some-is_owner owner from h.1 in grind (arith, nat_tests))
+judge-takes owner tag from back = (
+  λ e. (grind (arith, nat_tests), is_owner-some owner from (grind (arith, nat_tests))),
+  λ h. let i = some-is_owner owner from h.1 in
+      grind (arith, nat_tests),
+)

@@ -1,5 +1,6 @@
 -- What a cache answers where a word isn't there, case by case, and what a test of a line's words finds.
-use Rattle.std.proofs.Common.{◌≡◌, ℕ, suc, zero, ◌<◌, Bool, true, false, not, cond, ◌&&◌, inl, inr, ⊎_elim, Option, Some, None, is_some, refl, sym, ap, ◌∙◌, subst, arith}
+use Rattle.std.proofs.Common.{◌≡◌, ℕ, suc, zero, ◌<◌, Bool, true, false, not, cond, ◌&&◌, inl, inr, ⊎_elim, Option, Some, None, is_some}
+use Rattle.std.proofs.Common.{refl, sym, ap, ◌∙◌, subst, arith}
 use Rattle.std.specs.Prelude.{◌↔◌, ◌⊎◌}
 use Rattle.std.proofs.lemmas.Bool.{false≢true, and_parts, and_cases}
 use Rattle.std.proofs.lemmas.Bool.Decides.{nat_tests}
@@ -63,7 +64,8 @@ module _ (sh : Shape) (l : ℕ) (c : Cache) where
   marked_none None e f = false≢true e
   marked_none (Some k) e f = false≢true f
 
-  overflow-in : (b : Bool) (o : Option ℕ) (m : Bool) (s : ℕ) → c.held l ≡ b → LowestIs is_free sh.ways o → all_marked sh c (set_of sh l) ≡ m →
+  overflow-in : (b : Bool) (o : Option ℕ) (m : Bool) (s : ℕ) → c.held l ≡ b → LowestIs is_free sh.ways o → all_marked sh c (set_of sh l) ≡ m
+      →
       (answer b o m (set_of sh l) ≡ Overflow s) ↔ ((s ≡ set_of sh l) × (c.held l ≡ false) × Full s)
   unfolding all_marked
   overflow-in true o m s e f a = (λ q. absurd (cc), λ h. absurd (false≢true (sym h.1 ∙ e)))
@@ -89,7 +91,8 @@ module _ (sh : Shape) (l : ℕ) (c : Cache) where
   pub looks-overflow : (s : ℕ) →
       (look_line sh l c ≡ Overflow s) ↔ ((s ≡ set_of sh l) × (c.held l ≡ false) × ((y : ℕ) → y < sh.ways → way_marked c (c.at s y) ≡ true))
   unfolding look_line free_way
-  looks-overflow s = overflow-in (c.held l) (free_way sh c (set_of sh l)) (all_marked sh c (set_of sh l)) s refl (lowest-is is_free sh.ways) refl
+  looks-overflow s = overflow-in (c.held l) (free_way sh c (set_of sh l)) (all_marked sh c (set_of sh l)) s refl
+      (lowest-is is_free sh.ways) refl
 
   room-in : (b : Bool) (o : Option ℕ) (m : Bool) (s : ℕ) → c.held l ≡ b → LowestIs is_free sh.ways o → all_marked sh c (set_of sh l) ≡ m →
       (answer b o m (set_of sh l) ≡ NeedsRoom s) ↔ ((s ≡ set_of sh l) × (c.held l ≡ false) ×
@@ -139,7 +142,8 @@ any-word p l = (
   (λ h. any_below-at (λ k. p (word_at l k)) 8 (place_of h.0) (omega arith) (ap p (at-place l h.0 h.1) ∙ h.2)),
 )
 
-pub reads-masked : (l m : ℕ) (c : Cache) → (reads_masked l m c ≡ true) ↔ ((w : ℕ) × (l ≡ line_of w) × (has m (place_of w) ≡ true) × (c.read w ≡ true))
+pub reads-masked : (l m : ℕ) (c : Cache)
+    → (reads_masked l m c ≡ true) ↔ ((w : ℕ) × (l ≡ line_of w) × (has m (place_of w) ≡ true) × (c.read w ≡ true))
 unfolding reads_masked hit
 reads-masked l m c = let a = any-word (λ w. hit l m w && c.read w) l in (
   (λ e. let r = a.0 e in let p = and_parts (hit l m r.0) (c.read r.0) r.2 in

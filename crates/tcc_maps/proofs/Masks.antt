@@ -1,5 +1,6 @@
 -- The laws of masks: each bit of a sum of eight powers of two, and the bits of the three operations.
-use Rattle.std.proofs.Common.{◌≡◌, ℕ, suc, zero, ◌+◌, ◌*◌, ◌/◌, ◌%◌, ◌^◌, ◌<◌, ◌≤◌, Bool, true, false, not, ◌&&◌, ◌||◌, eqb, min, max, refl, ap, ◌∙◌, ⊎_elim, arith}
+use Rattle.std.proofs.Common.{◌≡◌, ℕ, suc, zero, ◌+◌, ◌*◌, ◌/◌, ◌%◌, ◌^◌, ◌<◌, ◌≤◌, Bool, true, false, not, ◌&&◌, ◌||◌, eqb, min, max, refl}
+use Rattle.std.proofs.Common.{ap, ◌∙◌, ⊎_elim, arith}
 use Rattle.std.proofs.lemmas.Bool.Decides.{nat_tests}
 use Rattle.std.specs.Int.{bit_at}
 use Rattle.std.proofs.lemmas.Nat.Bits.{bit_at_and, bit_at_or, bit_at_xor, bit_at-lt, bit_at-zero, bit_at-pow_same, bit_at-pow_other}
@@ -51,7 +52,16 @@ place7 : (a b c d e f g h : ℕ) → Bits a b c d e f g h → (a + 2 * b + 4 * c
 place7 a b c d e f g h r = omega arith
 
 bits-of : (p : ℕ → Bool) → Bits (num (p 0)) (num (p 1)) (num (p 2)) (num (p 3)) (num (p 4)) (num (p 5)) (num (p 6)) (num (p 7))
-bits-of p = record { at0 = num-le (p 0); at1 = num-le (p 1); at2 = num-le (p 2); at3 = num-le (p 3); at4 = num-le (p 4); at5 = num-le (p 5); at6 = num-le (p 6); at7 = num-le (p 7) }
+bits-of p = record {
+  at0 = num-le (p 0);
+  at1 = num-le (p 1);
+  at2 = num-le (p 2);
+  at3 = num-le (p 3);
+  at4 = num-le (p 4);
+  at5 = num-le (p 5);
+  at6 = num-le (p 6);
+  at7 = num-le (p 7);
+}
 
 -- one of eight
 below_eight : (P : ℕ → Type 0) → P 0 → P 1 → P 2 → P 3 → P 4 → P 5 → P 6 → P 7 → (k : ℕ) → k < 8 → P k
@@ -67,43 +77,53 @@ below_eight P a b c d e f g h (suc (suc (suc (suc (suc (suc (suc (suc k)))))))) 
 
 holds0 : (p : ℕ → Bool) → has (mask_of p) 0 ≡ p 0
 unfolding has mask_of
-holds0 p = ap (eqb 1) (place0 (num (p 0)) (num (p 1)) (num (p 2)) (num (p 3)) (num (p 4)) (num (p 5)) (num (p 6)) (num (p 7)) (bits-of p)) ∙ one-num (p 0)
+holds0 p = ap (eqb 1) (place0 (num (p 0)) (num (p 1)) (num (p 2)) (num (p 3)) (num (p 4)) (num (p 5)) (num (p 6)) (num (p 7)) (bits-of p))
+    ∙ one-num (p 0)
 
 holds1 : (p : ℕ → Bool) → has (mask_of p) 1 ≡ p 1
 unfolding has mask_of
-holds1 p = ap (eqb 1) (place1 (num (p 0)) (num (p 1)) (num (p 2)) (num (p 3)) (num (p 4)) (num (p 5)) (num (p 6)) (num (p 7)) (bits-of p)) ∙ one-num (p 1)
+holds1 p = ap (eqb 1) (place1 (num (p 0)) (num (p 1)) (num (p 2)) (num (p 3)) (num (p 4)) (num (p 5)) (num (p 6)) (num (p 7)) (bits-of p))
+    ∙ one-num (p 1)
 
 holds2 : (p : ℕ → Bool) → has (mask_of p) 2 ≡ p 2
 unfolding has mask_of
-holds2 p = ap (eqb 1) (place2 (num (p 0)) (num (p 1)) (num (p 2)) (num (p 3)) (num (p 4)) (num (p 5)) (num (p 6)) (num (p 7)) (bits-of p)) ∙ one-num (p 2)
+holds2 p = ap (eqb 1) (place2 (num (p 0)) (num (p 1)) (num (p 2)) (num (p 3)) (num (p 4)) (num (p 5)) (num (p 6)) (num (p 7)) (bits-of p))
+    ∙ one-num (p 2)
 
 holds3 : (p : ℕ → Bool) → has (mask_of p) 3 ≡ p 3
 unfolding has mask_of
-holds3 p = ap (eqb 1) (place3 (num (p 0)) (num (p 1)) (num (p 2)) (num (p 3)) (num (p 4)) (num (p 5)) (num (p 6)) (num (p 7)) (bits-of p)) ∙ one-num (p 3)
+holds3 p = ap (eqb 1) (place3 (num (p 0)) (num (p 1)) (num (p 2)) (num (p 3)) (num (p 4)) (num (p 5)) (num (p 6)) (num (p 7)) (bits-of p))
+    ∙ one-num (p 3)
 
 holds4 : (p : ℕ → Bool) → has (mask_of p) 4 ≡ p 4
 unfolding has mask_of
-holds4 p = ap (eqb 1) (place4 (num (p 0)) (num (p 1)) (num (p 2)) (num (p 3)) (num (p 4)) (num (p 5)) (num (p 6)) (num (p 7)) (bits-of p)) ∙ one-num (p 4)
+holds4 p = ap (eqb 1) (place4 (num (p 0)) (num (p 1)) (num (p 2)) (num (p 3)) (num (p 4)) (num (p 5)) (num (p 6)) (num (p 7)) (bits-of p))
+    ∙ one-num (p 4)
 
 holds5 : (p : ℕ → Bool) → has (mask_of p) 5 ≡ p 5
 unfolding has mask_of
-holds5 p = ap (eqb 1) (place5 (num (p 0)) (num (p 1)) (num (p 2)) (num (p 3)) (num (p 4)) (num (p 5)) (num (p 6)) (num (p 7)) (bits-of p)) ∙ one-num (p 5)
+holds5 p = ap (eqb 1) (place5 (num (p 0)) (num (p 1)) (num (p 2)) (num (p 3)) (num (p 4)) (num (p 5)) (num (p 6)) (num (p 7)) (bits-of p))
+    ∙ one-num (p 5)
 
 holds6 : (p : ℕ → Bool) → has (mask_of p) 6 ≡ p 6
 unfolding has mask_of
-holds6 p = ap (eqb 1) (place6 (num (p 0)) (num (p 1)) (num (p 2)) (num (p 3)) (num (p 4)) (num (p 5)) (num (p 6)) (num (p 7)) (bits-of p)) ∙ one-num (p 6)
+holds6 p = ap (eqb 1) (place6 (num (p 0)) (num (p 1)) (num (p 2)) (num (p 3)) (num (p 4)) (num (p 5)) (num (p 6)) (num (p 7)) (bits-of p))
+    ∙ one-num (p 6)
 
 holds7 : (p : ℕ → Bool) → has (mask_of p) 7 ≡ p 7
 unfolding has mask_of
-holds7 p = ap (eqb 1) (place7 (num (p 0)) (num (p 1)) (num (p 2)) (num (p 3)) (num (p 4)) (num (p 5)) (num (p 6)) (num (p 7)) (bits-of p)) ∙ one-num (p 7)
+holds7 p = ap (eqb 1) (place7 (num (p 0)) (num (p 1)) (num (p 2)) (num (p 3)) (num (p 4)) (num (p 5)) (num (p 6)) (num (p 7)) (bits-of p))
+    ∙ one-num (p 7)
 
 pub has-mask_of : (p : ℕ → Bool) (k : ℕ) → k < 8 → has (mask_of p) k ≡ p k
-has-mask_of p k l = below_eight (λ k. has (mask_of p) k ≡ p k) (holds0 p) (holds1 p) (holds2 p) (holds3 p) (holds4 p) (holds5 p) (holds6 p) (holds7 p) k l
+has-mask_of p k l = below_eight (λ k. has (mask_of p) k ≡ p k) (holds0 p) (holds1 p) (holds2 p) (holds3 p) (holds4 p) (holds5 p) (holds6 p)
+    (holds7 p) k l
 
 num-one : (x : ℕ) → x < 2 → num (eqb 1 x) ≡ x
 num-one x h = grind (arith, nat_tests)
 
-sum : (m : ℕ) → m < 256 → m / 1 % 2 + 2 * (m / 2 % 2) + 4 * (m / 4 % 2) + 8 * (m / 8 % 2) + 16 * (m / 16 % 2) + 32 * (m / 32 % 2) + 64 * (m / 64 % 2) + 128 * (m / 128 % 2) ≡ m
+sum : (m : ℕ) → m < 256 → m / 1 % 2 + 2 * (m / 2 % 2) + 4 * (m / 4 % 2) + 8 * (m / 8 % 2) + 16 * (m / 16 % 2) + 32 * (m / 32 % 2) + 64 *
+    (m / 64 % 2) + 128 * (m / 128 % 2) ≡ m
 sum m h = omega arith
 
 bits-num : (m k : ℕ) → num (has m k) ≡ bit_at m k
@@ -112,7 +132,8 @@ bits-num m k = num-one (bit_at m k) (bit_at-lt m k)
 
 pub mask_of-has : (m : ℕ) → m < 256 → mask_of (has m) ≡ m
 unfolding mask_of
-mask_of-has m h = rw (bits-num m 0, bits-num m 1, bits-num m 2, bits-num m 3, bits-num m 4, bits-num m 5, bits-num m 6, bits-num m 7) (sum m h)
+mask_of-has m h = rw (bits-num m 0, bits-num m 1, bits-num m 2, bits-num m 3, bits-num m 4, bits-num m 5, bits-num m 6, bits-num m 7)
+    (sum m h)
 
 pub mask_of-small : (p : ℕ → Bool) → mask_of p < 256
 unfolding mask_of

@@ -1,5 +1,6 @@
 -- Tests over all numbers below a bound, and the list of those that pass one.
-use Rattle.std.proofs.Common.{◌≡◌, ℕ, suc, zero, ◌<◌, Bool, true, false, cond, ⊎_elim, [], ◌∷◌, ◌++◌, Option, Some, None, length, get_or, length-append, append-nil, refl, ap, ◌∙◌, sym, arith}
+use Rattle.std.proofs.Common.{◌≡◌, ℕ, suc, zero, ◌<◌, Bool, true, false, cond, ⊎_elim, [], ◌∷◌, ◌++◌, Option, Some, None, length, get_or}
+use Rattle.std.proofs.Common.{length-append, append-nil, refl, ap, ◌∙◌, sym, arith}
 use Rattle.std.proofs.lemmas.Bool.{cases_eq, or_cases}
 use Rattle.std.proofs.lemmas.Bool.Decides.{nat_tests}
 use Rattle.std.proofs.lemmas.List.Elements.{Contains-append_left, Contains-push, Contains-push_cases, Contains-get_or}
@@ -23,13 +24,15 @@ any_below-found p (suc n) e =
 pub any_below-at : (p : ℕ → Bool) (n k : ℕ) → k < n → p k ≡ true → any_below p n ≡ true
 unfolding any_below
 any_below-at p zero k h e = absurd (omega arith)
-any_below-at p (suc n) k h e = ⊎_elim (λ s. grind (arith, nat_tests)) (λ d. let i : k < n = omega arith in rw (any_below-at p n k i e)) (cases_eq k n)
+any_below-at p (suc n) k h e = ⊎_elim (λ s. grind (arith, nat_tests)) (λ d. let i : k < n = omega arith in rw (any_below-at p n k i e))
+    (cases_eq k n)
 
 pub all_below-at : (p : ℕ → Bool) (n k : ℕ) → all_below p n ≡ true → k < n → p k ≡ true
 unfolding all_below
 all_below-at p zero k e h = absurd (omega arith)
 all_below-at p (suc n) k e h =
-    ⊎_elim (λ s. grind (arith, nat_tests)) (λ d. let i : k < n = omega arith in let a : all_below p n ≡ true = grind (arith, nat_tests) in all_below-at p n k a i) (cases_eq k n)
+    ⊎_elim (λ s. grind (arith, nat_tests)) (λ d. let i : k < n = omega arith in let a : all_below p n ≡ true = grind (arith, nat_tests) in
+    all_below-at p n k a i) (cases_eq k n)
 
 pub all_below-each : (p : ℕ → Bool) (n : ℕ) → ((k : ℕ) → k < n → p k ≡ true) → all_below p n ≡ true
 unfolding all_below
@@ -68,7 +71,8 @@ those-holds p (suc n) k h e =
     (λ d. Contains-append_left (those p n) (cond (p n) (n ∷ []) []) k (those-holds p n k (omega arith) e))
     (cases_eq k n)
 
-those-only_in : (p : ℕ → Bool) (n k : ℕ) (b : Bool) → p n ≡ b → (Contains (those p n) k → (k < n) × (p k ≡ true)) → Contains (those p n ++ cond b (n ∷ []) []) k → (k < suc n) × (p k ≡ true)
+those-only_in : (p : ℕ → Bool) (n k : ℕ) (b : Bool) → p n ≡ b → (Contains (those p n) k → (k < n) × (p k ≡ true))
+    → Contains (those p n ++ cond b (n ∷ []) []) k → (k < suc n) × (p k ≡ true)
 those-only_in p n k true e h c =
     ⊎_elim (λ i. let r = h i in (omega arith, r.1)) (λ s. (omega arith, ap p (sym s) ∙ e)) (Contains-push_cases (those p n) n k c)
 those-only_in p n k false e h c = let r = h (rw append-nil at c) in (omega arith, r.1)
@@ -78,7 +82,8 @@ unfolding those
 those-only p zero k c = absurd (omega (arith, c.1))
 those-only p (suc n) k c = those-only_in p n k (p n) refl (those-only p n k) c
 
-those-rise_in : (p : ℕ → Bool) (n : ℕ) (b : Bool) → AllPairs (λ x y. x < y) (those p n) → AllPairs (λ x y. x < y) (those p n ++ cond b (n ∷ []) [])
+those-rise_in : (p : ℕ → Bool) (n : ℕ) (b : Bool) → AllPairs (λ x y. x < y) (those p n)
+    → AllPairs (λ x y. x < y) (those p n ++ cond b (n ∷ []) [])
 those-rise_in p n true h =
     all_pairs_push (λ x y. x < y) (those p n) n h (λ k d l. (those-only p n (get_or (those p n) k d) (Contains-get_or (those p n) k d l)).0)
 those-rise_in p n false h = rw append-nil h
@@ -88,9 +93,11 @@ unfolding those
 those-rise p zero = λ i j d h l. absurd (omega arith)
 those-rise p (suc n) = those-rise_in p n (p n) (those-rise p n)
 
-lowest-match : (p : ℕ → Bool) (n : ℕ) (o : Option ℕ) → LowestIs p n o → MatchOption o ((k : ℕ) → k < n → p k ≡ false) (λ k. (k < n) × (p k ≡ true) × ((j : ℕ) → j < k → p j ≡ false))
+lowest-match : (p : ℕ → Bool) (n : ℕ) (o : Option ℕ) → LowestIs p n o
+    → MatchOption o ((k : ℕ) → k < n → p k ≡ false) (λ k. (k < n) × (p k ≡ true) × ((j : ℕ) → j < k → p j ≡ false))
 lowest-match p n None h = h
 lowest-match p n (Some k) h = (h.below, h.passes, h.first)
 
-pub lowest-cases : (p : ℕ → Bool) (n : ℕ) → MatchOption (lowest p n) ((k : ℕ) → k < n → p k ≡ false) (λ k. (k < n) × (p k ≡ true) × ((j : ℕ) → j < k → p j ≡ false))
+pub lowest-cases : (p : ℕ → Bool) (n : ℕ)
+    → MatchOption (lowest p n) ((k : ℕ) → k < n → p k ≡ false) (λ k. (k < n) × (p k ≡ true) × ((j : ℕ) → j < k → p j ≡ false))
 lowest-cases p n = lowest-match p n (lowest p n) (lowest-is p n)

@@ -5,7 +5,8 @@ use Rattle.tcc_maps.specs.Words.{line_of, place_of}
 use Rattle.tcc_maps.specs.Masks.{hit}
 use Rattle.tcc_maps.specs.Shape.{Shape, set_of}
 use Rattle.tcc_maps.specs.Cache.{Cache, free_way}
-use Rattle.tcc_maps.specs.CacheChange.{marked, stored, placed, placed_at, filled, invalidated, cleaned, evicted, evicted_line, rolled_back, read_cleared, committed, word_dropped, words_dropped}
+use Rattle.tcc_maps.specs.CacheChange.{marked, stored, placed, placed_at, filled, invalidated, cleaned, evicted, evicted_line, rolled_back}
+use Rattle.tcc_maps.specs.CacheChange.{read_cleared, committed, word_dropped, words_dropped}
 
 pub at-marked : (w : ℕ) (c : Cache) (s y : ℕ) → (marked w c).at s y ≡ c.at s y
 unfolding marked
@@ -51,7 +52,8 @@ pub modified-stored : (w x : ℕ) (also : Bool) (c : Cache) (v : ℕ) → (store
 unfolding stored
 modified-stored w x also c v = refl
 
-pub dirty-stored : (w x : ℕ) (also : Bool) (c : Cache) (v : ℕ) → (stored w x also c).dirty v ≡ (if line_of w == line_of v then None else c.dirty v)
+pub dirty-stored : (w x : ℕ) (also : Bool) (c : Cache) (v : ℕ)
+    → (stored w x also c).dirty v ≡ (if line_of w == line_of v then None else c.dirty v)
 unfolding stored
 dirty-stored w x also c v = refl
 
@@ -63,7 +65,8 @@ pub held-filled : (l : ℕ) (ws : List ℕ) (c : Cache) (k : ℕ) → (filled l 
 unfolding filled
 held-filled l ws c k = refl
 
-pub value-filled : (l : ℕ) (ws : List ℕ) (c : Cache) (v : ℕ) → (filled l ws c).value v ≡ (if l == line_of v then Some (unwrap_or (c.value v) (get_or ws (place_of v) 0)) else c.value v)
+pub value-filled : (l : ℕ) (ws : List ℕ) (c : Cache) (v : ℕ)
+    → (filled l ws c).value v ≡ (if l == line_of v then Some (unwrap_or (c.value v) (get_or ws (place_of v) 0)) else c.value v)
 unfolding filled
 value-filled l ws c v = refl
 
@@ -87,7 +90,8 @@ pub held-invalidated : (l m : ℕ) (c : Cache) (k : ℕ) → (invalidated l m c)
 unfolding invalidated
 held-invalidated l m c k = refl
 
-pub value-invalidated : (l m : ℕ) (c : Cache) (v : ℕ) → (invalidated l m c).value v ≡ (if hit l m v && not (c.modified v) then None else c.value v)
+pub value-invalidated : (l m : ℕ) (c : Cache) (v : ℕ)
+    → (invalidated l m c).value v ≡ (if hit l m v && not (c.modified v) then None else c.value v)
 unfolding invalidated
 value-invalidated l m c v = refl
 
@@ -99,7 +103,8 @@ pub modified-invalidated : (l m : ℕ) (c : Cache) (v : ℕ) → (invalidated l 
 unfolding invalidated
 modified-invalidated l m c v = refl
 
-pub dirty-invalidated : (l m : ℕ) (c : Cache) (v : ℕ) → (invalidated l m c).dirty v ≡ (if hit l m v && not (c.modified v) then None else c.dirty v)
+pub dirty-invalidated : (l m : ℕ) (c : Cache) (v : ℕ)
+    → (invalidated l m c).dirty v ≡ (if hit l m v && not (c.modified v) then None else c.dirty v)
 unfolding invalidated
 dirty-invalidated l m c v = refl
 
@@ -239,7 +244,8 @@ pub read-words_dropped : (f : ℕ → Option ℕ) (c : Cache) (v : ℕ) → (wor
 unfolding words_dropped
 read-words_dropped f c v = refl
 
-pub modified-words_dropped : (f : ℕ → Option ℕ) (c : Cache) (v : ℕ) → (words_dropped f c).modified v ≡ (if is_some (f v) then false else c.modified v)
+pub modified-words_dropped : (f : ℕ → Option ℕ) (c : Cache) (v : ℕ)
+    → (words_dropped f c).modified v ≡ (if is_some (f v) then false else c.modified v)
 unfolding words_dropped
 modified-words_dropped f c v = refl
 
@@ -284,28 +290,34 @@ unfolding placed
 dirty-placed sh l c v = dirty-placed_at (free_way sh c (set_of sh l)) (set_of sh l) l c v
 
 -- where a way is free
-pub held-placed : (sh : Shape) (l : ℕ) (c : Cache) (k y : ℕ) → free_way sh c (set_of sh l) ≡ Some y → (placed sh l c).held k ≡ (if k == l then true else c.held k)
+pub held-placed : (sh : Shape) (l : ℕ) (c : Cache) (k y : ℕ) → free_way sh c (set_of sh l) ≡ Some y
+    → (placed sh l c).held k ≡ (if k == l then true else c.held k)
 unfolding placed placed_at
 held-placed sh l c k y e = rw e
 
-pub at-placed : (sh : Shape) (l : ℕ) (c : Cache) (t z y : ℕ) → free_way sh c (set_of sh l) ≡ Some y → (placed sh l c).at t z ≡ (if t == set_of sh l && z == y then Some l else c.at t z)
+pub at-placed : (sh : Shape) (l : ℕ) (c : Cache) (t z y : ℕ) → free_way sh c (set_of sh l) ≡ Some y
+    → (placed sh l c).at t z ≡ (if t == set_of sh l && z == y then Some l else c.at t z)
 unfolding placed placed_at
 at-placed sh l c t z y e = rw e
 
 -- where the way holds the line l
-pub value-evicted : (s y : ℕ) (c : Cache) (v l : ℕ) → c.at s y ≡ Some l → (evicted s y c).value v ≡ (if l == line_of v then None else c.value v)
+pub value-evicted : (s y : ℕ) (c : Cache) (v l : ℕ) → c.at s y ≡ Some l
+    → (evicted s y c).value v ≡ (if l == line_of v then None else c.value v)
 unfolding evicted evicted_line
 value-evicted s y c v l e = rw e
 
-pub read-evicted : (s y : ℕ) (c : Cache) (v l : ℕ) → c.at s y ≡ Some l → (evicted s y c).read v ≡ (if l == line_of v then false else c.read v)
+pub read-evicted : (s y : ℕ) (c : Cache) (v l : ℕ) → c.at s y ≡ Some l
+    → (evicted s y c).read v ≡ (if l == line_of v then false else c.read v)
 unfolding evicted evicted_line
 read-evicted s y c v l e = rw e
 
-pub modified-evicted : (s y : ℕ) (c : Cache) (v l : ℕ) → c.at s y ≡ Some l → (evicted s y c).modified v ≡ (if l == line_of v then false else c.modified v)
+pub modified-evicted : (s y : ℕ) (c : Cache) (v l : ℕ) → c.at s y ≡ Some l
+    → (evicted s y c).modified v ≡ (if l == line_of v then false else c.modified v)
 unfolding evicted evicted_line
 modified-evicted s y c v l e = rw e
 
-pub dirty-evicted : (s y : ℕ) (c : Cache) (v l : ℕ) → c.at s y ≡ Some l → (evicted s y c).dirty v ≡ (if l == line_of v then None else c.dirty v)
+pub dirty-evicted : (s y : ℕ) (c : Cache) (v l : ℕ) → c.at s y ≡ Some l
+    → (evicted s y c).dirty v ≡ (if l == line_of v then None else c.dirty v)
 unfolding evicted evicted_line
 dirty-evicted s y c v l e = rw e
 
@@ -313,8 +325,82 @@ pub held-evicted : (s y : ℕ) (c : Cache) (k l : ℕ) → c.at s y ≡ Some l �
 unfolding evicted evicted_line
 held-evicted s y c k l e = rw e
 
-pub at-evicted : (s y : ℕ) (c : Cache) (t z l : ℕ) → c.at s y ≡ Some l → (evicted s y c).at t z ≡ (if t == s && z == y then None else c.at t z)
+pub at-evicted : (s y : ℕ) (c : Cache) (t z l : ℕ) → c.at s y ≡ Some l
+    → (evicted s y c).at t z ≡ (if t == s && z == y then None else c.at t z)
 unfolding evicted evicted_line
 at-evicted s y c t z l e = rw e
 
-pub ruleset cache_readers = (value-marked, read-marked, modified-marked, dirty-marked, at-marked, held-marked, value-stored, read-stored, modified-stored, dirty-stored, at-stored, held-stored, value-filled, read-filled, modified-filled, dirty-filled, at-filled, held-filled, value-invalidated, read-invalidated, modified-invalidated, dirty-invalidated, at-invalidated, held-invalidated, value-cleaned, read-cleaned, modified-cleaned, dirty-cleaned, at-cleaned, held-cleaned, value-rolled_back, read-rolled_back, modified-rolled_back, dirty-rolled_back, at-rolled_back, held-rolled_back, value-read_cleared, read-read_cleared, modified-read_cleared, dirty-read_cleared, at-read_cleared, held-read_cleared, value-committed, read-committed, modified-committed, dirty-committed, at-committed, held-committed, value-word_dropped, read-word_dropped, modified-word_dropped, dirty-word_dropped, at-word_dropped, held-word_dropped, value-words_dropped, read-words_dropped, modified-words_dropped, dirty-words_dropped, at-words_dropped, held-words_dropped, value-placed, read-placed, modified-placed, dirty-placed, held-placed, at-placed, value-evicted, read-evicted, modified-evicted, dirty-evicted, held-evicted, at-evicted)
+pub ruleset cache_readers = (
+  value-marked,
+  read-marked,
+  modified-marked,
+  dirty-marked,
+  at-marked,
+  held-marked,
+  value-stored,
+  read-stored,
+  modified-stored,
+  dirty-stored,
+  at-stored,
+  held-stored,
+  value-filled,
+  read-filled,
+  modified-filled,
+  dirty-filled,
+  at-filled,
+  held-filled,
+  value-invalidated,
+  read-invalidated,
+  modified-invalidated,
+  dirty-invalidated,
+  at-invalidated,
+  held-invalidated,
+  value-cleaned,
+  read-cleaned,
+  modified-cleaned,
+  dirty-cleaned,
+  at-cleaned,
+  held-cleaned,
+  value-rolled_back,
+  read-rolled_back,
+  modified-rolled_back,
+  dirty-rolled_back,
+  at-rolled_back,
+  held-rolled_back,
+  value-read_cleared,
+  read-read_cleared,
+  modified-read_cleared,
+  dirty-read_cleared,
+  at-read_cleared,
+  held-read_cleared,
+  value-committed,
+  read-committed,
+  modified-committed,
+  dirty-committed,
+  at-committed,
+  held-committed,
+  value-word_dropped,
+  read-word_dropped,
+  modified-word_dropped,
+  dirty-word_dropped,
+  at-word_dropped,
+  held-word_dropped,
+  value-words_dropped,
+  read-words_dropped,
+  modified-words_dropped,
+  dirty-words_dropped,
+  at-words_dropped,
+  held-words_dropped,
+  value-placed,
+  read-placed,
+  modified-placed,
+  dirty-placed,
+  held-placed,
+  at-placed,
+  value-evicted,
+  read-evicted,
+  modified-evicted,
+  dirty-evicted,
+  held-evicted,
+  at-evicted,
+)

@@ -1,5 +1,6 @@
 -- Skipping and advancing, said of each TID.
-use Rattle.std.proofs.Common.{◌≡◌, ℕ, suc, zero, ◌+◌, ◌-◌, ◌<◌, ◌≤◌, Bool, true, false, ◌||◌, List, [], ◌∷◌, get_or, eqb, refl, ap, ◌∙◌, sym, arith, ⊎_elim}
+use Rattle.std.proofs.Common.{◌≡◌, ℕ, suc, zero, ◌+◌, ◌-◌, ◌<◌, ◌≤◌, Bool, true, false, ◌||◌, List, [], ◌∷◌, get_or, eqb, refl, ap, ◌∙◌}
+use Rattle.std.proofs.Common.{sym, arith, ⊎_elim}
 use Rattle.std.proofs.lemmas.Bool.{cases_eq}
 use Rattle.std.proofs.lemmas.Bool.Decides.{nat_tests}
 use Rattle.tcc_maps.specs.Serving.{Serving, serve_from, advance, skip_at, kept, is_skipped, first_serving}
@@ -36,10 +37,12 @@ unfolding serve_from
 serve_from-stops [] t = get-none (t - t)
 serve_from-stops (true ∷ bs) t =
     let h : t + 1 ≤ (serve_from (t + 1) bs).serving = serve_from-least bs (t + 1) in
-    get-tail true bs ((serve_from (t + 1) bs).serving - t) ((serve_from (t + 1) bs).serving - (t + 1)) (omega arith) ∙ serve_from-stops bs (t + 1)
+    get-tail true bs ((serve_from (t + 1) bs).serving - t) ((serve_from (t + 1) bs).serving - (t + 1)) (omega arith)
+    ∙ serve_from-stops bs (t + 1)
 serve_from-stops (false ∷ bs) t = get-head false bs (t - t) (omega arith)
 
-serve_from-keeps : (bs : List Bool) (t u : ℕ) → (serve_from t bs).serving < u → get_or (serve_from t bs).skips (u - (serve_from t bs).serving - 1) false ≡ get_or bs (u - t) false
+serve_from-keeps : (bs : List Bool) (t u : ℕ) → (serve_from t bs).serving < u
+    → get_or (serve_from t bs).skips (u - (serve_from t bs).serving - 1) false ≡ get_or bs (u - t) false
 unfolding serve_from
 serve_from-keeps [] t u a = get-none (u - t - 1) ∙ sym (get-none (u - t))
 serve_from-keeps (true ∷ bs) t u a =
@@ -74,7 +77,8 @@ pub advance-stops : (s : Serving) → is_skipped s (advance s).serving ≡ false
 unfolding advance is_skipped
 advance-stops s =
     let e = serve_from-stops s.skips (s.serving + 1) in
-    let i : (serve_from (s.serving + 1) s.skips).serving - s.serving - 1 ≡ (serve_from (s.serving + 1) s.skips).serving - (s.serving + 1) = omega arith in
+    let i : (serve_from (s.serving + 1) s.skips).serving - s.serving - 1 ≡ (serve_from (s.serving + 1) s.skips).serving - (s.serving + 1) =
+    omega arith in
     rw i (rw e (grind (arith, nat_tests)))
 
 -- the skips above it stay

@@ -42,7 +42,9 @@ pub has-modified : (c : Cache) (l w : ℕ) → l ≡ line_of w → has (modified
 unfolding modified_mask
 has-modified c l w e = has-mask_of (λ k. c.modified (word_at l k)) (place_of w) (omega arith) ∙ ap c.modified (in_line l w e)
 
-pub spills-modified : (l : ℕ) (c : Cache) (ws : List ℕ) (sp : Spilled) (w : ℕ) → ((v : ℕ) → l ≡ line_of v → c.modified v ≡ true → c.value v ≡ Some (get_or ws (place_of v) 0)) → spill l (modified_mask c l) ws sp w ≡ spill_line l c sp w
+pub spills-modified : (l : ℕ) (c : Cache) (ws : List ℕ) (sp : Spilled) (w : ℕ)
+    → ((v : ℕ) → l ≡ line_of v → c.modified v ≡ true → c.value v ≡ Some (get_or ws (place_of v) 0))
+    → spill l (modified_mask c l) ws sp w ≡ spill_line l c sp w
 unfolding spill spill_line hit
 spills-modified l c ws sp w h = ⊎_elim
     (λ e. let a = has-modified c l w e in let b = h w e in grind (arith, nat_tests))

@@ -1,5 +1,6 @@
 -- What changes in a cache, one function for each thing that can happen to it.
-use Rattle.std.specs.Prelude.{ℕ, Bool, true, false, not, ◌==◌, ◌&&◌, ◌||◌, List, get_or, Option, Some, None, is_some, unwrap_or, if◌then◌else◌}
+use Rattle.std.specs.Prelude.{ℕ, Bool, true, false, not, ◌==◌, ◌&&◌, ◌||◌, List, get_or, Option, Some, None, is_some, unwrap_or}
+use Rattle.std.specs.Prelude.{if◌then◌else◌}
 use Rattle.tcc_maps.specs.Words.{put, put_at, line_of, place_of}
 use Rattle.tcc_maps.specs.Masks.{hit}
 use Rattle.tcc_maps.specs.Shape.{Shape, set_of}

@@ -1,8 +1,10 @@
 -- What is proved of these maps: each statement is the contract of an empty function of this crate.
-use Rattle.std.specs.Prelude.{ℕ, if◌then◌else◌, ◌^◌, ◌<◌, ◌≡◌, ◌↔◌, ◌⊎◌, Bool, true, false, not, ◌&&◌, ◌||◌, ◌==◌, List, Option, Some, None, is_some, Contains, AllPairs, MatchOption, length, get_or}
+use Rattle.std.specs.Prelude.{ℕ, if◌then◌else◌, ◌^◌, ◌<◌, ◌≡◌, ◌↔◌, ◌⊎◌, Bool, true, false, not, ◌&&◌, ◌||◌, ◌==◌, List, Option, Some, None}
+use Rattle.std.specs.Prelude.{is_some, Contains, AllPairs, MatchOption, length, get_or}
 use Rattle.tcc_maps.specs.Shape.{Shape, set_of}
 use Rattle.tcc_maps.specs.Cache.{Cache, IsCache, empty_cache, way_marked, modified_mask}
-use Rattle.tcc_maps.specs.CacheChange.{marked, stored, placed, filled, invalidated, cleaned, evicted, rolled_back, read_cleared, committed, word_dropped, words_dropped}
+use Rattle.tcc_maps.specs.CacheChange.{marked, stored, placed, filled, invalidated, cleaned, evicted, rolled_back, read_cleared, committed}
+use Rattle.tcc_maps.specs.CacheChange.{word_dropped, words_dropped}
 use Rattle.tcc_maps.specs.CacheLook.{look_line, look_load, reads_masked, Hit, Miss, NeedsRoom, Overflow}
 use Rattle.tcc_maps.specs.Spilled.{Spilled, spill, spill_line}
 use Rattle.tcc_maps.specs.Lines.{Lines, with_mark}
@@ -89,7 +91,8 @@ abbrev pub AllBelow : Type 0
 AllBelow = (p : ℕ → Bool) (n : ℕ) → (all_below p n ≡ true) ↔ ((k : ℕ) → k < n → p k ≡ true)
 
 abbrev pub LowestBelow : Type 0
-LowestBelow = (p : ℕ → Bool) (n : ℕ) → MatchOption (lowest p n) ((k : ℕ) → k < n → p k ≡ false) (λ k. (k < n) × (p k ≡ true) × ((j : ℕ) → j < k → p j ≡ false))
+LowestBelow = (p : ℕ → Bool) (n : ℕ)
+    → MatchOption (lowest p n) ((k : ℕ) → k < n → p k ≡ false) (λ k. (k < n) × (p k ≡ true) × ((j : ℕ) → j < k → p j ≡ false))
 
 -- what a directory does with words that come home
 abbrev pub JudgesWaits : Type 0
@@ -142,7 +145,9 @@ ReadsMasked = (l m : ℕ) (c : Cache) → (reads_masked l m c ≡ true) ↔
 
 -- to empty a frame spills its modified words with the values that they have there
 abbrev pub SpillsModified : Type 0
-SpillsModified = (l : ℕ) (c : Cache) (ws : List ℕ) (sp : Spilled) (w : ℕ) → ((v : ℕ) → l ≡ line_of v → c.modified v ≡ true → c.value v ≡ Some (get_or ws (place_of v) 0)) → spill l (modified_mask c l) ws sp w ≡ spill_line l c sp w
+SpillsModified = (l : ℕ) (c : Cache) (ws : List ℕ) (sp : Spilled) (w : ℕ)
+    → ((v : ℕ) → l ≡ line_of v → c.modified v ≡ true → c.value v ≡ Some (get_or ws (place_of v) 0))
+    → spill l (modified_mask c l) ws sp w ≡ spill_line l c sp w
 
 -- a line's mark is what was set last, and all others stay
 abbrev pub MarksOneLine : Type 0

@@ -12,7 +12,8 @@ unfolding sends_of
 sends_of-push [] d m n = append-nil (if plain.node_eq n (node_of d) then msg_of m ∷ [] else [])
 sends_of-push (x ∷ xs) d m n =
     let first : List plain.Msg = if plain.node_eq n (node_of x.0) then msg_of x.1 ∷ [] else [] in
-    ap (λ ys. first ++ ys) (sends_of-push xs d m n) ∙ sym (append_assoc first (sends_of xs n) (if plain.node_eq n (node_of d) then msg_of m ∷ [] else []))
+    ap (λ ys. first ++ ys) (sends_of-push xs d m n)
+    ∙ sym (append_assoc first (sends_of xs n) (if plain.node_eq n (node_of d) then msg_of m ∷ [] else []))
 
 -- what goes to a node of two lists, one behind the other
 pub sends_of-append : (xs ys : List (NodeId × Msg)) (n : plain.Node) → sends_of (xs ++ ys) n ≡ sends_of xs n ++ sends_of ys n

@@ -7,7 +7,8 @@ use Rattle.tcc_base.specs.declared.access.CoreEnd.{CoreEnd}
 use Rattle.tcc_base.specs.declared.access.CoreEnd.TheVariants.{Run, Halt, Trap}
 use Rattle.tcc_base.specs.declared.access.Commit.{Commit}
 use Rattle.tcc_program.specs.Cores.{printed, ConsolesArePrinted, AreBy, with_others, and_others, SerialTakesItsCores}
-use Rattle.tcc_program.specs.Plain.{Attempt, Plain, PlainCore, begun, closed, close, close_if, end_of, if_runs, steps, transaction, Order, commit_of, and_commit, after_order, serial}
+use Rattle.tcc_program.specs.Plain.{Attempt, Plain, PlainCore, begun, closed, close, close_if, end_of, if_runs, steps, transaction, Order}
+use Rattle.tcc_program.specs.Plain.{commit_of, and_commit, after_order, serial}
 use Rattle.tcc_program.specs.Program.{Program}
 
 -- consoles
@@ -51,7 +52,8 @@ consoles_are_printed base p last (o ∷ os) m j =
         → IfSome x (λ r. (r.0.cores j).console ≡ (d.0.cores j).console ++ printed j r.1)
         → IfSome (and_commit (commit_of o d.1) x) (λ r. (r.0.cores j).console ≡ (m.cores j).console ++ printed j r.1)
     more d None t h = tt
-    more d (Some r) t h = h ∙ ap (λ y. y ++ printed j r.1) t ∙ append_assoc (m.cores j).console (if j == o.core then d.1.console else []) (printed j r.1)
+    more d (Some r) t h = h ∙ ap (λ y. y ++ printed j r.1) t ∙ append_assoc (m.cores j).console (if j == o.core then d.1.console else [])
+        (printed j r.1)
 
     go : (b : Bool) (x : Option (Plain × Attempt)) → IfSome x (Prints m o.core j)
         → ((k : Plain) → IfSome (serial base p o.tid os k) (λ r. (r.0.cores j).console ≡ (k.cores j).console ++ printed j r.1))
@@ -77,7 +79,12 @@ closed-others set others m core a e own = λ i. record { ram = a.ram; cores = λ
     new = record { local = a.local; ended = e; console = (m.cores core).console ++ a.console }
 
     at : (c : ℕ)
-        → (if c == core then record { local = a.local; ended = e; console = (if set core then m.cores core else others core).console ++ a.console } else (if set c then m.cores c else others c))
+        → (if c == core then record {
+          local = a.local;
+          ended = e;
+          console = (if set core then m.cores core else others core).console
+              ++ a.console;
+        } else (if set c then m.cores c else others c))
         ≡ (if set c then (if c == core then new else m.cores c) else others c)
     at c = rw own (go (c == core) refl (set c) refl)
       where

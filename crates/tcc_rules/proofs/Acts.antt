@@ -1,5 +1,6 @@
 -- An event acts on one node.
-use Rattle.std.proofs.Common.{◌≡◌, ℕ, Bool, true, false, cond, inl, inr, List, [], ◌++◌, Option, Some, None, is_some, append-nil, refl, ap, sym, arith}
+use Rattle.std.proofs.Common.{◌≡◌, ℕ, Bool, true, false, cond, inl, inr, List, [], ◌++◌, Option, Some, None, is_some, append-nil, refl, ap}
+use Rattle.std.proofs.Common.{sym, arith}
 use Rattle.std.specs.Prelude.{IfSome, IsSome}
 use Rattle.std.proofs.lemmas.Bool.Decides.{nat_tests}
 use Rattle.tcc_base.specs.Put.{put}
@@ -15,7 +16,8 @@ use Rattle.tcc_rules.specs.CoreEvict.{core_evict}
 use Rattle.tcc_rules.specs.CoreDeliver.{core_deliver}
 use Rattle.tcc_rules.specs.DirDeliver.{Answer, Waits, Drops, Asks, Takes, dir_deliver}
 use Rattle.tcc_rules.specs.VendorDeliver.{Granted, vendor_deliver}
-use Rattle.tcc_rules.specs.Step.{Stepped, core_moves, core_takes, dir_takes, dir_asks, vendor_gives, if_core_moves, if_core_takes, answered, if_vendor_gives, delivered, if_in_flight, names_nodes, happens, step}
+use Rattle.tcc_rules.specs.Step.{Stepped, core_moves, core_takes, dir_takes, dir_asks, vendor_gives, if_core_moves, if_core_takes, answered}
+use Rattle.tcc_rules.specs.Step.{if_vendor_gives, delivered, if_in_flight, names_nodes, happens, step}
 use Rattle.tcc_rules.specs.Laws.{ActsOnOne, Grows}
 
 grows-if : (n s : Node) (old : Link) (ms : List Msg) (b : Bool) → node_eq s n ≡ b → Grows n s old (cond b (old ++ sent_all ms) old)
@@ -32,14 +34,26 @@ put-other f i v j h = grind (arith, nat_tests)
 exec-acts : (w : World) (c : ℕ) (o : Option Out) → IfSome (if_core_moves w c o) (λ t. ActsOnOne w (Exec c) t.world)
 unfolding core_moves
 exec-acts w c None = tt
-exec-acts w c (Some o) = record { cores = λ j h. put-other w.cores c o.core j h; dirs = λ j h. refl; vendor = λ h. refl; links = λ s d. grows-sending w.net (Core c) s d o.sends }
+exec-acts w c (Some o) =
+    record {
+      cores = λ j h. put-other w.cores c o.core j h;
+      dirs = λ j h. refl;
+      vendor = λ h. refl;
+      links = λ s d. grows-sending w.net (Core c) s d o.sends;
+    }
 
 evict-acts : (w : World) (c x y : ℕ) (o : Option Out) → IfSome (if_core_moves w c o) (λ t. ActsOnOne w (Evict c x y) t.world)
 unfolding core_moves
 evict-acts w c x y None = tt
-evict-acts w c x y (Some o) = record { cores = λ j h. put-other w.cores c o.core j h; dirs = λ j h. refl; vendor = λ h. refl; links = λ s d. grows-sending w.net (Core c) s d o.sends }
+evict-acts w c x y (Some o) = record {
+  cores = λ j h. put-other w.cores c o.core j h;
+  dirs = λ j h. refl;
+  vendor = λ h. refl;
+  links = λ s d. grows-sending w.net (Core c) s d o.sends;
+}
 
-taken-acts : (w : World) (src : Node) (c k : ℕ) (o : Option Out) → IsSome (in_flight w.net src (Core c) k) → IfSome (if_core_takes w src c k o) (λ t. ActsOnOne w (Deliver src (Core c) k) t.world)
+taken-acts : (w : World) (src : Node) (c k : ℕ) (o : Option Out) → IsSome (in_flight w.net src (Core c) k)
+    → IfSome (if_core_takes w src c k o) (λ t. ActsOnOne w (Deliver src (Core c) k) t.world)
 unfolding core_takes
 taken-acts w src c k None f = tt
 taken-acts w src c k (Some o) f = record {
@@ -49,7 +63,9 @@ taken-acts w src c k (Some o) f = record {
   links = (f, inr (λ s d. grows-sending (taking w.net src (Core c) k) (Core c) s d o.sends));
 }
 
-dir_takes-acts : (w : World) (c d k : ℕ) (s : DirState) (sends : Sends) → IsSome (in_flight w.net (Core c) (Dir d) k) → ((j : ℕ) → node_eq (Dir d) (Dir j) ≡ false → put w.dirs d s j ≡ w.dirs j) → ActsOnOne w (Deliver (Core c) (Dir d) k) (dir_takes w c d k s sends)
+dir_takes-acts : (w : World) (c d k : ℕ) (s : DirState) (sends : Sends) → IsSome (in_flight w.net (Core c) (Dir d) k)
+    → ((j : ℕ) → node_eq (Dir d) (Dir j) ≡ false → put w.dirs d s j ≡ w.dirs j)
+    → ActsOnOne w (Deliver (Core c) (Dir d) k) (dir_takes w c d k s sends)
 unfolding dir_takes
 dir_takes-acts w c d k s sends f h = record {
   cores = λ j i. refl;
@@ -58,7 +74,8 @@ dir_takes-acts w c d k s sends f h = record {
   links = (f, inr (λ t e. grows-sending (taking w.net (Core c) (Dir d) k) (Dir d) t e sends));
 }
 
-answered-acts : (w : World) (c d k : ℕ) (a : Answer) → IsSome (in_flight w.net (Core c) (Dir d) k) → IfSome (answered w c d k a) (λ t. ActsOnOne w (Deliver (Core c) (Dir d) k) t.world)
+answered-acts : (w : World) (c d k : ℕ) (a : Answer) → IsSome (in_flight w.net (Core c) (Dir d) k)
+    → IfSome (answered w c d k a) (λ t. ActsOnOne w (Deliver (Core c) (Dir d) k) t.world)
 unfolding dir_asks
 answered-acts w c d k Waits f = tt
 answered-acts w c d k Drops f = dir_takes-acts w c d k (w.dirs d) (λ dst. []) f (λ j h. put-other w.dirs d (w.dirs d) j h)
@@ -70,7 +87,8 @@ answered-acts w c d k (Asks s sends) f = record {
   links = (f, inl (λ t e. grows-sending w.net (Dir d) t e sends));
 }
 
-granted-acts : (w : World) (c k : ℕ) (g : Option Granted) → IsSome (in_flight w.net (Core c) Vendor k) → IfSome (if_vendor_gives w c k g) (λ t. ActsOnOne w (Deliver (Core c) Vendor k) t.world)
+granted-acts : (w : World) (c k : ℕ) (g : Option Granted) → IsSome (in_flight w.net (Core c) Vendor k)
+    → IfSome (if_vendor_gives w c k g) (λ t. ActsOnOne w (Deliver (Core c) Vendor k) t.world)
 unfolding vendor_gives
 granted-acts w c k None f = tt
 granted-acts w c k (Some g) f = record {
@@ -80,7 +98,8 @@ granted-acts w c k (Some g) f = record {
   links = (f, inr (λ s d. grows-sending (taking w.net (Core c) Vendor k) Vendor s d g.sends));
 }
 
-delivered-acts : (sh : Shape) (w : World) (src dst : Node) (k : ℕ) (m : Msg) → IsSome (in_flight w.net src dst k) → IfSome (delivered sh w src dst k m) (λ t. ActsOnOne w (Deliver src dst k) t.world)
+delivered-acts : (sh : Shape) (w : World) (src dst : Node) (k : ℕ) (m : Msg) → IsSome (in_flight w.net src dst k)
+    → IfSome (delivered sh w src dst k m) (λ t. ActsOnOne w (Deliver src dst k) t.world)
 delivered-acts sh w src (Core c) k m f = taken-acts w src c k (core_deliver sh (w.cores c) src m) f
 delivered-acts sh w (Core c) (Dir d) k m f = answered-acts w c d k (dir_deliver sh (w.dirs d) c m) f
 delivered-acts sh w (Core c) Vendor k m f = granted-acts w c k (vendor_deliver w.next c m) f
@@ -89,7 +108,8 @@ delivered-acts sh w Vendor (Dir d) k m f = tt
 delivered-acts sh w (Dir e) Vendor k m f = tt
 delivered-acts sh w Vendor Vendor k m f = tt
 
-in_flight-acts : (sh : Shape) (w : World) (src dst : Node) (k : ℕ) (o : Option Msg) → in_flight w.net src dst k ≡ o → IfSome (if_in_flight sh w src dst k o) (λ t. ActsOnOne w (Deliver src dst k) t.world)
+in_flight-acts : (sh : Shape) (w : World) (src dst : Node) (k : ℕ) (o : Option Msg) → in_flight w.net src dst k ≡ o
+    → IfSome (if_in_flight sh w src dst k o) (λ t. ActsOnOne w (Deliver src dst k) t.world)
 in_flight-acts sh w src dst k None e = tt
 in_flight-acts sh w src dst k (Some m) e = delivered-acts sh w src dst k m (ap is_some e)
 

@@ -38,11 +38,13 @@ unmarked-unmodified c l h = ⊎_elim
 clean-undirty : (c : Cache) (l : ℕ) → ((v : ℕ) → c.dirty v ≡ None) → is_dirty c l ≡ false
 unfolding is_dirty any_word
 clean-undirty c l h = ⊎_elim
-    (λ e. let f = any_below-found (λ k. is_some (c.dirty (word_at l k))) 8 e in let i = h (word_at l f.0) in absurd (let n : is_some (c.dirty (word_at l f.0)) ≡ false = ap is_some i in cc))
+    (λ e. let f = any_below-found (λ k. is_some (c.dirty (word_at l k))) 8 e in let i = h (word_at l f.0) in
+    absurd (let n : is_some (c.dirty (word_at l f.0)) ≡ false = ap is_some i in cc))
     (λ e. e)
     (cases_Bool (any_below (λ k. is_some (c.dirty (word_at l k))) 8))
 
-evict-unwritten : (sh : Shape) (w : World) (c x y : ℕ) (s : CoreState) (o : Option ℕ) → s.phase ≡ Halted → ((v : ℕ) → s.cache.dirty v ≡ None) → is_some (if_core_moves w c (evict_line sh x y s o)) ≡ true → holds_written s.cache o ≡ false
+evict-unwritten : (sh : Shape) (w : World) (c x y : ℕ) (s : CoreState) (o : Option ℕ) → s.phase ≡ Halted
+    → ((v : ℕ) → s.cache.dirty v ≡ None) → is_some (if_core_moves w c (evict_line sh x y s o)) ≡ true → holds_written s.cache o ≡ false
 evict-unwritten sh w c x y s None e d h = refl
 evict-unwritten sh w c x y s (Some l) e d h =
     ⊎_elim
@@ -53,7 +55,9 @@ evict-unwritten sh w c x y s (Some l) e d h =
     marked_stays : is_marked s.cache l ≡ true → ⊥
     marked_stays m = grind (arith, nat_tests)
 
-evicts-unwritten : (sh : Shape) (p : Program) (w : World) (c x y : ℕ) → (w.cores c).phase ≡ Halted → ((v : ℕ) → (w.cores c).cache.dirty v ≡ None) → is_some (happens sh p w (Evict c x y)) ≡ true → holds_written (w.cores c).cache ((w.cores c).cache.at x y) ≡ false
+evicts-unwritten : (sh : Shape) (p : Program) (w : World) (c x y : ℕ) → (w.cores c).phase ≡ Halted
+    → ((v : ℕ) → (w.cores c).cache.dirty v ≡ None) → is_some (happens sh p w (Evict c x y)) ≡ true
+    → holds_written (w.cores c).cache ((w.cores c).cache.at x y) ≡ false
 unfolding happens core_evict
 evicts-unwritten sh p w c x y e d h = evict-unwritten sh w c x y (w.cores c) ((w.cores c).cache.at x y) e d h
 
@@ -93,4 +97,5 @@ done-useless_at sh p w d (Deliver src dst k) h =
     let b : is_some (in_flight w.net src dst k) ≡ false = ap is_some (d.quiet src dst k) in cc
 
 pub done-useless : (sh : Shape) (p : Program) (w : World) → IsDone sh w → useful sh p w ≡ []
-done-useless sh p w d = none-among (useful sh p w) (λ e h. done-useless_at sh p w d e ((useful-holds sh p w e).0 (is-in e (useful sh p w) h)))
+done-useless sh p w d =
+    none-among (useful sh p w) (λ e h. done-useless_at sh p w d e ((useful-holds sh p w e).0 (is-in e (useful sh p w) h)))

@@ -1,5 +1,6 @@
 -- One entry of a log is one event of the machine, at its node.
-use Rattle.std.proofs.Common.{◌≡◌, ℕ, ◌<◌, ◌≤◌, Bool, true, false, not, cond, ◌&&◌, List, [], ◌∷◌, ◌++◌, length, Option, Some, None, append_assoc, append-nil, refl, ap, sym, ◌∙◌, subst, arith}
+use Rattle.std.proofs.Common.{◌≡◌, ℕ, ◌<◌, ◌≤◌, Bool, true, false, not, cond, ◌&&◌, List, [], ◌∷◌, ◌++◌, length, Option, Some, None}
+use Rattle.std.proofs.Common.{append_assoc, append-nil, refl, ap, sym, ◌∙◌, subst, arith}
 use Rattle.std.specs.Prelude.{slice_get}
 use Rattle.std.proofs.lemmas.Bool.Decides.{nat_tests}
 use Rattle.tcc_base.specs.Put.{put}
@@ -14,8 +15,10 @@ use Rattle.tcc_rules.specs.CoreEvict.{core_evict}
 use Rattle.tcc_rules.specs.CoreDeliver.{core_deliver}
 use Rattle.tcc_rules.specs.DirDeliver.{Answer, Waits, Drops, Asks, Takes, dir_deliver}
 use Rattle.tcc_rules.specs.VendorDeliver.{Granted, vendor_deliver}
-use Rattle.tcc_rules.specs.Step.{Stepped, core_moves, core_takes, dir_takes, dir_asks, vendor_gives, if_core_moves, if_core_takes, answered, if_vendor_gives, delivered, if_in_flight, names_nodes, happens, step}
-use Rattle.tcc_rules.specs.Local.{NodeState, AtCore, AtDir, AtVendor, state_at, Entry, Acted, acted, answer_acted, grant_acted, takes, act, Mail, mailed, Side, is_gone, consumed, side_after, local_step, side_then, local, at_node}
+use Rattle.tcc_rules.specs.Step.{Stepped, core_moves, core_takes, dir_takes, dir_asks, vendor_gives, if_core_moves, if_core_takes, answered}
+use Rattle.tcc_rules.specs.Step.{if_vendor_gives, delivered, if_in_flight, names_nodes, happens, step}
+use Rattle.tcc_rules.specs.Local.{NodeState, AtCore, AtDir, AtVendor, state_at, Entry, Acted, acted, answer_acted, grant_acted, takes, act}
+use Rattle.tcc_rules.specs.Local.{Mail, mailed, Side, is_gone, consumed, side_after, local_step, side_then, local, at_node}
 use Rattle.tcc_rules.specs.Merged.{Each}
 use Rattle.tcc_rules.proofs.Mailed.{net_before}
 use Rattle.tcc_rules.proofs.Useful.{and-left, and-right}
@@ -23,7 +26,8 @@ use Rattle.tcc_rules.proofs.Useful.{and-left, and-right}
 -- what an event did at its node and on the links
 pub record IsApplied (w : World) (ev : Event) (a : Acted) (v : World) : Type 0 where
   pub here : state_at v (at_node ev) ≡ a.state
-  pub net : (s d : Node) → v.net s d ≡ cond (node_eq s (at_node ev)) (net_before w.net ev a.consumes s d ++ sent_all (a.sends d)) (net_before w.net ev a.consumes s d)
+  pub net : (s d : Node) → v.net s d ≡ cond (node_eq s (at_node ev)) (net_before w.net ev a.consumes s d ++ sent_all (a.sends d))
+      (net_before w.net ev a.consumes s d)
 
 -- where the node acts so does the machine
 abbrev pub Match : World → Event → Option Acted → Option Stepped → Type 0
@@ -62,7 +66,8 @@ unfolding vendor_gives
 grant-match w c k None = tt
 grant-match w c k (Some g) = record { here = refl; net = λ s d. refl }
 
-takes-match : (sh : Shape) (w : World) (src dst : Node) (k : ℕ) (m : Msg) → Match w (Deliver src dst k) (takes sh (state_at w dst) src (Some m)) (delivered sh w src dst k m)
+takes-match : (sh : Shape) (w : World) (src dst : Node) (k : ℕ) (m : Msg)
+    → Match w (Deliver src dst k) (takes sh (state_at w dst) src (Some m)) (delivered sh w src dst k m)
 takes-match sh w src (Core c) k m = taken-match w src c k (core_deliver sh (w.cores c) src m)
 takes-match sh w (Core c) (Dir d) k m = answer-match w c d k (dir_deliver sh (w.dirs d) c m)
 takes-match sh w (Core c) Vendor k m = grant-match w c k (vendor_deliver w.next c m)
@@ -77,26 +82,33 @@ IsHeld w e (Deliver src dst k) = (m : Msg) × (e.msg ≡ Some m) × (in_flight w
 IsHeld w e (Exec c) = Unit {0}
 IsHeld w e (Evict c x y) = Unit {0}
 
-deliver-match : (sh : Shape) (p : Program) (w : World) (src dst : Node) (k : ℕ) (o q : Option Msg) (m : Msg) → o ≡ Some m → q ≡ Some m → Match w (Deliver src dst k) (takes sh (state_at w dst) src o) (if_in_flight sh w src dst k q)
+deliver-match : (sh : Shape) (p : Program) (w : World) (src dst : Node) (k : ℕ) (o q : Option Msg) (m : Msg) → o ≡ Some m → q ≡ Some m
+    → Match w (Deliver src dst k) (takes sh (state_at w dst) src o) (if_in_flight sh w src dst k q)
 deliver-match sh p w src dst k o q m e f = rw (e, f) (takes-match sh w src dst k m)
 
-takes-act : (sh : Shape) (p : Program) (s : NodeState) (src dst : Node) (k : ℕ) (o : Option Msg) → act sh p s (Deliver src dst k) o ≡ takes sh s src o
+takes-act : (sh : Shape) (p : Program) (s : NodeState) (src dst : Node) (k : ℕ) (o : Option Msg)
+    → act sh p s (Deliver src dst k) o ≡ takes sh s src o
 takes-act sh p (AtCore s) src dst k o = refl
 takes-act sh p (AtDir s) src dst k o = refl
 takes-act sh p (AtVendor s) src dst k o = refl
 
-happens-match : (sh : Shape) (p : Program) (w : World) (e : Entry) (ev : Event) → IsHeld w e ev → Match w ev (act sh p (state_at w (at_node ev)) ev e.msg) (happens sh p w ev)
+happens-match : (sh : Shape) (p : Program) (w : World) (e : Entry) (ev : Event) → IsHeld w e ev
+    → Match w ev (act sh p (state_at w (at_node ev)) ev e.msg) (happens sh p w ev)
 unfolding happens
 happens-match sh p w e (Exec c) h = exec-match w c (core_exec sh p c (w.cores c))
 happens-match sh p w e (Evict c x y) h = evict-match w c x y (core_evict sh x y (w.cores c))
-happens-match sh p w e (Deliver src dst k) h = rw (takes-act sh p (state_at w dst) src dst k e.msg) (deliver-match sh p w src dst k e.msg (in_flight w.net src dst k) h.0 h.1 h.2)
+happens-match sh p w e (Deliver src dst k) h =
+    rw (takes-act sh p (state_at w dst) src dst k e.msg) (deliver-match sh p w src dst k e.msg (in_flight w.net src dst k) h.0 h.1 h.2)
 
-match-if : (w : World) (ev : Event) (oa : Option Acted) (b : Bool) (o : Option Stepped) → b ≡ true → Match w ev oa o → Match w ev oa (cond b o None)
+match-if : (w : World) (ev : Event) (oa : Option Acted) (b : Bool) (o : Option Stepped) → b ≡ true → Match w ev oa o
+    → Match w ev oa (cond b o None)
 match-if w ev oa b o e h = rw e h
 
-pub step-match : (sh : Shape) (p : Program) (w : World) (e : Entry) (ev : Event) → names_nodes sh ev ≡ true → IsHeld w e ev → Match w ev (act sh p (state_at w (at_node ev)) ev e.msg) (step sh p w ev)
+pub step-match : (sh : Shape) (p : Program) (w : World) (e : Entry) (ev : Event) → names_nodes sh ev ≡ true → IsHeld w e ev
+    → Match w ev (act sh p (state_at w (at_node ev)) ev e.msg) (step sh p w ev)
 unfolding step
-step-match sh p w e ev n h = match-if w ev (act sh p (state_at w (at_node ev)) ev e.msg) (names_nodes sh ev) (happens sh p w ev) n (happens-match sh p w e ev h)
+step-match sh p w e ev n h = match-if w ev (act sh p (state_at w (at_node ev)) ev e.msg) (names_nodes sh ev) (happens sh p w ev) n
+    (happens-match sh p w e ev h)
 
 -- what a step of a local run says
 pub record Stepping (sh : Shape) (p : Program) (n : Node) (e : Entry) (s t : Side) : Type 0 where
@@ -114,7 +126,8 @@ not-true true e = absurd (cc)
 not-true false e = refl
 
 stepping_in : (sh : Shape) (p : Program) (n : Node) (e : Entry) (s t : Side) (o : Option Acted) → act sh p s.state e.event e.msg ≡ o →
-    node_eq (at_node e.event) n ≡ true → names_nodes sh e.event ≡ true → is_gone s.gone e.event ≡ false → side_after e s o ≡ Some t → Stepping sh p n e s t
+    node_eq (at_node e.event) n ≡ true → names_nodes sh e.event ≡ true → is_gone s.gone e.event ≡ false → side_after e s o ≡ Some t
+    → Stepping sh p n e s t
 stepping_in sh p n e s t None q a b c h = absurd (cc)
 stepping_in sh p n e s t (Some d) q a b c h = subst (λ (x : Option Side). IsSteppingTo x) h (record {
   at = a;
@@ -131,7 +144,8 @@ stepping_in sh p n e s t (Some d) q a b c h = subst (λ (x : Option Side). IsSte
     IsSteppingTo None = ⊥
     IsSteppingTo (Some u) = Stepping sh p n e s u
 
-stepping_if : (sh : Shape) (p : Program) (n : Node) (e : Entry) (s t : Side) (b : Bool) → (node_eq (at_node e.event) n && (names_nodes sh e.event && not (is_gone s.gone e.event))) ≡ b →
+stepping_if : (sh : Shape) (p : Program) (n : Node) (e : Entry) (s t : Side) (b : Bool)
+    → (node_eq (at_node e.event) n && (names_nodes sh e.event && not (is_gone s.gone e.event))) ≡ b →
     cond b (side_after e s (act sh p s.state e.event e.msg)) None ≡ Some t → Stepping sh p n e s t
 stepping_if sh p n e s t false q h = absurd (cc)
 stepping_if sh p n e s t true q h =
@@ -144,7 +158,8 @@ stepping_if sh p n e s t true q h =
 
 stepping : (sh : Shape) (p : Program) (n : Node) (e : Entry) (s t : Side) → local_step sh p n e s ≡ Some t → Stepping sh p n e s t
 unfolding local_step
-stepping sh p n e s t h = stepping_if sh p n e s t (node_eq (at_node e.event) n && (names_nodes sh e.event && not (is_gone s.gone e.event))) refl h
+stepping sh p n e s t h = stepping_if sh p n e s t (node_eq (at_node e.event) n && (names_nodes sh e.event && not (is_gone s.gone e.event)))
+    refl h
 
 -- a local run begins with a step
 pub record Begins (sh : Shape) (p : Program) (n : Node) (e : Entry) (es : List Entry) (s f : Side) : Type 0 where
@@ -152,11 +167,13 @@ pub record Begins (sh : Shape) (p : Program) (n : Node) (e : Entry) (es : List E
   pub step : Stepping sh p n e s then
   pub rest : local sh p n es then ≡ Some f
 
-begins_in : (sh : Shape) (p : Program) (n : Node) (e : Entry) (es : List Entry) (s f : Side) (o : Option Side) → local_step sh p n e s ≡ o → side_then (local sh p n es) o ≡ Some f → Begins sh p n e es s f
+begins_in : (sh : Shape) (p : Program) (n : Node) (e : Entry) (es : List Entry) (s f : Side) (o : Option Side) → local_step sh p n e s ≡ o
+    → side_then (local sh p n es) o ≡ Some f → Begins sh p n e es s f
 begins_in sh p n e es s f None q h = absurd (cc)
 begins_in sh p n e es s f (Some t) q h = record { then = t; step = stepping sh p n e s t q; rest = h }
 
-pub begins : (sh : Shape) (p : Program) (n : Node) (e : Entry) (es : List Entry) (s f : Side) → local sh p n (e ∷ es) s ≡ Some f → Begins sh p n e es s f
+pub begins : (sh : Shape) (p : Program) (n : Node) (e : Entry) (es : List Entry) (s f : Side) → local sh p n (e ∷ es) s ≡ Some f
+    → Begins sh p n e es s f
 unfolding local
 begins sh p n e es s f h = begins_in sh p n e es s f (local_step sh p n e s) refl h
 
@@ -183,8 +200,10 @@ local-nil : (sh : Shape) (p : Program) (n : Node) (s f : Side) → local sh p n 
 unfolding local
 local-nil sh p n s f h = cc
 
-pub sent-later : (sh : Shape) (p : Program) (n d : Node) (t : ℕ) (es : List Entry) (s f : Side) → Each (λ e. t ≤ e.stamp) es → local sh p n es s ≡ Some f → More t (s.sent d) (f.sent d)
-sent-later sh p n d t [] s f a h = let e = local-nil sh p n s f h in record { more = []; is = ap (λ (x : Side). x.sent d) (sym e) ∙ sym (append-nil (s.sent d)); late = tt }
+pub sent-later : (sh : Shape) (p : Program) (n d : Node) (t : ℕ) (es : List Entry) (s f : Side) → Each (λ e. t ≤ e.stamp) es
+    → local sh p n es s ≡ Some f → More t (s.sent d) (f.sent d)
+sent-later sh p n d t [] s f a h = let e = local-nil sh p n s f h in
+    record { more = []; is = ap (λ (x : Side). x.sent d) (sym e) ∙ sym (append-nil (s.sent d)); late = tt }
 sent-later sh p n d t (e ∷ es) s f a h =
     let b = begins sh p n e es s f h in
     let r = sent-later sh p n d t es b.then f a.1 b.rest in
@@ -200,7 +219,8 @@ late-get t (x ∷ ms) ℕ.zero m h e = let i : x ≡ m = cc in subst (λ (y : Ma
 late-get t (x ∷ ms) (ℕ.suc k) m h e = late-get t ms k m h.1 e
 
 -- an earlier message is among those that were sent before
-pub sent-earlier : (t : ℕ) (old more : List Mail) (k : ℕ) (m : Mail) → Late t more → m.stamp < t → slice_get (old ++ more) k ≡ Some m → slice_get old k ≡ Some m
+pub sent-earlier : (t : ℕ) (old more : List Mail) (k : ℕ) (m : Mail) → Late t more → m.stamp < t → slice_get (old ++ more) k ≡ Some m
+    → slice_get old k ≡ Some m
 sent-earlier t [] more k m h l e = absurd (let i = late-get t more k m h e in omega arith)
 sent-earlier t (x ∷ old) more ℕ.zero m h l e = e
 sent-earlier t (x ∷ old) more (ℕ.suc k) m h l e = sent-earlier t old more k m h l e

@@ -1,8 +1,10 @@
 -- The TIDs that the vendor gives are counted from 1.
-use Rattle.std.proofs.Common.{◌≡◌, ℕ, suc, zero, ◌+◌, ◌-◌, ◌≤◌, Bool, true, cond, List, [], ◌∷◌, ◌++◌, length, drop, Option, Some, None, refl, ap, ◌∙◌, arith}
+use Rattle.std.proofs.Common.{◌≡◌, ℕ, suc, zero, ◌+◌, ◌-◌, ◌≤◌, Bool, true, cond, List, [], ◌∷◌, ◌++◌, length, drop, Option, Some, None}
+use Rattle.std.proofs.Common.{refl, ap, ◌∙◌, arith}
 use Rattle.std.specs.Prelude.{IfSome}
 use Rattle.tcc_program.specs.Program.{Local, Program}
-use Rattle.tcc_maps.specs.Nodes.{Node, Core, Dir, Vendor, Msg, TidReq, TidGrant, LoadReq, Fill, Skip, Probe, ProbeReply, Mark, Commit, Abort, WriteBack, Flush, DataReq, Inv, InvAck, Event, Exec, Evict, Deliver, node_eq}
+use Rattle.tcc_maps.specs.Nodes.{Node, Core, Dir, Vendor, Msg, TidReq, TidGrant, LoadReq, Fill, Skip, Probe, ProbeReply, Mark, Commit}
+use Rattle.tcc_maps.specs.Nodes.{Abort, WriteBack, Flush, DataReq, Inv, InvAck, Event, Exec, Evict, Deliver, node_eq}
 use Rattle.tcc_maps.specs.Shape.{Shape}
 use Rattle.tcc_rules.specs.State.{World, Link, start, vendor_start}
 use Rattle.tcc_rules.specs.Links.{in_flight, sent_all}
@@ -12,7 +14,9 @@ use Rattle.tcc_rules.specs.CoreEvict.{core_evict}
 use Rattle.tcc_rules.specs.CoreDeliver.{core_deliver}
 use Rattle.tcc_rules.specs.DirDeliver.{Answer, Waits, Drops, Asks, Takes, dir_deliver}
 use Rattle.tcc_rules.specs.VendorDeliver.{vendor_deliver}
-use Rattle.tcc_rules.specs.Step.{Stepped, History, core_moves, core_takes, dir_takes, dir_asks, vendor_gives, if_core_moves, if_core_takes, answered, if_vendor_gives, delivered, if_in_flight, names_nodes, happens, step, recorded, and_noted, next_history, and_then, run_from, run}
+use Rattle.tcc_rules.specs.Step.{Stepped, History, core_moves, core_takes, dir_takes, dir_asks, vendor_gives, if_core_moves, if_core_takes}
+use Rattle.tcc_rules.specs.Step.{answered, if_vendor_gives, delivered, if_in_flight, names_nodes, happens, step, recorded, and_noted}
+use Rattle.tcc_rules.specs.Step.{next_history, and_then, run_from, run}
 use Rattle.tcc_rules.specs.Laws.{tids_in, given_by, and_given, given, counting}
 use Rattle.tcc_rules.proofs.Acts.{if-step}
 use Rattle.tcc_rules.proofs.Useful.{node_eq-same}
@@ -36,7 +40,8 @@ unfolding core_moves
 evict-gives w c x y None = tt
 evict-gives w c x y (Some o) = record { rises = omega arith; counts = none-given w.next }
 
-taken-gives : (w : World) (src : Node) (c k : ℕ) (o : Option Out) → IfSome (if_core_takes w src c k o) (λ t. Gives w (Deliver src (Core c) k) t.world)
+taken-gives : (w : World) (src : Node) (c k : ℕ) (o : Option Out)
+    → IfSome (if_core_takes w src c k o) (λ t. Gives w (Deliver src (Core c) k) t.world)
 unfolding core_takes
 taken-gives w src c k None = tt
 taken-gives w src c k (Some o) = record { rises = omega arith; counts = none-given w.next }
@@ -52,13 +57,20 @@ drop-all : (old new : Link) → drop (length old) (old ++ new) ≡ new
 drop-all [] new = refl
 drop-all (m ∷ old) new = drop-all old new
 
-grant-counts : (t c : ℕ) (old : Link) (b : Bool) → b ≡ true → tids_in (drop (length old) (old ++ sent_all (cond b (TidGrant t ∷ []) []))) ≡ counting t (t + 1 - t)
+grant-counts : (t c : ℕ) (old : Link) (b : Bool) → b ≡ true
+    → tids_in (drop (length old) (old ++ sent_all (cond b (TidGrant t ∷ []) []))) ≡ counting t (t + 1 - t)
 unfolding tids_in sent_all counting
 grant-counts t c old b e = let n : t + 1 - t ≡ 1 = omega arith in rw (e, n, drop-all old (Some (TidGrant t) ∷ []))
 
-granted-gives : (w : World) (c k : ℕ) (m : Msg) → IfSome (if_vendor_gives w c k (vendor_deliver w.next c m)) (λ t. Gives w (Deliver (Core c) Vendor k) t.world)
+granted-gives : (w : World) (c k : ℕ) (m : Msg)
+    → IfSome (if_vendor_gives w c k (vendor_deliver w.next c m)) (λ t. Gives w (Deliver (Core c) Vendor k) t.world)
 unfolding vendor_gives
-granted-gives w c k TidReq = record { rises = omega arith; counts = grant-counts w.next c (w.net Vendor (Core c)) (node_eq (Core c) (Core c)) (node_eq-same (Core c)) }
+granted-gives w c k TidReq =
+    record {
+      rises = omega arith;
+      counts = grant-counts w.next c (w.net Vendor (Core c)) (node_eq (Core c) (Core c))
+          (node_eq-same (Core c));
+    }
 granted-gives w c k (TidGrant t) = tt
 granted-gives w c k (LoadReq l a) = tt
 granted-gives w c k (Fill l ws) = tt
@@ -74,7 +86,8 @@ granted-gives w c k (DataReq l) = tt
 granted-gives w c k (Inv l m t) = tt
 granted-gives w c k (InvAck l b) = tt
 
-delivered-gives : (sh : Shape) (w : World) (src dst : Node) (k : ℕ) (m : Msg) → IfSome (delivered sh w src dst k m) (λ t. Gives w (Deliver src dst k) t.world)
+delivered-gives : (sh : Shape) (w : World) (src dst : Node) (k : ℕ) (m : Msg)
+    → IfSome (delivered sh w src dst k m) (λ t. Gives w (Deliver src dst k) t.world)
 delivered-gives sh w src (Core c) k m = taken-gives w src c k (core_deliver sh (w.cores c) src m)
 delivered-gives sh w (Core c) (Dir d) k m = answered-gives w c d k (dir_deliver sh (w.dirs d) c m)
 delivered-gives sh w (Core c) Vendor k m = granted-gives w c k m
@@ -83,7 +96,8 @@ delivered-gives sh w Vendor (Dir d) k m = tt
 delivered-gives sh w (Dir e) Vendor k m = tt
 delivered-gives sh w Vendor Vendor k m = tt
 
-in_flight-gives : (sh : Shape) (w : World) (src dst : Node) (k : ℕ) (o : Option Msg) → IfSome (if_in_flight sh w src dst k o) (λ t. Gives w (Deliver src dst k) t.world)
+in_flight-gives : (sh : Shape) (w : World) (src dst : Node) (k : ℕ) (o : Option Msg)
+    → IfSome (if_in_flight sh w src dst k o) (λ t. Gives w (Deliver src dst k) t.world)
 in_flight-gives sh w src dst k None = tt
 in_flight-gives sh w src dst k (Some m) = delivered-gives sh w src dst k m
 
@@ -120,15 +134,23 @@ weaken : {A : Type 0} (o : Option A) (P Q : A → Type 0) → ((x : A) → P x �
 weaken None P Q f h = tt
 weaken (Some x) P Q f h = f x h
 
-run-gives_in : (sh : Shape) (p : Program) (e : Event) (es : List Event) (h : History) (o : Option Stepped) → IfSome o (λ t. Gives h.world e t.world) →
-    ((g : History) → RunGives sh p es g.world (run_from sh p es g)) → IfSome (and_then (run_from sh p es) (recorded h o)) (λ g. (h.world.next ≤ g.world.next) × (and_given (given sh p es) h.world e o ≡ counting h.world.next (g.world.next - h.world.next)))
+run-gives_in : (sh : Shape) (p : Program) (e : Event) (es : List Event) (h : History) (o : Option Stepped)
+    → IfSome o (λ t. Gives h.world e t.world) →
+    ((g : History) → RunGives sh p es g.world (run_from sh p es g))
+    → IfSome (and_then (run_from sh p es) (recorded h o))
+    (λ g. (h.world.next ≤ g.world.next) × (and_given (given sh p es) h.world e o ≡ counting h.world.next (g.world.next - h.world.next)))
 run-gives_in sh p e es h None f r = tt
 run-gives_in sh p e es h (Some t) f r =
     let g : History = record { world = t.world; commits = and_noted t.noted h.commits } in
     weaken (run_from sh p es g)
     (λ k. (t.world.next ≤ k.world.next) × (given sh p es t.world ≡ counting t.world.next (k.world.next - t.world.next)))
-    (λ k. (h.world.next ≤ k.world.next) × (given_by h.world e t.world ++ given sh p es t.world ≡ counting h.world.next (k.world.next - h.world.next)))
-    (λ k q. (let a = f.rises in let b = q.0 in omega arith, joined h.world.next t.world.next k.world.next (given_by h.world e t.world) (given sh p es t.world) f.rises q.0 f.counts q.1))
+    (λ k. (h.world.next ≤ k.world.next)
+    × (given_by h.world e t.world ++ given sh p es t.world ≡ counting h.world.next (k.world.next - h.world.next)))
+    (λ k q. (
+      let a = f.rises in let b = q.0 in omega arith,
+      joined h.world.next t.world.next k.world.next (given_by h.world e t.world)
+          (given sh p es t.world) f.rises q.0 f.counts q.1,
+    ))
     (r g)
 
 pub run-gives : (sh : Shape) (p : Program) (es : List Event) (h : History) → RunGives sh p es h.world (run_from sh p es h)

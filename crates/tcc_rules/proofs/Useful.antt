@@ -1,5 +1,6 @@
 -- The list of useful events: it holds each, in the stated order, and none in a done state.
-use Rattle.std.proofs.Common.{◌≡◌, ℕ, suc, zero, ◌<◌, Bool, true, false, cond, ◌&&◌, inl, inr, ⊎_elim, List, [], ◌∷◌, ◌++◌, map, length, get_or, Option, Some, None, is_some, refl, arith}
+use Rattle.std.proofs.Common.{◌≡◌, ℕ, suc, zero, ◌<◌, Bool, true, false, cond, ◌&&◌, inl, inr, ⊎_elim, List, [], ◌∷◌, ◌++◌, map, length}
+use Rattle.std.proofs.Common.{get_or, Option, Some, None, is_some, refl, arith}
 use Rattle.std.specs.Prelude.{◌↔◌, nat_lt, IsSome}
 use Rattle.std.specs.List.{flat_map, filter}
 use Rattle.std.proofs.lemmas.Bool.Decides.{nat_tests}
@@ -12,7 +13,9 @@ use Rattle.tcc_rules.specs.Links.{in_flight}
 use Rattle.tcc_rules.specs.Step.{Stepped, if_in_flight, is_node, names_nodes, happens, step, is_enabled}
 use Rattle.tcc_rules.specs.Useful.{is_useful, is_of_use, nodes, execs, evicts, delivers, useful, node_before, event_before}
 use Rattle.tcc_rules.specs.Laws.{IsIn, IsBeforeAll, IsOrdered}
-use Rattle.tcc_rules.proofs.Ordered.{Every, Ordered, Among, every-append, every-weaken, every-map, every-all, every-flat, ordered-append, ordered-map, ordered-flat, ordered-filter, ordered-numbers, among-left, among-right, among-map, among-flat, among-filter, filter-among, among-numbers}
+use Rattle.tcc_rules.proofs.Ordered.{Every, Ordered, Among, every-append, every-weaken, every-map, every-all, every-flat, ordered-append}
+use Rattle.tcc_rules.proofs.Ordered.{ordered-map, ordered-flat, ordered-filter, ordered-numbers, among-left, among-right, among-map}
+use Rattle.tcc_rules.proofs.Ordered.{among-flat, among-filter, filter-among, among-numbers}
 
 ordered-execs : (sh : Shape) → Ordered event_before (execs sh)
 unfolding execs
@@ -52,7 +55,9 @@ of-at c x (Evict d u y) p = p.0
 of-at c x (Deliver s t k) p = absurd p
 
 ways-at : (c x n : ℕ) → Every (EvictAt c x) (map (Evict c x) (those (λ k. true) n))
-ways-at c x n = every-map (EvictAt c x) (Evict c x) (those (λ k. true) n) (every-all (λ y. EvictAt c x (Evict c x y)) (those (λ k. true) n) (λ y. (refl, refl)))
+ways-at c x n =
+    every-map (EvictAt c x) (Evict c x) (those (λ k. true) n)
+    (every-all (λ y. EvictAt c x (Evict c x y)) (those (λ k. true) n) (λ y. (refl, refl)))
 
 sets-of : (c n m : ℕ) → Every (EvictOf c) (flat_map (λ x. map (Evict c x) (those (λ k. true) m)) (those (λ k. true) n))
 sets-of c n m = every-flat (EvictOf c) (λ x. map (Evict c x) (those (λ k. true) m)) (those (λ k. true) n)
@@ -85,11 +90,15 @@ ordered-nodes sh = ordered-append node_before (map Core (those (λ k. true) sh.c
     (ordered-append node_before (map Dir (those (λ k. true) sh.dirs)) (Vendor ∷ [])
     (ordered-map nat_lt node_before Dir (those (λ k. true) sh.dirs) (λ x y e. e) (ordered-numbers sh.dirs))
     (tt, tt)
-    (every-map (λ x. Every (λ y. node_before x y ≡ true) (Vendor ∷ [])) Dir (those (λ k. true) sh.dirs) (every-all (λ x. Every (λ y. node_before (Dir x) y ≡ true) (Vendor ∷ [])) (those (λ k. true) sh.dirs) (λ x. (refl, tt)))))
-    (every-map (λ x. Every (λ y. node_before x y ≡ true) (map Dir (those (λ k. true) sh.dirs) ++ Vendor ∷ [])) Core (those (λ k. true) sh.cores)
-    (every-all (λ x. Every (λ y. node_before (Core x) y ≡ true) (map Dir (those (λ k. true) sh.dirs) ++ Vendor ∷ [])) (those (λ k. true) sh.cores)
+    (every-map (λ x. Every (λ y. node_before x y ≡ true) (Vendor ∷ [])) Dir (those (λ k. true) sh.dirs)
+    (every-all (λ x. Every (λ y. node_before (Dir x) y ≡ true) (Vendor ∷ [])) (those (λ k. true) sh.dirs) (λ x. (refl, tt)))))
+    (every-map (λ x. Every (λ y. node_before x y ≡ true) (map Dir (those (λ k. true) sh.dirs) ++ Vendor ∷ [])) Core
+    (those (λ k. true) sh.cores)
+    (every-all (λ x. Every (λ y. node_before (Core x) y ≡ true) (map Dir (those (λ k. true) sh.dirs) ++ Vendor ∷ []))
+    (those (λ k. true) sh.cores)
     (λ x. every-append (λ y. node_before (Core x) y ≡ true) (map Dir (those (λ k. true) sh.dirs)) (Vendor ∷ [])
-    (every-map (λ y. node_before (Core x) y ≡ true) Dir (those (λ k. true) sh.dirs) (every-all (λ y. node_before (Core x) (Dir y) ≡ true) (those (λ k. true) sh.dirs) (λ y. refl)))
+    (every-map (λ y. node_before (Core x) y ≡ true) Dir (those (λ k. true) sh.dirs)
+    (every-all (λ y. node_before (Core x) (Dir y) ≡ true) (those (λ k. true) sh.dirs) (λ y. refl)))
     (refl, tt))))
 
 -- a Deliver from this source, on this link
@@ -134,18 +143,21 @@ abbrev on_link : World → Node → Node → List Event
 on_link w src dst = map (Deliver src dst) (those (λ k. true) (length (w.net src dst)))
 
 link-on : (w : World) (s d : Node) → Every (On s d) (on_link w s d)
-link-on w s d = every-map (On s d) (Deliver s d) (those (λ k. true) (length (w.net s d))) (every-all (λ k. On s d (Deliver s d k)) (those (λ k. true) (length (w.net s d))) (λ k. (refl, refl)))
+link-on w s d = every-map (On s d) (Deliver s d) (those (λ k. true) (length (w.net s d)))
+    (every-all (λ k. On s d (Deliver s d k)) (those (λ k. true) (length (w.net s d))) (λ k. (refl, refl)))
 
 links-from : (sh : Shape) (w : World) (s : Node) → Every (From s) (flat_map (on_link w s) (nodes sh))
 links-from sh w s = every-flat (From s) (on_link w s) (nodes sh)
-    (every-all (λ d. Every (From s) (on_link w s d)) (nodes sh) (λ d. every-weaken (On s d) (From s) (on_link w s d) (from-on s d) (link-on w s d)))
+    (every-all (λ d. Every (From s) (on_link w s d)) (nodes sh)
+    (λ d. every-weaken (On s d) (From s) (on_link w s d) (from-on s d) (link-on w s d)))
 
 ordered-delivers : (sh : Shape) (w : World) → Ordered event_before (delivers sh w)
 unfolding delivers
 ordered-delivers sh w =
     ordered-flat node_before event_before (λ s. flat_map (on_link w s) (nodes sh)) From
     (λ s. ordered-flat node_before event_before (on_link w s) (On s)
-    (λ d. ordered-map nat_lt event_before (Deliver s d) (those (λ k. true) (length (w.net s d))) (numbers-before s d) (ordered-numbers (length (w.net s d))))
+    (λ d. ordered-map nat_lt event_before (Deliver s d) (those (λ k. true) (length (w.net s d))) (numbers-before s d)
+    (ordered-numbers (length (w.net s d))))
     (link-on w s)
     (links-before s)
     (nodes sh) (ordered-nodes sh))
@@ -206,9 +218,12 @@ every-exec sh = every-map IsExec Exec (those (λ k. true) sh.cores) (every-all (
 
 every-evict : (sh : Shape) → Every IsEvict (evicts sh)
 unfolding evicts
-every-evict sh = every-flat IsEvict (λ c. flat_map (λ x. map (Evict c x) (those (λ k. true) sh.ways)) (those (λ k. true) sh.sets)) (those (λ k. true) sh.cores)
-    (every-all (λ c. Every IsEvict (flat_map (λ x. map (Evict c x) (those (λ k. true) sh.ways)) (those (λ k. true) sh.sets))) (those (λ k. true) sh.cores)
-    (λ c. every-weaken (EvictOf c) IsEvict (flat_map (λ x. map (Evict c x) (those (λ k. true) sh.ways)) (those (λ k. true) sh.sets)) (evict-of c) (sets-of c sh.sets sh.ways)))
+every-evict sh = every-flat IsEvict (λ c. flat_map (λ x. map (Evict c x) (those (λ k. true) sh.ways)) (those (λ k. true) sh.sets))
+    (those (λ k. true) sh.cores)
+    (every-all (λ c. Every IsEvict (flat_map (λ x. map (Evict c x) (those (λ k. true) sh.ways)) (those (λ k. true) sh.sets)))
+    (those (λ k. true) sh.cores)
+    (λ c. every-weaken (EvictOf c) IsEvict (flat_map (λ x. map (Evict c x) (those (λ k. true) sh.ways)) (those (λ k. true) sh.sets))
+    (evict-of c) (sets-of c sh.sets sh.ways)))
 
 every-deliver : (sh : Shape) (w : World) → Every IsDeliver (delivers sh w)
 unfolding delivers
@@ -216,12 +231,15 @@ every-deliver sh w = every-flat IsDeliver (λ s. flat_map (on_link w s) (nodes s
     (every-all (λ s. Every IsDeliver (flat_map (on_link w s) (nodes sh))) (nodes sh)
     (λ s. every-weaken (From s) IsDeliver (flat_map (on_link w s) (nodes sh)) (deliver-from s) (links-from sh w s)))
 
-each-before : (P Q : Event → Type 0) (xs ys : List Event) → ((a b : Event) → P a → Q b → event_before a b ≡ true) → Every P xs → Every Q ys → Every (λ a. Every (λ b. event_before a b ≡ true) ys) xs
-each-before P Q xs ys f h k = every-weaken P (λ a. Every (λ b. event_before a b ≡ true) ys) xs (λ a p. every-weaken Q (λ b. event_before a b ≡ true) ys (λ b q. f a b p q) k) h
+each-before : (P Q : Event → Type 0) (xs ys : List Event) → ((a b : Event) → P a → Q b → event_before a b ≡ true) → Every P xs → Every Q ys
+    → Every (λ a. Every (λ b. event_before a b ≡ true) ys) xs
+each-before P Q xs ys f h k = every-weaken P (λ a. Every (λ b. event_before a b ≡ true) ys) xs
+    (λ a p. every-weaken Q (λ b. event_before a b ≡ true) ys (λ b q. f a b p q) k) h
 
 ordered-all : (sh : Shape) (w : World) → Ordered event_before (execs sh ++ (evicts sh ++ delivers sh w))
 ordered-all sh w = ordered-append event_before (execs sh) (evicts sh ++ delivers sh w) (ordered-execs sh)
-    (ordered-append event_before (evicts sh) (delivers sh w) (ordered-evicts sh) (ordered-delivers sh w) (each-before IsEvict IsDeliver (evicts sh) (delivers sh w) evict-deliver (every-evict sh) (every-deliver sh w)))
+    (ordered-append event_before (evicts sh) (delivers sh w) (ordered-evicts sh) (ordered-delivers sh w)
+    (each-before IsEvict IsDeliver (evicts sh) (delivers sh w) evict-deliver (every-evict sh) (every-deliver sh w)))
     (every-weaken IsExec (λ a. Every (λ b. event_before a b ≡ true) (evicts sh ++ delivers sh w)) (execs sh)
     (λ a p. every-append (λ b. event_before a b ≡ true) (evicts sh) (delivers sh w)
     (every-weaken IsEvict (λ b. event_before a b ≡ true) (evicts sh) (λ b q. exec-evict a b p q) (every-evict sh))
@@ -238,7 +256,8 @@ is-ordered (e ∷ es) h = (before-all e es h.0, is-ordered es h.1)
 
 pub useful-ordered : (sh : Shape) (p : Program) (w : World) → IsOrdered (useful sh p w)
 unfolding useful
-useful-ordered sh p w = is-ordered (filter (is_useful sh p w) (execs sh ++ (evicts sh ++ delivers sh w))) (ordered-filter event_before (is_useful sh p w) (execs sh ++ (evicts sh ++ delivers sh w)) (ordered-all sh w))
+useful-ordered sh p w = is-ordered (filter (is_useful sh p w) (execs sh ++ (evicts sh ++ delivers sh w)))
+    (ordered-filter event_before (is_useful sh p w) (execs sh ++ (evicts sh ++ delivers sh w)) (ordered-all sh w))
 
 pub before-itself : (e : Event) → event_before e e ≡ false
 before-itself (Exec c) = grind (arith, nat_tests)
@@ -293,15 +312,20 @@ among-execs sh c h = among-map Exec c (those (λ k. true) sh.cores) (among-numbe
 among-evicts : (sh : Shape) (c x y : ℕ) → c < sh.cores → x < sh.sets → y < sh.ways → Among (Evict c x y) (evicts sh)
 unfolding evicts
 among-evicts sh c x y h i j =
-    among-flat (λ c. flat_map (λ x. map (Evict c x) (those (λ k. true) sh.ways)) (those (λ k. true) sh.sets)) c (Evict c x y) (those (λ k. true) sh.cores) (among-numbers sh.cores c h)
+    among-flat (λ c. flat_map (λ x. map (Evict c x) (those (λ k. true) sh.ways)) (those (λ k. true) sh.sets)) c (Evict c x y)
+    (those (λ k. true) sh.cores) (among-numbers sh.cores c h)
     (among-flat (λ x. map (Evict c x) (those (λ k. true) sh.ways)) x (Evict c x y) (those (λ k. true) sh.sets) (among-numbers sh.sets x i)
     (among-map (Evict c x) y (those (λ k. true) sh.ways) (among-numbers sh.ways y j)))
 
 among-nodes : (sh : Shape) (n : Node) → is_node sh n ≡ true → Among n (nodes sh)
 unfolding nodes
-among-nodes sh (Core c) h = among-left (Core c) (map Core (those (λ k. true) sh.cores)) (map Dir (those (λ k. true) sh.dirs) ++ Vendor ∷ []) (among-map Core c (those (λ k. true) sh.cores) (among-numbers sh.cores c (lt-true c sh.cores h)))
-among-nodes sh (Dir d) h = among-right (Dir d) (map Core (those (λ k. true) sh.cores)) (map Dir (those (λ k. true) sh.dirs) ++ Vendor ∷ []) (among-left (Dir d) (map Dir (those (λ k. true) sh.dirs)) (Vendor ∷ []) (among-map Dir d (those (λ k. true) sh.dirs) (among-numbers sh.dirs d (lt-true d sh.dirs h))))
-among-nodes sh Vendor h = among-right Vendor (map Core (those (λ k. true) sh.cores)) (map Dir (those (λ k. true) sh.dirs) ++ Vendor ∷ []) (among-right Vendor (map Dir (those (λ k. true) sh.dirs)) (Vendor ∷ []) (inl refl))
+among-nodes sh (Core c) h = among-left (Core c) (map Core (those (λ k. true) sh.cores)) (map Dir (those (λ k. true) sh.dirs) ++ Vendor ∷ [])
+    (among-map Core c (those (λ k. true) sh.cores) (among-numbers sh.cores c (lt-true c sh.cores h)))
+among-nodes sh (Dir d) h = among-right (Dir d) (map Core (those (λ k. true) sh.cores)) (map Dir (those (λ k. true) sh.dirs) ++ Vendor ∷ [])
+    (among-left (Dir d) (map Dir (those (λ k. true) sh.dirs)) (Vendor ∷ [])
+    (among-map Dir d (those (λ k. true) sh.dirs) (among-numbers sh.dirs d (lt-true d sh.dirs h))))
+among-nodes sh Vendor h = among-right Vendor (map Core (those (λ k. true) sh.cores)) (map Dir (those (λ k. true) sh.dirs) ++ Vendor ∷ [])
+    (among-right Vendor (map Dir (those (λ k. true) sh.dirs)) (Vendor ∷ []) (inl refl))
 
 -- a message in flight has a number below its link's length
 below-length : (l : Link) (k : ℕ) → is_some (get_or l k None) ≡ true → k < length l
@@ -310,31 +334,38 @@ below-length [] (suc k) h = absurd (cc)
 below-length (m ∷ l) zero h = omega arith
 below-length (m ∷ l) (suc k) h = let i = below-length l k h in omega arith
 
-flown : (sh : Shape) (w : World) (src dst : Node) (k : ℕ) (o : Option Msg) → is_some (if_in_flight sh w src dst k o) ≡ true → is_some o ≡ true
+flown : (sh : Shape) (w : World) (src dst : Node) (k : ℕ) (o : Option Msg) → is_some (if_in_flight sh w src dst k o) ≡ true
+    → is_some o ≡ true
 flown sh w src dst k None h = h
 flown sh w src dst k (Some m) h = refl
 
-pub in_flight-named : (sh : Shape) (p : Program) (w : World) (src dst : Node) (k : ℕ) → is_some (happens sh p w (Deliver src dst k)) ≡ true → is_some (in_flight w.net src dst k) ≡ true
+pub in_flight-named : (sh : Shape) (p : Program) (w : World) (src dst : Node) (k : ℕ) → is_some (happens sh p w (Deliver src dst k)) ≡ true
+    → is_some (in_flight w.net src dst k) ≡ true
 unfolding happens
 in_flight-named sh p w src dst k h = flown sh w src dst k (in_flight w.net src dst k) h
 
-among-delivers : (sh : Shape) (w : World) (src dst : Node) (k : ℕ) → is_node sh src ≡ true → is_node sh dst ≡ true → k < length (w.net src dst) → Among (Deliver src dst k) (delivers sh w)
+among-delivers : (sh : Shape) (w : World) (src dst : Node) (k : ℕ) → is_node sh src ≡ true → is_node sh dst ≡ true
+    → k < length (w.net src dst) → Among (Deliver src dst k) (delivers sh w)
 unfolding delivers
 among-delivers sh w src dst k h i j =
     among-flat (λ s. flat_map (on_link w s) (nodes sh)) src (Deliver src dst k) (nodes sh) (among-nodes sh src h)
     (among-flat (on_link w src) dst (Deliver src dst k) (nodes sh) (among-nodes sh dst i)
     (among-map (Deliver src dst) k (those (λ k. true) (length (w.net src dst))) (among-numbers (length (w.net src dst)) k j)))
 
-among-all : (sh : Shape) (p : Program) (w : World) (e : Event) → names_nodes sh e ≡ true → is_some (happens sh p w e) ≡ true → Among e (execs sh ++ (evicts sh ++ delivers sh w))
+among-all : (sh : Shape) (p : Program) (w : World) (e : Event) → names_nodes sh e ≡ true → is_some (happens sh p w e) ≡ true
+    → Among e (execs sh ++ (evicts sh ++ delivers sh w))
 unfolding names_nodes
 among-all sh p w (Exec c) n h = among-left (Exec c) (execs sh) (evicts sh ++ delivers sh w) (among-execs sh c (lt-true c sh.cores n))
 among-all sh p w (Evict c x y) n h =
     let r = and-right (nat_lt c sh.cores) (nat_lt x sh.sets && nat_lt y sh.ways) n in
     among-right (Evict c x y) (execs sh) (evicts sh ++ delivers sh w) (among-left (Evict c x y) (evicts sh) (delivers sh w)
-    (among-evicts sh c x y (lt-true c sh.cores (and-left (nat_lt c sh.cores) (nat_lt x sh.sets && nat_lt y sh.ways) n)) (lt-true x sh.sets (and-left (nat_lt x sh.sets) (nat_lt y sh.ways) r)) (lt-true y sh.ways (and-right (nat_lt x sh.sets) (nat_lt y sh.ways) r))))
+    (among-evicts sh c x y (lt-true c sh.cores (and-left (nat_lt c sh.cores) (nat_lt x sh.sets && nat_lt y sh.ways) n))
+    (lt-true x sh.sets (and-left (nat_lt x sh.sets) (nat_lt y sh.ways) r))
+    (lt-true y sh.ways (and-right (nat_lt x sh.sets) (nat_lt y sh.ways) r))))
 among-all sh p w (Deliver src dst k) n h =
     among-right (Deliver src dst k) (execs sh) (evicts sh ++ delivers sh w) (among-right (Deliver src dst k) (evicts sh) (delivers sh w)
-    (among-delivers sh w src dst k (and-left (is_node sh src) (is_node sh dst) n) (and-right (is_node sh src) (is_node sh dst) n) (below-length (w.net src dst) k (in_flight-named sh p w src dst k h))))
+    (among-delivers sh w src dst k (and-left (is_node sh src) (is_node sh dst) n) (and-right (is_node sh src) (is_node sh dst) n)
+    (below-length (w.net src dst) k (in_flight-named sh p w src dst k h))))
 
 pub useful-enabled_in : (sh : Shape) (p : Program) (w : World) (e : Event) → is_useful sh p w e ≡ true → is_enabled sh p w e ≡ true
 unfolding is_useful
@@ -347,8 +378,10 @@ useful-enabled sh p w e h = useful-enabled_in sh p w e h
 pub useful-holds : (sh : Shape) (p : Program) (w : World) (e : Event) → IsIn e (useful sh p w) ↔ (is_useful sh p w e ≡ true)
 unfolding useful
 useful-holds sh p w e = (
-  λ h. filter-among (is_useful sh p w) e (execs sh ++ (evicts sh ++ delivers sh w)) (in-among e (filter (is_useful sh p w) (execs sh ++ (evicts sh ++ delivers sh w))) h),
+  λ h. filter-among (is_useful sh p w) e (execs sh ++ (evicts sh ++ delivers sh w))
+      (in-among e (filter (is_useful sh p w) (execs sh ++ (evicts sh ++ delivers sh w))) h),
   λ h. let n = useful-enabled_in sh p w e h in
       is-in e (filter (is_useful sh p w) (execs sh ++ (evicts sh ++ delivers sh w)))
-      (among-filter (is_useful sh p w) e (execs sh ++ (evicts sh ++ delivers sh w)) (among-all sh p w e (named sh p w e n) (happened sh p w e n)) h),
+      (among-filter (is_useful sh p w) e (execs sh ++ (evicts sh ++ delivers sh w))
+      (among-all sh p w e (named sh p w e n) (happened sh p w e n)) h),
 )

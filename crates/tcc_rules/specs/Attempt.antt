@@ -44,7 +44,8 @@ one_more_instruction p given s = record s { n = s.n + 1; local = p.after s.local
 -- reservation.
 unfoldable pub finished : Program → Need → (x : ℕ) → CoreState → CoreState
 finished p Nothing x s = one_more_instruction p None s
-finished p (Loads addr size) x s = record (one_more_instruction p (Some (part x addr size)) s) { loads = s.loads ++ load_of addr size (part x addr size) ∷ [] }
+finished p (Loads addr size) x s =
+    record (one_more_instruction p (Some (part x addr size)) s) { loads = s.loads ++ load_of addr size (part x addr size) ∷ [] }
 finished p (Stores addr size value) x s = record (one_more_instruction p None s) { stores = s.stores ++ store_of addr size value ∷ [] }
 finished p (Changes addr changed) x s = record (one_more_instruction p (Some (part x addr Word)) s) {
   loads = s.loads ++ load_of addr Word (part x addr Word) ∷ [];

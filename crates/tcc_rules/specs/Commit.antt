@@ -54,7 +54,8 @@ committed_core t s = record s {
 
 -- to each written directory Commit, with the number of its modified lines
 unfoldable pub commit_sends : Shape → Cache → (tid : ℕ) → Sends
-commit_sends sh c t = to_dirs sh (λ d. when (writes_at sh c d) (Commit t (count_below (λ l. d == home sh l && is_modified c l) (lines sh)) ∷ []))
+commit_sends sh c t =
+    to_dirs sh (λ d. when (writes_at sh c d) (Commit t (count_below (λ l. d == home sh l && is_modified c l) (lines sh)) ∷ []))
 
 -- the core's last commit at each directory, once it has committed where it wrote
 unfoldable pub with_last_commit : (written : ℕ → Bool) → (tid : ℕ) → (last : ℕ → ℕ) → ℕ → ℕ
@@ -90,7 +91,8 @@ solo_marks_or_skip sh c sp t d =
 
 -- and behind that a WriteBack for each spilled line at home there, by rising line
 unfoldable pub solo_write_backs : Shape → Spilled → (tid dir : ℕ) → List Msg
-solo_write_backs sh sp t d = flat_map (λ l. WriteBack l (spilled_mask sp l) (spilled_words sp l) t ∷ []) (those (λ l. d == home sh l && holds sp l) (lines sh))
+solo_write_backs sh sp t d = flat_map (λ l. WriteBack l (spilled_mask sp l) (spilled_words sp l) t ∷ [])
+    (those (λ l. d == home sh l && holds sp l) (lines sh))
 
 unfoldable pub solo_sends : Shape → Cache → Spilled → (tid : ℕ) → Sends
 solo_sends sh c sp t = to_dirs sh (λ d. solo_marks_or_skip sh c sp t d ++ solo_write_backs sh sp t d)

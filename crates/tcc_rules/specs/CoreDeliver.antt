@@ -23,7 +23,8 @@ is_probed sh c d = nat_lt d sh.dirs && (writes_at sh c d || reads_at sh c d)
 
 -- a skip where nothing was written, then a probe where something was written or read
 unfoldable pub grant_sends : Shape → Cache → (tid : ℕ) → Sends
-grant_sends sh c t = to_dirs sh (λ d. when (not (writes_at sh c d)) (Skip t ∷ []) ++ when (writes_at sh c d || reads_at sh c d) (Probe t ∷ []))
+grant_sends sh c t =
+    to_dirs sh (λ d. when (not (writes_at sh c d)) (Skip t ∷ []) ++ when (writes_at sh c d || reads_at sh c d) (Probe t ∷ []))
 
 -- it waits for replies where it has probed some directory
 abbrev pub probing_or_ready : Bool → (tid : ℕ) → Phase

@@ -18,7 +18,8 @@ use Rattle.tcc_rules.specs.Commit.{solo_commit}
 
 -- LoadReq goes to the line's home, and the core awaits the line
 unfoldable pub request_line : Shape → ℕ → CoreState → Out
-request_line sh l s = moves (record s { awaited = Some (record { line = l; stale = false }) }) (to (Dir (home sh l)) (LoadReq l (s.last_commit (home sh l)) ∷ []))
+request_line sh l s = moves (record s { awaited = Some (record { line = l; stale = false }) })
+    (to (Dir (home sh l)) (LoadReq l (s.last_commit (home sh l)) ∷ []))
 
 -- the line gets the lowest free way of its set, with nothing valid
 unfoldable pub place : Shape → ℕ → CoreState → CoreState
@@ -72,7 +73,8 @@ unfoldable pub word_store : Shape → Program → Need → (word value : ℕ) �
 word_store sh p need w x s =
     if holds s.spilled (line_of w) then Some (moves (finished p need x (stored_in_buffer w x s)) nothing)
     else if s.cache.held (line_of w) then Some (moves (finished p need x (stored_in_frame w x false s)) (flush_line sh s.cache (line_of w)))
-    else if is_some (free_way sh s.cache (set_of sh (line_of w))) then Some (moves (finished p need x (stored_in_frame w x false (place sh (line_of w) s))) nothing)
+    else if is_some (free_way sh s.cache (set_of sh (line_of w)))
+    then Some (moves (finished p need x (stored_in_frame w x false (place sh (line_of w) s))) nothing)
     else full_set sh (line_of w) s
 
 -- the word that was found is read, unless it was modified before or the core is alone

@@ -1,5 +1,6 @@
 -- What is proved of the rules by themselves: each statement is the contract of an empty function of this crate.
-use Rattle.std.specs.Prelude.{◌≤◌, ◌<◌, ℕ, suc, zero, ◌+◌, ◌-◌, ◌≡◌, ◌↔◌, ◌⊎◌, true, false, List, [], ◌∷◌, ◌++◌, length, drop, Option, Some, None, IfSome, IsSome}
+use Rattle.std.specs.Prelude.{◌≤◌, ◌<◌, ℕ, suc, zero, ◌+◌, ◌-◌, ◌≡◌, ◌↔◌, ◌⊎◌, true, false, List, [], ◌∷◌, ◌++◌, length, drop, Option, Some}
+use Rattle.std.specs.Prelude.{None, IfSome, IsSome}
 use Rattle.tcc_program.specs.Program.{Local, Program}
 use Rattle.tcc_maps.specs.Nodes.{Node, Core, Dir, Vendor, Msg, TidGrant, Event, Exec, Evict, Deliver, node_eq}
 use Rattle.tcc_maps.specs.Shape.{Shape}

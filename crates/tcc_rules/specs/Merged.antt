@@ -57,6 +57,7 @@ events (e ∷ es) = e.event ∷ events es
 
 -- the merge of fitting logs is a run, and each node ends as its own log leaves it
 abbrev pub MergedRuns : Type 0
-MergedRuns = (sh : Shape) (p : Program) (entries : ℕ → Local) (ram : ℕ → ℕ) (logs : Node → List Entry) (sides : Node → Side) (es : List Entry) →
+MergedRuns = (sh : Shape) (p : Program) (entries : ℕ → Local) (ram : ℕ → ℕ) (logs : Node → List Entry) (sides : Node → Side)
+    (es : List Entry) →
     Fit sh p (start entries ram) logs sides → IsMerged sh logs es →
     IsSomeAnd (run sh p (start entries ram) (events es)) (λ h. (n : Node) → is_node sh n ≡ true → state_at h.world n ≡ (sides n).state)

@@ -17,7 +17,14 @@ abbrev pub d2 : Node
 d2 = Dir 2
 
 abbrev pub noted_commit : (tid core n : ℕ) → List Load → List Stored → (console : List ℕ) → Noted
-noted_commit t c n loads stores console = record { tid = record { 0 = t }; core = record { 0 = c }; n = n; loads = loads; stores = stores; console = console }
+noted_commit t c n loads stores console = record {
+  tid = record { 0 = t };
+  core = record { 0 = c };
+  n = n;
+  loads = loads;
+  stores = stores;
+  console = console;
+}
 
 abbrev pub stands : (pc : ℕ) → (regs : List ℕ) → Phase → Outcome → (reads : List ℕ) → ToldCore
 stands pc regs phase ended reads = record { pc = pc; regs = regs; phase = phase; ended = ended; reads = reads }

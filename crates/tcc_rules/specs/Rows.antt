@@ -101,8 +101,10 @@ stores_base = record {
 -- lui x6; sw x11 into each of the eight words from 128(x6) on; ecall. It takes ten words, so two lines
 abbrev pub stores_line : Image
 stores_line = record {
-  words = 0x80000337 ∷ 0x08b32023 ∷ 0x08b32223 ∷ 0x08b32423 ∷ 0x08b32623 ∷ 0x08b32823 ∷ 0x08b32a23 ∷ 0x08b32c23 ∷ 0x08b32e23 ∷ 0x00000073 ∷ [];
-  code = Some (Lui 6 0x80000000) ∷ Some (Sw 11 6 128) ∷ Some (Sw 11 6 132) ∷ Some (Sw 11 6 136) ∷ Some (Sw 11 6 140) ∷ Some (Sw 11 6 144) ∷ Some (Sw 11 6 148) ∷ Some (Sw 11 6 152) ∷ Some (Sw 11 6 156) ∷ Some Ecall ∷ [];
+  words = 0x80000337 ∷ 0x08b32023 ∷ 0x08b32223 ∷ 0x08b32423 ∷ 0x08b32623 ∷ 0x08b32823 ∷ 0x08b32a23 ∷ 0x08b32c23 ∷ 0x08b32e23 ∷ 0x00000073
+      ∷ [];
+  code = Some (Lui 6 0x80000000) ∷ Some (Sw 11 6 128) ∷ Some (Sw 11 6 132) ∷ Some (Sw 11 6 136) ∷ Some (Sw 11 6 140) ∷ Some
+      (Sw 11 6 144) ∷ Some (Sw 11 6 148) ∷ Some (Sw 11 6 152) ∷ Some (Sw 11 6 156) ∷ Some Ecall ∷ [];
 }
 
 -- the first image's line is filled up, since each image begins a line

@@ -35,7 +35,8 @@ copy_in value (Some g) = record { tag = g; value = unwrap_or value 0 } ∷ []
 
 -- the copies that a core has, and those that it sent to the home
 unfoldable pub copies_of : Shape → World → (word core : ℕ) → List Copy
-copies_of sh w v c = copy_in ((w.cores c).cache.value v) ((w.cores c).cache.dirty v) ++ copies_on v (w.net (Core c) (Dir (home sh (line_of v))))
+copies_of sh w v c = copy_in ((w.cores c).cache.value v) ((w.cores c).cache.dirty v)
+    ++ copies_on v (w.net (Core c) (Dir (home sh (line_of v))))
 
 unfoldable pub copies : Shape → World → (word : ℕ) → List Copy
 copies sh w v = flat_map (copies_of sh w v) (numbers sh.cores)

@@ -40,7 +40,8 @@ goes_to s pc = record s { pc = pc }
 abbrev pub small_after : Local → (given : Option ℕ) → Option Inst → Local
 small_after s given (Some (Lui rd value)) = record s { regs = written s.regs rd value; pc = s.pc + 4 }
 small_after s given (Some (Lw rd base offset)) = record s { regs = written s.regs rd (unwrap_or given 0); pc = s.pc + 4 }
-small_after s given (Some (Bne left right offset)) = goes_to s (if register s.regs left == register s.regs right then s.pc + 4 else s.pc + offset)
+small_after s given (Some (Bne left right offset)) =
+    goes_to s (if register s.regs left == register s.regs right then s.pc + 4 else s.pc + offset)
 small_after s given _ = goes_to s (s.pc + 4)
 
 unfoldable pub small : List (Option Inst) → Program

@@ -1,5 +1,6 @@
 -- The events that can happen and are worth choosing, in the order in which a chooser counts them.
-use Rattle.std.specs.Prelude.{ℕ, Bool, true, false, not, List, [], ◌∷◌, ◌++◌, map, length, filter, Option, Some, None, is_some, nat_lt, ◌==◌, ◌&&◌, ◌||◌, if◌then◌else◌}
+use Rattle.std.specs.Prelude.{ℕ, Bool, true, false, not, List, [], ◌∷◌, ◌++◌, map, length, filter, Option, Some, None, is_some, nat_lt}
+use Rattle.std.specs.Prelude.{◌==◌, ◌&&◌, ◌||◌, if◌then◌else◌}
 use Rattle.std.specs.List.{flat_map}
 use Rattle.tcc_base.specs.declared.access.Size.TheVariants.{Byte, Half, Word}
 use Rattle.tcc_program.specs.Program.{Need, Loads, Stores, Changes, Program}

@@ -15,4 +15,5 @@ KeptCommitting w = (c d : ℕ) → CommittingOf (pair w c d)
 
 -- A TID whose Commit is in flight to a directory is the one that this directory serves; so at most one is.
 abbrev pub CommitsAreServed : Shape → World → Type 0
-CommitsAreServed sh w = (c d t : ℕ) → c < sh.cores → d < sh.dirs → 1 ≤ live (Commits t) (w.net (Core c) (Dir d)) → (w.dirs d).serving.serving ≡ t
+CommitsAreServed sh w = (c d t : ℕ) → c < sh.cores → d < sh.dirs → 1 ≤ live (Commits t) (w.net (Core c) (Dir d))
+    → (w.dirs d).serving.serving ≡ t

@@ -1,5 +1,6 @@
 -- Lines and their copies, without values: what a directory knows of a line is what its commits and the cores' caches make of it.
-use Rattle.std.specs.Prelude.{ℕ, ◌+◌, ◌≡◌, ◌<◌, ◌≤◌, ◌⊎◌, Bool, true, false, not, cond, ◌==◌, ◌&&◌, ◌||◌, List, Contains, Option, Some, None, is_some, nat_lt}
+use Rattle.std.specs.Prelude.{ℕ, ◌+◌, ◌≡◌, ◌<◌, ◌≤◌, ◌⊎◌, Bool, true, false, not, cond, ◌==◌, ◌&&◌, ◌||◌, List, Contains, Option, Some}
+use Rattle.std.specs.Prelude.{None, is_some, nat_lt}
 use Rattle.tcc_base.specs.declared.access.Commit.{Commit as Noted}
 use Rattle.tcc_maps.specs.Words.{num, any_word}
 use Rattle.tcc_maps.specs.Cache.{Cache, is_dirty, dirty_mask, dirty_tag}
@@ -87,7 +88,8 @@ pub record AboveOf (base : ℕ) (cs : List Noted) (c l t : ℕ) (v : Pair) : Typ
   pub sent : live (CopyMask l t (wrote_mask base cs c t l)) v.out ≡ 0
 
 abbrev pub KeptAbove : Shape → World → List Noted → Type 0
-KeptAbove sh w cs = (c d l t : ℕ) → c < sh.cores → d < sh.dirs → l < lines sh → home sh l ≡ d → (w.dirs d).lines.tag l < t → AboveOf sh.base cs c l t (pair w c d)
+KeptAbove sh w cs = (c d l t : ℕ) → c < sh.cores → d < sh.dirs → l < lines sh → home sh l ≡ d → (w.dirs d).lines.tag l < t
+    → AboveOf sh.base cs c l t (pair w c d)
 
 -- Of a line in memory there is one copy with the line's tag, the owner's, where there is an owner, and else none.
 abbrev pub OwnedOf : (core line : ℕ) → Pair → Type 0
@@ -98,7 +100,8 @@ KeptOwned sh w = (c d l : ℕ) → c < sh.cores → d < sh.dirs → l < lines sh
 
 -- Of an asked line in memory the request is in flight to the owner, or its words are on their way from the owner.
 abbrev pub GetsOf : (core line : ℕ) → Pair → Type 0
-GetsOf c l v = v.dir.lines.asked l ≡ true → v.dir.lines.owner l ≡ Some c → 1 ≤ live (DataOf l) v.back + live (CopyOf l (v.dir.lines.tag l)) v.out
+GetsOf c l v = v.dir.lines.asked l ≡ true → v.dir.lines.owner l ≡ Some c
+    → 1 ≤ live (DataOf l) v.back + live (CopyOf l (v.dir.lines.tag l)) v.out
 
 abbrev pub KeptGets : Shape → World → Type 0
 KeptGets sh w = (c d l : ℕ) → c < sh.cores → d < sh.dirs → l < lines sh → home sh l ≡ d → GetsOf c l (pair w c d)

@@ -2,7 +2,8 @@
 use Rattle.std.specs.Prelude.{ℕ, ◌+◌, Bool, true, false, List, [], ◌∷◌, get_or, ◌==◌, ◌&&◌, not, ◌%◌, Option, Some, None, nat_lt}
 use Rattle.tcc_maps.specs.Words.{num, line_of, place_of}
 use Rattle.tcc_maps.specs.Masks.{hit}
-use Rattle.tcc_maps.specs.Nodes.{Msg, TidReq, TidGrant, LoadReq, Fill, Skip, Probe, ProbeReply, Mark, Commit, Abort, WriteBack, Flush, DataReq, Inv, InvAck}
+use Rattle.tcc_maps.specs.Nodes.{Msg, TidReq, TidGrant, LoadReq, Fill, Skip, Probe, ProbeReply, Mark, Commit, Abort, WriteBack, Flush}
+use Rattle.tcc_maps.specs.Nodes.{DataReq, Inv, InvAck}
 
 -- what a message may be
 pub data Kind : Type 0 where

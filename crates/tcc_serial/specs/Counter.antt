@@ -1,7 +1,8 @@
 -- A program that suits, and a run of it on two cores: so what is said of all runs is said of some. Both cores count in the same word. The
 -- first also stores in another line and its cache has one frame, so it goes on alone; what the second had read is stored meanwhile,
 -- so it is violated, and counts anew.
-use Rattle.std.specs.Prelude.{ℕ, ◌≡◌, ◌+◌, ◌*◌, ◌%◌, ◌^◌, List, [], ◌∷◌, ◌++◌, slice_index, slice_index_or, Option, Some, None, option_map, unwrap_or}
+use Rattle.std.specs.Prelude.{ℕ, ◌≡◌, ◌+◌, ◌*◌, ◌%◌, ◌^◌, List, [], ◌∷◌, ◌++◌, slice_index, slice_index_or, Option, Some, None, option_map}
+use Rattle.std.specs.Prelude.{unwrap_or}
 use Rattle.tcc_base.specs.declared.access.Commit.{Commit as Noted}
 use Rattle.tcc_base.specs.declared.access.CoreEnd.TheVariants.{Halt}
 use Rattle.tcc_base.specs.declared.access.Load.{Load}

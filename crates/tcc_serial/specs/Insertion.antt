@@ -27,7 +27,8 @@ IsBelow tid [] = Unit {0}
 IsBelow tid (o ∷ os) = tid < o.tid
 
 -- the same orders from another machine: the same commits, the same in what they changed, and all else as it was
-pub record Again (base : ℕ) (os : List Order) (here there : Plain) (done : Plain × List Commit) (other : Option (Plain × List Commit)) : Type 0 where
+pub record Again (base : ℕ) (os : List Order) (here there : Plain) (done : Plain × List Commit)
+    (other : Option (Plain × List Commit)) : Type 0 where
   pub plain : Plain
   pub same : other ≡ Some (plain, done.1)
   pub ran : (c : ℕ) → orders_core os c ≡ true → plain.cores c ≡ done.0.cores c
@@ -38,7 +39,8 @@ pub record Again (base : ℕ) (os : List Order) (here there : Plain) (done : Pla
   pub kept_there : (w : ℕ) → commits_store base done.1 w ≡ false → plain.ram w ≡ there.ram w
 
 -- the execution with one more transaction in its midst, against the one without it
-pub record Inserted (base : ℕ) (before : List Commit) (o : Order) (a : Attempt) (after : List Commit) (done without : Plain) (with_it : Option (Plain × List Commit)) : Type 0 where
+pub record Inserted (base : ℕ) (before : List Commit) (o : Order) (a : Attempt) (after : List Commit) (done without : Plain)
+    (with_it : Option (Plain × List Commit)) : Type 0 where
   pub plain : Plain
   pub commits : with_it ≡ Some (plain, before ++ commit_of o a ∷ after)
   pub own_core : plain.cores o.core ≡ done.cores o.core
@@ -48,7 +50,8 @@ pub record Inserted (base : ℕ) (before : List Commit) (o : Order) (a : Attempt
 
 -- What must be known to insert the order o between early and late: it is executed where early ends, its TID fits, and no later
 -- transaction is its core's or touches a word that it stores.
-pub record CanInsert (base : ℕ) (p : Program) (last : ℕ) (early late : List Order) (o : Order) (m start done end : Plain) (a : Attempt) (before after : List Commit) : Type 0 where
+pub record CanInsert (base : ℕ) (p : Program) (last : ℕ) (early late : List Order) (o : Order) (m start done end : Plain) (a : Attempt)
+    (before after : List Commit) : Type 0 where
   pub first : serial base p last early m ≡ Some (start, before)
   pub then_late : serial base p (last_tid last early) late start ≡ Some (end, after)
   pub executed : transaction base p start o.core o.n ≡ Some (done, a)

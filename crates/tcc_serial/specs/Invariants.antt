@@ -19,7 +19,8 @@ use Rattle.tcc_serial.specs.Alone.{IsApart, OwingFits, PhaseFits, ReadFits}
 use Rattle.tcc_serial.specs.Asked.{KeptAsked}
 use Rattle.tcc_serial.specs.Commits.{plain_start, CommitsSerial, CoresSerial, SeenSerial}
 use Rattle.tcc_serial.specs.Committing.{CommitsAreServed}
-use Rattle.tcc_serial.specs.Copies.{KeptHomes, KeptTags, KeptLineOwners, KeptAfter, KeptLoading, KeptAbove, KeptOwned, KeptGets, KeptSharers}
+use Rattle.tcc_serial.specs.Copies.{KeptHomes, KeptTags, KeptLineOwners, KeptAfter, KeptLoading, KeptAbove, KeptOwned, KeptGets}
+use Rattle.tcc_serial.specs.Copies.{KeptSharers}
 use Rattle.tcc_serial.specs.Count.{Grants, Commits, Acks, Marks, Skips, MarksAway, EmptyMarks, Probes, Replies, RepliesAbove, live}
 use Rattle.tcc_serial.specs.Counted.{KeptCounted}
 use Rattle.tcc_serial.specs.InMemory.{StaysInMemory, FramesInMemory, AttemptInMemory, LoadsInMemory, CopiesInMemory, CommitsInMemory}
@@ -36,7 +37,8 @@ use Rattle.tcc_serial.specs.MaskLaws.{MarkedByServed, MarksOfCommits}
 use Rattle.tcc_serial.specs.Standing.{CommitsStand, MarksWait}
 use Rattle.tcc_serial.specs.Stored.{KeptStored}
 use Rattle.tcc_serial.specs.Ways.{Ways, Committed, first_ways, ways_from}
-use Rattle.tcc_serial.specs.WayLaws.{UntoldWhereOpen, UntoldIsLive, AllWaysFit, GivenUpOnce, LiveIsOpen, CommittedWhereStored, SmallerAreGivenUp, WorkIsReached, Settled, is_given_up}
+use Rattle.tcc_serial.specs.WayLaws.{UntoldWhereOpen, UntoldIsLive, AllWaysFit, GivenUpOnce, LiveIsOpen, CommittedWhereStored}
+use Rattle.tcc_serial.specs.WayLaws.{SmallerAreGivenUp, WorkIsReached, Settled, is_given_up}
 use Rattle.tcc_serial.specs.Tids.{has_tid}
 use Rattle.tcc_serial.specs.Uses.{stores_word}
 use Rattle.tcc_serial.specs.Values.{HomeWords, CopiesAbove, UnmodifiedWords, FilledWords, ReadWords, ViewedWords, HaltedUsesNone}
@@ -52,15 +54,19 @@ pub record Carried (sh : Shape) (gs : List Grant) (ys : Ways) (h : History) : Ty
   -- A directory owes a reply only in a phase that waits for replies, only where the core asked it, and in such a phase some does.
   pub tid_and_owing_fit_the_phase : (c : ℕ) → OwingFits sh (h.world.cores c)
   -- A line is awaited only while the core executes, and has a frame.
-  pub awaited_line_has_a_frame : (c : ℕ) (a : Awaited) → (h.world.cores c).awaited ≡ Some a → (executes (h.world.cores c).phase ≡ true) × ((h.world.cores c).cache.held a.line ≡ true)
+  pub awaited_line_has_a_frame : (c : ℕ) (a : Awaited) → (h.world.cores c).awaited ≡ Some a → (executes (h.world.cores c).phase ≡ true)
+      × ((h.world.cores c).cache.held a.line ≡ true)
   -- Words are spilled only where the core is alone, none is marked read there, and a core that is doomed or halted has no attempt.
   pub marks_fit_the_phase : (c : ℕ) → PhaseFits (h.world.cores c)
   -- A halted core has no attempt and no spilled word.
-  pub no_attempt_after_the_halt : (c : ℕ) → (h.world.cores c).phase ≡ Halted → Empty (h.world.cores c) × ((x : ℕ) → (h.world.cores c).spilled x ≡ None)
+  pub no_attempt_after_the_halt : (c : ℕ) → (h.world.cores c).phase ≡ Halted
+      → Empty (h.world.cores c) × ((x : ℕ) → (h.world.cores c).spilled x ≡ None)
   -- The modified and the spilled words are exactly those that the attempt's stores name.
-  pub stored_words_are_those_named : (c x : ℕ) → ((h.world.cores c).cache.modified x || is_some ((h.world.cores c).spilled x)) ≡ stores_word sh.base (h.world.cores c).stores x
+  pub stored_words_are_those_named : (c x : ℕ) → ((h.world.cores c).cache.modified x || is_some ((h.world.cores c).spilled x))
+      ≡ stores_word sh.base (h.world.cores c).stores x
   -- A line with a spilled word has no modified and no dirty word in a frame.
-  pub spilled_line_is_clean_in_its_frame : (c x y : ℕ) → line_of x ≡ line_of y → is_some ((h.world.cores c).spilled x) ≡ true → ((h.world.cores c).cache.modified y ≡ false) × ((h.world.cores c).cache.dirty y ≡ None)
+  pub spilled_line_is_clean_in_its_frame : (c x y : ℕ) → line_of x ≡ line_of y → is_some ((h.world.cores c).spilled x) ≡ true
+      → ((h.world.cores c).cache.modified y ≡ false) × ((h.world.cores c).cache.dirty y ≡ None)
   -- TIDs
 
   -- The granted TIDs are 1, 2, 3 and so on, up to the one before the vendor's next.
@@ -73,7 +79,8 @@ pub record Carried (sh : Shape) (gs : List Grant) (ys : Ways) (h : History) : Ty
   -- Exactly one request or grant is in flight for a core that waits for a TID, and none for another.
   pub one_tid_request_or_grant : OneRequest sh h.world
   -- A TID that a core has, or that is on its way to it, was granted to this core and hasn't committed.
-  pub live_tid_is_granted_to_its_core : (c d t : ℕ) → c < sh.cores → 1 ≤ holder t (pair h.world c d) → Contains gs (record { tid = t; core = c }) × (times t h.commits ≡ 0)
+  pub live_tid_is_granted_to_its_core : (c d t : ℕ) → c < sh.cores → 1 ≤ holder t (pair h.world c d)
+      → Contains gs (record { tid = t; core = c }) × (times t h.commits ≡ 0)
   -- It is the last that was granted to this core.
   pub live_tid_is_the_last_granted_to_its_core : LastGranted gs h.world
   -- A TID on its way, in an overflow or alone is untold everywhere; one that waits for replies or may commit is untold where its core
@@ -88,54 +95,67 @@ pub record Carried (sh : Shape) (gs : List Grant) (ys : Ways) (h : History) : Ty
   -- Serving never passes a TID that wasn't granted, that is open or that is committing.
   pub serving_never_passes_an_unresolved_tid : NeverPasses sh h.world
   -- A TID that a directory keeps as skipped was given up, and is above the served one.
-  pub kept_skips_are_given_up_and_ahead : (d t : ℕ) → d < sh.dirs → 1 ≤ t → is_skipped (h.world.dirs d).serving t ≡ true → (is_given_up (ys d t) ≡ true) × ((h.world.dirs d).serving.serving < t)
+  pub kept_skips_are_given_up_and_ahead : (d t : ℕ) → d < sh.dirs → 1 ≤ t → is_skipped (h.world.dirs d).serving t ≡ true
+      → (is_given_up (ys d t) ≡ true) × ((h.world.dirs d).serving.serving < t)
   -- Of a TID that was given up one Skip or Abort is in flight, or it is kept as skipped, or it is passed, and only one of these.
   pub given_up_tid_is_still_to_be_told_or_kept_or_passed : GivenUpOnce sh ys h
   -- A Commit in flight is of a TID that its core has told by a Commit.
-  pub commit_message_is_in_flight_while_committing : (c d t : ℕ) → c < sh.cores → d < sh.dirs → 1 ≤ t → 1 ≤ live (Commits t) (h.world.net (Core c) (Dir d)) → ys d t ≡ Committed
+  pub commit_message_is_in_flight_while_committing : (c d t : ℕ) → c < sh.cores → d < sh.dirs → 1 ≤ t
+      → 1 ≤ live (Commits t) (h.world.net (Core c) (Dir d)) → ys d t ≡ Committed
   -- A TID whose Commit is in flight to a directory is the one that this directory serves.
   pub committing_tid_is_served : CommitsAreServed sh h.world
   -- A settled TID is passed, or served while acknowledgements are owed.
-  pub settled_tid_is_passed_or_owed : (d t : ℕ) → d < sh.dirs → 1 ≤ t → Settled sh ys h.world d t → (t < (h.world.dirs d).serving.serving) ⊎ (((h.world.dirs d).serving.serving ≡ t) × (1 ≤ (h.world.dirs d).owed))
+  pub settled_tid_is_passed_or_owed : (d t : ℕ) → d < sh.dirs → 1 ≤ t → Settled sh ys h.world d t → (t < (h.world.dirs d).serving.serving)
+      ⊎ (((h.world.dirs d).serving.serving ≡ t) × (1 ≤ (h.world.dirs d).owed))
   -- A commit is on its way to each directory where it stored, or applied there, not both.
   pub commit_is_on_its_way_or_applied : CommitsStand sh h.world h.commits
   -- Acknowledgements are owed only where the served TID is settled.
-  pub owed_only_where_settled : (d t : ℕ) → d < sh.dirs → 1 ≤ t → (h.world.dirs d).serving.serving ≡ t → 1 ≤ (h.world.dirs d).owed → Settled sh ys h.world d t
+  pub owed_only_where_settled : (d t : ℕ) → d < sh.dirs → 1 ≤ t → (h.world.dirs d).serving.serving ≡ t → 1 ≤ (h.world.dirs d).owed
+      → Settled sh ys h.world d t
   -- As many are owed as invalidations and acknowledgements are in flight, and the invalidations carry the served TID.
   pub owed_counts_invs_and_acks : OwedInFlight sh h.world
   -- No invalidation of a TID goes to its own core, and none is acknowledged by it.
-  pub no_inv_to_the_core_that_committed : SparesCommitter sh gs h.world × ((c d : ℕ) → d < sh.dirs → Contains gs (record { tid = (h.world.dirs d).serving.serving; core = c }) → live Acks (pair h.world c d).out ≡ 0)
+  pub no_inv_to_the_core_that_committed : SparesCommitter sh gs h.world
+      × ((c d : ℕ) → d < sh.dirs → Contains gs (record { tid = (h.world.dirs d).serving.serving; core = c })
+      → live Acks (pair h.world c d).out ≡ 0)
   -- probes and marks
 
   -- Between a core with a TID and a directory one probe or reply is in flight exactly where the directory owes a reply.
   pub one_probe_or_reply_per_owing_directory : OneProbe sh h.world
   -- A probe or reply in flight is of a TID that was granted to its core and has come to it.
-  pub probes_are_of_tids_already_taken : (c d t : ℕ) → 1 ≤ live (Probes t) (pair h.world c d).out + live (Replies t) (pair h.world c d).back → Contains gs (record { tid = t; core = c }) × (live (Grants t) (pair h.world c d).grants ≡ 0)
+  pub probes_are_of_tids_already_taken : (c d t : ℕ) → 1 ≤ live (Probes t) (pair h.world c d).out + live (Replies t) (pair h.world c d).back
+      → Contains gs (record { tid = t; core = c }) × (live (Grants t) (pair h.world c d).grants ≡ 0)
   -- A reply comes from a directory that has reached its TID.
   pub replying_directory_has_reached_the_tid : (c d : ℕ) → live (RepliesAbove (h.world.dirs d).serving.serving) (pair h.world c d).back ≡ 0
   -- A directory that was asked and owes no reply has reached the core's TID, and serves it where it is open.
   pub directory_that_replied_serves_the_tid : Served sh h.world
   -- The Marks of a core's TID, in flight and handled, are one of each line that it stores where the directory has replied, with the words
   -- that it has modified; those of a commit on its way, and the marks while acknowledgements are owed, are the words that it stored.
-  pub marks_sent_are_the_lines_stored : ((c d t l : ℕ) → c < sh.cores → d < sh.dirs → has_tid (h.world.cores c).phase t ≡ true → marks_of t l (pair h.world c d) ≡ marked_by sh (h.world.cores c) d l) × KeptMasks sh h.world × KeptStored sh h.commits h.world
+  pub marks_sent_are_the_lines_stored : ((c d t l : ℕ) → c < sh.cores → d < sh.dirs → has_tid (h.world.cores c).phase t ≡ true
+      → marks_of t l (pair h.world c d) ≡ marked_by sh (h.world.cores c) d l) × KeptMasks sh h.world × KeptStored sh h.commits h.world
   -- A Commit in flight is of a commit that stored there, and counts the lines in which it did.
   pub commit_counts_the_lines : MarksOfCommits sh h.commits h.world
   -- A TID that is skipped has sent no Mark there.
-  pub skipped_tid_sent_no_mark : (c d t l : ℕ) → d < sh.dirs → 1 ≤ live (Skips t) (pair h.world c d).out → marks_of t l (pair h.world c d) ≡ 0
+  pub skipped_tid_sent_no_mark : (c d t l : ℕ) → d < sh.dirs → 1 ≤ live (Skips t) (pair h.world c d).out
+      → marks_of t l (pair h.world c d) ≡ 0
   -- A marked line is at home there, and the served TID, which marked it, was granted and has come to its core, which stores the line.
-  pub marked_line_was_marked_by_the_served_tid : ((c d l : ℕ) → c < sh.cores → d < sh.dirs → has_mark (h.world.dirs d).lines l ≡ true → (home sh l ≡ d) × ((h.world.dirs d).serving.serving < h.world.next) × (live (Grants (h.world.dirs d).serving.serving) (pair h.world c d).grants ≡ 0)) × MarkedByServed sh h.world
+  pub marked_line_was_marked_by_the_served_tid : ((c d l : ℕ) → c < sh.cores → d < sh.dirs → has_mark (h.world.dirs d).lines l ≡ true
+      → (home sh l ≡ d) × ((h.world.dirs d).serving.serving < h.world.next)
+      × (live (Grants (h.world.dirs d).serving.serving) (pair h.world c d).grants ≡ 0)) × MarkedByServed sh h.world
   -- A TID that hasn't come to its core has sent no Mark, nor has one of an overflow or of a core that is alone, nor to a directory that
   -- owes a reply.
   pub marks_go_out_with_the_reply : (c d t l : ℕ) → c < sh.cores → d < sh.dirs → MarksWait sh t l d (pair h.world c d)
   -- A Mark in flight is from the core that its TID was granted to; a Commit counts the Marks of its TID, and none is left in flight once
   -- it is handled.
-  pub marks_sent_are_in_flight_or_handled : ((c d t : ℕ) → 1 ≤ live (Marks t) (pair h.world c d).out → Contains gs (record { tid = t; core = c })) × KeptCounted sh h.world
+  pub marks_sent_are_in_flight_or_handled : ((c d t : ℕ) → 1 ≤ live (Marks t) (pair h.world c d).out
+      → Contains gs (record { tid = t; core = c })) × KeptCounted sh h.world
   -- An invalidation in flight is of a marked line and has its mask; one at most of each line is in flight to a core or acknowledged by it.
   pub inv_and_ack_name_a_marked_line : KeptNamed sh h.world
   -- Where nothing is owed, a marked line is wholly overwritten or has no owner.
   pub line_marked_in_part_has_no_owner : KeptWhole sh h.world
   -- The Marks of a TID, in flight and handled, are of different lines, at home there, and of some word each.
-  pub marks_name_different_lines : (c d t l : ℕ) → c < sh.cores → d < sh.dirs → (marks_of t l (pair h.world c d) ≤ 1) × (live (MarksAway sh.dirs d) (pair h.world c d).out ≡ 0) × (live EmptyMarks (pair h.world c d).out ≡ 0)
+  pub marks_name_different_lines : (c d t l : ℕ) → c < sh.cores → d < sh.dirs → (marks_of t l (pair h.world c d) ≤ 1)
+      × (live (MarksAway sh.dirs d) (pair h.world c d).out ≡ 0) × (live EmptyMarks (pair h.world c d).out ≡ 0)
   -- lines and copies
 
   -- A directory knows only of lines at home there, and messages about a line go to its home or come from it, each with some word.
@@ -155,7 +175,8 @@ pub record Carried (sh : Shape) (gs : List Grant) (ys : Ways) (h : History) : Ty
   pub owned_line_has_one_copy_with_its_tag : KeptOwned sh h.world
   -- An asked line has an owner; the request is in flight to it, or the line's words are on their way from it.
   pub asked_line_gets_its_words : KeptAsked sh h.world × KeptGets sh h.world
-  -- A core that holds a line in memory is one of its sharers, or its Commit of the line is in flight; and it hasn't said that it keeps no word.
+  -- A core that holds a line in memory is one of its sharers, or its Commit of the line is in flight; and it hasn't said that it keeps no
+  -- word.
   pub holder_is_a_sharer : KeptSharers sh h.world h.commits
   -- values
 
@@ -197,7 +218,8 @@ pub record CarriedInMemory (sh : Shape) (h : History) : Type 0 where
   pub commits_stay_in_memory : CommitsInMemory sh h.commits
 
 -- All of it. m is the plain machine after the commits.
-pub record Invariants (sh : Shape) (p : Program) (entries : ℕ → Local) (ram : ℕ → ℕ) (gs : List Grant) (ys : Ways) (views : ℕ → Uses) (m : Plain) (h : History) : Type 0 where
+pub record Invariants (sh : Shape) (p : Program) (entries : ℕ → Local) (ram : ℕ → ℕ) (gs : List Grant) (ys : Ways) (views : ℕ → Uses)
+    (m : Plain) (h : History) : Type 0 where
   pub carried : Carried sh gs ys h
   pub carried_views : CarriedViews sh p views h
   pub carried_in_memory : CarriedInMemory sh h
@@ -232,16 +254,21 @@ first_state entries ram = record { world = start entries ram; commits = [] }
 
 -- The start has all of it, whatever the machine, the program, the cores' entries and the memory are.
 abbrev pub StartHasAll : Type 0
-StartHasAll = (sh : Shape) (p : Program) (entries : ℕ → Local) (ram : ℕ → ℕ) → Invariants sh p entries ram [] first_ways no_views (plain_start entries ram) (first_state entries ram)
+StartHasAll = (sh : Shape) (p : Program) (entries : ℕ → Local) (ram : ℕ → ℕ)
+    → Invariants sh p entries ram [] first_ways no_views (plain_start entries ram) (first_state entries ram)
 
 -- Every state that a run reaches has what is proved of every run.
 abbrev pub RunsCarry : Type 0
-RunsCarry = (sh : Shape) (p : Program) (entries : ℕ → Local) (ram : ℕ → ℕ) (es : List Event) → IfSome (run sh p (start entries ram) es) (λ h. Carried sh (grants_from sh p es (first_state entries ram)) (ways_from sh p es first_ways (first_state entries ram)) h)
+RunsCarry = (sh : Shape) (p : Program) (entries : ℕ → Local) (ram : ℕ → ℕ) (es : List Event)
+    → IfSome (run sh p (start entries ram) es)
+    (λ h. Carried sh (grants_from sh p es (first_state entries ram)) (ways_from sh p es first_ways (first_state entries ram)) h)
 
 -- And, for a program that fits, with the views along the run.
 abbrev pub RunsCarryViews : Type 0
-RunsCarryViews = (sh : Shape) (p : Program) (entries : ℕ → Local) (ram : ℕ → ℕ) (es : List Event) → Fits p → IfSome (run sh p (start entries ram) es) (λ h. CarriedViews sh p (views_from sh p es no_views (first_state entries ram)) h)
+RunsCarryViews = (sh : Shape) (p : Program) (entries : ℕ → Local) (ram : ℕ → ℕ) (es : List Event) → Fits p
+    → IfSome (run sh p (start entries ram) es) (λ h. CarriedViews sh p (views_from sh p es no_views (first_state entries ram)) h)
 
 -- And, for a program whose accesses lie in memory, what lies there then.
 abbrev pub RunsStayInMemory : Type 0
-RunsStayInMemory = (sh : Shape) (p : Program) (entries : ℕ → Local) (ram : ℕ → ℕ) (es : List Event) → StaysInMemory sh p → IfSome (run sh p (start entries ram) es) (λ h. CarriedInMemory sh h)
+RunsStayInMemory = (sh : Shape) (p : Program) (entries : ℕ → Local) (ram : ℕ → ℕ) (es : List Event) → StaysInMemory sh p
+    → IfSome (run sh p (start entries ram) es) (λ h. CarriedInMemory sh h)

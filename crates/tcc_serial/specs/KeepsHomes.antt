@@ -19,6 +19,7 @@ HomesHold sh ram g = HomeWords sh ram g.world g.commits × CopiesAbove sh ram g.
 -- An event of a state that has the invariants of the list keeps home words current, and the copies of commits in flight.
 abbrev pub EventsKeepHomes : Type 0
 EventsKeepHomes =
-    (sh : Shape) (p : Program) (entries : ℕ → Local) (ram : ℕ → ℕ) (gs : List Grant) (ys : Ways) (views : ℕ → Uses) (m : Plain) (h : History) (e : Event) → Suits sh p ram → Invariants sh p entries ram gs ys views m h
+    (sh : Shape) (p : Program) (entries : ℕ → Local) (ram : ℕ → ℕ) (gs : List Grant) (ys : Ways) (views : ℕ → Uses) (m : Plain)
+    (h : History) (e : Event) → Suits sh p ram → Invariants sh p entries ram gs ys views m h
     → IfSome (next_history sh p h e)
     (λ g. Carried sh (gs ++ granted_by h.world e) (ways_after (sent_by sh p h.world e) ys) g → HomesHold sh ram g)

@@ -16,7 +16,9 @@ use Rattle.tcc_serial.specs.Ways.{Ways, sent_by, ways_after}
 -- attempt doomed; and a halted core's view stays empty.
 abbrev pub KeepsViews : Type 0
 KeepsViews =
-    (sh : Shape) (p : Program) (entries : ℕ → Local) (ram : ℕ → ℕ) (gs : List Grant) (ys : Ways) (views : ℕ → Uses) (m : Plain) (h : History) (e : Event)
+    (sh : Shape) (p : Program) (entries : ℕ → Local) (ram : ℕ → ℕ) (gs : List Grant) (ys : Ways) (views : ℕ → Uses) (m : Plain)
+    (h : History) (e : Event)
     → Invariants sh p entries ram gs ys views m h
-    → IfSome (next_history sh p h e) (λ g. Carried sh (gs ++ granted_by h.world e) (ways_after (sent_by sh p h.world e) ys) g → CarriedViews sh p (views_after sh p h.world e views) g
+    → IfSome (next_history sh p h e) (λ g. Carried sh (gs ++ granted_by h.world e) (ways_after (sent_by sh p h.world e) ys) g
+    → CarriedViews sh p (views_after sh p h.world e views) g
     → ViewedWords sh ram g.world g.commits (views_after sh p h.world e views) × HaltedUsesNone g.world (views_after sh p h.world e views))

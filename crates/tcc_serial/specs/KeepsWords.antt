@@ -16,5 +16,7 @@ use Rattle.tcc_serial.specs.Ways.{Ways, ways_after, sent_by}
 -- be invalidated.
 abbrev pub EventsKeepWords : Type 0
 EventsKeepWords =
-    (sh : Shape) (p : Program) (entries : ℕ → Local) (ram : ℕ → ℕ) (gs : List Grant) (ys : Ways) (views : ℕ → Uses) (m : Plain) (h : History) (e : Event) → Suits sh p ram → Invariants sh p entries ram gs ys views m h
-    → IfSome (next_history sh p h e) (λ g. Carried sh (gs ++ granted_by h.world e) (ways_after (sent_by sh p h.world e) ys) g → UnmodifiedWords sh ram g.world g.commits × FilledWords sh ram g.world g.commits)
+    (sh : Shape) (p : Program) (entries : ℕ → Local) (ram : ℕ → ℕ) (gs : List Grant) (ys : Ways) (views : ℕ → Uses) (m : Plain)
+    (h : History) (e : Event) → Suits sh p ram → Invariants sh p entries ram gs ys views m h
+    → IfSome (next_history sh p h e) (λ g. Carried sh (gs ++ granted_by h.world e) (ways_after (sent_by sh p h.world e) ys) g
+    → UnmodifiedWords sh ram g.world g.commits × FilledWords sh ram g.world g.commits)

@@ -17,7 +17,8 @@ use Rattle.tcc_serial.specs.Tids.{opens, ResolvedAt, RequestOf}
 
 -- P holds of every state that a run reaches
 abbrev pub Always : (Shape → World → Type 0) → Type 0
-Always P = (sh : Shape) (p : Program) (entries : ℕ → Local) (ram : ℕ → ℕ) (es : List Event) → IfSome (run sh p (start entries ram) es) (λ r. P sh r.world)
+Always P = (sh : Shape) (p : Program) (entries : ℕ → Local) (ram : ℕ → ℕ) (es : List Event)
+    → IfSome (run sh p (start entries ram) es) (λ r. P sh r.world)
 
 -- At each directory each TID is exactly one of: not granted yet; on its way to its core, or open; given up or committing and on
 -- its way to the directory; passed, kept as skipped, or served while acknowledgements are owed for it.
@@ -50,25 +51,36 @@ pub record OwedInFlight (sh : Shape) (w : World) : Type 0 where
 -- A directory that was asked and owes a core no reply serves the core's TID or a later one, and just this TID where it is open
 -- there: where the core writes, and everywhere for one that overflowed. None owes a reply to a core that may commit.
 pub record Served (sh : Shape) (w : World) : Type 0 where
-  pub reached : (c d : ℕ) → c < sh.cores → d < sh.dirs → asks_dir (w.cores c).phase (writes_at sh (w.cores c).cache d || reads_at sh (w.cores c).cache d) ≡ true → (w.cores c).owing d ≡ false → tid_of (w.cores c).phase ≤ (w.dirs d).serving.serving
-  pub serves : (c d t : ℕ) → c < sh.cores → d < sh.dirs → opens (w.cores c).phase (writes_at sh (w.cores c).cache d) t ≡ true → (w.cores c).owing d ≡ false → (w.dirs d).serving.serving ≡ t
+  pub reached : (c d : ℕ) → c < sh.cores → d < sh.dirs
+      → asks_dir (w.cores c).phase (writes_at sh (w.cores c).cache d || reads_at sh (w.cores c).cache d) ≡ true
+      → (w.cores c).owing d ≡ false → tid_of (w.cores c).phase ≤ (w.dirs d).serving.serving
+  pub serves : (c d t : ℕ) → c < sh.cores → d < sh.dirs → opens (w.cores c).phase (writes_at sh (w.cores c).cache d) t ≡ true
+      → (w.cores c).owing d ≡ false → (w.dirs d).serving.serving ≡ t
   pub replied : (c d : ℕ) → c < sh.cores → d < sh.dirs → may_commit (w.cores c).phase ≡ true → (w.cores c).owing d ≡ false
 
 -- Along a run the granted TIDs count from 1, so that each is granted once; each is with one core at most, on its way to a core,
 -- committed once or given up; the TIDs of the commits rise strictly, and each was granted to the core that committed.
 abbrev pub CommitsOnce : Type 0
-CommitsOnce = (sh : Shape) (p : Program) (entries : ℕ → Local) (ram : ℕ → ℕ) (es : List Event) → IfSome (run sh p (start entries ram) es) (λ r. KeptOwners sh (grants_from sh p es (record { world = start entries ram; commits = [] })) r.world r.commits)
+CommitsOnce = (sh : Shape) (p : Program) (entries : ℕ → Local) (ram : ℕ → ℕ) (es : List Event)
+    → IfSome (run sh p (start entries ram) es)
+    (λ r. KeptOwners sh (grants_from sh p es (record { world = start entries ram; commits = [] })) r.world r.commits)
 
 -- The TID that a core has, or that is on its way to it, is the last that was granted to it: so the core's commits have smaller ones.
 abbrev pub HoldsLast : Type 0
-HoldsLast = (sh : Shape) (p : Program) (entries : ℕ → Local) (ram : ℕ → ℕ) (es : List Event) → IfSome (run sh p (start entries ram) es) (λ r. LastGranted (grants_from sh p es (record { world = start entries ram; commits = [] })) r.world)
+HoldsLast = (sh : Shape) (p : Program) (entries : ℕ → Local) (ram : ℕ → ℕ) (es : List Event)
+    → IfSome (run sh p (start entries ram) es)
+    (λ r. LastGranted (grants_from sh p es (record { world = start entries ram; commits = [] })) r.world)
 
 -- A Commit in flight is from the core that its TID was granted to, and no invalidation of the served TID is in flight to its core.
 abbrev pub SparesItsCommitter : Type 0
-SparesItsCommitter = (sh : Shape) (p : Program) (entries : ℕ → Local) (ram : ℕ → ℕ) (es : List Event) → IfSome (run sh p (start entries ram) es) (λ r. SparesCommitter sh (grants_from sh p es (record { world = start entries ram; commits = [] })) r.world)
+SparesItsCommitter = (sh : Shape) (p : Program) (entries : ℕ → Local) (ram : ℕ → ℕ) (es : List Event)
+    → IfSome (run sh p (start entries ram) es)
+    (λ r. SparesCommitter sh (grants_from sh p es (record { world = start entries ram; commits = [] })) r.world)
 
 -- The Marks of a core's TID, in flight and handled together, are one of each line that the core stores at a directory that has
 -- replied, and there is no other; a TID that hasn't come yet or that is skipped has none. A Mark, and a word on what becomes of
 -- its TID, are from the core that the TID was granted to.
 abbrev pub MarksAreStored : Type 0
-MarksAreStored = (sh : Shape) (p : Program) (entries : ℕ → Local) (ram : ℕ → ℕ) (es : List Event) → IfSome (run sh p (start entries ram) es) (λ r. KeptMarks sh (grants_from sh p es (record { world = start entries ram; commits = [] })) r.world)
+MarksAreStored = (sh : Shape) (p : Program) (entries : ℕ → Local) (ram : ℕ → ℕ) (es : List Event)
+    → IfSome (run sh p (start entries ram) es)
+    (λ r. KeptMarks sh (grants_from sh p es (record { world = start entries ram; commits = [] })) r.world)

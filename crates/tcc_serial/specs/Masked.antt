@@ -11,7 +11,8 @@ use Rattle.tcc_serial.specs.Tids.{has_tid}
 
 -- the Marks of a line by a TID with another mask than this: in flight from this core, or handled by the directory that serves it
 unfoldable pub wrong_marks : (tid line mask : ℕ) → Pair → ℕ
-wrong_marks t l m v = live (MarkMask t l m) v.out + num (v.dir.serving.serving == t && (has_mark v.dir.lines l && not (v.dir.lines.mark l == m)))
+wrong_marks t l m v =
+    live (MarkMask t l m) v.out + num (v.dir.serving.serving == t && (has_mark v.dir.lines l && not (v.dir.lines.mark l == m)))
 
 -- Each Mark of a core's TID, in flight or handled, has as its mask the words of its line that the core has modified.
 abbrev pub MaskedOf : (tid line : ℕ) → Pair → Type 0

@@ -45,7 +45,8 @@ pub record Empty (s : CoreState) : Type 0 where
   pub unread : (w : ℕ) → s.cache.read w ≡ false
   pub unmodified : (w : ℕ) → s.cache.modified w ≡ false
 
--- and: an awaited line has a frame, in a core that executes; a directory owes a reply only while the core waits for replies, and only one that the machine has; and
+-- and: an awaited line has a frame, in a core that executes; a directory owes a reply only while the core waits for replies, and only one
+-- that the machine has; and
 -- a core that was doomed or has halted has no attempt
 pub record OneCore (sh : Shape) (s : CoreState) : Type 0 where
   pub words : Words sh (is_solo s.phase) s.cache s.spilled s.stores

@@ -31,7 +31,8 @@ may_commit _ = false
 -- A directory that a core asked and that owes it no reply serves the core's TID or a later one; none owes one to a core that
 -- may commit.
 pub record Reached (sh : Shape) (d serving : ℕ) (s : CoreState) : Type 0 where
-  pub reached : d < sh.dirs → asks_dir s.phase (writes_at sh s.cache d || reads_at sh s.cache d) ≡ true → s.owing d ≡ false → tid_of s.phase ≤ serving
+  pub reached : d < sh.dirs → asks_dir s.phase (writes_at sh s.cache d || reads_at sh s.cache d) ≡ true → s.owing d ≡ false
+      → tid_of s.phase ≤ serving
   pub replied : d < sh.dirs → may_commit s.phase ≡ true → s.owing d ≡ false
 
 -- and a reply comes from a directory that has reached its TID

@@ -20,4 +20,5 @@ KeptProbing w = (c d t : ℕ) → ProbingOf d t (pair w c d)
 -- Between a core and each directory: one probe of the core's TID or one reply to it is in flight where the directory owes a
 -- reply, and none where it doesn't.
 abbrev pub OneProbe : Shape → World → Type 0
-OneProbe sh w = (c d t : ℕ) → has_tid (w.cores c).phase t ≡ true → live (Probes t) (w.net (Core c) (Dir d)) + live (Replies t) (w.net (Dir d) (Core c)) ≡ num ((w.cores c).owing d)
+OneProbe sh w = (c d t : ℕ) → has_tid (w.cores c).phase t ≡ true
+    → live (Probes t) (w.net (Core c) (Dir d)) + live (Replies t) (w.net (Dir d) (Core c)) ≡ num ((w.cores c).owing d)

@@ -22,7 +22,8 @@ pub record IsSerial (sh : Shape) (p : Program) (entries : ℕ → Local) (ram : 
 -- An event of a state that has the invariants of the list leaves the commits serial.
 abbrev pub EventsKeepSerial : Type 0
 EventsKeepSerial =
-    (sh : Shape) (p : Program) (entries : ℕ → Local) (ram : ℕ → ℕ) (gs : List Grant) (ys : Ways) (views : ℕ → Uses) (m : Plain) (h : History) (e : Event)
+    (sh : Shape) (p : Program) (entries : ℕ → Local) (ram : ℕ → ℕ) (gs : List Grant) (ys : Ways) (views : ℕ → Uses) (m : Plain)
+    (h : History) (e : Event)
     → Suits sh p ram → Invariants sh p entries ram gs ys views m h → IfSome (next_history sh p h e) (IsSerial sh p entries ram)
 
 -- In a state that has the facts on TIDs, lines, copies and values, what is seen of each word is what the plain machine has after the
@@ -30,4 +31,5 @@ EventsKeepSerial =
 abbrev pub SeenFollows : Type 0
 SeenFollows =
     (sh : Shape) (p : Program) (entries : ℕ → Local) (ram : ℕ → ℕ) (gs : List Grant) (ys : Ways) (m : Plain) (h : History)
-    → 1 ≤ sh.dirs → Carried sh gs ys h → CarriedInMemory sh h → HomeWords sh ram h.world h.commits → CopiesAbove sh ram h.world h.commits → CommitsSerial sh p entries ram h.commits m → SeenSerial sh h.world m
+    → 1 ≤ sh.dirs → Carried sh gs ys h → CarriedInMemory sh h → HomeWords sh ram h.world h.commits → CopiesAbove sh ram h.world h.commits
+    → CommitsSerial sh p entries ram h.commits m → SeenSerial sh h.world m

@@ -26,12 +26,15 @@ pub record Doomed (sh : Shape) (w : World) (c : ℕ) (b : Option ℕ) : Type 0 w
 
 abbrev pub SoundOrDoomed : Shape → Program → (ram : ℕ → ℕ) → World → List Noted → (core : ℕ) → (bound : Option ℕ) → Type 0
 SoundOrDoomed sh p ram w cs c b =
-    IsSomeAnd (steps sh.base p (w.cores c).n (begun (w.cores c).saved (values_for sh ram w cs c b))) (Reaches (w.cores c) (values_for sh ram w cs c b))
+    IsSomeAnd (steps sh.base p (w.cores c).n (begun (w.cores c).saved (values_for sh ram w cs c b)))
+    (Reaches (w.cores c) (values_for sh ram w cs c b))
     ⊎ Doomed sh w c b
 
 -- In each state that has the invariants of the list every attempt is sound or doomed; these values fit 32 bits.
 abbrev pub AttemptsSound : Type 0
 AttemptsSound =
-    (sh : Shape) (p : Program) (entries : ℕ → Local) (ram : ℕ → ℕ) (gs : List Grant) (ys : Ways) (views : ℕ → Uses) (m : Plain) (h : History) → Invariants sh p entries ram gs ys views m h
-    → (c : ℕ) (b : Option ℕ) → c < sh.cores → 1 ≤ sh.dirs → IsBound b (pair h.world c 0) → ((h.world.cores c).phase ≡ Halted → ⊥) → IsSmall (values_for sh ram h.world h.commits c b)
+    (sh : Shape) (p : Program) (entries : ℕ → Local) (ram : ℕ → ℕ) (gs : List Grant) (ys : Ways) (views : ℕ → Uses) (m : Plain)
+    (h : History) → Invariants sh p entries ram gs ys views m h
+    → (c : ℕ) (b : Option ℕ) → c < sh.cores → 1 ≤ sh.dirs → IsBound b (pair h.world c 0) → ((h.world.cores c).phase ≡ Halted → ⊥)
+    → IsSmall (values_for sh ram h.world h.commits c b)
     → SoundOrDoomed sh p ram h.world h.commits c b

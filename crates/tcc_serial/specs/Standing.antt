@@ -1,5 +1,6 @@
 -- Where a commit stands at a directory, settled or applied; the bound of a core's attempt; and which Marks have yet to go out.
-use Rattle.std.specs.Prelude.{ℕ, ◌+◌, ◌≡◌, ◌<◌, ◌≤◌, Bool, true, false, not, ◌==◌, ◌&&◌, ◌||◌, List, Contains, Option, Some, None, nat_lt, nat_le}
+use Rattle.std.specs.Prelude.{ℕ, ◌+◌, ◌≡◌, ◌<◌, ◌≤◌, Bool, true, false, not, ◌==◌, ◌&&◌, ◌||◌, List, Contains, Option, Some, None, nat_lt}
+use Rattle.std.specs.Prelude.{nat_le}
 use Rattle.tcc_base.specs.declared.access.Commit.{Commit as Noted}
 use Rattle.tcc_maps.specs.Words.{num}
 use Rattle.tcc_maps.specs.Nodes.{Core, Dir}
@@ -22,7 +23,8 @@ is_applied s t = nat_lt t s.serving.serving || (t == s.serving.serving && nat_lt
 
 -- A commit is on its way to each directory where it stored, or applied there, not both.
 abbrev pub CommitsStand : Shape → World → List Noted → Type 0
-CommitsStand sh w cs = (n : Noted) (d : ℕ) → Contains cs n → d < sh.dirs → stores_at sh d n.stores ≡ true → live (Commits n.tid.0) (w.net (Core n.core.0) (Dir d)) + num (is_applied (w.dirs d) n.tid.0) ≡ 1
+CommitsStand sh w cs = (n : Noted) (d : ℕ) → Contains cs n → d < sh.dirs → stores_at sh d n.stores ≡ true
+    → live (Commits n.tid.0) (w.net (Core n.core.0) (Dir d)) + num (is_applied (w.dirs d) n.tid.0) ≡ 1
 
 -- the bound of a core's attempt: the TID that the core has, or that is on its way to it
 abbrev pub IsBound : Option ℕ → Pair → Type 0

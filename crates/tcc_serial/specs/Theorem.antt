@@ -25,7 +25,9 @@ pub record Suits (sh : Shape) (p : Program) (ram : ℕ → ℕ) : Type 0 where
 -- with the grants, the ways and the views along the run, and for some plain machine
 abbrev pub AllHold : Type 0
 AllHold = (sh : Shape) (p : Program) (entries : ℕ → Local) (ram : ℕ → ℕ) (es : List Event) → Suits sh p ram →
-    IfSome (run sh p (start entries ram) es) (λ h. (m : Plain) × Invariants sh p entries ram (grants_from sh p es (first_state entries ram)) (ways_from sh p es first_ways (first_state entries ram)) (views_from sh p es no_views (first_state entries ram)) m h)
+    IfSome (run sh p (start entries ram) es)
+    (λ h. (m : Plain) × Invariants sh p entries ram (grants_from sh p es (first_state entries ram))
+    (ways_from sh p es first_ways (first_state entries ram)) (views_from sh p es no_views (first_state entries ram)) m h)
 
 -- A state is what a serial execution gives.
 pub record IsSerialExecution (sh : Shape) (p : Program) (entries : ℕ → Local) (ram : ℕ → ℕ) (h : History) : Type 0 where
@@ -40,4 +42,5 @@ pub record IsSerialExecution (sh : Shape) (p : Program) (entries : ℕ → Local
 
 -- Every state that a run reaches is what a serial execution gives.
 abbrev pub RunsAreSerial : Type 0
-RunsAreSerial = (sh : Shape) (p : Program) (entries : ℕ → Local) (ram : ℕ → ℕ) (es : List Event) → Suits sh p ram → IfSome (run sh p (start entries ram) es) (IsSerialExecution sh p entries ram)
+RunsAreSerial = (sh : Shape) (p : Program) (entries : ℕ → Local) (ram : ℕ → ℕ) (es : List Event) → Suits sh p ram
+    → IfSome (run sh p (start entries ram) es) (IsSerialExecution sh p entries ram)

@@ -17,7 +17,8 @@ live_way _ written = Untold
 
 -- A core that waits for replies or may commit has skipped its TID where it writes nothing; else nothing was said of it yet.
 abbrev pub KeptLive : Shape → Ways → World → Type 0
-KeptLive sh ys w = (c d t : ℕ) → c < sh.cores → d < sh.dirs → has_tid (w.cores c).phase t ≡ true → ys d t ≡ live_way (w.cores c).phase (writes_at sh (w.cores c).cache d)
+KeptLive sh ys w = (c d t : ℕ) → c < sh.cores → d < sh.dirs → has_tid (w.cores c).phase t ≡ true
+    → ys d t ≡ live_way (w.cores c).phase (writes_at sh (w.cores c).cache d)
 
 -- the way of a commit's TID at a directory
 abbrev pub commit_way : Shape → Noted → (dir : ℕ) → Way

@@ -1,6 +1,7 @@
 -- The facts on lines, copies and values tried on runs that were worked by hand: as tests they hold in each state, and where one thing
 -- is changed at the end of a run the fact that speaks of it fails.
-use Rattle.std.specs.Prelude.{ℕ, ◌+◌, ◌*◌, ◌≡◌, Bool, true, false, not, cond, ◌==◌, ◌&&◌, ◌||◌, List, [], ◌∷◌, Option, Some, None, unwrap_or, is_some, nat_lt}
+use Rattle.std.specs.Prelude.{ℕ, ◌+◌, ◌*◌, ◌≡◌, Bool, true, false, not, cond, ◌==◌, ◌&&◌, ◌||◌, List, [], ◌∷◌, Option, Some, None}
+use Rattle.std.specs.Prelude.{unwrap_or, is_some, nat_lt}
 use Rattle.tcc_program.specs.Program.{Program}
 use Rattle.tcc_program.specs.Ram.{flat}
 use Rattle.tcc_maps.specs.Words.{put, num, all_below, any_below, line_of}
@@ -8,7 +9,8 @@ use Rattle.tcc_maps.specs.Lines.{Lines, with_sharer, with_owner, with_tag}
 use Rattle.tcc_maps.specs.Nodes.{Event}
 use Rattle.tcc_maps.specs.Shape.{Shape, home, lines}
 use Rattle.tcc_rules.specs.CoreEvict.{is_awaited}
-use Rattle.tcc_rules.specs.Rows.{Image, two_cores, small_machine, stores_second, stores_both, stores_base, stores_line, loads_then_stores, copies_word, both_words, both_code, entries}
+use Rattle.tcc_rules.specs.Rows.{Image, two_cores, small_machine, stores_second, stores_both, stores_base, stores_line, loads_then_stores}
+use Rattle.tcc_rules.specs.Rows.{copies_word, both_words, both_code, entries}
 use Rattle.tcc_rules.specs.Schedules.{before_the_fill, over_a_read, over_a_dirty_owner, alone_after_overflow}
 use Rattle.tcc_rules.specs.Small.{small}
 use Rattle.tcc_rules.specs.State.{World, start}
@@ -37,32 +39,47 @@ unfoldable pub loading_test : Shape → (dir line : ℕ) → Pair → Bool
 loading_test sh d l v = live (LoadOf l) v.out + live (FillOf l) v.back == num (is_awaited v.core.awaited l && home sh l == d)
 
 unfoldable pub above_test : Shape → History → (core line : ℕ) → Pair → Bool
-above_test sh h c l v = all_below (λ t. implies (nat_lt (v.dir.lines.tag l) t) ((copies_with l t v == cond (wrote_line sh.base h.commits c t l) (live (Commits t) v.out) 0) && (live (CopyMask l t (wrote_mask sh.base h.commits c t l)) v.out == 0))) v.next
+above_test sh h c l v =
+    all_below (λ t. implies (nat_lt (v.dir.lines.tag l) t)
+    ((copies_with l t v == cond (wrote_line sh.base h.commits c t l) (live (Commits t) v.out) 0)
+    && (live (CopyMask l t (wrote_mask sh.base h.commits c t l)) v.out == 0))) v.next
 
 unfoldable pub owned_test : (core line : ℕ) → Pair → Bool
 owned_test c l v = copies_with l (v.dir.lines.tag l) v == num (is_this (v.dir.lines.owner l) c)
 
 unfoldable pub sharer_test : Shape → History → (core line : ℕ) → Pair → Bool
-sharer_test sh h c l v = implies (holds_line l v) ((v.dir.lines.sharers l c || any_below (λ t. nat_lt 0 (live (Commits t) v.out) && wrote_line sh.base h.commits c t l) v.next) && (live (GoneOf l) v.out == 0))
+sharer_test sh h c l v =
+    implies (holds_line l v)
+    ((v.dir.lines.sharers l c || any_below (λ t. nat_lt 0 (live (Commits t) v.out) && wrote_line sh.base h.commits c t l) v.next)
+    && (live (GoneOf l) v.out == 0))
 
 unfoldable pub line_test : Shape → History → (core line : ℕ) → (dir : ℕ) → Pair → Bool
-line_test sh h c l d v = tag_test sh h d l && (after_test sh h c d v && (loading_test sh d l v && (above_test sh h c l v && (owned_test c l v && sharer_test sh h c l v))))
+line_test sh h c l d v =
+    tag_test sh h d l && (after_test sh h c d v
+    && (loading_test sh d l v && (above_test sh h c l v && (owned_test c l v && sharer_test sh h c l v))))
 
 unfoldable pub home_test : Shape → (ℕ → ℕ) → History → (dir word : ℕ) → Bool
-home_test sh ram h d x = implies (all_below (λ c. word_copies x ((h.world.dirs d).lines.tag (line_of x)) (pair h.world c d) == 0) sh.cores) ((h.world.dirs d).words x == value_at sh.base ram h.commits (h.world.dirs d) None None x)
+home_test sh ram h d x = implies (all_below (λ c. word_copies x ((h.world.dirs d).lines.tag (line_of x)) (pair h.world c d) == 0) sh.cores)
+    ((h.world.dirs d).words x == value_at sh.base ram h.commits (h.world.dirs d) None None x)
 
 unfoldable pub copy_test : (word tag value : ℕ) → Pair → Bool
 copy_test x t y v = implies (is_this (v.core.cache.dirty x) t) (is_this (v.core.cache.value x) y) && (live (CopyNot x t y) v.out == 0)
 
 unfoldable pub frame_test : (word value : ℕ) → Pair → Bool
-frame_test x y v = (implies (is_some (v.core.cache.value x) && not (v.core.cache.modified x)) (is_this (v.core.cache.value x) y) && implies (not (is_stale v.core.awaited)) (live (FillNot x y) v.back == 0)) || nat_lt 0 (live (InvWord x) v.back)
+frame_test x y v =
+    (implies (is_some (v.core.cache.value x) && not (v.core.cache.modified x)) (is_this (v.core.cache.value x) y)
+    && implies (not (is_stale v.core.awaited)) (live (FillNot x y) v.back == 0)) || nat_lt 0 (live (InvWord x) v.back)
 
 unfoldable pub word_test : Shape → (ℕ → ℕ) → History → (core word : ℕ) → (dir : ℕ) → Pair → Bool
-word_test sh ram h c x d v = home_test sh ram h d x && (copy_test x (v.dir.lines.tag (line_of x)) (value_at sh.base ram h.commits v.dir None None x) v && frame_test x (value_at sh.base ram h.commits v.dir (Some c) None x) v)
+word_test sh ram h c x d v = home_test sh ram h d x
+    && (copy_test x (v.dir.lines.tag (line_of x)) (value_at sh.base ram h.commits v.dir None None x) v
+    && frame_test x (value_at sh.base ram h.commits v.dir (Some c) None x) v)
 
 -- of each core, line and word
 unfoldable pub tests : Shape → (ℕ → ℕ) → History → Bool
-tests sh ram h = all_below (λ c. all_below (λ l. line_test sh h c l (home sh l) (pair h.world c (home sh l))) (lines sh) && all_below (λ x. word_test sh ram h c x (home sh (line_of x)) (pair h.world c (home sh (line_of x)))) (8 * lines sh)) sh.cores
+tests sh ram h =
+    all_below (λ c. all_below (λ l. line_test sh h c l (home sh l) (pair h.world c (home sh l))) (lines sh)
+    && all_below (λ x. word_test sh ram h c x (home sh (line_of x)) (pair h.world c (home sh (line_of x)))) (8 * lines sh)) sh.cores
 
 abbrev pub then_along : (History → Bool) → Option History → Bool
 then_along f None = false
@@ -102,7 +119,8 @@ abbrev pub tried_ram : ℕ → ℕ
 tried_ram = flat (both_words stores_second copies_word)
 
 unfoldable pub tried_end : History
-tried_end = unwrap_or (run tried (small (both_code stores_second copies_word)) (start entries tried_ram) before_the_fill) (first_state entries tried_ram)
+tried_end = unwrap_or (run tried (small (both_code stores_second copies_word)) (start entries tried_ram) before_the_fill)
+    (first_state entries tried_ram)
 
 -- one thing changed
 

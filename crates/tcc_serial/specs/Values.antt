@@ -1,6 +1,7 @@
 -- Values: what each word is for a core at its bound, and that homes, copies, frames, fills and views have just these values, or an
 -- invalidation is on its way.
-use Rattle.std.specs.Prelude.{ℕ, ◌+◌, ◌≡◌, ◌<◌, ◌≤◌, ◌⊎◌, Bool, true, false, ◌==◌, ◌&&◌, ◌||◌, List, [], ◌∷◌, Option, Some, None, is_some, nat_lt, if◌then◌else◌}
+use Rattle.std.specs.Prelude.{ℕ, ◌+◌, ◌≡◌, ◌<◌, ◌≤◌, ◌⊎◌, Bool, true, false, ◌==◌, ◌&&◌, ◌||◌, List, [], ◌∷◌, Option, Some, None, is_some}
+use Rattle.std.specs.Prelude.{nat_lt, if◌then◌else◌}
 use Rattle.tcc_base.specs.declared.access.Commit.{Commit as Noted}
 use Rattle.tcc_base.specs.declared.access.Stored.{Stored}
 use Rattle.tcc_program.specs.Ram.{word_of, patched}
@@ -48,18 +49,24 @@ pub record CopiesHave (x t y : ℕ) (v : Pair) : Type 0 where
 
 -- A word has its value in the copy with its line's tag, and at home where no such copy has the word.
 pub record HomeWords (sh : Shape) (ram : ℕ → ℕ) (w : World) (cs : List Noted) : Type 0 where
-  pub at_home : (d x : ℕ) → d < sh.dirs → home sh (line_of x) ≡ d → ((c : ℕ) → c < sh.cores → word_copies x ((w.dirs d).lines.tag (line_of x)) (pair w c d) ≡ 0) → (w.dirs d).words x ≡ value_at sh.base ram cs (w.dirs d) None None x
-  pub in_copies : (c d x : ℕ) → c < sh.cores → d < sh.dirs → home sh (line_of x) ≡ d → CopiesHave x ((w.dirs d).lines.tag (line_of x)) (value_at sh.base ram cs (w.dirs d) None None x) (pair w c d)
+  pub at_home : (d x : ℕ) → d < sh.dirs → home sh (line_of x) ≡ d
+      → ((c : ℕ) → c < sh.cores → word_copies x ((w.dirs d).lines.tag (line_of x)) (pair w c d) ≡ 0)
+      → (w.dirs d).words x ≡ value_at sh.base ram cs (w.dirs d) None None x
+  pub in_copies : (c d x : ℕ) → c < sh.cores → d < sh.dirs → home sh (line_of x) ≡ d
+      → CopiesHave x ((w.dirs d).lines.tag (line_of x)) (value_at sh.base ram cs (w.dirs d) None None x) (pair w c d)
 
 -- A copy with a tag above the line's has the words as they are for its core.
 abbrev pub CopiesAbove : Shape → (ℕ → ℕ) → World → List Noted → Type 0
-CopiesAbove sh ram w cs = (c d x t : ℕ) → c < sh.cores → d < sh.dirs → home sh (line_of x) ≡ d → (w.dirs d).lines.tag (line_of x) < t → CopiesHave x t (value_at sh.base ram cs (w.dirs d) (Some c) None x) (pair w c d)
+CopiesAbove sh ram w cs = (c d x t : ℕ) → c < sh.cores → d < sh.dirs → home sh (line_of x) ≡ d → (w.dirs d).lines.tag (line_of x) < t
+    → CopiesHave x t (value_at sh.base ram cs (w.dirs d) (Some c) None x) (pair w c d)
 
 -- frames and fills
 
 -- A valid word that isn't modified is as it is for its core, or an invalidation of it is in flight to the core.
 abbrev pub UnmodifiedWords : Shape → (ℕ → ℕ) → World → List Noted → Type 0
-UnmodifiedWords sh ram w cs = (c d x y : ℕ) → c < sh.cores → d < sh.dirs → home sh (line_of x) ≡ d → (w.cores c).cache.value x ≡ Some y → (w.cores c).cache.modified x ≡ false → (y ≡ value_at sh.base ram cs (w.dirs d) (Some c) None x) ⊎ (1 ≤ live (InvWord x) (pair w c d).back)
+UnmodifiedWords sh ram w cs = (c d x y : ℕ) → c < sh.cores → d < sh.dirs → home sh (line_of x) ≡ d → (w.cores c).cache.value x ≡ Some y
+    → (w.cores c).cache.modified x ≡ false → (y ≡ value_at sh.base ram cs (w.dirs d) (Some c) None x)
+    ⊎ (1 ≤ live (InvWord x) (pair w c d).back)
 
 abbrev pub is_stale : Option Awaited → Bool
 is_stale None = false
@@ -67,7 +74,9 @@ is_stale (Some a) = a.stale
 
 -- So is each word of a Fill that the core will take.
 abbrev pub FilledWords : Shape → (ℕ → ℕ) → World → List Noted → Type 0
-FilledWords sh ram w cs = (c d x : ℕ) → c < sh.cores → d < sh.dirs → home sh (line_of x) ≡ d → is_stale (w.cores c).awaited ≡ false → (live (FillNot x (value_at sh.base ram cs (w.dirs d) (Some c) None x)) (pair w c d).back ≡ 0) ⊎ (1 ≤ live (InvWord x) (pair w c d).back)
+FilledWords sh ram w cs = (c d x : ℕ) → c < sh.cores → d < sh.dirs → home sh (line_of x) ≡ d → is_stale (w.cores c).awaited ≡ false
+    → (live (FillNot x (value_at sh.base ram cs (w.dirs d) (Some c) None x)) (pair w c d).back ≡ 0)
+    ⊎ (1 ≤ live (InvWord x) (pair w c d).back)
 
 -- marks and views
 
@@ -78,7 +87,8 @@ IsPassed (Some b) s = b < s
 
 -- A word that is marked read is valid, or its home has passed the core's bound.
 abbrev pub ReadWords : Shape → World → Type 0
-ReadWords sh w = (c d x : ℕ) (b : Option ℕ) → c < sh.cores → d < sh.dirs → home sh (line_of x) ≡ d → IsBound b (pair w c d) → (w.cores c).cache.read x ≡ true → (is_some ((w.cores c).cache.value x) ≡ true) ⊎ IsPassed b (w.dirs d).serving.serving
+ReadWords sh w = (c d x : ℕ) (b : Option ℕ) → c < sh.cores → d < sh.dirs → home sh (line_of x) ≡ d → IsBound b (pair w c d)
+    → (w.cores c).cache.read x ≡ true → (is_some ((w.cores c).cache.value x) ≡ true) ⊎ IsPassed b (w.dirs d).serving.serving
 
 -- an Inv of the word with a TID below the bound
 abbrev pub dooms : Option ℕ → (word : ℕ) → Kind
@@ -98,7 +108,8 @@ EachUse P (u ∷ us) = P u.0 u.1 × EachUse P us
 
 -- A word of the core's view has the value that it has for the core at its bound, or the attempt is doomed.
 abbrev pub ViewedWords : Shape → (ℕ → ℕ) → World → List Noted → (views : ℕ → Uses) → Type 0
-ViewedWords sh ram w cs views = (c d : ℕ) (b : Option ℕ) → c < sh.cores → d < sh.dirs → IsBound b (pair w c d) → EachUse (λ x y. home sh (line_of x) ≡ d → (y ≡ value_at sh.base ram cs (w.dirs d) (Some c) b x) ⊎ IsDoomed b x (pair w c d)) (views c)
+ViewedWords sh ram w cs views = (c d : ℕ) (b : Option ℕ) → c < sh.cores → d < sh.dirs → IsBound b (pair w c d)
+    → EachUse (λ x y. home sh (line_of x) ≡ d → (y ≡ value_at sh.base ram cs (w.dirs d) (Some c) b x) ⊎ IsDoomed b x (pair w c d)) (views c)
 
 -- A halted core's view is empty.
 abbrev pub HaltedUsesNone : World → (views : ℕ → Uses) → Type 0

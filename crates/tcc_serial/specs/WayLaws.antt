@@ -17,7 +17,9 @@ use Rattle.tcc_serial.specs.Worked.{worked_at, KeptWorked}
 
 -- P holds of the ways and the state of every run
 abbrev pub AlwaysTold : (Shape → Ways → History → Type 0) → Type 0
-AlwaysTold P = (sh : Shape) (p : Program) (entries : ℕ → Local) (ram : ℕ → ℕ) (es : List Event) → IfSome (run sh p (start entries ram) es) (λ r. P sh (ways_from sh p es first_ways (record { world = start entries ram; commits = [] })) r)
+AlwaysTold P = (sh : Shape) (p : Program) (entries : ℕ → Local) (ram : ℕ → ℕ) (es : List Event)
+    → IfSome (run sh p (start entries ram) es)
+    (λ r. P sh (ways_from sh p es first_ways (record { world = start entries ram; commits = [] })) r)
 
 abbrev pub is_untold : Way → Bool
 is_untold Untold = true
@@ -31,11 +33,13 @@ is_given_up _ = false
 -- A TID is untold at a directory exactly where it isn't granted yet, is on its way to its core, or is open there: in one of
 -- these places it is once, and in none of them where it was told.
 abbrev pub UntoldWhereOpen : Shape → Ways → History → Type 0
-UntoldWhereOpen sh ys h = (d t : ℕ) → d < sh.dirs → 1 ≤ t → sum_of (part_in Untold sh d t) sh.cores h.world d + num (nat_le h.world.next t) ≡ num (is_untold (ys d t))
+UntoldWhereOpen sh ys h = (d t : ℕ) → d < sh.dirs → 1 ≤ t → sum_of (part_in Untold sh d t) sh.cores h.world d + num (nat_le h.world.next t)
+    ≡ num (is_untold (ys d t))
 
 -- A TID that was granted and is untold somewhere is with a core of the machine, or on its way to it.
 abbrev pub UntoldIsLive : Shape → Ways → History → Type 0
-UntoldIsLive sh ys h = (d t : ℕ) → d < sh.dirs → 1 ≤ t → t < h.world.next → ys d t ≡ Untold → (c : ℕ) × (c < sh.cores) × (1 ≤ holder t (pair h.world c d))
+UntoldIsLive sh ys h = (d t : ℕ) → d < sh.dirs → 1 ≤ t → t < h.world.next → ys d t ≡ Untold
+    → (c : ℕ) × (c < sh.cores) × (1 ≤ holder t (pair h.world c d))
 
 -- its Commit was sent, and is on its way no more
 pub record Settled (sh : Shape) (ys : Ways) (w : World) (d t : ℕ) : Type 0 where
@@ -64,7 +68,9 @@ given_up_by t v = live (Skips t) v.out + live (Aborts t) v.out
 -- Of a TID that was given up at a directory exactly one holds: a Skip or an Abort of it is in flight there, and just one; it is
 -- kept as skipped; or it is passed.
 abbrev pub GivenUpOnce : Shape → Ways → History → Type 0
-GivenUpOnce sh ys h = (d t : ℕ) → d < sh.dirs → 1 ≤ t → is_given_up (ys d t) ≡ true → sum_of (given_up_by t) sh.cores h.world d + num (is_skipped (h.world.dirs d).serving t) + num (nat_lt t (h.world.dirs d).serving.serving) ≡ 1
+GivenUpOnce sh ys h = (d t : ℕ) → d < sh.dirs → 1 ≤ t → is_given_up (ys d t) ≡ true
+    → sum_of (given_up_by t) sh.cores h.world d + num (is_skipped (h.world.dirs d).serving t) + num
+    (nat_lt t (h.world.dirs d).serving.serving) ≡ 1
 
 -- A TID on its way to its core is untold at each directory. A core's TID is, too, where the core is alone or overflowed; where it
 -- waits for replies or may commit it is untold where the core writes, and skipped at every other directory.
@@ -90,4 +96,5 @@ WorkIsReached sh ys h = KeptWorked sh h.world h.commits
 
 -- So a TID that no commit has is given up wherever a commit of a larger TID loaded or stored.
 abbrev pub SmallerAreGivenUp : Shape → Ways → History → Type 0
-SmallerAreGivenUp sh ys h = (n : Noted) (d t : ℕ) → Contains h.commits n → d < sh.dirs → worked_at sh n d ≡ true → 1 ≤ t → t < n.tid.0 → times t h.commits ≡ 0 → is_given_up (ys d t) ≡ true
+SmallerAreGivenUp sh ys h = (n : Noted) (d t : ℕ) → Contains h.commits n → d < sh.dirs → worked_at sh n d ≡ true → 1 ≤ t → t < n.tid.0
+    → times t h.commits ≡ 0 → is_given_up (ys d t) ≡ true

@@ -26,4 +26,5 @@ worked_at sh n d = loads_at sh d n.loads || stores_at sh d n.stores
 
 -- A directory where a commit loaded or stored has reached its TID.
 abbrev pub KeptWorked : Shape → World → List Noted → Type 0
-KeptWorked sh w commits = (n : Noted) (d : ℕ) → Contains commits n → d < sh.dirs → worked_at sh n d ≡ true → n.tid.0 ≤ (w.dirs d).serving.serving
+KeptWorked sh w commits = (n : Noted) (d : ℕ) → Contains commits n → d < sh.dirs → worked_at sh n d ≡ true
+    → n.tid.0 ≤ (w.dirs d).serving.serving

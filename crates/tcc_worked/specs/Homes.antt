@@ -180,4 +180,5 @@ SkipBeforeProbe =
     skip_before_probe_events skip_before_probe
 
 abbrev pub HomesAre : Type 0
-HomesAre = LowerTagDropped × FlushBeforeStore × LowerTagUnseen × PartAsksOwner × LateMarkDropped × SkipsArePassed × LargerFirst × SkipBeforeProbe
+HomesAre = LowerTagDropped × FlushBeforeStore × LowerTagUnseen × PartAsksOwner × LateMarkDropped × SkipsArePassed × LargerFirst
+    × SkipBeforeProbe

@@ -14,7 +14,8 @@ use Rattle.tcc_world.proofs.Files.{same_test}
 bytes_eq-same : (name : List ℕ) → bytes_eq name name ≡ true
 bytes_eq-same name = (bytes_eq-Decides name name).1 refl
 
-pub times-append : (names : List (List ℕ)) (other name : List ℕ) → times (names ++ other ∷ []) name ≡ times names name + cond (bytes_eq other name) 1 0
+pub times-append : (names : List (List ℕ)) (other name : List ℕ)
+    → times (names ++ other ∷ []) name ≡ times names name + cond (bytes_eq other name) 1 0
 times-append names other name = fold-append (λ n x. n + cond (bytes_eq x name) 1 0) 0 names (other ∷ [])
 
 pub times-once_more : (names : List (List ℕ)) (name : List ℕ) → times (names ++ name ∷ []) name ≡ times names name + 1
@@ -31,10 +32,12 @@ get-insert_same files name bytes =
     by_name.get-insert nat_list_cmp_total files name bytes name
     ∙ ap (λ b. cond b (Some bytes) (by_name.get files name)) (sym (same_test name name) ∙ bytes_eq-same name)
 
-pub get-insert_other : (files : Files) (name bytes other : List ℕ) → other ≢ name → by_name.get (by_name.insert files name bytes) other ≡ by_name.get files other
+pub get-insert_other : (files : Files) (name bytes other : List ℕ) → other ≢ name
+    → by_name.get (by_name.insert files name bytes) other ≡ by_name.get files other
 get-insert_other files name bytes other apart =
     by_name.get-insert nat_list_cmp_total files name bytes other
-    ∙ ap (λ b. cond b (Some bytes) (by_name.get files other)) (sym (same_test name other) ∙ false_from_ne_true _ (λ same. apart (sym ((bytes_eq-Decides name other).0 same))))
+    ∙ ap (λ b. cond b (Some bytes) (by_name.get files other))
+    (sym (same_test name other) ∙ false_from_ne_true _ (λ same. apart (sym ((bytes_eq-Decides name other).0 same))))
 
 -- for a call that books a name
 pub ruleset booking = (times-once_more)

@@ -16,7 +16,8 @@ pub record Shelf : Type 0 where
 abbrev pub shelf_code : Coded Shelf
 shelf_code =
     code_by (Files × (List ℕ × (ℕ × (List (List ℕ) × List (List ℕ)))))
-    (coded× files_code (coded× (coded_list coded_ℕ) (coded× coded_ℕ (coded× (coded_list (coded_list coded_ℕ)) (coded_list (coded_list coded_ℕ))))))
+    (coded× files_code (coded× (coded_list coded_ℕ)
+    (coded× coded_ℕ (coded× (coded_list (coded_list coded_ℕ)) (coded_list (coded_list coded_ℕ))))))
     (λ s. (s.files, (s.fails, (s.calls, (s.unread, s.unwritten)))))
     (λ p. record { files = p.0; fails = p.1.0; calls = p.1.1.0; unread = p.1.1.1.0; unwritten = p.1.1.1.1 })
     (λ _. refl)

@@ -1,4 +1,5 @@
-use Rattle.tcc_maps.proofs.Numbers.{any_below-found, any_below-at, all_below-at, all_below-each, lowest-cases, those-holds, those-only, those-rise, length-those}
+use Rattle.tcc_maps.proofs.Numbers.{any_below-found, any_below-at, all_below-at, all_below-each, lowest-cases, those-holds, those-only}
+use Rattle.tcc_maps.proofs.Numbers.{those-rise, length-those}
 use Rattle.tcc_maps.proofs.bounded_tests_are_exact.Goals as goal
 
 pub returns-clause-any : goal.returns-clause-any

@@ -1,4 +1,6 @@
-use Rattle.tcc_maps.proofs.Caches.{empty-keeps, marked-keeps, stored-keeps, placed-keeps, filled-keeps, invalidated-keeps, cleaned-keeps, evicted-keeps, rolled_back-keeps, read_cleared-keeps, committed-keeps, word_dropped-keeps, words_dropped-keeps}
+use Rattle.tcc_maps.proofs.Caches.{empty-keeps, marked-keeps, stored-keeps, placed-keeps, filled-keeps, invalidated-keeps, cleaned-keeps}
+use Rattle.tcc_maps.proofs.Caches.{evicted-keeps, rolled_back-keeps, read_cleared-keeps, committed-keeps, word_dropped-keeps}
+use Rattle.tcc_maps.proofs.Caches.{words_dropped-keeps}
 use Rattle.tcc_maps.proofs.changes_keep_caches.Goals as goal
 
 pub returns-clause-begins : goal.returns-clause-begins

@@ -16,11 +16,14 @@ gains_wrong sh l None t m = false
 gains_wrong sh l (Some n) t m = (names_line sh.base n.stores l && n.tid.0 == t) && not (stores_in sh.base n.stores l == m)
 
 pub record Conserves (sh : Shape) (l : ℕ) (s : CoreState) (o : Out) : Type 0 where
-  pub copies : (t : ℕ) → frame_copy o.core.cache l t + among (CopyOf l t) (o.sends (Dir (home sh l))) ≡ frame_copy s.cache l t + num (gains sh l o.commit t)
-  pub wrong : (t m : ℕ) → frame_wrong o.core.cache l t m + among (CopyMask l t m) (o.sends (Dir (home sh l))) ≡ frame_wrong s.cache l t m + num (gains_wrong sh l o.commit t m)
+  pub copies : (t : ℕ) → frame_copy o.core.cache l t + among (CopyOf l t) (o.sends (Dir (home sh l))) ≡ frame_copy s.cache l t + num
+      (gains sh l o.commit t)
+  pub wrong : (t m : ℕ) → frame_wrong o.core.cache l t m + among (CopyMask l t m) (o.sends (Dir (home sh l)))
+      ≡ frame_wrong s.cache l t m + num (gains_wrong sh l o.commit t m)
 
 -- no dirty word changes, and none is sent
-pub conserves-still : (sh : Shape) (l : ℕ) (s : CoreState) (o : Out) → o.commit ≡ None → SameDirty s.cache o.core.cache l → ((t : ℕ) → among (CopyOf l t) (o.sends (Dir (home sh l))) ≡ 0) → Conserves sh l s o
+pub conserves-still : (sh : Shape) (l : ℕ) (s : CoreState) (o : Out) → o.commit ≡ None → SameDirty s.cache o.core.cache l
+    → ((t : ℕ) → among (CopyOf l t) (o.sends (Dir (home sh l))) ≡ 0) → Conserves sh l s o
 conserves-still sh l s o e h z =
     let x = same-frame s.cache o.core.cache l h in record {
       copies = λ t. rw e (omega (arith, x.0 t, z t));
@@ -28,10 +31,13 @@ conserves-still sh l s o e h z =
     }
 
 -- the dirty words of line k are sent, and become clean
-pub conserves-sent : (sh : Shape) (l k : ℕ) (s : CoreState) (o : Out) → o.commit ≡ None → ((v : ℕ) → o.core.cache.dirty v ≡ (if k == line_of v then None else s.cache.dirty v)) → Leaves l k s.cache (o.sends (Dir (home sh l))) → Conserves sh l s o
+pub conserves-sent : (sh : Shape) (l k : ℕ) (s : CoreState) (o : Out) → o.commit ≡ None
+    → ((v : ℕ) → o.core.cache.dirty v ≡ (if k == line_of v then None else s.cache.dirty v)) → Leaves l k s.cache (o.sends (Dir (home sh l)))
+    → Conserves sh l s o
 conserves-sent sh l k s o e h y = go (cases_eq k l)
   where
-    at-line : (i : ℕ) → i < 8 → (b : Bool) → (k == l) ≡ b → o.core.cache.dirty (word_at l i) ≡ (if b then None else s.cache.dirty (word_at l i))
+    at-line : (i : ℕ) → i < 8 → (b : Bool) → (k == l) ≡ b
+        → o.core.cache.dirty (word_at l i) ≡ (if b then None else s.cache.dirty (word_at l i))
     at-line i j b q = let z : line_of (word_at l i) ≡ l = in-line l i j in h (word_at l i) ∙ rw (z, q) refl
 
     go : (k ≡ l) ⊎ (k ≡ l → ⊥) → Conserves sh l s o
@@ -54,6 +60,7 @@ pub unheld-clean : (sh : Shape) (c : Cache) (v : ℕ) → IsCache sh c → c.hel
 unheld-clean sh c v h e = grind (arith, nat_tests)
 
 -- nor after a store into it
-pub framed-dirty : (sh : Shape) (w x : ℕ) (c : Cache) → IsCache sh c → c.held (line_of w) ≡ false → (v : ℕ) → (stored w x false (placed sh (line_of w) c)).dirty v ≡ c.dirty v
+pub framed-dirty : (sh : Shape) (w x : ℕ) (c : Cache) → IsCache sh c → c.held (line_of w) ≡ false → (v : ℕ)
+    → (stored w x false (placed sh (line_of w) c)).dirty v ≡ c.dirty v
 unfolding stored
 framed-dirty sh w x c h e v = grind (arith, nat_tests, placed-dirty, unheld-clean)

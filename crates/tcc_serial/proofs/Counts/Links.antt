@@ -114,11 +114,13 @@ passes-protocol t m = grind (arith, nat_tests)
 pub among-quiet : (t : ℕ) (ms : List Msg) → among (Resolves t) ms ≤ among Protocol ms
 among-quiet t ms = among-fewer (Resolves t) Protocol (passes-protocol t) ms
 
-pub resolves-commit_sends : (sh : Shape) (c : Cache) (u d t : ℕ) → d < sh.dirs → among (Resolves t) (commit_sends sh c u (Dir d)) ≡ num ((u == t) && writes_at sh c d)
+pub resolves-commit_sends : (sh : Shape) (c : Cache) (u d t : ℕ) → d < sh.dirs
+    → among (Resolves t) (commit_sends sh c u (Dir d)) ≡ num ((u == t) && writes_at sh c d)
 unfolding commit_sends among passes
 resolves-commit_sends sh c u d t l = grind (arith, nat_tests)
 
-pub resolves-abort_written : (sh : Shape) (c : Cache) (u d t : ℕ) → d < sh.dirs → among (Resolves t) (abort_written sh c u (Dir d)) ≡ num ((u == t) && writes_at sh c d)
+pub resolves-abort_written : (sh : Shape) (c : Cache) (u d t : ℕ) → d < sh.dirs
+    → among (Resolves t) (abort_written sh c u (Dir d)) ≡ num ((u == t) && writes_at sh c d)
 unfolding abort_written among passes
 resolves-abort_written sh c u d t l = grind (arith, nat_tests)
 
@@ -130,7 +132,8 @@ pub resolves-probe_all : (sh : Shape) (u d t : ℕ) → among (Resolves t) (prob
 unfolding probe_all among passes
 resolves-probe_all sh u d t = grind (arith, nat_tests)
 
-pub resolves-grant_sends : (sh : Shape) (c : Cache) (u d t : ℕ) → d < sh.dirs → among (Resolves t) (grant_sends sh c u (Dir d)) + num ((u == t) && writes_at sh c d) ≡ num (u == t)
+pub resolves-grant_sends : (sh : Shape) (c : Cache) (u d t : ℕ) → d < sh.dirs
+    → among (Resolves t) (grant_sends sh c u (Dir d)) + num ((u == t) && writes_at sh c d) ≡ num (u == t)
 unfolding grant_sends among passes
 resolves-grant_sends sh c u d t l = grind (arith, nat_tests)
 
@@ -138,6 +141,7 @@ pub resolves-marks_for : (sh : Shape) (c : Cache) (u e t : ℕ) → among (Resol
 unfolding marks_for among passes
 resolves-marks_for sh c u e t = among-flat_map_none (Resolves t) (λ l. Mark l (modified_mask c l) u ∷ []) (λ l. refl) (written_lines sh c e)
 
-pub resolves-solo_sends : (sh : Shape) (c : Cache) (sp : Spilled) (u d t : ℕ) → d < sh.dirs → among (Resolves t) (solo_sends sh c sp u (Dir d)) ≡ num (u == t)
+pub resolves-solo_sends : (sh : Shape) (c : Cache) (sp : Spilled) (u d t : ℕ) → d < sh.dirs
+    → among (Resolves t) (solo_sends sh c sp u (Dir d)) ≡ num (u == t)
 unfolding solo_sends solo_marks_or_skip solo_write_backs among passes
 resolves-solo_sends sh c sp u d t l = grind (arith, nat_tests, among-flat_map_none, among-append)

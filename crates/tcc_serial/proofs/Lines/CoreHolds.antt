@@ -47,22 +47,37 @@ ready-kept : (sh : Shape) (l id u : ℕ) (s : CoreState) → s.phase ≡ Ready u
 unfolding commit committed_core noted names_line
 ready-kept sh l id u s e h q = go (kept-committed u l s.cache q)
   where
-    go : (keeps_unmodified s.cache l ≡ true) ⊎ (is_modified s.cache l ≡ true) → (keeps_unmodified s.cache l ≡ true) ⊎ StoredLine sh l (commit sh id u s)
+    go : (keeps_unmodified s.cache l ≡ true) ⊎ (is_modified s.cache l ≡ true)
+        → (keeps_unmodified s.cache l ≡ true) ⊎ StoredLine sh l (commit sh id u s)
     go (inl y) = inl y
-    go (inr y) = inr (record { commit = noted u id s; noted = refl; line = sym (modified-line sh.base s.cache s.stores l (unspilled sh s.cache s.spilled s.stores (rw e at (h.words)))) ∙ y })
+    go (inr y) =
+        inr (record {
+          commit = noted u id s;
+          noted = refl;
+          line = sym (modified-line sh.base s.cache s.stores l (unspilled sh s.cache s.spilled s.stores (rw e at (h.words)))) ∙ y;
+        })
 
-alone-kept : (sh : Shape) (b : Bool) (l id u : ℕ) (s : CoreState) → Words sh b s.cache s.spilled s.stores → KeptBy sh l s (solo_commit sh id u s)
+alone-kept : (sh : Shape) (b : Bool) (l id u : ℕ) (s : CoreState) → Words sh b s.cache s.spilled s.stores
+    → KeptBy sh l s (solo_commit sh id u s)
 unfolding solo_commit committed_core noted names_line is_written
 alone-kept sh b l id u s h q = go (kept-alone u l s.spilled s.cache q)
   where
     first : (x y : Bool) → x ≡ true → (x || y) ≡ true
     first a y e = grind (arith, nat_tests)
 
-    go : (keeps_unmodified s.cache l ≡ true) ⊎ (is_modified s.cache l ≡ true) → (keeps_unmodified s.cache l ≡ true) ⊎ StoredLine sh l (solo_commit sh id u s)
+    go : (keeps_unmodified s.cache l ≡ true) ⊎ (is_modified s.cache l ≡ true)
+        → (keeps_unmodified s.cache l ≡ true) ⊎ StoredLine sh l (solo_commit sh id u s)
     go (inl y) = inl y
-    go (inr y) = inr (record { commit = noted u id s; noted = refl; line = sym (written-line sh.base s.cache s.spilled s.stores l (h.named)) ∙ first (is_modified s.cache l) (holds s.spilled l) y })
+    go (inr y) =
+        inr (record {
+          commit = noted u id s;
+          noted = refl;
+          line = sym (written-line sh.base s.cache s.spilled s.stores l (h.named))
+              ∙ first (is_modified s.cache l) (holds s.spilled l) y;
+        })
 
-pub holds-exec : (sh : Shape) (l : ℕ) (p : Program) (id : ℕ) (s : CoreState) → OneCore sh s → (acting s.phase ≡ true → ReadsValid s.cache) → IfSome (core_exec sh p id s) (Holds sh l s)
+pub holds-exec : (sh : Shape) (l : ℕ) (p : Program) (id : ℕ) (s : CoreState) → OneCore sh s → (acting s.phase ≡ true → ReadsValid s.cache)
+    → IfSome (core_exec sh p id s) (Holds sh l s)
 unfolding commit committed_core
 holds-exec sh l p id s h v = each-exec sh p id s (Holds sh l s) go
   where
@@ -79,8 +94,12 @@ holds-exec sh l p id s h v = each-exec sh p id s (Holds sh l s) go
 
     go : (x : Did sh p id s) → Holds sh l s (out x)
     go (Reads a x z b g r f) = fewer _ (g.idle) (fewer-marked (w a) l s.cache)
-    go (Frames a y also n k g i f) = fewer _ (g.idle) (λ j b q. fewer-stored (w a) y l also s.cache (f.read) (acts-valid s.phase refl (g.acts) (w a)) j b q)
-    go (Frames_anew a y n k g i q f o) = fewer _ (g.idle) (λ j b z. placed-fewer sh (line_of (w a)) l s.cache j b (fewer-stored (w a) y l false (placed sh (line_of (w a)) s.cache) (λ q. absurd (cc)) (placed-reads sh (line_of (w a)) s.cache (acts-valid s.phase refl (g.acts)) (w a)) j b z))
+    go (Frames a y also n k g i f) =
+        fewer _ (g.idle) (λ j b q. fewer-stored (w a) y l also s.cache (f.read) (acts-valid s.phase refl (g.acts) (w a)) j b q)
+    go (Frames_anew a y n k g i q f o) =
+        fewer _ (g.idle) (λ j b z. placed-fewer sh (line_of (w a)) l s.cache j b
+        (fewer-stored (w a) y l false (placed sh (line_of (w a)) s.cache) (λ q. absurd (cc))
+        (placed-reads sh (line_of (w a)) s.cache (acts-valid s.phase refl (g.acts)) (w a)) j b z))
     go (Misses_anew a n g i q f) = fewer _ (g.idle) (placed-fewer sh (line_of (w a)) l s.cache)
     go (Ends_alone t b e f r i) = record { kept = alone-kept sh (is_solo s.phase) l id t (after_end s b e) (h.words); fresh = λ q. inr i }
     go (Commits_now t e) = record { kept = ready-kept sh l id t s e h; fresh = inl }
@@ -92,7 +111,9 @@ holds-exec sh l p id s h v = each-exec sh p id s (Holds sh l s) go
     go (Ends_run b e f r i) = fewer _ i (λ j b q. q)
 
 pub holds-evict : (sh : Shape) (l x y : ℕ) (s : CoreState) → IfSome (core_evict sh x y s) (Holds sh l s)
-holds-evict sh l x y s = each-evict sh x y s (Holds sh l s) (λ k e a m. record { kept = by-fewer sh l s (emptied sh x y k s) (fewer-evicted x y l s.cache); fresh = inl })
+holds-evict sh l x y s =
+    each-evict sh x y s (Holds sh l s)
+    (λ k e a m. record { kept = by-fewer sh l s (emptied sh x y k s) (fewer-evicted x y l s.cache); fresh = inl })
 
 pub holds-grant : (sh : Shape) (l u : ℕ) (s : CoreState) → Holds sh l s (grant sh u s)
 holds-grant sh l u s = each-grant sh u s (Holds sh l s) go

@@ -27,14 +27,24 @@ unfolding passes
 dir-gets sh s c m = go (outcome sh s c m)
   where
     -- the owner of the line is asked
-    sent : (l o : ℕ) → s.lines.owner l ≡ Some o → (x : ℕ) (b : Bool) → (x == l) ≡ b → (if b then true else s.lines.asked x) ≡ true → (s.lines.asked x ≡ true) ⊎ ((j : ℕ) → s.lines.owner x ≡ Some j → 1 ≤ among (DataOf x) (to (Core o) (DataReq l ∷ []) (Core j)))
-    sent l o e x true q r = inr (λ j w. let i : l ≡ x = grind (arith, nat_tests) in let y : Some o ≡ Some j = sym e ∙ ap s.lines.owner i ∙ w in let z : j ≡ o = cc in let n : among (DataOf x) (to (Core o) (DataReq l ∷ []) (Core j)) ≡ 1 = among-to (DataOf x) o j (DataReq l) ∙ rw (z, same o, i, same x) refl in omega (arith, n))
+    sent : (l o : ℕ) → s.lines.owner l ≡ Some o → (x : ℕ) (b : Bool) → (x == l) ≡ b → (if b then true else s.lines.asked x) ≡ true
+        → (s.lines.asked x ≡ true) ⊎ ((j : ℕ) → s.lines.owner x ≡ Some j → 1 ≤ among (DataOf x) (to (Core o) (DataReq l ∷ []) (Core j)))
+    sent l o e x true q r =
+        inr (λ j w. let i : l ≡ x = grind (arith, nat_tests) in let y : Some o ≡ Some j = sym e ∙ ap s.lines.owner i ∙ w in
+        let z : j ≡ o = cc in let n : among (DataOf x) (to (Core o) (DataReq l ∷ []) (Core j)) ≡ 1 = among-to (DataOf x) o j (DataReq l)
+        ∙ rw (z, same o, i, same x) refl in omega (arith, n))
     sent l o e x false q r = inl r
 
     go : {m : Msg} {a : Answer} → Outcome sh s c m a → GetsBy s m a
     go (Waiting m) = tt
     go (Spent m i) = tt
     go (AsksOwner m l o w e) = λ x r. sent l o e x (x == l) refl r
-    go (TakesCommit b e) = λ x r. record { asked = grind (arith, nat_tests); owner = grind (arith, nat_tests); tag = grind (arith, nat_tests); other = refl }
-    go (TakesCopy m l k ws g y e o) = λ x r. record { asked = grind (arith, nat_tests); owner = grind (arith, nat_tests); tag = refl; other = grind (arith, nat_tests, y.alike (CopyOf x (s.lines.tag x))) }
+    go (TakesCommit b e) =
+        λ x r. record { asked = grind (arith, nat_tests); owner = grind (arith, nat_tests); tag = grind (arith, nat_tests); other = refl }
+    go (TakesCopy m l k ws g y e o) = λ x r. record {
+      asked = grind (arith, nat_tests);
+      owner = grind (arith, nat_tests);
+      tag = refl;
+      other = grind (arith, nat_tests, y.alike (CopyOf x (s.lines.tag x)));
+    }
     go _ = λ x r. record { asked = r; owner = refl; tag = refl; other = refl }

@@ -26,8 +26,13 @@ dir-shares sh s c m = go (outcome sh s c m)
     none l j = among-none (FillOf l)
 
     -- no sharer changes and no Fill is sent
-    same-shares : {m : Msg} {new : DirState} {sends : Sends} → ((l j : ℕ) → new.lines.sharers l j ≡ s.lines.sharers l j) → ((l j : ℕ) → among (FillOf l) (sends (Core j)) ≡ 0) → (CountsMarked sh s m → ⊥) → Shares sh s c m new sends
-    same-shares h z n = record { kept = λ l j e. inl (rw (h l j) e); filled = λ l j x. absurd (omega (arith, x, z l j)); taken = λ l q e. absurd (n q) }
+    same-shares : {m : Msg} {new : DirState} {sends : Sends} → ((l j : ℕ) → new.lines.sharers l j ≡ s.lines.sharers l j)
+        → ((l j : ℕ) → among (FillOf l) (sends (Core j)) ≡ 0) → (CountsMarked sh s m → ⊥) → Shares sh s c m new sends
+    same-shares h z n = record {
+      kept = λ l j e. inl (rw (h l j) e);
+      filled = λ l j x. absurd (omega (arith, x, z l j));
+      taken = λ l q e. absurd (n q);
+    }
 
     go : {m : Msg} {a : Answer} → Outcome sh s c m a → SharesBy sh s c m a
     go (Waiting m) = tt
@@ -37,7 +42,8 @@ dir-shares sh s c m = go (outcome sh s c m)
     go (TakesProbe t h) = same-shares (λ x j. refl) (λ x j. none-to (FillOf x) c j (ProbeReply t s.serving.serving) refl) (λ q. absurd (cc))
     go (TakesLoad l k h e o) = record {
       kept = λ x j q. inl (grind (arith, nat_tests, q));
-      filled = λ x j q. let n : 1 ≤ num (j == c && l == x) = rw (among-to (FillOf x) c j (Fill l (home_words s l))) at q in (grind (arith, nat_tests), grind (arith, nat_tests, e));
+      filled = λ x j q. let n : 1 ≤ num (j == c && l == x) = rw (among-to (FillOf x) c j (Fill l (home_words s l))) at q in
+          (grind (arith, nat_tests), grind (arith, nat_tests, e));
       taken = λ x q r. absurd (cc);
     }
     go (TakesCommit b e) = record {
@@ -45,7 +51,11 @@ dir-shares sh s c m = go (outcome sh s c m)
       filled = λ x j q. absurd (omega (arith, q, none-invalidations (FillOf x) (λ l k t. refl) sh s.lines c s.serving.serving j));
       taken = λ x q r. rw (r, same c) refl;
     }
-    go (TakesAck l k b h e) = record { kept = λ x j q. grind (arith, nat_tests, q); filled = λ x j q. absurd (omega (arith, q, none x j)); taken = λ x q r. absurd (cc) }
+    go (TakesAck l k b h e) = record {
+      kept = λ x j q. grind (arith, nat_tests, q);
+      filled = λ x j q. absurd (omega (arith, q, none x j));
+      taken = λ x q r. absurd (cc);
+    }
     go (TakesCopy m l k ws g y e o) = same-shares (λ x j. refl) none (λ q. absurd (not_counts q (y.alike AnyCommit)))
       where
         not_counts : {m : Msg} → CountsMarked sh s m → passes AnyCommit m ≡ false → ⊥

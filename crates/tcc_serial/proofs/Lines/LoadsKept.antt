@@ -41,7 +41,8 @@ dir-fills sh s c m = go (outcome sh s c m)
     go (AsksOwner m k o w e) = λ l j. none-to (FillOf l) o j (DataReq k) refl
     go (TakesProbe t i) = λ l j. among-to (FillOf l) c j (ProbeReply t s.serving.serving)
     go (TakesLoad k x i e o) = λ l j. among-to (FillOf l) c j (Fill k (home_words s k))
-    go (TakesCommit b e) = λ l j. omega (arith, none-invalidations (FillOf l) (λ x y z. refl) sh s.lines c s.serving.serving j, and-none (j == c) false refl)
+    go (TakesCommit b e) =
+        λ l j. omega (arith, none-invalidations (FillOf l) (λ x y z. refl) sh s.lines c s.serving.serving j, and-none (j == c) false refl)
     go (TakesCopy m k n ws g y e o) = λ l j. quiet c m l j (y.alike (LoadOf l))
     go _ = λ l j. omega (arith, among-none (FillOf l), and-none (j == c) false refl)
 
@@ -51,13 +52,22 @@ unfolding among
 none-fills l = refl
 
 -- every event
-pub step-loading : (sh : Shape) (p : Program) (w : World) (e : Event) → KeptLoading sh w → IfSome (step sh p w e) (λ o. KeptLoading sh o.world)
+pub step-loading : (sh : Shape) (p : Program) (w : World) (e : Event) → KeptLoading sh w
+    → IfSome (step sh p w e) (λ o. KeptLoading sh o.world)
 unfolding pair
 step-loading sh p w e h = step_cases sh p w e (λ g o. KeptLoading sh o.world)
     (λ c l. moved c (core_exec sh p c (w.cores c)) (loads-exec sh p c (w.cores c)))
     (λ c a b l. moved c (core_evict sh a b (w.cores c)) (loads-evict sh a b (w.cores c)))
-    (λ c k u i. pairs_grant P w c k (grant sh u (w.cores c)) (λ d l. omega (arith, h c d l, loads-grant sh u (w.cores c) d l, live-sends (LoadOf l) (w.net (Core c) (Dir d)) ((grant sh u (w.cores c)).sends (Dir d)))) h)
-    (λ c d k m i. taken c d k m i (from_dir sh d (w.cores c) m) (loads-back sh d (w.cores c) m (λ l. omega (arith, h c d l, live-some (FillOf l) (w.net (Dir d) (Core c)) k m i))))
+    (λ c k u i. pairs_grant P w c k (grant sh u (w.cores c))
+    (λ d l. omega (
+      arith,
+      h c d l,
+      loads-grant sh u (w.cores c) d l,
+      live-sends (LoadOf l) (w.net (Core c) (Dir d))
+          ((grant sh u (w.cores c)).sends (Dir d)),
+    )) h)
+    (λ c d k m i. taken c d k m i (from_dir sh d (w.cores c) m)
+    (loads-back sh d (w.cores c) m (λ l. omega (arith, h c d l, live-some (FillOf l) (w.net (Dir d) (Core c)) k m i))))
     (λ c d k m i. answered c d k m i (dir_deliver sh (w.dirs d) c m) (dir-fills sh (w.dirs d) c m))
     (λ c k i. pairs_vendor P w c k (λ d l. h c d l) (λ j d n l. h j d l))
   where
@@ -66,7 +76,8 @@ step-loading sh p w e h = step_cases sh p w e (λ g o. KeptLoading sh o.world)
 
     moved : (c : ℕ) (x : Option Out) → IfSome x (λ o. LoadsStep sh (w.cores c) o) → IfSome x (λ o. KeptLoading sh (core_moves w c o))
     moved c None a = tt
-    moved c (Some o) a = pairs_move P w c o (λ d l. omega (arith, h c d l, a d l, live-sends (LoadOf l) (w.net (Core c) (Dir d)) (o.sends (Dir d)))) h
+    moved c (Some o) a =
+        pairs_move P w c o (λ d l. omega (arith, h c d l, a d l, live-sends (LoadOf l) (w.net (Core c) (Dir d)) (o.sends (Dir d)))) h
 
     self : (d : ℕ) (b : Bool) → num (d == d && b) ≡ num b
     self d b = rw (same d) refl
@@ -74,21 +85,60 @@ step-loading sh p w e h = step_cases sh p w e (λ g o. KeptLoading sh o.world)
     other : (d e : ℕ) (b : Bool) → (d ≡ e → ⊥) → num (d == e && b) ≡ 0
     other d e b n = rw (differ d e n) refl
 
-    taken : (c d k : ℕ) (m : Msg) → in_flight w.net (Dir d) (Core c) k ≡ Some m → (x : Option Out) → IfSome x (λ o. LoadsBack sh d (w.cores c) m o) → IfSome x (λ o. KeptLoading sh (core_takes w (Dir d) c k o))
+    taken : (c d k : ℕ) (m : Msg) → in_flight w.net (Dir d) (Core c) k ≡ Some m → (x : Option Out)
+        → IfSome x (λ o. LoadsBack sh d (w.cores c) m o) → IfSome x (λ o. KeptLoading sh (core_takes w (Dir d) c k o))
     taken c d k m i None a = tt
     taken c d k m i (Some o) a = pairs_back P w d c k o
-        (λ l. omega (arith, h c d l, a d l, self d (passes (FillOf l) m), live-sends (LoadOf l) (w.net (Core c) (Dir d)) (o.sends (Dir d)), live-takes (FillOf l) (w.net (Dir d) (Core c)) k m i))
-        (λ b n l. omega (arith, h c b l, a b l, other b d (passes (FillOf l) m) n, live-sends (LoadOf l) (w.net (Core c) (Dir b)) (o.sends (Dir b)))) h
+        (λ l. omega (
+          arith,
+          h c d l,
+          a d l,
+          self d (passes (FillOf l) m),
+          live-sends (LoadOf l) (w.net (Core c) (Dir d)) (o.sends (Dir d)),
+          live-takes (FillOf l) (w.net (Dir d) (Core c)) k m i,
+        ))
+        (λ b n l. omega (
+          arith,
+          h c b l,
+          a b l,
+          other b d (passes (FillOf l) m) n,
+          live-sends (LoadOf l) (w.net (Core c) (Dir b))
+              (o.sends (Dir b)),
+        )) h
 
-    answered : (c d k : ℕ) (m : Msg) → in_flight w.net (Core c) (Dir d) k ≡ Some m → (a : Answer) → FillsBy c m a → OfAnswer w c d k (λ v. KeptLoading sh v) a
+    answered : (c d k : ℕ) (m : Msg) → in_flight w.net (Core c) (Dir d) k ≡ Some m → (a : Answer) → FillsBy c m a
+        → OfAnswer w c d k (λ v. KeptLoading sh v) a
     answered c d k m i Waits u = tt
     answered c d k m i Drops u = pairs_dir P w c d k (w.dirs d) (λ dst. [])
-        (λ l. let z : num (passes (LoadOf l) m) ≡ 0 = rw (u l) refl in omega (arith, h c d l, z, live-takes (LoadOf l) (w.net (Core c) (Dir d)) k m i, live-sends (FillOf l) (w.net (Dir d) (Core c)) [], none-fills l))
+        (λ l. let z : num (passes (LoadOf l) m) ≡ 0 = rw (u l) refl in
+        omega (
+          arith,
+          h c d l,
+          z,
+          live-takes (LoadOf l) (w.net (Core c) (Dir d)) k m i,
+          live-sends (FillOf l) (w.net (Dir d) (Core c)) [],
+          none-fills l,
+        ))
         (λ j n l. omega (arith, h j d l, live-sends (FillOf l) (w.net (Dir d) (Core j)) [], none-fills l)) h
-    answered c d k m i (Asks s sends) u = pairs_asks P w d s sends (λ j l. omega (arith, h j d l, u l j, live-sends (FillOf l) (w.net (Dir d) (Core j)) (sends (Core j)))) h
+    answered c d k m i (Asks s sends) u =
+        pairs_asks P w d s sends (λ j l. omega (arith, h j d l, u l j, live-sends (FillOf l) (w.net (Dir d) (Core j)) (sends (Core j)))) h
     answered c d k m i (Takes s sends) u = pairs_dir P w c d k s sends
-        (λ l. omega (arith, h c d l, u l c, self c (passes (LoadOf l) m), live-takes (LoadOf l) (w.net (Core c) (Dir d)) k m i, live-sends (FillOf l) (w.net (Dir d) (Core c)) (sends (Core c))))
-        (λ j n l. omega (arith, h j d l, u l j, other j c (passes (LoadOf l) m) n, live-sends (FillOf l) (w.net (Dir d) (Core j)) (sends (Core j)))) h
+        (λ l. omega (
+          arith,
+          h c d l,
+          u l c,
+          self c (passes (LoadOf l) m),
+          live-takes (LoadOf l) (w.net (Core c) (Dir d)) k m i,
+          live-sends (FillOf l) (w.net (Dir d) (Core c)) (sends (Core c)),
+        ))
+        (λ j n l. omega (
+          arith,
+          h j d l,
+          u l j,
+          other j c (passes (LoadOf l) m) n,
+          live-sends (FillOf l) (w.net (Dir d) (Core j))
+              (sends (Core j)),
+        )) h
 
 pub start-loading : (sh : Shape) (entries : ℕ → Local) (ram : ℕ → ℕ) → KeptLoading sh (start entries ram)
 unfolding start core_start pair live

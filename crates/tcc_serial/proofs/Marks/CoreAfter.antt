@@ -12,7 +12,9 @@ use Rattle.tcc_serial.proofs.OneCore.Outcomes.{heard, heard-quiet, out, said}
 -- without a request for a line there is none that carries something else
 pub no-load : (x : ℕ) (m : Msg) → ((l : ℕ) → num (passes (LoadOf l) m) ≡ 0) → num (passes (LoadNot x) m) ≡ 0
 unfolding passes
-no-load x (LoadReq k a) f = absurd (let y = f k in let z : (k == k) ≡ true = grind (arith, nat_tests) in let q : num (k == k) ≡ 1 = rw z refl in omega (arith, y, q))
+no-load x (LoadReq k a) f =
+    absurd (let y = f k in let z : (k == k) ≡ true = grind (arith, nat_tests) in let q : num (k == k) ≡ 1 = rw z refl in
+    omega (arith, y, q))
 no-load x _ f = refl
 
 -- nothing is committed, and a load request carries what the core notes of the line's home
@@ -34,7 +36,8 @@ abbrev pub AfterStep : Shape → (core : ℕ) → CoreState → Out → Type 0
 AfterStep sh c s o = Stays s o ⊎ Notes_commit sh c s o
 
 -- no load request is sent, and the core notes what it did
-stays : (s : CoreState) (o : Out) → ((d x : ℕ) → among (LoadNot x) (o.sends (Dir d)) ≡ 0) → o.core.last_commit ≡ s.last_commit → o.commit ≡ None → Stays s o
+stays : (s : CoreState) (o : Out) → ((d x : ℕ) → among (LoadNot x) (o.sends (Dir d)) ≡ 0) → o.core.last_commit ≡ s.last_commit
+    → o.commit ≡ None → Stays s o
 stays s o f e c = record { after = e; carries = λ d. f d (s.last_commit d); commit = c }
 
 -- a request carries what the core notes of the line's home
@@ -42,7 +45,8 @@ asked : (sh : Shape) (k : ℕ) (s r : CoreState) → r.last_commit ≡ s.last_co
 unfolding among passes
 asked sh k s r e = record { after = e; carries = λ d. go d (d == home sh k) refl; commit = refl }
   where
-    go : (d : ℕ) (b : Bool) → (d == home sh k) ≡ b → among (LoadNot (s.last_commit d)) (if b then LoadReq k (s.last_commit (home sh k)) ∷ [] else []) ≡ 0
+    go : (d : ℕ) (b : Bool) → (d == home sh k) ≡ b
+        → among (LoadNot (s.last_commit d)) (if b then LoadReq k (s.last_commit (home sh k)) ∷ [] else []) ≡ 0
     go d a q = grind (arith, nat_tests)
 
 -- a core whose directories are all ready awaits nothing and has spilled nothing
@@ -77,7 +81,9 @@ after-exec sh p c s h = each-exec sh p c s (AfterStep sh c s) go
 
 pub after-evict : (sh : Shape) (c x y : ℕ) (s : CoreState) → IfSome (core_evict sh x y s) (λ o. AfterStep sh c s o)
 unfolding passes
-after-evict sh c x y s = each-evict sh x y s (AfterStep sh c s) (λ k e a m. inl (stays s (emptied sh x y k s) (λ d y. quiet sh s (LoadNot y) (Empties k) (λ z. refl) d) refl refl))
+after-evict sh c x y s =
+    each-evict sh x y s (AfterStep sh c s)
+    (λ k e a m. inl (stays s (emptied sh x y k s) (λ d y. quiet sh s (LoadNot y) (Empties k) (λ z. refl) d) refl refl))
 
 pub after-grant : (sh : Shape) (t : ℕ) (s : CoreState) → Stays s (grant sh t s)
 unfolding passes

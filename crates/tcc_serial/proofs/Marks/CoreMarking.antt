@@ -19,14 +19,16 @@ use Rattle.tcc_serial.proofs.OneCore.CoreSteps.{steady-emptied}
 pub record Marking (sh : Shape) (d t l : ℕ) (s : CoreState) (o : Out) : Type 0 where
   pub owned : 1 ≤ among (Marks t) (o.sends (Dir d)) + among (Resolves t) (o.sends (Dir d)) → has_tid s.phase t ≡ true
   pub words : among EmptyMarks (o.sends (Dir d)) ≡ 0
-  pub kept : has_tid o.core.phase t ≡ true → (has_tid s.phase t ≡ true) × (among (MarkOf t l) (o.sends (Dir d)) + marked_by sh s d l ≡ marked_by sh o.core d l)
+  pub kept : has_tid o.core.phase t ≡ true
+      → (has_tid s.phase t ≡ true) × (among (MarkOf t l) (o.sends (Dir d)) + marked_by sh s d l ≡ marked_by sh o.core d l)
   pub once : among (MarkOf t l) (o.sends (Dir d)) + marked_by sh s d l ≤ 1
   pub opened : 1 ≤ among (MarkOf t l) (o.sends (Dir d)) → opens s.phase (writes_at sh s.cache d) t ≡ true
   pub skips : 1 ≤ among (Skips t) (o.sends (Dir d))
       → (has_tid s.phase t ≡ true) × (among (MarkOf t l) (o.sends (Dir d)) + marked_by sh s d l ≡ 0)
 
 -- kinds that are told of
-one-protocol : (t l : ℕ) (m : Msg) → num (passes (Marks t) m) + num (passes (Resolves t) m) + num (passes EmptyMarks m) ≤ num (passes Protocol m) + num (passes EmptyMarks m)
+one-protocol : (t l : ℕ) (m : Msg) → num (passes (Marks t) m) + num (passes (Resolves t) m) + num (passes EmptyMarks m) ≤ num
+    (passes Protocol m) + num (passes EmptyMarks m)
 unfolding passes
 one-protocol t l m = grind (arith, nat_tests)
 
@@ -49,13 +51,21 @@ pub record Unsaid (t l : ℕ) (ms : List Msg) : Type 0 where
   pub marks : among (MarkOf t l) ms ≡ 0
   pub skips : among (Skips t) ms ≡ 0
 
-pub few : (t l : ℕ) (ms : List Msg) → (among (Marks t) ms + among (Resolves t) ms ≤ among Protocol ms) × (among EmptyMarks ms ≤ among Protocol ms) × (among (MarkOf t l) ms ≤ among (Marks t) ms) × (among (Skips t) ms ≤ among (Resolves t) ms)
+pub few : (t l : ℕ) (ms : List Msg) → (among (Marks t) ms + among (Resolves t) ms ≤ among Protocol ms)
+    × (among EmptyMarks ms ≤ among Protocol ms) × (among (MarkOf t l) ms ≤ among (Marks t) ms)
+    × (among (Skips t) ms ≤ among (Resolves t) ms)
 unfolding among
 few t l [] = (omega arith, omega arith, omega arith, omega arith)
-few t l (m ∷ ms) = let r = few t l ms in (omega (arith, r.0, one-protocol t l m), omega (arith, r.1, two-protocol t l m), omega (arith, r.2, of-mark t l m), omega (arith, r.3, of-skip t m))
+few t l (m ∷ ms) = let r = few t l ms in (
+  omega (arith, r.0, one-protocol t l m),
+  omega (arith, r.1, two-protocol t l m),
+  omega (arith, r.2, of-mark t l m),
+  omega (arith, r.3, of-skip t m),
+)
 
 pub unsaid-quiet : (t l : ℕ) (ms : List Msg) → among Protocol ms ≡ 0 → Unsaid t l ms
-unsaid-quiet t l ms q = let f = few t l ms in record { words = omega (arith, f.1); owned = omega (arith, f.0); marks = omega (arith, f.2, f.0); skips = omega (arith, f.3, f.0) }
+unsaid-quiet t l ms q = let f = few t l ms in
+    record { words = omega (arith, f.1); owned = omega (arith, f.0); marks = omega (arith, f.2, f.0); skips = omega (arith, f.3, f.0) }
 
 pub unsaid-nothing : (t l : ℕ) → Unsaid t l []
 unfolding among
@@ -74,7 +84,8 @@ unfolding marked_by
 at-most-one sh s d l = num-few (has_marked s.phase && (not (s.owing d) && stores_line sh s.cache d l))
 
 -- nothing is said, and what is to be marked stays
-pub silent : (sh : Shape) (d t l : ℕ) (s : CoreState) (o : Out) → Unsaid t l (o.sends (Dir d)) → (has_tid o.core.phase t ≡ true → (has_tid s.phase t ≡ true) × (marked_by sh s d l ≡ marked_by sh o.core d l)) → Marking sh d t l s o
+pub silent : (sh : Shape) (d t l : ℕ) (s : CoreState) (o : Out) → Unsaid t l (o.sends (Dir d))
+    → (has_tid o.core.phase t ≡ true → (has_tid s.phase t ≡ true) × (marked_by sh s d l ≡ marked_by sh o.core d l)) → Marking sh d t l s o
 silent sh d t l s o u k = record {
   owned = λ x. absurd (omega (arith, x, u.owned));
   words = u.words;
@@ -89,7 +100,8 @@ pub stores-same : (sh : Shape) (a b : Cache) (d l : ℕ) → ((v : ℕ) → a.mo
 unfolding stores_line is_modified
 stores-same sh a b d l h = ap (λ m. nat_lt l (lines sh) && (d == home sh l && any_word m l)) (λ i v. h v i)
 
-pub marked-same : (sh : Shape) (s r : CoreState) (d l : ℕ) → r.phase ≡ s.phase → r.owing d ≡ s.owing d → (has_marked s.phase ≡ true → stores_line sh r.cache d l ≡ stores_line sh s.cache d l) → marked_by sh s d l ≡ marked_by sh r d l
+pub marked-same : (sh : Shape) (s r : CoreState) (d l : ℕ) → r.phase ≡ s.phase → r.owing d ≡ s.owing d
+    → (has_marked s.phase ≡ true → stores_line sh r.cache d l ≡ stores_line sh s.cache d l) → marked_by sh s d l ≡ marked_by sh r d l
 unfolding marked_by
 marked-same sh s r d l p q h = grind (arith, nat_tests)
 
@@ -100,15 +112,23 @@ idle (Solo t) e a = cc
 idle _ e a = a
 
 pub marking-steady : (sh : Shape) (d t l : ℕ) (s : CoreState) (o : Out) → Steady s o → Marking sh d t l s o
-marking-steady sh d t l s o y = silent sh d t l s o (unsaid-quiet t l (o.sends (Dir d)) (y.quiet d)) (λ x. (rw y.phase at x, marked-same sh s o.core d l (y.phase) (ap (λ f. f d) (y.owing)) (λ m. stores-same sh o.core.cache s.cache d l (y.modified (idle s.phase m)))))
+marking-steady sh d t l s o y = silent sh d t l s o (unsaid-quiet t l (o.sends (Dir d)) (y.quiet d))
+    (λ x. (
+      rw y.phase at x,
+      marked-same sh s o.core d l (y.phase) (ap (λ f. f d) (y.owing))
+          (λ m. stores-same sh o.core.cache s.cache d l (y.modified (idle s.phase m))),
+    ))
 
 -- the core has no TID any more
-pub silent-none : (sh : Shape) (d t l : ℕ) (s : CoreState) (o : Out) (q : Phase) → o.core.phase ≡ q → has_tid q t ≡ false → Unsaid t l (o.sends (Dir d)) → Marking sh d t l s o
+pub silent-none : (sh : Shape) (d t l : ℕ) (s : CoreState) (o : Out) (q : Phase) → o.core.phase ≡ q → has_tid q t ≡ false
+    → Unsaid t l (o.sends (Dir d)) → Marking sh d t l s o
 silent-none sh d t l s o q e h u = silent sh d t l s o u (λ k. let x : has_tid o.core.phase t ≡ false = rw e h in absurd (cc))
 
 -- it has none any more, and has spoken of its TID u without a Mark
-pub last-words : (sh : Shape) (d t l u : ℕ) (s : CoreState) (o : Out) (q : Phase) → o.core.phase ≡ q → has_tid q t ≡ false → ((u ≡ t) → has_tid s.phase t ≡ true)
-    → (among EmptyMarks (o.sends (Dir d)) ≡ 0) → (among (MarkOf t l) (o.sends (Dir d)) ≡ 0) → ((among (Marks t) (o.sends (Dir d)) + among (Resolves t) (o.sends (Dir d)) ≡ 0) ⊎ (u ≡ t))
+pub last-words : (sh : Shape) (d t l u : ℕ) (s : CoreState) (o : Out) (q : Phase) → o.core.phase ≡ q → has_tid q t ≡ false
+    → ((u ≡ t) → has_tid s.phase t ≡ true)
+    → (among EmptyMarks (o.sends (Dir d)) ≡ 0) → (among (MarkOf t l) (o.sends (Dir d)) ≡ 0)
+    → ((among (Marks t) (o.sends (Dir d)) + among (Resolves t) (o.sends (Dir d)) ≡ 0) ⊎ (u ≡ t))
     → (1 ≤ among (Skips t) (o.sends (Dir d)) → (has_tid s.phase t ≡ true) × (marked_by sh s d l ≡ 0)) → Marking sh d t l s o
 last-words sh d t l u s o q e h f w m a k = record {
   owned = λ x. own x a;
@@ -119,7 +139,8 @@ last-words sh d t l u s o q e h f w m a k = record {
   skips = λ x. ((k x).0, omega (arith, m, (k x).1));
 }
   where
-    own : 1 ≤ among (Marks t) (o.sends (Dir d)) + among (Resolves t) (o.sends (Dir d)) → (among (Marks t) (o.sends (Dir d)) + among (Resolves t) (o.sends (Dir d)) ≡ 0) ⊎ (u ≡ t) → has_tid s.phase t ≡ true
+    own : 1 ≤ among (Marks t) (o.sends (Dir d)) + among (Resolves t) (o.sends (Dir d))
+        → (among (Marks t) (o.sends (Dir d)) + among (Resolves t) (o.sends (Dir d)) ≡ 0) ⊎ (u ≡ t) → has_tid s.phase t ≡ true
     own x a = grind (arith, nat_tests)
 
 -- the words on a TID
@@ -131,15 +152,21 @@ pub swap : {A B : Type 0} → A ⊎ B → B ⊎ A
 swap (inl a) = inr a
 swap (inr a) = inl a
 
-pub told-commit : (sh : Shape) (c : Cache) (u d t l : ℕ) → (among EmptyMarks (commit_sends sh c u (Dir d)) ≡ 0) × (among (MarkOf t l) (commit_sends sh c u (Dir d)) ≡ 0) × (among (Skips t) (commit_sends sh c u (Dir d)) ≡ 0) × (((u == t) ≡ false) → among (Marks t) (commit_sends sh c u (Dir d)) + among (Resolves t) (commit_sends sh c u (Dir d)) ≡ 0)
+pub told-commit : (sh : Shape) (c : Cache) (u d t l : ℕ) → (among EmptyMarks (commit_sends sh c u (Dir d)) ≡ 0)
+    × (among (MarkOf t l) (commit_sends sh c u (Dir d)) ≡ 0) × (among (Skips t) (commit_sends sh c u (Dir d)) ≡ 0)
+    × (((u == t) ≡ false) → among (Marks t) (commit_sends sh c u (Dir d)) + among (Resolves t) (commit_sends sh c u (Dir d)) ≡ 0)
 unfolding commit_sends among passes
 told-commit sh c u d t l = (grind arith, grind arith, grind arith, λ q. grind arith)
 
-pub told-abort : (sh : Shape) (c : Cache) (u d t l : ℕ) → (among EmptyMarks (abort_written sh c u (Dir d)) ≡ 0) × (among (MarkOf t l) (abort_written sh c u (Dir d)) ≡ 0) × (among (Skips t) (abort_written sh c u (Dir d)) ≡ 0) × (((u == t) ≡ false) → among (Marks t) (abort_written sh c u (Dir d)) + among (Resolves t) (abort_written sh c u (Dir d)) ≡ 0)
+pub told-abort : (sh : Shape) (c : Cache) (u d t l : ℕ) → (among EmptyMarks (abort_written sh c u (Dir d)) ≡ 0)
+    × (among (MarkOf t l) (abort_written sh c u (Dir d)) ≡ 0) × (among (Skips t) (abort_written sh c u (Dir d)) ≡ 0)
+    × (((u == t) ≡ false) → among (Marks t) (abort_written sh c u (Dir d)) + among (Resolves t) (abort_written sh c u (Dir d)) ≡ 0)
 unfolding abort_written among passes
 told-abort sh c u d t l = (grind arith, grind arith, grind arith, λ q. grind arith)
 
-pub told-skip : (sh : Shape) (u d t l : ℕ) → (among EmptyMarks (skip_all sh u (Dir d)) ≡ 0) × (among (MarkOf t l) (skip_all sh u (Dir d)) ≡ 0) × (((u == t) ≡ false) → among (Marks t) (skip_all sh u (Dir d)) + among (Resolves t) (skip_all sh u (Dir d)) ≡ 0)
+pub told-skip : (sh : Shape) (u d t l : ℕ) → (among EmptyMarks (skip_all sh u (Dir d)) ≡ 0)
+    × (among (MarkOf t l) (skip_all sh u (Dir d)) ≡ 0)
+    × (((u == t) ≡ false) → among (Marks t) (skip_all sh u (Dir d)) + among (Resolves t) (skip_all sh u (Dir d)) ≡ 0)
 unfolding skip_all among passes
 told-skip sh u d t l = (grind arith, grind arith, λ q. grind arith)
 
@@ -166,7 +193,8 @@ solo-opens : (u t : ℕ) (w : Bool) (q : Phase) → q ≡ Solo u → u ≡ t →
 unfolding opens
 solo-opens u t w q e h = rw e (grind (arith, nat_tests))
 
-marking-alone : (sh : Shape) (d t l u : ℕ) (s : CoreState) (o : Out) (e : Outcome) → s.phase ≡ Solo u → o.core.phase ≡ phase_after_commit e → o.sends ≡ solo_sends sh s.cache s.spilled u → Marking sh d t l s o
+marking-alone : (sh : Shape) (d t l u : ℕ) (s : CoreState) (o : Out) (e : Outcome) → s.phase ≡ Solo u → o.core.phase ≡ phase_after_commit e
+    → o.sends ≡ solo_sends sh s.cache s.spilled u → Marking sh d t l s o
 unfolding has_tid has_marked marked_by
 marking-alone sh d t l u s o e q ph se = record {
   owned = λ x. own (rw se at x) (solo-owned sh s.cache s.spilled u d t);
@@ -174,13 +202,20 @@ marking-alone sh d t l u s o e q ph se = record {
   kept = λ x. let y : has_tid o.core.phase t ≡ false = rw ph (tid-after e t) in absurd (cc);
   once = rw (se, q) (omega (arith, solo-mark sh s.cache s.spilled u d t l, num-few (u == t)));
   opened = λ x. solo-opens u t (writes_at sh s.cache d) s.phase q (one (rw se at x) (cases_eq u t));
-  skips = λ x. (own (skipped (rw se at x)) (solo-owned sh s.cache s.spilled u d t), rw (se, q) (omega (arith, solo-skips sh s.cache s.spilled u d t l (rw se at x))));
+  skips =
+      λ x. (
+        own (skipped (rw se at x)) (solo-owned sh s.cache s.spilled u d t),
+        rw (se, q) (omega (arith, solo-skips sh s.cache s.spilled u d t l (rw se at x))),
+      );
 }
   where
-    own : 1 ≤ among (Marks t) (solo_sends sh s.cache s.spilled u (Dir d)) + among (Resolves t) (solo_sends sh s.cache s.spilled u (Dir d)) → (among (Marks t) (solo_sends sh s.cache s.spilled u (Dir d)) + among (Resolves t) (solo_sends sh s.cache s.spilled u (Dir d)) ≡ 0) ⊎ (u ≡ t) → has_tid s.phase t ≡ true
+    own : 1 ≤ among (Marks t) (solo_sends sh s.cache s.spilled u (Dir d)) + among (Resolves t) (solo_sends sh s.cache s.spilled u (Dir d))
+        → (among (Marks t) (solo_sends sh s.cache s.spilled u (Dir d)) + among (Resolves t) (solo_sends sh s.cache s.spilled u (Dir d)) ≡ 0)
+        ⊎ (u ≡ t) → has_tid s.phase t ≡ true
     own x a = grind (arith, nat_tests)
 
-    skipped : 1 ≤ among (Skips t) (solo_sends sh s.cache s.spilled u (Dir d)) → 1 ≤ among (Marks t) (solo_sends sh s.cache s.spilled u (Dir d)) + among (Resolves t) (solo_sends sh s.cache s.spilled u (Dir d))
+    skipped : 1 ≤ among (Skips t) (solo_sends sh s.cache s.spilled u (Dir d))
+        → 1 ≤ among (Marks t) (solo_sends sh s.cache s.spilled u (Dir d)) + among (Resolves t) (solo_sends sh s.cache s.spilled u (Dir d))
     skipped x = omega (arith, x, (few t l (solo_sends sh s.cache s.spilled u (Dir d))).3)
 
     one : 1 ≤ among (MarkOf t l) (solo_sends sh s.cache s.spilled u (Dir d)) → (u ≡ t) ⊎ (u ≡ t → ⊥) → u ≡ t
@@ -191,14 +226,19 @@ unfolding commit solo_commit committed_core has_tid
 marking-exec sh p c d t l s = each-exec sh p c s (λ o. Marking sh d t l s o) go
   where
     ready : (u : ℕ) → s.phase ≡ Ready u → Marking sh d t l s (commit sh c u s)
-    ready u e = let f = told-commit sh s.cache u d t l in last-words sh d t l u s (commit sh c u s) (phase_after_commit s.ended) refl (tid-after s.ended t) (λ z. mine u t s.phase (has-ready u s.phase e) z) (f.0) (f.1) (is-tid u t _ (swap (cases_eq u t)) (f.3)) (λ x. absurd (omega (arith, x, f.2)))
+    ready u e = let f = told-commit sh s.cache u d t l in last-words sh d t l u s (commit sh c u s) (phase_after_commit s.ended) refl
+        (tid-after s.ended t) (λ z. mine u t s.phase (has-ready u s.phase e) z) (f.0) (f.1) (is-tid u t _ (swap (cases_eq u t)) (f.3))
+        (λ x. absurd (omega (arith, x, f.2)))
 
     go : (x : Did sh p c s) → Marking sh d t l s (out x)
     go (Commits_now u e) = ready u e
-    go (Room_wanted r i) = silent-none sh d t l s (moves (record s { phase = Overflowing None }) (say sh s Wants)) (Overflowing None) refl refl (unsaid-nothing t l)
-    go (Ends_run n e f r i) = silent-none sh d t l s (moves (record (after_end s n e) { phase = AwaitTid }) (say sh s Wants)) AwaitTid refl refl (unsaid-nothing t l)
+    go (Room_wanted r i) = silent-none sh d t l s (moves (record s { phase = Overflowing None }) (say sh s Wants))
+        (Overflowing None) refl refl (unsaid-nothing t l)
+    go (Ends_run n e f r i) = silent-none sh d t l s (moves (record (after_end s n e) { phase = AwaitTid }) (say sh s Wants)) AwaitTid refl
+        refl (unsaid-nothing t l)
     go (Ends_alone u n e f r i) = marking-alone sh d t l u s (solo_commit sh c u (after_end s n e)) e r refl refl
     go x = marking-steady sh d t l s (out x) (did-steady x)
 
 pub marking-evict : (sh : Shape) (x y d t l : ℕ) (s : CoreState) → IfSome (core_evict sh x y s) (λ o. Marking sh d t l s o)
-marking-evict sh x y d t l s = each-evict sh x y s (λ o. Marking sh d t l s o) (λ k q u z. marking-steady sh d t l s (emptied sh x y k s) (steady-emptied sh x y s k q u z))
+marking-evict sh x y d t l s = each-evict sh x y s (λ o. Marking sh d t l s o)
+    (λ k q u z. marking-steady sh d t l s (emptied sh x y k s) (steady-emptied sh x y s k q u z))

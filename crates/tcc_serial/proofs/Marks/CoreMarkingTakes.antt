@@ -15,7 +15,9 @@ use Rattle.tcc_serial.proofs.OneCore.CoreSteps.{fill-steady, data-steady, ignore
 use Rattle.tcc_serial.proofs.OneCore.CoreSteps.{Invalidated, invalidate-cases, Replied, Ignored, Probed, Left_alone, reply-cases}
 
 -- before an acknowledgement
-append-told : (t l : ℕ) (a b : List Msg) → Unsaid t l b → (among EmptyMarks (a ++ b) ≡ among EmptyMarks a) × (among (MarkOf t l) (a ++ b) ≡ among (MarkOf t l) a) × (among (Skips t) (a ++ b) ≡ among (Skips t) a) × (among (Marks t) (a ++ b) + among (Resolves t) (a ++ b) ≡ among (Marks t) a + among (Resolves t) a)
+append-told : (t l : ℕ) (a b : List Msg) → Unsaid t l b → (among EmptyMarks (a ++ b) ≡ among EmptyMarks a)
+    × (among (MarkOf t l) (a ++ b) ≡ among (MarkOf t l) a) × (among (Skips t) (a ++ b) ≡ among (Skips t) a)
+    × (among (Marks t) (a ++ b) + among (Resolves t) (a ++ b) ≡ among (Marks t) a + among (Resolves t) a)
 append-told t l a b u = (
   omega (arith, among-append EmptyMarks a b, u.words),
   omega (arith, among-append (MarkOf t l) a b, u.marks),
@@ -38,7 +40,8 @@ unmarked sh s d l e = rw e refl
 skips-mine : (u t : ℕ) (a b : ℕ) → 1 ≤ a → a ≤ b → (b ≡ 0) ⊎ (u ≡ t) → u ≡ t
 skips-mine u t a b x y d = grind (arith, nat_tests)
 
-skips-resolves : (sh : Shape) (u d t : ℕ) → among (Skips t) (skip_all sh u (Dir d)) ≤ among (Marks t) (skip_all sh u (Dir d)) + among (Resolves t) (skip_all sh u (Dir d))
+skips-resolves : (sh : Shape) (u d t : ℕ) → among (Skips t) (skip_all sh u (Dir d)) ≤ among (Marks t) (skip_all sh u (Dir d)) + among
+    (Resolves t) (skip_all sh u (Dir d))
 unfolding skip_all among passes
 skips-resolves sh u d t = grind arith
 
@@ -55,25 +58,37 @@ marking-hurt sh x d t l s o i = go i.hurt
     quiet : i.sends (Dir d) ≡ [] → Unsaid t l (o.sends (Dir d))
     quiet e = rw (i.dirs d) (rw e (unsaid-append t l [] ack (unsaid-nothing t l) a))
 
-    told : (ms : List Msg) → i.sends (Dir d) ≡ ms → (among EmptyMarks (o.sends (Dir d)) ≡ among EmptyMarks ms) × (among (MarkOf t l) (o.sends (Dir d)) ≡ among (MarkOf t l) ms) × (among (Skips t) (o.sends (Dir d)) ≡ among (Skips t) ms) × (among (Marks t) (o.sends (Dir d)) + among (Resolves t) (o.sends (Dir d)) ≡ among (Marks t) ms + among (Resolves t) ms)
+    told : (ms : List Msg) → i.sends (Dir d) ≡ ms → (among EmptyMarks (o.sends (Dir d)) ≡ among EmptyMarks ms)
+        × (among (MarkOf t l) (o.sends (Dir d)) ≡ among (MarkOf t l) ms) × (among (Skips t) (o.sends (Dir d)) ≡ among (Skips t) ms)
+        × (among (Marks t) (o.sends (Dir d)) + among (Resolves t) (o.sends (Dir d)) ≡ among (Marks t) ms + among (Resolves t) ms)
     told ms e = rw (i.dirs d) (rw e (append-told t l ms ack a))
 
-    aborted : (u : ℕ) → (s.phase ≡ Probing u) ⊎ (s.phase ≡ Ready u) → o.core.phase ≡ Running → i.sends ≡ abort_written sh s.cache u → Marking sh d t l s o
+    aborted : (u : ℕ) → (s.phase ≡ Probing u) ⊎ (s.phase ≡ Ready u) → o.core.phase ≡ Running → i.sends ≡ abort_written sh s.cache u
+        → Marking sh d t l s o
     aborted u ph ph' se =
         let f = told-abort sh s.cache u d t l in
         let g = told (abort_written sh s.cache u (Dir d)) (ap (λ h. h (Dir d)) se) in
-        last-words sh d t l u s o Running ph' refl (λ z. mine u t s.phase (has-of u s.phase (inl ph)) z) (g.0 ∙ f.0) (g.1 ∙ f.1) (is-tid u t _ (swap (cases_eq u t)) (λ q. g.3 ∙ f.3 q)) (λ y. absurd (omega (arith, y, g.2, f.2)))
+        last-words sh d t l u s o Running ph' refl (λ z. mine u t s.phase (has-of u s.phase (inl ph)) z) (g.0 ∙ f.0) (g.1 ∙ f.1)
+        (is-tid u t _ (swap (cases_eq u t)) (λ q. g.3 ∙ f.3 q)) (λ y. absurd (omega (arith, y, g.2, f.2)))
 
-    gave_up : (u : ℕ) → (s.phase ≡ Overflowing (Some u)) ⊎ (s.phase ≡ Solo u) → o.core.phase ≡ Running → i.sends ≡ skip_all sh u → Marking sh d t l s o
+    gave_up : (u : ℕ) → (s.phase ≡ Overflowing (Some u)) ⊎ (s.phase ≡ Solo u) → o.core.phase ≡ Running → i.sends ≡ skip_all sh u
+        → Marking sh d t l s o
     gave_up u ph ph' se =
         let f = told-skip sh u d t l in
         let g = told (skip_all sh u (Dir d)) (ap (λ h. h (Dir d)) se) in
-        let own : (among (Marks t) (skip_all sh u (Dir d)) + among (Resolves t) (skip_all sh u (Dir d)) ≡ 0) ⊎ (u ≡ t) = is-tid u t _ (swap (cases_eq u t)) (f.2) in
-        last-words sh d t l u s o Running ph' refl (λ z. mine u t s.phase (has-of u s.phase (inr ph)) z) (g.0 ∙ f.0) (g.1 ∙ f.1) (is-tid u t _ (swap (cases_eq u t)) (λ q. g.3 ∙ f.2 q))
-        (λ y. (mine u t s.phase (has-of u s.phase (inr ph)) (skips-mine u t _ _ (omega (arith, y, g.2)) (skips-resolves sh u d t) own), unmarked sh s d l (silent-alone u s.phase ph)))
+        let own : (among (Marks t) (skip_all sh u (Dir d)) + among (Resolves t) (skip_all sh u (Dir d)) ≡ 0) ⊎ (u ≡ t) =
+        is-tid u t _ (swap (cases_eq u t)) (f.2) in
+        last-words sh d t l u s o Running ph' refl (λ z. mine u t s.phase (has-of u s.phase (inr ph)) z) (g.0 ∙ f.0) (g.1 ∙ f.1)
+        (is-tid u t _ (swap (cases_eq u t)) (λ q. g.3 ∙ f.2 q))
+        (λ y. (
+          mine u t s.phase (has-of u s.phase (inr ph)) (skips-mine u t _ _ (omega (arith, y, g.2)) (skips-resolves sh u d t) own),
+          unmarked sh s d l (silent-alone u s.phase ph),
+        ))
 
     go : Hurt sh s o.core i.sends → Marking sh d t l s o
-    go (Unhurt ph ow mo re se) = silent sh d t l s o (quiet (se (Dir d))) (λ x. (rw ph at x, marked-same sh s o.core d l ph (ap (λ f. f d) ow) (λ m. stores-same sh o.core.cache s.cache d l mo)))
+    go (Unhurt ph ow mo re se) =
+        silent sh d t l s o (quiet (se (Dir d)))
+        (λ x. (rw ph at x, marked-same sh s o.core d l ph (ap (λ f. f d) ow) (λ m. stores-same sh o.core.cache s.cache d l mo)))
     go (Rolled ph ph' ow se) = silent-none sh d t l s o Running ph' refl (quiet (se (Dir d)))
     go (Doomed ph ph' ow se) = silent-none sh d t l s o DoomedTid ph' refl (quiet (se (Dir d)))
     go (Aborted u ph ph' ow se) = aborted u ph ph' se
@@ -118,22 +133,33 @@ opens-probing : (u t : ℕ) (w : Bool) → (u == t) ≡ true → w ≡ true → 
 unfolding opens
 opens-probing u t w a b = rw (a, b) refl
 
-pub marks-mine : (sh : Shape) (c : Cache) (u e t : ℕ) → (u == t) ≡ false → among (Marks t) (marks_for sh c u e) + among (Resolves t) (marks_for sh c u e) ≡ 0
+pub marks-mine : (sh : Shape) (c : Cache) (u e t : ℕ) → (u == t) ≡ false
+    → among (Marks t) (marks_for sh c u e) + among (Resolves t) (marks_for sh c u e) ≡ 0
 unfolding marks_for written_lines passes
-marks-mine sh c u e t q = omega (arith, marks-only (Marks t) (λ k. e == home sh k && is_modified c k) (modified_mask c) u (lines sh) (λ l x. ap num q), marks-only (Resolves t) (λ k. e == home sh k && is_modified c k) (modified_mask c) u (lines sh) (λ l x. refl))
+marks-mine sh c u e t q =
+    omega (
+      arith,
+      marks-only (Marks t) (λ k. e == home sh k && is_modified c k) (modified_mask c) u (lines sh) (λ l x. ap num q),
+      marks-only (Resolves t) (λ k. e == home sh k && is_modified c k) (modified_mask c) u (lines sh) (λ l x. refl),
+    )
 
 no-skips : (sh : Shape) (c : Cache) (u e t : ℕ) → among (Skips t) (marks_for sh c u e) ≡ 0
 unfolding marks_for written_lines passes
 no-skips sh c u e t = marks-only (Skips t) (λ k. e == home sh k && is_modified c k) (modified_mask c) u (lines sh) (λ l x. refl)
 
 -- the reply that a core waits for: it marks there what it stores
-marking-here : (sh : Shape) (e u t l : ℕ) (s : CoreState) (o : Out) → s.phase ≡ Probing u → s.owing e ≡ true → o.core.phase ≡ (if all_replied sh (put s.owing e false) then Ready u else Probing u) → o.core.owing ≡ put s.owing e false → o.core.cache ≡ s.cache → o.sends (Dir e) ≡ marks_for sh s.cache u e → Marking sh e t l s o
+marking-here : (sh : Shape) (e u t l : ℕ) (s : CoreState) (o : Out) → s.phase ≡ Probing u → s.owing e ≡ true
+    → o.core.phase ≡ (if all_replied sh (put s.owing e false) then Ready u else Probing u) → o.core.owing ≡ put s.owing e false
+    → o.core.cache ≡ s.cache → o.sends (Dir e) ≡ marks_for sh s.cache u e → Marking sh e t l s o
 unfolding marked_by
 marking-here sh e u t l s o ph ow ph' ow' ca se = record {
   owned = λ x. mine u t s.phase has (skips-mine u t _ _ (rw se at x) (omega arith) own);
   words = rw se (full-for sh s.cache u e);
-  kept = λ x. let y : u ≡ t = last (all_replied sh (put s.owing e false)) (rw ph' at x) in (mine u t s.phase has y, rw (se, ph, ow, ca, marks-for sh s.cache u e t l) (after y));
-  once = rw (se, ph, ow, marks-for sh s.cache u e t l) (no-more ((u == t) && stores_line sh s.cache e l) (has_marked (Probing u)) (stores_line sh s.cache e l));
+  kept = λ x. let y : u ≡ t = last (all_replied sh (put s.owing e false)) (rw ph' at x) in
+      (mine u t s.phase has y, rw (se, ph, ow, ca, marks-for sh s.cache u e t l) (after y));
+  once =
+      rw (se, ph, ow, marks-for sh s.cache u e t l)
+      (no-more ((u == t) && stores_line sh s.cache e l) (has_marked (Probing u)) (stores_line sh s.cache e l));
   opened = λ x. opening (rw se at x);
   skips = λ x. absurd (omega (arith, rw se at x, no-skips sh s.cache u e t));
 }
@@ -153,23 +179,39 @@ marking-here sh e u t l s o ph ow ph' ow' ca se = record {
     free : o.core.owing e ≡ false
     free = ap (λ f. f e) ow' ∙ put_same e s.owing
 
-    after : u ≡ t → num ((u == t) && stores_line sh s.cache e l) + num (has_marked (Probing u) && (not true && stores_line sh s.cache e l)) ≡ num (has_marked o.core.phase && (not (o.core.owing e) && stores_line sh s.cache e l))
-    after y = let b : (u == t) ≡ true = grind (arith, nat_tests) in rw (b, marked, free) (nothing-more (has_marked (Probing u)) (stores_line sh s.cache e l))
+    after : u ≡ t → num ((u == t) && stores_line sh s.cache e l) + num (has_marked (Probing u) && (not true && stores_line sh s.cache e l))
+        ≡ num (has_marked o.core.phase && (not (o.core.owing e) && stores_line sh s.cache e l))
+    after y = let b : (u == t) ≡ true = grind (arith, nat_tests) in
+        rw (b, marked, free) (nothing-more (has_marked (Probing u)) (stores_line sh s.cache e l))
 
     opening : 1 ≤ among (MarkOf t l) (marks_for sh s.cache u e) → opens s.phase (writes_at sh s.cache e) t ≡ true
-    opening x = let y : (u == t) && stores_line sh s.cache e l ≡ true = num-one _ (omega (arith, x, marks-for sh s.cache u e t l)) in rw ph (opens-probing u t (writes_at sh s.cache e) (first-is _ _ y) (stores-writes sh s.cache e l (second-is _ _ y)))
+    opening x = let y : (u == t) && stores_line sh s.cache e l ≡ true = num-one _ (omega (arith, x, marks-for sh s.cache u e t l)) in
+        rw ph (opens-probing u t (writes_at sh s.cache e) (first-is _ _ y) (stores-writes sh s.cache e l (second-is _ _ y)))
 
 -- a directory where it doesn't mark
-marking-away : (sh : Shape) (e u d t l : ℕ) (s : CoreState) (o : Out) → (d ≡ e → ⊥) → s.phase ≡ Probing u → o.core.phase ≡ (if all_replied sh (put s.owing e false) then Ready u else Probing u) → o.core.owing ≡ put s.owing e false → o.core.cache ≡ s.cache → o.sends (Dir d) ≡ [] → Marking sh d t l s o
+marking-away : (sh : Shape) (e u d t l : ℕ) (s : CoreState) (o : Out) → (d ≡ e → ⊥) → s.phase ≡ Probing u
+    → o.core.phase ≡ (if all_replied sh (put s.owing e false) then Ready u else Probing u) → o.core.owing ≡ put s.owing e false
+    → o.core.cache ≡ s.cache → o.sends (Dir d) ≡ [] → Marking sh d t l s o
 unfolding marked_by
 marking-away sh e u d t l s o n ph ph' ow' ca se =
     let was : has_marked s.phase ≡ true = rw ph (both-marked false u) in
     let now : has_marked o.core.phase ≡ true = rw ph' (both-marked (all_replied sh (put s.owing e false)) u) in
     let same : o.core.owing d ≡ s.owing d = ap (λ f. f d) ow' ∙ put_other e d s.owing n in
-    silent sh d t l s o (rw se (unsaid-nothing t l)) (λ x. (mine u t s.phase (has-of u s.phase (inl (inl ph))) (last-tid (all_replied sh (put s.owing e false)) u t (rw ph' at x)), rw (ca, was, now, same) refl))
+    silent sh d t l s o (rw se (unsaid-nothing t l))
+    (λ x. (
+      mine u t s.phase (has-of u s.phase (inl (inl ph))) (last-tid (all_replied sh (put s.owing e false)) u t (rw ph' at x)),
+      rw (ca, was, now, same) refl,
+    ))
 
-marking-alone : (sh : Shape) (e u d t l : ℕ) (s : CoreState) (o : Out) → s.phase ≡ Overflowing (Some u) → o.core.phase ≡ (if all_replied sh (put s.owing e false) then Solo u else Overflowing (Some u)) → o.sends (Dir d) ≡ [] → Marking sh d t l s o
-marking-alone sh e u d t l s o ph ph' se = silent sh d t l s o (rw se (unsaid-nothing t l)) (λ x. (mine u t s.phase (has-of u s.phase (inr (inl ph))) (last-alone (all_replied sh (put s.owing e false)) u t (rw ph' at x)), unmarked sh s d l (silent-alone u s.phase (inl ph)) ∙ sym (unmarked sh o.core d l (rw ph' (none-marked (all_replied sh (put s.owing e false)) u)))))
+marking-alone : (sh : Shape) (e u d t l : ℕ) (s : CoreState) (o : Out) → s.phase ≡ Overflowing (Some u)
+    → o.core.phase ≡ (if all_replied sh (put s.owing e false) then Solo u else Overflowing (Some u)) → o.sends (Dir d) ≡ []
+    → Marking sh d t l s o
+marking-alone sh e u d t l s o ph ph' se = silent sh d t l s o (rw se (unsaid-nothing t l))
+    (λ x. (
+      mine u t s.phase (has-of u s.phase (inr (inl ph))) (last-alone (all_replied sh (put s.owing e false)) u t (rw ph' at x)),
+      unmarked sh s d l (silent-alone u s.phase (inl ph))
+          ∙ sym (unmarked sh o.core d l (rw ph' (none-marked (all_replied sh (put s.owing e false)) u))),
+    ))
 
 marking-replied : (sh : Shape) (e u d t l : ℕ) (s : CoreState) (o : Out) → Replied sh e u s o → Marking sh d t l s o
 marking-replied sh e u d t l s o (Ignored q f) = rw q (marking-steady sh d t l s (ignored s) (ignored-steady s))
@@ -200,11 +242,15 @@ pub record Granting (sh : Shape) (u d t l : ℕ) (o : Out) : Type 0 where
   pub owned : (u ≡ t → ⊥) → among (Marks t) (o.sends (Dir d)) + among (Resolves t) (o.sends (Dir d)) ≡ 0
   pub kept : d < sh.dirs → has_tid o.core.phase t ≡ true → (u ≡ t) × (marked_by sh o.core d l ≡ 0)
 
-told-grant : (sh : Shape) (c : Cache) (u d t l : ℕ) → (among EmptyMarks (grant_sends sh c u (Dir d)) ≡ 0) × (among (MarkOf t l) (grant_sends sh c u (Dir d)) ≡ 0) × (((u == t) ≡ false) → among (Marks t) (grant_sends sh c u (Dir d)) + among (Resolves t) (grant_sends sh c u (Dir d)) ≡ 0)
+told-grant : (sh : Shape) (c : Cache) (u d t l : ℕ) → (among EmptyMarks (grant_sends sh c u (Dir d)) ≡ 0)
+    × (among (MarkOf t l) (grant_sends sh c u (Dir d)) ≡ 0)
+    × (((u == t) ≡ false) → among (Marks t) (grant_sends sh c u (Dir d)) + among (Resolves t) (grant_sends sh c u (Dir d)) ≡ 0)
 unfolding grant_sends among passes
 told-grant sh c u d t l = (grind arith, grind arith, λ q. grind arith)
 
-told-probe : (sh : Shape) (u d t l : ℕ) → (among EmptyMarks (probe_all sh u (Dir d)) ≡ 0) × (among (MarkOf t l) (probe_all sh u (Dir d)) ≡ 0) × (among (Marks t) (probe_all sh u (Dir d)) + among (Resolves t) (probe_all sh u (Dir d)) ≡ 0)
+told-probe : (sh : Shape) (u d t l : ℕ) → (among EmptyMarks (probe_all sh u (Dir d)) ≡ 0)
+    × (among (MarkOf t l) (probe_all sh u (Dir d)) ≡ 0)
+    × (among (Marks t) (probe_all sh u (Dir d)) + among (Resolves t) (probe_all sh u (Dir d)) ≡ 0)
 unfolding probe_all among passes
 told-probe sh u d t l = (grind arith, grind arith, grind arith)
 
@@ -226,11 +272,23 @@ granting sh u d t l s w = go s.phase w
     same : (u == t) ≡ true → u ≡ t
     same e = grind (arith, nat_tests)
 
-    quiet : (q : Phase) (b : Bool) → d < sh.dirs → is_probed sh s.cache d ≡ b → num (has_marked q && (not b && stores_line sh s.cache d l)) ≡ 0
+    quiet : (q : Phase) (b : Bool) → d < sh.dirs → is_probed sh s.cache d ≡ b
+        → num (has_marked q && (not b && stores_line sh s.cache d l)) ≡ 0
     quiet q a x e = grind (arith, nat_tests, unprobed-stores)
 
     go : (q : Phase) → waits_for_tid q ≡ true → Granting sh u d t l (grant_in_phase sh u s q)
-    go AwaitTid h = let f = told-grant sh s.cache u d t l in record { words = f.0; marks = f.1; owned = λ n. f.2 (other n); kept = λ x y. (tid-probing (any_below (is_probed sh s.cache) sh.dirs) u t y, quiet (probing_or_ready (any_below (is_probed sh s.cache) sh.dirs) u) (is_probed sh s.cache d) x refl) }
-    go DoomedTid h = let f = told-skip sh u d t l in record { words = f.0; marks = f.1; owned = λ n. f.2 (other n); kept = λ x y. absurd (cc) }
-    go (Overflowing None) h = let f = told-probe sh u d t l in record { words = f.0; marks = f.1; owned = λ n. f.2; kept = λ x y. (same y, refl) }
+    go AwaitTid h = let f = told-grant sh s.cache u d t l in
+        record {
+          words = f.0;
+          marks = f.1;
+          owned = λ n. f.2 (other n);
+          kept = λ x y. (
+            tid-probing (any_below (is_probed sh s.cache) sh.dirs) u t y,
+            quiet (probing_or_ready (any_below (is_probed sh s.cache) sh.dirs) u) (is_probed sh s.cache d) x refl,
+          );
+        }
+    go DoomedTid h = let f = told-skip sh u d t l in
+        record { words = f.0; marks = f.1; owned = λ n. f.2 (other n); kept = λ x y. absurd (cc) }
+    go (Overflowing None) h = let f = told-probe sh u d t l in
+        record { words = f.0; marks = f.1; owned = λ n. f.2; kept = λ x y. (same y, refl) }
     go _ h = absurd (cc)

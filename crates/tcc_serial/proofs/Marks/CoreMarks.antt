@@ -9,21 +9,26 @@ use Rattle.tcc_serial.proofs.Names.{Skips, among, passes, stores_line}
 use Rattle.tcc_serial.proofs.Counts.Links.{among-append, among-flat_map_none}
 
 -- marks of some lines, one each
-pub one-mark : (p : ℕ → Bool) (f : ℕ → ℕ) (u t l n : ℕ) → among (MarkOf t l) (flat_map (λ k. Mark k (f k) u ∷ []) (those p n)) ≡ num ((u == t) && (nat_lt l n && p l))
+pub one-mark : (p : ℕ → Bool) (f : ℕ → ℕ) (u t l n : ℕ)
+    → among (MarkOf t l) (flat_map (λ k. Mark k (f k) u ∷ []) (those p n)) ≡ num ((u == t) && (nat_lt l n && p l))
 unfolding among passes those
 one-mark p f u t l zero = grind (arith, nat_tests)
 one-mark p f u t l (suc n) = rw (flat_map-append, among-append, one-mark p f u t l n) (go (p n) refl)
   where
-    go : (b : Bool) → p n ≡ b → num ((u == t) && (nat_lt l n && p l)) + among (MarkOf t l) (flat_map (λ k. Mark k (f k) u ∷ []) (if b then n ∷ [] else [])) ≡ num ((u == t) && (nat_lt l (suc n) && p l))
+    go : (b : Bool) → p n ≡ b
+        → num ((u == t) && (nat_lt l n && p l)) + among (MarkOf t l) (flat_map (λ k. Mark k (f k) u ∷ []) (if b then n ∷ [] else [])) ≡ num
+        ((u == t) && (nat_lt l (suc n) && p l))
     go b q = grind (arith, nat_tests)
 
 -- and none of another kind
-pub marks-only : (k : Kind) (p : ℕ → Bool) (f : ℕ → ℕ) (u n : ℕ) → ((l x : ℕ) → num (passes k (Mark l x u)) ≡ 0) → among k (flat_map (λ l. Mark l (f l) u ∷ []) (those p n)) ≡ 0
+pub marks-only : (k : Kind) (p : ℕ → Bool) (f : ℕ → ℕ) (u n : ℕ) → ((l x : ℕ) → num (passes k (Mark l x u)) ≡ 0)
+    → among k (flat_map (λ l. Mark l (f l) u ∷ []) (those p n)) ≡ 0
 unfolding among
 marks-only k p f u n h = among-flat_map_none k (λ l. Mark l (f l) u ∷ []) (λ l. omega (arith, h l (f l))) (those p n)
 
 -- none is empty, where f is no mask of nothing
-pub full-marks : (p : ℕ → Bool) (f : ℕ → ℕ) (u n : ℕ) → ((l : ℕ) → p l ≡ true → 0 < f l) → among EmptyMarks (flat_map (λ k. Mark k (f k) u ∷ []) (those p n)) ≡ 0
+pub full-marks : (p : ℕ → Bool) (f : ℕ → ℕ) (u n : ℕ) → ((l : ℕ) → p l ≡ true → 0 < f l)
+    → among EmptyMarks (flat_map (λ k. Mark k (f k) u ∷ []) (those p n)) ≡ 0
 unfolding among passes those
 full-marks p f u zero h = refl
 full-marks p f u (suc n) h = rw (flat_map-append, among-append, full-marks p f u n h) (go (p n) refl)
@@ -39,7 +44,8 @@ some-mask p _ l e = rw e (omega arith)
 
 pub modified-full : (c : Cache) (l : ℕ) → is_modified c l ≡ true → 0 < modified_mask c l
 unfolding is_modified any_word modified_mask
-modified-full c l e = let x = any_below-found (λ k. c.modified (word_at l k)) 8 e in some-mask (λ k. c.modified (word_at l k)) (x.0) (x.1) (x.2)
+modified-full c l e = let x = any_below-found (λ k. c.modified (word_at l k)) 8 e in
+    some-mask (λ k. c.modified (word_at l k)) (x.0) (x.1) (x.2)
 
 pub holds-found : (sp : Spilled) (l : ℕ) → holds sp l ≡ true → (k : ℕ) × (k < 8) × (is_some (sp (word_at l k)) ≡ true)
 unfolding holds any_word
@@ -86,15 +92,20 @@ solo-mark sh c sp u d t l = go (nat_lt d sh.dirs) (solo_writes_at sh c sp d)
     p k = d == home sh k && is_written c sp k
 
     backs : among (MarkOf t l) (solo_write_backs sh sp u d) ≡ 0
-    backs = among-flat_map_none (MarkOf t l) (λ k. WriteBack k (spilled_mask sp k) (spilled_words sp k) u ∷ []) (λ k. refl) (those (λ k. d == home sh k && holds sp k) (lines sh))
+    backs = among-flat_map_none (MarkOf t l) (λ k. WriteBack k (spilled_mask sp k) (spilled_words sp k) u ∷ [])
+        (λ k. refl) (those (λ k. d == home sh k && holds sp k) (lines sh))
 
     few : (b : Bool) → num ((u == t) && b) ≤ num (u == t)
     few b = grind (arith, nat_tests)
 
-    go : (a w : Bool) → among (MarkOf t l) (if a then (if w then flat_map (λ k. Mark k (written_mask c sp k) u ∷ []) (those p (lines sh)) ++ Commit u (count_below p (lines sh)) ∷ [] else Skip u ∷ []) ++ solo_write_backs sh sp u d else []) ≤ num (u == t)
+    go : (a w : Bool)
+        → among (MarkOf t l) (if a
+        then (if w then flat_map (λ k. Mark k (written_mask c sp k) u ∷ []) (those p (lines sh))
+        ++ Commit u (count_below p (lines sh)) ∷ [] else Skip u ∷ []) ++ solo_write_backs sh sp u d else []) ≤ num (u == t)
     go false w = omega arith
     go true false = rw (among-append, backs) (omega arith)
-    go true true = rw (among-append, among-append, backs, one-mark p (written_mask c sp) u t l (lines sh)) (omega (arith, few (nat_lt l (lines sh) && p l)))
+    go true true = rw (among-append, among-append, backs, one-mark p (written_mask c sp) u t l (lines sh))
+        (omega (arith, few (nat_lt l (lines sh) && p l)))
 
 pub solo-full : (sh : Shape) (c : Cache) (sp : Spilled) (u d : ℕ) → among EmptyMarks (solo_sends sh c sp u (Dir d)) ≡ 0
 unfolding solo_sends solo_marks_or_skip solo_write_backs among passes
@@ -107,19 +118,27 @@ solo-full sh c sp u d = go (nat_lt d sh.dirs) (solo_writes_at sh c sp d)
     second l q = grind arith
 
     backs : among EmptyMarks (solo_write_backs sh sp u d) ≡ 0
-    backs = among-flat_map_none EmptyMarks (λ k. WriteBack k (spilled_mask sp k) (spilled_words sp k) u ∷ []) (λ k. refl) (those (λ k. d == home sh k && holds sp k) (lines sh))
+    backs = among-flat_map_none EmptyMarks (λ k. WriteBack k (spilled_mask sp k) (spilled_words sp k) u ∷ [])
+        (λ k. refl) (those (λ k. d == home sh k && holds sp k) (lines sh))
 
-    go : (a w : Bool) → among EmptyMarks (if a then (if w then flat_map (λ k. Mark k (written_mask c sp k) u ∷ []) (those p (lines sh)) ++ Commit u (count_below p (lines sh)) ∷ [] else Skip u ∷ []) ++ solo_write_backs sh sp u d else []) ≡ 0
+    go : (a w : Bool)
+        → among EmptyMarks (if a
+        then (if w then flat_map (λ k. Mark k (written_mask c sp k) u ∷ []) (those p (lines sh))
+        ++ Commit u (count_below p (lines sh)) ∷ [] else Skip u ∷ []) ++ solo_write_backs sh sp u d else []) ≡ 0
     go false w = refl
     go true false = rw (among-append, backs) (omega arith)
-    go true true = rw (among-append, among-append, backs, full-marks p (written_mask c sp) u (lines sh) (λ k q. written-full c sp k (second k q))) (omega arith)
+    go true true =
+        rw (among-append, among-append, backs, full-marks p (written_mask c sp) u (lines sh) (λ k q. written-full c sp k (second k q)))
+        (omega arith)
 
 -- where it skips, it sends no mark
-pub solo-skips : (sh : Shape) (c : Cache) (sp : Spilled) (u d t l : ℕ) → 1 ≤ among (Skips t) (solo_sends sh c sp u (Dir d)) → among (MarkOf t l) (solo_sends sh c sp u (Dir d)) ≡ 0
+pub solo-skips : (sh : Shape) (c : Cache) (sp : Spilled) (u d t l : ℕ) → 1 ≤ among (Skips t) (solo_sends sh c sp u (Dir d))
+    → among (MarkOf t l) (solo_sends sh c sp u (Dir d)) ≡ 0
 unfolding solo_sends solo_marks_or_skip solo_write_backs among passes
 solo-skips sh c sp u d t l h = grind (arith, nat_tests, among-flat_map_none, among-append, marks-only)
 
-pub solo-owned : (sh : Shape) (c : Cache) (sp : Spilled) (u d t : ℕ) → among (Marks t) (solo_sends sh c sp u (Dir d)) + among (Resolves t) (solo_sends sh c sp u (Dir d)) ≡ 0 ⊎ (u ≡ t)
+pub solo-owned : (sh : Shape) (c : Cache) (sp : Spilled) (u d t : ℕ)
+    → among (Marks t) (solo_sends sh c sp u (Dir d)) + among (Resolves t) (solo_sends sh c sp u (Dir d)) ≡ 0 ⊎ (u ≡ t)
 unfolding solo_sends solo_marks_or_skip solo_write_backs among passes
 solo-owned sh c sp u d t = go (cases_eq u t)
   where
@@ -127,16 +146,32 @@ solo-owned sh c sp u d t = go (cases_eq u t)
     p k = d == home sh k && is_written c sp k
 
     backs : (k : Kind) → ((x m : ℕ) (ws : List ℕ) → num (passes k (WriteBack x m ws u)) ≡ 0) → among k (solo_write_backs sh sp u d) ≡ 0
-    backs k e = among-flat_map_none k (λ x. WriteBack x (spilled_mask sp x) (spilled_words sp x) u ∷ []) (λ x. omega (arith, e x (spilled_mask sp x) (spilled_words sp x))) (those (λ x. d == home sh x && holds sp x) (lines sh))
+    backs k e = among-flat_map_none k (λ x. WriteBack x (spilled_mask sp x) (spilled_words sp x) u ∷ [])
+        (λ x. omega (arith, e x (spilled_mask sp x) (spilled_words sp x))) (those (λ x. d == home sh x && holds sp x) (lines sh))
 
     sends : (a w : Bool) → List Msg
-    sends a w = if a then (if w then flat_map (λ k. Mark k (written_mask c sp k) u ∷ []) (those p (lines sh)) ++ Commit u (count_below p (lines sh)) ∷ [] else Skip u ∷ []) ++ solo_write_backs sh sp u d else []
+    sends a w =
+        if a then (if w then flat_map (λ k. Mark k (written_mask c sp k) u ∷ []) (those p (lines sh))
+        ++ Commit u (count_below p (lines sh)) ∷ [] else Skip u ∷ []) ++ solo_write_backs sh sp u d else []
 
     none : (u == t) ≡ false → (a w : Bool) → among (Marks t) (sends a w) + among (Resolves t) (sends a w) ≡ 0
     none q false w = refl
     none q true false = rw (among-append, backs (Marks t) (λ x m ws. refl), among-append, backs (Resolves t) (λ x m ws. refl)) (grind arith)
-    none q true true = rw (among-append, among-append, backs (Marks t) (λ x m ws. refl), marks-only (Marks t) p (written_mask c sp) u (lines sh) (λ x m. rw q refl), among-append, among-append, backs (Resolves t) (λ x m ws. refl), marks-only (Resolves t) p (written_mask c sp) u (lines sh) (λ x m. refl)) (grind arith)
+    none q true true =
+        rw (
+          among-append,
+          among-append,
+          backs (Marks t) (λ x m ws. refl),
+          marks-only (Marks t) p (written_mask c sp) u (lines sh)
+              (λ x m. rw q refl),
+          among-append,
+          among-append,
+          backs (Resolves t) (λ x m ws. refl),
+          marks-only (Resolves t) p (written_mask c sp) u (lines sh) (λ x m. refl),
+        ) (grind arith)
 
-    go : (u ≡ t) ⊎ (u ≡ t → ⊥) → (among (Marks t) (sends (nat_lt d sh.dirs) (solo_writes_at sh c sp d)) + among (Resolves t) (sends (nat_lt d sh.dirs) (solo_writes_at sh c sp d)) ≡ 0) ⊎ (u ≡ t)
+    go : (u ≡ t) ⊎ (u ≡ t → ⊥)
+        → (among (Marks t) (sends (nat_lt d sh.dirs) (solo_writes_at sh c sp d)) + among (Resolves t)
+        (sends (nat_lt d sh.dirs) (solo_writes_at sh c sp d)) ≡ 0) ⊎ (u ≡ t)
     go (inl e) = inr e
     go (inr n) = inl (none (grind (arith, nat_tests)) (nat_lt d sh.dirs) (solo_writes_at sh c sp d))

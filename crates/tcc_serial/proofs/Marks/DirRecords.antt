@@ -19,8 +19,11 @@ pub record Stays (s new : DirState) : Type 0 where
 
 pub data Records (sh : Shape) (s : DirState) (c : ℕ) (m : Msg) (new : DirState) : Type 0 where
   Still : Stays s new → NoCommit m → NoCopy m → Records sh s c m new
-  Came : (k : ℕ) → ((l t : ℕ) → passes (CopyOf l t) m ≡ ((k == l) && (s.lines.tag k == t))) → s.lines.owner k ≡ Some c → ((l : ℕ) → new.lines.tag l ≡ s.lines.tag l) → ((l : ℕ) → new.lines.owner l ≡ (if l == k then None else s.lines.owner l)) → NoCommit m → Records sh s c m new
-  Settles : CountsMarked sh s m → ((l : ℕ) → new.lines.tag l ≡ (if has_mark s.lines l then s.serving.serving else s.lines.tag l)) → ((l : ℕ) → new.lines.owner l ≡ (if has_mark s.lines l then Some c else s.lines.owner l)) → NoCopy m → Records sh s c m new
+  Came : (k : ℕ) → ((l t : ℕ) → passes (CopyOf l t) m ≡ ((k == l) && (s.lines.tag k == t))) → s.lines.owner k ≡ Some c
+      → ((l : ℕ) → new.lines.tag l ≡ s.lines.tag l) → ((l : ℕ) → new.lines.owner l ≡ (if l == k then None else s.lines.owner l))
+      → NoCommit m → Records sh s c m new
+  Settles : CountsMarked sh s m → ((l : ℕ) → new.lines.tag l ≡ (if has_mark s.lines l then s.serving.serving else s.lines.tag l))
+      → ((l : ℕ) → new.lines.owner l ≡ (if has_mark s.lines l then Some c else s.lines.owner l)) → NoCopy m → Records sh s c m new
 
 -- a copy that is dropped isn't the owner's with the line's tag, nor of a later commit
 pub record Dropped (s : DirState) (c : ℕ) (m : Msg) : Type 0 where
@@ -35,17 +38,24 @@ RecordsBy sh s c m (Asks new sends) = Stays s new
 RecordsBy sh s c m (Takes new sends) = Records sh s c m new
 
 no-copy : (s : DirState) (c : ℕ) (m : Msg) → NoCommit m → NoCopy m → Dropped s c m
-no-copy s c m n y = record { commit = n; late = λ l t q. let e = y l t in absurd (cc); other = λ l q. let e = y l (s.lines.tag l) in absurd (cc) }
+no-copy s c m n y = record {
+  commit = n;
+  late = λ l t q. let e = y l t in absurd (cc);
+  other = λ l q. let e = y l (s.lines.tag l) in
+      absurd (cc);
+}
 
 pub dir-records : (sh : Shape) (s : DirState) (c : ℕ) (m : Msg) → RecordsBy sh s c m (dir_deliver sh s c m)
 unfolding passes
 dir-records sh s c m = go (outcome sh s c m)
   where
-    same-records : {new : DirState} → ((l : ℕ) → new.lines.tag l ≡ s.lines.tag l) → ((l : ℕ) → new.lines.owner l ≡ s.lines.owner l) → Stays s new
+    same-records : {new : DirState} → ((l : ℕ) → new.lines.tag l ≡ s.lines.tag l) → ((l : ℕ) → new.lines.owner l ≡ s.lines.owner l)
+        → Stays s new
     same-records f g = record { tags = f; owners = g }
 
     -- a copy with the line's tag isn't the owner's
-    other : (k l g : ℕ) (b : Bool) → (k == l) ≡ b → (b && (g == s.lines.tag l)) ≡ true → ((s.lines.tag k == g) && is_owner (s.lines.owner k) c) ≡ false → is_this (s.lines.owner l) c ≡ false
+    other : (k l g : ℕ) (b : Bool) → (k == l) ≡ b → (b && (g == s.lines.tag l)) ≡ true
+        → ((s.lines.tag k == g) && is_owner (s.lines.owner k) c) ≡ false → is_this (s.lines.owner l) c ≡ false
     other k l g a z y e = grind (arith, nat_tests)
 
     late : (k l t g : ℕ) (b : Bool) → (k == l) ≡ b → (b && (g == t)) ≡ true → g ≤ s.lines.tag k → t ≤ s.lines.tag l

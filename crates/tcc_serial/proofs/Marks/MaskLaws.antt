@@ -19,12 +19,15 @@ rising-at last k [] x h l e = absurd (omega arith)
 rising-at last zero (c ∷ cs) x h l e = let q : c.tid.0 ≡ x.tid.0 = ap (λ y. y.tid.0) e in omega (arith, h.0)
 rising-at last (suc k) (c ∷ cs) x h l e = omega (arith, h.0, rising-at c.tid.0 k cs x (h.1) (omega arith) e)
 
-same-at : (last i j : ℕ) (cs : List Noted) (x y : Noted) → IsRising last cs → x.tid.0 ≡ y.tid.0 → i < length cs → slice_index_or cs i x ≡ x → j < length cs → slice_index_or cs j y ≡ y → x ≡ y
+same-at : (last i j : ℕ) (cs : List Noted) (x y : Noted) → IsRising last cs → x.tid.0 ≡ y.tid.0 → i < length cs → slice_index_or cs i x ≡ x
+    → j < length cs → slice_index_or cs j y ≡ y → x ≡ y
 unfolding IsRising
 same-at last i j [] x y h t a p b q = absurd (omega arith)
 same-at last zero zero (c ∷ cs) x y h t a p b q = sym p ∙ q
-same-at last zero (suc j) (c ∷ cs) x y h t a p b q = let r : c.tid.0 ≡ x.tid.0 = ap (λ z. z.tid.0) p in absurd (omega (arith, t, rising-at c.tid.0 j cs y (h.1) (omega arith) q))
-same-at last (suc i) zero (c ∷ cs) x y h t a p b q = let r : c.tid.0 ≡ y.tid.0 = ap (λ z. z.tid.0) q in absurd (omega (arith, t, rising-at c.tid.0 i cs x (h.1) (omega arith) p))
+same-at last zero (suc j) (c ∷ cs) x y h t a p b q = let r : c.tid.0 ≡ x.tid.0 = ap (λ z. z.tid.0) p in
+    absurd (omega (arith, t, rising-at c.tid.0 j cs y (h.1) (omega arith) q))
+same-at last (suc i) zero (c ∷ cs) x y h t a p b q = let r : c.tid.0 ≡ y.tid.0 = ap (λ z. z.tid.0) q in
+    absurd (omega (arith, t, rising-at c.tid.0 i cs x (h.1) (omega arith) p))
 same-at last (suc i) (suc j) (c ∷ cs) x y h t a p b q = same-at c.tid.0 i j cs x y (h.1) t (omega arith) p (omega arith) q
 
 pub same-commit : (cs : List Noted) (x y : Noted) → IsRising 0 cs → Contains cs x → Contains cs y → x.tid.0 ≡ y.tid.0 → x ≡ y
@@ -47,13 +50,17 @@ served-marks : (sh : Shape) (gs : List Grant) (w : World) → KeptMarks sh gs w 
 unfolding pair
 served-marks sh gs w m q = record {
   granted = λ d l h. granted d l h (cases_lt (w.dirs d).serving.serving w.next);
-  stored = λ c d l x y t h. marked-stores sh (w.cores c) d l (omega (arith, marked-one l (pair w c d) h, (m c d (w.dirs d).serving.serving l).held x y t));
+  stored =
+      λ c d l x y t h. marked-stores sh (w.cores c) d l
+      (omega (arith, marked-one l (pair w c d) h, (m c d (w.dirs d).serving.serving l).held x y t));
   masked = λ c d l x y t h. marked-right l (modified_mask (w.cores c).cache l) (pair w c d) h (q c d (w.dirs d).serving.serving l x y t);
 }
   where
-    granted : (d l : ℕ) → has_mark (w.dirs d).lines l ≡ true → ((w.dirs d).serving.serving < w.next) ⊎ (w.next ≤ (w.dirs d).serving.serving) → (w.dirs d).serving.serving < w.next
+    granted : (d l : ℕ) → has_mark (w.dirs d).lines l ≡ true → ((w.dirs d).serving.serving < w.next) ⊎ (w.next ≤ (w.dirs d).serving.serving)
+        → (w.dirs d).serving.serving < w.next
     granted d l h (inl x) = x
-    granted d l h (inr x) = let n : num (nat_le w.next (w.dirs d).serving.serving) ≡ 1 = grind (arith, nat_tests) in absurd (omega (arith, marked-one l (pair w 0 d) h, (m 0 d (w.dirs d).serving.serving l).fresh (omega (arith, n))))
+    granted d l h (inr x) = let n : num (nat_le w.next (w.dirs d).serving.serving) ≡ 1 = grind (arith, nat_tests) in
+        absurd (omega (arith, marked-one l (pair w 0 d) h, (m 0 d (w.dirs d).serving.serving l).fresh (omega (arith, n))))
 
 -- the commits of the list
 one-any : (t : ℕ) (m : Msg) → num (passes (Commits t) m) ≤ num (passes Any m)
@@ -74,37 +81,52 @@ commits-marks sh gs h k = record { stored = stored; counted = counted; sent = se
     w = h.world
 
     inside : (x : Noted) (d : ℕ) → 1 ≤ live (Commits x.tid.0) (w.net (Core x.core.0) (Dir d)) → x.core.0 < sh.cores
-    inside x d o = inside_from sh x.core.0 (live Any (w.net (Core x.core.0) (Dir d))) ((k.kept.told.tids.inside x.core.0 d).out) (omega (arith, o, few-any x.tid.0 (w.net (Core x.core.0) (Dir d))))
+    inside x d o = inside_from sh x.core.0 (live Any (w.net (Core x.core.0) (Dir d))) ((k.kept.told.tids.inside x.core.0 d).out)
+        (omega (arith, o, few-any x.tid.0 (w.net (Core x.core.0) (Dir d))))
 
-    sent : (x : Noted) (d l : ℕ) → Contains h.commits x → d < sh.dirs → 1 ≤ live (Commits x.tid.0) (w.net (Core x.core.0) (Dir d)) → MarkedWith x.tid.0 l (stored_mask sh d x.stores l) (pair w x.core.0 d)
+    sent : (x : Noted) (d l : ℕ) → Contains h.commits x → d < sh.dirs → 1 ≤ live (Commits x.tid.0) (w.net (Core x.core.0) (Dir d))
+        → MarkedWith x.tid.0 l (stored_mask sh d x.stores l) (pair w x.core.0 d)
     sent x d l c dl o =
         let y = (k.stored x.core.0 d x.tid.0).sent (inside x d o) dl o in
-        subst (λ z. MarkedWith x.tid.0 l (stored_mask sh d z.stores l) (pair w x.core.0 d)) (same-commit h.commits y.commit x (k.owners.rising) (y.noted) c (y.tid)) (y.marks l)
+        subst (λ z. MarkedWith x.tid.0 l (stored_mask sh d z.stores l) (pair w x.core.0 d))
+        (same-commit h.commits y.commit x (k.owners.rising) (y.noted) c (y.tid)) (y.marks l)
 
-    stored : (x : Noted) (d : ℕ) → Contains h.commits x → d < sh.dirs → 1 ≤ live (Commits x.tid.0) (w.net (Core x.core.0) (Dir d)) → stores_at sh d x.stores ≡ true
+    stored : (x : Noted) (d : ℕ) → Contains h.commits x → d < sh.dirs → 1 ≤ live (Commits x.tid.0) (w.net (Core x.core.0) (Dir d))
+        → stores_at sh d x.stores ≡ true
     stored x d c dl o =
         let y = (k.stored x.core.0 d x.tid.0).sent (inside x d o) dl o in
         subst (λ z. stores_at sh d z.stores ≡ true) (same-commit h.commits y.commit x (k.owners.rising) (y.noted) c (y.tid)) (y.stored)
 
-    counted : (x : Noted) (d n : ℕ) → Contains h.commits x → d < sh.dirs → 1 ≤ live (CommitOf x.tid.0 n) (w.net (Core x.core.0) (Dir d)) → count_below (λ l. nat_lt 0 (stored_mask sh d x.stores l)) (lines sh) ≡ n
+    counted : (x : Noted) (d n : ℕ) → Contains h.commits x → d < sh.dirs → 1 ≤ live (CommitOf x.tid.0 n) (w.net (Core x.core.0) (Dir d))
+        → count_below (λ l. nat_lt 0 (stored_mask sh d x.stores l)) (lines sh) ≡ n
     counted x d n c dl o =
-        let z : 1 ≤ live (Commits x.tid.0) (w.net (Core x.core.0) (Dir d)) = omega (arith, o, few-commits x.tid.0 n (w.net (Core x.core.0) (Dir d))) in
-        sym (total-num (λ l. nat_lt 0 (stored_mask sh d x.stores l)) (lines sh)) ∙ total-same (λ l. num (nat_lt 0 (stored_mask sh d x.stores l))) (λ l. marks_of x.tid.0 l (pair w x.core.0 d)) (lines sh) (λ l b. sym ((sent x d l c dl z).one)) ∙ ((k.counted x.core.0 d x.tid.0 (inside x d z)).counted n dl o).sum
+        let z : 1 ≤ live (Commits x.tid.0) (w.net (Core x.core.0) (Dir d)) =
+        omega (arith, o, few-commits x.tid.0 n (w.net (Core x.core.0) (Dir d))) in
+        sym (total-num (λ l. nat_lt 0 (stored_mask sh d x.stores l)) (lines sh))
+        ∙ total-same (λ l. num (nat_lt 0 (stored_mask sh d x.stores l))) (λ l. marks_of x.tid.0 l (pair w x.core.0 d)) (lines sh)
+        (λ l b. sym ((sent x d l c dl z).one)) ∙ ((k.counted x.core.0 d x.tid.0 (inside x d z)).counted n dl o).sum
 
-    taken : (x : Noted) (d l : ℕ) → Contains h.commits x → d < sh.dirs → (w.dirs d).serving.serving ≡ x.tid.0 → 1 ≤ live (CommitOf x.tid.0 (count_below (has_mark (w.dirs d).lines) (lines sh))) (w.net (Core x.core.0) (Dir d)) → (w.dirs d).lines.mark l ≡ stored_mask sh d x.stores l
+    taken : (x : Noted) (d l : ℕ) → Contains h.commits x → d < sh.dirs → (w.dirs d).serving.serving ≡ x.tid.0
+        → 1 ≤ live (CommitOf x.tid.0 (count_below (has_mark (w.dirs d).lines) (lines sh))) (w.net (Core x.core.0) (Dir d))
+        → (w.dirs d).lines.mark l ≡ stored_mask sh d x.stores l
     taken x d l c dl e o =
         let n : ℕ = count_below (has_mark (w.dirs d).lines) (lines sh) in
-        let z : 1 ≤ live (Commits x.tid.0) (w.net (Core x.core.0) (Dir d)) = omega (arith, o, few-commits x.tid.0 n (w.net (Core x.core.0) (Dir d))) in
+        let z : 1 ≤ live (Commits x.tid.0) (w.net (Core x.core.0) (Dir d)) =
+        omega (arith, o, few-commits x.tid.0 n (w.net (Core x.core.0) (Dir d))) in
         let counts : CountsMarks sh n x.tid.0 (pair w x.core.0 d) = (k.counted x.core.0 d x.tid.0 (inside x d z)).counted n dl o in
-        taken-marks l (stored_mask sh d x.stores l) (pair w x.core.0 d) (none-away sh l (pair w x.core.0 d) (rw e counts)) (rw e (sent x d l c dl z))
+        taken-marks l (stored_mask sh d x.stores l) (pair w x.core.0 d) (none-away sh l (pair w x.core.0 d) (rw e counts))
+        (rw e (sent x d l c dl z))
 
-    owed : (x : Noted) (d l : ℕ) → Contains h.commits x → d < sh.dirs → (w.dirs d).serving.serving ≡ x.tid.0 → 1 ≤ (w.dirs d).owed → (w.dirs d).lines.mark l ≡ stored_mask sh d x.stores l
+    owed : (x : Noted) (d l : ℕ) → Contains h.commits x → d < sh.dirs → (w.dirs d).serving.serving ≡ x.tid.0 → 1 ≤ (w.dirs d).owed
+        → (w.dirs d).lines.mark l ≡ stored_mask sh d x.stores l
     owed x d l c dl e o =
         let y = (k.stored 0 d 0).settled dl o in
-        subst (λ z. (w.dirs d).lines.mark l ≡ stored_mask sh d z.stores l) (same-commit h.commits y.commit x (k.owners.rising) (y.noted) c (y.tid ∙ e)) (y.marks l)
+        subst (λ z. (w.dirs d).lines.mark l ≡ stored_mask sh d z.stores l)
+        (same-commit h.commits y.commit x (k.owners.rising) (y.noted) c (y.tid ∙ e)) (y.marks l)
 
 -- along every run
-from_all : (P : Shape → List Noted → World → Type 0) → ((sh : Shape) (gs : List Grant) (h : History) → KeptAll sh gs h → P sh h.commits h.world) → AlwaysSince P
+from_all : (P : Shape → List Noted → World → Type 0)
+    → ((sh : Shape) (gs : List Grant) (h : History) → KeptAll sh gs h → P sh h.commits h.world) → AlwaysSince P
 from_all P f sh p entries ram es = go (run sh p (start entries ram) es) (run-all sh p entries ram es)
   where
     gs : List Grant

@@ -43,7 +43,8 @@ own-mask f t u l k = grind (arith, nat_tests)
 
 masked-for : (sh : Shape) (c : Cache) (u e t l : ℕ) → among (MarkMask t l (modified_mask c l)) (marks_for sh c u e) ≡ 0
 unfolding marks_for among
-masked-for sh c u e t l = among-flat_map_none (MarkMask t l (modified_mask c l)) (λ k. Mark k (modified_mask c k) u ∷ []) (λ k. omega (arith, own-mask (modified_mask c) t u l k)) (written_lines sh c e)
+masked-for sh c u e t l = among-flat_map_none (MarkMask t l (modified_mask c l)) (λ k. Mark k (modified_mask c k) u ∷ [])
+    (λ k. omega (arith, own-mask (modified_mask c) t u l k)) (written_lines sh c e)
 
 pub mask-same : (a b : Cache) (l : ℕ) → ((v : ℕ) → a.modified v ≡ b.modified v) → modified_mask a l ≡ modified_mask b l
 unfolding modified_mask
@@ -52,8 +53,13 @@ mask-same a b l h = ap {A = ℕ → Bool} (λ m. mask_of (λ k. m (word_at l k))
 -- what a core's rules do
 
 -- it marks nothing
-quiet : (sh : Shape) (d t l : ℕ) (s : CoreState) (o : Out) → Unsaid t l (o.sends (Dir d)) → (has_tid o.core.phase t ≡ true → (marked_by sh s d l ≡ 0) ⊎ (modified_mask o.core.cache l ≡ modified_mask s.cache l)) → Masking sh d t l s o
-quiet sh d t l s o u f = record { sent = λ x. omega (arith, u.marks, few-masked t l (modified_mask o.core.cache l) (o.sends (Dir d))); stays = f }
+quiet : (sh : Shape) (d t l : ℕ) (s : CoreState) (o : Out) → Unsaid t l (o.sends (Dir d))
+    → (has_tid o.core.phase t ≡ true → (marked_by sh s d l ≡ 0) ⊎ (modified_mask o.core.cache l ≡ modified_mask s.cache l))
+    → Masking sh d t l s o
+quiet sh d t l s o u f = record {
+  sent = λ x. omega (arith, u.marks, few-masked t l (modified_mask o.core.cache l) (o.sends (Dir d)));
+  stays = f;
+}
 
 -- it has no TID any more
 gone : (sh : Shape) (d t l : ℕ) (s : CoreState) (o : Out) (q : Phase) → o.core.phase ≡ q → has_tid q t ≡ false → Masking sh d t l s o
@@ -80,7 +86,8 @@ masking-exec sh p c d t l s = each-exec sh p c s (λ o. Masking sh d t l s o) go
     go x = masking-steady sh d t l s (out x) (did-steady x)
 
 pub masking-evict : (sh : Shape) (x y d t l : ℕ) (s : CoreState) → IfSome (core_evict sh x y s) (λ o. Masking sh d t l s o)
-masking-evict sh x y d t l s = each-evict sh x y s (λ o. Masking sh d t l s o) (λ k q u z. masking-steady sh d t l s (emptied sh x y k s) (steady-emptied sh x y s k q u z))
+masking-evict sh x y d t l s = each-evict sh x y s (λ o. Masking sh d t l s o)
+    (λ k q u z. masking-steady sh d t l s (emptied sh x y k s) (steady-emptied sh x y s k q u z))
 
 masking-hurt : (sh : Shape) (x d t l : ℕ) (s : CoreState) (o : Out) → Invalidated sh x s o → Masking sh d t l s o
 unfolding has_tid
@@ -101,11 +108,13 @@ masking-hurt sh x d t l s o i = go i.hurt
 
 masking-replied : (sh : Shape) (e u d t l : ℕ) (s : CoreState) (o : Out) → Replied sh e u s o → Masking sh d t l s o
 masking-replied sh e u d t l s o (Ignored q f) = rw q (masking-steady sh d t l s (ignored s) (ignored-steady s))
-masking-replied sh e u d t l s o (Probed ph ow ph' ow' ca se cm) = record { sent = λ x. rw (ca, se) (go (d == e)); stays = λ x. inr (rw ca refl) }
+masking-replied sh e u d t l s o (Probed ph ow ph' ow' ca se cm) =
+    record { sent = λ x. rw (ca, se) (go (d == e)); stays = λ x. inr (rw ca refl) }
   where
     go : (b : Bool) → among (MarkMask t l (modified_mask s.cache l)) (if b then marks_for sh s.cache u e else []) ≡ 0
     go a = grind (arith, nat_tests, masked-for, few-masked, unsaid-nothing)
-masking-replied sh e u d t l s o (Left_alone ph ow ph' ow' ca se cm) = quiet sh d t l s o (rw (ap (λ f. f (Dir d)) se) (unsaid-nothing t l)) (λ x. inr (mask-same o.core.cache s.cache l ca))
+masking-replied sh e u d t l s o (Left_alone ph ow ph' ow' ca se cm) = quiet sh d t l s o (rw (ap (λ f. f (Dir d)) se) (unsaid-nothing t l))
+    (λ x. inr (mask-same o.core.cache s.cache l ca))
 
 pub masking-back : (sh : Shape) (e d t l : ℕ) (s : CoreState) (m : Msg) → IfSome (from_dir sh e s m) (λ o. Masking sh d t l s o)
 masking-back sh e d t l s (ProbeReply u v) = masking-replied sh e u d t l s (probe_reply sh e u s) (reply-cases sh e u s)

@@ -11,7 +11,16 @@ use Rattle.tcc_serial.proofs.Marks.CoreMarks.{some-mask}
 -- a mask has a word exactly where one of its places has p
 no-mask : (p : ℕ → Bool) → ((k : ℕ) → k < 8 → p k ≡ false) → mask_of p ≡ 0
 unfolding mask_of
-no-mask p h = rw (h 0 (omega arith), h 1 (omega arith), h 2 (omega arith), h 3 (omega arith), h 4 (omega arith), h 5 (omega arith), h 6 (omega arith), h 7 (omega arith)) refl
+no-mask p h = rw (
+  h 0 (omega arith),
+  h 1 (omega arith),
+  h 2 (omega arith),
+  h 3 (omega arith),
+  h 4 (omega arith),
+  h 5 (omega arith),
+  h 6 (omega arith),
+  h 7 (omega arith),
+) refl
 
 mask-any : (p : ℕ → Bool) → nat_lt 0 (mask_of p) ≡ any_below p 8
 mask-any p = go (any_below p 8) refl
@@ -36,7 +45,8 @@ any-or p q (suc n) = rw (any-or p q n) (go (any_below p n) (any_below q n) (p n)
     go a b c d = grind (arith, nat_tests)
 
 -- a line at home at the directory has a stored word exactly where its mask has one
-pub stored-line : (sh : Shape) (d : ℕ) (ss : List Stored) (l : ℕ) → num (nat_lt l (lines sh) && (d == home sh l && any_word (stores_word sh.base ss) l)) ≡ num (nat_lt 0 (stored_mask sh d ss l))
+pub stored-line : (sh : Shape) (d : ℕ) (ss : List Stored) (l : ℕ)
+    → num (nat_lt l (lines sh) && (d == home sh l && any_word (stores_word sh.base ss) l)) ≡ num (nat_lt 0 (stored_mask sh d ss l))
 unfolding stored_mask stores_in any_word
 stored-line sh d ss l = grind (arith, nat_tests, mask-any)
 
@@ -46,30 +56,37 @@ unfolding any_below
 any-same p q zero h = refl
 any-same p q (suc n) h = rw (any-same p q n (λ l i. h l (omega (arith, i))), h n (omega arith)) refl
 
-pub stored-any : (sh : Shape) (d : ℕ) (ss : List Stored) (p : ℕ → Bool) → ((l : ℕ) → num (nat_lt l (lines sh) && p l) ≡ num (nat_lt 0 (stored_mask sh d ss l))) → any_below p (lines sh) ≡ stores_at sh d ss
+pub stored-any : (sh : Shape) (d : ℕ) (ss : List Stored) (p : ℕ → Bool)
+    → ((l : ℕ) → num (nat_lt l (lines sh) && p l) ≡ num (nat_lt 0 (stored_mask sh d ss l))) → any_below p (lines sh) ≡ stores_at sh d ss
 unfolding stores_at
 stored-any sh d ss p h = grind (arith, nat_tests, any-same, num-same)
 
 -- where just the words that the stores name are modified
-pub modified-line : (base : ℕ) (c : Cache) (ss : List Stored) (l : ℕ) → ((w : ℕ) → c.modified w ≡ stores_word base ss w) → is_modified c l ≡ any_word (stores_word base ss) l
+pub modified-line : (base : ℕ) (c : Cache) (ss : List Stored) (l : ℕ) → ((w : ℕ) → c.modified w ≡ stores_word base ss w)
+    → is_modified c l ≡ any_word (stores_word base ss) l
 unfolding is_modified
 modified-line base c ss l h = ap {A = ℕ → Bool} (λ f. any_word f l) (λ i w. h w i)
 
-pub modified-stored : (base : ℕ) (c : Cache) (ss : List Stored) (l : ℕ) → ((w : ℕ) → c.modified w ≡ stores_word base ss w) → stores_in base ss l ≡ modified_mask c l
+pub modified-stored : (base : ℕ) (c : Cache) (ss : List Stored) (l : ℕ) → ((w : ℕ) → c.modified w ≡ stores_word base ss w)
+    → stores_in base ss l ≡ modified_mask c l
 unfolding modified_mask stores_in
 modified-stored base c ss l h = sym (ap {A = ℕ → Bool} (λ f. mask_of (λ k. f (word_at l k))) (λ i w. h w i))
 
 -- where they are modified or spilled
-pub written-line : (base : ℕ) (c : Cache) (sp : Spilled) (ss : List Stored) (l : ℕ) → ((w : ℕ) → (c.modified w || is_some (sp w)) ≡ stores_word base ss w) → is_written c sp l ≡ any_word (stores_word base ss) l
+pub written-line : (base : ℕ) (c : Cache) (sp : Spilled) (ss : List Stored) (l : ℕ)
+    → ((w : ℕ) → (c.modified w || is_some (sp w)) ≡ stores_word base ss w) → is_written c sp l ≡ any_word (stores_word base ss) l
 unfolding is_written is_modified holds any_word
-written-line base c sp ss l h = sym (any-or (λ k. c.modified (word_at l k)) (λ k. is_some (sp (word_at l k))) 8) ∙ ap {A = ℕ → Bool} (λ f. any_below (λ k. f (word_at l k)) 8) (λ i w. h w i)
+written-line base c sp ss l h = sym (any-or (λ k. c.modified (word_at l k)) (λ k. is_some (sp (word_at l k))) 8)
+    ∙ ap {A = ℕ → Bool} (λ f. any_below (λ k. f (word_at l k)) 8) (λ i w. h w i)
 
-pub written-stored : (base : ℕ) (c : Cache) (sp : Spilled) (ss : List Stored) (l : ℕ) → ((w : ℕ) → (c.modified w || is_some (sp w)) ≡ stores_word base ss w) → stores_in base ss l ≡ written_mask c sp l
+pub written-stored : (base : ℕ) (c : Cache) (sp : Spilled) (ss : List Stored) (l : ℕ)
+    → ((w : ℕ) → (c.modified w || is_some (sp w)) ≡ stores_word base ss w) → stores_in base ss l ≡ written_mask c sp l
 unfolding written_mask stores_in
 written-stored base c sp ss l h = sym (ap {A = ℕ → Bool} (λ f. mask_of (λ k. f (word_at l k))) (λ i w. h w i))
 
 -- the mask is that of the stored words where the line is at home there, and else empty
-pub stored-cases : (sh : Shape) (d : ℕ) (ss : List Stored) (l : ℕ) → (stored_mask sh d ss l ≡ stores_in sh.base ss l) ⊎ (stored_mask sh d ss l ≡ 0)
+pub stored-cases : (sh : Shape) (d : ℕ) (ss : List Stored) (l : ℕ) → (stored_mask sh d ss l ≡ stores_in sh.base ss l)
+    ⊎ (stored_mask sh d ss l ≡ 0)
 unfolding stored_mask
 stored-cases sh d ss l = go (nat_lt l (lines sh) && d == home sh l)
   where
@@ -78,16 +95,23 @@ stored-cases sh d ss l = go (nat_lt l (lines sh) && d == home sh l)
     go false = inr refl
 
 -- where a core stores
-pub stored-solo : (sh : Shape) (c : Cache) (sp : Spilled) (ss : List Stored) (d : ℕ) → ((w : ℕ) → (c.modified w || is_some (sp w)) ≡ stores_word sh.base ss w) → solo_writes_at sh c sp d ≡ stores_at sh d ss
+pub stored-solo : (sh : Shape) (c : Cache) (sp : Spilled) (ss : List Stored) (d : ℕ)
+    → ((w : ℕ) → (c.modified w || is_some (sp w)) ≡ stores_word sh.base ss w) → solo_writes_at sh c sp d ≡ stores_at sh d ss
 unfolding solo_writes_at
-stored-solo sh c sp ss d h = ap {A = ℕ → Bool} (λ f. any_below (λ l. d == home sh l && f l) (lines sh)) (λ i l. written-line sh.base c sp ss l h i) ∙ stored-any sh d ss (λ l. d == home sh l && any_word (stores_word sh.base ss) l) (stored-line sh d ss)
+stored-solo sh c sp ss d h = ap {A = ℕ → Bool} (λ f. any_below (λ l. d == home sh l && f l) (lines sh))
+    (λ i l. written-line sh.base c sp ss l h i) ∙ stored-any sh d ss (λ l. d == home sh l && any_word (stores_word sh.base ss) l)
+    (stored-line sh d ss)
 
 -- one that isn't alone has spilled nothing
-pub unspilled : (sh : Shape) (c : Cache) (sp : Spilled) (ss : List Stored) → Words sh false c sp ss → (w : ℕ) → c.modified w ≡ stores_word sh.base ss w
+pub unspilled : (sh : Shape) (c : Cache) (sp : Spilled) (ss : List Stored) → Words sh false c sp ss → (w : ℕ)
+    → c.modified w ≡ stores_word sh.base ss w
 unspilled sh c sp ss h w =
     let none : (x : Option ℕ) (b : Bool) → x ≡ None → b ≡ (b || is_some x) = λ x b e. rw e (grind arith) in
     none (sp w) (c.modified w) (h.spilled_alone refl w) ∙ h.named w
 
-pub stored-written : (sh : Shape) (c : Cache) (sp : Spilled) (ss : List Stored) (d : ℕ) → Words sh false c sp ss → writes_at sh c d ≡ stores_at sh d ss
+pub stored-written : (sh : Shape) (c : Cache) (sp : Spilled) (ss : List Stored) (d : ℕ) → Words sh false c sp ss
+    → writes_at sh c d ≡ stores_at sh d ss
 unfolding writes_at
-stored-written sh c sp ss d h = ap {A = ℕ → Bool} (λ f. any_below (λ l. d == home sh l && f l) (lines sh)) (λ i l. modified-line sh.base c ss l (unspilled sh c sp ss h) i) ∙ stored-any sh d ss (λ l. d == home sh l && any_word (stores_word sh.base ss) l) (stored-line sh d ss)
+stored-written sh c sp ss d h = ap {A = ℕ → Bool} (λ f. any_below (λ l. d == home sh l && f l) (lines sh))
+    (λ i l. modified-line sh.base c ss l (unspilled sh c sp ss h) i)
+    ∙ stored-any sh d ss (λ l. d == home sh l && any_word (stores_word sh.base ss) l) (stored-line sh d ss)

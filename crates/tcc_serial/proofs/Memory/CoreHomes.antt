@@ -33,10 +33,19 @@ homely-nothing : (sh : Shape) → HomelyOut sh nothing
 homely-nothing sh d = homely-none sh d
 
 homely-append : (sh : Shape) (d : ℕ) (a b : List Msg) → Homely sh d a → Homely sh d b → Homely sh d (a ++ b)
-homely-append sh d a b x y = record { away = omega (arith, among-append (LinesAway sh.dirs d) a b, x.away, y.away); words = omega (arith, among-append NoWord a b, x.words, y.words) }
+homely-append sh d a b x y =
+    record {
+      away = omega (arith, among-append (LinesAway sh.dirs d) a b, x.away, y.away);
+      words = omega (arith, among-append NoWord a b, x.words, y.words);
+    }
 
-pub homely-those : (sh : Shape) (d : ℕ) (f : ℕ → List Msg) (p : ℕ → Bool) (n : ℕ) → ((l : ℕ) → p l ≡ true → Homely sh d (f l)) → Homely sh d (flat_map f (those p n))
-homely-those sh d f p n h = record { away = among-those_none (LinesAway sh.dirs d) f p n (λ l e. (h l e).away); words = among-those_none NoWord f p n (λ l e. (h l e).words) }
+pub homely-those : (sh : Shape) (d : ℕ) (f : ℕ → List Msg) (p : ℕ → Bool) (n : ℕ) → ((l : ℕ) → p l ≡ true → Homely sh d (f l))
+    → Homely sh d (flat_map f (those p n))
+homely-those sh d f p n h =
+    record {
+      away = among-those_none (LinesAway sh.dirs d) f p n (λ l e. (h l e).away);
+      words = among-those_none NoWord f p n (λ l e. (h l e).words);
+    }
 
 -- to the home of a line
 homely-to : (sh : Shape) (h d : ℕ) (ms : List Msg) → ((d ≡ h) → Homely sh d ms) → Homely sh d (to (Dir h) ms (Dir d))
@@ -75,7 +84,8 @@ one-flush sh d l m ws t e s = record { away = omega (arith, at-home sh d l e); w
 
 dirty-full : (c : Cache) (l : ℕ) → is_dirty c l ≡ true → 0 < dirty_mask c l
 unfolding is_dirty any_word dirty_mask
-dirty-full c l e = let x = any_below-found (λ k. is_some (c.dirty (word_at l k))) 8 e in some-mask (λ k. is_some (c.dirty (word_at l k))) (x.0) (x.1) (x.2)
+dirty-full c l e = let x = any_below-found (λ k. is_some (c.dirty (word_at l k))) 8 e in
+    some-mask (λ k. is_some (c.dirty (word_at l k))) (x.0) (x.1) (x.2)
 
 spilled-full : (sp : Spilled) (l : ℕ) → holds sp l ≡ true → 0 < spilled_mask sp l
 unfolding spilled_mask
@@ -85,7 +95,9 @@ homely-flushed : (sh : Shape) (c : Cache) (l : ℕ) → HomelyOut sh (flush_line
 unfolding flush_line dirty_copy
 homely-flushed sh c l d = homely-to sh (home sh l) d (flush_of (dirty_copy c l)) (λ e. go (is_dirty c l) refl e)
   where
-    go : (b : Bool) → is_dirty c l ≡ b → d ≡ home sh l → Homely sh d (flush_of (cond b (Some (record { line = l; mask = dirty_mask c l; words = dirty_words c l; tag = dirty_tag c l })) None))
+    go : (b : Bool) → is_dirty c l ≡ b → d ≡ home sh l
+        → Homely sh d (flush_of (cond b (Some (record { line = l; mask = dirty_mask c l; words = dirty_words c l; tag = dirty_tag c l }))
+        None))
     go false q e = homely-none sh d
     go true q e = one-flush sh d l (dirty_mask c l) (dirty_words c l) (dirty_tag c l) e (dirty-full c l q)
 
@@ -93,7 +105,9 @@ homely-written : (sh : Shape) (c : Cache) (l : ℕ) → HomelyOut sh (write_back
 unfolding write_back_line dirty_copy
 homely-written sh c l d = homely-to sh (home sh l) d (write_back_of (dirty_copy c l)) (λ e. go (is_dirty c l) refl e)
   where
-    go : (b : Bool) → is_dirty c l ≡ b → d ≡ home sh l → Homely sh d (write_back_of (cond b (Some (record { line = l; mask = dirty_mask c l; words = dirty_words c l; tag = dirty_tag c l })) None))
+    go : (b : Bool) → is_dirty c l ≡ b → d ≡ home sh l
+        → Homely sh d (write_back_of
+        (cond b (Some (record { line = l; mask = dirty_mask c l; words = dirty_words c l; tag = dirty_tag c l })) None))
     go false q e = homely-none sh d
     go true q e = one-back sh d l (dirty_mask c l) (dirty_words c l) (dirty_tag c l) e (dirty-full c l q)
 
@@ -110,11 +124,16 @@ homely-solo sh c sp u d =
     let p : ℕ → Bool = λ k. d == home sh k && is_written c sp k in
     go (nat_lt d sh.dirs) (solo_writes_at sh c sp d)
   where
-    backs : Homely sh d (flat_map (λ k. WriteBack k (spilled_mask sp k) (spilled_words sp k) u ∷ []) (those (λ k. d == home sh k && holds sp k) (lines sh)))
-    backs = homely-those sh d (λ k. WriteBack k (spilled_mask sp k) (spilled_words sp k) u ∷ []) (λ k. d == home sh k && holds sp k) (lines sh) (λ l e. let x = both (d == home sh l) (holds sp l) e in one-back sh d l (spilled_mask sp l) (spilled_words sp l) u (same-home d (home sh l) (x.0)) (spilled-full sp l (x.1)))
+    backs : Homely sh d (flat_map (λ k. WriteBack k (spilled_mask sp k) (spilled_words sp k) u ∷ [])
+        (those (λ k. d == home sh k && holds sp k) (lines sh)))
+    backs = homely-those sh d (λ k. WriteBack k (spilled_mask sp k) (spilled_words sp k) u ∷ []) (λ k. d == home sh k && holds sp k)
+        (lines sh) (λ l e. let x = both (d == home sh l) (holds sp l) e in
+        one-back sh d l (spilled_mask sp l) (spilled_words sp l) u (same-home d (home sh l) (x.0)) (spilled-full sp l (x.1)))
 
     marks : Homely sh d (flat_map (λ k. Mark k (written_mask c sp k) u ∷ []) (those (λ k. d == home sh k && is_written c sp k) (lines sh)))
-    marks = homely-those sh d (λ k. Mark k (written_mask c sp k) u ∷ []) (λ k. d == home sh k && is_written c sp k) (lines sh) (λ l e. let x = both (d == home sh l) (is_written c sp l) e in one-mark sh d l (written_mask c sp l) u (same-home d (home sh l) (x.0)) (written-full c sp l (x.1)))
+    marks = homely-those sh d (λ k. Mark k (written_mask c sp k) u ∷ []) (λ k. d == home sh k && is_written c sp k) (lines sh)
+        (λ l e. let x = both (d == home sh l) (is_written c sp l) e in
+        one-mark sh d l (written_mask c sp l) u (same-home d (home sh l) (x.0)) (written-full c sp l (x.1)))
 
     last : Homely sh d (Commit u (count_below (λ k. d == home sh k && is_written c sp k) (lines sh)) ∷ [])
     last = record { away = refl; words = refl }
@@ -122,21 +141,36 @@ homely-solo sh c sp u d =
     skip : Homely sh d (Skip u ∷ [])
     skip = record { away = refl; words = refl }
 
-    go : (b w : Bool) → Homely sh d (if b then (if w then flat_map (λ k. Mark k (written_mask c sp k) u ∷ []) (those (λ k. d == home sh k && is_written c sp k) (lines sh)) ++ Commit u (count_below (λ k. d == home sh k && is_written c sp k) (lines sh)) ∷ [] else Skip u ∷ []) ++ solo_write_backs sh sp u d else [])
+    go : (b w : Bool)
+        → Homely sh d (if b then (if w then flat_map (λ k. Mark k (written_mask c sp k) u ∷ [])
+        (those (λ k. d == home sh k && is_written c sp k) (lines sh))
+        ++ Commit u (count_below (λ k. d == home sh k && is_written c sp k) (lines sh)) ∷ [] else Skip u ∷ [])
+        ++ solo_write_backs sh sp u d else [])
     go false w = homely-none sh d
-    go true true = homely-append sh d (flat_map (λ k. Mark k (written_mask c sp k) u ∷ []) (those (λ k. d == home sh k && is_written c sp k) (lines sh)) ++ Commit u (count_below (λ k. d == home sh k && is_written c sp k) (lines sh)) ∷ []) (solo_write_backs sh sp u d) (homely-append sh d (flat_map (λ k. Mark k (written_mask c sp k) u ∷ []) (those (λ k. d == home sh k && is_written c sp k) (lines sh))) (Commit u (count_below (λ k. d == home sh k && is_written c sp k) (lines sh)) ∷ []) marks last) backs
+    go true true =
+        homely-append sh d (flat_map (λ k. Mark k (written_mask c sp k) u ∷ [])
+        (those (λ k. d == home sh k && is_written c sp k) (lines sh))
+        ++ Commit u (count_below (λ k. d == home sh k && is_written c sp k) (lines sh)) ∷ []) (solo_write_backs sh sp u d)
+        (homely-append sh d (flat_map (λ k. Mark k (written_mask c sp k) u ∷ [])
+        (those (λ k. d == home sh k && is_written c sp k) (lines sh)))
+        (Commit u (count_below (λ k. d == home sh k && is_written c sp k) (lines sh)) ∷ []) marks last) backs
     go true false = homely-append sh d (Skip u ∷ []) (solo_write_backs sh sp u d) skip backs
 
 homely-marks : (sh : Shape) (c : Cache) (u e : ℕ) → HomelyOut sh (to (Dir e) (marks_for sh c u e))
 unfolding marks_for written_lines
-homely-marks sh c u e d = homely-to sh e d (marks_for sh c u e) (λ q. homely-those sh d (λ k. Mark k (modified_mask c k) u ∷ []) (λ k. e == home sh k && is_modified c k) (lines sh) (λ l x. let y = both (e == home sh l) (is_modified c l) x in one-mark sh d l (modified_mask c l) u (rw q (same-home e (home sh l) (y.0))) (modified-full c l (y.1))))
+homely-marks sh c u e d =
+    homely-to sh e d (marks_for sh c u e)
+    (λ q. homely-those sh d (λ k. Mark k (modified_mask c k) u ∷ []) (λ k. e == home sh k && is_modified c k) (lines sh)
+    (λ l x. let y = both (e == home sh l) (is_modified c l) x in
+    one-mark sh d l (modified_mask c l) u (rw q (same-home e (home sh l) (y.0))) (modified-full c l (y.1))))
 
 -- so is all that a core sends
 homely-said : (sh : Shape) (s : CoreState) (q : Said) → HomelyOut sh (say sh s q)
 unfolding passes
 homely-said sh s (Flushes l) = homely-flushed sh s.cache l
 homely-said sh s (Empties l) = homely-written sh s.cache l
-homely-said sh s (Requests l) = λ d. homely-to sh (home sh l) d (LoadReq l (s.last_commit (home sh l)) ∷ []) (λ e. one-load sh d l (s.last_commit (home sh l)) e)
+homely-said sh s (Requests l) = λ d. homely-to sh (home sh l) d (LoadReq l (s.last_commit (home sh l)) ∷ [])
+    (λ e. one-load sh d l (s.last_commit (home sh l)) e)
 homely-said sh s (Tells_alone t) = homely-solo sh s.cache s.spilled t
 homely-said sh s (Marks_at e t) = homely-marks sh s.cache t e
 homely-said sh s q = λ d. record { away = quiet sh s (LinesAway sh.dirs d) q (λ x. refl) d; words = quiet sh s NoWord q (λ x. refl) d }
@@ -163,7 +197,8 @@ pub homes-back : (sh : Shape) (e : ℕ) (s : CoreState) (m : Msg) → IfSome (fr
 homes-back sh e s m = each-back sh e s (λ m o. HomelyOut sh o.sends) go m
   where
     hurt : (k : ℕ) (r : CoreState) (q : Said) → HomelyOut sh (acked sh k r (say sh s q)).sends
-    hurt k r q d = homely-append sh d (say sh s q (Dir d)) (to (Dir (home sh k)) (InvAck k (keeps r.cache k) ∷ []) (Dir d)) (homely-said sh s q d) (homely-to sh (home sh k) d (InvAck k (keeps r.cache k) ∷ []) (λ e. one-ack sh d k (keeps r.cache k) e))
+    hurt k r q d = homely-append sh d (say sh s q (Dir d)) (to (Dir (home sh k)) (InvAck k (keeps r.cache k) ∷ []) (Dir d))
+        (homely-said sh s q d) (homely-to sh (home sh k) d (InvAck k (keeps r.cache k) ∷ []) (λ e. one-ack sh d k (keeps r.cache k) e))
 
     go : (x : Heard sh e s) → HomelyOut sh (heard x).sends
     go (Hurt_none k m u n) = hurt k (heard {sh = sh} {e = e} {s = s} (Hurt_none k m u n)).core Silent

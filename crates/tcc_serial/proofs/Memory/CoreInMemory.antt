@@ -26,24 +26,31 @@ unfolding loads_word stores_word
 nothing-used sh = record { loaded = λ x e. absurd (cc); stored = λ x e. absurd (cc) }
 
 -- one more load, one more store
-one-load : (sh : Shape) (ls : List Load) (ss : List Stored) (m : Load) → WordInMemory sh (word_of sh.base m.addr) → AccessesInMemory sh ls ss → AccessesInMemory sh (ls ++ m ∷ []) ss
+one-load : (sh : Shape) (ls : List Load) (ss : List Stored) (m : Load) → WordInMemory sh (word_of sh.base m.addr)
+    → AccessesInMemory sh ls ss → AccessesInMemory sh (ls ++ m ∷ []) ss
 unfolding loads_word
-one-load sh ls ss m w k = record { loaded = λ x e. go x (loads_word sh.base ls x) refl (rw (loads_word-append sh.base ls (m ∷ []) x) at e); stored = k.stored }
+one-load sh ls ss m w k = record {
+  loaded = λ x e. go x (loads_word sh.base ls x) refl (rw (loads_word-append sh.base ls (m ∷ []) x) at e);
+  stored = k.stored;
+}
   where
     go : (x : ℕ) (a : Bool) → loads_word sh.base ls x ≡ a → (a || ((word_of sh.base m.addr == x) || false)) ≡ true → WordInMemory sh x
     go x true q e = k.loaded x q
     go x false q e = let i : word_of sh.base m.addr ≡ x = grind (arith, nat_tests) in rw i at w
 
-one-store : (sh : Shape) (ls : List Load) (ss : List Stored) (m : Stored) → WordInMemory sh (word_of sh.base m.addr) → AccessesInMemory sh ls ss → AccessesInMemory sh ls (ss ++ m ∷ [])
+one-store : (sh : Shape) (ls : List Load) (ss : List Stored) (m : Stored) → WordInMemory sh (word_of sh.base m.addr)
+    → AccessesInMemory sh ls ss → AccessesInMemory sh ls (ss ++ m ∷ [])
 unfolding stores_word
-one-store sh ls ss m w k = record { loaded = k.loaded; stored = λ x e. go x (stores_word sh.base ss x) refl (rw (stores_word-append sh.base ss (m ∷ []) x) at e) }
+one-store sh ls ss m w k =
+    record { loaded = k.loaded; stored = λ x e. go x (stores_word sh.base ss x) refl (rw (stores_word-append sh.base ss (m ∷ []) x) at e) }
   where
     go : (x : ℕ) (a : Bool) → stores_word sh.base ss x ≡ a → (a || ((word_of sh.base m.addr == x) || false)) ≡ true → WordInMemory sh x
     go x true q e = k.stored x q
     go x false q e = let i : word_of sh.base m.addr ≡ x = grind (arith, nat_tests) in rw i at w
 
 -- the same frames, and the same loads and stores
-pub same-memory : (sh : Shape) (s r : CoreState) → r.cache.held ≡ s.cache.held → r.loads ≡ s.loads → r.stores ≡ s.stores → CoreInMemory sh s → CoreInMemory sh r
+pub same-memory : (sh : Shape) (s r : CoreState) → r.cache.held ≡ s.cache.held → r.loads ≡ s.loads → r.stores ≡ s.stores → CoreInMemory sh s
+    → CoreInMemory sh r
 same-memory sh s r f l t k = record { frames = λ m e. k.frames m (rw f at e); accesses = rw (l, t) (k.accesses) }
 
 -- a new frame is of a line in memory
@@ -58,7 +65,8 @@ placed-frames sh l c m h k e = go (free_way sh c (set_of sh l)) e
     go a e = grind (arith, nat_tests)
 
 -- where the program accesses memory alone, so does the instruction at hand
-in-memory : (sh : Shape) (p : Program) (s : CoreState) (need : Need) (a : ℕ) → StaysInMemory sh p → Acting p s need → AccessAt a need → WordInMemory sh (word_of sh.base a)
+in-memory : (sh : Shape) (p : Program) (s : CoreState) (need : Need) (a : ℕ) → StaysInMemory sh p → Acting p s need → AccessAt a need
+    → WordInMemory sh (word_of sh.base a)
 in-memory sh p s need a i g at = go need at (rw (g.need) at (i s.local))
   where
     go : (need : Need) → AccessAt a need → NeedInMemory sh need → WordInMemory sh (word_of sh.base a)
@@ -68,17 +76,20 @@ in-memory sh p s need a i g at = go need at (rw (g.need) at (i s.local))
     go _ e n = absurd e
 
 -- one more load, one more store
-stored-memory : (sh : Shape) (s : CoreState) (a : ℕ) (k : Storing s a) → WordInMemory sh (word_of sh.base a) → CoreInMemory sh s → AccessesInMemory sh k.loads (s.stores ++ k.store ∷ [])
+stored-memory : (sh : Shape) (s : CoreState) (a : ℕ) (k : Storing s a) → WordInMemory sh (word_of sh.base a) → CoreInMemory sh s
+    → AccessesInMemory sh k.loads (s.stores ++ k.store ∷ [])
 stored-memory sh s a k w h = go (k.loaded)
   where
     more : AccessesInMemory sh s.loads (s.stores ++ k.store ∷ [])
     more = one-store sh s.loads s.stores k.store (rw (k.addr) w) (h.accesses)
 
-    go : (k.loads ≡ s.loads) ⊎ ((m : Load) × (m.addr ≡ a) × (k.loads ≡ s.loads ++ m ∷ [])) → AccessesInMemory sh k.loads (s.stores ++ k.store ∷ [])
+    go : (k.loads ≡ s.loads) ⊎ ((m : Load) × (m.addr ≡ a) × (k.loads ≡ s.loads ++ m ∷ []))
+        → AccessesInMemory sh k.loads (s.stores ++ k.store ∷ [])
     go (inl e) = rw e more
     go (inr z) = rw (z.2) (one-load sh s.loads (s.stores ++ k.store ∷ []) z.0 (rw (z.1) w) more)
 
-pub exec-memory : (sh : Shape) (p : Program) (id : ℕ) (s : CoreState) → StaysInMemory sh p → CoreInMemory sh s → IfSome (core_exec sh p id s) (OutInMemory sh)
+pub exec-memory : (sh : Shape) (p : Program) (id : ℕ) (s : CoreState) → StaysInMemory sh p → CoreInMemory sh s
+    → IfSome (core_exec sh p id s) (OutInMemory sh)
 unfolding commit solo_commit committed_core committed words_dropped noted stored marked
 exec-memory sh p id s i k = each-exec sh p id s (OutInMemory sh) go
   where
@@ -86,12 +97,35 @@ exec-memory sh p id s i k = each-exec sh p id s (OutInMemory sh) go
     w a need g at = in-memory sh p s need a i g at
 
     go : (x : Did sh p id s) → OutInMemory sh (out x)
-    go (Finds a x z l g f) = (record { frames = k.frames; accesses = one-load sh s.loads s.stores (load_of a z (part x a z)) (w a (Loads a z) g refl) (k.accesses) }, tt)
-    go (Reads a x z l g r f) = (record { frames = k.frames; accesses = one-load sh s.loads s.stores (load_of a z (part x a z)) (w a (Loads a z) g refl) (k.accesses) }, tt)
-    go (Buffers a y v n q g at e f) = (record { frames = k.frames; accesses = stored-memory sh s a q (w a n g (stores-access n a at)) k }, tt)
-    go (Frames a y also n q g at f) = (record { frames = k.frames; accesses = stored-memory sh s a q (w a n g (stores-access n a at)) k }, tt)
-    go (Frames_anew a y n q g at e f h) = (record { frames = placed-frames sh (line_of (word_of sh.base a)) s.cache (w a n g (stores-access n a at)) (k.frames); accesses = stored-memory sh s a q (w a n g (stores-access n a at)) k }, tt)
-    go (Misses_anew a n g at e f) = (record { frames = placed-frames sh (line_of (word_of sh.base a)) s.cache (w a n g at) (k.frames); accesses = k.accesses }, tt)
+    go (Finds a x z l g f) = (
+      record {
+        frames = k.frames;
+        accesses = one-load sh s.loads s.stores (load_of a z (part x a z)) (w a (Loads a z) g refl)
+            (k.accesses);
+      },
+      tt,
+    )
+    go (Reads a x z l g r f) = (
+      record {
+        frames = k.frames;
+        accesses = one-load sh s.loads s.stores (load_of a z (part x a z)) (w a (Loads a z) g refl)
+            (k.accesses);
+      },
+      tt,
+    )
+    go (Buffers a y v n q g at e f) =
+        (record { frames = k.frames; accesses = stored-memory sh s a q (w a n g (stores-access n a at)) k }, tt)
+    go (Frames a y also n q g at f) =
+        (record { frames = k.frames; accesses = stored-memory sh s a q (w a n g (stores-access n a at)) k }, tt)
+    go (Frames_anew a y n q g at e f h) = (
+      record {
+        frames = placed-frames sh (line_of (word_of sh.base a)) s.cache (w a n g (stores-access n a at)) (k.frames);
+        accesses = stored-memory sh s a q (w a n g (stores-access n a at)) k;
+      },
+      tt,
+    )
+    go (Misses_anew a n g at e f) =
+        (record { frames = placed-frames sh (line_of (word_of sh.base a)) s.cache (w a n g at) (k.frames); accesses = k.accesses }, tt)
     go (Ends_alone t l e f r n) = (record { frames = k.frames; accesses = nothing-used sh }, k.accesses)
     go (Commits_now t r) = (record { frames = k.frames; accesses = nothing-used sh }, k.accesses)
     go _ = (same-memory sh s _ refl refl refl k, tt)

@@ -28,7 +28,10 @@ pub evict-memory : (sh : Shape) (x y : ℕ) (s : CoreState) → CoreInMemory sh 
 unfolding core_evict
 evict-memory sh x y s k = go (s.cache.at x y)
   where
-    one : (l : ℕ) (b : Bool) → IfSome (if b then None else Some (moves (record s { cache = evicted x y s.cache; spilled = spill_line l s.cache s.spilled }) (write_back_line sh s.cache l))) (OutInMemory sh)
+    one : (l : ℕ) (b : Bool)
+        → IfSome (if b then None
+        else Some (moves (record s { cache = evicted x y s.cache; spilled = spill_line l s.cache s.spilled })
+        (write_back_line sh s.cache l))) (OutInMemory sh)
     one l true = tt
     one l false = (record { frames = λ m e. k.frames m (evicted-frames x y s.cache m e); accesses = k.accesses }, tt)
 
@@ -58,7 +61,8 @@ reply-memory sh d u s k = go s.phase
     alone true = same-memory sh s _ refl refl refl k
     alone false = same-memory sh s _ refl refl refl k
 
-    probed : (a : Bool) → OutInMemory sh (if a then moves (ready_once_replied sh u (replied d s)) (to (Dir d) (marks_for sh s.cache u d)) else ignored s)
+    probed : (a : Bool)
+        → OutInMemory sh (if a then moves (ready_once_replied sh u (replied d s)) (to (Dir d) (marks_for sh s.cache u d)) else ignored s)
     probed true = (ready (all_replied sh (replied d s).owing), tt)
     probed false = (k, tt)
 
@@ -80,7 +84,9 @@ fill-memory sh l ws s k = elim s.awaited as (λ a. OutInMemory sh (fill_awaited 
     words true = same-memory sh s _ refl refl refl k
     words false = same-memory sh s _ refl refl refl k
 
-    one : (a : Awaited) (b : Bool) → OutInMemory sh (if b then moves (record s { cache = (if a.stale then s.cache else filled l ws s.cache); awaited = None }) nothing else ignored s)
+    one : (a : Awaited) (b : Bool)
+        → OutInMemory sh (if b then moves (record s { cache = (if a.stale then s.cache else filled l ws s.cache); awaited = None }) nothing
+        else ignored s)
     one a true = (words a.stale, tt)
     one a false = (k, tt)
 
@@ -127,7 +133,8 @@ back-memory sh d s _ k = tt
 abbrev pub NoCopiesOutside : Shape → World → Type 0
 NoCopiesOutside sh w = (c d l t : ℕ) → lines sh ≤ l → live (CopyOf l t) (pair w c d).out ≡ 0
 
-pub step-copies : (sh : Shape) (p : Program) (w : World) (e : Event) → KeptCores sh w → CoresInMemory sh w → NoCopiesOutside sh w → IfSome (step sh p w e) (λ o. NoCopiesOutside sh o.world)
+pub step-copies : (sh : Shape) (p : Program) (w : World) (e : Event) → KeptCores sh w → CoresInMemory sh w → NoCopiesOutside sh w
+    → IfSome (step sh p w e) (λ o. NoCopiesOutside sh o.world)
 unfolding pair
 step-copies sh p w e a k h = step_cases sh p w e (λ g o. NoCopiesOutside sh o.world)
     (λ c l. moved c (core_exec sh p c (w.cores c)) (exec-sends sh p c (w.cores c) (a c).words.cache (k c).frames))
@@ -140,21 +147,27 @@ step-copies sh p w e a k h = step_cases sh p w e (λ g o. NoCopiesOutside sh o.w
     P : ℕ → ℕ → Pair → Type 0
     P c d v = (l t : ℕ) → lines sh ≤ l → live (CopyOf l t) v.out ≡ 0
 
-    sent : (c : ℕ) (o : Out) → SendsInMemory sh o.sends → (d : ℕ) → P c d (record (pair w c d) { core = o.core; out = w.net (Core c) (Dir d) ++ sent_all (o.sends (Dir d)) })
+    sent : (c : ℕ) (o : Out) → SendsInMemory sh o.sends → (d : ℕ)
+        → P c d (record (pair w c d) { core = o.core; out = w.net (Core c) (Dir d) ++ sent_all (o.sends (Dir d)) })
     sent c o f d l t i = omega (arith, h c d l t i, f d l t i, live-sends (CopyOf l t) (w.net (Core c) (Dir d)) (o.sends (Dir d)))
 
     moved : (c : ℕ) (x : Option Out) → IfSome x (λ o. SendsInMemory sh o.sends) → IfSome x (λ o. NoCopiesOutside sh (core_moves w c o))
     moved c None f = tt
     moved c (Some o) f = pairs_move P w c o (sent c o f) h
 
-    taken : (c d n : ℕ) (x : Option Out) → IfSome x (λ o. SendsInMemory sh o.sends) → IfSome x (λ o. NoCopiesOutside sh (core_takes w (Dir d) c n o))
+    taken : (c d n : ℕ) (x : Option Out) → IfSome x (λ o. SendsInMemory sh o.sends)
+        → IfSome x (λ o. NoCopiesOutside sh (core_takes w (Dir d) c n o))
     taken c d n None f = tt
     taken c d n (Some o) f = pairs_back P w d c n o (sent c o f d) (λ b i. sent c o f b) h
 
-    consumed : (c d n : ℕ) (m : Msg) (s : DirState) (sends : Sends) → in_flight w.net (Core c) (Dir d) n ≡ Some m → NoCopiesOutside sh (dir_takes w c d n s sends)
-    consumed c d n m s sends q = pairs_dir P w c d n s sends (λ l t i. omega (arith, h c d l t i, live-takes (CopyOf l t) (w.net (Core c) (Dir d)) n m q)) (λ j i. h j d) h
+    consumed : (c d n : ℕ) (m : Msg) (s : DirState) (sends : Sends) → in_flight w.net (Core c) (Dir d) n ≡ Some m
+        → NoCopiesOutside sh (dir_takes w c d n s sends)
+    consumed c d n m s sends q =
+        pairs_dir P w c d n s sends (λ l t i. omega (arith, h c d l t i, live-takes (CopyOf l t) (w.net (Core c) (Dir d)) n m q))
+        (λ j i. h j d) h
 
-    answered : (c d n : ℕ) (m : Msg) → in_flight w.net (Core c) (Dir d) n ≡ Some m → (x : Answer) → OfAnswer w c d n (λ v. NoCopiesOutside sh v) x
+    answered : (c d n : ℕ) (m : Msg) → in_flight w.net (Core c) (Dir d) n ≡ Some m → (x : Answer)
+        → OfAnswer w c d n (λ v. NoCopiesOutside sh v) x
     answered c d n m q Waits = tt
     answered c d n m q Drops = consumed c d n m (w.dirs d) (λ dst. []) q
     answered c d n m q (Asks s sends) = pairs_asks P w d s sends (λ j. h j d) h
@@ -174,7 +187,8 @@ pub record KeptInMemory (sh : Shape) (h : History) : Type 0 where
 abbrev pub StepInMemory : Shape → Stepped → Type 0
 StepInMemory sh o = CoresInMemory sh o.world × IfSome o.noted (λ n. AccessesInMemory sh n.loads n.stores)
 
-step-memory : (sh : Shape) (p : Program) (w : World) (e : Event) → StaysInMemory sh p → CoresInMemory sh w → IfSome (step sh p w e) (StepInMemory sh)
+step-memory : (sh : Shape) (p : Program) (w : World) (e : Event) → StaysInMemory sh p → CoresInMemory sh w
+    → IfSome (step sh p w e) (StepInMemory sh)
 unfolding core_moves core_takes dir_takes dir_asks vendor_gives
 step-memory sh p w e i k = step_cases sh p w e (λ g o. StepInMemory sh o)
     (λ c l. moved c (core_exec sh p c (w.cores c)) (exec-memory sh p c (w.cores c) i (k c)))
@@ -187,11 +201,13 @@ step-memory sh p w e i k = step_cases sh p w e (λ g o. StepInMemory sh o)
     put : (c : ℕ) (s : CoreState) → CoreInMemory sh s → (j : ℕ) → CoreInMemory sh (if j == c then s else w.cores j)
     put c s h j = elim (j == c) as (λ b. CoreInMemory sh (if b then s else w.cores j)) [ true ↦ h | false ↦ k j ]
 
-    moved : (c : ℕ) (x : Option Out) → IfSome x (OutInMemory sh) → IfSome x (λ o. StepInMemory sh (record { world = core_moves w c o; noted = o.commit }))
+    moved : (c : ℕ) (x : Option Out) → IfSome x (OutInMemory sh)
+        → IfSome x (λ o. StepInMemory sh (record { world = core_moves w c o; noted = o.commit }))
     moved c None h = tt
     moved c (Some o) h = (put c o.core (h.0), h.1)
 
-    taken : (c d n : ℕ) (x : Option Out) → IfSome x (OutInMemory sh) → IfSome x (λ o. StepInMemory sh (record { world = core_takes w (Dir d) c n o; noted = o.commit }))
+    taken : (c d n : ℕ) (x : Option Out) → IfSome x (OutInMemory sh)
+        → IfSome x (λ o. StepInMemory sh (record { world = core_takes w (Dir d) c n o; noted = o.commit }))
     taken c d n None h = tt
     taken c d n (Some o) h = (put c o.core (h.0), h.1)
 
@@ -199,7 +215,8 @@ step-memory sh p w e i k = step_cases sh p w e (λ g o. StepInMemory sh o)
     answered c d n Waits = tt
     answered c d n _ = (k, tt)
 
-noted-memory : (sh : Shape) (a : Option Noted) (cs : List Noted) → IfSome a (λ n. AccessesInMemory sh n.loads n.stores) → CommitsInMemory sh cs → CommitsInMemory sh (and_noted a cs)
+noted-memory : (sh : Shape) (a : Option Noted) (cs : List Noted) → IfSome a (λ n. AccessesInMemory sh n.loads n.stores)
+    → CommitsInMemory sh cs → CommitsInMemory sh (and_noted a cs)
 noted-memory sh None cs a k = k
 noted-memory sh (Some x) cs a k = λ n q. go n (inserted x n cs q)
   where
@@ -207,19 +224,26 @@ noted-memory sh (Some x) cs a k = λ n q. go n (inserted x n cs q)
     go n (inl e) = subst (λ (m : Noted). AccessesInMemory sh m.loads m.stores) e a
     go n (inr q) = k n q
 
-pub step-in-memory : (sh : Shape) (p : Program) (h : History) (e : Event) → StaysInMemory sh p → KeptInMemory sh h → IfSome (recorded h (step sh p h.world e)) (λ g. KeptInMemory sh g)
-step-in-memory sh p h e i k = go (step sh p h.world e) (step-cores sh p h.world e k.alone) (step-memory sh p h.world e i k.cores) (step-copies sh p h.world e k.alone k.cores k.copies)
+pub step-in-memory : (sh : Shape) (p : Program) (h : History) (e : Event) → StaysInMemory sh p → KeptInMemory sh h
+    → IfSome (recorded h (step sh p h.world e)) (λ g. KeptInMemory sh g)
+step-in-memory sh p h e i k = go (step sh p h.world e) (step-cores sh p h.world e k.alone) (step-memory sh p h.world e i k.cores)
+    (step-copies sh p h.world e k.alone k.cores k.copies)
   where
-    go : (x : Option Stepped) → IfSome x (λ o. KeptCores sh o.world) → IfSome x (StepInMemory sh) → IfSome x (λ o. NoCopiesOutside sh o.world) → IfSome (recorded h x) (λ g. KeptInMemory sh g)
+    go : (x : Option Stepped) → IfSome x (λ o. KeptCores sh o.world) → IfSome x (StepInMemory sh)
+        → IfSome x (λ o. NoCopiesOutside sh o.world) → IfSome (recorded h x) (λ g. KeptInMemory sh g)
     go None a q f = tt
     go (Some o) a q f = record { alone = a; cores = q.0; copies = f; commits = noted-memory sh o.noted h.commits (q.1) k.commits }
 
-run_from-memory : (sh : Shape) (p : Program) (es : List Event) (h : History) → StaysInMemory sh p → KeptInMemory sh h → IfSome (run_from sh p es h) (λ r. KeptInMemory sh r)
+run_from-memory : (sh : Shape) (p : Program) (es : List Event) (h : History) → StaysInMemory sh p → KeptInMemory sh h
+    → IfSome (run_from sh p es h) (λ r. KeptInMemory sh r)
 unfolding run_from next_history
 run_from-memory sh p [] h i k = k
-run_from-memory sh p (e ∷ es) h i k = go (recorded h (step sh p h.world e)) (step-in-memory sh p h e i k) (λ g q. run_from-memory sh p es g i q)
+run_from-memory sh p (e ∷ es) h i k = go (recorded h (step sh p h.world e)) (step-in-memory sh p h e i k)
+    (λ g q. run_from-memory sh p es g i q)
   where
-    go : (x : Option History) → IfSome x (λ g. KeptInMemory sh g) → ((g : History) → KeptInMemory sh g → IfSome (run_from sh p es g) (λ r. KeptInMemory sh r)) → IfSome (and_then (run_from sh p es) x) (λ r. KeptInMemory sh r)
+    go : (x : Option History) → IfSome x (λ g. KeptInMemory sh g)
+        → ((g : History) → KeptInMemory sh g → IfSome (run_from sh p es g) (λ r. KeptInMemory sh r))
+        → IfSome (and_then (run_from sh p es) x) (λ r. KeptInMemory sh r)
     go None q f = tt
     go (Some g) q f = f g q
 
@@ -232,6 +256,7 @@ start-memory sh entries ram = record {
   commits = λ n q. absurd (omega (arith, q.1));
 }
 
-pub run-memory : (sh : Shape) (p : Program) (entries : ℕ → Local) (ram : ℕ → ℕ) (es : List Event) → StaysInMemory sh p → IfSome (run sh p (start entries ram) es) (λ r. KeptInMemory sh r)
+pub run-memory : (sh : Shape) (p : Program) (entries : ℕ → Local) (ram : ℕ → ℕ) (es : List Event) → StaysInMemory sh p
+    → IfSome (run sh p (start entries ram) es) (λ r. KeptInMemory sh r)
 unfolding run
 run-memory sh p entries ram es i = run_from-memory sh p es (first_state entries ram) i (start-memory sh entries ram)

@@ -21,18 +21,24 @@ use Rattle.tcc_serial.proofs.OneCore.Outcomes.{each-grant, granted, granted_said
 -- a line has a word with p where one of its words has it
 pub line-has : (p : ℕ → Bool) (x : ℕ) → p x ≡ true → any_word p (line_of x) ≡ true
 unfolding any_word
-line-has p x e = let same : word_at (line_of x) (place_of x) ≡ x = omega arith in any_below-at (λ k. p (word_at (line_of x) k)) 8 (place_of x) (omega arith) (rw same e)
+line-has p x e = let same : word_at (line_of x) (place_of x) ≡ x = omega arith in
+    any_below-at (λ k. p (word_at (line_of x) k)) 8 (place_of x) (omega arith) (rw same e)
 
 pub line-found : (p : ℕ → Bool) (l : ℕ) → any_word p l ≡ true → (x : ℕ) × (line_of x ≡ l) × (p x ≡ true)
 unfolding any_word
 line-found p l e = let k = any_below-found (λ k. p (word_at l k)) 8 e in (word_at l k.0, omega (arith, k.1), k.2)
 
 -- and is then found among the lines of its home
-at-home : (sh : Shape) (p : ℕ → Bool) (l : ℕ) → l < lines sh → any_word p l ≡ true → any_below (λ k. home sh l == home sh k && any_word p k) (lines sh) ≡ true
-at-home sh p l i e = any_below-at (λ k. home sh l == home sh k && any_word p k) (lines sh) l i (let h : (home sh l == home sh l) ≡ true = grind (arith, nat_tests) in rw (h, e) refl)
+at-home : (sh : Shape) (p : ℕ → Bool) (l : ℕ) → l < lines sh → any_word p l ≡ true
+    → any_below (λ k. home sh l == home sh k && any_word p k) (lines sh) ≡ true
+at-home sh p l i e = any_below-at (λ k. home sh l == home sh k && any_word p k) (lines sh) l i
+    (let h : (home sh l == home sh l) ≡ true = grind (arith, nat_tests) in rw (h, e) refl)
 
-stored-at : (sh : Shape) (ss : List Stored) (l : ℕ) → l < lines sh → any_word (stores_word sh.base ss) l ≡ true → stores_at sh (home sh l) ss ≡ true
-stored-at sh ss l i e = sym (stored-any sh (home sh l) ss (λ k. home sh l == home sh k && any_word (stores_word sh.base ss) k) (stored-line sh (home sh l) ss)) ∙ at-home sh (stores_word sh.base ss) l i e
+stored-at : (sh : Shape) (ss : List Stored) (l : ℕ) → l < lines sh → any_word (stores_word sh.base ss) l ≡ true
+    → stores_at sh (home sh l) ss ≡ true
+stored-at sh ss l i e =
+    sym (stored-any sh (home sh l) ss (λ k. home sh l == home sh k && any_word (stores_word sh.base ss) k) (stored-line sh (home sh l) ss))
+    ∙ at-home sh (stores_word sh.base ss) l i e
 
 -- a line with a word in memory is one of memory
 line-memory : (sh : Shape) (p : ℕ → Bool) → ((x : ℕ) → p x ≡ true → WordInMemory sh x) → (l : ℕ) → any_word p l ≡ true → l < lines sh
@@ -51,7 +57,8 @@ pub marks_at_homes : MarksAtHomes
 unfolding reads_at writes_at is_modified
 marks_at_homes sh c k f = record {
   read = λ x e. at-home sh c.read (line_of x) (f (line_of x) (held-read x (c.held (line_of x)) refl e)) (line-has c.read x e);
-  modified = λ x e. at-home sh c.modified (line_of x) (f (line_of x) (held-modified x (c.held (line_of x)) refl e)) (line-has c.modified x e);
+  modified = λ x e. at-home sh c.modified (line_of x) (f (line_of x) (held-modified x (c.held (line_of x)) refl e))
+      (line-has c.modified x e);
 }
   where
     held-read : (x : ℕ) (b : Bool) → c.held (line_of x) ≡ b → c.read x ≡ true → c.held (line_of x) ≡ true
@@ -64,9 +71,11 @@ marks_at_homes sh c k f = record {
 word-wrote : (sh : Shape) (cs : List Noted) (c t x : ℕ) → CommitsInMemory sh cs → wrote sh.base cs c t x ≡ true → WordInMemory sh x
 unfolding wrote
 word-wrote sh [] c t x k e = absurd (cc)
-word-wrote sh (n ∷ cs) c t x k e = go (n.core.0 == c) (n.tid.0 == t) (stores_word sh.base n.stores x) refl e (λ f. word-wrote sh cs c t x (λ m q. k m (suc q.0, omega (arith, q.1), q.2)) f)
+word-wrote sh (n ∷ cs) c t x k e = go (n.core.0 == c) (n.tid.0 == t) (stores_word sh.base n.stores x) refl e
+    (λ f. word-wrote sh cs c t x (λ m q. k m (suc q.0, omega (arith, q.1), q.2)) f)
   where
-    go : (a b d : Bool) → stores_word sh.base n.stores x ≡ d → ((a && (b && d)) || wrote sh.base cs c t x) ≡ true → (wrote sh.base cs c t x ≡ true → WordInMemory sh x) → WordInMemory sh x
+    go : (a b d : Bool) → stores_word sh.base n.stores x ≡ d → ((a && (b && d)) || wrote sh.base cs c t x) ≡ true
+        → (wrote sh.base cs c t x ≡ true → WordInMemory sh x) → WordInMemory sh x
     go a b true q f r = (k n (0, omega arith, refl)).stored x q
     go true true false q f r = r f
     go true false false q f r = r f
@@ -95,7 +104,8 @@ nothing-sent sh d = none-outside sh
 -- words of a frame
 dirty-memory : (sh : Shape) (c : Cache) (l : ℕ) → IsCache sh c → FramesInMemory sh c → is_dirty c l ≡ true → l < lines sh
 unfolding is_dirty
-dirty-memory sh c l k f e = let x = line-found (λ w. is_some (c.dirty w)) l e in rw (x.1) at (f (line_of x.0) (go x.0 (c.held (line_of x.0)) refl (k.dirty x.0 (x.2))))
+dirty-memory sh c l k f e = let x = line-found (λ w. is_some (c.dirty w)) l e in
+    rw (x.1) at (f (line_of x.0) (go x.0 (c.held (line_of x.0)) refl (k.dirty x.0 (x.2))))
   where
     go : (x : ℕ) (b : Bool) → c.held (line_of x) ≡ b → is_some (c.value x) ≡ true → c.held (line_of x) ≡ true
     go x a q v = grind (arith, nat_tests)
@@ -107,7 +117,10 @@ flushed-memory : (sh : Shape) (c : Cache) (k : ℕ) → IsCache sh c → FramesI
 unfolding flush_line dirty_copy among passes
 flushed-memory sh c k i f d l t o = go (d == home sh k) (is_dirty c k) refl
   where
-    go : (a b : Bool) → is_dirty c k ≡ b → among (CopyOf l t) (if a then flush_of (cond b (Some (record { line = k; mask = dirty_mask c k; words = dirty_words c k; tag = dirty_tag c k })) None) else []) ≡ 0
+    go : (a b : Bool) → is_dirty c k ≡ b
+        → among (CopyOf l t) (if a
+        then flush_of (cond b (Some (record { line = k; mask = dirty_mask c k; words = dirty_words c k; tag = dirty_tag c k })) None)
+        else []) ≡ 0
     go false b q = refl
     go true false q = refl
     go true true q = rw (another sh k l (dirty-memory sh c k i f q) o) refl
@@ -116,18 +129,24 @@ written-memory : (sh : Shape) (c : Cache) (k : ℕ) → IsCache sh c → FramesI
 unfolding write_back_line dirty_copy among passes
 written-memory sh c k i f d l t o = go (d == home sh k) (is_dirty c k) refl
   where
-    go : (a b : Bool) → is_dirty c k ≡ b → among (CopyOf l t) (if a then write_back_of (cond b (Some (record { line = k; mask = dirty_mask c k; words = dirty_words c k; tag = dirty_tag c k })) None) else []) ≡ 0
+    go : (a b : Bool) → is_dirty c k ≡ b
+        → among (CopyOf l t) (if a
+        then write_back_of (cond b (Some (record { line = k; mask = dirty_mask c k; words = dirty_words c k; tag = dirty_tag c k }))
+        None) else []) ≡ 0
     go false b q = refl
     go true false q = refl
     go true true q = rw (another sh k l (dirty-memory sh c k i f q) o) refl
 
 -- what goes out at a commit of a core that is alone
-backs-memory : (sh : Shape) (sp : Spilled) (u n : ℕ) (p : ℕ → Bool) → n ≤ lines sh → NoneOutside sh (flat_map (λ k. WriteBack k (spilled_mask sp k) (spilled_words sp k) u ∷ []) (those p n))
+backs-memory : (sh : Shape) (sp : Spilled) (u n : ℕ) (p : ℕ → Bool) → n ≤ lines sh
+    → NoneOutside sh (flat_map (λ k. WriteBack k (spilled_mask sp k) (spilled_words sp k) u ∷ []) (those p n))
 unfolding those among passes
 backs-memory sh sp u zero p i l t o = refl
-backs-memory sh sp u (suc n) p i l t o = rw flat_map-append (rw among-append (omega (arith, backs-memory sh sp u n p (omega (arith, i)) l t o, last (p n))))
+backs-memory sh sp u (suc n) p i l t o =
+    rw flat_map-append (rw among-append (omega (arith, backs-memory sh sp u n p (omega (arith, i)) l t o, last (p n))))
   where
-    last : (b : Bool) → among (CopyOf l t) (flat_map (λ k. WriteBack k (spilled_mask sp k) (spilled_words sp k) u ∷ []) (cond b (n ∷ []) [])) ≡ 0
+    last : (b : Bool)
+        → among (CopyOf l t) (flat_map (λ k. WriteBack k (spilled_mask sp k) (spilled_words sp k) u ∷ []) (cond b (n ∷ []) [])) ≡ 0
     last a = grind (arith, nat_tests)
 
 both-outside : (sh : Shape) (a b : List Msg) → NoneOutside sh a → NoneOutside sh b → NoneOutside sh (a ++ b)
@@ -152,7 +171,9 @@ solo-memory sh c sp u d = go (nat_lt d sh.dirs) (solo_writes_at sh c sp d)
 
     go : (b w : Bool) → NoneOutside sh (if b then (if w then marks ++ last else Skip u ∷ []) ++ solo_write_backs sh sp u d else [])
     go false w = none-outside sh
-    go true true = both-outside sh (marks ++ last) (solo_write_backs sh sp u d) (both-outside sh marks last (marks-memory sh (written_mask c sp) u (those (λ k. d == home sh k && is_written c sp k) (lines sh))) (λ l t o. refl)) backs
+    go true true = both-outside sh (marks ++ last) (solo_write_backs sh sp u d)
+        (both-outside sh marks last (marks-memory sh (written_mask c sp) u (those (λ k. d == home sh k && is_written c sp k) (lines sh)))
+        (λ l t o. refl)) backs
     go true false = both-outside sh (Skip u ∷ []) (solo_write_backs sh sp u d) (λ l t o. refl) backs
 
 -- what a core sends has words of lines in memory alone
@@ -163,7 +184,8 @@ said-memory sh s (Empties k) i f = written-memory sh s.cache k i f
 said-memory sh s (Tells_alone t) i f = solo-memory sh s.cache s.spilled t
 said-memory sh s q i f = λ d l t o. quiet sh s (CopyOf l t) q (λ x. refl) d
 
-pub exec-sends : (sh : Shape) (p : Program) (c : ℕ) (s : CoreState) → IsCache sh s.cache → FramesInMemory sh s.cache → IfSome (core_exec sh p c s) (λ o. SendsInMemory sh o.sends)
+pub exec-sends : (sh : Shape) (p : Program) (c : ℕ) (s : CoreState) → IsCache sh s.cache → FramesInMemory sh s.cache
+    → IfSome (core_exec sh p c s) (λ o. SendsInMemory sh o.sends)
 unfolding commit solo_commit
 exec-sends sh p c s i f = each-exec sh p c s (λ o. SendsInMemory sh o.sends) go
   where
@@ -171,7 +193,8 @@ exec-sends sh p c s i f = each-exec sh p c s (λ o. SendsInMemory sh o.sends) go
     go (Room_wanted r n) = said-memory sh s Wants i f
     go x = said-memory sh s (said x) i f
 
-pub evict-sends : (sh : Shape) (x y : ℕ) (s : CoreState) → IsCache sh s.cache → FramesInMemory sh s.cache → IfSome (core_evict sh x y s) (λ o. SendsInMemory sh o.sends)
+pub evict-sends : (sh : Shape) (x y : ℕ) (s : CoreState) → IsCache sh s.cache → FramesInMemory sh s.cache
+    → IfSome (core_evict sh x y s) (λ o. SendsInMemory sh o.sends)
 evict-sends sh x y s i f = each-evict sh x y s (λ o. SendsInMemory sh o.sends) (λ l e a m. written-memory sh s.cache l i f)
 
 pub grant-sent : (sh : Shape) (t : ℕ) (s : CoreState) → SendsInMemory sh (grant sh t s).sends
@@ -182,7 +205,8 @@ grant-sent sh t s = each-grant sh t s (λ o. SendsInMemory sh o.sends) go
     go (Given_none e) = nothing-sent sh
     go x = λ d l u o. quiet sh s (CopyOf l u) (granted_said x) (λ y. refl) d
 
-pub back-sends : (sh : Shape) (e : ℕ) (s : CoreState) (m : Msg) → IsCache sh s.cache → FramesInMemory sh s.cache → IfSome (from_dir sh e s m) (λ o. SendsInMemory sh o.sends)
+pub back-sends : (sh : Shape) (e : ℕ) (s : CoreState) (m : Msg) → IsCache sh s.cache → FramesInMemory sh s.cache
+    → IfSome (from_dir sh e s m) (λ o. SendsInMemory sh o.sends)
 unfolding passes
 back-sends sh e s m i f = each-back sh e s (λ m o. SendsInMemory sh o.sends) go m
   where

@@ -10,7 +10,8 @@ use Rattle.tcc_serial.proofs.OneCore.OneCoreExec.{exec_one}
 use Rattle.tcc_serial.proofs.OneCore.OneCoreTakes.{evict_one, grant_one, back_one}
 
 -- one core has changed
-put_one : (sh : Shape) (w : World) (c : ℕ) (s : CoreState) → KeptCores sh w → OneCore sh s → (j : ℕ) → OneCore sh (if j == c then s else w.cores j)
+put_one : (sh : Shape) (w : World) (c : ℕ) (s : CoreState) → KeptCores sh w → OneCore sh s → (j : ℕ)
+    → OneCore sh (if j == c then s else w.cores j)
 put_one sh w c s k h j = elim (j == c) as (λ b. OneCore sh (if b then s else w.cores j)) [ true ↦ h | false ↦ k j ]
 
 pub step-cores : (sh : Shape) (p : Program) (w : World) (e : Event) → KeptCores sh w → IfSome (step sh p w e) (λ o. KeptCores sh o.world)
@@ -45,12 +46,15 @@ start-cores sh entries ram c = record {
   rested = λ q. absurd (cc);
 }
 
-run_from-cores : (sh : Shape) (p : Program) (es : List Event) (h : History) → KeptCores sh h.world → IfSome (run_from sh p es h) (λ r. KeptCores sh r.world)
+run_from-cores : (sh : Shape) (p : Program) (es : List Event) (h : History) → KeptCores sh h.world
+    → IfSome (run_from sh p es h) (λ r. KeptCores sh r.world)
 unfolding run_from next_history
 run_from-cores sh p [] h k = k
 run_from-cores sh p (e ∷ es) h k = go (step sh p h.world e) (step-cores sh p h.world e k) (λ g q. run_from-cores sh p es g q)
   where
-    go : (x : Option Stepped) → IfSome x (λ o. KeptCores sh o.world) → ((g : History) → KeptCores sh g.world → IfSome (run_from sh p es g) (λ r. KeptCores sh r.world)) → IfSome (and_then (run_from sh p es) (recorded h x)) (λ r. KeptCores sh r.world)
+    go : (x : Option Stepped) → IfSome x (λ o. KeptCores sh o.world)
+        → ((g : History) → KeptCores sh g.world → IfSome (run_from sh p es g) (λ r. KeptCores sh r.world))
+        → IfSome (and_then (run_from sh p es) (recorded h x)) (λ r. KeptCores sh r.world)
     go None q f = tt
     go (Some o) q f = f (record { world = o.world; commits = and_noted o.noted h.commits }) q
 

@@ -24,21 +24,28 @@ pub record Closing (sh : Shape) (p : Program) (c t : ℕ) (s r : CoreState) (o :
   pub ended : o.core.ended ≡ ended_after_commit r.ended
   pub stores : r.stores ≡ s.stores
   pub ends : (us : Uses) → Follows sh p s us → HasEnded r.ended
-  pub gives : (us : Uses) → Follows sh p s us → (ram : ℕ → ℕ) → IsSmall ram → Agrees us ram → IsSomeAnd (steps sh.base p r.n (begun s.saved ram)) (Gives r)
+  pub gives : (us : Uses) → Follows sh p s us → (ram : ℕ → ℕ) → IsSmall ram → Agrees us ram
+      → IsSomeAnd (steps sh.base p r.n (begun s.saved ram)) (Gives r)
 
 pub data Leaves (sh : Shape) (p : Program) (c : ℕ) (s : CoreState) (o : Out) : Type 0 where
   Stays : o.commit ≡ None → o.core.saved ≡ s.saved → end_after o.core.phase o.core.ended ≡ end_after s.phase s.ended → Leaves sh p c s o
   Closes : (t : ℕ) (r : CoreState) → Closing sh p c t s r o → Leaves sh p c s o
 
 -- an attempt that ends
-next-gives : (p : Program) (base : ℕ) (s : CoreState) (ram : ℕ → ℕ) (a : Attempt) (need : Need) → IsEnd need → Reaches s ram a → s.ended ≡ Goes → p.need s.local ≡ need → IsSomeAnd (when_going base p a a.outcome) (Gives (finished p need 0 s))
+next-gives : (p : Program) (base : ℕ) (s : CoreState) (ram : ℕ → ℕ) (a : Attempt) (need : Need) → IsEnd need → Reaches s ram a
+    → s.ended ≡ Goes → p.need s.local ≡ need → IsSomeAnd (when_going base p a a.outcome) (Gives (finished p need 0 s))
 unfolding finished one_more_instruction plain_step
-next-gives p base s ram a Ends i k e n = rw (k.outcome, e, k.local, n) (record { local = refl; loads = k.loads; stores = k.stores; console = k.console; outcome = refl })
-next-gives p base s ram a (Halts x) i k e n = rw (k.outcome, e, k.local, n) (record { local = refl; loads = k.loads; stores = k.stores; console = k.console; outcome = refl })
-next-gives p base s ram a (Traps x) i k e n = rw (k.outcome, e, k.local, n) (record { local = refl; loads = k.loads; stores = k.stores; console = k.console; outcome = refl })
+next-gives p base s ram a Ends i k e n =
+    rw (k.outcome, e, k.local, n) (record { local = refl; loads = k.loads; stores = k.stores; console = k.console; outcome = refl })
+next-gives p base s ram a (Halts x) i k e n =
+    rw (k.outcome, e, k.local, n) (record { local = refl; loads = k.loads; stores = k.stores; console = k.console; outcome = refl })
+next-gives p base s ram a (Traps x) i k e n =
+    rw (k.outcome, e, k.local, n) (record { local = refl; loads = k.loads; stores = k.stores; console = k.console; outcome = refl })
 next-gives p base s ram a _ i k e n = absurd i
 
-last-gives : (sh : Shape) (p : Program) (s : CoreState) (us : Uses) (need : Need) (t : ℕ) → IsEnd need → s.phase ≡ Solo t → p.need s.local ≡ need → Follows sh p s us → (ram : ℕ → ℕ) → IsSmall ram → Agrees us ram → IsSomeAnd (steps sh.base p (suc s.n) (begun s.saved ram)) (Gives (finished p need 0 s))
+last-gives : (sh : Shape) (p : Program) (s : CoreState) (us : Uses) (need : Need) (t : ℕ) → IsEnd need → s.phase ≡ Solo t
+    → p.need s.local ≡ need → Follows sh p s us → (ram : ℕ → ℕ) → IsSmall ram → Agrees us ram
+    → IsSomeAnd (steps sh.base p (suc s.n) (begun s.saved ram)) (Gives (finished p need 0 s))
 unfolding steps
 last-gives sh p s us need t i ph n f ram sm ag =
     let follows : FollowsIn sh p s us (Solo t) = subst (FollowsIn sh p s us) ph (f.steps) in
@@ -73,13 +80,15 @@ ready-leaves sh p c t s e = Closes t s (record {
   ended = refl;
   stores = refl;
   ends = λ us f. ends (rw e at (f.ends));
-  gives = λ us f ram sm ag. reaches-gives s ram (steps sh.base p s.n (begun s.saved ram)) (follows us (subst (FollowsIn sh p s us) e (f.steps)) ram sm ag);
+  gives = λ us f ram sm ag. reaches-gives s ram (steps sh.base p s.n (begun s.saved ram))
+      (follows us (subst (FollowsIn sh p s us) e (f.steps)) ram sm ag);
 })
   where
     ends : EndFits (Ready t) s.ended → HasEnded s.ended
     ends h = h
 
-    follows : (us : Uses) → FollowsIn sh p s us (Ready t) → (ram : ℕ → ℕ) → IsSmall ram → Agrees us ram → IsSomeAnd (steps sh.base p s.n (begun s.saved ram)) (Reaches s ram)
+    follows : (us : Uses) → FollowsIn sh p s us (Ready t) → (ram : ℕ → ℕ) → IsSmall ram → Agrees us ram
+        → IsSomeAnd (steps sh.base p s.n (begun s.saved ram)) (Reaches s ram)
     follows us h = h
 
 pub exec-leaves : (sh : Shape) (p : Program) (c : ℕ) (s : CoreState) → IfSome (core_exec sh p c s) (Leaves sh p c s)
@@ -97,7 +106,10 @@ exec-leaves sh p c s = each-exec sh p c s (Leaves sh p c s) go
       ended = refl;
       stores = refl;
       ends = λ us g. subst (λ (v : CoreState). HasEnded v.ended) (f.is) (ended-ends p s (f.need) (f.end));
-      gives = λ us g ram sm ag. let c : suc s.n ≡ s.n + 1 = omega arith in subst (λ (m : ℕ). IsSomeAnd (steps sh.base p m (begun s.saved ram)) (Gives (after_end s l e))) c (subst (λ (v : CoreState). IsSomeAnd (steps sh.base p (suc s.n) (begun s.saved ram)) (Gives v)) (f.is) (last-gives sh p s us (f.need) t (f.end) r (f.at) g ram sm ag));
+      gives = λ us g ram sm ag. let c : suc s.n ≡ s.n + 1 = omega arith in
+          subst (λ (m : ℕ). IsSomeAnd (steps sh.base p m (begun s.saved ram)) (Gives (after_end s l e))) c
+          (subst (λ (v : CoreState). IsSomeAnd (steps sh.base p (suc s.n) (begun s.saved ram)) (Gives v)) (f.is)
+          (last-gives sh p s us (f.need) t (f.end) r (f.at) g ram sm ag));
     })
     go (Commits_now t e) = ready-leaves sh p c t s e
     go _ = Stays refl refl refl

@@ -39,11 +39,13 @@ pub as-before : (s r : CoreState) → r.phase ≡ s.phase → ((x : ℕ) → Sti
 as-before s r p h = Kept (λ t e. rw p e) h
 
 -- the phase changes, and the core keeps the TID that it has in q
-pub tid-kept : (s r : CoreState) (q : Phase) → s.phase ≡ q → ((t : ℕ) → has_tid q t ≡ true → has_tid r.phase t ≡ true) → ((x : ℕ) → StillRead s.cache r.cache x) → Reading s r
+pub tid-kept : (s r : CoreState) (q : Phase) → s.phase ≡ q → ((t : ℕ) → has_tid q t ≡ true → has_tid r.phase t ≡ true)
+    → ((x : ℕ) → StillRead s.cache r.cache x) → Reading s r
 tid-kept s r q e n h = Kept (λ t y. n t (rw e at y)) h
 
 -- a core without a TID enters another phase
-pub no-tid : (s r : CoreState) (q : Phase) → s.phase ≡ q → ((t : ℕ) → has_tid q t ≡ false) → ((x : ℕ) → StillRead s.cache r.cache x) → Reading s r
+pub no-tid : (s r : CoreState) (q : Phase) → s.phase ≡ q → ((t : ℕ) → has_tid q t ≡ false) → ((x : ℕ) → StillRead s.cache r.cache x)
+    → Reading s r
 no-tid s r q e n h = tid-kept s r q e (λ t y. absurd (let z = n t in cc)) h
 
 -- what the changes of a cache do
@@ -51,7 +53,8 @@ reads-marked : (w x v : ℕ) (c : Cache) → c.value w ≡ Some x → StillRead 
 unfolding marked
 reads-marked w x v c e = go (w == v) refl
   where
-    go : (b : Bool) → (w == v) ≡ b → (if b then c.read v || not (c.modified v) else c.read v) ≡ true → (is_some (c.value v) ≡ true) ⊎ ((c.read v ≡ true) × (c.value v ≡ c.value v))
+    go : (b : Bool) → (w == v) ≡ b → (if b then c.read v || not (c.modified v) else c.read v) ≡ true
+        → (is_some (c.value v) ≡ true) ⊎ ((c.read v ≡ true) × (c.value v ≡ c.value v))
     go true q h = let i : w ≡ v = grind (arith, nat_tests) in inl (subst (λ y. is_some (c.value y) ≡ true) i (rw e refl))
     go false q h = inr (h, refl)
 
@@ -59,7 +62,8 @@ reads-stored : (w x v : ℕ) (also : Bool) (c : Cache) → StillRead c (stored w
 unfolding stored
 reads-stored w x v also c = go (w == v) (v == w) refl refl
   where
-    go : (a b : Bool) → (w == v) ≡ a → (v == w) ≡ b → (if a then also || c.read v else c.read v) ≡ true → (is_some (if b then Some x else c.value v) ≡ true) ⊎ ((c.read v ≡ true) × ((if b then Some x else c.value v) ≡ c.value v))
+    go : (a b : Bool) → (w == v) ≡ a → (v == w) ≡ b → (if a then also || c.read v else c.read v) ≡ true
+        → (is_some (if b then Some x else c.value v) ≡ true) ⊎ ((c.read v ≡ true) × ((if b then Some x else c.value v) ≡ c.value v))
     go a true p q h = inl refl
     go false false p q h = inr (h, refl)
     go true false p q h = absurd (grind (arith, nat_tests))
@@ -70,7 +74,8 @@ reads-placed sh l v c h = inr (sym (read-placed sh l c v) ∙ h, value-placed sh
 reads-then : (b c d : Cache) (v : ℕ) → StillRead b c v → StillRead c d v → StillRead b d v
 reads-then b c d v f g h = elim (g h) [ inl y ↦ inl y | inr y ↦ further (y.1) (f (y.0)) ]
   where
-    further : d.value v ≡ c.value v → (is_some (c.value v) ≡ true) ⊎ ((b.read v ≡ true) × (c.value v ≡ b.value v)) → (is_some (d.value v) ≡ true) ⊎ ((b.read v ≡ true) × (d.value v ≡ b.value v))
+    further : d.value v ≡ c.value v → (is_some (c.value v) ≡ true) ⊎ ((b.read v ≡ true) × (c.value v ≡ b.value v))
+        → (is_some (d.value v) ≡ true) ⊎ ((b.read v ≡ true) × (d.value v ≡ b.value v))
     further e (inl y) = inl (rw e y)
     further e (inr y) = inr (y.0, e ∙ y.1)
 
@@ -85,7 +90,10 @@ reading-exec sh p c s = each-exec sh p c s (λ o. Reading s o.core) go
     go : (x : Did sh p c s) → Reading s (out x).core
     go (Reads a x z l g r f) = as-before s _ refl (λ v. reads-marked (w a) x v s.cache f)
     go (Frames a y also n k g i f) = as-before s _ refl (λ v. reads-stored (w a) y v also s.cache)
-    go (Frames_anew a y n k g i q f h) = as-before s _ refl (λ v. reads-then s.cache (placed sh (line_of (w a)) s.cache) (stored (w a) y false (placed sh (line_of (w a)) s.cache)) v (reads-placed sh (line_of (w a)) v s.cache) (reads-stored (w a) y v false (placed sh (line_of (w a)) s.cache)))
+    go (Frames_anew a y n k g i q f h) =
+        as-before s _ refl (λ v. reads-then s.cache (placed sh (line_of (w a)) s.cache)
+        (stored (w a) y false (placed sh (line_of (w a)) s.cache)) v (reads-placed sh (line_of (w a)) v s.cache)
+        (reads-stored (w a) y v false (placed sh (line_of (w a)) s.cache)))
     go (Misses_anew a n g i q f) = as-before s _ refl (λ v. reads-placed sh (line_of (w a)) v s.cache)
     go (Room_wanted r i) = no-tid s _ Running r (λ t. refl) (reads-same s.cache)
     go (Ends_run l e f r i) = no-tid s _ Running r (λ t. refl) (reads-same s.cache)
@@ -98,7 +106,8 @@ reads-evicted : (x y l v : ℕ) (c : Cache) → c.at x y ≡ Some l → StillRea
 unfolding evicted evicted_line
 reads-evicted x y l v c e = rw e (go (l == line_of v))
   where
-    go : (b : Bool) → (if b then false else c.read v) ≡ true → (is_some (if b then None else c.value v) ≡ true) ⊎ ((c.read v ≡ true) × ((if b then None else c.value v) ≡ c.value v))
+    go : (b : Bool) → (if b then false else c.read v) ≡ true → (is_some (if b then None else c.value v) ≡ true)
+        ⊎ ((c.read v ≡ true) × ((if b then None else c.value v) ≡ c.value v))
     go true h = absurd (cc)
     go false h = inr (h, refl)
 

@@ -25,7 +25,8 @@ reads-filled : (l v : ℕ) (ws : List ℕ) (c : Cache) → StillRead c (filled l
 unfolding filled
 reads-filled l v ws c = go (l == line_of v)
   where
-    go : (b : Bool) → c.read v ≡ true → (is_some (if b then Some (unwrap_or (c.value v) (get_or ws (place_of v) 0)) else c.value v) ≡ true) ⊎ ((c.read v ≡ true) × ((if b then Some (unwrap_or (c.value v) (get_or ws (place_of v) 0)) else c.value v) ≡ c.value v))
+    go : (b : Bool) → c.read v ≡ true → (is_some (if b then Some (unwrap_or (c.value v) (get_or ws (place_of v) 0)) else c.value v) ≡ true)
+        ⊎ ((c.read v ≡ true) × ((if b then Some (unwrap_or (c.value v) (get_or ws (place_of v) 0)) else c.value v) ≡ c.value v))
     go true h = inl refl
     go false h = inr (h, refl)
 
@@ -46,7 +47,8 @@ abbrev pub PassesTid : Shape → CoreState → (dir serving line tid : ℕ) → 
 PassesTid sh s d n l u = home sh l ≡ d → (t : ℕ) → has_tid s.phase t ≡ true → t ≤ u → t < n
 
 -- a core that isn't violated: a read word that becomes invalid is one of a core that is ahead
-unhurt : (sh : Shape) (l m u d n : ℕ) (s : CoreState) → is_violated l m u s ≡ false → PassesTid sh s d n l u → ReadOf sh d n s → ReadOf sh d n (words_invalidated l m s)
+unhurt : (sh : Shape) (l m u d n : ℕ) (s : CoreState) → is_violated l m u s ≡ false → PassesTid sh s d n l u → ReadOf sh d n s
+    → ReadOf sh d n (words_invalidated l m s)
 unfolding words_invalidated invalidated is_violated
 unhurt sh l m u d n s v p k x e y = go (hit l m x) refl
   where
@@ -59,24 +61,29 @@ unhurt sh l m u d n s v p k x e y = go (hit l m x) refl
 
     go : (b : Bool) → hit l m x ≡ b → ValidOrPassed (if b && not (s.cache.modified x) then None else s.cache.value x) s.phase n
     go false q = k x e y
-    go true q = let i = hit-line l m x q in inr (passed i (ahead (reads_masked l m s.cache) (may_be_above u s.phase) (hit-reads l m s.cache x y q i) v))
+    go true q = let i = hit-line l m x q in
+        inr (passed i (ahead (reads_masked l m s.cache) (may_be_above u s.phase) (hit-reads l m s.cache x y q i) v))
 
 -- what is asked of a message: of an invalidation, that its line's home has passed the TID of a core that is ahead of it
 abbrev pub Admits : Shape → CoreState → (dir serving : ℕ) → Msg → Type 0
 Admits sh s d n (Inv l m u) = PassesTid sh s d n l u
 Admits sh s d n _ = Unit {0}
 
-pub reads-back : (sh : Shape) (e d n : ℕ) (s : CoreState) (m : Msg) → OneCore sh s → Admits sh s d n m → ReadOf sh d n s → IfSome (from_dir sh e s m) (λ o. ReadOf sh d n o.core)
+pub reads-back : (sh : Shape) (e d n : ℕ) (s : CoreState) (m : Msg) → OneCore sh s → Admits sh s d n m → ReadOf sh d n s
+    → IfSome (from_dir sh e s m) (λ o. ReadOf sh d n o.core)
 unfolding words_invalidated invalidated cleaned rolled_back read_cleared has_tid
-reads-back sh e d n s m h p k = given (from_dir sh e s m) (Admits sh s d n m) (λ o. ReadOf sh d n o.core) (each-back sh e s (λ m o. Admits sh s d n m → ReadOf sh d n o.core) go m) p
+reads-back sh e d n s m h p k = given (from_dir sh e s m) (Admits sh s d n m) (λ o. ReadOf sh d n o.core)
+    (each-back sh e s (λ m o. Admits sh s d n m → ReadOf sh d n o.core) go m) p
   where
     kept : (r : CoreState) → Reading s r → ReadOf sh d n r
     kept r y = read-kept sh d n s r y k
 
     go : (x : Heard sh e s) → Admits sh s d n (message x) → ReadOf sh d n (heard x).core
-    go (Last_probing u v q o r) p = kept (record s { owing = put s.owing e false; phase = Ready u }) (tid-kept s _ (Probing u) q (λ t z. z) (reads-same s.cache))
+    go (Last_probing u v q o r) p = kept (record s { owing = put s.owing e false; phase = Ready u })
+        (tid-kept s _ (Probing u) q (λ t z. z) (reads-same s.cache))
     go (Last_room u v q o r) p = λ x f y. absurd (cc)
-    go (Fills l ws a q i f) p = kept (record s { cache = filled l ws s.cache; awaited = None }) (as-before s _ refl (λ v. reads-filled l v ws s.cache))
+    go (Fills l ws a q i f) p = kept (record s { cache = filled l ws s.cache; awaited = None })
+        (as-before s _ refl (λ v. reads-filled l v ws s.cache))
     go (Hands_out l) p = kept (record s { cache = cleaned l s.cache }) (as-before s _ refl (λ v z. inr (z, refl)))
     go (Hurt_none l m u (inl v)) p = unhurt sh l m u d n s v p k
     go (Hurt_none l m u (inr q)) p = λ x f y. absurd (let z = (h.rested q).unread x in let i : s.cache.read x ≡ true = y in cc)

@@ -28,7 +28,8 @@ unmarked-word c l v h e = go (c.modified v) (c.read v) refl refl
     marked : (c.read v || c.modified v) ≡ true → ⊥
     marked q =
         let m : (c.read (8 * l + v % 8) || c.modified (8 * l + v % 8)) ≡ true = rw r q in
-        let a : any_below (λ k. c.read (8 * l + k) || c.modified (8 * l + k)) 8 ≡ true = any_below-at (λ k. c.read (8 * l + k) || c.modified (8 * l + k)) 8 (v % 8) (omega arith) m in
+        let a : any_below (λ k. c.read (8 * l + k) || c.modified (8 * l + k)) 8 ≡ true =
+        any_below-at (λ k. c.read (8 * l + k) || c.modified (8 * l + k)) 8 (v % 8) (omega arith) m in
         cc
 
     go : (a b : Bool) → c.modified v ≡ a → c.read v ≡ b → (c.modified v ≡ false) × (c.read v ≡ false)
@@ -36,15 +37,18 @@ unmarked-word c l v h e = go (c.modified v) (c.read v) refl refl
     go a true q q' = absurd (marked (rw q' refl))
     go true false q q' = absurd (marked (rw (q', q) refl))
 
-pub evicted-modified : (x y l : ℕ) (c : Cache) → c.at x y ≡ Some l → is_marked c l ≡ false → (v : ℕ) → ((evicted x y c).modified v ≡ c.modified v) × ((evicted x y c).read v ≡ c.read v)
+pub evicted-modified : (x y l : ℕ) (c : Cache) → c.at x y ≡ Some l → is_marked c l ≡ false → (v : ℕ)
+    → ((evicted x y c).modified v ≡ c.modified v) × ((evicted x y c).read v ≡ c.read v)
 unfolding evicted evicted_line
 evicted-modified x y l c e m v = rw e (go (l == line_of v) refl)
   where
-    go : (b : Bool) → (l == line_of v) ≡ b → ((if b then false else c.modified v) ≡ c.modified v) × ((if b then false else c.read v) ≡ c.read v)
+    go : (b : Bool) → (l == line_of v) ≡ b → ((if b then false else c.modified v) ≡ c.modified v)
+        × ((if b then false else c.read v) ≡ c.read v)
     go false q = (refl, refl)
     go true q = let u = unmarked-word c l v m (grind (arith, nat_tests)) in (sym (u.0), sym (u.1))
 
-pub steady-emptied : (sh : Shape) (x y : ℕ) (s : CoreState) (l : ℕ) → s.cache.at x y ≡ Some l → is_awaited s.awaited l ≡ false → (is_marked s.cache l ≡ false) ⊎ (is_solo s.phase ≡ true) → Steady s (emptied sh x y l s)
+pub steady-emptied : (sh : Shape) (x y : ℕ) (s : CoreState) (l : ℕ) → s.cache.at x y ≡ Some l → is_awaited s.awaited l ≡ false
+    → (is_marked s.cache l ≡ false) ⊎ (is_solo s.phase ≡ true) → Steady s (emptied sh x y l s)
 unfolding write_back_line passes
 steady-emptied sh x y s l e i m = record {
   phase = refl;
@@ -68,31 +72,64 @@ evict-steady sh x y s = each-evict sh x y s (Steady s) (steady-emptied sh x y s)
 
 pub ignored-steady : (s : CoreState) → Steady s (ignored s)
 unfolding among
-ignored-steady s = record { phase = refl; owing = refl; commit = refl; vendor = refl; quiet = λ d. refl; modified = λ h v. refl; read = λ h v. refl }
+ignored-steady s = record {
+  phase = refl;
+  owing = refl;
+  commit = refl;
+  vendor = refl;
+  quiet = λ d. refl;
+  modified = λ h v. refl;
+  read = λ h v. refl;
+}
 
 pub fill-steady : (l : ℕ) (ws : List ℕ) (s : CoreState) → Steady s (fill l ws s)
 unfolding fill among filled
 fill-steady l ws s = elim s.awaited as (λ a. Steady s (fill_awaited l ws s a)) [ None ↦ ignored-steady s | Some a ↦ one a (a.line == l) ]
   where
-    cached : (a : Bool) (v : ℕ) → ((if a then s.cache else filled l ws s.cache).modified v ≡ s.cache.modified v) × ((if a then s.cache else filled l ws s.cache).read v ≡ s.cache.read v)
+    cached : (a : Bool) (v : ℕ) → ((if a then s.cache else filled l ws s.cache).modified v ≡ s.cache.modified v)
+        × ((if a then s.cache else filled l ws s.cache).read v ≡ s.cache.read v)
     cached true v = (refl, refl)
     cached false v = (refl, refl)
 
-    one : (a : Awaited) (b : Bool) → Steady s (if b then moves (record s { cache = (if a.stale then s.cache else filled l ws s.cache); awaited = None }) nothing else ignored s)
+    one : (a : Awaited) (b : Bool)
+        → Steady s (if b then moves (record s { cache = (if a.stale then s.cache else filled l ws s.cache); awaited = None }) nothing
+        else ignored s)
     one a false = ignored-steady s
-    one a true = record { phase = refl; owing = refl; commit = refl; vendor = refl; quiet = λ d. refl; modified = λ h v. (cached a.stale v).0; read = λ h v. (cached a.stale v).1 }
+    one a true =
+        record {
+          phase = refl;
+          owing = refl;
+          commit = refl;
+          vendor = refl;
+          quiet = λ d. refl;
+          modified = λ h v. (cached a.stale v).0;
+          read = λ h v. (cached a.stale v).1;
+        }
 
 pub data-steady : (sh : Shape) (l : ℕ) (s : CoreState) → Steady s (data_request sh l s)
 unfolding data_request cleaned flush_line passes
-data-steady sh l s = record { phase = refl; owing = refl; commit = refl; vendor = refl; quiet = λ d. quiet sh s Protocol (Flushes l) (λ y. refl) d; modified = λ h v. refl; read = λ h v. refl }
+data-steady sh l s =
+    record {
+      phase = refl;
+      owing = refl;
+      commit = refl;
+      vendor = refl;
+      quiet = λ d. quiet sh s Protocol (Flushes l) (λ y. refl) d;
+      modified = λ h v. refl;
+      read = λ h v. refl;
+    }
 
 -- what an invalidation comes to, apart from the words that it makes invalid
 pub data Hurt (sh : Shape) (s r : CoreState) (sends : Sends) : Type 0 where
-  Unhurt : r.phase ≡ s.phase → r.owing ≡ s.owing → ((v : ℕ) → r.cache.modified v ≡ s.cache.modified v) → ((v : ℕ) → r.cache.read v ≡ s.cache.read v) → ((n : Node) → sends n ≡ []) → Hurt sh s r sends
+  Unhurt : r.phase ≡ s.phase → r.owing ≡ s.owing → ((v : ℕ) → r.cache.modified v ≡ s.cache.modified v)
+      → ((v : ℕ) → r.cache.read v ≡ s.cache.read v) → ((n : Node) → sends n ≡ []) → Hurt sh s r sends
   Rolled : s.phase ≡ Running → r.phase ≡ Running → r.owing ≡ (λ d. false) → ((n : Node) → sends n ≡ []) → Hurt sh s r sends
-  Doomed : (s.phase ≡ AwaitTid) ⊎ (s.phase ≡ Overflowing None) → r.phase ≡ DoomedTid → r.owing ≡ (λ d. false) → ((n : Node) → sends n ≡ []) → Hurt sh s r sends
-  Aborted : (t : ℕ) → (s.phase ≡ Probing t) ⊎ (s.phase ≡ Ready t) → r.phase ≡ Running → r.owing ≡ (λ d. false) → sends ≡ abort_written sh s.cache t → Hurt sh s r sends
-  Gave_up : (t : ℕ) → (s.phase ≡ Overflowing (Some t)) ⊎ (s.phase ≡ Solo t) → r.phase ≡ Running → r.owing ≡ (λ d. false) → sends ≡ skip_all sh t → Hurt sh s r sends
+  Doomed : (s.phase ≡ AwaitTid) ⊎ (s.phase ≡ Overflowing None) → r.phase ≡ DoomedTid → r.owing ≡ (λ d. false) → ((n : Node) → sends n ≡ [])
+      → Hurt sh s r sends
+  Aborted : (t : ℕ) → (s.phase ≡ Probing t) ⊎ (s.phase ≡ Ready t) → r.phase ≡ Running → r.owing ≡ (λ d. false)
+      → sends ≡ abort_written sh s.cache t → Hurt sh s r sends
+  Gave_up : (t : ℕ) → (s.phase ≡ Overflowing (Some t)) ⊎ (s.phase ≡ Solo t) → r.phase ≡ Running → r.owing ≡ (λ d. false)
+      → sends ≡ skip_all sh t → Hurt sh s r sends
 
 -- the acknowledgement stands behind all else
 pub record Invalidated (sh : Shape) (l : ℕ) (s : CoreState) (o : Out) : Type 0 where
@@ -106,8 +143,12 @@ pub record Invalidated (sh : Shape) (l : ℕ) (s : CoreState) (o : Out) : Type 0
 -- what a reply comes to: it isn't the one that the core waits for, or one less is owed
 pub data Replied (sh : Shape) (e u : ℕ) (s : CoreState) (o : Out) : Type 0 where
   Ignored : o ≡ ignored s → ((s.phase ≡ Probing u) ⊎ (s.phase ≡ Overflowing (Some u)) → s.owing e ≡ false) → Replied sh e u s o
-  Probed : s.phase ≡ Probing u → s.owing e ≡ true → o.core.phase ≡ (if all_replied sh (put s.owing e false) then Ready u else Probing u) → o.core.owing ≡ put s.owing e false → o.core.cache ≡ s.cache → o.sends ≡ to (Dir e) (marks_for sh s.cache u e) → o.commit ≡ None → Replied sh e u s o
-  Left_alone : s.phase ≡ Overflowing (Some u) → s.owing e ≡ true → o.core.phase ≡ (if all_replied sh (put s.owing e false) then Solo u else Overflowing (Some u)) → o.core.owing ≡ put s.owing e false → ((v : ℕ) → o.core.cache.modified v ≡ s.cache.modified v) → o.sends ≡ nothing → o.commit ≡ None → Replied sh e u s o
+  Probed : s.phase ≡ Probing u → s.owing e ≡ true → o.core.phase ≡ (if all_replied sh (put s.owing e false) then Ready u else Probing u)
+      → o.core.owing ≡ put s.owing e false → o.core.cache ≡ s.cache → o.sends ≡ to (Dir e) (marks_for sh s.cache u e) → o.commit ≡ None
+      → Replied sh e u s o
+  Left_alone : s.phase ≡ Overflowing (Some u) → s.owing e ≡ true
+      → o.core.phase ≡ (if all_replied sh (put s.owing e false) then Solo u else Overflowing (Some u)) → o.core.owing ≡ put s.owing e false
+      → ((v : ℕ) → o.core.cache.modified v ≡ s.cache.modified v) → o.sends ≡ nothing → o.commit ≡ None → Replied sh e u s o
 
 -- what such a message comes to
 abbrev Back : Shape → (dir : ℕ) → CoreState → Msg → Out → Type 0
@@ -115,8 +156,16 @@ Back sh e s (ProbeReply u v) o = Replied sh e u s o
 Back sh e s (Inv l m u) o = Invalidated sh l s o
 Back sh e s _ o = Unit {0}
 
-invalidated-acked : (sh : Shape) (l : ℕ) (s r : CoreState) (q : Said) → say sh s q Vendor ≡ [] → Hurt sh s r (say sh s q) → Invalidated sh l s (acked sh l r (say sh s q))
-invalidated-acked sh l s r q v h = record { sends = say sh s q; kept = keeps r.cache l; hurt = h; dirs = λ d. refl; vendor = rw v refl; commit = refl }
+invalidated-acked : (sh : Shape) (l : ℕ) (s r : CoreState) (q : Said) → say sh s q Vendor ≡ [] → Hurt sh s r (say sh s q)
+    → Invalidated sh l s (acked sh l r (say sh s q))
+invalidated-acked sh l s r q v h = record {
+  sends = say sh s q;
+  kept = keeps r.cache l;
+  hurt = h;
+  dirs = λ d. refl;
+  vendor = rw v refl;
+  commit = refl;
+}
 
 back-case : {sh : Shape} {e : ℕ} {s : CoreState} (x : Heard sh e s) → Back sh e s (message x) (heard x)
 unfolding read_cleared invalidated skip_all abort_written

@@ -15,8 +15,17 @@ pub record Steady (s : CoreState) (o : Out) : Type 0 where
   pub modified : (Acts s.phase → ⊥) → (v : ℕ) → o.core.cache.modified v ≡ s.cache.modified v
   pub read : (Acts s.phase → ⊥) → (v : ℕ) → o.core.cache.read v ≡ s.cache.read v
 
-steady-said : (sh : Shape) (s r : CoreState) (q : Said) → Acts s.phase → r.phase ≡ s.phase → r.owing ≡ s.owing → say sh s q Vendor ≡ [] → Unheard Protocol q → Steady s (moves r (say sh s q))
-steady-said sh s r q a ph ow v u = record { phase = ph; owing = ow; commit = refl; vendor = v; quiet = λ d. quiet sh s Protocol q u d; modified = λ h. absurd (h a); read = λ h. absurd (h a) }
+steady-said : (sh : Shape) (s r : CoreState) (q : Said) → Acts s.phase → r.phase ≡ s.phase → r.owing ≡ s.owing → say sh s q Vendor ≡ []
+    → Unheard Protocol q → Steady s (moves r (say sh s q))
+steady-said sh s r q a ph ow v u = record {
+  phase = ph;
+  owing = ow;
+  commit = refl;
+  vendor = v;
+  quiet = λ d. quiet sh s Protocol q u d;
+  modified = λ h. absurd (h a);
+  read = λ h. absurd (h a);
+}
 
 -- so is an event that ends no transaction and asks for no TID
 abbrev pub IfSteady : {sh : Shape} {p : Program} {c : ℕ} {s : CoreState} → Did sh p c s → Type 0
@@ -32,8 +41,11 @@ did-steady {sh} {p} {c} {s} (Idles n l b g) = steady-said sh s _ Silent g.acts r
 did-steady {sh} {p} {c} {s} (Finds a x z l g f) = steady-said sh s _ Silent g.acts refl refl refl (λ x. refl)
 did-steady {sh} {p} {c} {s} (Reads a x z l g r f) = steady-said sh s _ Silent g.acts refl refl refl (λ x. refl)
 did-steady {sh} {p} {c} {s} (Buffers a y v n k g i q h) = steady-said sh s _ Silent g.acts refl refl refl (λ x. refl)
-did-steady {sh} {p} {c} {s} (Frames a y also n k g i f) = steady-said sh s _ (Flushes (line_of (word_of sh.base a))) g.acts refl refl refl (λ x. refl)
+did-steady {sh} {p} {c} {s} (Frames a y also n k g i f) = steady-said sh s _ (Flushes (line_of (word_of sh.base a))) g.acts refl refl refl
+    (λ x. refl)
 did-steady {sh} {p} {c} {s} (Frames_anew a y n k g i q f h) = steady-said sh s _ Silent g.acts refl refl refl (λ x. refl)
-did-steady {sh} {p} {c} {s} (Misses a n g i q) = steady-said sh s _ (Requests (line_of (word_of sh.base a))) g.acts refl refl refl (λ x. refl)
-did-steady {sh} {p} {c} {s} (Misses_anew a n g i q f) = steady-said sh s _ (Requests (line_of (word_of sh.base a))) g.acts refl refl refl (λ x. refl)
+did-steady {sh} {p} {c} {s} (Misses a n g i q) = steady-said sh s _ (Requests (line_of (word_of sh.base a))) g.acts refl refl refl
+    (λ x. refl)
+did-steady {sh} {p} {c} {s} (Misses_anew a n g i q f) = steady-said sh s _ (Requests (line_of (word_of sh.base a))) g.acts refl refl refl
+    (λ x. refl)
 did-steady _ = tt

@@ -52,7 +52,8 @@ hears k (Flushes l) x = passes k (Flush x.line x.mask x.words x.tag)
 hears k (Empties l) x = passes k (WriteBack x.line x.mask x.words x.tag)
 hears k (Requests l) x = passes k (LoadReq l x.tag)
 hears k (Tells_commit t) x = passes k (Commit t x.count)
-hears k (Tells_alone t) x = (passes k (Mark x.line x.mask t) || passes k (Commit t x.count)) || (passes k (Skip t) || passes k (WriteBack x.line x.mask x.words t))
+hears k (Tells_alone t) x = (passes k (Mark x.line x.mask t) || passes k (Commit t x.count))
+    || (passes k (Skip t) || passes k (WriteBack x.line x.mask x.words t))
 hears k (Answers t) x = passes k (Skip t) || passes k (Probe t)
 hears k (Skips_all t) x = passes k (Skip t)
 hears k (Probes_all t) x = passes k (Probe t)
@@ -72,9 +73,11 @@ pub one-quiet : (k : Kind) (m : Msg) (b : Bool) → passes k m ≡ false → amo
 unfolding among
 one-quiet k m a e = grind (arith, nat_tests)
 
-marks-quiet : (k : Kind) (f : ℕ → ℕ) (t : ℕ) (ls : List ℕ) → ((x : Piece) → passes k (Mark x.line x.mask t) ≡ false) → among k (flat_map (λ l. Mark l (f l) t ∷ []) ls) ≡ 0
+marks-quiet : (k : Kind) (f : ℕ → ℕ) (t : ℕ) (ls : List ℕ) → ((x : Piece) → passes k (Mark x.line x.mask t) ≡ false)
+    → among k (flat_map (λ l. Mark l (f l) t ∷ []) ls) ≡ 0
 unfolding among
-marks-quiet k f t ls h = among-flat_map_none k (λ l. Mark l (f l) t ∷ []) (λ l. rw (h (record { line = l; mask = f l; words = []; tag = t; count = 0 })) refl) ls
+marks-quiet k f t ls h = among-flat_map_none k (λ l. Mark l (f l) t ∷ [])
+    (λ l. rw (h (record { line = l; mask = f l; words = []; tag = t; count = 0 })) refl) ls
 
 -- nothing of the kind is among what is said
 pub quiet : (sh : Shape) (s : CoreState) (k : Kind) (q : Said) → Unheard k q → (d : ℕ) → among k (say sh s q (Dir d)) ≡ 0
@@ -92,7 +95,8 @@ quiet sh s k (Empties l) h d = go (d == home sh l) (dirty_copy s.cache l)
     go true (Some t) = rw (h (record { line = t.line; mask = t.mask; words = t.words; tag = t.tag; count = 0 })) refl
     go true None = refl
     go false t = refl
-quiet sh s k (Requests l) h d = one-quiet k _ (d == home sh l) (h (record { line = l; mask = 0; words = []; tag = s.last_commit (home sh l); count = 0 }))
+quiet sh s k (Requests l) h d =
+    one-quiet k _ (d == home sh l) (h (record { line = l; mask = 0; words = []; tag = s.last_commit (home sh l); count = 0 }))
 quiet sh s k (Tells_commit t) h d = go (nat_lt d sh.dirs) (writes_at sh s.cache d)
   where
     n : ℕ
@@ -103,7 +107,8 @@ quiet sh s k (Tells_commit t) h d = go (nat_lt d sh.dirs) (writes_at sh s.cache 
     go false b = refl
 quiet sh s k (Tells_alone t) h d = go (nat_lt d sh.dirs) (solo_writes_at sh s.cache s.spilled d)
   where
-    each : (x : Piece) → ((passes k (Mark x.line x.mask t) ≡ false) × (passes k (Commit t x.count) ≡ false)) × ((passes k (Skip t) ≡ false) × (passes k (WriteBack x.line x.mask x.words t) ≡ false))
+    each : (x : Piece) → ((passes k (Mark x.line x.mask t) ≡ false) × (passes k (Commit t x.count) ≡ false))
+        × ((passes k (Skip t) ≡ false) × (passes k (WriteBack x.line x.mask x.words t) ≡ false))
     each x = let z = neither _ _ (h x) in (neither _ _ (z.0), neither _ _ (z.1))
 
     n : ℕ
@@ -113,13 +118,17 @@ quiet sh s k (Tells_alone t) h d = go (nat_lt d sh.dirs) (solo_writes_at sh s.ca
     of = record { line = 0; mask = 0; words = []; tag = t; count = n }
 
     marks : List Msg
-    marks = flat_map (λ l. Mark l (written_mask s.cache s.spilled l) t ∷ []) (those (λ l. d == home sh l && is_written s.cache s.spilled l) (lines sh))
+    marks = flat_map (λ l. Mark l (written_mask s.cache s.spilled l) t ∷ [])
+        (those (λ l. d == home sh l && is_written s.cache s.spilled l) (lines sh))
 
     backs : List Msg
-    backs = flat_map (λ l. WriteBack l (spilled_mask s.spilled l) (spilled_words s.spilled l) t ∷ []) (those (λ l. d == home sh l && holds s.spilled l) (lines sh))
+    backs = flat_map (λ l. WriteBack l (spilled_mask s.spilled l) (spilled_words s.spilled l) t ∷ [])
+        (those (λ l. d == home sh l && holds s.spilled l) (lines sh))
 
     back : among k backs ≡ 0
-    back = among-flat_map_none k (λ l. WriteBack l (spilled_mask s.spilled l) (spilled_words s.spilled l) t ∷ []) (λ l. rw ((each (record { line = l; mask = spilled_mask s.spilled l; words = spilled_words s.spilled l; tag = t; count = 0 })).1.1) refl) (those (λ l. d == home sh l && holds s.spilled l) (lines sh))
+    back = among-flat_map_none k (λ l. WriteBack l (spilled_mask s.spilled l) (spilled_words s.spilled l) t ∷ [])
+        (λ l. rw ((each (record { line = l; mask = spilled_mask s.spilled l; words = spilled_words s.spilled l; tag = t; count = 0 })).1.1)
+        refl) (those (λ l. d == home sh l && holds s.spilled l) (lines sh))
 
     mark : among k marks ≡ 0
     mark = marks-quiet k (written_mask s.cache s.spilled) t _ (λ x. (each x).0.0)
@@ -134,10 +143,16 @@ quiet sh s k (Answers t) h d = go (nat_lt d sh.dirs) (writes_at sh s.cache d) (w
     of = record { line = 0; mask = 0; words = []; tag = t; count = 0 }
 
     go : (a b c : Bool) → among k (if a then (if not b then Skip t ∷ [] else []) ++ (if c then Probe t ∷ [] else []) else []) ≡ 0
-    go true b c = rw among-append (omega (arith, one-quiet k (Skip t) (not b) ((neither _ _ (h of)).0), one-quiet k (Probe t) c ((neither _ _ (h of)).1)))
+    go true b c =
+        rw among-append (omega (
+          arith,
+          one-quiet k (Skip t) (not b) ((neither _ _ (h of)).0),
+          one-quiet k (Probe t) c ((neither _ _ (h of)).1),
+        ))
     go false b c = refl
 quiet sh s k (Skips_all t) h d = one-quiet k (Skip t) (nat_lt d sh.dirs) (h (record { line = 0; mask = 0; words = []; tag = t; count = 0 }))
-quiet sh s k (Probes_all t) h d = one-quiet k (Probe t) (nat_lt d sh.dirs) (h (record { line = 0; mask = 0; words = []; tag = t; count = 0 }))
+quiet sh s k (Probes_all t) h d =
+    one-quiet k (Probe t) (nat_lt d sh.dirs) (h (record { line = 0; mask = 0; words = []; tag = t; count = 0 }))
 quiet sh s k (Marks_at e t) h d = go (d == e)
   where
     go : (b : Bool) → among k (if b then flat_map (λ l. Mark l (modified_mask s.cache l) t ∷ []) (written_lines sh s.cache e) else []) ≡ 0
@@ -151,5 +166,6 @@ quiet sh s k (Aborts_all t) h d = go (nat_lt d sh.dirs) (writes_at sh s.cache d)
 quiet sh s k _ h d = refl
 
 -- nor where an acknowledgement stands behind it, of another kind too
-pub acked-quiet : (sh : Shape) (k : Kind) (l : ℕ) (b : Bool) (sends : Sends) (d : ℕ) → passes k (InvAck l b) ≡ false → among k (sends (Dir d)) ≡ among k (sends (Dir d) ++ to (Dir (home sh l)) (InvAck l b ∷ []) (Dir d))
+pub acked-quiet : (sh : Shape) (k : Kind) (l : ℕ) (b : Bool) (sends : Sends) (d : ℕ) → passes k (InvAck l b) ≡ false
+    → among k (sends (Dir d)) ≡ among k (sends (Dir d) ++ to (Dir (home sh l)) (InvAck l b ∷ []) (Dir d))
 acked-quiet sh k l b sends d e = rw among-append (omega (arith, one-quiet k (InvAck l b) (d == home sh l) e))

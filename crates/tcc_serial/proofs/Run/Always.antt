@@ -43,7 +43,12 @@ never_passes = from_kept NeverPasses (λ sh w k d t x l. passed sh w d t (k.told
 
 pub owed_from : (sh : Shape) (w : World) → KeptOwed sh w → OwedInFlight sh w
 unfolding pair
-owed_from sh w k = record { owed = k.owed; served = λ c d. (k.at_home c d).served; at_home = λ c d. (k.at_home c d).invs; marked_at_home = λ d l e. (k.at_home 0 d).marked l e }
+owed_from sh w k = record {
+  owed = k.owed;
+  served = λ c d. (k.at_home c d).served;
+  at_home = λ c d. (k.at_home c d).invs;
+  marked_at_home = λ d l e. (k.at_home 0 d).marked l e;
+}
 
 pub owed_in_flight : Always OwedInFlight
 owed_in_flight = from_kept OwedInFlight (λ sh w k. owed_from sh w k.told.owed)
@@ -62,7 +67,8 @@ opens-asks (Solo u) a b t o = (refl, grind (arith, nat_tests))
 opens-asks _ a b t o = absurd (cc)
 
 -- a directory that has replied serves the TID that is open there
-serves : (sh : Shape) (w : World) (c d t : ℕ) → Kept sh w → c < sh.cores → d < sh.dirs → opens (w.cores c).phase (writes_at sh (w.cores c).cache d) t ≡ true → (w.cores c).owing d ≡ false → (w.dirs d).serving.serving ≡ t
+serves : (sh : Shape) (w : World) (c d t : ℕ) → Kept sh w → c < sh.cores → d < sh.dirs
+    → opens (w.cores c).phase (writes_at sh (w.cores c).cache d) t ≡ true → (w.cores c).owing d ≡ false → (w.dirs d).serving.serving ≡ t
 unfolding handled share part pair
 serves sh w c d t k l x o r =
     let p = k.told.tids.resolved d t x in

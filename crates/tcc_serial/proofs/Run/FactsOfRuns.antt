@@ -37,7 +37,8 @@ holder-same : (w : World) (c d e t : ℕ) → holder t (pair w c d) ≡ holder t
 unfolding pair holder
 holder-same w c d e t = refl
 
-live-granted : (sh : Shape) (gs : List Grant) (h : History) → KeptAll sh gs h → (c d t : ℕ) → c < sh.cores → 1 ≤ holder t (pair h.world c d) → Contains gs (record { tid = t; core = c }) × (times t h.commits ≡ 0)
+live-granted : (sh : Shape) (gs : List Grant) (h : History) → KeptAll sh gs h → (c d t : ℕ) → c < sh.cores → 1 ≤ holder t (pair h.world c d)
+    → Contains gs (record { tid = t; core = c }) × (times t h.commits ≡ 0)
 unfolding share
 live-granted sh gs h k c d t l x =
     let y : 1 ≤ holder t (pair h.world c 0) = rw (holder-same h.world c 0 d t) x in
@@ -56,29 +57,47 @@ marked-came n s g m b e f = (go (nat_le n s) refl, none-coming (num (nat_le n s)
     go : (x : Bool) → nat_le n s ≡ x → s < n
     go a q = grind (arith, nat_tests)
 
-marked-line : (sh : Shape) (gs : List Grant) (h : History) → KeptAll sh gs h → (c d l : ℕ) → c < sh.cores → d < sh.dirs → has_mark (h.world.dirs d).lines l ≡ true → (home sh l ≡ d) × ((h.world.dirs d).serving.serving < h.world.next) × (live (Grants (h.world.dirs d).serving.serving) (pair h.world c d).grants ≡ 0)
+marked-line : (sh : Shape) (gs : List Grant) (h : History) → KeptAll sh gs h → (c d l : ℕ) → c < sh.cores → d < sh.dirs
+    → has_mark (h.world.dirs d).lines l ≡ true → (home sh l ≡ d) × ((h.world.dirs d).serving.serving < h.world.next)
+    × (live (Grants (h.world.dirs d).serving.serving) (pair h.world c d).grants ≡ 0)
 unfolding pair marks_of
 marked-line sh gs h k c d l cl dl e =
     let f = (k.marks c d (h.world.dirs d).serving.serving l).fresh in
-    let r = marked-came h.world.next (h.world.dirs d).serving.serving (live (Grants (h.world.dirs d).serving.serving) (pair h.world c d).grants) (live (MarkOf (h.world.dirs d).serving.serving l) (pair h.world c d).out) (has_mark (h.world.dirs d).lines l) e f in
+    let r =
+    marked-came h.world.next (h.world.dirs d).serving.serving (live (Grants (h.world.dirs d).serving.serving) (pair h.world c d).grants)
+    (live (MarkOf (h.world.dirs d).serving.serving l) (pair h.world c d).out) (has_mark (h.world.dirs d).lines l) e f in
     ((k.kept.told.owed.at_home c d).marked l e, r.0, r.1)
 
 none-marked : (a b c : Bool) → (a && b) ≡ false → num (a && (b && c)) ≡ 0
 none-marked a b c h = grind (arith, nat_tests)
 
-marks-wait : (sh : Shape) (gs : List Grant) (h : History) → KeptAll sh gs h → (c d t l : ℕ) → c < sh.cores → d < sh.dirs → MarksWait sh t l d (pair h.world c d)
+marks-wait : (sh : Shape) (gs : List Grant) (h : History) → KeptAll sh gs h → (c d t l : ℕ) → c < sh.cores → d < sh.dirs
+    → MarksWait sh t l d (pair h.world c d)
 unfolding marked_by
 marks-wait sh gs h k c d t l cl dl = record {
   fresh = (k.marks c d t l).fresh;
-  unsent = λ y z. omega (arith, (k.marks c d t l).held cl dl y, none-marked (has_marked (pair h.world c d).core.phase) (not ((pair h.world c d).core.owing d)) (stores_line sh (pair h.world c d).core.cache d l) z);
+  unsent =
+      λ y z. omega (
+        arith,
+        (k.marks c d t l).held cl dl y,
+        none-marked (has_marked (pair h.world c d).core.phase)
+            (not ((pair h.world c d).core.owing d)) (stores_line sh (pair h.world c d).core.cache d l) z,
+      );
 }
 
 -- the owner of a Mark is known by any of its lines
-mark-owner : (sh : Shape) (gs : List Grant) (h : History) → KeptAll sh gs h → (c d t : ℕ) → 1 ≤ live (Marks t) (pair h.world c d).out → Contains gs (record { tid = t; core = c })
+mark-owner : (sh : Shape) (gs : List Grant) (h : History) → KeptAll sh gs h → (c d t : ℕ) → 1 ≤ live (Marks t) (pair h.world c d).out
+    → Contains gs (record { tid = t; core = c })
 mark-owner sh gs h k c d t x = (k.marks c d t 0).owner (omega (arith, x))
 
-probes-taken : (sh : Shape) (gs : List Grant) (h : History) → KeptMore sh gs h → (c d t : ℕ) → 1 ≤ live (Probes t) (pair h.world c d).out + live (Replies t) (pair h.world c d).back → Contains gs (record { tid = t; core = c }) × (live (Grants t) (pair h.world c d).grants ≡ 0)
-probes-taken sh gs h m c d t x = (m.probed c d t x, none-coming (num (nat_le (pair h.world c d).next t)) (live (Grants t) (pair h.world c d).grants) (live (Probes t) (pair h.world c d).out + live (Replies t) (pair h.world c d).back) ((m.all.probing c d t).fresh) x)
+probes-taken : (sh : Shape) (gs : List Grant) (h : History) → KeptMore sh gs h → (c d t : ℕ)
+    → 1 ≤ live (Probes t) (pair h.world c d).out + live (Replies t) (pair h.world c d).back → Contains gs (record { tid = t; core = c })
+    × (live (Grants t) (pair h.world c d).grants ≡ 0)
+probes-taken sh gs h m c d t x = (
+  m.probed c d t x,
+  none-coming (num (nat_le (pair h.world c d).next t)) (live (Grants t) (pair h.world c d).grants)
+      (live (Probes t) (pair h.world c d).out + live (Replies t) (pair h.world c d).back) ((m.all.probing c d t).fresh) x,
+)
 
 -- what is proved by itself of every run
 pub record ProvedAlone (sh : Shape) (ys : Ways) (h : History) : Type 0 where
@@ -150,15 +169,36 @@ carried sh gs ys h x t = let m = x.more in let k = m.all in record {
   read_mark_is_valid_or_passed = read-words sh gs h.world h.commits k.owners k.last m.reads;
 }
 
-proved-alone : (sh : Shape) (p : Program) (entries : ℕ → Local) (ram : ℕ → ℕ) (es : List Event) → IfSome (run sh p (start entries ram) es) (λ h. ProvedAlone sh (ways_from sh p es first_ways (first_state entries ram)) h)
-proved-alone sh p entries ram es = go (run sh p (start entries ram) es) (untold_where_open sh p entries ram es) (untold_is_live sh p entries ram es) (all_ways_fit sh p entries ram es) (given_up_once sh p entries ram es) (live_is_open sh p entries ram es) (committed_where_stored sh p entries ram es) (smaller_are_given_up sh p entries ram es) (work_is_reached sh p entries ram es) (marked_by_served sh p entries ram es) (marks_of_commits sh p entries ram es) (told_from (λ sh ys h. CommitsStand sh h.world h.commits) on-its-way sh p entries ram es)
+proved-alone : (sh : Shape) (p : Program) (entries : ℕ → Local) (ram : ℕ → ℕ) (es : List Event)
+    → IfSome (run sh p (start entries ram) es) (λ h. ProvedAlone sh (ways_from sh p es first_ways (first_state entries ram)) h)
+proved-alone sh p entries ram es = go (run sh p (start entries ram) es) (untold_where_open sh p entries ram es)
+    (untold_is_live sh p entries ram es) (all_ways_fit sh p entries ram es) (given_up_once sh p entries ram es)
+    (live_is_open sh p entries ram es) (committed_where_stored sh p entries ram es) (smaller_are_given_up sh p entries ram es)
+    (work_is_reached sh p entries ram es) (marked_by_served sh p entries ram es) (marks_of_commits sh p entries ram es)
+    (told_from (λ sh ys h. CommitsStand sh h.world h.commits) on-its-way sh p entries ram es)
   where
     ys : Ways
     ys = ways_from sh p es first_ways (first_state entries ram)
 
-    go : (x : Option History) → IfSome x (λ h. UntoldWhereOpen sh ys h) → IfSome x (λ h. UntoldIsLive sh ys h) → IfSome x (λ h. AllWaysFit sh ys h) → IfSome x (λ h. GivenUpOnce sh ys h) → IfSome x (λ h. LiveIsOpen sh ys h) → IfSome x (λ h. CommittedWhereStored sh ys h) → IfSome x (λ h. SmallerAreGivenUp sh ys h) → IfSome x (λ h. WorkIsReached sh ys h) → IfSome x (λ h. MarkedByServed sh h.world) → IfSome x (λ h. MarksOfCommits sh h.commits h.world) → IfSome x (λ h. CommitsStand sh h.world h.commits) → IfSome x (λ h. ProvedAlone sh ys h)
+    go : (x : Option History) → IfSome x (λ h. UntoldWhereOpen sh ys h) → IfSome x (λ h. UntoldIsLive sh ys h)
+        → IfSome x (λ h. AllWaysFit sh ys h) → IfSome x (λ h. GivenUpOnce sh ys h) → IfSome x (λ h. LiveIsOpen sh ys h)
+        → IfSome x (λ h. CommittedWhereStored sh ys h) → IfSome x (λ h. SmallerAreGivenUp sh ys h) → IfSome x (λ h. WorkIsReached sh ys h)
+        → IfSome x (λ h. MarkedByServed sh h.world) → IfSome x (λ h. MarksOfCommits sh h.commits h.world)
+        → IfSome x (λ h. CommitsStand sh h.world h.commits) → IfSome x (λ h. ProvedAlone sh ys h)
     go None a b c d f i j l m n q = tt
-    go (Some h) a b c d f i j l m n q = record { untold = a; is_live = b; fit = c; once = d; is_open = f; committed = i; smaller = j; reached = l; served = m; marks = n; stand = q }
+    go (Some h) a b c d f i j l m n q = record {
+      untold = a;
+      is_live = b;
+      fit = c;
+      once = d;
+      is_open = f;
+      committed = i;
+      smaller = j;
+      reached = l;
+      served = m;
+      marks = n;
+      stand = q;
+    }
 
 pub runs_carry : RunsCarry
 runs_carry sh p entries ram es = go (run sh p (start entries ram) es) (run-copies sh p entries ram es) (proved-alone sh p entries ram es)
@@ -175,10 +215,13 @@ runs_carry sh p entries ram es = go (run sh p (start entries ram) es) (run-copie
     go (Some h) k t = carried sh gs ys h k t
 
 -- The facts of the list that are proved of every run of a program whose accesses lie in memory.
-attempt-memory : (sh : Shape) (gs : List Grant) (ys : Ways) (h : History) → Carried sh gs ys h → KeptInMemory sh h → (c : ℕ) → AttemptInMemory sh (h.world.cores c)
+attempt-memory : (sh : Shape) (gs : List Grant) (ys : Ways) (h : History) → Carried sh gs ys h → KeptInMemory sh h → (c : ℕ)
+    → AttemptInMemory sh (h.world.cores c)
 attempt-memory sh gs ys h k m c = record {
   accesses = (m.cores c).accesses;
-  spilled = λ x e. (m.cores c).accesses.stored x (sym (k.stored_words_are_those_named c x) ∙ either ((h.world.cores c).cache.modified x) (is_some ((h.world.cores c).spilled x)) e);
+  spilled =
+      λ x e. (m.cores c).accesses.stored x
+      (sym (k.stored_words_are_those_named c x) ∙ either ((h.world.cores c).cache.modified x) (is_some ((h.world.cores c).spilled x)) e);
   awaited = λ a e. (m.cores c).frames a.line ((k.awaited_line_has_a_frame c a e).1);
 }
   where
@@ -199,7 +242,8 @@ loads-memory sh gs ys h k m c d l i = go (h.world.cores c).awaited refl (omega (
 copies-memory : (sh : Shape) (h : History) → KeptInMemory sh h → CopiesInMemory sh h.world
 copies-memory sh h m c d l t i = elim (cases_lt l (lines sh)) [ inl q ↦ q | inr q ↦ absurd (omega (arith, i, m.copies c d l t q)) ]
 
-pub carried-memory : (sh : Shape) (gs : List Grant) (ys : Ways) (h : History) → Carried sh gs ys h → KeptInMemory sh h → CarriedInMemory sh h
+pub carried-memory : (sh : Shape) (gs : List Grant) (ys : Ways) (h : History) → Carried sh gs ys h → KeptInMemory sh h
+    → CarriedInMemory sh h
 carried-memory sh gs ys h k m = record {
   frames_are_of_lines_in_memory = λ c l e. (m.cores c).frames l e;
   attempts_stay_in_memory = attempt-memory sh gs ys h k m;
@@ -209,7 +253,8 @@ carried-memory sh gs ys h k m = record {
 }
 
 pub runs_stay_in_memory : RunsStayInMemory
-runs_stay_in_memory sh p entries ram es i = go (run sh p (start entries ram) es) (runs_carry sh p entries ram es) (run-memory sh p entries ram es i)
+runs_stay_in_memory sh p entries ram es i = go (run sh p (start entries ram) es) (runs_carry sh p entries ram es)
+    (run-memory sh p entries ram es i)
   where
     gs : List Grant
     gs = grants_from sh p es (first_state entries ram)
@@ -217,7 +262,8 @@ runs_stay_in_memory sh p entries ram es i = go (run sh p (start entries ram) es)
     ys : Ways
     ys = ways_from sh p es first_ways (first_state entries ram)
 
-    go : (x : Option History) → IfSome x (λ h. Carried sh gs ys h) → IfSome x (λ h. KeptInMemory sh h) → IfSome x (λ h. CarriedInMemory sh h)
+    go : (x : Option History) → IfSome x (λ h. Carried sh gs ys h) → IfSome x (λ h. KeptInMemory sh h)
+        → IfSome x (λ h. CarriedInMemory sh h)
     go None k m = tt
     go (Some h) k m = carried-memory sh gs ys h k m
 

@@ -64,10 +64,12 @@ unequal a b h e = grind (arith, nat_tests)
 false-true : false ≡ true → ⊥
 false-true e = absurd (cc)
 
-home-of : (sh : Shape) (ram : ℕ → ℕ) (w : World) (cs : List Noted) (d x : ℕ) → HomeWords sh ram w cs → sh.cores ≡ 2 → d < sh.dirs → home sh (line_of x) ≡ d
+home-of : (sh : Shape) (ram : ℕ → ℕ) (w : World) (cs : List Noted) (d x : ℕ) → HomeWords sh ram w cs → sh.cores ≡ 2 → d < sh.dirs
+    → home sh (line_of x) ≡ d
     → word_copies x ((w.dirs d).lines.tag (line_of x)) (pair w 0 d) ≡ 0 → word_copies x ((w.dirs d).lines.tag (line_of x)) (pair w 1 d) ≡ 0
     → (w.dirs d).words x ≡ value_at sh.base ram cs (w.dirs d) None None x
-home-of sh ram w cs d x k e l h a b = k.at_home d x l h (λ c i. both (λ c. word_copies x ((w.dirs d).lines.tag (line_of x)) (pair w c d) ≡ 0) a b c (omega (arith, i, e)))
+home-of sh ram w cs d x k e l h a b =
+    k.at_home d x l h (λ c i. both (λ c. word_copies x ((w.dirs d).lines.tag (line_of x)) (pair w c d) ≡ 0) a b c (omega (arith, i, e)))
 
 pub tried_fails : TriedFails
 unfolding run_computed
@@ -75,7 +77,9 @@ tried_fails = record {
   tag = λ k. unequal 2 1 refl (k 1 3 one-two (let q : 3 < 4 = omega arith in q) refl);
   owner = λ k. unequal 0 1 refl (k 0 1 3 zero-two one-two (let q : 3 < 4 = omega arith in q) refl);
   sharer = λ k. neither false-true (λ t. no t.sent) ((k 1 1 3 one-two one-two (let q : 3 < 4 = omega arith in q) refl).shares refl);
-  word = λ k. unequal 7 2 refl (home-of tried tried_ram (with_word tried_end.world 1 24 7) tried_end.commits 1 24 k refl one-two refl refl refl);
+  word =
+      λ k. unequal 7 2 refl (home-of tried tried_ram (with_word tried_end.world 1 24 7) tried_end.commits 1 24 k refl one-two refl refl
+      refl);
   commit = λ k. unequal 1 0 refl ((k 1 0 2 2 one-two zero-two (let q : 2 < 4 = omega arith in q) refl zero-two).one);
   uncommitted = λ k. neither (unequal 2 0 refl) no (k 1 1 24 2 one-two one-two refl refl refl);
 }

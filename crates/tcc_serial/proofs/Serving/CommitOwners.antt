@@ -41,7 +41,9 @@ noted-exec sh p c s = each-exec sh p c s (λ o. CommitsNoted o) go
 
 pub noted-evict : (sh : Shape) (x y : ℕ) (s : CoreState) → IfSome (core_evict sh x y s) (λ o. CommitsNoted o)
 unfolding passes
-noted-evict sh x y s = each-evict sh x y s (λ o. CommitsNoted o) (λ k q u z. noted-free (emptied sh x y k s) (λ d. quiet sh s AnyCommit (Empties k) (λ y. refl) d))
+noted-evict sh x y s =
+    each-evict sh x y s (λ o. CommitsNoted o)
+    (λ k q u z. noted-free (emptied sh x y k s) (λ d. quiet sh s AnyCommit (Empties k) (λ y. refl) d))
 
 pub noted-grant : (sh : Shape) (u : ℕ) (s : CoreState) → CommitsNoted (grant sh u s)
 noted-grant sh u s = noted-free (grant sh u s) (λ d. granted-free sh u d s)

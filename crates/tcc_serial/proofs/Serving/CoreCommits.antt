@@ -22,19 +22,23 @@ few-above x ms = among-fewer (CommitsAbove x) AnyCommit (above-any x) ms
 served-free : (d x : ℕ) (o : Out) → among AnyCommit (o.sends (Dir d)) ≡ 0 → Served d x o
 served-free d x o h = omega (arith, few-above x (o.sends (Dir d)))
 
-served-commit : (sh : Shape) (c : Cache) (t d x : ℕ) → (d < sh.dirs → writes_at sh c d ≡ true → t ≤ x) → among (CommitsAbove x) (commit_sends sh c t (Dir d)) ≡ 0
+served-commit : (sh : Shape) (c : Cache) (t d x : ℕ) → (d < sh.dirs → writes_at sh c d ≡ true → t ≤ x)
+    → among (CommitsAbove x) (commit_sends sh c t (Dir d)) ≡ 0
 unfolding commit_sends among passes
 served-commit sh c t d x h = grind (arith, nat_tests)
 
-served-solo : (sh : Shape) (s : CoreState) (t d x : ℕ) → (d < sh.dirs → t ≤ x) → among (CommitsAbove x) (say sh s (Tells_alone t) (Dir d)) ≡ 0
+served-solo : (sh : Shape) (s : CoreState) (t d x : ℕ) → (d < sh.dirs → t ≤ x)
+    → among (CommitsAbove x) (say sh s (Tells_alone t) (Dir d)) ≡ 0
 unfolding passes solo_sends among
 served-solo sh s t d x h = go (cases_lt d sh.dirs)
   where
     go : (d < sh.dirs) ⊎ (sh.dirs ≤ d) → among (CommitsAbove x) (say sh s (Tells_alone t) (Dir d)) ≡ 0
-    go (inl l) = quiet sh s (CommitsAbove x) (Tells_alone t) (λ y. let i = h l in let z : nat_lt x t ≡ false = grind (arith, nat_tests) in rw z refl) d
+    go (inl l) = quiet sh s (CommitsAbove x) (Tells_alone t) (λ y. let i = h l in let z : nat_lt x t ≡ false = grind (arith, nat_tests) in
+        rw z refl) d
     go (inr l) = let z : nat_lt d sh.dirs ≡ false = grind (arith, nat_tests) in rw z refl
 
-pub served-exec : (sh : Shape) (p : Program) (c d x : ℕ) (s : CoreState) → Reached sh d x s → IfSome (core_exec sh p c s) (λ o. Served d x o)
+pub served-exec : (sh : Shape) (p : Program) (c d x : ℕ) (s : CoreState) → Reached sh d x s
+    → IfSome (core_exec sh p c s) (λ o. Served d x o)
 unfolding commit solo_commit passes
 served-exec sh p c d x s r = each-exec sh p c s (λ o. Served d x o) go
   where
@@ -48,7 +52,9 @@ served-exec sh p c d x s r = each-exec sh p c s (λ o. Served d x o) go
 
 pub served-evict : (sh : Shape) (y z d x : ℕ) (s : CoreState) → IfSome (core_evict sh y z s) (λ o. Served d x o)
 unfolding passes
-served-evict sh y z d x s = each-evict sh y z s (λ o. Served d x o) (λ k q u i. served-free d x (emptied sh y z k s) (quiet sh s AnyCommit (Empties k) (λ z. refl) d))
+served-evict sh y z d x s =
+    each-evict sh y z s (λ o. Served d x o)
+    (λ k q u i. served-free d x (emptied sh y z k s) (quiet sh s AnyCommit (Empties k) (λ z. refl) d))
 
 -- no other event sends a Commit
 pub granted-free : (sh : Shape) (u d : ℕ) (s : CoreState) → among AnyCommit ((grant sh u s).sends (Dir d)) ≡ 0

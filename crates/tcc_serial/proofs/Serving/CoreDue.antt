@@ -26,7 +26,8 @@ abbrev pub CleanOut : Shape → Out → Type 0
 CleanOut sh o = (d : ℕ) → Clean sh d (o.sends (Dir d))
 
 -- of what is sent for each number that passes a test
-pub among-those_none : (k : Kind) (f : ℕ → List Msg) (p : ℕ → Bool) (n : ℕ) → ((l : ℕ) → p l ≡ true → among k (f l) ≡ 0) → among k (flat_map f (those p n)) ≡ 0
+pub among-those_none : (k : Kind) (f : ℕ → List Msg) (p : ℕ → Bool) (n : ℕ) → ((l : ℕ) → p l ≡ true → among k (f l) ≡ 0)
+    → among k (flat_map f (those p n)) ≡ 0
 unfolding among those
 among-those_none k f p zero h = refl
 among-those_none k f p (suc n) h = rw flat_map-append (rw among-append (omega (arith, among-those_none k f p n h, last (p n) refl)))
@@ -56,13 +57,20 @@ clean-quiet sh d (m ∷ ms) h = let r = clean-quiet sh d ms (omega arith) in rec
 }
 
 clean-append : (sh : Shape) (d : ℕ) (a b : List Msg) → Clean sh d a → Clean sh d b → Clean sh d (a ++ b)
-clean-append sh d a b x y = record { acks = omega (arith, among-append Acks a b, x.acks, y.acks); marks = omega (arith, among-append (MarksAway sh.dirs d) a b, x.marks, y.marks); far = λ z. omega (arith, among-append AnyResolve a b, x.far z, y.far z) }
+clean-append sh d a b x y =
+    record {
+      acks = omega (arith, among-append Acks a b, x.acks, y.acks);
+      marks = omega (arith, among-append (MarksAway sh.dirs d) a b, x.marks, y.marks);
+      far = λ z. omega (arith, among-append AnyResolve a b, x.far z, y.far z);
+    }
 
-clean-marks : (sh : Shape) (d t : ℕ) (mask : ℕ → ℕ) (p : ℕ → Bool) (n : ℕ) → ((l : ℕ) → p l ≡ true → home sh l ≡ d) → Clean sh d (flat_map (λ l. Mark l (mask l) t ∷ []) (those p n))
+clean-marks : (sh : Shape) (d t : ℕ) (mask : ℕ → ℕ) (p : ℕ → Bool) (n : ℕ) → ((l : ℕ) → p l ≡ true → home sh l ≡ d)
+    → Clean sh d (flat_map (λ l. Mark l (mask l) t ∷ []) (those p n))
 unfolding among passes
 clean-marks sh d t mask p n h = record {
   acks = among-flat_map_none Acks (λ l. Mark l (mask l) t ∷ []) (λ l. refl) (those p n);
-  marks = among-those_none (MarksAway sh.dirs d) (λ l. Mark l (mask l) t ∷ []) p n (λ l q. let e : l % sh.dirs ≡ d = h l q in let b : ((l % sh.dirs) == d) ≡ true = grind (arith, nat_tests) in rw b refl);
+  marks = among-those_none (MarksAway sh.dirs d) (λ l. Mark l (mask l) t ∷ []) p n
+      (λ l q. let e : l % sh.dirs ≡ d = h l q in let b : ((l % sh.dirs) == d) ≡ true = grind (arith, nat_tests) in rw b refl);
   far = λ x. among-flat_map_none AnyResolve (λ l. Mark l (mask l) t ∷ []) (λ l. refl) (those p n);
 }
 
@@ -71,24 +79,38 @@ at-home d h b q = grind (arith, nat_tests)
 
 clean-marks_for : (sh : Shape) (c : Cache) (t d : ℕ) → Clean sh d (marks_for sh c t d)
 unfolding marks_for written_lines
-clean-marks_for sh c t d = clean-marks sh d t (modified_mask c) (λ l. d == home sh l && is_modified c l) (lines sh) (λ l q. at-home d (home sh l) (is_modified c l) q)
+clean-marks_for sh c t d = clean-marks sh d t (modified_mask c) (λ l. d == home sh l && is_modified c l) (lines sh)
+    (λ l q. at-home d (home sh l) (is_modified c l) q)
 
 clean-backs : (sh : Shape) (sp : Spilled) (t d : ℕ) → Clean sh d (solo_write_backs sh sp t d)
 unfolding solo_write_backs among passes
 clean-backs sh sp t d = record {
-  acks = among-flat_map_none Acks (λ l. WriteBack l (spilled_mask sp l) (spilled_words sp l) t ∷ []) (λ l. refl) (those (λ l. d == home sh l && holds sp l) (lines sh));
-  marks = among-flat_map_none (MarksAway sh.dirs d) (λ l. WriteBack l (spilled_mask sp l) (spilled_words sp l) t ∷ []) (λ l. refl) (those (λ l. d == home sh l && holds sp l) (lines sh));
-  far = λ x. among-flat_map_none AnyResolve (λ l. WriteBack l (spilled_mask sp l) (spilled_words sp l) t ∷ []) (λ l. refl) (those (λ l. d == home sh l && holds sp l) (lines sh));
+  acks = among-flat_map_none Acks (λ l. WriteBack l (spilled_mask sp l) (spilled_words sp l) t ∷ [])
+      (λ l. refl) (those (λ l. d == home sh l && holds sp l) (lines sh));
+  marks = among-flat_map_none (MarksAway sh.dirs d) (λ l. WriteBack l (spilled_mask sp l) (spilled_words sp l) t ∷ [])
+      (λ l. refl) (those (λ l. d == home sh l && holds sp l) (lines sh));
+  far = λ x. among-flat_map_none AnyResolve (λ l. WriteBack l (spilled_mask sp l) (spilled_words sp l) t ∷ [])
+      (λ l. refl) (those (λ l. d == home sh l && holds sp l) (lines sh));
 }
 
 clean-solo : (sh : Shape) (c : Cache) (sp : Spilled) (t d : ℕ) → Clean sh d (solo_sends sh c sp t (Dir d))
 unfolding solo_sends solo_marks_or_skip among passes
 clean-solo sh c sp t d = go (nat_lt d sh.dirs) refl (solo_writes_at sh c sp d)
   where
-    go : (a : Bool) → nat_lt d sh.dirs ≡ a → (b : Bool) → Clean sh d (if a then (if b then flat_map (λ l. Mark l (written_mask c sp l) t ∷ []) (those (λ l. d == home sh l && is_written c sp l) (lines sh)) ++ Commit t (count_below (λ l. d == home sh l && is_written c sp l) (lines sh)) ∷ [] else Skip t ∷ []) ++ solo_write_backs sh sp t d else [])
+    go : (a : Bool) → nat_lt d sh.dirs ≡ a → (b : Bool)
+        → Clean sh d (if a then (if b then flat_map (λ l. Mark l (written_mask c sp l) t ∷ [])
+        (those (λ l. d == home sh l && is_written c sp l) (lines sh))
+        ++ Commit t (count_below (λ l. d == home sh l && is_written c sp l) (lines sh)) ∷ [] else Skip t ∷ [])
+        ++ solo_write_backs sh sp t d else [])
     go false q b = record { acks = refl; marks = refl; far = λ x. refl }
-    go true q false = clean-append sh d (Skip t ∷ []) (solo_write_backs sh sp t d) (record { acks = refl; marks = refl; far = λ x. absurd (grind (arith, nat_tests)) }) (clean-backs sh sp t d)
-    go true q true = clean-append sh d _ (solo_write_backs sh sp t d) (clean-append sh d _ (Commit t (count_below (λ l. d == home sh l && is_written c sp l) (lines sh)) ∷ []) (clean-marks sh d t (written_mask c sp) (λ l. d == home sh l && is_written c sp l) (lines sh) (λ l q. at-home d (home sh l) (is_written c sp l) q)) (record { acks = refl; marks = refl; far = λ x. absurd (grind (arith, nat_tests)) })) (clean-backs sh sp t d)
+    go true q false = clean-append sh d (Skip t ∷ []) (solo_write_backs sh sp t d)
+        (record { acks = refl; marks = refl; far = λ x. absurd (grind (arith, nat_tests)) }) (clean-backs sh sp t d)
+    go true q true =
+        clean-append sh d _ (solo_write_backs sh sp t d)
+        (clean-append sh d _ (Commit t (count_below (λ l. d == home sh l && is_written c sp l) (lines sh)) ∷ [])
+        (clean-marks sh d t (written_mask c sp) (λ l. d == home sh l && is_written c sp l) (lines sh)
+        (λ l q. at-home d (home sh l) (is_written c sp l) q))
+        (record { acks = refl; marks = refl; far = λ x. absurd (grind (arith, nat_tests)) })) (clean-backs sh sp t d)
 
 clean-commit : (sh : Shape) (c : Cache) (t d : ℕ) → Clean sh d (commit_sends sh c t (Dir d))
 unfolding commit_sends among passes
@@ -129,7 +151,8 @@ clean-exec sh p c s = each-exec sh p c s (λ o. CleanOut sh o) go
     go x = clean-steady sh s (out x) (did-steady x)
 
 pub clean-evict : (sh : Shape) (x y : ℕ) (s : CoreState) → IfSome (core_evict sh x y s) (λ o. CleanOut sh o)
-clean-evict sh x y s = each-evict sh x y s (λ o. CleanOut sh o) (λ k q u z. clean-steady sh s (emptied sh x y k s) (steady-emptied sh x y s k q u z))
+clean-evict sh x y s =
+    each-evict sh x y s (λ o. CleanOut sh o) (λ k q u z. clean-steady sh s (emptied sh x y k s) (steady-emptied sh x y s k q u z))
 
 pub clean-grant : (sh : Shape) (u : ℕ) (s : CoreState) → CleanOut sh (grant sh u s)
 unfolding grant
@@ -169,15 +192,33 @@ clean-hurt sh s r sends d (Gave_up u ph ph' ow se) = rw se (clean-skip sh u d)
 acks-invalidated : (sh : Shape) (l d : ℕ) (s : CoreState) (o : Out) → Invalidated sh l s o → AcksHome sh l d (o.sends (Dir d))
 unfolding among passes
 acks-invalidated sh l d s o i = rw (i.dirs d) (record {
-  acks = omega (arith, among-append Acks (i.sends (Dir d)) (to (Dir (home sh l)) (InvAck l i.kept ∷ []) (Dir d)), c.acks, (one (d == home sh l)).0);
-  marks = omega (arith, among-append (MarksAway sh.dirs d) (i.sends (Dir d)) (to (Dir (home sh l)) (InvAck l i.kept ∷ []) (Dir d)), c.marks, (one (d == home sh l)).1);
-  far = λ x. omega (arith, among-append AnyResolve (i.sends (Dir d)) (to (Dir (home sh l)) (InvAck l i.kept ∷ []) (Dir d)), c.far x, (one (d == home sh l)).2);
+  acks =
+      omega (
+        arith,
+        among-append Acks (i.sends (Dir d)) (to (Dir (home sh l)) (InvAck l i.kept ∷ []) (Dir d)),
+        c.acks,
+        (one (d == home sh l)).0,
+      );
+  marks = omega (
+    arith,
+    among-append (MarksAway sh.dirs d) (i.sends (Dir d)) (to (Dir (home sh l)) (InvAck l i.kept ∷ []) (Dir d)),
+    c.marks,
+    (one (d == home sh l)).1,
+  );
+  far = λ x. omega (
+    arith,
+    among-append AnyResolve (i.sends (Dir d)) (to (Dir (home sh l)) (InvAck l i.kept ∷ []) (Dir d)),
+    c.far x,
+    (one (d == home sh l)).2,
+  );
 })
   where
     c : Clean sh d (i.sends (Dir d))
     c = clean-hurt sh s o.core i.sends d i.hurt
 
-    one : (b : Bool) → (among Acks (if b then InvAck l i.kept ∷ [] else []) ≡ num b) × (among (MarksAway sh.dirs d) (if b then InvAck l i.kept ∷ [] else []) ≡ 0) × (among AnyResolve (if b then InvAck l i.kept ∷ [] else []) ≡ 0)
+    one : (b : Bool) → (among Acks (if b then InvAck l i.kept ∷ [] else []) ≡ num b)
+        × (among (MarksAway sh.dirs d) (if b then InvAck l i.kept ∷ [] else []) ≡ 0)
+        × (among AnyResolve (if b then InvAck l i.kept ∷ [] else []) ≡ 0)
     one true = (refl, refl, refl)
     one false = (refl, refl, refl)
 

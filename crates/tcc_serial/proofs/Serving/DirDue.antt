@@ -23,7 +23,8 @@ MarkedHome sh d s = (l : ℕ) → has_mark s.lines l ≡ true → home sh l ≡ 
 -- what an answer with this state and these messages does to what is due
 pub record Due (sh : Shape) (d : ℕ) (s : DirState) (ack : ℕ) (new : DirState) (sends : Sends) : Type 0 where
   pub owed : new.owed + ack ≡ s.owed + invs_sent sh sends
-  pub served : ((new.serving.serving ≡ s.serving.serving) × ((j : ℕ) → among (InvsNot s.serving.serving) (sends (Core j)) ≡ 0)) ⊎ (new.owed ≡ 0)
+  pub served : ((new.serving.serving ≡ s.serving.serving) × ((j : ℕ) → among (InvsNot s.serving.serving) (sends (Core j)) ≡ 0))
+      ⊎ (new.owed ≡ 0)
   pub invs : (j : ℕ) → among (InvsAway sh.dirs d) (sends (Core j)) ≡ 0
   pub marked : MarkedHome sh d new
 
@@ -52,7 +53,8 @@ few-aways : (n d : ℕ) (ms : List Msg) → among (InvsAway n d) ms ≤ among In
 few-aways n d ms = among-fewer (InvsAway n d) Invs (aways-invs n d) ms
 
 -- nothing about marked lines changes but perhaps the marks, and no invalidation is sent
-quiet-due : (sh : Shape) (d : ℕ) (s new : DirState) (sends : Sends) → new.owed ≡ s.owed → (new.serving.serving ≡ s.serving.serving) ⊎ (new.owed ≡ 0) → ((j : ℕ) → among Invs (sends (Core j)) ≡ 0) → MarkedHome sh d new → Due sh d s 0 new sends
+quiet-due : (sh : Shape) (d : ℕ) (s new : DirState) (sends : Sends) → new.owed ≡ s.owed → (new.serving.serving ≡ s.serving.serving)
+    ⊎ (new.owed ≡ 0) → ((j : ℕ) → among Invs (sends (Core j)) ≡ 0) → MarkedHome sh d new → Due sh d s 0 new sends
 quiet-due sh d s new sends e f q m = record {
   owed = omega (arith, e, none-sent sh sends q);
   served = served f;
@@ -60,7 +62,8 @@ quiet-due sh d s new sends e f q m = record {
   marked = m;
 }
   where
-    served : (new.serving.serving ≡ s.serving.serving) ⊎ (new.owed ≡ 0) → ((new.serving.serving ≡ s.serving.serving) × ((j : ℕ) → among (InvsNot s.serving.serving) (sends (Core j)) ≡ 0)) ⊎ (new.owed ≡ 0)
+    served : (new.serving.serving ≡ s.serving.serving) ⊎ (new.owed ≡ 0)
+        → ((new.serving.serving ≡ s.serving.serving) × ((j : ℕ) → among (InvsNot s.serving.serving) (sends (Core j)) ≡ 0)) ⊎ (new.owed ≡ 0)
     served (inl x) = inl (x, λ j. omega (arith, q j, few-nots s.serving.serving (sends (Core j))))
     served (inr x) = inr x
 
@@ -75,7 +78,9 @@ invs-those f t p (suc n) = rw flat_map-append (rw among-append (omega (arith, in
 
 invs-invalidations : (sh : Shape) (ls : Lines) (c t : ℕ) → invs_sent sh (invalidations sh ls c t) ≡ invalidation_count sh ls c
 unfolding invalidations invs_to invalidation_count
-invs-invalidations sh ls c t = total-same (λ j. among Invs (flat_map (λ l. Inv l (ls.mark l) t ∷ []) (those (is_invalidated sh ls c j) (lines sh)))) (λ j. count_below (is_invalidated sh ls c j) (lines sh)) sh.cores (λ j l. invs-those ls.mark t (is_invalidated sh ls c j) (lines sh))
+invs-invalidations sh ls c t =
+    total-same (λ j. among Invs (flat_map (λ l. Inv l (ls.mark l) t ∷ []) (those (is_invalidated sh ls c j) (lines sh))))
+    (λ j. count_below (is_invalidated sh ls c j) (lines sh)) sh.cores (λ j l. invs-those ls.mark t (is_invalidated sh ls c j) (lines sh))
 
 is_invalidated-marked : (sh : Shape) (ls : Lines) (c j l : ℕ) → is_invalidated sh ls c j l ≡ true → has_mark ls l ≡ true
 unfolding is_invalidated
@@ -83,11 +88,15 @@ is_invalidated-marked sh ls c j l h = grind arith
 
 nots-sent : (sh : Shape) (ls : Lines) (c u j : ℕ) → among (InvsNot u) (invalidations sh ls c u (Core j)) ≡ 0
 unfolding invalidations invs_to among passes
-nots-sent sh ls c u j = among-flat_map_none (InvsNot u) (λ l. Inv l (ls.mark l) u ∷ []) (λ l. let b : (u == u) ≡ true = grind (arith, nat_tests) in rw b refl) (those (is_invalidated sh ls c j) (lines sh))
+nots-sent sh ls c u j = among-flat_map_none (InvsNot u) (λ l. Inv l (ls.mark l) u ∷ [])
+    (λ l. let b : (u == u) ≡ true = grind (arith, nat_tests) in rw b refl) (those (is_invalidated sh ls c j) (lines sh))
 
-aways-sent : (sh : Shape) (d : ℕ) (ls : Lines) (c u j : ℕ) → ((l : ℕ) → has_mark ls l ≡ true → home sh l ≡ d) → among (InvsAway sh.dirs d) (invalidations sh ls c u (Core j)) ≡ 0
+aways-sent : (sh : Shape) (d : ℕ) (ls : Lines) (c u j : ℕ) → ((l : ℕ) → has_mark ls l ≡ true → home sh l ≡ d)
+    → among (InvsAway sh.dirs d) (invalidations sh ls c u (Core j)) ≡ 0
 unfolding invalidations invs_to among passes
-aways-sent sh d ls c u j m = among-those_none (InvsAway sh.dirs d) (λ l. Inv l (ls.mark l) u ∷ []) (is_invalidated sh ls c j) (lines sh) (λ l q. let e : l % sh.dirs ≡ d = m l (is_invalidated-marked sh ls c j l q) in let b : ((l % sh.dirs) == d) ≡ true = grind (arith, nat_tests) in rw b refl)
+aways-sent sh d ls c u j m = among-those_none (InvsAway sh.dirs d) (λ l. Inv l (ls.mark l) u ∷ []) (is_invalidated sh ls c j) (lines sh)
+    (λ l q. let e : l % sh.dirs ≡ d = m l (is_invalidated-marked sh ls c j l q) in
+    let b : ((l % sh.dirs) == d) ≡ true = grind (arith, nat_tests) in rw b refl)
 
 pub at-home : (h d : ℕ) → not (h == d) ≡ false → h ≡ d
 at-home h d e = grind (arith, nat_tests)
@@ -96,16 +105,20 @@ pub none-quiet : (j : ℕ) → among Invs [] ≡ 0
 none-quiet j = among-none Invs
 
 -- whether a message is an acknowledgement
-pub dir-due : (sh : Shape) (d : ℕ) (s : DirState) (c : ℕ) (m : Msg) → OnceAt s m → MarkedHome sh d s → passes (MarksAway sh.dirs d) m ≡ false → num (passes Acks m) ≤ s.owed → DueBy sh d s (num (passes Acks m)) (dir_deliver sh s c m)
+pub dir-due : (sh : Shape) (d : ℕ) (s : DirState) (c : ℕ) (m : Msg) → OnceAt s m → MarkedHome sh d s
+    → passes (MarksAway sh.dirs d) m ≡ false → num (passes Acks m) ≤ s.owed → DueBy sh d s (num (passes Acks m)) (dir_deliver sh s c m)
 unfolding passes kept
 dir-due sh d s c m h k = go (outcome sh s c m) h
   where
     -- where the served TID is resolved nothing is owed
-    given : (m : Msg) (u : ℕ) (b : Bool) → (s.serving.serving == u) ≡ b → passes (Resolves u) m ≡ true → OnceAt s m → ((if b then advance s.serving else kept u s.serving).serving ≡ s.serving.serving) ⊎ (s.owed ≡ 0)
+    given : (m : Msg) (u : ℕ) (b : Bool) → (s.serving.serving == u) ≡ b → passes (Resolves u) m ≡ true → OnceAt s m
+        → ((if b then advance s.serving else kept u s.serving).serving ≡ s.serving.serving) ⊎ (s.owed ≡ 0)
     given m u true e p h = let i : s.serving.serving ≡ u = grind (arith, nat_tests) in inr (unserved s m h (rw i p))
     given m u false e p h = inl refl
 
-    settled : (b : Bool) (n : ℕ) (sends : Sends) → (n == 0) ≡ b → ((j : ℕ) → among (InvsNot s.serving.serving) (sends (Core j)) ≡ 0) → (((if b then advance s.serving else s.serving).serving ≡ s.serving.serving) × ((j : ℕ) → among (InvsNot s.serving.serving) (sends (Core j)) ≡ 0)) ⊎ (n ≡ 0)
+    settled : (b : Bool) (n : ℕ) (sends : Sends) → (n == 0) ≡ b → ((j : ℕ) → among (InvsNot s.serving.serving) (sends (Core j)) ≡ 0)
+        → (((if b then advance s.serving else s.serving).serving ≡ s.serving.serving)
+        × ((j : ℕ) → among (InvsNot s.serving.serving) (sends (Core j)) ≡ 0)) ⊎ (n ≡ 0)
     settled true n sends e q = inr (grind (arith, nat_tests))
     settled false n sends e q = inl (refl, q)
 
@@ -114,21 +127,26 @@ dir-due sh d s c m h k = go (outcome sh s c m) h
     spent (CopyPassed m l n ws g y i e) o = rw (y.alike Acks) refl
     spent _ o = refl
 
-    go : {m : Msg} {a : Answer} → Outcome sh s c m a → OnceAt s m → passes (MarksAway sh.dirs d) m ≡ false → num (passes Acks m) ≤ s.owed → DueBy sh d s (num (passes Acks m)) a
+    go : {m : Msg} {a : Answer} → Outcome sh s c m a → OnceAt s m → passes (MarksAway sh.dirs d) m ≡ false → num (passes Acks m) ≤ s.owed
+        → DueBy sh d s (num (passes Acks m)) a
     go (Waiting m) h a o = tt
     go (Spent m i) h a o = spent i o
     go (AsksOwner m l x w e) h a o = quiet-due sh d s _ _ refl (inl refl) (λ j. none-to Invs x j (DataReq l) refl) k
     go (TakesSkip u b e i) h a o = quiet-due sh d s _ nothing refl (given (Skip u) u b e (same u) h) none-quiet k
-    go (TakesAbort u b e i) h a o = quiet-due sh d s _ nothing refl (given (Abort u) u b e (same u) h) none-quiet (λ x q. grind (arith, nat_tests, k x))
+    go (TakesAbort u b e i) h a o = quiet-due sh d s _ nothing refl (given (Abort u) u b e (same u) h) none-quiet
+        (λ x q. grind (arith, nat_tests, k x))
     go (TakesProbe u i) h a o = quiet-due sh d s s _ refl (inl refl) (λ j. none-to Invs c j (ProbeReply u s.serving.serving) refl) k
     go (TakesLoad l x i e n) h a o = quiet-due sh d s _ _ refl (inl refl) (λ j. none-to Invs c j (Fill l (home_words s l)) refl) k
-    go (TakesMark l n i) h a o = quiet-due sh d s _ nothing refl (inl refl) none-quiet (λ x q. grind (arith, nat_tests, k x, at-home (l % sh.dirs) d a))
-    go (TakesCommit b e) h a o = let z : s.owed ≡ 0 = unserved s (Commit s.serving.serving (count_below (has_mark s.lines) (lines sh))) h (same s.serving.serving) in record {
-      owed = omega (arith, z, invs-invalidations sh s.lines c s.serving.serving);
-      served = settled b (invalidation_count sh s.lines c) (invalidations sh s.lines c s.serving.serving) e (λ j. nots-sent sh s.lines c s.serving.serving j);
-      invs = λ j. aways-sent sh d s.lines c s.serving.serving j k;
-      marked = λ x q. grind (arith, nat_tests, k x);
-    }
+    go (TakesMark l n i) h a o = quiet-due sh d s _ nothing refl (inl refl) none-quiet
+        (λ x q. grind (arith, nat_tests, k x, at-home (l % sh.dirs) d a))
+    go (TakesCommit b e) h a o = let z : s.owed ≡ 0 = unserved s (Commit s.serving.serving (count_below (has_mark s.lines) (lines sh))) h
+        (same s.serving.serving) in record {
+          owed = omega (arith, z, invs-invalidations sh s.lines c s.serving.serving);
+          served = settled b (invalidation_count sh s.lines c) (invalidations sh s.lines c s.serving.serving) e
+              (λ j. nots-sent sh s.lines c s.serving.serving j);
+          invs = λ j. aways-sent sh d s.lines c s.serving.serving j k;
+          marked = λ x q. grind (arith, nat_tests, k x);
+        }
     go (TakesAck l x b i e) h a o = record {
       owed = omega (arith, none-sent sh nothing none-quiet);
       served = settled b (s.owed - 1) nothing e (λ j. among-none (InvsNot s.serving.serving));

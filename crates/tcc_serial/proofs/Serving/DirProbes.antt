@@ -35,10 +35,21 @@ dir-rises sh s c m = go (outcome sh s c m)
     go (AsksOwner q l o w e) = record { rises = omega arith; replies = λ j. none-to (RepliesAbove s.serving.serving) o j (DataReq l) refl }
     go (TakesSkip t b e h) = quietly _ (next-rises b s.serving (kept t s.serving) (omega arith))
     go (TakesAbort t b e h) = quietly _ (next-rises b s.serving (kept t s.serving) (omega arith))
-    go (TakesProbe t h) = record { rises = omega arith; replies = λ j. none-to (RepliesAbove s.serving.serving) c j (ProbeReply t s.serving.serving) (grind (arith, nat_tests)) }
-    go (TakesLoad l k h e o) = record { rises = omega arith; replies = λ j. none-to (RepliesAbove s.serving.serving) c j (Fill l (home_words s l)) refl }
+    go (TakesProbe t h) =
+        record {
+          rises = omega arith;
+          replies = λ j. none-to (RepliesAbove s.serving.serving) c j (ProbeReply t s.serving.serving)
+              (grind (arith, nat_tests));
+        }
+    go (TakesLoad l k h e o) =
+        record { rises = omega arith; replies = λ j. none-to (RepliesAbove s.serving.serving) c j (Fill l (home_words s l)) refl }
     go (TakesMark l k h) = quietly _ (omega arith)
-    go (TakesCommit b e) = record { rises = next-rises b s.serving s.serving (omega arith); replies = λ j. none-invalidations (RepliesAbove (if b then advance s.serving else s.serving).serving) (λ x y z. refl) sh s.lines c s.serving.serving j }
+    go (TakesCommit b e) =
+        record {
+          rises = next-rises b s.serving s.serving (omega arith);
+          replies = λ j. none-invalidations (RepliesAbove (if b then advance s.serving else s.serving).serving)
+              (λ x y z. refl) sh s.lines c s.serving.serving j;
+        }
     go (TakesAck l k b h e) = quietly _ (next-rises b s.serving s.serving (omega arith))
     go (TakesCopy q l k ws g y e o) = quietly _ (omega arith)
     go _ = tt

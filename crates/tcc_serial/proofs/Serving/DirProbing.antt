@@ -23,7 +23,8 @@ pub dir-replies : (sh : Shape) (s : DirState) (c : ℕ) (m : Msg) → RepliesBy 
 unfolding passes
 dir-replies sh s c m = go (outcome sh s c m)
   where
-    quiet : (m : Msg) (sends : Sends) → ((t : ℕ) → passes (Probes t) m ≡ false) → ((j t : ℕ) → among (Replies t) (sends (Core j)) ≡ 0) → Replying m c sends
+    quiet : (m : Msg) (sends : Sends) → ((t : ℕ) → passes (Probes t) m ≡ false) → ((j t : ℕ) → among (Replies t) (sends (Core j)) ≡ 0)
+        → Replying m c sends
     quiet m sends n h = record { own = λ t. rw (n t) (h c t); others = λ j t x. h j t }
 
     spent : {m : Msg} → IsSpent s c m → (t : ℕ) → num (passes (Probes t) m) ≡ 0

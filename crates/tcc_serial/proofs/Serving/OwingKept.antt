@@ -23,7 +23,8 @@ KeptOwing sh w = (c : ℕ) → OwingFits sh (w.cores c)
 idle : (sh : Shape) (s : CoreState) → OwingFits sh s → awaits_replies s.phase ≡ false → (d : ℕ) → s.owing d ≡ false
 idle sh s h n d = grind (arith, nat_tests)
 
-none-owing : (sh : Shape) (r : CoreState) (q : Phase) → r.phase ≡ q → awaits_replies q ≡ false → ((d : ℕ) → r.owing d ≡ false) → OwingFits sh r
+none-owing : (sh : Shape) (r : CoreState) (q : Phase) → r.phase ≡ q → awaits_replies q ≡ false → ((d : ℕ) → r.owing d ≡ false)
+    → OwingFits sh r
 none-owing sh r q e n f = record {
   asked = λ d o. absurd (let y = f d in cc);
   waits = λ d o. absurd (let y = f d in cc);
@@ -31,7 +32,8 @@ none-owing sh r q e n f = record {
 }
 
 -- a core that doesn't wait goes on to a phase in which it doesn't wait
-still-none : (sh : Shape) (s r : CoreState) (p q : Phase) → s.phase ≡ p → awaits_replies p ≡ false → r.phase ≡ q → awaits_replies q ≡ false → r.owing ≡ s.owing → OwingFits sh s → OwingFits sh r
+still-none : (sh : Shape) (s r : CoreState) (p q : Phase) → s.phase ≡ p → awaits_replies p ≡ false → r.phase ≡ q → awaits_replies q ≡ false
+    → r.owing ≡ s.owing → OwingFits sh s → OwingFits sh r
 still-none sh s r p q e n f m ow h = none-owing sh r q f m (λ d. rw ow (idle sh s h (rw e n) d))
 
 not-acts : (q : Phase) → awaits_replies q ≡ true → Acts q → ⊥
@@ -39,7 +41,10 @@ not-acts Running e a = cc
 not-acts (Solo t) e a = cc
 not-acts _ e a = a
 
-same-owing : (sh : Shape) (s r : CoreState) → r.phase ≡ s.phase → r.owing ≡ s.owing → (awaits_replies s.phase ≡ true → (d : ℕ) → (writes_at sh r.cache d || reads_at sh r.cache d) ≡ (writes_at sh s.cache d || reads_at sh s.cache d)) → OwingFits sh s → OwingFits sh r
+same-owing : (sh : Shape) (s r : CoreState) → r.phase ≡ s.phase → r.owing ≡ s.owing
+    → (awaits_replies s.phase ≡ true → (d : ℕ)
+    → (writes_at sh r.cache d || reads_at sh r.cache d) ≡ (writes_at sh s.cache d || reads_at sh s.cache d)) → OwingFits sh s
+    → OwingFits sh r
 same-owing sh s r e f g h = record {
   asked = λ d o. let a : s.owing d ≡ true = rw f at o in ((h.asked d a).0, rw (e, g (h.waits d a) d) ((h.asked d a).1));
   waits = λ d o. rw e (h.waits d (rw f at o));
@@ -47,7 +52,10 @@ same-owing sh s r e f g h = record {
 }
 
 steady-owing : (sh : Shape) (s : CoreState) (o : Out) → Steady s o → OwingFits sh s → OwingFits sh o.core
-steady-owing sh s o y h = same-owing sh s o.core y.phase y.owing (λ a d. ap₂ (λ x z. x || z) (writes_at-same sh o.core.cache s.cache d (y.modified (not-acts s.phase a))) (reads_at-same sh o.core.cache s.cache d (y.read (not-acts s.phase a)))) h
+steady-owing sh s o y h =
+    same-owing sh s o.core y.phase y.owing
+    (λ a d. ap₂ (λ x z. x || z) (writes_at-same sh o.core.cache s.cache d (y.modified (not-acts s.phase a)))
+    (reads_at-same sh o.core.cache s.cache d (y.read (not-acts s.phase a)))) h
 
 after-none : (e : Outcome) → awaits_replies (phase_after_commit e) ≡ false
 after-none a = grind (arith, nat_tests)
@@ -65,7 +73,8 @@ owing-exec sh p c s h = each-exec sh p c s (λ o. OwingFits sh o.core) go
     go x = steady-owing sh s (out x) (did-steady x) h
 
 owing-evict : (sh : Shape) (x y : ℕ) (s : CoreState) → OwingFits sh s → IfSome (core_evict sh x y s) (λ o. OwingFits sh o.core)
-owing-evict sh x y s h = each-evict sh x y s (λ o. OwingFits sh o.core) (λ k q u z. steady-owing sh s (emptied sh x y k s) (steady-emptied sh x y s k q u z) h)
+owing-evict sh x y s h = each-evict sh x y s (λ o. OwingFits sh o.core)
+    (λ k q u z. steady-owing sh s (emptied sh x y k s) (steady-emptied sh x y s k q u z) h)
 
 owing-grant : (sh : Shape) (t : ℕ) (s : CoreState) → OwingFits sh s → OwingFits sh (grant sh t s).core
 unfolding grant is_probed
@@ -76,9 +85,11 @@ owing-grant sh t s h = go s.phase refl
     both false b x = absurd (cc)
 
     asks : (d : ℕ) → is_probed sh s.cache d ≡ true → (d < sh.dirs) × ((writes_at sh s.cache d || reads_at sh s.cache d) ≡ true)
-    asks d o = let y = both (nat_lt d sh.dirs) (writes_at sh s.cache d || reads_at sh s.cache d) o in let z = y.0 in (grind (arith, nat_tests), y.1)
+    asks d o = let y = both (nat_lt d sh.dirs) (writes_at sh s.cache d || reads_at sh s.cache d) o in let z = y.0 in
+        (grind (arith, nat_tests), y.1)
 
-    probed : (b : Bool) → any_below (is_probed sh s.cache) sh.dirs ≡ b → OwingFits sh (record s { owing = is_probed sh s.cache; phase = probing_or_ready b t })
+    probed : (b : Bool) → any_below (is_probed sh s.cache) sh.dirs ≡ b
+        → OwingFits sh (record s { owing = is_probed sh s.cache; phase = probing_or_ready b t })
     probed true q = record { asked = λ d o. asks d o; waits = λ d o. refl; some = λ a l. q }
     probed false q = record {
       asked = λ d o. absurd (let y = none-below (is_probed sh s.cache) sh.dirs d ((asks d o).0) q in cc);
@@ -106,8 +117,11 @@ put-true f e d x = grind (arith, nat_tests)
 not-all : (sh : Shape) (f : ℕ → Bool) → all_replied sh f ≡ false → any_below f sh.dirs ≡ true
 not-all sh f q = grind (arith, nat_tests)
 
-one-less : (sh : Shape) (e : ℕ) (s r : CoreState) (goes wait : Phase) → r.phase ≡ (if all_replied sh (put s.owing e false) then goes else wait) → r.owing ≡ put s.owing e false → awaits_replies goes ≡ false
-    → ((d : ℕ) → asks_dir s.phase (writes_at sh s.cache d || reads_at sh s.cache d) ≡ true → asks_dir wait (writes_at sh r.cache d || reads_at sh r.cache d) ≡ true) → awaits_replies wait ≡ true → OwingFits sh s → OwingFits sh r
+one-less : (sh : Shape) (e : ℕ) (s r : CoreState) (goes wait : Phase)
+    → r.phase ≡ (if all_replied sh (put s.owing e false) then goes else wait) → r.owing ≡ put s.owing e false → awaits_replies goes ≡ false
+    → ((d : ℕ) → asks_dir s.phase (writes_at sh s.cache d || reads_at sh s.cache d) ≡ true
+    → asks_dir wait (writes_at sh r.cache d || reads_at sh r.cache d) ≡ true) → awaits_replies wait ≡ true → OwingFits sh s
+    → OwingFits sh r
 one-less sh e s r goes wait ph ow n f w h = by (all_replied sh (put s.owing e false)) refl
   where
     old : (d : ℕ) → r.owing d ≡ true → s.owing d ≡ true
@@ -116,22 +130,35 @@ one-less sh e s r goes wait ph ow n f w h = by (all_replied sh (put s.owing e fa
     by : (b : Bool) → all_replied sh (put s.owing e false) ≡ b → OwingFits sh r
     by true q =
         let p : r.phase ≡ goes = rw q at ph in
-        let none : (d : ℕ) → r.owing d ≡ true → ⊥ = λ d o. let z = all-replied sh (put s.owing e false) d ((h.asked d (old d o)).0) q in let y : put s.owing e false d ≡ true = rw ow at o in cc in
-        record { asked = λ d o. absurd (none d o); waits = λ d o. absurd (none d o); some = λ a. absurd (let y : awaits_replies r.phase ≡ false = rw p n in cc) }
+        let none : (d : ℕ) → r.owing d ≡ true → ⊥ = λ d o. let z = all-replied sh (put s.owing e false) d ((h.asked d (old d o)).0) q in
+        let y : put s.owing e false d ≡ true = rw ow at o in cc in
+        record {
+          asked = λ d o. absurd (none d o);
+          waits = λ d o. absurd (none d o);
+          some = λ a. absurd (let y : awaits_replies r.phase ≡ false = rw p n in cc);
+        }
     by false q =
         let p : r.phase ≡ wait = rw q at ph in
-        record { asked = λ d o. ((h.asked d (old d o)).0, rw p (f d ((h.asked d (old d o)).1))); waits = λ d o. rw p w; some = λ a l. rw ow (not-all sh (put s.owing e false) q) }
+        record {
+          asked = λ d o. ((h.asked d (old d o)).0, rw p (f d ((h.asked d (old d o)).1)));
+          waits = λ d o. rw p w;
+          some = λ a l. rw ow (not-all sh (put s.owing e false) q);
+        }
 
 replied-owing : (sh : Shape) (e u : ℕ) (s : CoreState) (o : Out) → Replied sh e u s o → OwingFits sh s → OwingFits sh o.core
 replied-owing sh e u s o (Ignored q n) h = rw q h
-replied-owing sh e u s o (Probed g w ph ow ca se cm) h = one-less sh e s o.core (Ready u) (Probing u) ph ow refl (λ d a. rw ca (rw g at a)) refl h
-replied-owing sh e u s o (Left_alone g w ph ow mo se cm) h = one-less sh e s o.core (Solo u) (Overflowing (Some u)) ph ow refl (λ d a. refl) refl h
+replied-owing sh e u s o (Probed g w ph ow ca se cm) h = one-less sh e s o.core (Ready u) (Probing u) ph ow refl
+    (λ d a. rw ca (rw g at a)) refl h
+replied-owing sh e u s o (Left_alone g w ph ow mo se cm) h = one-less sh e s o.core (Solo u) (Overflowing (Some u)) ph ow refl
+    (λ d a. refl) refl h
 
 hurt-owing : (sh : Shape) (l : ℕ) (s : CoreState) (o : Out) → Invalidated sh l s o → OwingFits sh s → OwingFits sh o.core
 hurt-owing sh l s o i h = go i.hurt
   where
     go : Hurt sh s o.core i.sends → OwingFits sh o.core
-    go (Unhurt ph ow mo re se) = same-owing sh s o.core ph ow (λ a d. ap₂ (λ x z. x || z) (writes_at-same sh o.core.cache s.cache d mo) (reads_at-same sh o.core.cache s.cache d re)) h
+    go (Unhurt ph ow mo re se) =
+        same-owing sh s o.core ph ow
+        (λ a d. ap₂ (λ x z. x || z) (writes_at-same sh o.core.cache s.cache d mo) (reads_at-same sh o.core.cache s.cache d re)) h
     go (Rolled ph ph' ow se) = none-owing sh o.core Running ph' refl (λ d. rw ow refl)
     go (Doomed ph ph' ow se) = none-owing sh o.core DoomedTid ph' refl (λ d. rw ow refl)
     go (Aborted u ph ph' ow se) = none-owing sh o.core Running ph' refl (λ d. rw ow refl)
@@ -145,7 +172,8 @@ owing-back sh e s (Inv l m u) h = hurt-owing sh l s (invalidate sh l m u s) (inv
 owing-back sh e s _ h = tt
 
 -- one core has changed
-put-owing : (sh : Shape) (w : World) (c : ℕ) (s : CoreState) → KeptOwing sh w → OwingFits sh s → (j : ℕ) → OwingFits sh (if j == c then s else w.cores j)
+put-owing : (sh : Shape) (w : World) (c : ℕ) (s : CoreState) → KeptOwing sh w → OwingFits sh s → (j : ℕ)
+    → OwingFits sh (if j == c then s else w.cores j)
 put-owing sh w c s k h j = elim (j == c) as (λ b. OwingFits sh (if b then s else w.cores j)) [ true ↦ h | false ↦ k j ]
 
 pub step-owing : (sh : Shape) (p : Program) (w : World) (e : Event) → KeptOwing sh w → IfSome (step sh p w e) (λ o. KeptOwing sh o.world)

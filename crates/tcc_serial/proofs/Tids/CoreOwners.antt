@@ -20,7 +20,8 @@ pub record KeepsHolder (c : ℕ) (got : ℕ → ℕ) (s : CoreState) (o : Out) :
 abbrev pub none : ℕ → ℕ
 none t = 0
 
-holder-noted : (c u : ℕ) (s r : CoreState) (o : Out) → has_tid s.phase u ≡ true → ((t : ℕ) → has_tid s.phase t ≡ (u == t)) → o.core.phase ≡ phase_after_commit r.ended → o.commit ≡ Some (noted u c r) → KeepsHolder c none s o
+holder-noted : (c u : ℕ) (s r : CoreState) (o : Out) → has_tid s.phase u ≡ true → ((t : ℕ) → has_tid s.phase t ≡ (u == t))
+    → o.core.phase ≡ phase_after_commit r.ended → o.commit ≡ Some (noted u c r) → KeepsHolder c none s o
 unfolding noted
 holder-noted c u s r o h k e n = record { holds = λ t. rw (e, n, tid-after r.ended t, k t) (omega arith); own = rw n refl }
 
@@ -29,7 +30,8 @@ unfolding commit solo_commit committed_core has_tid
 holder-exec sh p c s = each-exec sh p c s (λ o. KeepsHolder c none s o) go
   where
     go : (x : Did sh p c s) → KeepsHolder c none s (out x)
-    go (Ends_alone u l e f r i) = holder-noted c u s (after_end s l e) (solo_commit sh c u (after_end s l e)) (rw r (grind (arith, nat_tests))) (λ t. rw r refl) refl refl
+    go (Ends_alone u l e f r i) = holder-noted c u s (after_end s l e) (solo_commit sh c u (after_end s l e))
+        (rw r (grind (arith, nat_tests))) (λ t. rw r refl) refl refl
     go (Commits_now u e) = holder-noted c u s s (commit sh c u s) (rw e (grind (arith, nat_tests))) (λ t. rw e refl) refl refl
     go _ = record { holds = λ t. omega arith; own = tt }
 

@@ -31,7 +31,8 @@ unprobed-steady s o y = record {
 }
 
 -- the core has no TID any more
-unprobed-none : (s : CoreState) (o : Out) (q : Phase) → o.core.phase ≡ q → ((t : ℕ) → has_tid q t ≡ false) → ((d t : ℕ) → among (Probes t) (o.sends (Dir d)) ≡ 0) → Unprobed s o
+unprobed-none : (s : CoreState) (o : Out) (q : Phase) → o.core.phase ≡ q → ((t : ℕ) → has_tid q t ≡ false)
+    → ((d t : ℕ) → among (Probes t) (o.sends (Dir d)) ≡ 0) → Unprobed s o
 unprobed-none s o q e h n = record { sent = n; kept = λ d t k. let x : has_tid o.core.phase t ≡ false = rw e (h t) in absurd (cc) }
 
 pub none-marks : (sh : Shape) (c : Cache) (u e t : ℕ) → among (Probes t) (marks_for sh c u e) ≡ 0
@@ -51,28 +52,41 @@ unfolding commit solo_commit committed_core has_tid passes
 unprobed-exec sh p c s = each-exec sh p c s (λ o. Unprobed s o) go
   where
     go : (x : Did sh p c s) → Unprobed s (out x)
-    go (Room_wanted r i) = unprobed-none s (moves (record s { phase = Overflowing None }) (say sh s Wants)) (Overflowing None) refl (λ t. refl) (λ d t. quiet sh s (Probes t) Wants (λ y. refl) d)
-    go (Ends_run l e f r i) = unprobed-none s (moves (record (after_end s l e) { phase = AwaitTid }) (say sh s Wants)) AwaitTid refl (λ t. refl) (λ d t. quiet sh s (Probes t) Wants (λ y. refl) d)
-    go (Ends_alone u l e f r i) = unprobed-none s (solo_commit sh c u (after_end s l e)) (phase_after_commit e) refl (tid-after e) (λ d t. quiet sh s (Probes t) (Tells_alone u) (λ y. refl) d)
-    go (Commits_now u e) = unprobed-none s (commit sh c u s) (phase_after_commit s.ended) refl (tid-after s.ended) (λ d t. quiet sh s (Probes t) (Tells_commit u) (λ y. refl) d)
+    go (Room_wanted r i) = unprobed-none s (moves (record s { phase = Overflowing None }) (say sh s Wants)) (Overflowing None) refl
+        (λ t. refl) (λ d t. quiet sh s (Probes t) Wants (λ y. refl) d)
+    go (Ends_run l e f r i) = unprobed-none s (moves (record (after_end s l e) { phase = AwaitTid }) (say sh s Wants)) AwaitTid refl
+        (λ t. refl) (λ d t. quiet sh s (Probes t) Wants (λ y. refl) d)
+    go (Ends_alone u l e f r i) = unprobed-none s (solo_commit sh c u (after_end s l e)) (phase_after_commit e) refl (tid-after e)
+        (λ d t. quiet sh s (Probes t) (Tells_alone u) (λ y. refl) d)
+    go (Commits_now u e) = unprobed-none s (commit sh c u s) (phase_after_commit s.ended) refl (tid-after s.ended)
+        (λ d t. quiet sh s (Probes t) (Tells_commit u) (λ y. refl) d)
     go x = record { sent = λ d t. quiet sh s (Probes t) (said x) (λ y. refl) d; kept = λ d t h. (h, refl) }
 
 pub unprobed-evict : (sh : Shape) (x y : ℕ) (s : CoreState) → IfSome (core_evict sh x y s) (λ o. Unprobed s o)
-unprobed-evict sh x y s = each-evict sh x y s (λ o. Unprobed s o) (λ k q u z. unprobed-steady s (emptied sh x y k s) (steady-emptied sh x y s k q u z))
+unprobed-evict sh x y s =
+    each-evict sh x y s (λ o. Unprobed s o) (λ k q u z. unprobed-steady s (emptied sh x y k s) (steady-emptied sh x y s k q u z))
 
 pub unprobed-hurt : (sh : Shape) (l : ℕ) (s : CoreState) (o : Out) → Invalidated sh l s o → Unprobed s o
 unfolding has_tid among passes
 unprobed-hurt sh l s o i = go i.hurt
   where
     sent : ((d t : ℕ) → among (Probes t) (i.sends (Dir d)) ≡ 0) → (d t : ℕ) → among (Probes t) (o.sends (Dir d)) ≡ 0
-    sent f d t = rw (i.dirs d) (omega (arith, among-append (Probes t) (i.sends (Dir d)) (to (Dir (home sh l)) (InvAck l i.kept ∷ []) (Dir d)), f d t, none-to t (home sh l) d (InvAck l i.kept ∷ []) refl))
+    sent f d t =
+        rw (i.dirs d) (omega (
+          arith,
+          among-append (Probes t) (i.sends (Dir d)) (to (Dir (home sh l)) (InvAck l i.kept ∷ []) (Dir d)),
+          f d t,
+          none-to t (home sh l) d (InvAck l i.kept ∷ []) refl,
+        ))
 
     go : Hurt sh s o.core i.sends → Unprobed s o
     go (Unhurt ph ow mo re se) = record { sent = sent (λ d t. rw (se (Dir d)) refl); kept = λ d t h. (rw ph at h, ap (λ f. f d) ow) }
     go (Rolled ph ph' ow se) = unprobed-none s o Running ph' (λ t. refl) (sent (λ d t. rw (se (Dir d)) refl))
     go (Doomed ph ph' ow se) = unprobed-none s o DoomedTid ph' (λ t. refl) (sent (λ d t. rw (se (Dir d)) refl))
-    go (Aborted u ph ph' ow se) = unprobed-none s o Running ph' (λ t. refl) (sent (λ d t. rw se (quiet sh s (Probes t) (Aborts_all u) (λ y. refl) d)))
-    go (Gave_up u ph ph' ow se) = unprobed-none s o Running ph' (λ t. refl) (sent (λ d t. rw se (quiet sh s (Probes t) (Skips_all u) (λ y. refl) d)))
+    go (Aborted u ph ph' ow se) =
+        unprobed-none s o Running ph' (λ t. refl) (sent (λ d t. rw se (quiet sh s (Probes t) (Aborts_all u) (λ y. refl) d)))
+    go (Gave_up u ph ph' ow se) =
+        unprobed-none s o Running ph' (λ t. refl) (sent (λ d t. rw se (quiet sh s (Probes t) (Skips_all u) (λ y. refl) d)))
 
 -- a grant: its TID is probed at each directory that owes a reply then, and no other TID is
 pub record Granted (u : ℕ) (o : Out) : Type 0 where
@@ -104,7 +118,8 @@ granted sh u s w = go s.phase refl w
     go : (q : Phase) → s.phase ≡ q → waits_for_tid q ≡ true → Granted u (grant_in_phase sh u s q)
     go AwaitTid e h = record {
       sent = λ d t n. probes-grant sh s.cache u d t ∙ other t (is_probed sh s.cache d) n;
-      kept = λ d t k. let x : (u == t) ≡ true = sym (tid-probing (any_below (is_probed sh s.cache) sh.dirs) u t) ∙ k in (same t x, probes-grant sh s.cache u d t ∙ rw x refl);
+      kept = λ d t k. let x : (u == t) ≡ true = sym (tid-probing (any_below (is_probed sh s.cache) sh.dirs) u t) ∙ k in
+          (same t x, probes-grant sh s.cache u d t ∙ rw x refl);
     }
     go DoomedTid e h = record { sent = λ d t n. quiet sh s (Probes t) (Skips_all u) (λ y. refl) d; kept = λ d t k. absurd (cc) }
     go (Overflowing None) e h = record {

@@ -35,7 +35,8 @@ requests-exec sh p c s = each-exec sh p c s (λ o. KeepsRequests 0 s o) go
     go x = refl
 
 pub requests-evict : (sh : Shape) (x y : ℕ) (s : CoreState) → IfSome (core_evict sh x y s) (λ o. KeepsRequests 0 s o)
-requests-evict sh x y s = each-evict sh x y s (λ o. KeepsRequests 0 s o) (λ k q u z. requests-steady s (emptied sh x y k s) (steady-emptied sh x y s k q u z))
+requests-evict sh x y s = each-evict sh x y s (λ o. KeepsRequests 0 s o)
+    (λ k q u z. requests-steady s (emptied sh x y k s) (steady-emptied sh x y s k q u z))
 
 waits-probing : (b : Bool) (u : ℕ) → waits_for_tid (probing_or_ready b u) ≡ false
 unfolding waits_for_tid

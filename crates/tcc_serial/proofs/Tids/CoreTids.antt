@@ -15,7 +15,8 @@ use Rattle.tcc_serial.proofs.OneCore.Outcomes.{Ends_run, Room_wanted}
 
 -- a core's step with `got` of the TID taken from the vendor's link keeps its part of it
 abbrev pub KeepsPart : Shape → (dir tid got : ℕ) → CoreState → Out → Type 0
-KeepsPart sh d t got s o = got + num (opens s.phase (writes_at sh s.cache d) t) ≡ num (opens o.core.phase (writes_at sh o.core.cache d) t) + among (Resolves t) (o.sends (Dir d))
+KeepsPart sh d t got s o = got + num (opens s.phase (writes_at sh s.cache d) t) ≡ num (opens o.core.phase (writes_at sh o.core.cache d) t)
+    + among (Resolves t) (o.sends (Dir d))
 
 -- where a core executes, its written directories don't matter
 opens-acts : (q : Phase) (a b : Bool) (t : ℕ) → (Acts q → ⊥) ⊎ Acts q → ((Acts q → ⊥) → a ≡ b) → opens q a t ≡ opens q b t
@@ -32,13 +33,19 @@ unfolding opens
 opens-after b a t = grind (arith, nat_tests)
 
 part-steady : (sh : Shape) (d t : ℕ) (s : CoreState) (o : Out) → Steady s o → KeepsPart sh d t 0 s o
-part-steady sh d t s o y = rw (y.phase, opens-acts s.phase (writes_at sh o.core.cache d) (writes_at sh s.cache d) t (acts s.phase) (λ h. writes_at-same sh o.core.cache s.cache d (y.modified h))) (omega (arith, among-quiet t (o.sends (Dir d)), y.quiet d))
+part-steady sh d t s o y =
+    rw (
+      y.phase,
+      opens-acts s.phase (writes_at sh o.core.cache d) (writes_at sh s.cache d) t (acts s.phase)
+          (λ h. writes_at-same sh o.core.cache s.cache d (y.modified h)),
+    ) (omega (arith, among-quiet t (o.sends (Dir d)), y.quiet d))
 
 part-committed : (sh : Shape) (id u d t : ℕ) (s : CoreState) → d < sh.dirs → s.phase ≡ Ready u → KeepsPart sh d t 0 s (commit sh id u s)
 unfolding opens commit committed_core
 part-committed sh id u d t s l e = rw e (rw (opens-after s.ended _ t) (omega (arith, resolves-commit_sends sh s.cache u d t l)))
 
-pub part-exec : (sh : Shape) (p : Program) (c d t : ℕ) (s : CoreState) → d < sh.dirs → IfSome (core_exec sh p c s) (λ o. KeepsPart sh d t 0 s o)
+pub part-exec : (sh : Shape) (p : Program) (c d t : ℕ) (s : CoreState) → d < sh.dirs
+    → IfSome (core_exec sh p c s) (λ o. KeepsPart sh d t 0 s o)
 unfolding opens among solo_commit committed_core
 part-exec sh p c d t s l = each-exec sh p c s (λ o. KeepsPart sh d t 0 s o) go
   where
@@ -50,18 +57,22 @@ part-exec sh p c d t s l = each-exec sh p c s (λ o. KeepsPart sh d t 0 s o) go
     go x = part-steady sh d t s (out x) (did-steady x)
 
 pub part-evict : (sh : Shape) (x y d t : ℕ) (s : CoreState) → IfSome (core_evict sh x y s) (λ o. KeepsPart sh d t 0 s o)
-part-evict sh x y d t s = each-evict sh x y s (λ o. KeepsPart sh d t 0 s o) (λ k q u z. part-steady sh d t s (emptied sh x y k s) (steady-emptied sh x y s k q u z))
+part-evict sh x y d t s = each-evict sh x y s (λ o. KeepsPart sh d t 0 s o)
+    (λ k q u z. part-steady sh d t s (emptied sh x y k s) (steady-emptied sh x y s k q u z))
 
 opens-probing : (b : Bool) (u : ℕ) (w : Bool) (t : ℕ) → opens (probing_or_ready b u) w t ≡ ((u == t) && w)
 unfolding opens
 opens-probing a u w t = grind (arith, nat_tests)
 
-pub part-grant : (sh : Shape) (u d t : ℕ) (s : CoreState) → d < sh.dirs → waits_for_tid s.phase ≡ true → KeepsPart sh d t (num (u == t)) s (grant sh u s)
+pub part-grant : (sh : Shape) (u d t : ℕ) (s : CoreState) → d < sh.dirs → waits_for_tid s.phase ≡ true
+    → KeepsPart sh d t (num (u == t)) s (grant sh u s)
 unfolding grant waits_for_tid opens
 part-grant sh u d t s l w = go s.phase refl w
   where
     go : (q : Phase) → s.phase ≡ q → waits_for_tid q ≡ true → KeepsPart sh d t (num (u == t)) s (grant_in_phase sh u s q)
-    go AwaitTid e h = rw e (rw (opens-probing (any_below (is_probed sh s.cache) sh.dirs) u (writes_at sh s.cache d) t) (omega (arith, resolves-grant_sends sh s.cache u d t l)))
+    go AwaitTid e h =
+        rw e (rw (opens-probing (any_below (is_probed sh s.cache) sh.dirs) u (writes_at sh s.cache d) t)
+        (omega (arith, resolves-grant_sends sh s.cache u d t l)))
     go DoomedTid e h = rw e (omega (arith, resolves-skip_all sh u d t l))
     go (Overflowing None) e h = rw e (omega (arith, resolves-probe_all sh u d t))
     go _ e h = absurd (cc)
@@ -74,7 +85,12 @@ resolves-to t h d ms e = grind (arith, nat_tests)
 part-replied : (sh : Shape) (e u d t : ℕ) (s : CoreState) (o : Out) → Replied sh e u s o → KeepsPart sh d t 0 s o
 unfolding opens among
 part-replied sh e u d t s o (Ignored q f) = rw q (part-steady sh d t s (ignored s) (ignored-steady s))
-part-replied sh e u d t s o (Probed ph ow ph' ow' ca se cm) = rw (ph, ph', ca, se) (omega (arith, resolves-to t e d (marks_for sh s.cache u e) (resolves-marks_for sh s.cache u e t), same (all_replied sh (put s.owing e false))))
+part-replied sh e u d t s o (Probed ph ow ph' ow' ca se cm) =
+    rw (ph, ph', ca, se) (omega (
+      arith,
+      resolves-to t e d (marks_for sh s.cache u e) (resolves-marks_for sh s.cache u e t),
+      same (all_replied sh (put s.owing e false)),
+    ))
   where
     same : (b : Bool) → num (opens (if b then Ready u else Probing u) (writes_at sh s.cache d) t) ≡ num ((u == t) && writes_at sh s.cache d)
     same true = refl
@@ -85,13 +101,20 @@ part-replied sh e u d t s o (Left_alone ph ow ph' ow' mo se cm) = rw (ph, ph', s
     same true = omega arith
     same false = omega arith
 
-part-hurt : (sh : Shape) (d t : ℕ) (s r : CoreState) (sends : Sends) → d < sh.dirs → Hurt sh s r sends → num (opens s.phase (writes_at sh s.cache d) t) ≡ num (opens r.phase (writes_at sh r.cache d) t) + among (Resolves t) (sends (Dir d))
+part-hurt : (sh : Shape) (d t : ℕ) (s r : CoreState) (sends : Sends) → d < sh.dirs → Hurt sh s r sends
+    → num (opens s.phase (writes_at sh s.cache d) t) ≡ num (opens r.phase (writes_at sh r.cache d) t) + among (Resolves t) (sends (Dir d))
 unfolding among opens
 part-hurt sh d t s r sends l a = grind (arith, nat_tests, writes_at-same, resolves-abort_written, resolves-skip_all)
 
 part-invalidated : (sh : Shape) (l d t : ℕ) (s : CoreState) (o : Out) → d < sh.dirs → Invalidated sh l s o → KeepsPart sh d t 0 s o
 unfolding among passes
-part-invalidated sh l d t s o h i = rw (i.dirs d) (omega (arith, part-hurt sh d t s o.core i.sends h i.hurt, among-append (Resolves t) (i.sends (Dir d)) (to (Dir (home sh l)) (InvAck l i.kept ∷ []) (Dir d)), resolves-to t (home sh l) d (InvAck l i.kept ∷ []) refl))
+part-invalidated sh l d t s o h i =
+    rw (i.dirs d) (omega (
+      arith,
+      part-hurt sh d t s o.core i.sends h i.hurt,
+      among-append (Resolves t) (i.sends (Dir d)) (to (Dir (home sh l)) (InvAck l i.kept ∷ []) (Dir d)),
+      resolves-to t (home sh l) d (InvAck l i.kept ∷ []) refl,
+    ))
 
 pub part-back : (sh : Shape) (e d t : ℕ) (s : CoreState) (m : Msg) → d < sh.dirs → IfSome (from_dir sh e s m) (λ o. KeepsPart sh d t 0 s o)
 part-back sh e d t s (ProbeReply u v) h = part-replied sh e u d t s (probe_reply sh e u s) (reply-cases sh e u s)

@@ -15,11 +15,13 @@ advance-stops_at : (s : Serving) (t : ℕ) → t ≡ (advance s).serving → is_
 advance-stops_at s t e = rw e (advance-stops s)
 
 -- to move on is to have passed one more TID
-pub advance-count : (s : Serving) (t : ℕ) → num (nat_lt t (advance s).serving) + num (is_skipped (advance s) t) ≡ num (nat_lt t (s.serving + 1)) + num (is_skipped s t)
+pub advance-count : (s : Serving) (t : ℕ)
+    → num (nat_lt t (advance s).serving) + num (is_skipped (advance s) t) ≡ num (nat_lt t (s.serving + 1)) + num (is_skipped s t)
 advance-count s t = grind (arith, nat_tests, advance-rises, advance-past, advance-stops_at, advance-keeps, skipped-above)
 
 -- to keep a larger TID is to have handled it
-kept-count : (s : Serving) (t u : ℕ) → s.serving < u → is_skipped s u ≡ false → num (is_skipped (kept u s) t) ≡ num (is_skipped s t) + num (u == t)
+kept-count : (s : Serving) (t u : ℕ) → s.serving < u → is_skipped s u ≡ false
+    → num (is_skipped (kept u s) t) ≡ num (is_skipped s t) + num (u == t)
 kept-count s t u l e = grind (arith, nat_tests, kept-skips)
 
 -- what an answer makes of the TIDs handled, where none is handled and on its way at once
@@ -54,14 +56,16 @@ unfolding handled
 not_kept s m u h e = let o = h u in grind (arith, nat_tests)
 
 -- the served TID is resolved: the directory moves on
-resolved_served : (s : DirState) (m : Msg) (u t : ℕ) → OnceAt s m → s.serving.serving ≡ u → passes (Resolves u) m ≡ true → num (passes (Resolves t) m) ≡ num (u == t)
+resolved_served : (s : DirState) (m : Msg) (u t : ℕ) → OnceAt s m → s.serving.serving ≡ u → passes (Resolves u) m ≡ true
+    → num (passes (Resolves t) m) ≡ num (u == t)
     → handled (advance s.serving) s.owed t ≡ handled s.serving s.owed t + num (passes (Resolves t) m)
 resolved_served s m u t h e f g =
     let o : s.owed ≡ 0 = unserved s m h (rw e f) in
     rw (o, g, moved_on-handled s.serving t, e) refl
 
 -- a larger TID is resolved: it is kept
-resolved_ahead : (s : DirState) (m : Msg) (u t : ℕ) → OnceAt s m → s.serving.serving < u → passes (Resolves u) m ≡ true → num (passes (Resolves t) m) ≡ num (u == t)
+resolved_ahead : (s : DirState) (m : Msg) (u t : ℕ) → OnceAt s m → s.serving.serving < u → passes (Resolves u) m ≡ true
+    → num (passes (Resolves t) m) ≡ num (u == t)
     → handled (kept u s.serving) s.owed t ≡ handled s.serving s.owed t + num (passes (Resolves t) m)
 unfolding handled kept
 resolved_ahead s m u t h l f g = omega (arith, kept-count s.serving t u l (not_kept s m u h f), g)
@@ -75,7 +79,8 @@ unfolding passes
 dir-handled sh s c m t = go (outcome sh s c m)
   where
     -- what is owed for a commit settles it
-    settled : (b : Bool) (n : ℕ) → (n == 0) ≡ b → handled (if b then advance s.serving else s.serving) n t ≡ handled s.serving 0 t + num (s.serving.serving == t)
+    settled : (b : Bool) (n : ℕ) → (n == 0) ≡ b → handled (if b then advance s.serving else s.serving) n t ≡ handled s.serving 0 t + num
+        (s.serving.serving == t)
     settled a n e = grind (arith, nat_tests, moved_on-handled, owed-handled)
 
     spent : {m : Msg} → IsSpent s c m → OnceAt s m → num (passes (Resolves t) m) ≡ 0
@@ -84,7 +89,9 @@ dir-handled sh s c m t = go (outcome sh s c m)
     spent (CopyPassed m l k ws g y i e) h = rw (y.alike (Resolves t)) refl
     spent _ h = refl
 
-    resolved : (m : Msg) (u : ℕ) (b : Bool) → (s.serving.serving == u) ≡ b → s.serving.serving ≤ u → passes (Resolves u) m ≡ true → num (passes (Resolves t) m) ≡ num (u == t) → OnceAt s m → handled (if b then advance s.serving else kept u s.serving) s.owed t ≡ handled s.serving s.owed t + num (passes (Resolves t) m)
+    resolved : (m : Msg) (u : ℕ) (b : Bool) → (s.serving.serving == u) ≡ b → s.serving.serving ≤ u → passes (Resolves u) m ≡ true
+        → num (passes (Resolves t) m) ≡ num (u == t) → OnceAt s m
+        → handled (if b then advance s.serving else kept u s.serving) s.owed t ≡ handled s.serving s.owed t + num (passes (Resolves t) m)
     resolved m u true e l p q h = resolved_served s m u t h (grind (arith, nat_tests)) p q
     resolved m u false e l p q h = resolved_ahead s m u t h (grind (arith, nat_tests)) p q
 
@@ -93,7 +100,8 @@ dir-handled sh s c m t = go (outcome sh s c m)
     go (Spent m i) h = spent i h
     go (TakesSkip u b e l) h = resolved (Skip u) u b e l (same u) refl h
     go (TakesAbort u b e l) h = resolved (Abort u) u b e l (same u) refl h
-    go (TakesCommit b e) h = let o : s.owed ≡ 0 = unserved s (Commit s.serving.serving (count_below (has_mark s.lines) (lines sh))) h (same s.serving.serving) in rw o (settled b (invalidation_count sh s.lines c) e)
+    go (TakesCommit b e) h = let o : s.owed ≡ 0 = unserved s (Commit s.serving.serving (count_below (has_mark s.lines) (lines sh))) h
+        (same s.serving.serving) in rw o (settled b (invalidation_count sh s.lines c) e)
     go (TakesAck l k b i e) h = omega (arith, settled b (s.owed - 1) e, owed-handled s.serving s.owed t i)
     go (TakesCopy m l k ws g y e o) h = rw (y.alike (Resolves t)) (omega arith)
     go _ h = omega arith

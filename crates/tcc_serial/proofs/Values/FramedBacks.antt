@@ -37,7 +37,8 @@ fades-rolled : (c d : Cache) (x : ℕ) → Fades c d x → Fades c (rolled_back 
 unfolding rolled_back
 fades-rolled c d x h y = go (d.modified x) refl
   where
-    go : (b : Bool) → d.modified x ≡ b → (if b then None else d.value x) ≡ Some y → false ≡ false → (c.value x ≡ Some y) × (c.modified x ≡ false)
+    go : (b : Bool) → d.modified x ≡ b → (if b then None else d.value x) ≡ Some y → false ≡ false
+        → (c.value x ≡ Some y) × (c.modified x ≡ false)
     go true q e f = absurd (cc)
     go false q e f = h y e q
 
@@ -50,7 +51,8 @@ pub record Invalidates (l m : ℕ) (s : CoreState) (o : Out) : Type 0 where
   pub gone : (x y : ℕ) → hit l m x ≡ true → o.core.cache.value x ≡ Some y → o.core.cache.modified x ≡ false → ⊥
   pub staled : o.core.awaited ≡ staled l s.awaited
 
-gone-without : (l m x y : ℕ) (c : Cache) → hit l m x ≡ true → (invalidated l m c).value x ≡ Some y → (invalidated l m c).modified x ≡ false → ⊥
+gone-without : (l m x y : ℕ) (c : Cache) → hit l m x ≡ true → (invalidated l m c).value x ≡ Some y → (invalidated l m c).modified x ≡ false
+    → ⊥
 unfolding invalidated
 gone-without l m x y c h e f = go (hit l m x && not (c.modified x)) (rw (h, f) refl) e
   where
@@ -71,14 +73,19 @@ gone-rolled l m x y c h = go ((invalidated l m c).modified x) refl
 -- what a Fill brings: each word that is valid now was so, or is this one and was awaited
 pub record Filled (l : ℕ) (ws : List ℕ) (s : CoreState) (o : Out) : Type 0 where
   pub commit : o.commit ≡ None
-  pub words : (x y : ℕ) → o.core.cache.value x ≡ Some y → o.core.cache.modified x ≡ false → ((s.cache.value x ≡ Some y) × (s.cache.modified x ≡ false)) ⊎ ((l == line_of x ≡ true) × (get_or ws (place_of x) 0 ≡ y) × (is_stale s.awaited ≡ false))
+  pub words : (x y : ℕ) → o.core.cache.value x ≡ Some y → o.core.cache.modified x ≡ false
+      → ((s.cache.value x ≡ Some y) × (s.cache.modified x ≡ false))
+      ⊎ ((l == line_of x ≡ true) × (get_or ws (place_of x) 0 ≡ y) × (is_stale s.awaited ≡ false))
   pub rested : ((a : Awaited) × (s.awaited ≡ Some a) × ((a.line == l) ≡ true)) ⊎ (o.core.awaited ≡ s.awaited)
 
-filled-fades : (l x y : ℕ) (ws : List ℕ) (c : Cache) → (filled l ws c).value x ≡ Some y → (filled l ws c).modified x ≡ false → ((c.value x ≡ Some y) × (c.modified x ≡ false)) ⊎ ((l == line_of x ≡ true) × (get_or ws (place_of x) 0 ≡ y))
+filled-fades : (l x y : ℕ) (ws : List ℕ) (c : Cache) → (filled l ws c).value x ≡ Some y → (filled l ws c).modified x ≡ false
+    → ((c.value x ≡ Some y) × (c.modified x ≡ false)) ⊎ ((l == line_of x ≡ true) × (get_or ws (place_of x) 0 ≡ y))
 unfolding filled
 filled-fades l x y ws c e f = go (l == line_of x) (c.value x) refl refl e
   where
-    go : (b : Bool) (v : Option ℕ) → (l == line_of x) ≡ b → c.value x ≡ v → (if b then Some (unwrap_or v (get_or ws (place_of x) 0)) else v) ≡ Some y → ((c.value x ≡ Some y) × (c.modified x ≡ false)) ⊎ ((l == line_of x ≡ true) × (get_or ws (place_of x) 0 ≡ y))
+    go : (b : Bool) (v : Option ℕ) → (l == line_of x) ≡ b → c.value x ≡ v
+        → (if b then Some (unwrap_or v (get_or ws (place_of x) 0)) else v) ≡ Some y → ((c.value x ≡ Some y) × (c.modified x ≡ false))
+        ⊎ ((l == line_of x ≡ true) × (get_or ws (place_of x) 0 ≡ y))
     go false v q r h = inl (r ∙ h, f)
     go true (Some z) q r h = inl (r ∙ h, f)
     go true None q r h = inr (q, cc)
@@ -97,21 +104,39 @@ pub comes-back : (sh : Shape) (e : ℕ) (s : CoreState) (m : Msg) → IfSome (fr
 unfolding passes
 comes-back sh e s m = each-back sh e s (Coming s) go m
   where
-    plain : (l m u : ℕ) (o : Out) → o.commit ≡ None → o.core.cache ≡ invalidated l m s.cache → o.core.awaited ≡ staled l s.awaited → Coming s (Inv l m u) o
+    plain : (l m u : ℕ) (o : Out) → o.commit ≡ None → o.core.cache ≡ invalidated l m s.cache → o.core.awaited ≡ staled l s.awaited
+        → Coming s (Inv l m u) o
     plain l m u o n e f = Takes l m u refl (record {
-      rests = (n, record { words = subst (λ c. (x : ℕ) → Fades s.cache c x) (sym e) (λ x. fades-invalidated l m x s.cache); fresh = λ q. staled-fresh l s.awaited (rw f at q) });
+      rests = (
+        n,
+        record {
+          words = subst (λ c. (x : ℕ) → Fades s.cache c x) (sym e) (λ x. fades-invalidated l m x s.cache);
+          fresh = λ q. staled-fresh l s.awaited (rw f at q);
+        },
+      );
       gone = λ x y h v w. gone-without l m x y s.cache h (rw e at v) (rw e at w);
       staled = f;
     })
 
-    rolls : (l m u : ℕ) (o : Out) → o.commit ≡ None → o.core.cache ≡ rolled_back (invalidated l m s.cache) → o.core.awaited ≡ staled l s.awaited → Coming s (Inv l m u) o
+    rolls : (l m u : ℕ) (o : Out) → o.commit ≡ None → o.core.cache ≡ rolled_back (invalidated l m s.cache)
+        → o.core.awaited ≡ staled l s.awaited → Coming s (Inv l m u) o
     rolls l m u o n e f = Takes l m u refl (record {
-      rests = (n, record { words = subst (λ c. (x : ℕ) → Fades s.cache c x) (sym e) (λ x. fades-rolled s.cache (invalidated l m s.cache) x (fades-invalidated l m x s.cache)); fresh = λ q. staled-fresh l s.awaited (rw f at q) });
+      rests = (
+        n,
+        record {
+          words = subst (λ c. (x : ℕ) → Fades s.cache c x) (sym e)
+              (λ x. fades-rolled s.cache (invalidated l m s.cache) x (fades-invalidated l m x s.cache));
+          fresh = λ q. staled-fresh l s.awaited (rw f at q);
+        },
+      );
       gone = λ x y h v w. gone-rolled l m x y s.cache h (rw e at v);
       staled = f;
     })
 
-    new : (l : ℕ) (ws : List ℕ) (a : Awaited) → s.awaited ≡ Some a → a.stale ≡ false → (x y : ℕ) → ((s.cache.value x ≡ Some y) × (s.cache.modified x ≡ false)) ⊎ ((l == line_of x ≡ true) × (get_or ws (place_of x) 0 ≡ y)) → ((s.cache.value x ≡ Some y) × (s.cache.modified x ≡ false)) ⊎ ((l == line_of x ≡ true) × (get_or ws (place_of x) 0 ≡ y) × (is_stale s.awaited ≡ false))
+    new : (l : ℕ) (ws : List ℕ) (a : Awaited) → s.awaited ≡ Some a → a.stale ≡ false → (x y : ℕ)
+        → ((s.cache.value x ≡ Some y) × (s.cache.modified x ≡ false)) ⊎ ((l == line_of x ≡ true) × (get_or ws (place_of x) 0 ≡ y))
+        → ((s.cache.value x ≡ Some y) × (s.cache.modified x ≡ false))
+        ⊎ ((l == line_of x ≡ true) × (get_or ws (place_of x) 0 ≡ y) × (is_stale s.awaited ≡ false))
     new l ws a e q x y (inl k) = inl k
     new l ws a e q x y (inr k) = inr (k.0, k.1, rw e q)
 
@@ -121,8 +146,14 @@ comes-back sh e s m = each-back sh e s (Coming s) go m
     go : (x : Heard sh e s) → Coming s (message x) (heard x)
     go (Last_room u v q o r) = Quiet (λ x. refl) (refl, fading s _ refl (λ x. fades-cleared s.cache x))
     go (Ignores_fill l ws n) = Brings l ws refl (record { commit = refl; words = λ x y e f. inl (e, f); rested = inr refl })
-    go (Fills l ws a q i f) = Brings l ws refl (record { commit = refl; words = λ x y v g. new l ws a q f x y (filled-fades l x y ws s.cache v g); rested = inl (awaited l a q i) })
-    go (Fills_none l ws a q i f) = Brings l ws refl (record { commit = refl; words = λ x y v g. inl (v, g); rested = inl (awaited l a q i) })
+    go (Fills l ws a q i f) =
+        Brings l ws refl (record {
+          commit = refl;
+          words = λ x y v g. new l ws a q f x y (filled-fades l x y ws s.cache v g);
+          rested = inl (awaited l a q i);
+        })
+    go (Fills_none l ws a q i f) =
+        Brings l ws refl (record { commit = refl; words = λ x y v g. inl (v, g); rested = inl (awaited l a q i) })
     go (Hands_out l) = Quiet (λ x. refl) (refl, fading s _ refl (λ x. fades-cleaned l x s.cache))
     go (Hurt_none l m u n) = plain l m u _ refl refl refl
     go (Hurt_running l m u v q) = rolls l m u _ refl refl refl

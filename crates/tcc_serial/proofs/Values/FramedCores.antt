@@ -46,7 +46,8 @@ fades-stored : (w x v : ℕ) (also : Bool) (c : Cache) → Fades c (stored w x a
 unfolding stored
 fades-stored w x v also c y = go (v == w)
   where
-    go : (b : Bool) → (if b then Some x else c.value v) ≡ Some y → (if b then true else c.modified v) ≡ false → (c.value v ≡ Some y) × (c.modified v ≡ false)
+    go : (b : Bool) → (if b then Some x else c.value v) ≡ Some y → (if b then true else c.modified v) ≡ false
+        → (c.value v ≡ Some y) × (c.modified v ≡ false)
     go true e f = absurd (true≢false f)
     go false e f = (e, f)
 
@@ -83,11 +84,32 @@ framing-exec sh p c s = each-exec sh p c s (Framing c s) go
     go : (x : Did sh p c s) → Framing c s (out x)
     go (Reads a x z l g r f) = Stays refl (fading s _ refl (λ v. fades-marked (w a) v s.cache))
     go (Frames a y also n k g i f) = Stays refl (fading s _ refl (λ v. fades-stored (w a) y v also s.cache))
-    go (Frames_anew a y n k g i q f h) = Stays refl (fading s _ refl (λ v. fades-then s.cache (placed sh (line_of (w a)) s.cache) (stored (w a) y false (placed sh (line_of (w a)) s.cache)) v (fades-placed sh (line_of (w a)) v s.cache) (fades-stored (w a) y v false (placed sh (line_of (w a)) s.cache))))
+    go (Frames_anew a y n k g i q f h) =
+        Stays refl (fading s _ refl
+        (λ v. fades-then s.cache (placed sh (line_of (w a)) s.cache) (stored (w a) y false (placed sh (line_of (w a)) s.cache)) v
+        (fades-placed sh (line_of (w a)) v s.cache) (fades-stored (w a) y v false (placed sh (line_of (w a)) s.cache))))
     go (Misses a n g i q) = Stays refl (asked (line_of (w a)) _ (g.idle) (fades-same s.cache))
     go (Misses_anew a n g i q f) = Stays refl (asked (line_of (w a)) _ (g.idle) (λ v. fades-placed sh (line_of (w a)) v s.cache))
-    go (Ends_alone t l e f r i) = Closes (record { tid = t; phase = inr r; last = after_end s l e; commit = refl; stores = refl; rests = (λ q. i, refl); words = λ x y v. let z = dropped (s.spilled x) (s.cache.value x) y v in (z.0, λ q. z.1) })
-    go (Commits_now t e) = Closes (record { tid = t; phase = inl e; last = s; commit = refl; stores = refl; rests = (λ q. absurd (ready t e q), refl); words = λ x y v. (v, λ q. absurd (ready t e q)) })
+    go (Ends_alone t l e f r i) =
+        Closes (record {
+          tid = t;
+          phase = inr r;
+          last = after_end s l e;
+          commit = refl;
+          stores = refl;
+          rests = (λ q. i, refl);
+          words = λ x y v. let z = dropped (s.spilled x) (s.cache.value x) y v in (z.0, λ q. z.1);
+        })
+    go (Commits_now t e) =
+        Closes (record {
+          tid = t;
+          phase = inl e;
+          last = s;
+          commit = refl;
+          stores = refl;
+          rests = (λ q. absurd (ready t e q), refl);
+          words = λ x y v. (v, λ q. absurd (ready t e q));
+        })
     go _ = Stays refl (fading s _ refl (fades-same s.cache))
 
 -- evicting
@@ -95,9 +117,11 @@ fades-evicted : (x y l v : ℕ) (c : Cache) → c.at x y ≡ Some l → Fades c 
 unfolding evicted evicted_line
 fades-evicted x y l v c e = rw e (λ z. go z (l == line_of v))
   where
-    go : (z : ℕ) (b : Bool) → (if b then None else c.value v) ≡ Some z → (if b then false else c.modified v) ≡ false → (c.value v ≡ Some z) × (c.modified v ≡ false)
+    go : (z : ℕ) (b : Bool) → (if b then None else c.value v) ≡ Some z → (if b then false else c.modified v) ≡ false
+        → (c.value v ≡ Some z) × (c.modified v ≡ false)
     go z true h k = absurd (cc)
     go z false h k = (h, k)
 
 pub fading-evict : (sh : Shape) (x y : ℕ) (s : CoreState) → IfSome (core_evict sh x y s) (λ o. (o.commit ≡ None) × Fading s o.core)
-fading-evict sh x y s = each-evict sh x y s (λ o. (o.commit ≡ None) × Fading s o.core) (λ l e a m. (refl, fading s _ refl (λ v. fades-evicted x y l v s.cache e)))
+fading-evict sh x y s = each-evict sh x y s (λ o. (o.commit ≡ None) × Fading s o.core)
+    (λ l e a m. (refl, fading s _ refl (λ v. fades-evicted x y l v s.cache e)))

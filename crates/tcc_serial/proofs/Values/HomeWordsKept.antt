@@ -34,7 +34,8 @@ use Rattle.tcc_serial.proofs.Values.WordsMoved.{Alike, moved-alike, granted-alik
 -- one pair
 
 -- a word that the commit didn't store has the copies that it had
-unstored-alike : (sh : Shape) (x d g u : ℕ) (o : Out) (v : Pair) → CommitsWord sh x u v.core.cache v.core.spilled o → v.core.cache.modified x ≡ false → v.core.spilled x ≡ None → Alike x g v (after_move v o d)
+unstored-alike : (sh : Shape) (x d g u : ℕ) (o : Out) (v : Pair) → CommitsWord sh x u v.core.cache v.core.spilled o
+    → v.core.cache.modified x ≡ false → v.core.spilled x ≡ None → Alike x g v (after_move v o d)
 unfolding word_copies
 unstored-alike sh x d g u o v w m z = record {
   copies = rw (a.0) (omega (arith, a.1.1 g d, live-sends (CopyWord x g) v.out (o.sends (Dir d))));
@@ -44,7 +45,8 @@ unstored-alike sh x d g u o v w m z = record {
   };
 }
   where
-    a : (o.core.cache.dirty x ≡ v.core.cache.dirty x) × ((o.core.cache.value x ≡ v.core.cache.value x) × ((k e : ℕ) → among (CopyWord x k) (o.sends (Dir e)) ≡ 0))
+    a : (o.core.cache.dirty x ≡ v.core.cache.dirty x)
+        × ((o.core.cache.value x ≡ v.core.cache.value x) × ((k e : ℕ) → among (CopyWord x k) (o.sends (Dir e)) ≡ 0))
     a = w.left m z
 
 -- one that it stored has those of other TIDs
@@ -52,7 +54,9 @@ pub record Others (x g : ℕ) (a b : Pair) : Type 0 where
   pub copies : word_copies x g b ≡ word_copies x g a
   pub have : (y : ℕ) → CopiesHave x g y a → CopiesHave x g y b
 
-stored-others : (sh : Shape) (x d g u : ℕ) (o : Out) (v : Pair) → CommitsWord sh x u v.core.cache v.core.spilled o → (v.core.cache.modified x || is_some (v.core.spilled x)) ≡ true → v.core.cache.dirty x ≡ None → (u ≡ g → ⊥) → Others x g v (after_move v o d)
+stored-others : (sh : Shape) (x d g u : ℕ) (o : Out) (v : Pair) → CommitsWord sh x u v.core.cache v.core.spilled o
+    → (v.core.cache.modified x || is_some (v.core.spilled x)) ≡ true → v.core.cache.dirty x ≡ None → (u ≡ g → ⊥)
+    → Others x g v (after_move v o d)
 unfolding word_copies
 stored-others sh x d g u o v w m z n = record {
   copies = rw z (omega (arith, clean (o.core.cache.dirty x) refl, w.sent g d n, live-sends (CopyWord x g) v.out (o.sends (Dir d))));
@@ -66,11 +70,21 @@ stored-others sh x d g u o v w m z n = record {
     clean a q = grind (arith, nat_tests)
 
 -- and new ones of the commit, as the core sees it
-new-copies : (sh : Shape) (x d u y : ℕ) (ram : ℕ → ℕ) (o : Out) (v : Pair) → CommitsWord sh x u v.core.cache v.core.spilled o → (v.core.cache.modified x || is_some (v.core.spilled x)) ≡ true → (v.core.cache.modified x ≡ true → is_some (v.core.cache.value x) ≡ true) → word_copies x u v ≡ 0 → sees v.core ram x ≡ y → CopiesHave x u y (after_move v o d)
+new-copies : (sh : Shape) (x d u y : ℕ) (ram : ℕ → ℕ) (o : Out) (v : Pair) → CommitsWord sh x u v.core.cache v.core.spilled o
+    → (v.core.cache.modified x || is_some (v.core.spilled x)) ≡ true
+    → (v.core.cache.modified x ≡ true → is_some (v.core.cache.value x) ≡ true) → word_copies x u v ≡ 0 → sees v.core ram x ≡ y
+    → CopiesHave x u y (after_move v o d)
 unfolding word_copies sees
 new-copies sh x d u y ram o v w m valid none s = record {
   framed = λ r. (let f = w.framed u m r in f.1.1 ∙ framed (v.core.cache.value x) refl (f.1.0));
-  sent = omega (arith, none, few-others x u y v.out, w.right y d (spilled (v.core.spilled x) refl), live-sends (CopyNot x u y) v.out (o.sends (Dir d)));
+  sent =
+      omega (
+        arith,
+        none,
+        few-others x u y v.out,
+        w.right y d (spilled (v.core.spilled x) refl),
+        live-sends (CopyNot x u y) v.out (o.sends (Dir d)),
+      );
 }
   where
     spilled : (k : Option ℕ) → v.core.spilled x ≡ k → unwrap_or k y ≡ y
@@ -95,10 +109,13 @@ record CoreKeeps (x g y z : ℕ) (a b : Pair) : Type 0 where
   tagged : CopiesHave x g y b
   above : (t : ℕ) → g < t → CopiesHave x t z b
 
-pub commit-keeps : (sh : Shape) (p : Program) (entries : ℕ → Local) (ram : ℕ → ℕ) (gs : List Grant) (ys : Ways) (views : ℕ → Uses) (m : Plain) (h : History) (c : ℕ) (o : Out) → Suits sh p ram → Invariants sh p entries ram gs ys views m h → c < sh.cores → Closing c (h.world.cores c) o → CommitsWords sh (h.world.cores c) o
+pub commit-keeps : (sh : Shape) (p : Program) (entries : ℕ → Local) (ram : ℕ → ℕ) (gs : List Grant) (ys : Ways) (views : ℕ → Uses)
+    (m : Plain) (h : History) (c : ℕ) (o : Out) → Suits sh p ram → Invariants sh p entries ram gs ys views m h → c < sh.cores
+    → Closing c (h.world.cores c) o → CommitsWords sh (h.world.cores c) o
     → KeptValues sh ram (core_moves h.world c o) (and_noted o.commit h.commits)
 unfolding core_moves noted pair
-commit-keeps sh p entries ram gs ys views m h c o u k l g f = subst (λ q. KeptValues sh ram (core_moves h.world c o) (and_noted q h.commits)) (sym g.commit)
+commit-keeps sh p entries ram gs ys views m h c o u k l g f =
+    subst (λ q. KeptValues sh ram (core_moves h.world c o) (and_noted q h.commits)) (sym g.commit)
     (λ d x dl e. subst (λ d. ValuesAt sh ram (core_moves h.world c o) cs d x) e (at-home x (rw e dl)))
   where
     w : World
@@ -133,11 +150,17 @@ commit-keeps sh p entries ram gs ys views m h c o u k l g f = subst (λ q. KeptV
     quiet x true q = let y = served x q in inl (counts-none (w.dirs (home sh (line_of x))) c g.tid g.last y.serving y.owed)
     quiet x false q = inr (unstored x q)
 
-    own : (x : ℕ) → home sh (line_of x) < sh.dirs → (b : Bool) → stores_word sh.base s.stores x ≡ b → CoreKeeps x (tag_of w (home sh (line_of x)) x) (value_of sh ram w h.commits (home sh (line_of x)) None x) (value_of sh ram w cs (home sh (line_of x)) (Some c) x) (pair w c (home sh (line_of x))) (after_move (pair w c (home sh (line_of x))) o (home sh (line_of x)))
+    own : (x : ℕ) → home sh (line_of x) < sh.dirs → (b : Bool) → stores_word sh.base s.stores x ≡ b
+        → CoreKeeps x (tag_of w (home sh (line_of x)) x) (value_of sh ram w h.commits (home sh (line_of x)) None x)
+        (value_of sh ram w cs (home sh (line_of x)) (Some c) x) (pair w c (home sh (line_of x)))
+        (after_move (pair w c (home sh (line_of x))) o (home sh (line_of x)))
     own x dl false q = record {
       copies = a.copies;
       tagged = a.have (tag_of w d x) _ ((old d x dl refl).in_copies c l);
-      above = λ t i. a.have t _ (subst (λ y. CopiesHave x t y (pair w c d)) (sym (value-skip sh.base ram new h.commits (w.dirs d) (Some c) None x (inr (unstored x q)))) ((old d x dl refl).above c t l i));
+      above =
+          λ t i. a.have t _ (subst (λ y. CopiesHave x t y (pair w c d))
+          (sym (value-skip sh.base ram new h.commits (w.dirs d) (Some c) None x (inr (unstored x q))))
+          ((old d x dl refl).above c t l i));
     }
       where
         d : ℕ
@@ -149,13 +172,17 @@ commit-keeps sh p entries ram gs ys views m h c o u k l g f = subst (λ q. KeptV
         none true j b e z = absurd (cc)
 
         a : Alike x (tag_of w d x) (pair w c d) (after_move (pair w c d) o d)
-        a = let y = none (s.cache.modified x) (s.spilled x) (stores_word sh.base s.stores x) (k.carried.stored_words_are_those_named c x) q in unstored-alike sh x d (tag_of w d x) g.tid o (pair w c d) (word x) (y.0) (y.1)
+        a = let y = none (s.cache.modified x) (s.spilled x) (stores_word sh.base s.stores x) (k.carried.stored_words_are_those_named c x) q
+            in unstored-alike sh x d (tag_of w d x) g.tid o (pair w c d) (word x) (y.0) (y.1)
     own x dl true q = record {
       copies = (others (tag_of w d x) untag).copies;
       tagged = (others (tag_of w d x) untag).have _ ((old d x dl refl).in_copies c l);
       above = λ t i. either t g.tid
-          (λ r. rw r (new-copies sh x d g.tid _ seen.0 o (pair w c d) (word x) named ((k.carried.modified_and_dirty_words_are_valid_and_apart c).modified x) (fresh (rw r at i)) (seen.1 ∙ sym (value-own sh p entries ram gs ys views m h c x o u k l g q))))
-          (λ r. (others t (λ y. r (sym y))).have _ (none-copied sh x t _ (pair w c d) (k.carried.frames_stand_in_their_sets c) (no-other t i r)));
+          (λ r. rw r (new-copies sh x d g.tid _ seen.0 o (pair w c d) (word x) named
+          ((k.carried.modified_and_dirty_words_are_valid_and_apart c).modified x) (fresh (rw r at i))
+          (seen.1 ∙ sym (value-own sh p entries ram gs ys views m h c x o u k l g q))))
+          (λ r. (others t (λ y. r (sym y))).have _
+          (none-copied sh x t _ (pair w c d) (k.carried.frames_stand_in_their_sets c) (no-other t i r)));
     }
       where
         d : ℕ
@@ -183,14 +210,17 @@ commit-keeps sh p entries ram gs ys views m h c o u k l g f = subst (λ q. KeptV
         above t i = k.carried.copy_above_the_tag_is_of_a_commit_in_flight c d (line_of x) t l dl inside refl i
 
         fresh : tag_of w d x < g.tid → word_copies x g.tid (pair w c d) ≡ 0
-        fresh i = unwritten-none sh h.commits c x g.tid (pair w c d) (k.carried.frames_stand_in_their_sets c) (above g.tid i) (wrote-none sh.base h.commits c g.tid x (each-listed (λ n. n.tid.0 ≡ g.tid → stores_word sh.base n.stores x ≡ false) h.commits (λ n i e. absurd (omega (arith, st.fresh, times-listed g.tid h.commits n i e)))))
+        fresh i = unwritten-none sh h.commits c x g.tid (pair w c d) (k.carried.frames_stand_in_their_sets c) (above g.tid i)
+            (wrote-none sh.base h.commits c g.tid x (each-listed (λ n. n.tid.0 ≡ g.tid → stores_word sh.base n.stores x ≡ false) h.commits
+            (λ n i e. absurd (omega (arith, st.fresh, times-listed g.tid h.commits n i e)))))
 
         unsent : (t : ℕ) → (t ≡ g.tid → ⊥) → (y : ℕ) → live (Commits t) (w.net (Core c) (Dir d)) ≡ y → y ≡ 0
         unsent t n zero e = refl
         unsent t n (suc y) e = absurd (n (sym (k.carried.committing_tid_is_served c d t l dl (omega (arith, e))) ∙ (served x q).serving))
 
         no-other : (t : ℕ) → tag_of w d x < t → (t ≡ g.tid → ⊥) → copies_with (line_of x) t (pair w c d) ≡ 0
-        no-other t i n = (above t i).one ∙ rw (unsent t n (live (Commits t) (w.net (Core c) (Dir d))) refl) (which (wrote_line sh.base h.commits c t (line_of x)))
+        no-other t i n = (above t i).one ∙ rw (unsent t n (live (Commits t) (w.net (Core c) (Dir d))) refl)
+            (which (wrote_line sh.base h.commits c t (line_of x)))
           where
             which : (b : Bool) → cond {A = ℕ} b 0 0 ≡ 0
             which true = refl
@@ -209,13 +239,19 @@ commit-keeps sh p entries ram gs ys views m h c o u k l g f = subst (λ q. KeptV
         same : value_of sh ram w cs d None x ≡ value_of sh ram w h.commits d None x
         same = value-skip sh.base ram new h.commits (w.dirs d) None None x (quiet x (stores_word sh.base s.stores x) refl)
 
-        each : (j : ℕ) → j < sh.cores → CoreKeeps x (tag_of w d x) (value_of sh ram w h.commits d None x) (value_of sh ram w cs d (Some j) x) (pair w j d) (pair (core_moves w c o) j d)
+        each : (j : ℕ) → j < sh.cores
+            → CoreKeeps x (tag_of w d x) (value_of sh ram w h.commits d None x) (value_of sh ram w cs d (Some j) x) (pair w j d)
+            (pair (core_moves w c o) j d)
         each j jl = either j c
-            (λ q. rw q (subst (CoreKeeps x (tag_of w d x) (value_of sh ram w h.commits d None x) (value_of sh ram w cs d (Some c) x) (pair w c d)) (sym (moves-own w c o d)) (own x dl (stores_word sh.base s.stores x) refl)))
-            (λ n. subst (CoreKeeps x (tag_of w d x) (value_of sh ram w h.commits d None x) (value_of sh ram w cs d (Some j) x) (pair w j d)) (sym (moves-other w c o j d n)) (record {
+            (λ q. rw q (subst (CoreKeeps x (tag_of w d x) (value_of sh ram w h.commits d None x) (value_of sh ram w cs d (Some c) x)
+            (pair w c d)) (sym (moves-own w c o d)) (own x dl (stores_word sh.base s.stores x) refl)))
+            (λ n. subst (CoreKeeps x (tag_of w d x) (value_of sh ram w h.commits d None x) (value_of sh ram w cs d (Some j) x) (pair w j d))
+            (sym (moves-other w c o j d n)) (record {
               copies = refl;
               tagged = (old d x dl refl).in_copies j jl;
-              above = λ t i. subst (λ y. CopiesHave x t y (pair w j d)) (sym (value-else sh p entries ram gs ys views m h c j x o u k l g n)) ((old d x dl refl).above j t jl i);
+              above =
+                  λ t i. subst (λ y. CopiesHave x t y (pair w j d)) (sym (value-else sh p entries ram gs ys views m h c j x o u k l g n))
+                  ((old d x dl refl).above j t jl i);
             }))
 
 -- Every event that commits nothing keeps the values of home words and of copies on their way home.
@@ -224,14 +260,22 @@ commit-keeps sh p entries ram gs ys views m h c o u k l g f = subst (λ q. KeptV
 abbrev KeepsValues : Shape → (ram : ℕ → ℕ) → History → Stepped → Type 0
 KeepsValues sh ram h o = CommitsStand sh o.world (and_noted o.noted h.commits) → KeptValues sh ram o.world (and_noted o.noted h.commits)
 
-step-values : (sh : Shape) (p : Program) (entries : ℕ → Local) (ram : ℕ → ℕ) (gs : List Grant) (ys : Ways) (views : ℕ → Uses) (m : Plain) (h : History) (e : Event) → Suits sh p ram → Invariants sh p entries ram gs ys views m h → IfSome (step sh p h.world e) (KeepsValues sh ram h)
+step-values : (sh : Shape) (p : Program) (entries : ℕ → Local) (ram : ℕ → ℕ) (gs : List Grant) (ys : Ways) (views : ℕ → Uses) (m : Plain)
+    (h : History) (e : Event) → Suits sh p ram → Invariants sh p entries ram gs ys views m h
+    → IfSome (step sh p h.world e) (KeepsValues sh ram h)
 unfolding core_moves core_takes
 step-values sh p entries ram gs ys views m h e u k = node_cases sh p w e (λ x g o. KeepsValues sh ram h o)
-    (λ c l. executed c l (core_exec sh p c (w.cores c)) (framing-exec sh p c (w.cores c)) (commits-exec sh p c (w.cores c) (b.caches c) ((k.carried.marks_fit_the_phase c).spilled)) (words-exec sh p c (w.cores c) (b.caches c)))
+    (λ c l. executed c l (core_exec sh p c (w.cores c)) (framing-exec sh p c (w.cores c))
+    (commits-exec sh p c (w.cores c) (b.caches c) ((k.carried.marks_fit_the_phase c).spilled))
+    (words-exec sh p c (w.cores c) (b.caches c)))
     (λ c x y l. evicted c (core_evict sh x y (w.cores c)) (words-evict sh x y (w.cores c) (b.caches c)))
-    (λ c n t i. let o = grant sh t (w.cores c) in quietly o.commit (core_takes w Vendor c n o) (grant-stays sh t (w.cores c)).commit (alike-keeps sh ram w (core_takes w Vendor c n o) h.commits refl (granted-alike sh w c n o (words-grant sh t (w.cores c))) b.values))
-    (λ c d n a i. taken c d n a i (from_dir sh d (w.cores c) a) (back-stays sh d (w.cores c) a) (λ y. words-back sh y d (w.cores c) a (b.caches c)))
-    (λ c d n a cl dl i. answered sh ram h c d n a (dir_deliver sh (w.dirs d) c a) b cl dl i (dir-records sh (w.dirs d) c a) (λ x. dir-words sh x (w.dirs d) c a))
+    (λ c n t i. let o = grant sh t (w.cores c) in quietly o.commit (core_takes w Vendor c n o) (grant-stays sh t (w.cores c)).commit
+    (alike-keeps sh ram w (core_takes w Vendor c n o) h.commits refl (granted-alike sh w c n o (words-grant sh t (w.cores c)))
+    b.values))
+    (λ c d n a i. taken c d n a i (from_dir sh d (w.cores c) a) (back-stays sh d (w.cores c) a)
+    (λ y. words-back sh y d (w.cores c) a (b.caches c)))
+    (λ c d n a cl dl i. answered sh ram h c d n a (dir_deliver sh (w.dirs d) c a) b cl dl i (dir-records sh (w.dirs d) c a)
+    (λ x. dir-words sh x (w.dirs d) c a))
     (λ c n i s. granted sh ram h c n b)
   where
     w : World
@@ -240,26 +284,39 @@ step-values sh p entries ram gs ys views m h e u k = node_cases sh p w e (λ x g
     b : Known sh ram h
     b = known sh p entries ram gs ys views m h k
 
-    quietly : (n : Option Noted) (v : World) → n ≡ None → KeptValues sh ram v h.commits → KeepsValues sh ram h (record { world = v; noted = n })
+    quietly : (n : Option Noted) (v : World) → n ≡ None → KeptValues sh ram v h.commits
+        → KeepsValues sh ram h (record { world = v; noted = n })
     quietly n v e f = rw e (λ s. f)
 
-    executed : (c : ℕ) → c < sh.cores → (x : Option Out) → IfSome x (Framing c (w.cores c)) → IfSome x (CommitsWords sh (w.cores c)) → IfSome x (Uncommitted sh (w.cores c)) → IfSome x (λ o. KeepsValues sh ram h (record { world = core_moves w c o; noted = o.commit }))
+    executed : (c : ℕ) → c < sh.cores → (x : Option Out) → IfSome x (Framing c (w.cores c)) → IfSome x (CommitsWords sh (w.cores c))
+        → IfSome x (Uncommitted sh (w.cores c))
+        → IfSome x (λ o. KeepsValues sh ram h (record { world = core_moves w c o; noted = o.commit }))
     executed c l None f g a = tt
-    executed c l (Some o) (Stays n f) g a = quietly o.commit (core_moves w c o) n (alike-keeps sh ram w (core_moves w c o) h.commits refl (moved-alike sh w c o (a n)) b.values)
+    executed c l (Some o) (Stays n f) g a =
+        quietly o.commit (core_moves w c o) n (alike-keeps sh ram w (core_moves w c o) h.commits refl (moved-alike sh w c o (a n)) b.values)
     executed c l (Some o) (Closes f) g a = λ s. commit-keeps sh p entries ram gs ys views m h c o u k l f g
 
-    evicted : (c : ℕ) (x : Option Out) → IfSome x (Quietly sh (w.cores c)) → IfSome x (λ o. KeepsValues sh ram h (record { world = core_moves w c o; noted = o.commit }))
+    evicted : (c : ℕ) (x : Option Out) → IfSome x (Quietly sh (w.cores c))
+        → IfSome x (λ o. KeepsValues sh ram h (record { world = core_moves w c o; noted = o.commit }))
     evicted c None a = tt
-    evicted c (Some o) a = quietly o.commit (core_moves w c o) (a.0) (alike-keeps sh ram w (core_moves w c o) h.commits refl (moved-alike sh w c o (a.1)) b.values)
+    evicted c (Some o) a =
+        quietly o.commit (core_moves w c o) (a.0)
+        (alike-keeps sh ram w (core_moves w c o) h.commits refl (moved-alike sh w c o (a.1)) b.values)
 
-    taken : (c d n : ℕ) (a : Msg) → in_flight w.net (Dir d) (Core c) n ≡ Some a → (x : Option Out) → IfSome x (CheckpointStays (w.cores c)) → ((y : ℕ) → IfSome x (WordBack sh y (w.cores c) a)) → IfSome x (λ o. KeepsValues sh ram h (record { world = core_takes w (Dir d) c n o; noted = o.commit }))
+    taken : (c d n : ℕ) (a : Msg) → in_flight w.net (Dir d) (Core c) n ≡ Some a → (x : Option Out) → IfSome x (CheckpointStays (w.cores c))
+        → ((y : ℕ) → IfSome x (WordBack sh y (w.cores c) a))
+        → IfSome x (λ o. KeepsValues sh ram h (record { world = core_takes w (Dir d) c n o; noted = o.commit }))
     taken c d n a i None r f = tt
-    taken c d n a i (Some o) r f = quietly o.commit (core_takes w (Dir d) c n o) r.commit (alike-keeps sh ram w (core_takes w (Dir d) c n o) h.commits refl (taken-alike sh ram h c d n a o b i f) b.values)
+    taken c d n a i (Some o) r f =
+        quietly o.commit (core_takes w (Dir d) c n o) r.commit
+        (alike-keeps sh ram w (core_takes w (Dir d) c n o) h.commits refl (taken-alike sh ram h c d n a o b i f) b.values)
 
 pub homes_kept : EventsKeepHomes
 unfolding next_history
 homes_kept sh p entries ram gs ys views m h e u k = go (step sh p h.world e) (step-values sh p entries ram gs ys views m h e u k)
   where
-    go : (x : Option Stepped) → IfSome x (KeepsValues sh ram h) → IfSome (recorded h x) (λ g. Carried sh (gs ++ granted_by h.world e) (ways_after (sent_by sh p h.world e) ys) g → HomesHold sh ram g)
+    go : (x : Option Stepped) → IfSome x (KeepsValues sh ram h)
+        → IfSome (recorded h x) (λ g. Carried sh (gs ++ granted_by h.world e) (ways_after (sent_by sh p h.world e) ys) g
+        → HomesHold sh ram g)
     go None a = tt
     go (Some o) a = λ c. from-values sh ram o.world (and_noted o.noted h.commits) (a c.commit_is_on_its_way_or_applied)

@@ -25,9 +25,11 @@ keeps-phase s r e = record { tids = λ t. ap (λ q. has_tid q t) e; halted = λ 
 -- it does no commit, or the one of its TID
 pub data Exec (s : CoreState) (c : ℕ) (o : Out) : Type 0 where
   Goes : Acts s.phase → o.commit ≡ None → Keeps s o.core → Exec s c o
-  Commits : (t : ℕ) (n : Noted) → (s.phase ≡ Ready t) ⊎ (s.phase ≡ Solo t) → o.commit ≡ Some n → n.tid.0 ≡ t → n.core.0 ≡ c → n.stores ≡ s.stores → Exec s c o
+  Commits : (t : ℕ) (n : Noted) → (s.phase ≡ Ready t) ⊎ (s.phase ≡ Solo t) → o.commit ≡ Some n → n.tid.0 ≡ t → n.core.0 ≡ c
+      → n.stores ≡ s.stores → Exec s c o
 
-from-running : (s : CoreState) (c : ℕ) (o : Out) (q : Phase) → s.phase ≡ Running → o.core.phase ≡ q → ((t : ℕ) → has_tid q t ≡ false) → (q ≡ Halted → ⊥) → o.commit ≡ None → Exec s c o
+from-running : (s : CoreState) (c : ℕ) (o : Out) (q : Phase) → s.phase ≡ Running → o.core.phase ≡ q → ((t : ℕ) → has_tid q t ≡ false)
+    → (q ≡ Halted → ⊥) → o.commit ≡ None → Exec s c o
 unfolding has_tid
 from-running s c o q e f n z m = Goes (rw e tt) m (record { tids = λ t. rw (e, f) (n t); halted = λ g. absurd (z (sym f ∙ g)) })
 
@@ -54,13 +56,15 @@ exec-view sh p c s = each-exec sh p c s (Exec s c) go
 
 -- each word that an instruction uses is valid, and neither spilled nor modified
 
-used-one : (P : ℕ → ℕ → Type 0) (w : ℕ) (sp : Option ℕ) (m : Bool) (v : Option ℕ) → ((y : ℕ) → m ≡ false → v ≡ Some y → P w y) → EachUse P (used_in w sp m v)
+used-one : (P : ℕ → ℕ → Type 0) (w : ℕ) (sp : Option ℕ) (m : Bool) (v : Option ℕ) → ((y : ℕ) → m ≡ false → v ≡ Some y → P w y)
+    → EachUse P (used_in w sp m v)
 used-one P w (Some x) m v f = tt
 used-one P w None true v f = tt
 used-one P w None false None f = tt
 used-one P w None false (Some x) f = (f x refl refl, tt)
 
-pub used-each : (P : ℕ → ℕ → Type 0) (base : ℕ) (s : CoreState) (need : Need) → ((x y : ℕ) → s.cache.modified x ≡ false → s.cache.value x ≡ Some y → P x y) → EachUse P (used_by base s need)
+pub used-each : (P : ℕ → ℕ → Type 0) (base : ℕ) (s : CoreState) (need : Need)
+    → ((x y : ℕ) → s.cache.modified x ≡ false → s.cache.value x ≡ Some y → P x y) → EachUse P (used_by base s need)
 used-each P base s need f = go need
   where
     at : (w : ℕ) → EachUse P (used_at s w)
@@ -85,9 +89,11 @@ evict-view sh x y s = each-evict sh x y s (λ o. (o.commit ≡ None) × Keeps s 
 
 -- the core has the granted TID, or it had no view
 abbrev pub Gets : (tid : ℕ) → CoreState → Uses → Out → Type 0
-Gets u s us o = (us ≡ []) ⊎ (((t : ℕ) → num (has_tid o.core.phase t) ≡ num (u == t) + num (has_tid s.phase t)) × (o.core.phase ≡ Halted → ⊥))
+Gets u s us o =
+    (us ≡ []) ⊎ (((t : ℕ) → num (has_tid o.core.phase t) ≡ num (u == t) + num (has_tid s.phase t)) × (o.core.phase ≡ Halted → ⊥))
 
-pub grant-view : (sh : Shape) (u : ℕ) (s : CoreState) (us : Uses) → waits_for_tid s.phase ≡ true → (s.phase ≡ DoomedTid → us ≡ []) → ((grant sh u s).commit ≡ None) × Gets u s us (grant sh u s)
+pub grant-view : (sh : Shape) (u : ℕ) (s : CoreState) (us : Uses) → waits_for_tid s.phase ≡ true → (s.phase ≡ DoomedTid → us ≡ [])
+    → ((grant sh u s).commit ≡ None) × Gets u s us (grant sh u s)
 unfolding grant has_tid waits_for_tid
 grant-view sh u s us w dm = go s.phase refl w
   where
@@ -97,7 +103,13 @@ grant-view sh u s us w dm = go s.phase refl w
 
     go : (q : Phase) → s.phase ≡ q → waits_for_tid q ≡ true →
         ((grant_in_phase sh u s q).commit ≡ None) × Gets u s us (grant_in_phase sh u s q)
-    go AwaitTid e w = (refl, inr (λ t. rw (e, tid-probing (any_below (is_probed sh s.cache) sh.dirs) u t) (omega arith), unhalted (any_below (is_probed sh s.cache) sh.dirs)))
+    go AwaitTid e w = (
+      refl,
+      inr (
+        λ t. rw (e, tid-probing (any_below (is_probed sh s.cache) sh.dirs) u t) (omega arith),
+        unhalted (any_below (is_probed sh s.cache) sh.dirs),
+      ),
+    )
     go DoomedTid e w = (refl, inl (dm e))
     go (Overflowing None) e w = (refl, inr (λ t. rw e (omega arith), λ q. absurd (cc)))
     go _ e w = absurd (cc)
@@ -113,7 +125,8 @@ pub data Back (s : CoreState) (m : Msg) (us : Uses) (o : Out) : Type 0 where
   Empties : o.commit ≡ None → uses_delivered s m us ≡ [] → Back s m us o
   Stays : o.commit ≡ None → uses_delivered s m us ≡ us → Keeps s o.core → Spares s m → Back s m us o
 
-pub back-view : (sh : Shape) (e : ℕ) (s : CoreState) (m : Msg) (us : Uses) → (s.phase ≡ DoomedTid → us ≡ []) → (s.phase ≡ Halted → us ≡ []) → IfSome (from_dir sh e s m) (Back s m us)
+pub back-view : (sh : Shape) (e : ℕ) (s : CoreState) (m : Msg) (us : Uses) → (s.phase ≡ DoomedTid → us ≡ []) → (s.phase ≡ Halted → us ≡ [])
+    → IfSome (from_dir sh e s m) (Back s m us)
 unfolding has_tid
 back-view sh e s m us dm ha = each-back sh e s (λ m o. Back s m us o) go m
   where

@@ -18,14 +18,16 @@ unfolding holder pair
 own-holder w c d t e = rw e (omega arith)
 
 -- a core has one TID at most
-pub one-holder : (sh : Shape) (gs : List Grant) (ys : Ways) (h : History) → Carried sh gs ys h → (c d e t u : ℕ) → c < sh.cores → 1 ≤ holder t (pair h.world c d) → 1 ≤ holder u (pair h.world c e) → t ≡ u
+pub one-holder : (sh : Shape) (gs : List Grant) (ys : Ways) (h : History) → Carried sh gs ys h → (c d e t u : ℕ) → c < sh.cores
+    → 1 ≤ holder t (pair h.world c d) → 1 ≤ holder u (pair h.world c e) → t ≡ u
 one-holder sh gs ys h k c d e t u l a b =
     let x : u ≤ t = k.live_tid_is_the_last_granted_to_its_core c d t u a ((k.live_tid_is_granted_to_its_core c e u l b).0) in
     let y : t ≤ u = k.live_tid_is_the_last_granted_to_its_core c e u t b ((k.live_tid_is_granted_to_its_core c d t l a).0) in
     omega arith
 
 -- so it is the core's bound
-pub bound-own : (sh : Shape) (gs : List Grant) (ys : Ways) (h : History) → Carried sh gs ys h → (c d t : ℕ) (b : Option ℕ) → c < sh.cores → has_tid (h.world.cores c).phase t ≡ true → IsBound b (pair h.world c d) → b ≡ Some t
+pub bound-own : (sh : Shape) (gs : List Grant) (ys : Ways) (h : History) → Carried sh gs ys h → (c d t : ℕ) (b : Option ℕ) → c < sh.cores
+    → has_tid (h.world.cores c).phase t ≡ true → IsBound b (pair h.world c d) → b ≡ Some t
 bound-own sh gs ys h k c d t None l e i = absurd (omega (arith, i t, own-holder h.world c d t e))
 bound-own sh gs ys h k c d t (Some u) l e i = ap Some (one-holder sh gs ys h k c d d u t l i (own-holder h.world c d t e))
 
@@ -34,7 +36,9 @@ pub record IsServed (w : World) (d t : ℕ) : Type 0 where
   pub serving : (w.dirs d).serving.serving ≡ t
   pub owed : (w.dirs d).owed ≡ 0
 
-pub open-served : (sh : Shape) (gs : List Grant) (ys : Ways) (h : History) → Carried sh gs ys h → (c d t : ℕ) → c < sh.cores → d < sh.dirs → has_tid (h.world.cores c).phase t ≡ true → opens (h.world.cores c).phase (writes_at sh (h.world.cores c).cache d) t ≡ true → (h.world.cores c).owing d ≡ false → IsServed h.world d t
+pub open-served : (sh : Shape) (gs : List Grant) (ys : Ways) (h : History) → Carried sh gs ys h → (c d t : ℕ) → c < sh.cores → d < sh.dirs
+    → has_tid (h.world.cores c).phase t ≡ true → opens (h.world.cores c).phase (writes_at sh (h.world.cores c).cache d) t ≡ true
+    → (h.world.cores c).owing d ≡ false → IsServed h.world d t
 open-served sh gs ys h k c d t cl dl e o f = record { serving = s; owed = go (cases_lt 0 (h.world.dirs d).owed) }
   where
     s : (h.world.dirs d).serving.serving ≡ t
@@ -46,7 +50,9 @@ open-served sh gs ys h k c d t cl dl e o f = record { serving = s; owed = go (ca
     go : (0 < (h.world.dirs d).owed) ⊎ ((h.world.dirs d).owed ≤ 0) → (h.world.dirs d).owed ≡ 0
     go (inr l) = omega (arith, l)
     go (inl l) =
-        let y : Settled sh ys h.world d t = k.owed_only_where_settled d t dl (numbered-least 1 gs (record { tid = t; core = c }) (k.granted_tids_are_those_below_next.0) (g.0)) s (omega (arith, l)) in
+        let y : Settled sh ys h.world d t =
+        k.owed_only_where_settled d t dl
+        (numbered-least 1 gs (record { tid = t; core = c }) (k.granted_tids_are_those_below_next.0) (g.0)) s (omega (arith, l)) in
         absurd (omega (arith, g.1, k.committed_tid_is_given_up_where_it_stored_nothing.only d t dl (y.committed)))
 
 -- such a TID isn't applied there
@@ -55,7 +61,8 @@ unfolding is_applied
 served-unapplied w d t s = let a = s.serving in let b = s.owed in grind (arith, nat_tests)
 
 -- no invalidation is in flight from it
-pub unowed-none : (sh : Shape) (gs : List Grant) (ys : Ways) (h : History) → Carried sh gs ys h → (c d : ℕ) → c < sh.cores → (h.world.dirs d).owed ≡ 0 → live Invs (pair h.world c d).back ≡ 0
+pub unowed-none : (sh : Shape) (gs : List Grant) (ys : Ways) (h : History) → Carried sh gs ys h → (c d : ℕ) → c < sh.cores
+    → (h.world.dirs d).owed ≡ 0 → live Invs (pair h.world c d).back ≡ 0
 unfolding share due
 unowed-none sh gs ys h k c d l e = omega (arith, e, k.owed_counts_invs_and_acks.owed d, total-le (share due h.world d) sh.cores c l)
 
@@ -68,7 +75,8 @@ pub solo-holds : (q : Phase) (t : ℕ) → q ≡ Solo t → has_tid q t ≡ true
 unfolding has_tid
 solo-holds q t e = rw e (grind (arith, nat_tests))
 
-pub solo-served : (sh : Shape) (gs : List Grant) (ys : Ways) (h : History) → Carried sh gs ys h → (c d t : ℕ) → c < sh.cores → d < sh.dirs → (h.world.cores c).phase ≡ Solo t → IsServed h.world d t
+pub solo-served : (sh : Shape) (gs : List Grant) (ys : Ways) (h : History) → Carried sh gs ys h → (c d t : ℕ) → c < sh.cores → d < sh.dirs
+    → (h.world.cores c).phase ≡ Solo t → IsServed h.world d t
 unfolding has_tid opens
 solo-served sh gs ys h k c d t cl dl e =
     let s : (t == t) ≡ true = grind (arith, nat_tests) in
@@ -94,15 +102,21 @@ unfolding passes
 below-not x b s l m = grind (arith, nat_tests)
 
 -- one with a TID below the bound carries the served one
-pub below-served : (sh : Shape) (gs : List Grant) (ys : Ways) (h : History) → Carried sh gs ys h → (c d x b : ℕ) → 1 ≤ live (InvBelow x b) (pair h.world c d).back → (h.world.dirs d).serving.serving < b
+pub below-served : (sh : Shape) (gs : List Grant) (ys : Ways) (h : History) → Carried sh gs ys h → (c d x b : ℕ)
+    → 1 ≤ live (InvBelow x b) (pair h.world c d).back → (h.world.dirs d).serving.serving < b
 unfolding pair
 below-served sh gs ys h k c d x b i = grind (arith, nat_tests, k.owed_counts_invs_and_acks.served, live-fewer, below-not)
 
 -- a core that is alone has none in flight to it
-pub solo-undoomed : (sh : Shape) (gs : List Grant) (ys : Ways) (h : History) → Carried sh gs ys h → (c d x : ℕ) (b : Option ℕ) → c < sh.cores → d < sh.dirs → is_solo (h.world.cores c).phase ≡ true → live (dooms b x) (pair h.world c d).back ≡ 0
+pub solo-undoomed : (sh : Shape) (gs : List Grant) (ys : Ways) (h : History) → Carried sh gs ys h → (c d x : ℕ) (b : Option ℕ)
+    → c < sh.cores → d < sh.dirs → is_solo (h.world.cores c).phase ≡ true → live (dooms b x) (pair h.world c d).back ≡ 0
 solo-undoomed sh gs ys h k c d x b cl dl e =
     let t = solo-tid (h.world.cores c).phase e in
-    omega (arith, few-dooms b x (pair h.world c d).back, unowed-none sh gs ys h k c d cl ((solo-served sh gs ys h k c d t.0 cl dl (t.1)).owed))
+    omega (
+      arith,
+      few-dooms b x (pair h.world c d).back,
+      unowed-none sh gs ys h k c d cl ((solo-served sh gs ys h k c d t.0 cl dl (t.1)).owed),
+    )
 
 -- uses
 pub each-two : (P Q R : ℕ → ℕ → Type 0) (us : Uses) → ((x y : ℕ) → P x y → Q x y → R x y) → EachUse P us → EachUse Q us → EachUse R us
@@ -140,11 +154,15 @@ uses-seen c x us s n = stand-seen false c x us s
 abbrev pub IsNear : Shape → (value : ℕ) → (b : Option ℕ) → (dir : ℕ) → (back : Link) → (word had : ℕ) → Type 0
 IsNear sh value b d l x y = home sh (line_of x) ≡ d → (y ≡ value) ⊎ (1 ≤ live (dooms b x) l)
 
-pub doomed-again : (sh : Shape) (gs : List Grant) (ys : Ways) (h : History) → Carried sh gs ys h → (c d x y : ℕ) (b : Option ℕ) → c < sh.cores → d < sh.dirs → home sh (line_of x) ≡ d → IsBound b (pair h.world c d) → IsSeen (h.world.cores c).cache (h.world.cores c).phase x y → 1 ≤ live (dooms b x) (pair h.world c d).back → IsDoomed b x (pair h.world c d)
+pub doomed-again : (sh : Shape) (gs : List Grant) (ys : Ways) (h : History) → Carried sh gs ys h → (c d x y : ℕ) (b : Option ℕ)
+    → c < sh.cores → d < sh.dirs → home sh (line_of x) ≡ d → IsBound b (pair h.world c d)
+    → IsSeen (h.world.cores c).cache (h.world.cores c).phase x y → 1 ≤ live (dooms b x) (pair h.world c d).back
+    → IsDoomed b x (pair h.world c d)
 unfolding pair
 doomed-again sh gs ys h k c d x y b cl dl e i s l = go s
   where
-    valid : (b : Option ℕ) → 1 ≤ live (dooms b x) (pair h.world c d).back → (is_some ((h.world.cores c).cache.value x) ≡ true) ⊎ IsPassed b (h.world.dirs d).serving.serving → is_some ((h.world.cores c).cache.value x) ≡ true
+    valid : (b : Option ℕ) → 1 ≤ live (dooms b x) (pair h.world c d).back → (is_some ((h.world.cores c).cache.value x) ≡ true)
+        ⊎ IsPassed b (h.world.dirs d).serving.serving → is_some ((h.world.cores c).cache.value x) ≡ true
     valid b l a = grind (arith, nat_tests, below-served)
 
     go : IsSeen (h.world.cores c).cache (h.world.cores c).phase x y → IsDoomed b x (pair h.world c d)
@@ -159,20 +177,32 @@ unfolding times
 listed-once [] n k = absurd (omega (arith, k.1))
 listed-once (m ∷ cs) n k = go k.0 (k.1) (k.2) (λ j. listed-once cs n j)
   where
-    go : (i : ℕ) → i < suc (length cs) → slice_index_or (m ∷ cs) i n ≡ n → (Contains cs n → 1 ≤ times n.tid.0 cs) → 1 ≤ num (m.tid.0 == n.tid.0) + times n.tid.0 cs
+    go : (i : ℕ) → i < suc (length cs) → slice_index_or (m ∷ cs) i n ≡ n → (Contains cs n → 1 ≤ times n.tid.0 cs)
+        → 1 ≤ num (m.tid.0 == n.tid.0) + times n.tid.0 cs
     go a l e f = grind (arith, nat_tests)
 
 -- it was granted
-pub listed-below : (sh : Shape) (gs : List Grant) (ys : Ways) (h : History) → Carried sh gs ys h → (n : Noted) → Contains h.commits n → n.tid.0 < h.world.next
-listed-below sh gs ys h k n i = omega (arith, k.granted_tids_are_those_below_next.1, numbered-most 1 gs (record { tid = n.tid.0; core = n.core.0 }) (k.granted_tids_are_those_below_next.0) (granted-at gs h.commits n (k.commits_are_of_granted_tids.1) i))
+pub listed-below : (sh : Shape) (gs : List Grant) (ys : Ways) (h : History) → Carried sh gs ys h → (n : Noted) → Contains h.commits n
+    → n.tid.0 < h.world.next
+listed-below sh gs ys h k n i =
+    omega (
+      arith,
+      k.granted_tids_are_those_below_next.1,
+      numbered-most 1 gs (record { tid = n.tid.0; core = n.core.0 })
+          (k.granted_tids_are_those_below_next.0) (granted-at gs h.commits n (k.commits_are_of_granted_tids.1) i),
+    )
 
 -- a bound above all that count is as good as none
-pub value-bounded : (base : ℕ) (ram : ℕ → ℕ) (cs : List Noted) (s : DirState) (c t x : ℕ) → ((n : Noted) → Contains cs n → (is_this (Some c) n.core.0 || is_applied s n.tid.0) ≡ true → n.tid.0 < t) → value_at base ram cs s (Some c) None x ≡ value_at base ram cs s (Some c) (Some t) x
+pub value-bounded : (base : ℕ) (ram : ℕ → ℕ) (cs : List Noted) (s : DirState) (c t x : ℕ)
+    → ((n : Noted) → Contains cs n → (is_this (Some c) n.core.0 || is_applied s n.tid.0) ≡ true → n.tid.0 < t)
+    → value_at base ram cs s (Some c) None x ≡ value_at base ram cs s (Some c) (Some t) x
 unfolding counts
 value-bounded base ram cs s c t x f = grind (arith, nat_tests, value-alike)
 
 -- what counts for a core that is alone is below its TID
-pub solo-value : (sh : Shape) (gs : List Grant) (ys : Ways) (ram : ℕ → ℕ) (h : History) → Carried sh gs ys h → (c d t x : ℕ) → c < sh.cores → d < sh.dirs → (h.world.cores c).phase ≡ Solo t → value_at sh.base ram h.commits (h.world.dirs d) (Some c) None x ≡ value_at sh.base ram h.commits (h.world.dirs d) (Some c) (Some t) x
+pub solo-value : (sh : Shape) (gs : List Grant) (ys : Ways) (ram : ℕ → ℕ) (h : History) → Carried sh gs ys h → (c d t x : ℕ) → c < sh.cores
+    → d < sh.dirs → (h.world.cores c).phase ≡ Solo t
+    → value_at sh.base ram h.commits (h.world.dirs d) (Some c) None x ≡ value_at sh.base ram h.commits (h.world.dirs d) (Some c) (Some t) x
 unfolding is_applied
 solo-value sh gs ys ram h k c d t x cl dl e = value-bounded sh.base ram h.commits (h.world.dirs d) c t x below
   where
@@ -183,11 +213,13 @@ solo-value sh gs ys ram h k c d t x cl dl e = value-bounded sh.base ram h.commit
     s = solo-served sh gs ys h k c d t cl dl e
 
     other : (n : Noted) → Contains h.commits n → n.tid.0 ≡ t → ⊥
-    other n i q = let z : times t h.commits ≡ 0 = (k.live_tid_is_granted_to_its_core c d t cl held).1 in let o : 1 ≤ times t h.commits = rw q at (listed-once h.commits n i) in omega (arith, z, o)
+    other n i q = let z : times t h.commits ≡ 0 = (k.live_tid_is_granted_to_its_core c d t cl held).1 in let o : 1 ≤ times t h.commits =
+        rw q at (listed-once h.commits n i) in omega (arith, z, o)
 
     own : (n : Noted) → Contains h.commits n → n.core.0 ≡ c → n.tid.0 < t
     own n i q =
-        let g : Contains gs (record { tid = n.tid.0; core = c }) = rw q at (granted-at gs h.commits n (k.commits_are_of_granted_tids.1) i) in
+        let g : Contains gs (record { tid = n.tid.0; core = c }) =
+        rw q at (granted-at gs h.commits n (k.commits_are_of_granted_tids.1) i) in
         let l : n.tid.0 ≤ t = k.live_tid_is_the_last_granted_to_its_core c d t n.tid.0 held g in
         go (cases_lt n.tid.0 t) l
       where
@@ -207,8 +239,12 @@ num-same : (a b : Bool) → num a ≡ num b → a ≡ b
 num-same a b e = grind (arith, nat_tests)
 
 -- a commit of which as many Commits are in flight as before is applied as before
-pub applied-same : (sh : Shape) (cs : List Noted) (v w : World) (n : Noted) (d : ℕ) → CommitsStand sh v cs → CommitsStand sh w cs → Contains cs n → d < sh.dirs → stores_at sh d n.stores ≡ true → live (Commits n.tid.0) (w.net (Core n.core.0) (Dir d)) ≡ live (Commits n.tid.0) (v.net (Core n.core.0) (Dir d)) → is_applied (v.dirs d) n.tid.0 ≡ is_applied (w.dirs d) n.tid.0
-applied-same sh cs v w n d a b i l s e = num-same (is_applied (v.dirs d) n.tid.0) (is_applied (w.dirs d) n.tid.0) (omega (arith, a n d i l s, b n d i l s, e))
+pub applied-same : (sh : Shape) (cs : List Noted) (v w : World) (n : Noted) (d : ℕ) → CommitsStand sh v cs → CommitsStand sh w cs
+    → Contains cs n → d < sh.dirs → stores_at sh d n.stores ≡ true
+    → live (Commits n.tid.0) (w.net (Core n.core.0) (Dir d)) ≡ live (Commits n.tid.0) (v.net (Core n.core.0) (Dir d))
+    → is_applied (v.dirs d) n.tid.0 ≡ is_applied (w.dirs d) n.tid.0
+applied-same sh cs v w n d a b i l s e = num-same (is_applied (v.dirs d) n.tid.0) (is_applied (w.dirs d) n.tid.0)
+    (omega (arith, a n d i l s, b n d i l s, e))
 
 -- an invalidation of the word carries the served TID, which has committed
 word-either : (x t s : ℕ) → s < t → (m : Msg) → num (passes (InvWord x) m) ≤ num (passes (InvBelow x t) m) + num (passes (InvsNot s) m)
@@ -221,9 +257,16 @@ word-below x t s b [] = omega arith
 word-below x t s b (None ∷ l) = word-below x t s b l
 word-below x t s b (Some m ∷ l) = omega (arith, word-either x t s b m, word-below x t s b l)
 
-pub word-next : (sh : Shape) (gs : List Grant) (ys : Ways) (h : History) → Carried sh gs ys h → (c d x : ℕ) → c < sh.cores → d < sh.dirs → 1 ≤ live (InvWord x) (pair h.world c d).back → 1 ≤ live (InvBelow x h.world.next) (pair h.world c d).back
+pub word-next : (sh : Shape) (gs : List Grant) (ys : Ways) (h : History) → Carried sh gs ys h → (c d x : ℕ) → c < sh.cores → d < sh.dirs
+    → 1 ≤ live (InvWord x) (pair h.world c d).back → 1 ≤ live (InvBelow x h.world.next) (pair h.world c d).back
 unfolding pair
-word-next sh gs ys h k c d x cl dl i = omega (arith, i, word-below x h.world.next (h.world.dirs d).serving.serving served (h.world.net (Dir d) (Core c)), k.owed_counts_invs_and_acks.served c d)
+word-next sh gs ys h k c d x cl dl i =
+    omega (
+      arith,
+      i,
+      word-below x h.world.next (h.world.dirs d).serving.serving served (h.world.net (Dir d) (Core c)),
+      k.owed_counts_invs_and_acks.served c d,
+    )
   where
     owed : 1 ≤ (h.world.dirs d).owed
     owed = go (cases_lt 0 (h.world.dirs d).owed)
@@ -233,4 +276,5 @@ word-next sh gs ys h k c d x cl dl i = omega (arith, i, word-below x h.world.nex
         go (inr l) = absurd (omega (arith, i, few-dooms None x (pair h.world c d).back, unowed-none sh gs ys h k c d cl (omega (arith, l))))
 
     served : (h.world.dirs d).serving.serving < h.world.next
-    served = let z = (k.marks_sent_are_the_lines_stored.2 c d 0).settled dl owed in omega (arith, z.tid, listed-below sh gs ys h k z.commit (z.noted))
+    served = let z = (k.marks_sent_are_the_lines_stored.2 c d 0).settled dl owed in
+        omega (arith, z.tid, listed-below sh gs ys h k z.commit (z.noted))

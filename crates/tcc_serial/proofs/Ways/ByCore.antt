@@ -9,7 +9,8 @@ use Rattle.tcc_serial.proofs.Serving.KeptSteps.{core_of_grant, core_of_back}
 -- L holds of what the core does
 pub data ByCore (sh : Shape) (w : World) (L : ℕ → Out → Type 0) (x : Sends) (o : Stepped) : Type 0 where
   Still : o.world.cores ≡ w.cores → x ≡ nothing → o.noted ≡ None → ByCore sh w L x o
-  Moved : (c : ℕ) (y : Out) → c < sh.cores → L c y → o.world.cores ≡ (λ j. if j == c then y.core else w.cores j) → x ≡ y.sends → o.noted ≡ y.commit → ByCore sh w L x o
+  Moved : (c : ℕ) (y : Out) → c < sh.cores → L c y → o.world.cores ≡ (λ j. if j == c then y.core else w.cores j) → x ≡ y.sends
+      → o.noted ≡ y.commit → ByCore sh w L x o
 
 pub by_core : (sh : Shape) (p : Program) (w : World) (e : Event) (L : ℕ → Out → Type 0) → KeptTids sh w
     → ((c : ℕ) → c < sh.cores → IfSome (core_exec sh p c (w.cores c)) (L c))
@@ -26,11 +27,13 @@ by_core sh p w e L z ex ev gr ba = sent_cases sh p w e (λ x g. ByCore sh w L x)
     (λ c d k m i. answered c d k (dir_deliver sh (w.dirs d) c m))
     (λ c k i. Still refl refl refl)
   where
-    moved : (c : ℕ) → c < sh.cores → (a : Option Out) → IfSome a (L c) → IfSome a (λ o. ByCore sh w L o.sends (record { world = core_moves w c o; noted = o.commit }))
+    moved : (c : ℕ) → c < sh.cores → (a : Option Out) → IfSome a (L c)
+        → IfSome a (λ o. ByCore sh w L o.sends (record { world = core_moves w c o; noted = o.commit }))
     moved c l None h = tt
     moved c l (Some o) h = Moved c o l h refl refl refl
 
-    taken : (c d k : ℕ) → c < sh.cores → (a : Option Out) → IfSome a (L c) → IfSome a (λ o. ByCore sh w L o.sends (record { world = core_takes w (Dir d) c k o; noted = o.commit }))
+    taken : (c d k : ℕ) → c < sh.cores → (a : Option Out) → IfSome a (L c)
+        → IfSome a (λ o. ByCore sh w L o.sends (record { world = core_takes w (Dir d) c k o; noted = o.commit }))
     taken c d k l None h = tt
     taken c d k l (Some o) h = Moved c o l h refl refl refl
 

@@ -29,7 +29,8 @@ pub record TellsCommit (sh : Shape) (s : CoreState) (o : Out) (n : Noted) : Type
   pub told : (d : ℕ) → d < sh.dirs → told_by (o.sends (Dir d)) n.tid.0 (live_way s.phase (writes_at sh s.cache d)) ≡ commit_way sh n d
 
 pub record Tells (sh : Shape) (s : CoreState) (o : Out) : Type 0 where
-  pub skips : (d t : ℕ) → d < sh.dirs → skips_here o.core.phase (writes_at sh o.core.cache d) t ≡ true → (skips_here s.phase (writes_at sh s.cache d) t ≡ true) ⊎ (1 ≤ among (Skips t) (o.sends (Dir d)))
+  pub skips : (d t : ℕ) → d < sh.dirs → skips_here o.core.phase (writes_at sh o.core.cache d) t ≡ true
+      → (skips_here s.phase (writes_at sh s.cache d) t ≡ true) ⊎ (1 ≤ among (Skips t) (o.sends (Dir d)))
   pub commits : IfSome o.commit (TellsCommit sh s o)
 
 tells-steady : (sh : Shape) (s : CoreState) (o : Out) → Steady s o → Tells sh s o
@@ -38,7 +39,8 @@ tells-steady sh s o y = record { skips = λ d t l e. inl (go d t s.phase refl (r
     written : (Acts s.phase → ⊥) → (d : ℕ) → writes_at sh o.core.cache d ≡ writes_at sh s.cache d
     written h d = writes_at-same sh o.core.cache s.cache d (y.modified h)
 
-    go : (d t : ℕ) (q : Phase) → s.phase ≡ q → skips_here q (writes_at sh o.core.cache d) t ≡ true → skips_here q (writes_at sh s.cache d) t ≡ true
+    go : (d t : ℕ) (q : Phase) → s.phase ≡ q → skips_here q (writes_at sh o.core.cache d) t ≡ true
+        → skips_here q (writes_at sh s.cache d) t ≡ true
     go d t (Probing u) g e = rw (sym (written (λ a. rw g at a) d)) e
     go d t (Ready u) g e = rw (sym (written (λ a. rw g at a) d)) e
     go d t _ g e = absurd (cc)
@@ -46,7 +48,13 @@ tells-steady sh s o y = record { skips = λ d t l e. inl (go d t s.phase refl (r
 -- it goes on without its TID
 tells-none : (sh : Shape) (s : CoreState) (o : Out) (q : Phase) → o.core.phase ≡ q → ((b : Bool) (t : ℕ) → skips_here q b t ≡ false)
     → IfSome o.commit (TellsCommit sh s o) → Tells sh s o
-tells-none sh s o q e h c = record { skips = λ d t l x. absurd (let z = h (writes_at sh o.core.cache d) t in let y : skips_here q (writes_at sh o.core.cache d) t ≡ true = rw e at x in cc); commits = c }
+tells-none sh s o q e h c =
+    record {
+      skips = λ d t l x.
+          absurd (let z = h (writes_at sh o.core.cache d) t in let y : skips_here q (writes_at sh o.core.cache d) t ≡ true = rw e at x in
+          cc);
+      commits = c;
+    }
 
 skips-after : (e : Outcome) (b : Bool) (t : ℕ) → skips_here (phase_after_commit e) b t ≡ false
 skips-after a b t = grind (arith, nat_tests)
@@ -74,16 +82,20 @@ tells-exec sh p c s h = each-exec sh p c s (λ o. Tells sh s o) go
   where
     go : (x : Did sh p c s) → Tells sh s (out x)
     go (Commits_now u e) = tells-committed sh c u s e h
-    go (Room_wanted r i) = tells-none sh s (moves (record s { phase = Overflowing None }) (say sh s Wants)) (Overflowing None) refl (λ b t. refl) tt
-    go (Ends_run l e f r i) = tells-none sh s (moves (record (after_end s l e) { phase = AwaitTid }) (say sh s Wants)) AwaitTid refl (λ b t. refl) tt
+    go (Room_wanted r i) = tells-none sh s (moves (record s { phase = Overflowing None }) (say sh s Wants)) (Overflowing None) refl
+        (λ b t. refl) tt
+    go (Ends_run l e f r i) = tells-none sh s (moves (record (after_end s l e) { phase = AwaitTid }) (say sh s Wants)) AwaitTid refl
+        (λ b t. refl) tt
     go (Ends_alone u l e f r i) = tells-alone sh c u s l e r h
     go x = tells-steady sh s (out x) (did-steady x)
 
 pub tells-evict : (sh : Shape) (x y : ℕ) (s : CoreState) → IfSome (core_evict sh x y s) (λ o. Tells sh s o)
-tells-evict sh x y s = each-evict sh x y s (λ o. Tells sh s o) (λ k q u z. tells-steady sh s (emptied sh x y k s) (steady-emptied sh x y s k q u z))
+tells-evict sh x y s =
+    each-evict sh x y s (λ o. Tells sh s o) (λ k q u z. tells-steady sh s (emptied sh x y k s) (steady-emptied sh x y s k q u z))
 
 -- a granted TID is skipped where nothing is written
-skips-granted : (sh : Shape) (c : Cache) (b : Bool) (u d t : ℕ) → d < sh.dirs → skips_here (probing_or_ready b u) (writes_at sh c d) t ≡ true → 1 ≤ among (Skips t) (grant_sends sh c u (Dir d))
+skips-granted : (sh : Shape) (c : Cache) (b : Bool) (u d t : ℕ) → d < sh.dirs
+    → skips_here (probing_or_ready b u) (writes_at sh c d) t ≡ true → 1 ≤ among (Skips t) (grant_sends sh c u (Dir d))
 unfolding grant_sends among passes
 skips-granted sh c b u d t l e = grind (arith, nat_tests)
 
@@ -95,18 +107,25 @@ tells-grant sh u s = go s.phase refl
     still = tells-steady sh s (ignored s) (ignored-steady s)
 
     go : (q : Phase) → s.phase ≡ q → Tells sh s (grant_in_phase sh u s q)
-    go AwaitTid e = record { skips = λ d t l x. inr (skips-granted sh s.cache (any_below (is_probed sh s.cache) sh.dirs) u d t l x); commits = tt }
+    go AwaitTid e = record {
+      skips = λ d t l x. inr (skips-granted sh s.cache (any_below (is_probed sh s.cache) sh.dirs) u d t l x);
+      commits = tt;
+    }
     go DoomedTid e = tells-none sh s (grant_in_phase sh u s DoomedTid) Running refl (λ b t. refl) tt
     go (Overflowing None) e = tells-none sh s (grant_in_phase sh u s (Overflowing None)) (Overflowing (Some u)) refl (λ b t. refl) tt
     go _ e = still
 
 tells-replied : (sh : Shape) (e u : ℕ) (s : CoreState) (o : Out) → Replied sh e u s o → Tells sh s o
 tells-replied sh e u s o (Ignored q n) = rw q (tells-steady sh s (ignored s) (ignored-steady s))
-tells-replied sh e u s o (Probed g f ph ow ca se cm) = record { skips = λ d t l x. inl (go d t (all_replied sh (put s.owing e false)) (rw ph at x)); commits = rw cm tt }
+tells-replied sh e u s o (Probed g f ph ow ca se cm) =
+    record { skips = λ d t l x. inl (go d t (all_replied sh (put s.owing e false)) (rw ph at x)); commits = rw cm tt }
   where
-    go : (d t : ℕ) (b : Bool) → skips_here (if b then Ready u else Probing u) (writes_at sh o.core.cache d) t ≡ true → skips_here s.phase (writes_at sh s.cache d) t ≡ true
+    go : (d t : ℕ) (b : Bool) → skips_here (if b then Ready u else Probing u) (writes_at sh o.core.cache d) t ≡ true
+        → skips_here s.phase (writes_at sh s.cache d) t ≡ true
     go d t a x = grind (arith, nat_tests)
-tells-replied sh e u s o (Left_alone g f ph ow mo se cm) = tells-none sh s o (if all_replied sh (put s.owing e false) then Solo u else Overflowing (Some u)) ph (none (all_replied sh (put s.owing e false))) (rw cm tt)
+tells-replied sh e u s o (Left_alone g f ph ow mo se cm) =
+    tells-none sh s o (if all_replied sh (put s.owing e false) then Solo u else Overflowing (Some u)) ph
+    (none (all_replied sh (put s.owing e false))) (rw cm tt)
   where
     none : (a b : Bool) (t : ℕ) → skips_here (if a then Solo u else Overflowing (Some u)) b t ≡ false
     none a b t = grind (arith, nat_tests)
@@ -118,7 +137,10 @@ tells-hurt sh l s o i = go i.hurt
     quiet = rw (i.commit) tt
 
     go : Hurt sh s o.core i.sends → Tells sh s o
-    go (Unhurt ph ow mo re se) = record { skips = λ d t l x. inl (rw (← writes_at-same sh o.core.cache s.cache d mo) (rw ph at x)); commits = quiet }
+    go (Unhurt ph ow mo re se) = record {
+      skips = λ d t l x. inl (rw (← writes_at-same sh o.core.cache s.cache d mo) (rw ph at x));
+      commits = quiet;
+    }
     go (Rolled ph ph' ow se) = tells-none sh s o Running ph' (λ b t. refl) quiet
     go (Doomed ph ph' ow se) = tells-none sh s o DoomedTid ph' (λ b t. refl) quiet
     go (Aborted u ph ph' ow se) = tells-none sh s o Running ph' (λ b t. refl) quiet

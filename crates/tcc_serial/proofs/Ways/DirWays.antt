@@ -37,16 +37,24 @@ unfolding passes kept
 dir-heard sh s c m t = go (outcome sh s c m)
   where
     -- the served TID is given up, or a larger one
-    given : (m : Msg) (u : ℕ) (b : Bool) → (s.serving.serving == u) ≡ b → s.serving.serving ≤ u → passes (Resolves u) m ≡ true → num (passes (Skips t) m) + num (passes (Aborts t) m) ≡ num (u == t) → OnceAt s m → (new : DirState) → new.serving ≡ (if b then advance s.serving else kept u s.serving) → new.owed ≡ s.owed → Heard s m t new
+    given : (m : Msg) (u : ℕ) (b : Bool) → (s.serving.serving == u) ≡ b → s.serving.serving ≤ u → passes (Resolves u) m ≡ true
+        → num (passes (Skips t) m) + num (passes (Aborts t) m) ≡ num (u == t) → OnceAt s m → (new : DirState)
+        → new.serving ≡ (if b then advance s.serving else kept u s.serving) → new.owed ≡ s.owed → Heard s m t new
     given m u true e l p q h new f g =
         let i : s.serving.serving ≡ u = grind (arith, nat_tests) in
         let o : s.owed ≡ 0 = unserved s m h (rw i p) in
         record { keeps = rw f (omega (arith, fewer-skipped s.serving t)); owed = rw (g, o) (grind arith) }
-    given m u false e l p q h new f g = record { keeps = rw f (omega (arith, q, kept-more s.serving t u (grind (arith, nat_tests)))); owed = rw (f, g) (omega arith) }
+    given m u false e l p q h new f g = record {
+      keeps = rw f (omega (arith, q, kept-more s.serving t u (grind (arith, nat_tests))));
+      owed = rw (f, g) (omega arith);
+    }
 
     -- nothing is owed any more, or it is for the same TID
-    settled : (m : Msg) (b : Bool) (n : ℕ) → (n == 0) ≡ b → num ((t == s.serving.serving) && nat_lt 0 n) ≤ owes s t + num (passes (Commits t) m) → (new : DirState) → new.serving ≡ (if b then advance s.serving else s.serving) → new.owed ≡ n → Heard s m t new
-    settled m true n e l new f g = let z : n ≡ 0 = grind (arith, nat_tests) in record { keeps = rw f (omega (arith, fewer-skipped s.serving t)); owed = rw (g, z) (grind arith) }
+    settled : (m : Msg) (b : Bool) (n : ℕ) → (n == 0) ≡ b
+        → num ((t == s.serving.serving) && nat_lt 0 n) ≤ owes s t + num (passes (Commits t) m) → (new : DirState)
+        → new.serving ≡ (if b then advance s.serving else s.serving) → new.owed ≡ n → Heard s m t new
+    settled m true n e l new f g = let z : n ≡ 0 = grind (arith, nat_tests) in
+        record { keeps = rw f (omega (arith, fewer-skipped s.serving t)); owed = rw (g, z) (grind arith) }
     settled m false n e l new f g = record { keeps = rw f (omega arith); owed = rw (f, g) l }
 
     go : {m : Msg} {a : Answer} → Outcome sh s c m a → OnceAt s m → HeardBy s m t a

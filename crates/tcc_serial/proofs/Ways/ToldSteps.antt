@@ -22,40 +22,57 @@ pub record Speaks (sh : Shape) (w : World) (c : ℕ) (y : Out) : Type 0 where
   pub tells : Tells sh (w.cores c) y
   pub noted : CommitsNoted y
 
-pub speaks : (sh : Shape) (w : World) (c : ℕ) (y : Out) → ((d t : ℕ) → d < sh.dirs → KeepsPart sh d t 0 (w.cores c) y) → Tells sh (w.cores c) y → CommitsNoted y → Speaks sh w c y
+pub speaks : (sh : Shape) (w : World) (c : ℕ) (y : Out) → ((d t : ℕ) → d < sh.dirs → KeepsPart sh d t 0 (w.cores c) y)
+    → Tells sh (w.cores c) y → CommitsNoted y → Speaks sh w c y
 unfolding part_in pair
 speaks sh w c y k h n = record { untold = λ d t l. omega (arith, k d t l); tells = h; noted = n }
 
-pub grant-speaks : (sh : Shape) (w : World) (c k u : ℕ) → KeptTids sh w → in_flight w.net Vendor (Core c) k ≡ Some (TidGrant u) → Speaks sh w c (grant sh u (w.cores c))
+pub grant-speaks : (sh : Shape) (w : World) (c k u : ℕ) → KeptTids sh w → in_flight w.net Vendor (Core c) k ≡ Some (TidGrant u)
+    → Speaks sh w c (grant sh u (w.cores c))
 unfolding part_in pair passes
 grant-speaks sh w c k u z i = record {
-  untold = λ d t l. omega (arith, part-grant sh u d t (w.cores c) l (granted_waits (pair w c d) k u i (z.requests c d)), live-some (Grants t) (w.net Vendor (Core c)) k (TidGrant u) i);
+  untold =
+      λ d t l. omega (
+        arith,
+        part-grant sh u d t (w.cores c) l (granted_waits (pair w c d) k u i (z.requests c d)),
+        live-some (Grants t) (w.net Vendor (Core c)) k (TidGrant u) i,
+      );
   tells = tells-grant sh u (w.cores c);
   noted = noted-grant sh u (w.cores c);
 }
 
-pub step-speaks : (sh : Shape) (p : Program) (w : World) (e : Event) → KeptTids sh w → KeptCores sh w → IfSome (step sh p w e) (ByCore sh w (Speaks sh w) (sent_by sh p w e))
+pub step-speaks : (sh : Shape) (p : Program) (w : World) (e : Event) → KeptTids sh w → KeptCores sh w
+    → IfSome (step sh p w e) (ByCore sh w (Speaks sh w) (sent_by sh p w e))
 step-speaks sh p w e z k = by_core sh p w e (Speaks sh w) z
-    (λ c l. all c (core_exec sh p c (w.cores c)) (λ d t x. part-exec sh p c d t (w.cores c) x) (tells-exec sh p c (w.cores c) (k c)) (noted-exec sh p c (w.cores c)))
-    (λ c x y l. all c (core_evict sh x y (w.cores c)) (λ d t a. part-evict sh x y d t (w.cores c)) (tells-evict sh x y (w.cores c)) (noted-evict sh x y (w.cores c)))
+    (λ c l. all c (core_exec sh p c (w.cores c)) (λ d t x. part-exec sh p c d t (w.cores c) x) (tells-exec sh p c (w.cores c) (k c))
+    (noted-exec sh p c (w.cores c)))
+    (λ c x y l. all c (core_evict sh x y (w.cores c)) (λ d t a. part-evict sh x y d t (w.cores c)) (tells-evict sh x y (w.cores c))
+    (noted-evict sh x y (w.cores c)))
     (λ c i t l q. grant-speaks sh w c i t z q)
-    (λ c d m l. all c (from_dir sh d (w.cores c) m) (λ b t x. part-back sh d b t (w.cores c) m x) (tells-back sh d (w.cores c) m) (noted-back sh d (w.cores c) m))
+    (λ c d m l. all c (from_dir sh d (w.cores c) m) (λ b t x. part-back sh d b t (w.cores c) m x) (tells-back sh d (w.cores c) m)
+    (noted-back sh d (w.cores c) m))
   where
-    all : (c : ℕ) (a : Option Out) → ((d t : ℕ) → d < sh.dirs → IfSome a (λ o. KeepsPart sh d t 0 (w.cores c) o)) → IfSome a (λ o. Tells sh (w.cores c) o) → IfSome a (λ o. CommitsNoted o) → IfSome a (Speaks sh w c)
+    all : (c : ℕ) (a : Option Out) → ((d t : ℕ) → d < sh.dirs → IfSome a (λ o. KeepsPart sh d t 0 (w.cores c) o))
+        → IfSome a (λ o. Tells sh (w.cores c) o) → IfSome a (λ o. CommitsNoted o) → IfSome a (Speaks sh w c)
     all c None q h n = tt
     all c (Some o) q h n = speaks sh w c o q h n
 
 -- a TID of which its core has a part is untold
-untold-part : (sh : Shape) (w : World) (c d t : ℕ) (y : Way) → c < sh.cores → 1 ≤ part_in Untold sh d t (pair w c d) → ResolvedAt sh w d t → WayAt sh w d t y → y ≡ Untold
+untold-part : (sh : Shape) (w : World) (c d t : ℕ) (y : Way) → c < sh.cores → 1 ≤ part_in Untold sh d t (pair w c d) → ResolvedAt sh w d t
+    → WayAt sh w d t y → y ≡ Untold
 unfolding share
-untold-part sh w c d t y c' l r h = in-way sh w d t y Untold r h (omega (arith, l, total-le (share (part_in Untold sh d t) w d) sh.cores c c'))
+untold-part sh w c d t y c' l r h =
+    in-way sh w d t y Untold r h (omega (arith, l, total-le (share (part_in Untold sh d t) w d) sh.cores c c'))
 
 -- a way that was told stays
-stays : (sh : Shape) (w : World) (c d t : ℕ) (ms : List Msg) (y : Way) → c < sh.cores → among (Resolves t) ms ≤ part_in Untold sh d t (pair w c d) → ResolvedAt sh w d t → WayAt sh w d t y → (y ≡ Untold → ⊥) → told_by ms t y ≡ y
+stays : (sh : Shape) (w : World) (c d t : ℕ) (ms : List Msg) (y : Way) → c < sh.cores
+    → among (Resolves t) ms ≤ part_in Untold sh d t (pair w c d) → ResolvedAt sh w d t → WayAt sh w d t y → (y ≡ Untold → ⊥)
+    → told_by ms t y ≡ y
 stays sh w c d t ms y c' l r h n = grind (arith, nat_tests, told-none, untold-part)
 
 -- the way of a core's TID
-live-cases : (q : Phase) (b : Bool) (t : ℕ) → has_tid q t ≡ true → ((opens q b t ≡ true) × (live_way q b ≡ Untold)) ⊎ ((skips_here q b t ≡ true) × (live_way q b ≡ Skipped))
+live-cases : (q : Phase) (b : Bool) (t : ℕ) → has_tid q t ≡ true → ((opens q b t ≡ true) × (live_way q b ≡ Untold))
+    ⊎ ((skips_here q b t ≡ true) × (live_way q b ≡ Skipped))
 unfolding has_tid opens live_way
 live-cases (Probing u) true t h = inl (grind arith, refl)
 live-cases (Probing u) false t h = inr (grind arith, refl)
@@ -73,7 +90,9 @@ skips-live (Ready u) true t h = absurd (grind arith)
 skips-live (Ready u) false t h = (grind arith, refl)
 skips-live _ b t h = absurd (cc)
 
-pub step-live-out : (sh : Shape) (gs hs : List Grant) (ys : Ways) (w : World) (cs ds : List Noted) (x : Sends) (o : Stepped) → KeptTids sh w → KeptOwners sh gs w cs → KeptWays sh ys w → KeptLive sh ys w → ByCore sh w (Speaks sh w) x o → KeptTids sh o.world → KeptOwners sh hs o.world ds → KeptWays sh (ways_after x ys) o.world → KeptLive sh (ways_after x ys) o.world
+pub step-live-out : (sh : Shape) (gs hs : List Grant) (ys : Ways) (w : World) (cs ds : List Noted) (x : Sends) (o : Stepped) → KeptTids sh w
+    → KeptOwners sh gs w cs → KeptWays sh ys w → KeptLive sh ys w → ByCore sh w (Speaks sh w) x o → KeptTids sh o.world
+    → KeptOwners sh hs o.world ds → KeptWays sh (ways_after x ys) o.world → KeptLive sh (ways_after x ys) o.world
 unfolding part_in pair
 step-live-out sh gs hs ys w cs ds x o z ow k h b z' ow' k' c d t cl dl has = go (live-cases q written t has)
   where
@@ -90,11 +109,13 @@ step-live-out sh gs hs ys w cs ds x o z ow k h b z' ow' k' c d t cl dl has = go 
     positive = positive-held sh hs o.world ds c t ow' has
 
     -- what was skipped before stays skipped
-    before : (e : ℕ) (s : Out) → Speaks sh w e s → e < sh.cores → skips_here (w.cores c).phase (writes_at sh (w.cores c).cache d) t ≡ true → told_by (s.sends (Dir d)) t (ys d t) ≡ Skipped
+    before : (e : ℕ) (s : Out) → Speaks sh w e s → e < sh.cores → skips_here (w.cores c).phase (writes_at sh (w.cores c).cache d) t ≡ true
+        → told_by (s.sends (Dir d)) t (ys d t) ≡ Skipped
     before e s u el sk =
         let a = skips-live (w.cores c).phase (writes_at sh (w.cores c).cache d) t sk in
         let was : ys d t ≡ Skipped = h c d t cl dl (a.0) ∙ a.1 in
-        stays sh w e d t (s.sends (Dir d)) (ys d t) el (u.untold d t dl) (z.resolved d t dl) (k d t dl positive) (λ i. let v : Skipped ≡ Untold = sym was ∙ i in absurd (cc)) ∙ was
+        stays sh w e d t (s.sends (Dir d)) (ys d t) el (u.untold d t dl) (z.resolved d t dl) (k d t dl positive)
+        (λ i. let v : Skipped ≡ Untold = sym was ∙ i in absurd (cc)) ∙ was
 
     skipped : ByCore sh w (Speaks sh w) x o → skips_here q written t ≡ true → y ≡ Skipped
     skipped (Still e i n) sk =
@@ -102,16 +123,21 @@ step-live-out sh gs hs ys w cs ds x o z ow k h b z' ow' k' c d t cl dl has = go 
         rw i (told-nothing t (ys d t) ∙ h c d t cl dl (a.0) ∙ a.1)
     skipped (Moved e s el u f i n) sk = rw i (here (c == e) refl (rw f at sk))
       where
-        here : (b : Bool) → (c == e) ≡ b → skips_here (if b then s.core else w.cores c).phase (writes_at sh (if b then s.core else w.cores c).cache d) t ≡ true → told_by (s.sends (Dir d)) t (ys d t) ≡ Skipped
+        here : (b : Bool) → (c == e) ≡ b
+            → skips_here (if b then s.core else w.cores c).phase (writes_at sh (if b then s.core else w.cores c).cache d) t ≡ true
+            → told_by (s.sends (Dir d)) t (ys d t) ≡ Skipped
         here false p sk = before e s u el sk
         here true p sk = let r : c ≡ e = grind (arith, nat_tests) in own r (u.tells.skips d t dl sk)
           where
-            own : c ≡ e → (skips_here (w.cores e).phase (writes_at sh (w.cores e).cache d) t ≡ true) ⊎ (1 ≤ among (Skips t) (s.sends (Dir d))) → told_by (s.sends (Dir d)) t (ys d t) ≡ Skipped
+            own : c ≡ e → (skips_here (w.cores e).phase (writes_at sh (w.cores e).cache d) t ≡ true)
+                ⊎ (1 ≤ among (Skips t) (s.sends (Dir d))) → told_by (s.sends (Dir d)) t (ys d t) ≡ Skipped
             own r (inl a) = before e s u el (rw r a)
             own r (inr a) = told-skip (s.sends (Dir d)) t (ys d t) a
 
-    go : ((opens q written t ≡ true) × (live_way q written ≡ Untold)) ⊎ ((skips_here q written t ≡ true) × (live_way q written ≡ Skipped)) → y ≡ live_way q written
-    go (inl a) = let n : num (opens q written t) ≡ 1 = ap num (a.0) in untold-part sh o.world c d t y cl (omega (arith, n)) (z'.resolved d t dl) (k' d t dl positive) ∙ sym (a.1)
+    go : ((opens q written t ≡ true) × (live_way q written ≡ Untold)) ⊎ ((skips_here q written t ≡ true) × (live_way q written ≡ Skipped))
+        → y ≡ live_way q written
+    go (inl a) = let n : num (opens q written t) ≡ 1 = ap num (a.0) in
+        untold-part sh o.world c d t y cl (omega (arith, n)) (z'.resolved d t dl) (k' d t dl positive) ∙ sym (a.1)
     go (inr a) = skipped b (a.0) ∙ sym (a.1)
 
 -- the ways of committed TIDs
@@ -126,25 +152,37 @@ pub told-committed : (ms : List Msg) (t : ℕ) (y : Way) → told_by ms t y ≡ 
 unfolding told_by
 told-committed ms t y h = go (nat_lt 0 (among (Skips t) ms)) (nat_lt 0 (among (Aborts t) ms)) (nat_lt 0 (among (Commits t) ms)) refl h
   where
-    go : (a b c : Bool) → nat_lt 0 (among (Commits t) ms) ≡ c → (if a then Skipped else (if b then Aborted else (if c then Committed else y))) ≡ Committed → (y ≡ Committed) ⊎ (1 ≤ among (Commits t) ms)
+    go : (a b c : Bool) → nat_lt 0 (among (Commits t) ms) ≡ c
+        → (if a then Skipped else (if b then Aborted else (if c then Committed else y))) ≡ Committed
+        → (y ≡ Committed) ⊎ (1 ≤ among (Commits t) ms)
     go true b c q e = absurd (cc)
     go false true c q e = absurd (cc)
     go false false true q e = inr (grind (arith, nat_tests))
     go false false false q e = inl e
 
-pub step-committed-out : (sh : Shape) (gs : List Grant) (ys : Ways) (w : World) (cs : List Noted) (x : Sends) (o : Stepped) → KeptTids sh w → KeptOwners sh gs w cs → KeptWays sh ys w → KeptLive sh ys w → KeptCommitted sh ys cs → ByCore sh w (Speaks sh w) x o → KeptCommitted sh (ways_after x ys) (and_noted o.noted cs)
-step-committed-out sh gs ys w cs x o z ow k lv h (Still e i n) = rw (i, n) (record { stored = λ m d q l. told-nothing m.tid.0 (ys d m.tid.0) ∙ h.stored m d q l; only = λ d t l q. h.only d t l (sym (told-nothing t (ys d t)) ∙ q) })
-step-committed-out sh gs ys w cs x o z ow k lv h (Moved c s cl u f i n) = rw (i, n) (record { stored = λ m d q l. stored m d l s.commit (u.tells.commits) q; only = only })
+pub step-committed-out : (sh : Shape) (gs : List Grant) (ys : Ways) (w : World) (cs : List Noted) (x : Sends) (o : Stepped) → KeptTids sh w
+    → KeptOwners sh gs w cs → KeptWays sh ys w → KeptLive sh ys w → KeptCommitted sh ys cs → ByCore sh w (Speaks sh w) x o
+    → KeptCommitted sh (ways_after x ys) (and_noted o.noted cs)
+step-committed-out sh gs ys w cs x o z ow k lv h (Still e i n) =
+    rw (i, n) (record {
+      stored = λ m d q l. told-nothing m.tid.0 (ys d m.tid.0) ∙ h.stored m d q l;
+      only = λ d t l q. h.only d t l (sym (told-nothing t (ys d t)) ∙ q);
+    })
+step-committed-out sh gs ys w cs x o z ow k lv h (Moved c s cl u f i n) =
+    rw (i, n) (record { stored = λ m d q l. stored m d l s.commit (u.tells.commits) q; only = only })
   where
     before : (m : Noted) (d : ℕ) → d < sh.dirs → Contains cs m → told_by (s.sends (Dir d)) m.tid.0 (ys d m.tid.0) ≡ commit_way sh m d
     before m d l q =
         let r : ys d m.tid.0 ≡ commit_way sh m d = h.stored m d q l in
-        stays sh w c d m.tid.0 (s.sends (Dir d)) (ys d m.tid.0) cl (u.untold d m.tid.0 l) (z.resolved d m.tid.0 l) (k d m.tid.0 l (positive-committed sh gs w cs m ow q)) (told-somehow sh m d (ys d m.tid.0) r) ∙ r
+        stays sh w c d m.tid.0 (s.sends (Dir d)) (ys d m.tid.0) cl (u.untold d m.tid.0 l) (z.resolved d m.tid.0 l)
+        (k d m.tid.0 l (positive-committed sh gs w cs m ow q)) (told-somehow sh m d (ys d m.tid.0) r) ∙ r
 
-    now : (m : Noted) (d : ℕ) → d < sh.dirs → TellsCommit sh (w.cores c) s m → told_by (s.sends (Dir d)) m.tid.0 (ys d m.tid.0) ≡ commit_way sh m d
+    now : (m : Noted) (d : ℕ) → d < sh.dirs → TellsCommit sh (w.cores c) s m
+        → told_by (s.sends (Dir d)) m.tid.0 (ys d m.tid.0) ≡ commit_way sh m d
     now m d l a = rw (lv c d m.tid.0 cl l (a.has)) (a.told d l)
 
-    stored : (m : Noted) (d : ℕ) → d < sh.dirs → (a : Option Noted) → IfSome a (TellsCommit sh (w.cores c) s) → Contains (and_noted a cs) m → told_by (s.sends (Dir d)) m.tid.0 (ys d m.tid.0) ≡ commit_way sh m d
+    stored : (m : Noted) (d : ℕ) → d < sh.dirs → (a : Option Noted) → IfSome a (TellsCommit sh (w.cores c) s) → Contains (and_noted a cs) m
+        → told_by (s.sends (Dir d)) m.tid.0 (ys d m.tid.0) ≡ commit_way sh m d
     stored m d l None a q = before m d l q
     stored m d l (Some b) a q = elim (inserted b m cs q) [ inl e ↦ now m d l (rw e at a) | inr r ↦ before m d l r ]
 

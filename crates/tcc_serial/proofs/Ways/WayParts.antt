@@ -5,7 +5,8 @@ use Rattle.tcc_serial.proofs.Names.{Resolves, Skips, Aborts, Commits, live, amon
 use Rattle.tcc_serial.proofs.Names.{ResolvedAt, Way, Untold, Skipped, Aborted, Committed, told_by, part_in, kept_in, WayAt}
 
 -- a word on a TID is a Skip, an Abort or a Commit
-one-said : (t : ℕ) (m : Msg) → num (passes (Resolves t) m) ≡ num (passes (Skips t) m) + num (passes (Aborts t) m) + num (passes (Commits t) m)
+one-said : (t : ℕ) (m : Msg) → num (passes (Resolves t) m) ≡ num (passes (Skips t) m) + num (passes (Aborts t) m) + num
+    (passes (Commits t) m)
 unfolding passes
 one-said t m = grind (arith, nat_tests)
 
@@ -20,7 +21,8 @@ live-said t [] = refl
 live-said t (None ∷ l) = live-said t l
 live-said t (Some m ∷ l) = omega (arith, one-said t m, live-said t l)
 
-part-split : (sh : Shape) (d t : ℕ) (v : Pair) → part sh d t v ≡ part_in Untold sh d t v + part_in Skipped sh d t v + part_in Aborted sh d t v + part_in Committed sh d t v
+part-split : (sh : Shape) (d t : ℕ) (v : Pair)
+    → part sh d t v ≡ part_in Untold sh d t v + part_in Skipped sh d t v + part_in Aborted sh d t v + part_in Committed sh d t v
 unfolding part part_in
 part-split sh d t v = omega (arith, live-said t v.out)
 
@@ -28,13 +30,18 @@ part-split sh d t v = omega (arith, live-said t v.out)
 abbrev pub parts_in : Way → Shape → World → (dir tid : ℕ) → ℕ
 parts_in y sh w d t = sum_of (part_in y sh d t) sh.cores w d
 
-parts-split : (sh : Shape) (w : World) (d t n : ℕ) → sum_of (part sh d t) n w d ≡ sum_of (part_in Untold sh d t) n w d + sum_of (part_in Skipped sh d t) n w d + sum_of (part_in Aborted sh d t) n w d + sum_of (part_in Committed sh d t) n w d
+parts-split : (sh : Shape) (w : World) (d t n : ℕ)
+    → sum_of (part sh d t) n w d ≡ sum_of (part_in Untold sh d t) n w d + sum_of (part_in Skipped sh d t) n w d + sum_of
+    (part_in Aborted sh d t) n w d + sum_of (part_in Committed sh d t) n w d
 unfolding sum_below share
 parts-split sh w d t zero = refl
 parts-split sh w d t (suc n) = omega (arith, parts-split sh w d t n, part-split sh d t (pair w n d))
 
 -- where a TID is: by the ways
-pub resolved-split : (sh : Shape) (w : World) (d t : ℕ) → ResolvedAt sh w d t → parts_in Untold sh w d t + parts_in Skipped sh w d t + parts_in Aborted sh w d t + parts_in Committed sh w d t + num (nat_le w.next t) + (num (nat_lt t (w.dirs d).serving.serving) + num (is_skipped (w.dirs d).serving t) + num ((t == (w.dirs d).serving.serving) && nat_lt 0 (w.dirs d).owed)) ≡ 1
+pub resolved-split : (sh : Shape) (w : World) (d t : ℕ) → ResolvedAt sh w d t
+    → parts_in Untold sh w d t + parts_in Skipped sh w d t + parts_in Aborted sh w d t + parts_in Committed sh w d t + num
+    (nat_le w.next t) + (num (nat_lt t (w.dirs d).serving.serving) + num (is_skipped (w.dirs d).serving t) + num
+    ((t == (w.dirs d).serving.serving) && nat_lt 0 (w.dirs d).owed)) ≡ 1
 unfolding handled
 resolved-split sh w d t r = omega (arith, r, parts-split sh w d t sh.cores)
 
@@ -54,7 +61,8 @@ pub told-moved : (sh : Shape) (w v : World) (d t : ℕ) (ms : List Msg) (y : Way
     → ((z : Way) → parts_in z sh v d t + lost ms t z ≡ parts_in z sh w d t + gained ms t z)
     → ResolvedAt sh w d t → WayAt sh w d t y → WayAt sh v d t (told_by ms t y)
 unfolding told_by kept_in
-told-moved sh w v d t ms y e n h r k = go (nat_lt 0 (among (Skips t) ms)) refl (nat_lt 0 (among (Aborts t) ms)) refl (nat_lt 0 (among (Commits t) ms)) refl
+told-moved sh w v d t ms y e n h r k = go (nat_lt 0 (among (Skips t) ms)) refl (nat_lt 0 (among (Aborts t) ms)) refl
+    (nat_lt 0 (among (Commits t) ms)) refl
   where
     here : (z : Way) → kept_in z v.next (v.dirs d) t ≡ kept_in z w.next (w.dirs d) t
     here z = rw (e, n) refl
@@ -72,10 +80,14 @@ told-moved sh w v d t ms y e n h r k = go (nat_lt 0 (among (Skips t) ms)) refl (
     same Committed a b c q = omega (arith, q, here Committed, h Committed, c)
 
     -- what it was before, in numbers
-    was : parts_in Untold sh w d t + parts_in Skipped sh w d t + parts_in Aborted sh w d t + parts_in Committed sh w d t + num (nat_le w.next t) + (num (nat_lt t (w.dirs d).serving.serving) + num (is_skipped (w.dirs d).serving t) + num ((t == (w.dirs d).serving.serving) && nat_lt 0 (w.dirs d).owed)) ≡ 1
+    was : parts_in Untold sh w d t + parts_in Skipped sh w d t + parts_in Aborted sh w d t + parts_in Committed sh w d t + num
+        (nat_le w.next t) + (num (nat_lt t (w.dirs d).serving.serving) + num (is_skipped (w.dirs d).serving t) + num
+        ((t == (w.dirs d).serving.serving) && nat_lt 0 (w.dirs d).owed)) ≡ 1
     was = resolved-split sh w d t r
 
-    go : (a : Bool) → nat_lt 0 (among (Skips t) ms) ≡ a → (b : Bool) → nat_lt 0 (among (Aborts t) ms) ≡ b → (c : Bool) → nat_lt 0 (among (Commits t) ms) ≡ c → WayAt sh v d t (if a then Skipped else (if b then Aborted else (if c then Committed else y)))
+    go : (a : Bool) → nat_lt 0 (among (Skips t) ms) ≡ a → (b : Bool) → nat_lt 0 (among (Aborts t) ms) ≡ b → (c : Bool)
+        → nat_lt 0 (among (Commits t) ms) ≡ c
+        → WayAt sh v d t (if a then Skipped else (if b then Aborted else (if c then Committed else y)))
     go true p b q c o = omega (arith, some (Skips t) p, was, here Skipped, h Untold, h Skipped, among-said t ms)
     go false p true q c o = omega (arith, some (Aborts t) q, was, here Aborted, h Untold, h Aborted, among-said t ms)
     go false p false q true o = omega (arith, some (Commits t) o, was, here Committed, h Untold, h Committed, among-said t ms)
@@ -98,7 +110,8 @@ pub told-skip : (ms : List Msg) (t : ℕ) (y : Way) → 1 ≤ among (Skips t) ms
 unfolding told_by
 told-skip ms t y h = let a : nat_lt 0 (among (Skips t) ms) ≡ true = grind (arith, nat_tests) in rw a refl
 
-pub told-commit : (ms : List Msg) (t : ℕ) (y : Way) → among (Skips t) ms ≡ 0 → among (Aborts t) ms ≡ 0 → 1 ≤ among (Commits t) ms → told_by ms t y ≡ Committed
+pub told-commit : (ms : List Msg) (t : ℕ) (y : Way) → among (Skips t) ms ≡ 0 → among (Aborts t) ms ≡ 0 → 1 ≤ among (Commits t) ms
+    → told_by ms t y ≡ Committed
 unfolding told_by
 told-commit ms t y a b h = let c : nat_lt 0 (among (Commits t) ms) ≡ true = grind (arith, nat_tests) in rw (a, b, c) refl
 
@@ -107,7 +120,9 @@ pub in-way : (sh : Shape) (w : World) (d t : ℕ) (y z : Way) → ResolvedAt sh 
 unfolding kept_in
 in-way sh w d t y z r h l = go y z h l
   where
-    was : parts_in Untold sh w d t + parts_in Skipped sh w d t + parts_in Aborted sh w d t + parts_in Committed sh w d t + num (nat_le w.next t) + (num (nat_lt t (w.dirs d).serving.serving) + num (is_skipped (w.dirs d).serving t) + num ((t == (w.dirs d).serving.serving) && nat_lt 0 (w.dirs d).owed)) ≡ 1
+    was : parts_in Untold sh w d t + parts_in Skipped sh w d t + parts_in Aborted sh w d t + parts_in Committed sh w d t + num
+        (nat_le w.next t) + (num (nat_lt t (w.dirs d).serving.serving) + num (is_skipped (w.dirs d).serving t) + num
+        ((t == (w.dirs d).serving.serving) && nat_lt 0 (w.dirs d).owed)) ≡ 1
     was = resolved-split sh w d t r
 
     go : (y z : Way) → WayAt sh w d t y → 1 ≤ parts_in z sh w d t → y ≡ z

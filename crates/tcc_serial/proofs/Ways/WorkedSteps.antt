@@ -17,18 +17,24 @@ use Rattle.tcc_serial.proofs.OneCore.Outcomes.{Commits_now, Did, each-exec, out,
 use Rattle.tcc_serial.proofs.OneCore.Outcomes.{Heard, each-back, each-grant, granted, heard}
 
 -- a core that loaded a word of a line has marked words at its home
-loaded-touches : (sh : Shape) (s : CoreState) (d : ℕ) → ((w : ℕ) → loads_word sh.base s.loads w ≡ true → (s.cache.read w || s.cache.modified w) ≡ true) → loads_at sh d s.loads ≡ true → (writes_at sh s.cache d || reads_at sh s.cache d) ≡ true
+loaded-touches : (sh : Shape) (s : CoreState) (d : ℕ)
+    → ((w : ℕ) → loads_word sh.base s.loads w ≡ true → (s.cache.read w || s.cache.modified w) ≡ true) → loads_at sh d s.loads ≡ true
+    → (writes_at sh s.cache d || reads_at sh s.cache d) ≡ true
 unfolding loads_at writes_at reads_at is_modified any_word
-loaded-touches sh s d h e = line (any_below-found (λ l. d == home sh l && any_below (λ k. loads_word sh.base s.loads (word_at l k)) 8) (lines sh) e)
+loaded-touches sh s d h e =
+    line (any_below-found (λ l. d == home sh l && any_below (λ k. loads_word sh.base s.loads (word_at l k)) 8) (lines sh) e)
   where
     goal : Type 0
     goal = (writes_at sh s.cache d || reads_at sh s.cache d) ≡ true
 
-    place : (l : ℕ) → l < lines sh → (d == home sh l) ≡ true → (k : ℕ) → k < 8 → (s.cache.read (word_at l k) || s.cache.modified (word_at l k)) ≡ true → goal
+    place : (l : ℕ) → l < lines sh → (d == home sh l) ≡ true → (k : ℕ) → k < 8
+        → (s.cache.read (word_at l k) || s.cache.modified (word_at l k)) ≡ true → goal
     place l i q k j m = go (s.cache.read (word_at l k)) refl (s.cache.modified (word_at l k)) refl m
       where
-        here : (p : ℕ → Bool) → p (word_at l k) ≡ true → any_below (λ l. d == home sh l && any_below (λ k. p (word_at l k)) 8) (lines sh) ≡ true
-        here p t = any_below-at (λ l. d == home sh l && any_below (λ k. p (word_at l k)) 8) (lines sh) l i (let a : any_below (λ k. p (word_at l k)) 8 ≡ true = any_below-at (λ k. p (word_at l k)) 8 k j t in rw (q, a) refl)
+        here : (p : ℕ → Bool) → p (word_at l k) ≡ true → any_below (λ l. d == home sh l && any_below (λ k. p (word_at l k)) 8) (lines sh)
+            ≡ true
+        here p t = any_below-at (λ l. d == home sh l && any_below (λ k. p (word_at l k)) 8) (lines sh) l i
+            (let a : any_below (λ k. p (word_at l k)) 8 ≡ true = any_below-at (λ k. p (word_at l k)) 8 k j t in rw (q, a) refl)
 
         go : (a : Bool) → s.cache.read (word_at l k) ≡ a → (b : Bool) → s.cache.modified (word_at l k) ≡ b → (a || b) ≡ true → goal
         go a p true t m = rw (here s.cache.modified t) refl
@@ -48,7 +54,8 @@ Works sh dirs o = IfSome o.commit (λ n. (d : ℕ) → d < sh.dirs → worked_at
 abbrev AllReached : Shape → (ℕ → DirState) → CoreState → Type 0
 AllReached sh dirs s = (d : ℕ) → Reached sh d (dirs d).serving.serving s
 
-ready-works : (sh : Shape) (dirs : ℕ → DirState) (id u : ℕ) (s : CoreState) → s.phase ≡ Ready u → OneCore sh s → LoadsMarked sh s → AllReached sh dirs s → Works sh dirs (commit sh id u s)
+ready-works : (sh : Shape) (dirs : ℕ → DirState) (id u : ℕ) (s : CoreState) → s.phase ≡ Ready u → OneCore sh s → LoadsMarked sh s
+    → AllReached sh dirs s → Works sh dirs (commit sh id u s)
 unfolding commit noted
 ready-works sh dirs id u s e h k r = λ d l w. rw e at ((r d).reached l (rw e (touches d w)) ((r d).replied l (rw e refl)))
   where
@@ -58,12 +65,14 @@ ready-works sh dirs id u s e h k r = λ d l w. rw e at ((r d).reached l (rw e (t
     touches : (d : ℕ) → (loads_at sh d s.loads || stores_at sh d s.stores) ≡ true → (writes_at sh s.cache d || reads_at sh s.cache d) ≡ true
     touches d w = go (loads_at sh d s.loads) refl (stores_at sh d s.stores) refl w
       where
-        go : (a : Bool) → loads_at sh d s.loads ≡ a → (b : Bool) → stores_at sh d s.stores ≡ b → (a || b) ≡ true → (writes_at sh s.cache d || reads_at sh s.cache d) ≡ true
+        go : (a : Bool) → loads_at sh d s.loads ≡ a → (b : Bool) → stores_at sh d s.stores ≡ b → (a || b) ≡ true
+            → (writes_at sh s.cache d || reads_at sh s.cache d) ≡ true
         go true p b q w = loaded-touches sh s d (λ v x. k v (rw e refl) x) p
         go false p true q w = rw (stored d ∙ q) refl
         go false p false q w = absurd (cc)
 
-exec-works : (sh : Shape) (p : Program) (dirs : ℕ → DirState) (c : ℕ) (s : CoreState) → OneCore sh s → LoadsMarked sh s → AllReached sh dirs s → IfSome (core_exec sh p c s) (λ o. Works sh dirs o)
+exec-works : (sh : Shape) (p : Program) (dirs : ℕ → DirState) (c : ℕ) (s : CoreState) → OneCore sh s → LoadsMarked sh s
+    → AllReached sh dirs s → IfSome (core_exec sh p c s) (λ o. Works sh dirs o)
 unfolding solo_commit noted
 exec-works sh p dirs c s h k r = each-exec sh p c s (λ o. Works sh dirs o) go
   where
@@ -95,7 +104,8 @@ step-later sh p w e = step_cases sh p w e (λ g o. Later w o.world)
     taken c d k None = tt
     taken c d k (Some o) = λ e. omega arith
 
-    put : (e : ℕ) (s : DirState) → (w.dirs e).serving.serving ≤ s.serving.serving → (d : ℕ) → (w.dirs d).serving.serving ≤ (if d == e then s else w.dirs d).serving.serving
+    put : (e : ℕ) (s : DirState) → (w.dirs e).serving.serving ≤ s.serving.serving → (d : ℕ)
+        → (w.dirs d).serving.serving ≤ (if d == e then s else w.dirs d).serving.serving
     put e s l d = grind (arith, nat_tests)
 
     answered : (c d k : ℕ) (a : Answer) → RisesBy (w.dirs d) a → OfAnswer w c d k (λ v. Later w v) a
@@ -129,10 +139,12 @@ pub record Loads (sh : Shape) (w : World) (c : ℕ) (y : Out) : Type 0 where
   pub loads : LoadsMarked sh y.core
   pub works : Works sh w.dirs y
 
-pub step-loads : (sh : Shape) (p : Program) (w : World) (e : Event) → Kept sh w → KeptCores sh w → KeptLoads sh w → IfSome (step sh p w e) (ByCore sh w (Loads sh w) (sent_by sh p w e))
+pub step-loads : (sh : Shape) (p : Program) (w : World) (e : Event) → Kept sh w → KeptCores sh w → KeptLoads sh w
+    → IfSome (step sh p w e) (ByCore sh w (Loads sh w) (sent_by sh p w e))
 unfolding pair
 step-loads sh p w e z k h = by_core sh p w e (Loads sh w) z.told.tids
-    (λ c l. both c (core_exec sh p c (w.cores c)) (loads-exec sh p c (w.cores c) (k c) (h c)) (exec-works sh p w.dirs c (w.cores c) (k c) (h c) (λ d. (z.probes c d).core)))
+    (λ c l. both c (core_exec sh p c (w.cores c)) (loads-exec sh p c (w.cores c) (k c) (h c))
+    (exec-works sh p w.dirs c (w.cores c) (k c) (h c) (λ d. (z.probes c d).core)))
     (λ c x y l. quiet c (core_evict sh x y (w.cores c)) (loads-evict sh x y (w.cores c) (h c)) (none-evict sh x y (w.cores c)))
     (λ c i t l q. record { loads = loads-grant sh t (w.cores c) (h c); works = rw (none-grant sh t (w.cores c)) tt })
     (λ c d m l. quiet c (from_dir sh d (w.cores c) m) (loads-back sh d (w.cores c) m (h c)) (none-back sh d (w.cores c) m))
@@ -153,11 +165,14 @@ loads-out sh w x o h (Moved c s l u f i n) = rw f (λ j. go j (j == c))
     go j true = u.loads
     go j false = h j
 
-pub worked-out : (sh : Shape) (w : World) (cs : List Noted) (x : Sends) (o : Stepped) → Later w o.world → KeptWorked sh w cs → ByCore sh w (Loads sh w) x o → KeptWorked sh o.world (and_noted o.noted cs)
+pub worked-out : (sh : Shape) (w : World) (cs : List Noted) (x : Sends) (o : Stepped) → Later w o.world → KeptWorked sh w cs
+    → ByCore sh w (Loads sh w) x o → KeptWorked sh o.world (and_noted o.noted cs)
 worked-out sh w cs x o r h (Still e i n) = rw n (λ m d q l a. omega (arith, h m d q l a, r d))
 worked-out sh w cs x o r h (Moved c s cl u f i n) = rw n (λ m d q l a. go m d l a s.commit (u.works) q)
   where
-    go : (m : Noted) (d : ℕ) → d < sh.dirs → worked_at sh m d ≡ true → (b : Option Noted) → IfSome b (λ n. (d : ℕ) → d < sh.dirs → worked_at sh n d ≡ true → n.tid.0 ≤ (w.dirs d).serving.serving) → Contains (and_noted b cs) m → m.tid.0 ≤ (o.world.dirs d).serving.serving
+    go : (m : Noted) (d : ℕ) → d < sh.dirs → worked_at sh m d ≡ true → (b : Option Noted)
+        → IfSome b (λ n. (d : ℕ) → d < sh.dirs → worked_at sh n d ≡ true → n.tid.0 ≤ (w.dirs d).serving.serving)
+        → Contains (and_noted b cs) m → m.tid.0 ≤ (o.world.dirs d).serving.serving
     go m d l a None v q = omega (arith, h m d q l a, r d)
     go m d l a (Some b) v q = now (inserted b m cs q)
       where

@@ -12,8 +12,15 @@ loop-d-init c = record { found = c.none-set.ensures ∙ first_none (writes_at c.
 
 pub loop-d-preserved : goal.loop-d-preserved
 loop-d-preserved c = elim c.if-writes_at.branch [
-  | then-writes_at w ↦ (let e : writes_at c.args.cfg.now (maps c.args.cache.now) c.loop-d.d ≡ true = ap (λ (sh : Settings). writes_at sh (maps c.args.cache.now) c.loop-d.d) (sym c.requires) ∙ sym c.writes_at.ensures ∙ w.if-writes_at.true in
-      record { found = rw w.set-is (w.with-set.ensures ∙ ap (λ (p : ℕ → Bool). put p c.loop-d.d true) c.loop-d.invariant.found ∙ first_in c.loop-d.d (writes_at c.args.cfg.now (maps c.args.cache.now)) e) })
-  | else-writes_at w ↦ (let e : writes_at c.args.cfg.now (maps c.args.cache.now) c.loop-d.d ≡ false = ap (λ (sh : Settings). writes_at sh (maps c.args.cache.now) c.loop-d.d) (sym c.requires) ∙ sym c.writes_at.ensures ∙ w.if-writes_at.false in
+  | then-writes_at w ↦ (let e : writes_at c.args.cfg.now (maps c.args.cache.now) c.loop-d.d ≡ true = ap
+      (λ (sh : Settings). writes_at sh (maps c.args.cache.now) c.loop-d.d) (sym c.requires) ∙ sym c.writes_at.ensures
+      ∙ w.if-writes_at.true in
+      record {
+        found = rw w.set-is (w.with-set.ensures ∙ ap (λ (p : ℕ → Bool). put p c.loop-d.d true) c.loop-d.invariant.found
+            ∙ first_in c.loop-d.d (writes_at c.args.cfg.now (maps c.args.cache.now)) e);
+      })
+  | else-writes_at w ↦ (let e : writes_at c.args.cfg.now (maps c.args.cache.now) c.loop-d.d ≡ false = ap
+      (λ (sh : Settings). writes_at sh (maps c.args.cache.now) c.loop-d.d) (sym c.requires) ∙ sym c.writes_at.ensures
+      ∙ w.if-writes_at.false in
       record { found = rw w.set-is (c.loop-d.invariant.found ∙ first_out c.loop-d.d (writes_at c.args.cfg.now (maps c.args.cache.now)) e) })
 ]

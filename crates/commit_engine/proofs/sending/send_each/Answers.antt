@@ -13,8 +13,11 @@ pub loop-d-preserved : goal.loop-d-preserved
 loop-d-preserved c = elim c.if-contains.branch [
   | then-contains w ↦ (let e : has c.args.set.bits c.loop-d.d ≡ true = sym c.contains.ensures ∙ w.if-contains.true in
       record {
-        sent = rw w.out-is (sent_more c.args.out.now c.loop-d.out w.hand_out.new.self (to_members c.args.set.bits (msg_of c.args.msg)) c.loop-d.d _ c.args.msg
-            c.loop-d.invariant.sent w.hand_out.ensures.sent w.hand_out.ensures.room refl (member_in c.args.set.bits (msg_of c.args.msg) c.loop-d.d e));
+        sent =
+            rw w.out-is (sent_more c.args.out.now c.loop-d.out w.hand_out.new.self (to_members c.args.set.bits (msg_of c.args.msg))
+            c.loop-d.d _ c.args.msg
+            c.loop-d.invariant.sent w.hand_out.ensures.sent w.hand_out.ensures.room refl
+            (member_in c.args.set.bits (msg_of c.args.msg) c.loop-d.d e));
       })
   | else-contains w ↦ (let e : has c.args.set.bits c.loop-d.d ≡ false = sym c.contains.ensures ∙ w.if-contains.false in
       record {

@@ -10,9 +10,11 @@ hand_out-requires c = let s = c.loop-line.invariant.sent in omega (arith, c.requ
 
 pub loop-line-preserved : goal.loop-line-preserved
 loop-line-preserved c = record {
-  sent = marks_more c.args.out.now c.loop-line.out c.hand_out.new.self c.args.d c.args.tid c.args.marks.now c.loop-line.line-index _ c.loop-line-test.true
+  sent = marks_more c.args.out.now c.loop-line.out c.hand_out.new.self c.args.d c.args.tid c.args.marks.now c.loop-line.line-index _
+      c.loop-line-test.true
       c.loop-line.invariant.sent c.hand_out.ensures.sent c.hand_out.ensures.room;
 }
 
 pub returns : goal.returns
-returns c = marks_all c.args.out.now c.loop-line.out c.args.d c.args.tid c.args.marks.now c.loop-line.line-index (omega arith) c.loop-line.invariant.sent
+returns c = marks_all c.args.out.now c.loop-line.out c.args.d c.args.tid c.args.marks.now c.loop-line.line-index
+    (omega arith) c.loop-line.invariant.sent

@@ -6,4 +6,5 @@ use Rattle.commit_engine.proofs.sending.send_skips.Goals as goal
 pub returns : goal.returns
 returns c =
     let all : has c.below.result.bits ≡ (λ d. nat_lt d c.args.cfg.now.dirs) = rw c.dirs.ensures.value at c.below.ensures in
-    sent_as c.args.out.now c.send_each.new.out _ _ _ _ c.send_each.ensures (skips_all c.args.cfg.now c.below.result.bits c.args.tid.0 all) (omega arith)
+    sent_as c.args.out.now c.send_each.new.out _ _ _ _ c.send_each.ensures (skips_all c.args.cfg.now c.below.result.bits c.args.tid.0 all)
+    (omega arith)

@@ -18,7 +18,8 @@ loop-d-preserved c =
     elim c.if-count-eq0.branch [
       | then-count-eq0 w ↦ record {
         sent = rw w.out-is (sent_more c.args.out.now c.loop-d.out w.hand_out.new.self (closing sh ms t) c.loop-d.d _ _
-            c.loop-d.invariant.sent w.hand_out.ensures.sent w.hand_out.ensures.room refl (closing_none sh ms t c.loop-d.d n c.count_here-count.ensures w.if-count-eq0.true));
+            c.loop-d.invariant.sent w.hand_out.ensures.sent w.hand_out.ensures.room refl
+            (closing_none sh ms t c.loop-d.d n c.count_here-count.ensures w.if-count-eq0.true));
       }
       | else-count-eq0 w ↦ record {
         sent = rw w.out-is (sent_more c.args.out.now c.loop-d.out w.hand_out-else-count-eq0.new.self (closing sh ms t) c.loop-d.d _ _

@@ -5,4 +5,5 @@ use Rattle.commit_engine.specs.Solo.{at_homes, marked_line}
 use Rattle.commit_engine.proofs.solo.mark_all.Given as goal
 
 abbrev pub invariant-loop-line : goal.invariant-loop-line
-invariant-loop-line l = record { sent : Sent l.fn.out l.out (at_homes l.cfg (marked_line l.tid.0) (map mark_of (take l.line-index l.marks))) l.line-index }
+invariant-loop-line l =
+    record { sent : Sent l.fn.out l.out (at_homes l.cfg (marked_line l.tid.0) (map mark_of (take l.line-index l.marks))) l.line-index }

@@ -12,7 +12,8 @@ use Rattle.commit_engine.proofs.solo.solo_homes.Goals.{then-count_here-ne0, else
 use Rattle.commit_engine.proofs.solo.solo_homes.Goals as goal
 
 pub loop-d-init : goal.loop-d-init
-loop-d-init c = record { found = c.none-set.ensures ∙ first_none (solo_writes_at c.args.cfg.now (maps c.args.cache.now) (words_of c.args.spilled.now)) }
+loop-d-init c =
+    record { found = c.none-set.ensures ∙ first_none (solo_writes_at c.args.cfg.now (maps c.args.cache.now) (words_of c.args.spilled.now)) }
 
 pub count_here-requires : goal.count_here-requires
 count_here-requires c =
@@ -26,10 +27,13 @@ loop-d-preserved c =
     let d = c.loop-d.d in
     let n = c.count_here.result in
     let tells : p d ≡ not (nat_eq n 0) =
-    writes-here c.args.cfg.now (maps c.args.cache.now) (words_of c.args.spilled.now) (map mark_of c.args.marks.now) d n c.requires c.count_here.ensures in
+    writes-here c.args.cfg.now (maps c.args.cache.now) (words_of c.args.spilled.now)
+    (map mark_of c.args.marks.now) d n c.requires c.count_here.ensures in
     elim c.if-count_here-ne0.branch [
       | then-count_here-ne0 w ↦ (let e : p d ≡ true = tells ∙ ap not (ne_eqb n 0 w.if-count_here-ne0.true) in
-          record { found = rw w.set-is (w.with-set.ensures ∙ ap (λ (q : ℕ → Bool). put q d true) c.loop-d.invariant.found ∙ first_in d p e) })
+          record {
+            found = rw w.set-is (w.with-set.ensures ∙ ap (λ (q : ℕ → Bool). put q d true) c.loop-d.invariant.found ∙ first_in d p e);
+          })
       | else-count_here-ne0 w ↦ (let e : p d ≡ false = tells ∙ ap (λ (k : ℕ). not (nat_eq k 0)) w.if-count_here-ne0.false in
           record { found = rw w.set-is (c.loop-d.invariant.found ∙ first_out d p e) })
     ]

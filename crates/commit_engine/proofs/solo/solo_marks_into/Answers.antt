@@ -14,11 +14,15 @@ loop-line-preserved c =
     let f : ℕ → ℕ = written_mask (maps c.args.cache.now) (words_of c.args.spilled.now) in
     elim c.if-line-end.branch [
       | then-line-end+in-Ok w ↦ record {
-        made = rw (w.marks-is, w.in-Ok.ensures.items) (marks-in f _ c.deref-line-items.result.now c.loop-line.line-index 0 c.loop-line.marks.items _
-            w.written_mask-mask.result c.loop-line-test.true refl w.if-line-end.true w.written_mask-mask.ensures c.loop-line.invariant.made);
+        made =
+            rw (w.marks-is, w.in-Ok.ensures.items)
+            (marks-in f _ c.deref-line-items.result.now c.loop-line.line-index 0 c.loop-line.marks.items _
+            w.written_mask-mask.result c.loop-line-test.true refl w.if-line-end.true w.written_mask-mask.ensures
+            c.loop-line.invariant.made);
       }
       | else-line-end w ↦ record {
-        made = rw w.marks-is (marks-out f _ c.deref-line-items.result.now c.loop-line.line-index 0 _ c.loop-line-test.true w.if-line-end.false
+        made =
+            rw w.marks-is (marks-out f _ c.deref-line-items.result.now c.loop-line.line-index 0 _ c.loop-line-test.true w.if-line-end.false
             c.loop-line.invariant.made);
       }
     ]

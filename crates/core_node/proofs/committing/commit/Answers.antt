@@ -22,7 +22,8 @@ returns-clause-does c =
     let k = c.args.core.now in
     let some : 0 < k.config.dirs = c.dirs.ensures.allowed.1.0 in
     let after : after_of c.note_commit.new.after ≡ with_last_commit (writes_at k.config (maps k.cache)) c.args.tid.0 (after_of k.after) =
-    c.note_commit.ensures.noted ∙ noted_written k.config (maps k.cache) c.written_homes-written.result.bits c.args.tid.0 c.dirs.result (after_of k.after)
+    c.note_commit.ensures.noted ∙ noted_written k.config (maps k.cache) c.written_homes-written.result.bits c.args.tid.0 c.dirs.result
+    (after_of k.after)
     some c.dirs.ensures.value c.written_homes-written.ensures in
     record {
       core = rw (c.go_on.ensures.does, c.take_attempt-done.ensures.emptied, after, c.commit.ensures.maps) refl;

@@ -9,21 +9,24 @@ pub returns-in-Ok-clause-does : goal.returns-in-Ok-clause-does
 unfolding core_of started
 returns-in-Ok-clause-does c =
     let k = c.args.core.now in
-    rw (executed_as k.config (started c.args.code.now) k.id.0 (core_of k) c.in-Ok.inst (need_of c.plan-need.result) c.in-Ok.ensures c.plan-need.ensures.need)
+    rw (executed_as k.config (started c.args.code.now) k.id.0 (core_of k) c.in-Ok.inst
+    (need_of c.plan-need.result) c.in-Ok.ensures c.plan-need.ensures.need)
     c.execute_need.ensures.does
 
 pub returns-in-Ok-clause-noted : goal.returns-in-Ok-clause-noted
 unfolding core_of started
 returns-in-Ok-clause-noted c =
     let k = c.args.core.now in
-    rw (executed_as k.config (started c.args.code.now) k.id.0 (core_of k) c.in-Ok.inst (need_of c.plan-need.result) c.in-Ok.ensures c.plan-need.ensures.need)
+    rw (executed_as k.config (started c.args.code.now) k.id.0 (core_of k) c.in-Ok.inst
+    (need_of c.plan-need.result) c.in-Ok.ensures c.plan-need.ensures.need)
     c.execute_need.ensures.noted
 
 pub returns-in-Ok-clause-blocked : goal.returns-in-Ok-clause-blocked
 unfolding core_of started
 returns-in-Ok-clause-blocked c =
     let k = c.args.core.now in
-    rw (executed_as k.config (started c.args.code.now) k.id.0 (core_of k) c.in-Ok.inst (need_of c.plan-need.result) c.in-Ok.ensures c.plan-need.ensures.need)
+    rw (executed_as k.config (started c.args.code.now) k.id.0 (core_of k) c.in-Ok.inst
+    (need_of c.plan-need.result) c.in-Ok.ensures c.plan-need.ensures.need)
     c.execute_need.ensures.blocked
 
 pub returns-in-Err-clause-does : goal.returns-in-Err-clause-does

@@ -21,5 +21,6 @@ pub returns-else-needs_nothing-clause-does : goal.returns-else-needs_nothing-cla
 unfolding core_of started
 returns-else-needs_nothing-clause-does c =
     let k = c.args.core.now in
-    rw (executed_as k.config (started c.args.code.now) k.id.0 (core_of k) c.in-Ok.inst (need_of c.plan-need.result) c.in-Ok.ensures c.plan-need.ensures.need)
+    rw (executed_as k.config (started c.args.code.now) k.id.0 (core_of k) c.in-Ok.inst
+    (need_of c.plan-need.result) c.in-Ok.ensures c.plan-need.ensures.need)
     c.need_quickly.ensures.does

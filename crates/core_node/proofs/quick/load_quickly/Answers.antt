@@ -17,7 +17,8 @@ pub returns-in-Hit-clause-does : goal.returns-in-Hit-clause-does
 unfolding core_of
 returns-in-Hit-clause-does c =
     rw (← c.core.view_is)
-    (quick_load _ (alone c.args.inst.now) c.args.addr c.args.size c.args.w.0 c.in-Hit.word (maps c.load.new.self) _ (core_of c.advance.new.core)
+    (quick_load _ (alone c.args.inst.now) c.args.addr c.args.size c.args.w.0 c.in-Hit.word (maps c.load.new.self) _
+    (core_of c.advance.new.core)
     (sym c.in_default.ensures)
     (valid_hit _ c.args.w.0 c.in-Hit.word _ c.in-Hit.ensures.answer)
     (rw c.runs.ensures at c.load.ensures.maps)

@@ -11,7 +11,8 @@ pub advance-requires-clause-whole : goal.advance-requires-clause-whole
 advance-requires-clause-whole c =
     let w = subst (λ (k : Core). IsCore k) (sym c.core.view_is) c.requires.whole in
     let s = rw c.if-not-store_clean.false at c.store_clean.ensures.does in
-    let x = whole_stored _ c.store_clean.new.self c.args.w.0 c.new_word-new.result c.marks_too-also.result w c.store_clean.ensures.config s.maps in
+    let x = whole_stored _ c.store_clean.new.self c.args.w.0 c.new_word-new.result c.marks_too-also.result w c.store_clean.ensures.config
+    s.maps in
     record { cache = x.cache; awaited = x.awaited; after = x.after }
 
 pub returns-clause-does : goal.returns-clause-does
@@ -20,7 +21,8 @@ returns-clause-does c =
     let s = rw c.if-not-store_clean.false at c.store_clean.ensures.does in
     let t = rw c.new_word-new.ensures at s in
     rw (← c.core.view_is)
-    (quick_part _ (alone c.args.inst.now) c.args.addr c.args.size c.args.value c.args.w.0 c.in-Hit.word c.marks_too-also.result (maps c.store_clean.new.self) _
+    (quick_part _ (alone c.args.inst.now) c.args.addr c.args.size c.args.value c.args.w.0 c.in-Hit.word c.marks_too-also.result
+    (maps c.store_clean.new.self) _
     (core_of c.advance.new.core) (sym c.in_default.ensures)
     (rw c.line_of_word.ensures at (sym c.holds.ensures ∙ c.if-holds.false))
     (valid_hit _ c.args.w.0 c.in-Hit.word _ c.in-Hit.ensures.answer) c.marks_too-also.ensures t

@@ -19,12 +19,15 @@ loop-i-preserved c =
     elim c.match-waiting_at.branch [
       | in-Some w ↦ (let m = msg_of w.in-Some.msg.now in
           let fly = w.in-Some.ensures.own in
-          let home = c.requires.home w.in-Some.seq m (subst (λ n. in_flight n (Core s) (Dir d) w.in-Some.seq ≡ Some m) c.loop-i.invariant.net fly) in
+          let home =
+          c.requires.home w.in-Some.seq m (subst (λ n. in_flight n (Core s) (Dir d) w.in-Some.seq ≡ Some m) c.loop-i.invariant.net fly)
+          in
           let takes : (e : ℕ → ℕ) → w.takes-ready.result ≡ is_taken (dir_deliver x.lines.place.shape (dir_of e x) s m) =
           λ e. w.takes-ready.ensures e ∙ ap (λ b. not b && is_taken (dir_deliver x.lines.place.shape (dir_of e x) s m)) home in
           subst (λ f. MarkedTo x s d (c.loop-i.i + 1) old f) (sym w.flights-is)
           (marked-step x s d c.loop-i.i w.in-Some.seq m w.takes-ready.result old c.loop-i.flights w.set_ready.new.self c.loop-i.invariant
-          (sym w.in-Some.ensures.number) fly takes w.set_ready.ensures.cores w.set_ready.ensures.dirs w.set_ready.ensures.net w.set_ready.ensures.ready))
+          (sym w.in-Some.ensures.number) fly takes w.set_ready.ensures.cores w.set_ready.ensures.dirs w.set_ready.ensures.net
+          w.set_ready.ensures.ready))
       | in_default w ↦ subst (λ f. MarkedTo x s d (c.loop-i.i + 1) old f) (sym w.flights-is)
           (marked-skip x s d c.loop-i.i old c.loop-i.flights c.loop-i.invariant (sym w.in_default.ensures.number))
     ]

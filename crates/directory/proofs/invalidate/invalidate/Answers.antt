@@ -6,5 +6,12 @@ use Rattle.directory.proofs.invalidate.invalidate.Goals as goal
 
 pub returns-in-Ok-clause-count : goal.returns-in-Ok-clause-count
 returns-in-Ok-clause-count c =
-    let longer = ap length c.in-Ok.ensures.sent ∙ length-append c.args.out.now.list.items (told_all c.args.lines.now.place.shape (kept c.args.lines.now) c.args.src.0 c.args.tid.0) in
-    omega (arith, c.len.ensures, c.len-before.ensures, longer, told_all-length c.args.lines.now.place.shape (kept c.args.lines.now) c.args.src.0 c.args.tid.0)
+    let longer = ap length c.in-Ok.ensures.sent ∙ length-append c.args.out.now.list.items
+    (told_all c.args.lines.now.place.shape (kept c.args.lines.now) c.args.src.0 c.args.tid.0) in
+    omega (
+      arith,
+      c.len.ensures,
+      c.len-before.ensures,
+      longer,
+      told_all-length c.args.lines.now.place.shape (kept c.args.lines.now) c.args.src.0 c.args.tid.0,
+    )

@@ -18,7 +18,8 @@ own-requires-clause-at_home c = listed-at_home c.loop-k.lines c.loop-k.k c.in-So
 
 pub loop-k-preserved : goal.loop-k-preserved
 loop-k-preserved c =
-    let same : those (has_mark (kept c.loop-k.lines)) (lines c.loop-k.lines.place.shape) ≡ those (has_mark (kept c.args.lines.now)) (lines c.args.lines.now.place.shape) =
+    let same : those (has_mark (kept c.loop-k.lines)) (lines c.loop-k.lines.place.shape) ≡ those (has_mark (kept c.args.lines.now))
+    (lines c.args.lines.now.place.shape) =
     λ i. those (has_mark (c.loop-k.invariant.1 i)) (lines (c.loop-k.invariant.0 i).shape) in
     elim c.match-marked_line.branch [
       | in-Some w ↦ (
@@ -26,7 +27,9 @@ loop-k-preserved c =
         ap kept w.lines-is
             ∙ (w.own.ensures.map
             ∙ (ap (λ ls. owned_line w.in-Some.line.0 c.args.src.0 c.args.tid.0 ls) c.loop-k.invariant.1
-            ∙ (owned-more c.args.src.0 c.args.tid.0 w.in-Some.line.0 (take c.loop-k.k (those (has_mark (kept c.args.lines.now)) (lines c.args.lines.now.place.shape))) (kept c.args.lines.now)
+            ∙ (owned-more c.args.src.0 c.args.tid.0 w.in-Some.line.0
+            (take c.loop-k.k (those (has_mark (kept c.args.lines.now)) (lines c.args.lines.now.place.shape)))
+            (kept c.args.lines.now)
             ∙ ap (λ xs. owned_some c.args.src.0 c.args.tid.0 xs (kept c.args.lines.now))
             (sym (take-next (those (has_mark (kept c.args.lines.now)) (lines c.args.lines.now.place.shape)) c.loop-k.k w.in-Some.line.0
             (ap (λ xs. slice_get xs c.loop-k.k) (sym same) ∙ sym w.in-Some.ensures)))))),
@@ -48,4 +51,5 @@ returns-clause-map c =
     c.loop-k.invariant.1
     ∙ (ap (λ xs. owned_some c.args.src.0 c.args.tid.0 xs (kept c.args.lines.now))
     (take-whole (those (has_mark (kept c.args.lines.now)) (lines c.args.lines.now.place.shape)) c.loop-k.k all)
-    ∙ owned-all c.args.src.0 c.args.tid.0 (lines c.args.lines.now.place.shape) (kept c.args.lines.now) (λ l e. (kept-at_home c.args.lines.now l e).0))
+    ∙ owned-all c.args.src.0 c.args.tid.0 (lines c.args.lines.now.place.shape) (kept c.args.lines.now)
+    (λ l e. (kept-at_home c.args.lines.now l e).0))

@@ -9,4 +9,5 @@ use Rattle.directory.proofs.invalidate.own_marked.Given as goal
 abbrev pub invariant-loop-k : goal.invariant-loop-k
 invariant-loop-k l =
     (l.lines.place ≡ l.fn.lines.place)
-    × (kept l.lines ≡ owned_some l.src.0 l.tid.0 (take l.k (those (has_mark (kept l.fn.lines)) (lines l.fn.lines.place.shape))) (kept l.fn.lines))
+    × (kept l.lines ≡ owned_some l.src.0 l.tid.0 (take l.k (those (has_mark (kept l.fn.lines)) (lines l.fn.lines.place.shape)))
+    (kept l.fn.lines))

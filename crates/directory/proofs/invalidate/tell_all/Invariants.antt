@@ -9,4 +9,5 @@ use Rattle.directory.proofs.invalidate.tell_all.Given as goal
 abbrev pub invariant-loop-k : goal.invariant-loop-k
 invariant-loop-k l =
     l.out.list.items ≡ l.fn.out.list.items
-    ++ told_of (kept l.lines) l.lines.place.shape.cores l.src.0 l.tid.0 (take l.k (those (has_mark (kept l.lines)) (lines l.lines.place.shape)))
+    ++ told_of (kept l.lines) l.lines.place.shape.cores l.src.0 l.tid.0
+    (take l.k (those (has_mark (kept l.lines)) (lines l.lines.place.shape)))

@@ -8,7 +8,8 @@ pub returns-clause-words : goal.returns-clause-words
 unfolding eight
 returns-clause-words c =
     let first : 8 * c.args.line ≡ 8 * c.args.line + 0 = omega arith in
-    λ i. (c.word.ensures ∙ ap (started c.args.loaded.now).word first) i ∷ c.word-2.ensures i ∷ c.word-3.ensures i ∷ c.word-4.ensures i ∷ c.word-5.ensures i ∷ c.word-6.ensures i
+    λ i. (c.word.ensures ∙ ap (started c.args.loaded.now).word first) i ∷ c.word-2.ensures i ∷ c.word-3.ensures i ∷ c.word-4.ensures i
+    ∷ c.word-5.ensures i ∷ c.word-6.ensures i
     ∷ c.word-7.ensures i ∷ c.word-8.ensures i ∷ []
 
 pub returns-clause-fits : goal.returns-clause-fits

@@ -10,6 +10,7 @@ abbrev pub invariant-loop-number : goal.invariant-loop-number
 invariant-loop-number l = record {
   config : l.layout.config ≡ l.config;
   is_laid : IsLaid l.layout (laid_all 0 (take l.number l.images));
-  left : images_fault l.config 0 [] l.images ≡ images_fault l.config l.number (laid_all 0 (take l.number l.images)) (drop l.number l.images);
+  left : images_fault l.config 0 [] l.images ≡ images_fault l.config l.number (laid_all 0 (take l.number l.images))
+      (drop l.number l.images);
   entries : l.entries.items ≡ entries_of (take l.number l.images);
 }

@@ -16,7 +16,8 @@ returns-then-first-end-clause-fault c = λ _.
       | then-first-end-via-else-first-end+then-past-end w ↦ grind (arith, nat_tests)
     ] in
     c.loop-number.invariant.tested
-    ∙ raw_fault-failed c.args.config.now c.loop-number.first c.args.files.now c.loop-number.number file c.loop-number-test.true c.index-files-number.is outside
+    ∙ raw_fault-failed c.args.config.now c.loop-number.first c.args.files.now c.loop-number.number file c.loop-number-test.true
+    c.index-files-number.is outside
 
 pub loop-number-preserved : goal.loop-number-preserved
 loop-number-preserved c =
@@ -34,11 +35,15 @@ loop-number-preserved c =
     let image : c.in_ok-image_at.field-0 ≡ raw_image first file
     = c.in_ok-image_at.ensures.value ∙ ap (raw_image first) c.bytes-file.ensures in
     record {
-      tested = c.loop-number.invariant.tested ∙ raw_fault-passed settings first c.next_multiple_of-first.result files j file c.loop-number-test.true c.index-files-number.is inside next;
+      tested = c.loop-number.invariant.tested
+          ∙ raw_fault-passed settings first c.next_multiple_of-first.result files j file c.loop-number-test.true c.index-files-number.is
+          inside next;
       laid =
           c.loop-number.invariant.laid
-          ∙ raw_images-more first c.next_multiple_of-first.result files j file c.loop-number.images.items c.loop-number-test.true c.index-files-number.is next
-          ∙ ap (λ one. (c.loop-number.images.items ++ one ∷ []) ++ raw_images c.next_multiple_of-first.result (drop (j + 1) files)) (sym image)
+          ∙ raw_images-more first c.next_multiple_of-first.result files j file c.loop-number.images.items c.loop-number-test.true
+          c.index-files-number.is next
+          ∙ ap (λ one. (c.loop-number.images.items ++ one ∷ []) ++ raw_images c.next_multiple_of-first.result (drop (j + 1) files))
+          (sym image)
           ∙ ap (λ images. images ++ raw_images c.next_multiple_of-first.result (drop (j + 1) files)) (sym c.in_ok-push.ensures.items);
       count = omega (arith, ap length c.in_ok-push.ensures.items, length-append c.loop-number.images.items (c.in_ok-image_at.field-0 ∷ []));
       within = grind (arith, common_steps);
@@ -48,8 +53,10 @@ loop-number-preserved c =
 
 pub returns-clause-images : goal.returns-clause-images
 returns-clause-images c =
-    sym (c.loop-number.invariant.laid ∙ raw_images-done c.loop-number.first c.args.files.now c.loop-number.number c.loop-number.images.items c.loop-number-test.false)
+    sym (c.loop-number.invariant.laid ∙ raw_images-done c.loop-number.first c.args.files.now c.loop-number.number c.loop-number.images.items
+    c.loop-number-test.false)
 
 pub returns-clause-accepted : goal.returns-clause-accepted
 returns-clause-accepted c =
-    c.loop-number.invariant.tested ∙ raw_fault-done c.args.config.now c.loop-number.number c.loop-number.first c.args.files.now c.loop-number.number c.loop-number-test.false
+    c.loop-number.invariant.tested ∙ raw_fault-done c.args.config.now c.loop-number.number c.loop-number.first c.args.files.now
+    c.loop-number.number c.loop-number-test.false

@@ -25,7 +25,8 @@ returns-else-frame-ne0 c = λ k b.
     let w : ℕ = word_at c.args.line.0 k in
     newest-empty a c.args.line.0 k f.words f.tag.0 b
     ∙ ap (λ m. newest a (copy_of w (WriteBack c.args.line.0 m f.words f.tag.0))) (sym c.if-frame-ne0.false)
-    ∙ ap (newest a) (frame-at c.args.cores.now.code.settings cache c.args.line.0 w f (placed-line c.args.line.0 k b) c.requires.cache c.in-Some.ensures.1)
+    ∙ ap (newest a) (frame-at c.args.cores.now.code.settings cache c.args.line.0 w f (placed-line c.args.line.0 k b) c.requires.cache
+    c.in-Some.ensures.1)
 
 pub returns-in_default : goal.returns-in_default
 returns-in_default c = λ k b.

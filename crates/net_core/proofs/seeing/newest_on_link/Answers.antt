@@ -23,7 +23,8 @@ loop-i-preserved c =
       | in-Some w ↦ λ k b.
           ap (λ cs. nth_copy cs k) w.best-is ∙ w.newest_in_msg.ensures k b
           ∙ ap (λ a. newest a (copy_of (word_at c.args.line.0 k) (msg_of w.in-Some.msg.now))) (c.loop-i.invariant k b)
-          ∙ newest-more (nth_copy c.args.best.now k) (word_at c.args.line.0 k) link c.loop-i.i w.in-Some.field-0-0 (msg_of w.in-Some.msg.now)
+          ∙ newest-more (nth_copy c.args.best.now k) (word_at c.args.line.0 k) link c.loop-i.i w.in-Some.field-0-0
+          (msg_of w.in-Some.msg.now)
           w.in-Some.ensures.number w.in-Some.ensures.own
       | in_default w ↦
           absurd (none-past (waiting_on link) c.loop-i.i (sym w.in_default.ensures.number) (omega (arith, all, c.loop-i-test.true)))

@@ -7,7 +7,8 @@ use Rattle.report_text.proofs.body.push_registers.Goals.{in-Some+in_ok-push_regi
 
 pub loop-number-preserved : goal.loop-number-preserved
 loop-number-preserved c =
-    let more = flat_map-range_with_len_more (register_text c.args.regs.now) 1 (c.loop-number.number - 1) c.loop-number.number (omega arith) in
+    let more = flat_map-range_with_len_more (register_text c.args.regs.now) 1 (c.loop-number.number - 1) c.loop-number.number
+    (omega arith) in
     elim c.match-new.branch [
       | in-Some+in_ok-push_register w ↦ grind (arith, common_steps, more)
       | in_default w ↦ grind (arith, common_steps)

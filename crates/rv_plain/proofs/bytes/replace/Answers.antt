@@ -12,11 +12,13 @@ overflow_cast-result-2 c =
     let r = c.args.addr % 4 in
     let small : r < 4 = omega arith in
     elim c.match-size.branch [
-      | in-Byte w ↦ rw (c.unit-unit.ensures.value, w.span-is) (record { fits = spliced-byte c.args.word r c.args.value c.ranges.word.fits small })
+      | in-Byte w ↦ rw (c.unit-unit.ensures.value, w.span-is)
+          (record { fits = spliced-byte c.args.word r c.args.value c.ranges.word.fits small })
       | in-Half w ↦
           let even : c.args.addr % bytes_of Half ≡ 0 = subst (λ s. c.args.addr % bytes_of s ≡ 0) w.in-Half.is c.requires in
           let half : r % 2 ≡ 0 = omega arith in
-          rw (c.unit-unit.ensures.value, w.span-is) (record { fits = spliced-half c.args.word r c.args.value c.ranges.word.fits small half })
+          rw (c.unit-unit.ensures.value, w.span-is)
+          (record { fits = spliced-half c.args.word r c.args.value c.ranges.word.fits small half })
       | in-Word w ↦
           let zero : c.args.addr % bytes_of Word ≡ 0 = subst (λ s. c.args.addr % bytes_of s ≡ 0) w.in-Word.is c.requires in
           rw (c.unit-unit.ensures.value, w.span-is) (record { fits = spliced-word c.args.word r c.args.value c.ranges.word.fits zero })

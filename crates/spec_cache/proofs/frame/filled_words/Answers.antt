@@ -12,4 +12,5 @@ pub returns : goal.returns
 unfolding filled_up
 returns c =
     eight_of c.loop-k.filled _ c.loop-k.invariant.eight_words
-    (λ k h. c.loop-k.invariant.so_far k h ∙ (let past : k < c.loop-k.k = omega arith in rw (lt-ltb k c.loop-k.k past) (either_way (has c.args.valid k) _ _)))
+    (λ k h. c.loop-k.invariant.so_far k h
+    ∙ (let past : k < c.loop-k.k = omega arith in rw (lt-ltb k c.loop-k.k past) (either_way (has c.args.valid k) _ _)))

@@ -12,19 +12,23 @@ loop-way-preserved c =
       | in-Some+in-Ok w ↦ (let e : found c.loop-way.way-index ≡ Some w.in-Some.line = sym w.in-Some.ensures in
           let new : c.match-written.lines.items ≡ was ++ w.in-Some.line ∷ [] = rw w.lines-is w.in-Ok.ensures.items in
           record {
-            each = λ j x h p. subst (λ (xs : List ℕ). Contains xs x) (sym new) (collects_more found c.loop-way.way-index was w.in-Some.line e c.loop-way.invariant.each j x h p);
-            only = λ x h. collects_only found c.loop-way.way-index was w.in-Some.line e c.loop-way.invariant.only x (subst (λ (xs : List ℕ). Contains xs x) new h);
+            each = λ j x h p. subst (λ (xs : List ℕ). Contains xs x) (sym new)
+                (collects_more found c.loop-way.way-index was w.in-Some.line e c.loop-way.invariant.each j x h p);
+            only = λ x h. collects_only found c.loop-way.way-index was w.in-Some.line e c.loop-way.invariant.only x
+                (subst (λ (xs : List ℕ). Contains xs x) new h);
           })
       | in_default w ↦ (let e : found c.loop-way.way-index ≡ None = sym w.in_default.ensures in
           let new : c.match-written.lines.items ≡ was = rw w.lines-is refl in
           record {
-            each = λ j x h p. subst (λ (xs : List ℕ). Contains xs x) (sym new) (collects_same found c.loop-way.way-index was e c.loop-way.invariant.each j x h p);
+            each = λ j x h p. subst (λ (xs : List ℕ). Contains xs x) (sym new)
+                (collects_same found c.loop-way.way-index was e c.loop-way.invariant.each j x h p);
             only = λ x h. c.loop-way.invariant.only x (subst (λ (xs : List ℕ). Contains xs x) new h);
           })
     ]
 
 pub returns : goal.returns
 returns c = record {
-  each = λ i x e. c.loop-way.invariant.each i x (let b = written_within c.args.dirs c.args.home c.args.ways.now i x e in omega (arith, b)) e;
+  each = λ i x e. c.loop-way.invariant.each i x (let b = written_within c.args.dirs c.args.home c.args.ways.now i x e in omega (arith, b))
+      e;
   only = c.loop-way.invariant.only;
 }

@@ -27,7 +27,8 @@ returns-in-Err-Refused-clause-fault c =
     let long = took-length c.loop-e.machine c.args.loaded.now c.args.events.now c.loop-e.e-index c.loop-e.invariant few in
     subst (IsRefusedAt (started c.args.loaded.now) c.args.events.now) (sym (ap length c.taken.ensures.taken ∙ long))
     (refused-here c.loop-e.machine c.args.loaded.now c.args.events.now c.loop-e.e-index (Exec (record { 0 = 0 }))
-    c.taken.ensures.refined c.loop-e.invariant c.loop-e-test.true (c.in-Err-Refused.ensures.refused.0 (ap (λ x. Err x) c.in-Err-Refused.field-0-is)))
+    c.taken.ensures.refined c.loop-e.invariant c.loop-e-test.true
+    (c.in-Err-Refused.ensures.refused.0 (ap (λ x. Err x) c.in-Err-Refused.field-0-is)))
 
 pub returns-in-Ok-settle-clause-code : goal.returns-in-Ok-settle-clause-code
 returns-in-Ok-settle-clause-code c = c.settle.ensures.code ∙ c.loop-e.invariant.code

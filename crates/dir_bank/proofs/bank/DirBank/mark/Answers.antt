@@ -18,12 +18,14 @@ returns-clause-here c = λ ram core k m h fly.
     let x = c.index-directory.result.now in
     let are : AreDirs b.settings b.dirs = subst (λ v. AreDirs v.settings v.dirs) c.self.view_is c.self.invariant.dirs in
     let is : x ≡ get_or b.dirs d x =
-    subst (λ v. x ≡ get_or v.dirs d x) c.self.view_is (subst (λ i. x ≡ get_or i.dirs d x) c.self-inside.view_is c.index-directory.ensures) in
+    subst (λ v. x ≡ get_or v.dirs d x) c.self.view_is (subst (λ i. x ≡ get_or i.dirs d x) c.self-inside.view_is c.index-directory.ensures)
+    in
     let a = at b d x are c.requires.exists is in
     let all : c.cores-cores.result ≡ b.settings.cores =
     subst (λ v. c.cores-cores.result ≡ v.settings.cores) c.self.view_is
     (subst (λ i. c.cores-cores.result ≡ i.config.cores) c.self-inside.view_is c.cores-cores.ensures.value) in
     let within : core < c.loop-core.core = omega (arith, h, all, c.loop-core-test.false) in
-    subst (λ s. is_ready c.loop-core.flights (Core core) (Dir d) k ≡ is_taken (dir_deliver b.settings s core m)) (sym (dirs-at ram b d x a.got))
+    subst (λ s. is_ready c.loop-core.flights (Core core) (Dir d) k ≡ is_taken (dir_deliver b.settings s core m))
+    (sym (dirs-at ram b d x a.got))
     (subst (λ p. is_ready c.loop-core.flights (Core core) (Dir d) k ≡ is_taken (dir_deliver p.shape (dir_of ram x) core m)) a.place
     (c.loop-core.invariant.here ram core k m within fly))

@@ -7,5 +7,6 @@ use Rattle.dir_lines.proofs.lines.Lines.set_mark.Goals as goal
 pub returns-clause-map : goal.returns-clause-map
 returns-clause-map g c =
     ap lines_of c.set.ensures.records
-    ∙ (ap (λ r. lines_of (put (g.Self.Lines.records c.args.self.now) c.args.line.0 (record r { mark = c.args.mark }))) c.get-to.ensures.value
+    ∙ (ap (λ r. lines_of (put (g.Self.Lines.records c.args.self.now) c.args.line.0 (record r { mark = c.args.mark })))
+    c.get-to.ensures.value
     ∙ lines_of-with_mark (g.Self.Lines.records c.args.self.now) c.args.line.0 c.args.mark)

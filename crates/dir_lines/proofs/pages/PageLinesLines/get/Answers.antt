@@ -7,6 +7,7 @@ use Rattle.dir_lines.proofs.pages.PageLinesLines.get.Goals as goal
 
 pub returns-clause-value : goal.returns-clause-value
 returns-clause-value c =
-    read-own (pages_of c.self.inside) c.args.line.0 c.dirs.result c.index.result.now (record { exists = c.self.invariant.home.1; count = c.self.invariant.count })
+    read-own (pages_of c.self.inside) c.args.line.0 c.dirs.result c.index.result.now
+    (record { exists = c.self.invariant.home.1; count = c.self.invariant.count })
     (subst (λ q. IsAtHome q.place c.args.line.0) (sym c.self.view_is) c.requires) c.dirs.ensures.value c.index.ensures
     ∙ ap (λ q. pages_at q c.args.line.0) c.self.view_is

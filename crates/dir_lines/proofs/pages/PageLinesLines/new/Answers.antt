@@ -18,7 +18,9 @@ invariant_of-result c =
     record {
       home = (c.count-count.ensures.allowed, c.requires);
       count = ap length c.in_ok-records.ensures ∙ (length-replicate c.count-count.result blank ∙ c.count-count.ensures.count);
-      marked = c.in-Ok.ensures.items ∙ those-none (has_mark (lines_of (pages_at (record { place = here; records = c.in_ok-records.records.items })))) (lines c.args.cfg.now)
+      marked = c.in-Ok.ensures.items
+          ∙ those-none (has_mark (lines_of (pages_at (record { place = here; records = c.in_ok-records.records.items }))))
+          (lines c.args.cfg.now)
           (blank-unmarked (pages_at (record { place = here; records = c.in_ok-records.records.items })) blank_all);
       room = omega (arith, c.in-Ok.ensures.capacity, c.count-count.ensures.count);
     }

@@ -13,7 +13,8 @@ use Rattle.dir_lines.proofs.tree.MapLinesLines.marked_lines.Goals as goal
 pub overflow_cast-result : goal.overflow_cast-result
 overflow_cast-result c =
     let a : c.self.inside.marked.len ≡ length c.self.inside.marked.items = c.self.inside.marked.ok.0 in
-    let b : length c.self.inside.marked.items ≡ count_below (has_mark (lines_of (filed_at (filed_of c.self.inside)))) (lines c.self.inside.cfg) =
+    let b : length c.self.inside.marked.items ≡ count_below (has_mark (lines_of (filed_at (filed_of c.self.inside))))
+    (lines c.self.inside.cfg) =
     ap length c.self.invariant.marked ∙ length-those (has_mark (lines_of (filed_at (filed_of c.self.inside)))) (lines c.self.inside.cfg) in
     let d : count_below (has_mark (lines_of (filed_at (filed_of c.self.inside)))) (lines c.self.inside.cfg) ≤ lines c.self.inside.cfg =
     count_below-small (has_mark (lines_of (filed_at (filed_of c.self.inside)))) (lines c.self.inside.cfg) in
@@ -23,7 +24,9 @@ overflow_cast-result c =
 
 pub returns-clause-count : goal.returns-clause-count
 returns-clause-count c =
-    c.len.ensures ∙ (c.self.inside.marked.ok.0 ∙ (ap length c.self.invariant.marked ∙ (length-those (has_mark (lines_of (filed_at (filed_of c.self.inside)))) (lines c.self.inside.cfg)
+    c.len.ensures ∙ (c.self.inside.marked.ok.0
+    ∙ (ap length c.self.invariant.marked
+    ∙ (length-those (has_mark (lines_of (filed_at (filed_of c.self.inside)))) (lines c.self.inside.cfg)
     ∙ ap (λ q. count_below (has_mark (lines_of (filed_at q))) (lines q.place.shape)) c.self.view_is)))
 
 pub returns-clause-at_home : goal.returns-clause-at_home

@@ -13,12 +13,17 @@ invariant_of-result c =
     let here : Home = record { shape = c.args.cfg.now; dir = c.args.home.0 } in
     record {
       home = (c.count-count.ensures.allowed, c.requires);
-      all = λ l a e. c.in_ok-records.ensures.all l (let w : c.words.result ≡ c.args.cfg.now.ram / 4 = c.words.ensures.value in omega arith) (rw c.dirs.ensures.value e);
-      marked = c.in-Ok.ensures.items ∙ those-none (has_mark (lines_of (filed_at (record { place = here; entries = c.in_ok-records.records.entries })))) (lines c.args.cfg.now)
-          (blank-unmarked (filed_at (record { place = here; entries = c.in_ok-records.records.entries })) (filed_at-blank (record { place = here; entries = c.in_ok-records.records.entries }) c.in_ok-records.ensures.blank));
+      all = λ l a e. c.in_ok-records.ensures.all l (let w : c.words.result ≡ c.args.cfg.now.ram / 4 = c.words.ensures.value in omega arith)
+          (rw c.dirs.ensures.value e);
+      marked = c.in-Ok.ensures.items
+          ∙ those-none (has_mark (lines_of (filed_at (record { place = here; entries = c.in_ok-records.records.entries }))))
+          (lines c.args.cfg.now)
+          (blank-unmarked (filed_at (record { place = here; entries = c.in_ok-records.records.entries }))
+          (filed_at-blank (record { place = here; entries = c.in_ok-records.records.entries }) c.in_ok-records.ensures.blank));
       room = omega (arith, c.in-Ok.ensures.capacity, c.count-count.ensures.count);
     }
 
 pub returns-in-Ok-clause-blank : goal.returns-in-Ok-clause-blank
 returns-in-Ok-clause-blank c =
-    filed_at-blank (record { place = record { shape = c.args.cfg.now; dir = c.args.home.0 }; entries = c.in_ok-records.records.entries }) c.in_ok-records.ensures.blank
+    filed_at-blank (record { place = record { shape = c.args.cfg.now; dir = c.args.home.0 }; entries = c.in_ok-records.records.entries })
+    c.in_ok-records.ensures.blank

@@ -13,5 +13,7 @@ returns-then-self-eq0-clause-gives c =
 
 pub returns-clause-gives : goal.returns-clause-gives
 returns-clause-gives c =
-    gives-from c.self.view_is (acknowledgement-takes c.self.inside.lines c.self.inside.words c.self.inside.skips c.self.inside.owed c.leave.new.lines c.settle.new.self c.args.out.now.list.items
+    gives-from c.self.view_is
+    (acknowledgement-takes c.self.inside.lines c.self.inside.words c.self.inside.skips c.self.inside.owed c.leave.new.lines
+    c.settle.new.self c.args.out.now.list.items
     c.args.src.0 c.args.line.0 c.args.keeps c.leave.ensures.map c.settle.ensures.settled (ne_eqb c.self.inside.owed 0 c.if-self-eq0.false))

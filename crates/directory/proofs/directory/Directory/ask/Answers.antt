@@ -13,5 +13,7 @@ returns-then-asked-clause-gives c =
 
 pub returns-clause-gives : goal.returns-clause-gives
 returns-clause-gives c =
-    gives-from c.self.view_is (ask-asks c.self.inside.lines c.self.inside.words c.self.inside.skips c.self.inside.owed c.set_asked.new.self c.args.out.now.list.items c.push.new.self.list.items
+    gives-from c.self.view_is
+    (ask-asks c.self.inside.lines c.self.inside.words c.self.inside.skips c.self.inside.owed c.set_asked.new.self
+    c.args.out.now.list.items c.push.new.self.list.items
     c.args.owner c.args.line c.set_asked.ensures.map (sym c.asked.ensures ∙ c.if-asked.false) c.in_ok-push.ensures.sent)

@@ -13,7 +13,12 @@ use Rattle.directory.proofs.directory.Directory.settle.Goals as goal
 pub returns-then-self-eq0-clause-settled : goal.returns-then-self-eq0-clause-settled
 unfolding dir_of moved_on
 returns-then-self-eq0-clause-settled c = λ e.
-    (λ i. record { words = words_at e c.self.inside.words; serving = c.advance.ensures i; lines = c.clear_marks.ensures.map i; owed = c.self.inside.owed })
+    (λ i. record {
+      words = words_at e c.self.inside.words;
+      serving = c.advance.ensures i;
+      lines = c.clear_marks.ensures.map i;
+      owed = c.self.inside.owed;
+    })
     ∙ (sym (settled-none (dir_of e (data_of c.self.inside)) (eq-eqb c.self.inside.owed 0 c.if-self-eq0.true))
     ∙ ap (λ d. moved_on_if_settled (dir_of e d)) c.self.view_is)
 

@@ -13,5 +13,7 @@ returns-then-tid-serving-clause-gives c =
 
 pub returns-clause-gives : goal.returns-clause-gives
 returns-clause-gives c =
-    gives-from c.self.view_is (skip-takes c.self.inside.lines c.self.inside.words c.self.inside.skips c.self.inside.owed c.skip.new.self c.args.out.now.list.items c.args.tid.0
+    gives-from c.self.view_is
+    (skip-takes c.self.inside.lines c.self.inside.words c.self.inside.skips c.self.inside.owed c.skip.new.self c.args.out.now.list.items
+    c.args.tid.0
     c.in_ok-skip.ensures.kept (le-ltb c.args.tid.0 c.self.inside.skips.serving (omega (arith, c.serving.ensures))))

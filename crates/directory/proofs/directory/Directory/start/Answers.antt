@@ -4,4 +4,5 @@ use Rattle.directory.proofs.directory.Directory.start.Goals as goal
 
 pub returns-clause-start : goal.returns-clause-start
 unfolding dir_of dir_start
-returns-clause-start c = λ i. record { words = c.load_words.ensures.words i; serving = c.new-3.ensures i; lines = c.in_ok-lines.ensures.map i; owed = 0 }
+returns-clause-start c =
+    λ i. record { words = c.load_words.ensures.words i; serving = c.new-3.ensures i; lines = c.in_ok-lines.ensures.map i; owed = 0 }

@@ -26,7 +26,8 @@ returns-then-marked_lines-count c = λ e k.
     let count : c.marked_lines.result ≡ count_below (has_mark (kept c.args.self.now.lines)) (lines c.args.self.now.lines.place.shape) =
     c.marked_lines.ensures.count ∙ ap (λ d. count_below (has_mark (kept d.lines)) (lines d.lines.place.shape)) c.self.view_is in
     sym (ap is_taken (commit-unmarked c.args.self.now.lines.place.shape k c.args.tid.0 c.args.count (dir_of e c.args.self.now)
-    (ne_eqb (count_below (has_mark (kept c.args.self.now.lines)) (lines c.args.self.now.lines.place.shape)) c.args.count (λ same. c.if-marked_lines-count.true (count ∙ same)))))
+    (ne_eqb (count_below (has_mark (kept c.args.self.now.lines)) (lines c.args.self.now.lines.place.shape)) c.args.count
+    (λ same. c.if-marked_lines-count.true (count ∙ same)))))
 
 pub returns : goal.returns
 unfolding dir_of
@@ -36,4 +37,5 @@ returns c = λ e k.
     c.marked_lines.ensures.count ∙ ap (λ d. count_below (has_mark (kept d.lines)) (lines d.lines.place.shape)) c.self.view_is in
     sym (ap is_taken (commit-marked c.args.self.now.lines.place.shape k c.args.tid.0 c.args.count (dir_of e c.args.self.now)
     (eq-eqb c.args.self.now.serving.serving c.args.tid.0 (sym serving ∙ c.if-serving-tid.false))
-    (eq-eqb (count_below (has_mark (kept c.args.self.now.lines)) (lines c.args.self.now.lines.place.shape)) c.args.count (sym count ∙ c.if-marked_lines-count.false))))
+    (eq-eqb (count_below (has_mark (kept c.args.self.now.lines)) (lines c.args.self.now.lines.place.shape)) c.args.count
+    (sym count ∙ c.if-marked_lines-count.false))))

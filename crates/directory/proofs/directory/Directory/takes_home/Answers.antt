@@ -18,18 +18,21 @@ unfolding dir_of
 returns-in-Wait c = λ e m ws.
     sym (ap is_taken (home-early c.args.src.0 c.args.line.0 m ws c.args.tag.0 (dir_of e c.args.self.now)
     (ap (λ d. judge ((kept d.lines).owner c.args.line.0) ((kept d.lines).tag c.args.line.0) c.args.src.0 c.args.tag.0) (sym c.self.view_is)
-    ∙ ((λ i. judge (sym c.get-record.ensures.owner i) (sym c.get-record.ensures.tag i) c.args.src.0 c.args.tag.0) ∙ sym c.in-Wait.ensures.map))))
+    ∙ ((λ i. judge (sym c.get-record.ensures.owner i) (sym c.get-record.ensures.tag i) c.args.src.0 c.args.tag.0)
+    ∙ sym c.in-Wait.ensures.map))))
 
 pub returns-in-Drop : goal.returns-in-Drop
 unfolding dir_of
 returns-in-Drop c = λ e m ws.
     sym (ap is_taken (home-dropped c.args.src.0 c.args.line.0 m ws c.args.tag.0 (dir_of e c.args.self.now)
     (ap (λ d. judge ((kept d.lines).owner c.args.line.0) ((kept d.lines).tag c.args.line.0) c.args.src.0 c.args.tag.0) (sym c.self.view_is)
-    ∙ ((λ i. judge (sym c.get-record.ensures.owner i) (sym c.get-record.ensures.tag i) c.args.src.0 c.args.tag.0) ∙ sym c.in-Drop.ensures.map))))
+    ∙ ((λ i. judge (sym c.get-record.ensures.owner i) (sym c.get-record.ensures.tag i) c.args.src.0 c.args.tag.0)
+    ∙ sym c.in-Drop.ensures.map))))
 
 pub returns-in-Take : goal.returns-in-Take
 unfolding dir_of
 returns-in-Take c = λ e m ws.
     sym (ap is_taken (home-taken c.args.src.0 c.args.line.0 m ws c.args.tag.0 (dir_of e c.args.self.now)
     (ap (λ d. judge ((kept d.lines).owner c.args.line.0) ((kept d.lines).tag c.args.line.0) c.args.src.0 c.args.tag.0) (sym c.self.view_is)
-    ∙ ((λ i. judge (sym c.get-record.ensures.owner i) (sym c.get-record.ensures.tag i) c.args.src.0 c.args.tag.0) ∙ sym c.in-Take.ensures.map))))
+    ∙ ((λ i. judge (sym c.get-record.ensures.owner i) (sym c.get-record.ensures.tag i) c.args.src.0 c.args.tag.0)
+    ∙ sym c.in-Take.ensures.map))))

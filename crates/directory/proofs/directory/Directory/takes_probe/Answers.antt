@@ -17,10 +17,12 @@ pub returns-then-serving-tid : goal.returns-then-serving-tid
 unfolding dir_of
 returns-then-serving-tid c = λ e k.
     let serving : c.serving.result.0 ≡ c.args.self.now.serving.serving = c.serving.ensures ∙ ap (λ d. d.serving.serving) c.self.view_is in
-    sym (ap is_taken (probe-early k c.args.tid.0 (dir_of e c.args.self.now) (lt-ltb c.args.self.now.serving.serving c.args.tid.0 (omega arith))))
+    sym (ap is_taken (probe-early k c.args.tid.0 (dir_of e c.args.self.now)
+    (lt-ltb c.args.self.now.serving.serving c.args.tid.0 (omega arith))))
 
 pub returns : goal.returns
 unfolding dir_of
 returns c = λ e k.
     let serving : c.serving.result.0 ≡ c.args.self.now.serving.serving = c.serving.ensures ∙ ap (λ d. d.serving.serving) c.self.view_is in
-    sym (ap is_taken (probe-served k c.args.tid.0 (dir_of e c.args.self.now) (le-ltb c.args.self.now.serving.serving c.args.tid.0 (omega arith))))
+    sym (ap is_taken (probe-served k c.args.tid.0 (dir_of e c.args.self.now)
+    (le-ltb c.args.self.now.serving.serving c.args.tid.0 (omega arith))))

@@ -29,7 +29,8 @@ returns-clause-filled c = λ image earlier before none.
     = rw (c.as_mut_slice.ensures.value, c.as_mut_slice-2.ensures.value, c.as_mut_slice-3.ensures.value) before in
     let free : (k : ℕ) → first ≤ k → k < end → code_at c.as_mut_slice-2.result.now k ≡ false
     = λ k low high. filled.held k ∙ free-from_find image segment earlier none (base + k) (omega arith) (omega arith) in
-    rw (bytes, taken, code) (filled-more base c.as_mut_slice.result.now c.write_at.new.ram c.as_mut_slice-2.result.now c.mark.new.marks c.as_mut_slice-3.result.now c.mark-2.new.marks
+    rw (bytes, taken, code) (filled-more base c.as_mut_slice.result.now c.write_at.new.ram c.as_mut_slice-2.result.now c.mark.new.marks
+    c.as_mut_slice-3.result.now c.mark-2.new.marks
     (segments_laid earlier) segment first end filled begins ends c.requires.within free
     (rw c.contents.ensures at c.write_at.ensures.written) c.write_at.ensures.below (rw c.contents.ensures at c.write_at.ensures.above)
     c.mark.ensures.marked c.mark.ensures.below c.mark.ensures.above

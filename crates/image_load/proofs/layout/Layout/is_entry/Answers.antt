@@ -13,4 +13,5 @@ returns-then-entry-eq0 c = λ earlier laid.
     ∙ ap is_some c.code_place.ensures.value
     ∙ ap (λ base. is_some (code_place base c.deref.result.now c.args.entry)) c.base.ensures.value
     ∙ ap (λ code. is_some (code_place self.config.base code c.args.entry)) c.deref.ensures.value in
-    rw aligned (found ∙ code_place-is_some self.config.base self.bytes.items self.taken.items self.code.items (segments_laid earlier) c.args.entry laid.filled)
+    rw aligned (found ∙ code_place-is_some self.config.base self.bytes.items self.taken.items self.code.items
+    (segments_laid earlier) c.args.entry laid.filled)

@@ -8,8 +8,10 @@ use Rattle.image_load.proofs.layout.Layout.lay_image.Given as goal
 abbrev pub invariant-loop-segment : goal.invariant-loop-segment
 invariant-loop-segment l = record {
   config : l.self.config ≡ l.fn.self.config;
-  is_laid : (earlier : List Laid) → IsLaid l.fn.self earlier → IsLaid l.self (earlier ++ laid l.number (take l.segment-index l.image.segments));
+  is_laid : (earlier : List Laid) → IsLaid l.fn.self earlier
+      → IsLaid l.self (earlier ++ laid l.number (take l.segment-index l.image.segments));
   left : (earlier : List Laid) → IsLaid l.fn.self earlier →
       segments_fault l.fn.self.config l.number earlier l.image.segments
-      ≡ segments_fault l.fn.self.config l.number (earlier ++ laid l.number (take l.segment-index l.image.segments)) (drop l.segment-index l.image.segments);
+      ≡ segments_fault l.fn.self.config l.number (earlier ++ laid l.number (take l.segment-index l.image.segments))
+      (drop l.segment-index l.image.segments);
 }

@@ -6,7 +6,8 @@ use Rattle.image_load.proofs.layout.Layout.lay_segment.Goals as goal
 
 pub returns-then-not-has_room_for-clause-fault : goal.returns-then-not-has_room_for-clause-fault
 returns-then-not-has_room_for-clause-fault c = λ _ earlier laid.
-    segment_fault-outside c.args.self.now.config c.args.image earlier c.args.segment.now (sym c.has_room_for.ensures ∙ c.if-not-has_room_for.true)
+    segment_fault-outside c.args.self.now.config c.args.image earlier c.args.segment.now
+    (sym c.has_room_for.ensures ∙ c.if-not-has_room_for.true)
 
 pub returns-in-Some-clause-fault : goal.returns-in-Some-clause-fault
 returns-in-Some-clause-fault c = λ _ earlier laid.

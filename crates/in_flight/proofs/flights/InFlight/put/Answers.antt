@@ -39,7 +39,8 @@ invariant_of-self-in-Ok c =
     with_items_is i.lanes c.send_one.new.lanes (omega (arith, c.send_one.auto.lanes, c.as_mut_slice.ensures.len))
     ∙ rw c.as_mut_slice.ensures.value at c.in-Ok.ensures.sent ∙ sym (single cs ds src (c.args.dst, c.args.msg) i.lanes.items) in
     let after = subst (λ ls. Laned cs ds ls) (sym items) (sent-laned cs ds src es i.lanes.items laned links) in
-    let counted : Counted i.lanes.items i.ready i.flying = record { counted = c.self.invariant.counted; flying = c.self.invariant.flying } in
+    let counted : Counted i.lanes.items i.ready i.flying =
+    record { counted = c.self.invariant.counted; flying = c.self.invariant.flying } in
     let counts = subst (λ ls. Counted ls i.ready (i.flying + 1)) (sym items)
     (sent-counted cs ds src es i.lanes.items i.ready i.flying laned links counted) in
     record {

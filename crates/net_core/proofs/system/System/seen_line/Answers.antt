@@ -19,7 +19,8 @@ pub loop-c-init : goal.loop-c-init
 loop-c-init c = λ k b.
     let m = machine_of c.self.inside in
     c.dated-best.ensures k b
-    ∙ best-first m c.args.self.now (word_at c.args.line.0 k) c.tag.result.0 (get_or c.line_words.result k 0) c.self.view_is c.self.invariant.dirs
+    ∙ best-first m c.args.self.now (word_at c.args.line.0 k) c.tag.result.0 (get_or c.line_words.result k 0) c.self.view_is
+    c.self.invariant.dirs
     (λ ram. home-tag ram m.dirs c.args.line.0 k c.tag.result.0 b (c.tag.ensures ram))
     (λ ram. home-word ram m.dirs c.args.line.0 k c.line_words.result b (c.line_words.ensures ram))
 

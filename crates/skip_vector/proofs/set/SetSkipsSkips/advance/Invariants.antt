@@ -5,7 +5,8 @@ use Rattle.skip_vector.proofs.set.SetSkipsSkips.advance.Given as goal
 
 abbrev pub invariant-loop-self : goal.invariant-loop-self
 invariant-loop-self l =
-    (serve_from l.self-inside.serving (window l.self-inside.serving l.self-inside.later.keys) ≡ serve_from (l.fn.self.serving + 1) l.fn.self.skips)
+    (serve_from l.self-inside.serving (window l.self-inside.serving l.self-inside.later.keys) ≡ serve_from
+    (l.fn.self.serving + 1) l.fn.self.skips)
     × (l.self-inside.serving ≤ 2 ^ 62 + 1)
     × Rises l.self-inside.serving l.self-inside.later.keys
 

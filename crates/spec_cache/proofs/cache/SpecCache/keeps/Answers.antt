@@ -8,4 +8,5 @@ returns-in-None c = rw (sym c.self.view_is) (nothing_kept c.self.inside.frames c
 
 pub returns-in-Some : goal.returns-in-Some
 returns-in-Some c =
-    rw (sym c.self.view_is) (keeps_here c.self.inside.frames c.find.ensures.in_order c.args.line.0 (c.in-Some.field-0-0, c.in-Some.frame) c.in-Some.ensures.found)
+    rw (sym c.self.view_is) (keeps_here c.self.inside.frames c.find.ensures.in_order c.args.line.0
+    (c.in-Some.field-0-0, c.in-Some.frame) c.in-Some.ensures.found)

@@ -5,6 +5,7 @@ use Rattle.spec_cache.proofs.cache.SpecCache.look_at_set.Given as goal
 
 abbrev pub invariant-loop-way : goal.invariant-loop-way
 invariant-loop-way l = record {
-  counted : l.count ≡ count_below (λ y. useful_in (wants_of l.wants) l.set (get_or l.self-inside.frames.frames (l.set * l.ways + y) None)) l.way;
+  counted : l.count ≡ count_below (λ y. useful_in (wants_of l.wants) l.set (get_or l.self-inside.frames.frames (l.set * l.ways + y) None))
+      l.way;
   most : l.count ≤ l.way;
 }

@@ -14,18 +14,25 @@ loop-way-init c = ap (λ x. x + c.args.left) (count_below-zero _) ∙ omega arit
 
 pub loop-way-preserved : goal.loop-way-preserved
 loop-way-preserved c =
-    let p : ℕ → Bool = λ y. useful_in (wants_of c.args.wants) c.args.set (get_or c.self.inside.frames.frames (c.args.set * c.ways-ways.result + y) None) in
+    let p : ℕ
+    → Bool =
+    λ y. useful_in (wants_of c.args.wants) c.args.set (get_or c.self.inside.frames.frames (c.args.set * c.ways-ways.result + y) None) in
     let test : p c.loop-way.way ≡ c.finds.result = rw (c.finds.ensures, c.way.ensures.value) refl in
     elim c.if-finds.branch [
-      | then-finds+else-left-eq0 w ↦ (let m = counted_more p c.loop-way.way (count_below p c.loop-way.way) refl (count_below p c.loop-way.way + 1) refl (test ∙ w.if-finds.true) in
+      | then-finds+else-left-eq0 w
+          ↦ (let m = counted_more p c.loop-way.way (count_below p c.loop-way.way) refl (count_below p c.loop-way.way + 1) refl
+          (test ∙ w.if-finds.true) in
           ap (λ x. x + c.if-finds.left) (sym m) ∙ omega (arith, w.left-is, w.if-left-eq0.false, c.loop-way.invariant))
-      | else-finds w ↦ (let m = counted_same p c.loop-way.way (count_below p c.loop-way.way) refl (count_below p c.loop-way.way) refl (test ∙ w.if-finds.false) in
+      | else-finds w ↦ (let m = counted_same p c.loop-way.way (count_below p c.loop-way.way) refl (count_below p c.loop-way.way) refl
+          (test ∙ w.if-finds.false) in
           ap (λ x. x + c.if-finds.left) (sym m) ∙ omega (arith, w.left-is, c.loop-way.invariant))
     ]
 
 pub unreachable-requires : goal.unreachable-requires
 unreachable-requires c =
     let all = set_whole (useful_in (wants_of c.args.wants) c.args.set) c.self.inside.frames c.args.set _ c.ways-ways.result c.loop-way.way
-    (c.ways-ways.ensures.value ∙ ap (λ (x : Settings). x.ways) c.config.ensures.value) (omega (arith, c.loop-way-test.false, c.loop-way.auto.way-end)) refl in
-    let more : c.args.left < count_set (useful_in (wants_of c.args.wants) c.args.set) c.self.inside.frames c.args.set = rw (sym c.self.view_is) at c.requires.more in
+    (c.ways-ways.ensures.value ∙ ap (λ (x : Settings). x.ways) c.config.ensures.value)
+    (omega (arith, c.loop-way-test.false, c.loop-way.auto.way-end)) refl in
+    let more : c.args.left < count_set (useful_in (wants_of c.args.wants) c.args.set) c.self.inside.frames c.args.set =
+    rw (sym c.self.view_is) at c.requires.more in
     omega (arith, all, more, c.loop-way.invariant)

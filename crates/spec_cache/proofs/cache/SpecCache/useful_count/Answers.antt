@@ -13,7 +13,8 @@ overflow_add-result c =
 pub overflow_sub-result : goal.overflow_sub-result
 overflow_sub-result c =
     let h = c.args.self.now in
-    let sets : c.sets-sets.result ≡ h.config.sets = rw c.self.view_is at (c.sets-sets.ensures.value ∙ ap (λ (x : Settings). x.sets) c.config.ensures.value) in
+    let sets : c.sets-sets.result ≡ h.config.sets =
+    rw c.self.view_is at (c.sets-sets.ensures.value ∙ ap (λ (x : Settings). x.sets) c.config.ensures.value) in
     let e = put_right_as h (rw c.self.view_is at c.config.ensures.in_order) (wants_of c.args.wants) c.sets-sets.result c.useful_ways.result
     c.found_in.result c.found_in-2.result c.counted_in.result c.counted_in-2.result c.room_set-room.result c.line_set-line.result sets
     c.room_set-room.ensures.value c.room_set-room.ensures.exists c.line_set-line.ensures.value c.line_set-line.ensures.exists
@@ -24,7 +25,8 @@ overflow_sub-result c =
 pub returns : goal.returns
 returns c =
     let h = c.args.self.now in
-    let sets : c.sets-sets.result ≡ h.config.sets = rw c.self.view_is at (c.sets-sets.ensures.value ∙ ap (λ (x : Settings). x.sets) c.config.ensures.value) in
+    let sets : c.sets-sets.result ≡ h.config.sets =
+    rw c.self.view_is at (c.sets-sets.ensures.value ∙ ap (λ (x : Settings). x.sets) c.config.ensures.value) in
     let e = put_right_as h (rw c.self.view_is at c.config.ensures.in_order) (wants_of c.args.wants) c.sets-sets.result c.useful_ways.result
     c.found_in.result c.found_in-2.result c.counted_in.result c.counted_in-2.result c.room_set-room.result c.line_set-line.result sets
     c.room_set-room.ensures.value c.room_set-room.ensures.exists c.line_set-line.ensures.value c.line_set-line.ensures.exists

@@ -5,4 +5,5 @@ use Rattle.spec_cache.proofs.cache.SpecCache.useful_way.Given as goal
 
 abbrev pub invariant-loop-set : goal.invariant-loop-set
 invariant-loop-set l =
-    count_below (λ i. useful_in (wants_of l.wants) (i / l.self.config.ways) (get_or l.self.frames i None)) (l.set * l.self.config.ways) + l.left ≡ l.k
+    count_below (λ i. useful_in (wants_of l.wants) (i / l.self.config.ways) (get_or l.self.frames i None))
+    (l.set * l.self.config.ways) + l.left ≡ l.k

@@ -5,4 +5,5 @@ use Rattle.spec_cache.proofs.cache.SpecCache.write_count.Goals as goal
 
 pub returns : goal.returns
 returns c =
-    rw (sym c.self.view_is) (write_counted c.self.inside.frames c.write_count.ensures.in_order c.args.d.0 c.write_count.result (unfold count_ways in c.write_count.ensures.number))
+    rw (sym c.self.view_is) (write_counted c.self.inside.frames c.write_count.ensures.in_order c.args.d.0 c.write_count.result
+    (unfold count_ways in c.write_count.ensures.number))

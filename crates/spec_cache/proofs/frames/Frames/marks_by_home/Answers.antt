@@ -13,8 +13,10 @@ loop-line-init g c = record {
 pub seek-requires : goal.seek-requires
 seek-requires g c =
     let l : ℕ = get_or c.deref-line-items.result.now c.loop-line.line-index 0 in
-    let m : Contains c.deref-line-items.result.now l = Contains-get_or c.deref-line-items.result.now c.loop-line.line-index 0 (omega arith) in
-    collected_held (g.Self.Ways.held c.args.self.now) c.written_at.ensures.in_order c.args.d.0 c.in_ok-lines.lines.items c.in_ok-lines.ensures.lines l
+    let m : Contains c.deref-line-items.result.now l = Contains-get_or c.deref-line-items.result.now c.loop-line.line-index 0
+    (omega arith) in
+    collected_held (g.Self.Ways.held c.args.self.now) c.written_at.ensures.in_order c.args.d.0 c.in_ok-lines.lines.items
+    c.in_ok-lines.ensures.lines l
     ((c.put_in_order.ensures.same l).0 (subst (λ (xs : List ℕ). Contains xs l) c.deref-line-items.ensures.value m))
 
 pub push_reserved-requires : goal.push_reserved-requires
@@ -22,13 +24,21 @@ push_reserved-requires g c = omega (arith, c.loop-line.invariant.room, c.loop-li
 
 pub loop-line-preserved : goal.loop-line-preserved
 loop-line-preserved g c = record {
-  made = rw c.push_reserved.ensures.items (marks_more (g.Self.Ways.held c.args.self.now) c.seek.ensures.in_order c.deref-line-items.result.now c.loop-line.line-index c.loop-line.marks.items (c.seek.result.1.line, c.seek.result.1.modified)
-      (omega arith) c.loop-line.invariant.made (mark_here (g.Self.Ways.held c.args.self.now) c.seek.ensures.in_order (get_or c.deref-line-items.result.now c.loop-line.line-index 0) c.seek.result c.seek.ensures.found));
+  made =
+      rw c.push_reserved.ensures.items
+      (marks_more (g.Self.Ways.held c.args.self.now) c.seek.ensures.in_order c.deref-line-items.result.now c.loop-line.line-index
+      c.loop-line.marks.items (c.seek.result.1.line, c.seek.result.1.modified)
+      (omega arith) c.loop-line.invariant.made
+      (mark_here (g.Self.Ways.held c.args.self.now) c.seek.ensures.in_order
+      (get_or c.deref-line-items.result.now c.loop-line.line-index 0) c.seek.result c.seek.ensures.found));
   count = omega (arith, c.push_reserved.ensures.len, c.loop-line.invariant.count);
   room = omega (arith, c.push_reserved.ensures.capacity, c.loop-line.invariant.room);
 }
 
 pub returns : goal.returns
 returns g c =
-    marks_whole (g.Self.Ways.held c.args.self.now) c.written_at.ensures.in_order c.args.d.0 c.deref-line-items.result.now c.loop-line.line-index c.loop-line.marks.items (omega arith) c.loop-line.invariant.made
-    (c.deref-line-items.ensures.value ∙ collects_written (g.Self.Ways.held c.args.self.now) c.written_at.ensures.in_order c.args.d.0 c.in_ok-lines.lines.items c.in_ok-lines.ensures.lines c.put_in_order.new.lines.items c.put_in_order.ensures.rising c.put_in_order.ensures.same)
+    marks_whole (g.Self.Ways.held c.args.self.now) c.written_at.ensures.in_order c.args.d.0 c.deref-line-items.result.now
+    c.loop-line.line-index c.loop-line.marks.items (omega arith) c.loop-line.invariant.made
+    (c.deref-line-items.ensures.value ∙ collects_written (g.Self.Ways.held c.args.self.now) c.written_at.ensures.in_order c.args.d.0
+    c.in_ok-lines.lines.items c.in_ok-lines.ensures.lines c.put_in_order.new.lines.items c.put_in_order.ensures.rising
+    c.put_in_order.ensures.same)

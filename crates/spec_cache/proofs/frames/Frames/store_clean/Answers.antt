@@ -14,7 +14,9 @@ no_part f e = rw e refl
 
 pub put-requires-clause-fits : goal.put-requires-clause-fits
 put-requires-clause-fits g c =
-    fits_stored (g.Self.Ways.held c.args.self.now) c.find.ensures.in_order c.line_of_word-line.result.0 (c.in-Some.at, c.in-Some.frame) c.in-Some.ensures.found _ c.place_of_word.result c.args.value c.args.mark_read (rw c.place_of_word.ensures (omega arith)) c.store.ensures.frame
+    fits_stored (g.Self.Ways.held c.args.self.now) c.find.ensures.in_order c.line_of_word-line.result.0
+    (c.in-Some.at, c.in-Some.frame) c.in-Some.ensures.found _ c.place_of_word.result c.args.value c.args.mark_read
+    (rw c.place_of_word.ensures (omega arith)) c.store.ensures.frame
 
 pub returns-clause-does : goal.returns-clause-does
 returns-clause-does g c =
@@ -22,9 +24,11 @@ returns-clause-does g c =
     let l = c.line_of_word-line.result.0 in
     let f = c.in-Some.frame in
     record {
-      held = ap (maps h).held (sym c.line_of_word-line.ensures) ∙ is_held h c.find.ensures.in_order l (c.in-Some.at, f) c.in-Some.ensures.found;
+      held = ap (maps h).held (sym c.line_of_word-line.ensures)
+          ∙ is_held h c.find.ensures.in_order l (c.in-Some.at, f) c.in-Some.ensures.found;
       clean = ap (dirty_copy (maps h)) (sym c.line_of_word-line.ensures)
           ∙ sym (part_of h c.find.ensures.in_order l (c.in-Some.at, f) c.in-Some.ensures.found None (no_part f c.if-frame-ne0.false));
-      maps = stored_maps h c.find.ensures.in_order l (c.in-Some.at, f) c.in-Some.ensures.found _ _ c.put.ensures c.args.w.0 c.line_of_word-line.ensures c.args.value c.args.mark_read
+      maps = stored_maps h c.find.ensures.in_order l (c.in-Some.at, f) c.in-Some.ensures.found _ _ c.put.ensures c.args.w.0
+          c.line_of_word-line.ensures c.args.value c.args.mark_read
           (c.store.ensures.frame ∙ ap (λ k. stored_frame k c.args.value c.args.mark_read f) c.place_of_word.ensures);
     }

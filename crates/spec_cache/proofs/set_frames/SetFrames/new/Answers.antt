@@ -7,4 +7,5 @@ returns-clause-in_order c = rw c.in_ok-new.ensures (IsHeld-empty c.args.cfg.now 
 
 pub invariant_of-result : goal.invariant_of-result
 invariant_of-result c =
-    rw (c.in_ok-new-2.ensures, c.in_ok-new.ensures, c.sets.ensures.value, c.ways.ensures.value) (IsIndexed-empty c.args.cfg.now c.sets.ensures.allowed)
+    rw (c.in_ok-new-2.ensures, c.in_ok-new.ensures, c.sets.ensures.value, c.ways.ensures.value)
+    (IsIndexed-empty c.args.cfg.now c.sets.ensures.allowed)

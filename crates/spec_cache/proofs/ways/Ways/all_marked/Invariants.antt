@@ -5,4 +5,5 @@ use Rattle.spec_cache.specs.Held.{maps}
 use Rattle.spec_cache.proofs.ways.Ways.all_marked.Given as goal
 
 abbrev pub invariant-loop-way : goal.invariant-loop-way
-invariant-loop-way g l = all_below (λ y. way_marked (maps (g.Self.Ways.held l.self)) ((maps (g.Self.Ways.held l.self)).at l.set y)) l.way ≡ true
+invariant-loop-way g l = all_below (λ y. way_marked (maps (g.Self.Ways.held l.self)) ((maps (g.Self.Ways.held l.self)).at l.set y)) l.way
+    ≡ true

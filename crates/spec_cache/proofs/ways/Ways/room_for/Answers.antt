@@ -10,9 +10,11 @@ returns-then-is_some g c =
 pub returns-then-all_marked : goal.returns-then-all_marked
 returns-then-all_marked g c =
     look_line-marked (g.Self.Ways.held c.args.self.now) c.args.line.0 c.requires c.set_of_line-set.result c.set_of_line-set.ensures.value
-    c.free_way.result c.free_way.ensures.value (sym c.is_some.ensures ∙ c.if-is_some.false) (sym c.if-all_marked.true ∙ c.all_marked.ensures)
+    c.free_way.result c.free_way.ensures.value (sym c.is_some.ensures ∙ c.if-is_some.false)
+    (sym c.if-all_marked.true ∙ c.all_marked.ensures)
 
 pub returns-else-all_marked : goal.returns-else-all_marked
 returns-else-all_marked g c =
     look_line-unmarked (g.Self.Ways.held c.args.self.now) c.args.line.0 c.requires c.set_of_line-set.result c.set_of_line-set.ensures.value
-    c.free_way.result c.free_way.ensures.value (sym c.is_some.ensures ∙ c.if-is_some.false) (sym c.if-all_marked.false ∙ c.all_marked.ensures)
+    c.free_way.result c.free_way.ensures.value (sym c.is_some.ensures ∙ c.if-is_some.false)
+    (sym c.if-all_marked.false ∙ c.all_marked.ensures)
