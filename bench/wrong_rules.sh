@@ -1,35 +1,35 @@
 #!/bin/bash
-# Tries the changed rules of bench/wrong_rules, beside those that the gate tries (must-fail/ of tcc_rules and bus_rules): each edit
+# Tries the changed rules of bench/wrong_rules, beside those that the gate tries (must-fail/ of rules_tcc and rules_bus): each edit
 # changes one definition, and a worked schedule must refuse it. An edit is tried on the crate of its definition. So the schedules of
-# tcc_worked stand in tcc_rules here, in a copy, and with them the definitions of other crates that edits change: the changes of
-# caches (tcc_maps) and who is held back (phase_rules). Edits whose names begin with bus_ are of bus_rules. It takes some minutes, and
+# rules_worked stand in rules_tcc here, in a copy, and with them the definitions of other crates that edits change: the changes of
+# caches (rules_maps) and who is held back (theorem_phases). Edits whose names begin with bus_ are of rules_bus. It takes some minutes, and
 # ends with 1 where an edit isn't refused. Words after its name are the edits to try, without '.edit'; else it tries all.
 set -eu
 cd "$(dirname "$0")/.."
 copy=$(mktemp -d)
 trap 'rm -rf "$copy"' EXIT
 
-below='tcc_base tcc_program tcc_maps reg_checkpoint rv_decode rv_exec image_elf image_load rv_code rv_plain'
-rules=$copy/crates/tcc_rules bus=$copy/crates/bus_rules
+below='tcc_base rules_program rules_maps reg_checkpoint rv_decode rv_exec image_elf image_load rv_code rv_plain'
+rules=$copy/crates/rules_tcc bus=$copy/crates/rules_bus
 mkdir "$copy/crates"
 cp HANDLES "$copy"
-grep -E "^(${below// /|}|bus_rules):" crates.txt > "$copy/crates.txt"
-grep '^tcc_worked:' crates.txt | sed 's/^tcc_worked/tcc_rules/; s/ \(tcc_rules\|phase_rules\)\b//g' >> "$copy/crates.txt"
-for crate in $below tcc_rules bus_rules; do
+grep -E "^(${below// /|}|rules_bus):" crates.txt > "$copy/crates.txt"
+grep '^rules_worked:' crates.txt | sed 's/^rules_worked/rules_tcc/; s/ \(rules_tcc\|theorem_phases\)\b//g' >> "$copy/crates.txt"
+for crate in $below rules_tcc rules_bus; do
     cp -r "crates/$crate" "$copy/crates"
     rm -rf "$copy/crates/$crate/must-fail"
 done
 
-cat crates/tcc_worked/specs/Lib.antt >> "$rules/specs/Lib.antt"
+cat crates/rules_worked/specs/Lib.antt >> "$rules/specs/Lib.antt"
 printf 'pub mod %s\n' CacheChange Phases Phased >> "$rules/specs/Lib.antt"
-grep -v -e '^//!' -e '^#!' crates/tcc_worked/src/lib.rt >> "$rules/src/lib.rt"
-for file in crates/tcc_worked/specs/*.antt; do
+grep -v -e '^//!' -e '^#!' crates/rules_worked/src/lib.rt >> "$rules/src/lib.rt"
+for file in crates/rules_worked/specs/*.antt; do
     case $file in */Lib.antt) ;; *) cp "$file" "$rules/specs" ;; esac
 done
-cp crates/tcc_maps/specs/CacheChange.antt crates/phase_rules/specs/Phase{s,d}.antt "$rules/specs"
-cp -r crates/tcc_worked/proofs/* "$rules/proofs"
-find "$rules" "$bus" -name '*.antt' -o -name '*.rt' | xargs sed -i 's/Rattle\.tcc_maps\.specs\.CacheChange\./Rattle.tcc_rules.specs.CacheChange./g
-    s/Rattle\.\(tcc_worked\|phase_rules\)\./Rattle.tcc_rules./g'
+cp crates/rules_maps/specs/CacheChange.antt crates/theorem_phases/specs/Phase{s,d}.antt "$rules/specs"
+cp -r crates/rules_worked/proofs/* "$rules/proofs"
+find "$rules" "$bus" -name '*.antt' -o -name '*.rt' | xargs sed -i 's/Rattle\.rules_maps\.specs\.CacheChange\./Rattle.rules_tcc.specs.CacheChange./g
+    s/Rattle\.\(rules_worked\|theorem_phases\)\./Rattle.rules_tcc./g'
 
 mkdir "$rules/must-fail" "$bus/must-fail"
 [ $# != 0 ] || set -- $(ls bench/wrong_rules | sed 's/\.edit$//')
@@ -49,6 +49,6 @@ refused() {
 }
 
 failed=0
-refused tcc_rules || failed=1
-refused bus_rules || failed=1
+refused rules_tcc || failed=1
+refused rules_bus || failed=1
 exit "$failed"

@@ -5,25 +5,25 @@ use Rattle.std.specs.Prelude.{is_some, unwrap_or, IfSome}
 use Rattle.std.proofs.lemmas.Bool.{cases_eq}
 use Rattle.std.proofs.lemmas.Bool.Decides.{nat_tests}
 use Rattle.rv_code.specs.Machine.{program}
-use Rattle.tcc_maps.specs.Cache.{is_modified}
-use Rattle.tcc_maps.specs.Shape.{Shape, lines}
-use Rattle.tcc_maps.specs.Spilled.{holds}
-use Rattle.tcc_maps.specs.Words.{any_below, any_word, line_of, or_else, place_of, put, word_at}
-use Rattle.tcc_maps.proofs.Lemmas.{any_below-at}
-use Rattle.tcc_program.specs.Program.{Need, Nothing, Loads, Stores, Changes, Prints, Ends, Halts, Traps, Program}
-use Rattle.tcc_rules.specs.Attempt.{Out, finished}
-use Rattle.tcc_rules.specs.CoreEvict.{core_evict}
-use Rattle.tcc_rules.specs.Commit.{is_written}
-use Rattle.tcc_rules.specs.State.{CoreState, Phase, Running, AwaitTid, DoomedTid, Probing, Ready, Overflowing, Solo, Halted}
-use Rattle.bus_rules.specs.Commit.{BusStepped, all_clean, bus_commit, commit_out, others, packet, with_words, written_words, wrote_some}
-use Rattle.bus_rules.specs.Exec.{bus_exec, bus_exec_in_phase, core_changed, exec_alone, executed, goes_on}
-use Rattle.bus_rules.specs.Exec.{gone_alone, instruction, when_free}
-use Rattle.bus_rules.specs.State.{Alone, Bus, BusEvent, BusWorld, Evict, Exec, Free, Packet, Take}
-use Rattle.bus_rules.specs.Step.{BusHistory, and_noted, bus_happens, bus_names, bus_next, bus_run, bus_step, if_evicted, recorded}
-use Rattle.bus_rules.specs.Take.{bus_left, bus_take, packet_taken, take_from}
-use Rattle.bus_serial.specs.Bounds.{IsBusBounded}
-use Rattle.bus_serial.specs.Given.{bus_at_start}
-use Rattle.bus_serial.proofs.Lemmas.{riscv_bus_runs_are_bounded}
+use Rattle.rules_maps.specs.Cache.{is_modified}
+use Rattle.rules_maps.specs.Shape.{Shape, lines}
+use Rattle.rules_maps.specs.Spilled.{holds}
+use Rattle.rules_maps.specs.Words.{any_below, any_word, line_of, or_else, place_of, put, word_at}
+use Rattle.rules_maps.proofs.Lemmas.{any_below-at}
+use Rattle.rules_program.specs.Program.{Need, Nothing, Loads, Stores, Changes, Prints, Ends, Halts, Traps, Program}
+use Rattle.rules_tcc.specs.Attempt.{Out, finished}
+use Rattle.rules_tcc.specs.CoreEvict.{core_evict}
+use Rattle.rules_tcc.specs.Commit.{is_written}
+use Rattle.rules_tcc.specs.State.{CoreState, Phase, Running, AwaitTid, DoomedTid, Probing, Ready, Overflowing, Solo, Halted}
+use Rattle.rules_bus.specs.Commit.{BusStepped, all_clean, bus_commit, commit_out, others, packet, with_words, written_words, wrote_some}
+use Rattle.rules_bus.specs.Exec.{bus_exec, bus_exec_in_phase, core_changed, exec_alone, executed, goes_on}
+use Rattle.rules_bus.specs.Exec.{gone_alone, instruction, when_free}
+use Rattle.rules_bus.specs.State.{Alone, Bus, BusEvent, BusWorld, Evict, Exec, Free, Packet, Take}
+use Rattle.rules_bus.specs.Step.{BusHistory, and_noted, bus_happens, bus_names, bus_next, bus_run, bus_step, if_evicted, recorded}
+use Rattle.rules_bus.specs.Take.{bus_left, bus_take, packet_taken, take_from}
+use Rattle.theorem_bus.specs.Bounds.{IsBusBounded}
+use Rattle.theorem_bus.specs.Given.{bus_at_start}
+use Rattle.theorem_bus.proofs.Lemmas.{riscv_bus_runs_are_bounded}
 use Rattle.bus_tcc.specs.Left.{packet_words}
 use Rattle.bus_watch.specs.Happened.{core_of}
 use Rattle.bus_changes.specs.Following.{Follows, NoneInPlace, may_change}

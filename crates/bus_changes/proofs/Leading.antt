@@ -4,12 +4,12 @@ use Rattle.std.proofs.Common.{Option, Some, None, append-nil, refl, ap, ◌∙�
 use Rattle.std.specs.Prelude.{is_some, option_map}
 use Rattle.std.specs.List.{flat_map}
 use Rattle.std.proofs.lemmas.Bool.Decides.{nat_tests}
-use Rattle.tcc_maps.specs.Nodes.{Core}
-use Rattle.tcc_maps.specs.Shape.{Shape}
-use Rattle.tcc_maps.specs.Words.{all_below, any_word, those}
-use Rattle.tcc_rules.specs.Seen.{numbers}
-use Rattle.tcc_rules.specs.State.{CoreState, World, start}
-use Rattle.bus_rules.specs.State.{Bus, Free, Alone, Packet}
+use Rattle.rules_maps.specs.Nodes.{Core}
+use Rattle.rules_maps.specs.Shape.{Shape}
+use Rattle.rules_maps.specs.Words.{all_below, any_word, those}
+use Rattle.rules_tcc.specs.Seen.{numbers}
+use Rattle.rules_tcc.specs.State.{CoreState, World, start}
+use Rattle.rules_bus.specs.State.{Bus, Free, Alone, Packet}
 use Rattle.bus_tcc.specs.Packets.{PacketLine, packet_line}
 use Rattle.watch_state.specs.Cores.{attempt_records, cached_records, committed_record, core_records, ended_record, owed_record}
 use Rattle.watch_state.specs.Cores.{register_records, reserved_record}

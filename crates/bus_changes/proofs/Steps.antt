@@ -7,9 +7,9 @@ use Rattle.std.proofs.lemmas.Grind.{get_or-set_at}
 use Rattle.std.proofs.lemmas.List.{get_or-set_other, length-set}
 use Rattle.std.proofs.lemmas.List.Concat.{flat_map-append}
 use Rattle.rv_code.specs.Machine.{first_ram}
-use Rattle.tcc_maps.specs.Shape.{Shape, lines}
-use Rattle.bus_rules.specs.State as rules
-use Rattle.bus_rules.specs.State.{BusWorld}
+use Rattle.rules_maps.specs.Shape.{Shape, lines}
+use Rattle.rules_bus.specs.State as rules
+use Rattle.rules_bus.specs.State.{BusWorld}
 use Rattle.bus_tcc.specs.Left.{packet_words}
 use Rattle.bus_tcc.specs.Machine.{BusMachine, bus_of, bus_settings_of, bus_start_of, bus_world_of}
 use Rattle.bus_tcc.specs.Packets.{lines_on, packet_line_of, packet_lines}

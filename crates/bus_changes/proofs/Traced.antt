@@ -2,10 +2,10 @@
 use Rattle.std.proofs.Common.{◌≡◌, ℕ, zero, suc, Bool, List, [], ◌∷◌, ◌++◌, drop, length, Option, Some, None, append-nil, refl, ap}
 use Rattle.image_load.specs.Start.{Start}
 use Rattle.rv_code.specs.Machine.{program}
-use Rattle.tcc_program.specs.Program.{Program}
-use Rattle.tcc_maps.specs.Shape.{Shape}
-use Rattle.bus_rules.specs.State.{BusEvent, BusWorld}
-use Rattle.bus_rules.specs.Step.{BusHistory, bus_next}
+use Rattle.rules_program.specs.Program.{Program}
+use Rattle.rules_maps.specs.Shape.{Shape}
+use Rattle.rules_bus.specs.State.{BusEvent, BusWorld}
+use Rattle.rules_bus.specs.Step.{BusHistory, bus_next}
 use Rattle.schedule_text.specs.Grammar.{joined}
 use Rattle.watch_trace.specs.Text.{tail_text}
 use Rattle.bus_trace.specs.Text.{bus_event_text, bus_event_texts, bus_head_text, bus_text_from, bus_trace_text, if_enabled}

@@ -8,11 +8,11 @@ use Rattle.std.proofs.lemmas.List.{drop_all, drop_more, take_more}
 use Rattle.std.proofs.lemmas.List.Concat.{flat_map-append}
 use Rattle.std.proofs.lemmas.List.Elements.{Contains-get_or}
 use Rattle.rv_code.specs.Machine.{first_ram}
-use Rattle.tcc_maps.specs.Shape.{Shape, lines}
-use Rattle.tcc_maps.specs.Words.{line_of, those, word_at}
-use Rattle.tcc_maps.proofs.Lemmas.{those-only}
-use Rattle.tcc_rules.specs.Seen.{numbers}
-use Rattle.bus_rules.specs.State.{BusWorld}
+use Rattle.rules_maps.specs.Shape.{Shape, lines}
+use Rattle.rules_maps.specs.Words.{line_of, those, word_at}
+use Rattle.rules_maps.proofs.Lemmas.{those-only}
+use Rattle.rules_tcc.specs.Seen.{numbers}
+use Rattle.rules_bus.specs.State.{BusWorld}
 use Rattle.bus_tcc.specs.Machine.{BusMachine, bus_settings_of, bus_start_of, bus_world_of, word_in}
 use Rattle.watch_state.specs.Cores.{addr_of}
 use Rattle.bus_changes.specs.Changes.{BusChange, bus_change_line, bus_change_lines, memory_changes, value_changes, word_changes}

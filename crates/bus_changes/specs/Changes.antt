@@ -3,10 +3,10 @@ use Rattle.std.specs.Prelude.{ℕ, Bool, true, false, List, [], ◌∷◌, ◌++
 use Rattle.std.specs.Prelude.{if◌then◌else◌, is_some}
 use Rattle.std.specs.Fmt.{decimal}
 use Rattle.std.specs.List.{flat_map}
-use Rattle.tcc_maps.specs.Shape.{Shape, lines}
-use Rattle.tcc_maps.specs.Words.{all_below, any_word, word_at}
-use Rattle.tcc_rules.specs.Seen.{numbers}
-use Rattle.bus_rules.specs.State.{Bus, Free, Alone, Packet, BusWorld}
+use Rattle.rules_maps.specs.Shape.{Shape, lines}
+use Rattle.rules_maps.specs.Words.{all_below, any_word, word_at}
+use Rattle.rules_tcc.specs.Seen.{numbers}
+use Rattle.rules_bus.specs.State.{Bus, Free, Alone, Packet, BusWorld}
 use Rattle.bus_tcc.specs.Left.{packet_words}
 use Rattle.bus_tcc.specs.Packets.{PacketLine, packet_line}
 use Rattle.schedule_text.specs.Grammar.{newline}

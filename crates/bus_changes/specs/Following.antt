@@ -1,8 +1,8 @@
 -- What an event of a core leaves as it was.
 use Rattle.std.specs.Prelude.{ℕ, ◌≡◌, ◌<◌, ◌⊎◌, ◌==◌, ◌||◌, nat_le, Bool, true, false, None, is_some}
-use Rattle.tcc_maps.specs.Shape.{Shape, lines}
-use Rattle.tcc_maps.specs.Words.{any_word, line_of}
-use Rattle.bus_rules.specs.State.{Bus, BusWorld}
+use Rattle.rules_maps.specs.Shape.{Shape, lines}
+use Rattle.rules_maps.specs.Words.{any_word, line_of}
+use Rattle.rules_bus.specs.State.{Bus, BusWorld}
 use Rattle.bus_tcc.specs.Left.{packet_words}
 
 -- a packet comes, or goes, or stays as it is: none comes in place of another

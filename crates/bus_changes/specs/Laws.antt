@@ -3,11 +3,11 @@ use Rattle.std.specs.Prelude.{ℕ, ◌≡◌, Bool, List, Option, Some, option_m
 use Rattle.image_load.specs.Start.{Start}
 use Rattle.rv_code.specs.Machine.{program}
 use Rattle.tcc_base.specs.Settings.{IsAllowed}
-use Rattle.tcc_maps.specs.Shape.{Shape}
-use Rattle.tcc_rules.specs.State.{CoreState}
-use Rattle.bus_rules.specs.State.{Bus, BusEvent, BusWorld}
-use Rattle.bus_rules.specs.Step.{BusHistory, bus_next, bus_run}
-use Rattle.bus_serial.specs.Given.{bus_at_start}
+use Rattle.rules_maps.specs.Shape.{Shape}
+use Rattle.rules_tcc.specs.State.{CoreState}
+use Rattle.rules_bus.specs.State.{Bus, BusEvent, BusWorld}
+use Rattle.rules_bus.specs.Step.{BusHistory, bus_next, bus_run}
+use Rattle.theorem_bus.specs.Given.{bus_at_start}
 use Rattle.watch_changes.specs.Changes.{changes, put_on}
 use Rattle.bus_watch.specs.Happened.{core_of}
 use Rattle.bus_trace.specs.Text.{bus_trace_text}

@@ -2,9 +2,9 @@
 use Rattle.std.specs.Prelude.{ℕ, ◌≡◌, ◌<◌, ◌*◌, ◌^◌, ◌==◌, ◌||◌, ◌++◌, Bool, false, List, [], ◌∷◌, get_or, length, if◌then◌else◌}
 use Rattle.rv_code.specs.Machine.{first_ram}
 use Rattle.tcc_base.specs.declared.access.Tagged.{Tagged}
-use Rattle.tcc_maps.specs.Shape.{Shape, lines}
-use Rattle.tcc_maps.specs.Words.{those}
-use Rattle.bus_rules.specs.State.{BusWorld}
+use Rattle.rules_maps.specs.Shape.{Shape, lines}
+use Rattle.rules_maps.specs.Words.{those}
+use Rattle.rules_bus.specs.State.{BusWorld}
 use Rattle.bus_tcc.specs.Machine.{BusMachine, bus_settings_of, bus_start_of, bus_world_of, word_in}
 use Rattle.bus_changes.specs.Changes.{bus_change_lines, memory_changes}
 use Rattle.bus_changes.specs.Following.{may_change}

@@ -1,8 +1,8 @@
 -- What the code keeps, in the words of the definitions.
 use Rattle.std.specs.Prelude.{ℕ, ◌≡◌, ◌<◌, ◌*◌, List, [], ◌++◌, get_or, length, map}
 use Rattle.rv_code.specs.Machine.{first_ram}
-use Rattle.tcc_maps.specs.Shape.{Shape, lines}
-use Rattle.bus_rules.specs.State.{BusWorld}
+use Rattle.rules_maps.specs.Shape.{Shape, lines}
+use Rattle.rules_bus.specs.State.{BusWorld}
 use Rattle.bus_tcc.specs.Left.{packet_words}
 use Rattle.bus_tcc.specs.Machine.{BusMachine, bus_of, bus_settings_of, bus_start_of, bus_world_of, word_in}
 use Rattle.bus_tcc.specs.Packets.{lines_on, packet_line_of, packet_lines}

@@ -4,10 +4,10 @@
 use Rattle.std.specs.Prelude.{ℕ, zero, suc, Bool, true, false, List, [], ◌∷◌, ◌++◌, Option, Some, None, length, map}
 use Rattle.image_load.specs.Start.{Start}
 use Rattle.rv_code.specs.Machine.{first_ram, program}
-use Rattle.tcc_program.specs.Program.{Program}
-use Rattle.tcc_maps.specs.Shape.{Shape}
-use Rattle.bus_rules.specs.State.{BusEvent, BusWorld}
-use Rattle.bus_rules.specs.Step.{BusHistory, bus_next}
+use Rattle.rules_program.specs.Program.{Program}
+use Rattle.rules_maps.specs.Shape.{Shape}
+use Rattle.rules_bus.specs.State.{BusEvent, BusWorld}
+use Rattle.rules_bus.specs.Step.{BusHistory, bus_next}
 use Rattle.schedule_text.specs.Grammar.{joined}
 use Rattle.watch_trace.specs.Text.{tail_text}
 use Rattle.watch_changes.specs.Changes.{all_lines, change_lines, changes}

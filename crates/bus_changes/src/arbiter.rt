@@ -1,7 +1,7 @@
 // The next TID and who has the bus, compared with what they were.
 ghost use Rattle.std.specs.Prelude.{◌≡◌, ◌≤◌, ◌++◌, OnOk, string_bytes};
-ghost use Rattle.tcc_maps.specs.Masks.{has};
-ghost use Rattle.tcc_maps.specs.Words.{all_below};
+ghost use Rattle.rules_maps.specs.Masks.{has};
+ghost use Rattle.rules_maps.specs.Words.{all_below};
 ghost use Rattle.bus_tcc.specs.Machine.{bus_of, bus_settings_of, bus_world_of};
 ghost use Rattle.bus_state.specs.Parts.{holding};
 ghost use Rattle.bus_state.specs.Plain.{holding_of as plain_holding};
@@ -15,7 +15,7 @@ use tcc_base::{CoreId, Tid};
 use watch_state::only_below;
 
 /// Whether two sets have the same cores below a number.
-#[tactic(auto, unfolding(tcc_maps::specs::Words::all_below))]
+#[tactic(auto, unfolding(rules_maps::specs::Words::all_below))]
 fn same_left(a: CoreSet, b: CoreSet, cores: u8) -> bool
     requires { cores ≤ 64 }
     ensures { result ≡ all_below (λ c. same_flag (has a.bits c) (has b.bits c)) cores }

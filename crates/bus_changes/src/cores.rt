@@ -1,7 +1,7 @@
 // The records of a core of a machine, as it is, compared with those that were kept.
 ghost use Rattle.std.specs.Prelude.{◌≡◌, ◌<◌, ◌++◌, ◌∷◌, [], IfOk, OnOk, get_or, length, map, set, string_bytes};
 ghost use Rattle.std.specs.List.{flat_map};
-ghost use Rattle.tcc_rules.specs.Seen.{numbers};
+ghost use Rattle.rules_tcc.specs.Seen.{numbers};
 ghost use Rattle.bus_tcc.specs.Machine.{bus_settings_of};
 ghost use Rattle.watch_state.specs.Plain.{record_of};
 ghost use Rattle.watch_changes.specs.Changes.{all_lines, change_lines, changes};
@@ -38,7 +38,7 @@ fn push_all(text: &mut String, fresh: &[Record]) -> Result<(), AllocError>
 }
 
 /// The records of each core, and their lines.
-#[tactic(auto, unfolding(tcc_maps::specs::Words::those))]
+#[tactic(auto, unfolding(rules_maps::specs::Words::those))]
 pub(crate) fn begin_cores(
     alloc: Global,
     text: &mut String,

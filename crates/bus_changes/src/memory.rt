@@ -2,10 +2,10 @@
 ghost use Rattle.std.specs.Prelude.{◌≡◌, ◌<◌, ◌*◌, ◌/◌, ◌^◌, ◌==◌, ◌++◌, ◌∷◌, [], IfOk, OnOk, length, map, string_bytes};
 ghost use Rattle.std.specs.List.{flat_map};
 ghost use Rattle.rv_code.specs.Machine.{first_ram};
-ghost use Rattle.tcc_maps.specs.Shape.{lines};
-ghost use Rattle.tcc_maps.specs.Words.{line_of};
-ghost use Rattle.tcc_rules.specs.Seen.{numbers};
-ghost use Rattle.bus_rules.specs.State.{BusWorld};
+ghost use Rattle.rules_maps.specs.Shape.{lines};
+ghost use Rattle.rules_maps.specs.Words.{line_of};
+ghost use Rattle.rules_tcc.specs.Seen.{numbers};
+ghost use Rattle.rules_bus.specs.State.{BusWorld};
 ghost use Rattle.bus_tcc.specs.Machine.{bus_settings_of, bus_start_of, bus_world_of, word_in};
 ghost use Rattle.bus_changes.specs.Changes.{bus_change_lines, value_changes, word_changes, words_changes};
 ghost use Rattle.bus_changes.specs.Following.{IsMemoryKept};
@@ -50,7 +50,7 @@ fn push_word(
 }
 
 /// The words of a line.
-#[tactic(auto, unfolding(crate::specs::Changes::words_changes, tcc_maps::specs::Words::those))]
+#[tactic(auto, unfolding(crate::specs::Changes::words_changes, rules_maps::specs::Words::those))]
 fn push_line(
     text: &mut String,
     was: &[u32],
@@ -128,7 +128,7 @@ fn keep_all(ram: &mut List<u32>, system: &BusSystem, touched: &[u32])
 }
 
 /// All lines below a number.
-#[tactic(auto, unfolding(tcc_maps::specs::Words::those))]
+#[tactic(auto, unfolding(rules_maps::specs::Words::those))]
 fn all_lines(alloc: Global, count: u32) -> Result<List<u32>, AllocError>
     ensures { IfOk result (λ all. all ≡ numbers count) }
 {

@@ -1,6 +1,6 @@
 // The packet that is on the bus, compared with the one that was.
 ghost use Rattle.std.specs.Prelude.{◌≡◌, ◌++◌, IfOk, OnOk, string_bytes, map};
-ghost use Rattle.tcc_maps.specs.Shape.{Shape};
+ghost use Rattle.rules_maps.specs.Shape.{Shape};
 ghost use Rattle.bus_tcc.specs.Left.{packet_words};
 ghost use Rattle.bus_tcc.specs.Machine.{bus_of};
 ghost use Rattle.bus_tcc.specs.Packets.{lines_on, packet_line_of};

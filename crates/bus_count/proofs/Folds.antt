@@ -2,7 +2,7 @@
 use Rattle.std.proofs.Common.{◌≡◌, ℕ, ◌+◌, ◌<◌, ◌≤◌, List, map, drop, get_or, length, ap, sym, ◌∙◌}
 use Rattle.std.proofs.lemmas.List.{at_drop_more, drop_all}
 use Rattle.tcc_base.specs.declared.access.Tagged.{Tagged}
-use Rattle.tcc_maps.specs.Nodes.{Node}
+use Rattle.rules_maps.specs.Nodes.{Node}
 use Rattle.bus_tcc.specs.Packets.{packet_line_of}
 use Rattle.bus_watch.specs.Plain.{bus_fact_of}
 use Rattle.bus_watch.specs.declared.fact.BusFact.{BusFact as CodeFact}

@@ -1,6 +1,6 @@
 -- All that is counted of a run on the machine with one bus: sums over the facts of its events.
 use Rattle.std.specs.Prelude.{ℕ, ◌+◌, ◌-◌, List, [], ◌∷◌, ◌++◌, length, map}
-use Rattle.tcc_maps.specs.Nodes.{Core, Inv}
+use Rattle.rules_maps.specs.Nodes.{Core, Inv}
 use Rattle.watch.specs.Facts.{Fact, Took}
 use Rattle.bus_tcc.specs.Packets.{PacketLine}
 use Rattle.bus_watch.specs.Facts.{BusFact, Common, TookPacket, HeldBy, SentLine, PacketOf}

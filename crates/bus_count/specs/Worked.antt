@@ -1,9 +1,9 @@
 -- What is counted of two schedules, whose facts are worked out in bus_watch.
 use Rattle.std.specs.Prelude.{ℕ, ◌≡◌, List, [], ◌∷◌, ◌++◌, map, codes}
 use Rattle.std.specs.List.{flat_map}
-use Rattle.bus_rules.specs.Cases.{alone_events, reader_events}
-use Rattle.bus_rules.specs.State.{BusEvent}
-use Rattle.bus_rules.specs.Told.{e, x}
+use Rattle.rules_bus.specs.Cases.{alone_events, reader_events}
+use Rattle.rules_bus.specs.State.{BusEvent}
+use Rattle.rules_bus.specs.Told.{e, x}
 use Rattle.bus_watch.specs.Facts.{BusFact}
 use Rattle.bus_watch.specs.Happened.{core_of}
 use Rattle.bus_watch.specs.Worked.{alone_facts, reader_facts}

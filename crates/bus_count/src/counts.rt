@@ -1,6 +1,6 @@
 // The counts of a run, which grow event by event.
 ghost use Rattle.std.specs.Prelude.{◌≡◌, ◌-◌, ◌++◌, [], IfOk, OnOk, length, map, string_bytes};
-ghost use Rattle.tcc_maps.specs.Nodes.{Core};
+ghost use Rattle.rules_maps.specs.Nodes.{Core};
 ghost use Rattle.bus_watch.specs.Facts.{SentLine, TookPacket};
 ghost use Rattle.bus_watch.specs.Plain.{bus_fact_of};
 ghost use Rattle.bus_tcc.specs.Packets.{packet_line_of};

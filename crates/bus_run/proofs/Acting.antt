@@ -1,7 +1,7 @@
 -- An event of a run that is told with records.
 use Rattle.std.proofs.Common.{◌≡◌, ℕ, ◌<◌, Bool, true, false, if◌then◌else◌, List, [], ◌++◌, append-nil, append_assoc, ap, sym, ◌∙◌, subst}
 use Rattle.image_load.specs.Contents.{Contents, started}
-use Rattle.bus_rules.specs.State.{BusEvent}
+use Rattle.rules_bus.specs.State.{BusEvent}
 use Rattle.bus_tcc.specs.Machine.{BusMachine, bus_history_of, bus_program_of, bus_settings_of, bus_start_of, bus_world_of}
 use Rattle.bus_tcc.specs.Refined.{IsBusRefined}
 use Rattle.bus_tcc.specs.Whole.{BusReached}

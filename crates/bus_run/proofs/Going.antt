@@ -4,8 +4,8 @@ use Rattle.image_load.specs.Contents.{started}
 use Rattle.rand_pcg.specs.Lcg.{Lcg}
 use Rattle.rand_pcg.specs.Pcg.{pcg32}
 use Rattle.rv_code.specs.Machine.{program}
-use Rattle.bus_rules.specs.State.{BusEvent}
-use Rattle.bus_rules.specs.Step.{and_then, bus_from, bus_next}
+use Rattle.rules_bus.specs.State.{BusEvent}
+use Rattle.rules_bus.specs.Step.{and_then, bus_from, bus_next}
 use Rattle.bus_tcc.specs.Machine.{BusMachine, bus_history_of, bus_program_of, bus_settings_of, bus_start_of}
 use Rattle.bus_tool.specs.Picking.{picks}
 use Rattle.bus_tool.proofs.Lemmas.{chosen_at, no-words, picks-none, picks-one}

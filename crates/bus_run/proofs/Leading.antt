@@ -2,9 +2,9 @@
 use Rattle.std.proofs.Common.{◌≡◌, ◌↔◌, ℕ, Bool, [], length, IsTrue, ap, sym, ◌∙◌, subst, arith}
 use Rattle.image_load.specs.Contents.{Contents, started}
 use Rattle.rv_code.specs.Machine.{program}
-use Rattle.bus_rules.specs.Step.{bus_from, bus_run}
-use Rattle.bus_rules.specs.Useful.{BusIsDone}
-use Rattle.bus_serial.specs.Given.{BusSerial}
+use Rattle.rules_bus.specs.Step.{bus_from, bus_run}
+use Rattle.rules_bus.specs.Useful.{BusIsDone}
+use Rattle.theorem_bus.specs.Given.{BusSerial}
 use Rattle.bus_tcc.specs.Machine.{bus_history_of, bus_settings_of, bus_world_of}
 use Rattle.bus_tcc.specs.Refined.{IsBusRefined}
 use Rattle.bus_tool.specs.Picking.{picks}

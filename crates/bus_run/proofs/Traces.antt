@@ -9,8 +9,8 @@ use Rattle.image_load.specs.Start.{Start}
 use Rattle.rv_code.specs.Machine.{first_ram, program}
 use Rattle.schedule_text.specs.Grammar.{joined}
 use Rattle.tcc_base.specs.Settings.{Settings}
-use Rattle.bus_rules.specs.Useful.{BusIsDone}
-use Rattle.bus_serial.specs.Given.{bus_at_start}
+use Rattle.rules_bus.specs.Useful.{BusIsDone}
+use Rattle.theorem_bus.specs.Given.{bus_at_start}
 use Rattle.bus_tcc.specs.Machine.{bus_history_of, bus_settings_of, bus_start_of, bus_world_of}
 use Rattle.bus_tcc.specs.Refined.{IsBusRefined}
 use Rattle.bus_tool.specs.Running.{bus_picked_by}

@@ -2,11 +2,11 @@
 use Rattle.std.specs.Prelude.{ℕ, ◌≡◌, Bool, List, [], ◌∷◌, Option, Some, None, length}
 use Rattle.image_load.specs.Start.{Start}
 use Rattle.rv_code.specs.Machine.{program}
-use Rattle.tcc_maps.specs.Shape.{Shape}
-use Rattle.tcc_program.specs.Program.{Program}
-use Rattle.bus_rules.specs.State.{BusEvent}
-use Rattle.bus_rules.specs.Step.{BusHistory, bus_next}
-use Rattle.bus_serial.specs.Given.{bus_at_start}
+use Rattle.rules_maps.specs.Shape.{Shape}
+use Rattle.rules_program.specs.Program.{Program}
+use Rattle.rules_bus.specs.State.{BusEvent}
+use Rattle.rules_bus.specs.Step.{BusHistory, bus_next}
+use Rattle.theorem_bus.specs.Given.{bus_at_start}
 use Rattle.bus_tool.specs.Running.{bus_picked_by}
 use Rattle.bus_watch.specs.Facts.{BusFact}
 use Rattle.bus_watch.specs.Happened.{bus_happened, core_of}

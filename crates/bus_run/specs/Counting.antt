@@ -1,6 +1,6 @@
 -- A run that is counted while it goes on.
 use Rattle.std.specs.Prelude.{ℕ, ◌≡◌, List, []}
-use Rattle.bus_rules.specs.State.{BusEvent}
+use Rattle.rules_bus.specs.State.{BusEvent}
 use Rattle.bus_tcc.specs.Machine.{BusMachine, bus_history_of, bus_program_of, bus_settings_of}
 use Rattle.bus_watch.specs.Facts.{BusFact}
 use Rattle.bus_count.specs.Counts.{BusCounts, bus_run_counted}

@@ -1,9 +1,9 @@
 -- A run that goes on event by event: what it has taken, and what is to come.
 use Rattle.std.specs.Prelude.{ℕ, ◌≡◌, ◌+◌, Bool, List, [], ◌∷◌, ◌++◌, length, Option, Some, None}
 use Rattle.image_load.specs.Contents.{Contents, started}
-use Rattle.bus_rules.specs.State.{BusEvent}
-use Rattle.bus_rules.specs.Step.{BusHistory, bus_from}
-use Rattle.bus_serial.specs.Given.{bus_at_start}
+use Rattle.rules_bus.specs.State.{BusEvent}
+use Rattle.rules_bus.specs.Step.{BusHistory, bus_from}
+use Rattle.theorem_bus.specs.Given.{bus_at_start}
 use Rattle.bus_tcc.specs.Machine.{BusMachine, bus_history_of, bus_program_of, bus_settings_of, bus_start_of}
 use Rattle.bus_tool.specs.Picking.{picks}
 use Rattle.bus_tool.specs.Running.{seeded}

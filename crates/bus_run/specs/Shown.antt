@@ -3,7 +3,7 @@ use Rattle.std.specs.Prelude.{ℕ, ◌≡◌, ◌+◌, ◌≤◌, Bool, true, fa
 use Rattle.std.specs.Io.KnownBytes.{Appends}
 use Rattle.image_load.specs.Contents.{Contents, started}
 use Rattle.rv_code.specs.Machine.{first_ram}
-use Rattle.bus_rules.specs.State.{BusWorld}
+use Rattle.rules_bus.specs.State.{BusWorld}
 use Rattle.bus_tcc.specs.Machine.{BusMachine, bus_history_of, bus_program_of, bus_settings_of, bus_start_of, bus_world_of}
 use Rattle.bus_changes.specs.Plain.{BusParts, IsKept}
 use Rattle.bus_changes.specs.Text.{bus_changes_lines, bus_shown_from, bus_with_records}

@@ -4,9 +4,9 @@ use Rattle.std.specs.Io.KnownBytes.{Appends}
 use Rattle.image_load.specs.Start.{Start}
 use Rattle.rv_code.specs.Machine.{program}
 use Rattle.tcc_world.specs.Faults.{Rose}
-use Rattle.bus_rules.specs.State.{BusEvent}
-use Rattle.bus_rules.specs.Step.{BusHistory}
-use Rattle.bus_serial.specs.Given.{bus_at_start}
+use Rattle.rules_bus.specs.State.{BusEvent}
+use Rattle.rules_bus.specs.Step.{BusHistory}
+use Rattle.theorem_bus.specs.Given.{bus_at_start}
 use Rattle.bus_tool.specs.Running.{bus_picked_by}
 use Rattle.bus_trace.specs.Text.{bus_head_text, bus_text_from, bus_trace_text}
 use Rattle.bus_changes.specs.Text.{bus_shown_from, bus_states_text, bus_with_records}

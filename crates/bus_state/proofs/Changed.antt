@@ -1,6 +1,6 @@
 -- A word of memory that isn't as it was loaded.
 use Rattle.std.proofs.Common.{◌≡◌, ℕ, ◌==◌, if◌then◌else◌, [], ◌∷◌}
-use Rattle.tcc_maps.specs.Shape.{Shape}
+use Rattle.rules_maps.specs.Shape.{Shape}
 use Rattle.watch_state.specs.Cores.{addr_of}
 use Rattle.bus_state.specs.Parts.{memory_record}
 use Rattle.bus_state.specs.Records.{MemoryWord}

@@ -1,6 +1,6 @@
 -- What is written of an event that is enabled.
 use Rattle.std.proofs.Common.{ℕ, List}
-use Rattle.bus_rules.specs.State.{BusEvent}
+use Rattle.rules_bus.specs.State.{BusEvent}
 use Rattle.bus_tcc.specs.Machine.{BusMachine, bus_program_of, bus_settings_of, bus_world_of}
 use Rattle.bus_state.specs.Text.{enabled_text}
 

@@ -2,11 +2,11 @@
 -- the arbiter.
 use Rattle.std.specs.Prelude.{ℕ, List, [], ◌∷◌, ◌++◌, ◌==◌, map, if◌then◌else◌}
 use Rattle.std.specs.List.{flat_map}
-use Rattle.tcc_maps.specs.Shape.{Shape, lines}
-use Rattle.tcc_maps.specs.Words.{those, word_at}
-use Rattle.tcc_rules.specs.Seen.{numbers}
-use Rattle.tcc_rules.specs.State.{CoreState}
-use Rattle.bus_rules.specs.State.{Bus, Free, Alone, Packet, BusWorld}
+use Rattle.rules_maps.specs.Shape.{Shape, lines}
+use Rattle.rules_maps.specs.Words.{those, word_at}
+use Rattle.rules_tcc.specs.Seen.{numbers}
+use Rattle.rules_tcc.specs.State.{CoreState}
+use Rattle.rules_bus.specs.State.{Bus, Free, Alone, Packet, BusWorld}
 use Rattle.bus_tcc.specs.Left.{packet_words}
 use Rattle.bus_tcc.specs.Packets.{packet_lines}
 use Rattle.watch_state.specs.Cores.{addr_of, cached_records, register_records}

@@ -1,6 +1,6 @@
 -- The records of the code as the records that are defined.
-use Rattle.tcc_maps.specs.Masks.{has}
-use Rattle.tcc_maps.specs.Words.{those}
+use Rattle.rules_maps.specs.Masks.{has}
+use Rattle.rules_maps.specs.Words.{those}
 use Rattle.bus_tcc.specs.Packets.{packet_line_of}
 use Rattle.bus_state.specs.Records as plain
 use Rattle.bus_state.specs.declared.records.BusRecord.{BusRecord}

@@ -3,12 +3,12 @@ use Rattle.std.specs.Prelude.{ℕ, Bool, List, [], ◌++◌, codes, is_some, map
 use Rattle.std.specs.List.{flat_map}
 use Rattle.image_load.specs.Start.{Start}
 use Rattle.rv_code.specs.Machine.{first_ram, program}
-use Rattle.tcc_program.specs.Program.{Program}
-use Rattle.tcc_maps.specs.Shape.{Shape}
-use Rattle.tcc_rules.specs.Seen.{numbers}
-use Rattle.bus_rules.specs.State.{BusEvent, BusWorld, Evict}
-use Rattle.bus_rules.specs.Step.{BusHistory, bus_step}
-use Rattle.bus_rules.specs.Useful.{bus_evicts, bus_execs, bus_is_useful, bus_takes}
+use Rattle.rules_program.specs.Program.{Program}
+use Rattle.rules_maps.specs.Shape.{Shape}
+use Rattle.rules_tcc.specs.Seen.{numbers}
+use Rattle.rules_bus.specs.State.{BusEvent, BusWorld, Evict}
+use Rattle.rules_bus.specs.Step.{BusHistory, bus_step}
+use Rattle.rules_bus.specs.Useful.{bus_evicts, bus_execs, bus_is_useful, bus_takes}
 use Rattle.schedule_text.specs.Grammar.{newline}
 use Rattle.report_text.specs.Lines.{end_line, events_line}
 use Rattle.bus_trace.specs.Lines.{bus_config_line, bus_event_line}

@@ -43,7 +43,7 @@ fn push_core(
 }
 
 /// The records of all cores. It takes memory for those of one.
-#[tactic(auto, unfolding(tcc_maps::specs::Words::those, watch_state::specs::Lines::record_lines, crate::specs::Parts::cores_records))]
+#[tactic(auto, unfolding(rules_maps::specs::Words::those, watch_state::specs::Lines::record_lines, crate::specs::Parts::cores_records))]
 pub(crate) fn push_cores(
     alloc: Global,
     text: &mut String,

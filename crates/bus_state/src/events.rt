@@ -1,12 +1,12 @@
 // The events that are enabled, a line for each appended to a text. Where memory runs out, the text holds a part of them.
 ghost use Rattle.std.specs.Prelude.{◌≡◌, ◌<◌, ◌&&◌, ◌++◌, codes, is_some, OnOk, string_bytes, if◌then◌else◌};
-ghost use Rattle.bus_rules.specs.State.{Evict};
-ghost use Rattle.bus_rules.specs.Useful.{bus_evicts, bus_execs, bus_takes, is_of_use as plain_is_of_use};
+ghost use Rattle.rules_bus.specs.State.{Evict};
+ghost use Rattle.rules_bus.specs.Useful.{bus_evicts, bus_execs, bus_takes, is_of_use as plain_is_of_use};
 ghost use Rattle.bus_tcc.specs.Machine.{bus_event_of, bus_program_of, bus_settings_of, bus_world_of};
 ghost use Rattle.bus_trace.specs.Lines.{bus_event_line};
 ghost use Rattle.bus_watch.specs.Happened.{core_of};
 ghost use Rattle.bus_state.specs.Text.{core_evicts, enabled_lines, enabled_text, set_evicts};
-ghost use Rattle.tcc_rules.specs.Useful.{is_this_set, room};
+ghost use Rattle.rules_tcc.specs.Useful.{is_this_set, room};
 
 use bus_tcc::{BusEvent, BusSystem};
 use bus_trace::push_bus_event;
@@ -47,7 +47,7 @@ fn push_enabled(text: &mut String, event: BusEvent, is_useful: bool) -> Result<(
 }
 
 /// The line of an event, where it is enabled.
-#[tactic(auto, unfolding(crate::specs::Text::enabled_text, bus_rules::specs::Useful::bus_is_useful))]
+#[tactic(auto, unfolding(crate::specs::Text::enabled_text, rules_bus::specs::Useful::bus_is_useful))]
 fn push_if_enabled(text: &mut String, system: &BusSystem, event: BusEvent) -> Result<(), AllocError>
     requires { core_of (bus_event_of event) < (bus_settings_of system.now).cores }
     ensures { OnOk result (string_bytes text.new ≡ string_bytes text.old ++ enabled_text
@@ -60,7 +60,7 @@ fn push_if_enabled(text: &mut String, system: &BusSystem, event: BusEvent) -> Re
 }
 
 /// Each core's Exec.
-#[tactic(auto, unfolding(tcc_maps::specs::Words::those))]
+#[tactic(auto, unfolding(rules_maps::specs::Words::those))]
 fn push_execs(text: &mut String, system: &BusSystem) -> Result<(), AllocError>
     ensures { let sh = bus_settings_of system.now in OnOk result (string_bytes text.new ≡ string_bytes text.old
         ++ enabled_lines sh (bus_program_of system.now) (bus_world_of system.now) (bus_execs sh)) }
@@ -72,7 +72,7 @@ fn push_execs(text: &mut String, system: &BusSystem) -> Result<(), AllocError>
 }
 
 /// The evictions of one set.
-#[tactic(auto, unfolding(tcc_maps::specs::Words::those))]
+#[tactic(auto, unfolding(rules_maps::specs::Words::those))]
 fn push_set_evicts(
     text: &mut String,
     system: &BusSystem,
@@ -90,7 +90,7 @@ fn push_set_evicts(
 }
 
 /// The evictions of one core.
-#[tactic(auto, unfolding(tcc_maps::specs::Words::those, crate::specs::Text::enabled_lines, crate::specs::Text::core_evicts))]
+#[tactic(auto, unfolding(rules_maps::specs::Words::those, crate::specs::Text::enabled_lines, crate::specs::Text::core_evicts))]
 fn push_core_evicts(text: &mut String, system: &BusSystem, core: CoreId) -> Result<(), AllocError>
     requires { core.0 < (bus_settings_of system.now).cores }
     ensures { let sh = bus_settings_of system.now in OnOk result (string_bytes text.new ≡ string_bytes text.old
@@ -103,7 +103,7 @@ fn push_core_evicts(text: &mut String, system: &BusSystem, core: CoreId) -> Resu
 }
 
 /// All evictions, by core, set and way.
-#[tactic(auto, unfolding(tcc_maps::specs::Words::those, crate::specs::Text::enabled_lines), using(crate::proofs::Parts::parts))]
+#[tactic(auto, unfolding(rules_maps::specs::Words::those, crate::specs::Text::enabled_lines), using(crate::proofs::Parts::parts))]
 fn push_evicts(text: &mut String, system: &BusSystem) -> Result<(), AllocError>
     ensures { let sh = bus_settings_of system.now in OnOk result (string_bytes text.new ≡ string_bytes text.old
         ++ enabled_lines sh (bus_program_of system.now) (bus_world_of system.now) (bus_evicts sh)) }
@@ -115,7 +115,7 @@ fn push_evicts(text: &mut String, system: &BusSystem) -> Result<(), AllocError>
 }
 
 /// Each core's Take.
-#[tactic(auto, unfolding(tcc_maps::specs::Words::those))]
+#[tactic(auto, unfolding(rules_maps::specs::Words::those))]
 fn push_takes(text: &mut String, system: &BusSystem) -> Result<(), AllocError>
     ensures { let sh = bus_settings_of system.now in OnOk result (string_bytes text.new ≡ string_bytes text.old
         ++ enabled_lines sh (bus_program_of system.now) (bus_world_of system.now) (bus_takes sh)) }

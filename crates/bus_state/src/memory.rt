@@ -2,8 +2,8 @@
 ghost use Rattle.std.specs.Prelude.{◌≡◌, ◌+◌, ◌*◌, ◌/◌, ◌^◌, ◌<◌, ◌++◌, ◌==◌, ◌∷◌, [], OnOk, map, if◌then◌else◌};
 ghost use Rattle.std.specs.List.{flat_map};
 ghost use Rattle.rv_code.specs.Machine.{first_ram};
-ghost use Rattle.tcc_maps.specs.Shape.{lines};
-ghost use Rattle.tcc_rules.specs.Seen.{numbers};
+ghost use Rattle.rules_maps.specs.Shape.{lines};
+ghost use Rattle.rules_tcc.specs.Seen.{numbers};
 ghost use Rattle.bus_tcc.specs.Machine.{bus_settings_of, bus_start_of, bus_world_of};
 ghost use Rattle.bus_state.specs.Parts.{memory_record, memory_records};
 ghost use Rattle.bus_state.specs.Plain.{bus_record_of};
@@ -44,7 +44,7 @@ fn add_word(
 }
 
 /// The words of a line.
-#[tactic(auto, unfolding(crate::specs::Parts::memory_records, tcc_maps::specs::Words::those))]
+#[tactic(auto, unfolding(crate::specs::Parts::memory_records, rules_maps::specs::Words::those))]
 fn add_line(
     records: &mut List<BusRecord>,
     system: &BusSystem,
@@ -62,7 +62,7 @@ fn add_line(
 }
 
 /// All words, by rising address.
-#[tactic(auto, unfolding(tcc_maps::specs::Words::those))]
+#[tactic(auto, unfolding(rules_maps::specs::Words::those))]
 pub(crate) fn add_memory(records: &mut List<BusRecord>, system: &BusSystem) -> Result<(), NoMemory>
     ensures { let sh = bus_settings_of system.now in OnOk result (map bus_record_of records.new ≡ map bus_record_of records.old
         ++ flat_map (memory_records sh (first_ram (bus_start_of system.now)) (bus_world_of system.now).ram) (numbers (lines sh))) }

@@ -6,13 +6,13 @@ use Rattle.std.proofs.lemmas.Bool.{lt-ltb}
 use Rattle.std.proofs.lemmas.Bool.Decides.{nat_tests}
 use Rattle.tcc_base.specs.Put.{put}
 use Rattle.tcc_base.specs.declared.access.Tagged.{Tagged}
-use Rattle.tcc_maps.specs.Shape.{Shape, lines}
-use Rattle.tcc_maps.specs.Words.{line_of}
-use Rattle.bus_rules.specs.Commit.{BusStepped}
-use Rattle.bus_rules.specs.State.{Bus, BusWorld, Take, Free, Alone, Packet}
-use Rattle.bus_rules.specs.Step.{bus_names, bus_step}
-use Rattle.bus_rules.specs.Take.{bus_take, take_from, packet_taken}
-use Rattle.core_bank.specs.Bank.{CoresData, cores_of}
+use Rattle.rules_maps.specs.Shape.{Shape, lines}
+use Rattle.rules_maps.specs.Words.{line_of}
+use Rattle.rules_bus.specs.Commit.{BusStepped}
+use Rattle.rules_bus.specs.State.{Bus, BusWorld, Take, Free, Alone, Packet}
+use Rattle.rules_bus.specs.Step.{bus_names, bus_step}
+use Rattle.rules_bus.specs.Take.{bus_take, take_from, packet_taken}
+use Rattle.machine_cores.specs.Bank.{CoresData, cores_of}
 use Rattle.core_node.specs.AtHand.{words_in}
 use Rattle.bus_tcc.specs.Answers.{Took, bus_step_of}
 use Rattle.bus_tcc.specs.Inside.{machine_of}

@@ -4,13 +4,13 @@ use Rattle.std.specs.Prelude.{IfOk}
 use Rattle.image_load.specs.Contents.{started}
 use Rattle.rv_code.specs.Machine.{program}
 use Rattle.tcc_base.specs.Put.{put}
-use Rattle.tcc_program.specs.Program.{Program}
-use Rattle.bus_rules.specs.Commit.{all_clean, commit_out}
+use Rattle.rules_program.specs.Program.{Program}
+use Rattle.rules_bus.specs.Commit.{all_clean, commit_out}
 use Rattle.core_node.specs.View.{core_of}
 use Rattle.core_node.specs.declared.state.Core.{Core}
-use Rattle.core_bank.specs.Bank.{CoresData, cores_of}
+use Rattle.machine_cores.specs.Bank.{CoresData, cores_of}
 use Rattle.tcc_base.specs.Settings.{Settings}
-use Rattle.tcc_rules.specs.State.{CoreState}
+use Rattle.rules_tcc.specs.State.{CoreState}
 use Rattle.bus_tcc.specs.Committing.{CanCommit, IsCommitOf}
 use Rattle.bus_tcc.specs.Ending.{CommitsBy, at_commit}
 use Rattle.bus_tcc.specs.BankInside.{bank_of}

@@ -6,16 +6,16 @@ use Rattle.std.proofs.lemmas.Bool.{cases_eq}
 use Rattle.std.proofs.lemmas.Option.{slice_get_read}
 use Rattle.tcc_base.specs.Put.{put}
 use Rattle.tcc_base.specs.Settings.{Settings}
-use Rattle.tcc_rules.specs.Attempt.{Out}
-use Rattle.tcc_rules.specs.State.{CoreState}
+use Rattle.rules_tcc.specs.Attempt.{Out}
+use Rattle.rules_tcc.specs.State.{CoreState}
 use Rattle.tcc_msg.specs.declared.outgoing.Outgoing.{Outgoing}
 use Rattle.core_node.specs.Answers.{Happened}
 use Rattle.core_node.specs.AtHand.{Leaves}
 use Rattle.core_node.specs.View.{core_of}
 use Rattle.core_node.specs.declared.state.Core.{Core}
-use Rattle.core_bank.proofs.Lemmas.{cores-at, cores-put, cores-with, put-same}
-use Rattle.core_bank.specs.Bank.{CoresData, cores_of}
-use Rattle.bus_rules.specs.Exec.{instruction}
+use Rattle.machine_cores.proofs.Lemmas.{cores-at, cores-put, cores-with, put-same}
+use Rattle.machine_cores.specs.Bank.{CoresData, cores_of}
+use Rattle.rules_bus.specs.Exec.{instruction}
 use Rattle.image_load.specs.Contents.{started}
 use Rattle.rv_code.specs.Machine.{program}
 use Rattle.bus_tcc.specs.Bank.{Acted, Executed, ExecutedAt}

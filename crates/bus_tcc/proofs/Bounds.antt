@@ -4,12 +4,12 @@ use Rattle.image_load.specs.Contents.{Contents, started}
 use Rattle.rv_code.specs.Machine.{program}
 use Rattle.std.specs.Prelude.{List}
 use Rattle.tcc_base.specs.Settings.{IsAllowed}
-use Rattle.bus_rules.specs.State.{BusEvent}
-use Rattle.bus_rules.specs.Step.{BusHistory, bus_run}
-use Rattle.bus_serial.proofs.Lemmas.{riscv_bus_runs_are_bounded}
-use Rattle.bus_serial.specs.Bounds.{BusCoreInBounds, IsBusBounded}
-use Rattle.bus_serial.specs.Given.{bus_at_start}
-use Rattle.core_bank.specs.Bank.{cores_of}
+use Rattle.rules_bus.specs.State.{BusEvent}
+use Rattle.rules_bus.specs.Step.{BusHistory, bus_run}
+use Rattle.theorem_bus.proofs.Lemmas.{riscv_bus_runs_are_bounded}
+use Rattle.theorem_bus.specs.Bounds.{BusCoreInBounds, IsBusBounded}
+use Rattle.theorem_bus.specs.Given.{bus_at_start}
+use Rattle.machine_cores.specs.Bank.{cores_of}
 use Rattle.bus_tcc.specs.Machine.{BusMachine, bus_history_of, bus_settings_of, bus_world_of}
 use Rattle.bus_tcc.specs.Whole.{IsBusWhole}
 use Rattle.bus_tcc.proofs.Events.{bank_in}

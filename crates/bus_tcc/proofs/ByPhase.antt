@@ -2,19 +2,19 @@
 use Rattle.std.proofs.Common.{◌≡◌, ℕ, ◌<◌, ◌≤◌, Bool, true, false, Option, Some, None, Err, refl, ap, sym, ◌∙◌, arith}
 use Rattle.std.specs.Prelude.{nat_lt, if◌then◌else◌}
 use Rattle.std.proofs.lemmas.Bool.Decides.{nat_tests}
-use Rattle.tcc_maps.specs.Shape.{Shape}
-use Rattle.tcc_program.specs.Program.{Need, Nothing, Loads, Stores, Changes, Prints, Ends, Halts, Traps, Program}
-use Rattle.tcc_rules.specs.Attempt.{finished, is_solo}
+use Rattle.rules_maps.specs.Shape.{Shape}
+use Rattle.rules_program.specs.Program.{Need, Nothing, Loads, Stores, Changes, Prints, Ends, Halts, Traps, Program}
+use Rattle.rules_tcc.specs.Attempt.{finished, is_solo}
 use Rattle.tcc_base.specs.declared.names.Tid.{Tid}
 use Rattle.commit_engine.specs.Engine.{phase_of}
 use Rattle.commit_engine.specs.declared.phase.Phase.TheVariants as code
-use Rattle.tcc_rules.specs.State.{CoreState, Phase, Running, AwaitTid, DoomedTid, Probing, Ready, Overflowing, Solo, Halted}
-use Rattle.core_bank.specs.Bank.{cores_of}
+use Rattle.rules_tcc.specs.State.{CoreState, Phase, Running, AwaitTid, DoomedTid, Probing, Ready, Overflowing, Solo, Halted}
+use Rattle.machine_cores.specs.Bank.{cores_of}
 use Rattle.core_node.specs.AtHand.{ends_by, executes}
-use Rattle.bus_rules.specs.Commit.{BusStepped, bus_commit}
-use Rattle.bus_rules.specs.Exec.{exec_alone, bus_exec_in_phase, goes_on, instruction}
-use Rattle.bus_rules.specs.State.{BusWorld, Exec}
-use Rattle.bus_rules.specs.Step.{bus_names, bus_step}
+use Rattle.rules_bus.specs.Commit.{BusStepped, bus_commit}
+use Rattle.rules_bus.specs.Exec.{exec_alone, bus_exec_in_phase, goes_on, instruction}
+use Rattle.rules_bus.specs.State.{BusWorld, Exec}
+use Rattle.rules_bus.specs.Step.{bus_names, bus_step}
 use Rattle.bus_tcc.specs.Ending.{CommitsBy, at_commit}
 use Rattle.bus_tcc.specs.Whole.{IsBusWhole}
 use Rattle.bus_tcc.specs.Answers.{Answers, bus_step_of}

@@ -8,15 +8,15 @@ use Rattle.std.proofs.lemmas.Option.{get_or_from_slice_get, slice_get-get_or, sl
 use Rattle.image_load.specs.Contents.{Contents, started}
 use Rattle.rv_code.specs.Machine.{program}
 use Rattle.tcc_base.specs.Settings.{Settings}
-use Rattle.tcc_maps.specs.Shape.{Shape}
-use Rattle.tcc_rules.specs.CoreEvict.{core_evict}
-use Rattle.tcc_rules.specs.Seen.{numbers}
-use Rattle.tcc_rules.specs.State.{CoreState}
-use Rattle.tcc_rules.specs.Useful.{room}
-use Rattle.core_bank.specs.Bank.{cores_of}
-use Rattle.core_bank.proofs.Lemmas.{get-left, get-right}
-use Rattle.sum_tree.specs.Falls.{FallsAt}
-use Rattle.bus_rules.specs.State.{BusEvent, Exec, Evict, Take}
+use Rattle.rules_maps.specs.Shape.{Shape}
+use Rattle.rules_tcc.specs.CoreEvict.{core_evict}
+use Rattle.rules_tcc.specs.Seen.{numbers}
+use Rattle.rules_tcc.specs.State.{CoreState}
+use Rattle.rules_tcc.specs.Useful.{room}
+use Rattle.machine_cores.specs.Bank.{cores_of}
+use Rattle.machine_cores.proofs.Lemmas.{get-left, get-right}
+use Rattle.base_sums.specs.Falls.{FallsAt}
+use Rattle.rules_bus.specs.State.{BusEvent, Exec, Evict, Take}
 use Rattle.bus_tcc.specs.Answers.{bus_step_of}
 use Rattle.bus_tcc.specs.Chosen.{bus_useful_of}
 use Rattle.bus_tcc.specs.Left.{is_left}

@@ -6,11 +6,11 @@ use Rattle.std.specs.Prelude.{◌==◌, if◌then◌else◌}
 use Rattle.std.proofs.Math.ListN.{drop_of_length-le}
 use Rattle.std.proofs.Math.Seq.{drop-cons}
 use Rattle.tcc_base.specs.declared.access.Tagged.{Tagged}
-use Rattle.tcc_maps.specs.CacheChange.{cleaned}
-use Rattle.tcc_maps.specs.Masks.{has, hit}
-use Rattle.tcc_maps.specs.Words.{line_of, place_of}
-use Rattle.tcc_rules.specs.State.{CoreState}
-use Rattle.bus_rules.specs.Commit.{all_clean}
+use Rattle.rules_maps.specs.CacheChange.{cleaned}
+use Rattle.rules_maps.specs.Masks.{has, hit}
+use Rattle.rules_maps.specs.Words.{line_of, place_of}
+use Rattle.rules_tcc.specs.State.{CoreState}
+use Rattle.rules_bus.specs.Commit.{all_clean}
 use Rattle.core_node.specs.AtHand.{words_in}
 use Rattle.bus_tcc.specs.Cleaning.{cleaned_by}
 

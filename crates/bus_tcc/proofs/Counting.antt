@@ -4,9 +4,9 @@ use Rattle.std.specs.Prelude.{get_or, slice_set}
 use Rattle.std.proofs.lemmas.Bool.{cases_eq}
 use Rattle.std.proofs.lemmas.Grind.{get_or-set_at}
 use Rattle.std.proofs.lemmas.List.{get_or-set_other, length-set}
-use Rattle.tcc_maps.specs.Shape.{Shape}
-use Rattle.tcc_program.specs.Program.{Program}
-use Rattle.tcc_rules.specs.State.{CoreState}
+use Rattle.rules_maps.specs.Shape.{Shape}
+use Rattle.rules_program.specs.Program.{Program}
+use Rattle.rules_tcc.specs.State.{CoreState}
 use Rattle.bus_tcc.specs.Uses.{AreCounted, AreCountedBut, HavePlaces, IsCounted, exec_count, way_count}
 use Rattle.bus_tcc.specs.declared.counts.Counts.{Counts}
 

@@ -5,24 +5,24 @@ use Rattle.std.specs.Prelude.{IfSome, nat_lt}
 use Rattle.std.specs.List.{flat_map}
 use Rattle.std.proofs.lemmas.Bool.{lt-ltb}
 use Rattle.std.proofs.lemmas.Bool.Decides.{nat_tests}
-use Rattle.tcc_maps.specs.Shape.{Shape}
-use Rattle.tcc_program.specs.Program.{Need, Nothing, Loads, Stores, Changes, Prints, Ends, Halts, Traps, Program}
-use Rattle.tcc_rules.specs.Attempt.{Out, is_solo}
-use Rattle.tcc_rules.specs.CoreEvict.{core_evict}
-use Rattle.tcc_rules.specs.CoreExec.{core_exec}
-use Rattle.tcc_rules.specs.Execute.{execute}
-use Rattle.tcc_rules.specs.Seen.{numbers}
-use Rattle.tcc_rules.specs.State.{CoreState, Phase, Running, AwaitTid, DoomedTid, Probing, Ready, Overflowing, Solo, Halted}
-use Rattle.tcc_rules.specs.Useful.{room}
-use Rattle.core_bank.specs.Bank.{cores_of}
+use Rattle.rules_maps.specs.Shape.{Shape}
+use Rattle.rules_program.specs.Program.{Need, Nothing, Loads, Stores, Changes, Prints, Ends, Halts, Traps, Program}
+use Rattle.rules_tcc.specs.Attempt.{Out, is_solo}
+use Rattle.rules_tcc.specs.CoreEvict.{core_evict}
+use Rattle.rules_tcc.specs.CoreExec.{core_exec}
+use Rattle.rules_tcc.specs.Execute.{execute}
+use Rattle.rules_tcc.specs.Seen.{numbers}
+use Rattle.rules_tcc.specs.State.{CoreState, Phase, Running, AwaitTid, DoomedTid, Probing, Ready, Overflowing, Solo, Halted}
+use Rattle.rules_tcc.specs.Useful.{room}
+use Rattle.machine_cores.specs.Bank.{cores_of}
 use Rattle.core_node.specs.AtHand.{goes_alone}
 use Rattle.core_node.specs.Executing.{overflows}
-use Rattle.bus_rules.specs.Commit.{BusStepped}
-use Rattle.bus_rules.specs.Exec.{bus_exec, exec_alone, executed, goes_on, when_free}
-use Rattle.bus_rules.specs.State.{Bus, BusWorld, Exec, Evict, Take, Free, Alone, Packet}
-use Rattle.bus_rules.specs.Step.{bus_names, bus_step, if_evicted}
-use Rattle.bus_rules.specs.Take.{bus_take, take_from}
-use Rattle.bus_serial.proofs.Lemmas.{alone-stays, evicts_in, flat-same, goes, instruction-some, one_if, positive, useful-by_core}
+use Rattle.rules_bus.specs.Commit.{BusStepped}
+use Rattle.rules_bus.specs.Exec.{bus_exec, exec_alone, executed, goes_on, when_free}
+use Rattle.rules_bus.specs.State.{Bus, BusWorld, Exec, Evict, Take, Free, Alone, Packet}
+use Rattle.rules_bus.specs.Step.{bus_names, bus_step, if_evicted}
+use Rattle.rules_bus.specs.Take.{bus_take, take_from}
+use Rattle.theorem_bus.proofs.Lemmas.{alone-stays, evicts_in, flat-same, goes, instruction-some, one_if, positive, useful-by_core}
 use Rattle.bus_tcc.specs.Answers.{bus_step_of}
 use Rattle.bus_tcc.specs.Chosen.{bus_useful_of}
 use Rattle.bus_tcc.specs.Left.{is_left}

@@ -1,14 +1,14 @@
 -- The attempt that a core commits: the instruction that ends it writes nothing.
 use Rattle.std.proofs.Common.{◌≡◌, ℕ, Bool, true, false, None, Some, Option, is_some, Err, refl, ap, sym, ◌∙◌, subst}
 use Rattle.std.specs.Prelude.{if◌then◌else◌}
-use Rattle.tcc_maps.specs.Shape.{Shape}
-use Rattle.tcc_program.specs.Program.{Need, Nothing, Loads, Stores, Changes, Prints, Ends, Halts, Traps, Program}
-use Rattle.tcc_rules.specs.Attempt.{Out, finished, is_solo, one_more_instruction}
-use Rattle.tcc_rules.specs.Commit.{commit, solo_commit}
-use Rattle.tcc_rules.specs.CoreExec.{core_exec, exec_in_phase, unless_awaiting}
-use Rattle.tcc_rules.specs.Execute.{end_transaction, execute, execute_need}
-use Rattle.tcc_rules.specs.State.{CoreState, Phase, Running, AwaitTid, DoomedTid, Probing, Ready, Overflowing, Solo, Halted}
-use Rattle.bus_rules.specs.Commit.{commit_out, written_words}
+use Rattle.rules_maps.specs.Shape.{Shape}
+use Rattle.rules_program.specs.Program.{Need, Nothing, Loads, Stores, Changes, Prints, Ends, Halts, Traps, Program}
+use Rattle.rules_tcc.specs.Attempt.{Out, finished, is_solo, one_more_instruction}
+use Rattle.rules_tcc.specs.Commit.{commit, solo_commit}
+use Rattle.rules_tcc.specs.CoreExec.{core_exec, exec_in_phase, unless_awaiting}
+use Rattle.rules_tcc.specs.Execute.{end_transaction, execute, execute_need}
+use Rattle.rules_tcc.specs.State.{CoreState, Phase, Running, AwaitTid, DoomedTid, Probing, Ready, Overflowing, Solo, Halted}
+use Rattle.rules_bus.specs.Commit.{commit_out, written_words}
 use Rattle.core_node.specs.Answers.{IsBlocked, IsMemory}
 use Rattle.core_node.specs.Executing.{TellsOfEvent}
 use Rattle.core_node.specs.declared.exec.Executed.{Executed}

@@ -4,13 +4,13 @@ use Rattle.std.specs.Prelude.{nat_lt, if◌then◌else◌, Contains, Err}
 use Rattle.std.proofs.lemmas.Bool.{lt-ltb}
 use Rattle.std.proofs.lemmas.Bool.Decides.{nat_tests}
 use Rattle.tcc_base.specs.Settings.{Settings}
-use Rattle.tcc_rules.specs.Attempt.{Out}
-use Rattle.tcc_rules.specs.CoreEvict.{core_evict}
-use Rattle.bus_rules.specs.Commit.{BusStepped}
-use Rattle.bus_rules.specs.Exec.{core_changed}
-use Rattle.bus_rules.specs.State.{BusEvent, BusWorld, Evict}
-use Rattle.bus_rules.specs.Step.{and_noted, bus_names, bus_next, bus_step, if_evicted, recorded}
-use Rattle.core_bank.specs.Bank.{CoresData, cores_of}
+use Rattle.rules_tcc.specs.Attempt.{Out}
+use Rattle.rules_tcc.specs.CoreEvict.{core_evict}
+use Rattle.rules_bus.specs.Commit.{BusStepped}
+use Rattle.rules_bus.specs.Exec.{core_changed}
+use Rattle.rules_bus.specs.State.{BusEvent, BusWorld, Evict}
+use Rattle.rules_bus.specs.Step.{and_noted, bus_names, bus_next, bus_step, if_evicted, recorded}
+use Rattle.machine_cores.specs.Bank.{CoresData, cores_of}
 use Rattle.core_node.specs.Answers.{IsBlocked}
 use Rattle.core_node.specs.declared.delivering.CoreError.{CoreError}
 use Rattle.core_node.specs.declared.delivering.CoreError.TheVariants as core_error

@@ -5,32 +5,32 @@ use Rattle.std.specs.Prelude.{zero, suc, ◌==◌, ◌||◌, get_or, is_some, un
 use Rattle.std.proofs.lemmas.Bool.Decides.{nat_tests}
 use Rattle.tcc_base.specs.Put.{put}
 use Rattle.tcc_base.specs.declared.access.Size.TheVariants.{Byte, Half, Word}
-use Rattle.tcc_maps.specs.Cache.{Cache, free_way}
-use Rattle.tcc_maps.specs.CacheChange.{filled, placed}
-use Rattle.tcc_maps.specs.Masks.{has, mask_of}
-use Rattle.tcc_maps.specs.Shape.{Shape, set_of}
-use Rattle.tcc_maps.specs.Words.{line_of, place_of, word_at}
-use Rattle.tcc_maps.proofs.Lemmas.{has-mask_of}
-use Rattle.tcc_program.specs.Program.{Need, Nothing, Loads, Stores, Changes, Prints, Ends, Halts, Traps, Program}
-use Rattle.tcc_program.specs.Ram.{word_of}
-use Rattle.tcc_rules.specs.Attempt.{Out}
-use Rattle.tcc_rules.specs.CoreExec.{core_exec}
-use Rattle.tcc_rules.specs.State.{CoreState, Phase, Running, AwaitTid, DoomedTid, Probing, Ready, Overflowing, Solo, Halted}
+use Rattle.rules_maps.specs.Cache.{Cache, free_way}
+use Rattle.rules_maps.specs.CacheChange.{filled, placed}
+use Rattle.rules_maps.specs.Masks.{has, mask_of}
+use Rattle.rules_maps.specs.Shape.{Shape, set_of}
+use Rattle.rules_maps.specs.Words.{line_of, place_of, word_at}
+use Rattle.rules_maps.proofs.Lemmas.{has-mask_of}
+use Rattle.rules_program.specs.Program.{Need, Nothing, Loads, Stores, Changes, Prints, Ends, Halts, Traps, Program}
+use Rattle.rules_program.specs.Ram.{word_of}
+use Rattle.rules_tcc.specs.Attempt.{Out}
+use Rattle.rules_tcc.specs.CoreExec.{core_exec}
+use Rattle.rules_tcc.specs.State.{CoreState, Phase, Running, AwaitTid, DoomedTid, Probing, Ready, Overflowing, Solo, Halted}
 use Rattle.core_node.proofs.Lemmas.{alone-with}
 use Rattle.core_node.specs.Answers.{IsBlocked}
 use Rattle.core_node.specs.AtHand.{Leaves, executes, filling, goes_alone, is_whole, line_at, lined, need_fills, ready, with_line}
 use Rattle.core_node.specs.AtHand.{word_fills}
 use Rattle.core_node.specs.Executing.{overflows}
-use Rattle.bus_rules.specs.Commit.{BusStepped}
-use Rattle.bus_rules.specs.Exec.{executed, goes_on, gone_alone, instruction, line_at_hand, line_words, core_changed, when_free}
-use Rattle.bus_rules.specs.Exec.{with_line_of, word_read}
-use Rattle.bus_rules.specs.State.{Bus, BusWorld, Exec, Free, Alone, Packet}
+use Rattle.rules_bus.specs.Commit.{BusStepped}
+use Rattle.rules_bus.specs.Exec.{executed, goes_on, gone_alone, instruction, line_at_hand, line_words, core_changed, when_free}
+use Rattle.rules_bus.specs.Exec.{with_line_of, word_read}
+use Rattle.rules_bus.specs.State.{Bus, BusWorld, Exec, Free, Alone, Packet}
 use Rattle.bus_tcc.specs.Bank.{Executed, ExecutedAt, gone_if}
 use Rattle.core_node.specs.declared.delivering.CoreError.{CoreError}
 use Rattle.core_node.specs.declared.delivering.CoreError.TheVariants as core_error
 use Rattle.bus_tcc.specs.Answers.{Answers, Took, bus_step_of, refusal_of}
 use Rattle.bus_tcc.specs.Machine.{BusMachine, bus_of, bus_program_of, bus_settings_of, bus_world_of, is_free, word_in}
-use Rattle.core_bank.specs.Bank.{CoresData, cores_of}
+use Rattle.machine_cores.specs.Bank.{CoresData, cores_of}
 use Rattle.bus_tcc.specs.Inside.{machine_of}
 use Rattle.bus_tcc.specs.declared.bus.Bus.{Bus as CodeBus}
 use Rattle.bus_tcc.specs.declared.engine.Engine.TheInside.{Inside}

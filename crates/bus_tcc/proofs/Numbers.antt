@@ -8,10 +8,10 @@ use Rattle.std.proofs.lemmas.Grind.{flat_map-append}
 use Rattle.std.proofs.lemmas.List.Elements.{filter-append}
 use Rattle.std.proofs.lemmas.List.Sums.{sum_by_more}
 use Rattle.std.proofs.lemmas.Option.{slice_get_past, slice_get_within}
-use Rattle.tcc_maps.specs.Words.{those}
-use Rattle.tcc_rules.specs.Seen.{numbers}
-use Rattle.core_bank.proofs.Lemmas.{get-left, get-right}
-use Rattle.sum_tree.specs.Falls.{FallsAt}
+use Rattle.rules_maps.specs.Words.{those}
+use Rattle.rules_tcc.specs.Seen.{numbers}
+use Rattle.machine_cores.proofs.Lemmas.{get-left, get-right}
+use Rattle.base_sums.specs.Falls.{FallsAt}
 
 one-more : (t : ℕ → Bool) (n : ℕ) → filter t (numbers (suc n)) ≡ filter t (numbers n) ++ cond (t n) (n ∷ []) []
 unfolding those

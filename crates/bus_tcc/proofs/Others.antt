@@ -5,16 +5,16 @@ use Rattle.std.proofs.lemmas.Bool.{ne_eqb}
 use Rattle.image_load.specs.Contents.{started}
 use Rattle.rv_code.specs.Machine.{program}
 use Rattle.tcc_base.specs.Put.{put}
-use Rattle.tcc_maps.specs.Shape.{Shape}
-use Rattle.tcc_program.specs.Program.{Need, Nothing, Loads, Stores, Changes, Prints, Ends, Halts, Traps, Program}
-use Rattle.tcc_rules.specs.Attempt.{Out}
-use Rattle.tcc_rules.specs.CoreEvict.{core_evict}
-use Rattle.tcc_rules.specs.State.{CoreState, Phase, Running, AwaitTid, DoomedTid, Probing, Ready, Overflowing, Solo, Halted}
-use Rattle.bus_rules.specs.Commit.{BusStepped, bus_commit}
-use Rattle.bus_rules.specs.Exec.{bus_exec, exec_alone, bus_exec_in_phase, executed, goes_on, instruction, when_free}
-use Rattle.bus_rules.specs.State.{Bus, BusEvent, BusWorld, Exec, Evict, Take, Free, Alone, Packet}
-use Rattle.bus_rules.specs.Step.{BusHistory, bus_happens, bus_names, bus_next, bus_step, if_evicted, recorded}
-use Rattle.bus_rules.specs.Take.{bus_take, take_from}
+use Rattle.rules_maps.specs.Shape.{Shape}
+use Rattle.rules_program.specs.Program.{Need, Nothing, Loads, Stores, Changes, Prints, Ends, Halts, Traps, Program}
+use Rattle.rules_tcc.specs.Attempt.{Out}
+use Rattle.rules_tcc.specs.CoreEvict.{core_evict}
+use Rattle.rules_tcc.specs.State.{CoreState, Phase, Running, AwaitTid, DoomedTid, Probing, Ready, Overflowing, Solo, Halted}
+use Rattle.rules_bus.specs.Commit.{BusStepped, bus_commit}
+use Rattle.rules_bus.specs.Exec.{bus_exec, exec_alone, bus_exec_in_phase, executed, goes_on, instruction, when_free}
+use Rattle.rules_bus.specs.State.{Bus, BusEvent, BusWorld, Exec, Evict, Take, Free, Alone, Packet}
+use Rattle.rules_bus.specs.Step.{BusHistory, bus_happens, bus_names, bus_next, bus_step, if_evicted, recorded}
+use Rattle.rules_bus.specs.Take.{bus_take, take_from}
 use Rattle.bus_tcc.specs.Answers.{Answers, Kept}
 use Rattle.bus_tcc.specs.Machine.{BusMachine, bus_history_of, bus_program_of, bus_settings_of, bus_world_of}
 use Rattle.bus_tcc.specs.Parts.{CountedBut, CountedIn, core_named}

@@ -3,15 +3,15 @@ use Rattle.std.proofs.Common.{◌≡◌, ℕ, zero, suc, ◌<◌, Bool, true, fa
 use Rattle.std.proofs.Common.{is_some, refl, ap, sym, ◌∙◌, subst, arith}
 use Rattle.std.specs.Prelude.{cond, unwrap_or, if◌then◌else◌}
 use Rattle.tcc_base.specs.declared.access.Tagged.{Tagged}
-use Rattle.tcc_maps.proofs.Lemmas.{has-mask_of}
-use Rattle.tcc_maps.specs.Cache.{is_modified}
-use Rattle.tcc_maps.specs.Masks.{has, mask_of, masked}
-use Rattle.tcc_maps.specs.Shape.{Shape, lines}
-use Rattle.tcc_maps.specs.Spilled.{holds}
-use Rattle.tcc_maps.specs.Words.{any_below, any_word, eight, line_of, or_else, those, word_at}
-use Rattle.tcc_rules.specs.Commit.{is_written, written_mask}
-use Rattle.tcc_rules.specs.State.{CoreState}
-use Rattle.bus_rules.specs.Commit.{written_words}
+use Rattle.rules_maps.proofs.Lemmas.{has-mask_of}
+use Rattle.rules_maps.specs.Cache.{is_modified}
+use Rattle.rules_maps.specs.Masks.{has, mask_of, masked}
+use Rattle.rules_maps.specs.Shape.{Shape, lines}
+use Rattle.rules_maps.specs.Spilled.{holds}
+use Rattle.rules_maps.specs.Words.{any_below, any_word, eight, line_of, or_else, those, word_at}
+use Rattle.rules_tcc.specs.Commit.{is_written, written_mask}
+use Rattle.rules_tcc.specs.State.{CoreState}
+use Rattle.rules_bus.specs.Commit.{written_words}
 use Rattle.core_node.specs.AtHand.{line_told, lines_told, word_told, words_in}
 use Rattle.bus_tcc.specs.Left.{packet_words}
 use Rattle.bus_tcc.specs.Machine.{bus_of}

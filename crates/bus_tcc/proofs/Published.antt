@@ -7,22 +7,22 @@ use Rattle.std.proofs.lemmas.Bool.Decides.{nat_tests}
 use Rattle.std.proofs.lemmas.List.Elements.{Contains-push_cases}
 use Rattle.tcc_base.specs.Put.{put}
 use Rattle.tcc_base.specs.declared.access.Commit.{Commit as Noted}
-use Rattle.tcc_maps.specs.Shape.{Shape, lines}
-use Rattle.tcc_maps.specs.Words.{any_below, line_of, or_else}
-use Rattle.tcc_rules.specs.Attempt.{is_solo}
-use Rattle.tcc_rules.specs.Commit.{commit, noted, solo_commit}
-use Rattle.tcc_rules.specs.State.{CoreState, Phase, AwaitTid}
-use Rattle.tcc_rules.specs.Step.{insert_commit}
-use Rattle.commit_list.specs.Rising.{HasNone}
+use Rattle.rules_maps.specs.Shape.{Shape, lines}
+use Rattle.rules_maps.specs.Words.{any_below, line_of, or_else}
+use Rattle.rules_tcc.specs.Attempt.{is_solo}
+use Rattle.rules_tcc.specs.Commit.{commit, noted, solo_commit}
+use Rattle.rules_tcc.specs.State.{CoreState, Phase, AwaitTid}
+use Rattle.rules_tcc.specs.Step.{insert_commit}
+use Rattle.machine_commits.specs.Rising.{HasNone}
 use Rattle.core_node.specs.AtHand.{words_in}
 use Rattle.core_node.specs.Answers.{IsMemory}
 use Rattle.core_node.specs.declared.delivering.CoreError.{CoreError}
 use Rattle.core_node.specs.declared.delivering.CoreError.TheVariants as core_error
-use Rattle.core_bank.specs.Bank.{cores_of}
-use Rattle.bus_rules.specs.Commit.{all_clean, BusStepped, bus_commit, commit_out, packet, with_words, wrote_some, written_words}
-use Rattle.bus_rules.specs.Exec.{bus_exec, bus_exec_in_phase, when_free}
-use Rattle.bus_rules.specs.State.{Exec, Free, Packet}
-use Rattle.bus_rules.specs.Step.{and_noted, bus_names, bus_step}
+use Rattle.machine_cores.specs.Bank.{cores_of}
+use Rattle.rules_bus.specs.Commit.{all_clean, BusStepped, bus_commit, commit_out, packet, with_words, wrote_some, written_words}
+use Rattle.rules_bus.specs.Exec.{bus_exec, bus_exec_in_phase, when_free}
+use Rattle.rules_bus.specs.State.{Exec, Free, Packet}
+use Rattle.rules_bus.specs.Step.{and_noted, bus_names, bus_step}
 use Rattle.bus_tcc.specs.Answers.{Answers, Took, bus_step_of, refusal_of}
 use Rattle.bus_tcc.specs.Committing.{CanCommit, IsCommitOf}
 use Rattle.bus_tcc.specs.Ending.{CommitsBy, at_commit}

@@ -3,10 +3,10 @@ use Rattle.std.proofs.Common.{◌≡◌, ◌+◌, List, [], ◌∷◌, ◌++◌,
 use Rattle.image_load.specs.Contents.{started}
 use Rattle.rv_code.specs.Machine.{program}
 use Rattle.tcc_base.specs.Settings.{Settings}
-use Rattle.tcc_program.specs.Program.{Program}
-use Rattle.bus_rules.specs.State.{BusEvent, BusWorld}
-use Rattle.bus_rules.specs.Step.{BusHistory, and_then, bus_from, bus_next, bus_run}
-use Rattle.bus_serial.specs.Given.{bus_at_start}
+use Rattle.rules_program.specs.Program.{Program}
+use Rattle.rules_bus.specs.State.{BusEvent, BusWorld}
+use Rattle.rules_bus.specs.Step.{BusHistory, and_then, bus_from, bus_next, bus_run}
+use Rattle.theorem_bus.specs.Given.{bus_at_start}
 use Rattle.bus_tcc.specs.Machine.{BusMachine, bus_history_of, bus_program_of, bus_settings_of, bus_start_of}
 use Rattle.bus_tcc.specs.Whole.{BusReached}
 

@@ -3,12 +3,12 @@ use Rattle.std.specs.Prelude.{List, [], Some, ◌≡◌}
 use Rattle.image_load.specs.Contents.{Contents, started}
 use Rattle.rv_code.specs.Machine.{program}
 use Rattle.tcc_base.specs.Settings.{IsAllowed}
-use Rattle.bus_rules.specs.State.{BusEvent}
-use Rattle.bus_rules.specs.Step.{BusHistory, bus_run}
-use Rattle.bus_rules.specs.Useful.{BusIsDone, bus_useful}
-use Rattle.bus_serial.proofs.Lemmas.{bus_runs_give_the_plain_machine, bus_tids_count, riscv_bus_never_stuck}
-use Rattle.bus_serial.specs.Given.{BusSerial, bus_at_start}
-use Rattle.bus_serial.specs.Laws.{AreNumbered}
+use Rattle.rules_bus.specs.State.{BusEvent}
+use Rattle.rules_bus.specs.Step.{BusHistory, bus_run}
+use Rattle.rules_bus.specs.Useful.{BusIsDone, bus_useful}
+use Rattle.theorem_bus.proofs.Lemmas.{bus_runs_give_the_plain_machine, bus_tids_count, riscv_bus_never_stuck}
+use Rattle.theorem_bus.specs.Given.{BusSerial, bus_at_start}
+use Rattle.theorem_bus.specs.Laws.{AreNumbered}
 use Rattle.bus_tcc.specs.Machine.{BusMachine, bus_history_of}
 use Rattle.bus_tcc.specs.Refined.{IsBusRefined}
 use Rattle.bus_tcc.specs.Whole.{IsBusWhole}

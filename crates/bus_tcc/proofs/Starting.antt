@@ -8,10 +8,10 @@ use Rattle.tcc_base.specs.declared.access.Commit.{Commit}
 use Rattle.image_load.specs.Contents.{Contents, started}
 use Rattle.rv_code.specs.Machine.{first_ram}
 use Rattle.tcc_base.specs.Settings.{IsAllowed}
-use Rattle.bus_rules.specs.State.{bus_start}
-use Rattle.bus_rules.specs.Step.{bus_from, bus_run}
-use Rattle.bus_serial.specs.Given.{bus_at_start}
-use Rattle.core_bank.specs.Bank.{cores_of, first_core}
+use Rattle.rules_bus.specs.State.{bus_start}
+use Rattle.rules_bus.specs.Step.{bus_from, bus_run}
+use Rattle.theorem_bus.specs.Given.{bus_at_start}
+use Rattle.machine_cores.specs.Bank.{cores_of, first_core}
 use Rattle.bus_tcc.specs.Machine.{BusMachine, bus_history_of, bus_of, bus_settings_of, bus_start_of, bus_world_of}
 use Rattle.bus_tcc.specs.Packets.{AreInOrder, lines_on}
 use Rattle.bus_tcc.specs.Whole.{BusReached, IsBusWhole}

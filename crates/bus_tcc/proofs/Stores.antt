@@ -10,9 +10,9 @@ use Rattle.std.proofs.lemmas.List.{get_or-set_other}
 use Rattle.std.proofs.Math.ListN.{drop_of_length-le}
 use Rattle.std.proofs.Math.Seq.{drop-cons}
 use Rattle.tcc_base.specs.declared.access.Tagged.{Tagged}
-use Rattle.tcc_maps.specs.Masks.{has, hit}
-use Rattle.tcc_maps.specs.Words.{line_of, place_of}
-use Rattle.bus_rules.specs.Commit.{with_words}
+use Rattle.rules_maps.specs.Masks.{has, hit}
+use Rattle.rules_maps.specs.Words.{line_of, place_of}
+use Rattle.rules_bus.specs.Commit.{with_words}
 use Rattle.core_node.specs.AtHand.{words_in}
 use Rattle.bus_tcc.specs.Machine.{word_in}
 

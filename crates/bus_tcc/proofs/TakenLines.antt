@@ -7,17 +7,17 @@ use Rattle.std.proofs.Math.ListN.{drop_of_length-le}
 use Rattle.std.proofs.Math.Seq.{drop-cons}
 use Rattle.std.proofs.lemmas.Bool.Decides.{nat_tests}
 use Rattle.tcc_base.specs.declared.access.Tagged.{Tagged}
-use Rattle.tcc_maps.proofs.Lemmas.{any_below-at, any_below-found}
-use Rattle.tcc_maps.specs.Cache.{Cache}
-use Rattle.tcc_maps.specs.CacheChange.{invalidated, rolled_back}
-use Rattle.tcc_maps.specs.CacheLook.{reads_masked}
-use Rattle.tcc_maps.specs.Masks.{hit}
-use Rattle.tcc_maps.specs.Shape.{Shape, lines}
-use Rattle.tcc_maps.specs.Words.{any_word, line_of, place_of, word_at}
-use Rattle.tcc_rules.specs.Attempt.{roll_back}
-use Rattle.tcc_rules.specs.CoreDeliver.{words_invalidated}
-use Rattle.tcc_rules.specs.State.{CoreState, Running}
-use Rattle.bus_rules.specs.Take.{packet_invalidated, reads_some, packet_taken}
+use Rattle.rules_maps.proofs.Lemmas.{any_below-at, any_below-found}
+use Rattle.rules_maps.specs.Cache.{Cache}
+use Rattle.rules_maps.specs.CacheChange.{invalidated, rolled_back}
+use Rattle.rules_maps.specs.CacheLook.{reads_masked}
+use Rattle.rules_maps.specs.Masks.{hit}
+use Rattle.rules_maps.specs.Shape.{Shape, lines}
+use Rattle.rules_maps.specs.Words.{any_word, line_of, place_of, word_at}
+use Rattle.rules_tcc.specs.Attempt.{roll_back}
+use Rattle.rules_tcc.specs.CoreDeliver.{words_invalidated}
+use Rattle.rules_tcc.specs.State.{CoreState, Running}
+use Rattle.rules_bus.specs.Take.{packet_invalidated, reads_some, packet_taken}
 use Rattle.core_node.specs.AtHand.{words_in}
 use Rattle.bus_tcc.specs.Taking.{reads_any, struck_by, took}
 

@@ -5,13 +5,13 @@ use Rattle.std.specs.Option.{option_map}
 use Rattle.std.proofs.lemmas.List.{length-map}
 use Rattle.std.proofs.lemmas.Option.{slice_get-map}
 use Rattle.tcc_base.specs.declared.names.Tid.{Tid}
-use Rattle.tcc_maps.specs.Shape.{Shape}
-use Rattle.tcc_program.specs.Program.{Program}
-use Rattle.tcc_rules.specs.State.{CoreState, Phase}
-use Rattle.tcc_rules.specs.Useful.{room}
+use Rattle.rules_maps.specs.Shape.{Shape}
+use Rattle.rules_program.specs.Program.{Program}
+use Rattle.rules_tcc.specs.State.{CoreState, Phase}
+use Rattle.rules_tcc.specs.Useful.{room}
 use Rattle.commit_engine.specs.Engine.{phase_of}
 use Rattle.commit_engine.specs.declared.phase.Phase.TheVariants as code
-use Rattle.bus_serial.proofs.Lemmas.{room-below}
+use Rattle.theorem_bus.proofs.Lemmas.{room-below}
 use Rattle.bus_tcc.specs.Uses.{loose_ways, may_exec, may_exec_in, room_ways, ways_in}
 
 pub at-phase : (sh : Shape) (p : Program) (free : Bool) (c : ℕ) (s : CoreState) (q : Phase) → q ≡ s.phase

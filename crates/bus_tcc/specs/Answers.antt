@@ -1,9 +1,9 @@
 -- What the calls that take events answer.
 use Rattle.std.specs.Prelude.{◌+◌, ◌≡◌, ◌≢◌, Option, Some, None, option_map, Result, Ok, Err}
 use Rattle.tcc_base.specs.declared.names.Tid.{Tid}
-use Rattle.bus_rules.specs.Commit.{BusStepped}
-use Rattle.bus_rules.specs.State.{BusEvent}
-use Rattle.bus_rules.specs.Step.{bus_next, bus_step}
+use Rattle.rules_bus.specs.Commit.{BusStepped}
+use Rattle.rules_bus.specs.State.{BusEvent}
+use Rattle.rules_bus.specs.Step.{bus_next, bus_step}
 use Rattle.core_node.specs.declared.delivering.CoreError.{CoreError}
 use Rattle.core_node.specs.declared.delivering.CoreError.TheVariants.{Blocked}
 use Rattle.core_node.specs.declared.delivering.CoreError.TheVariants as core_error

@@ -1,11 +1,11 @@
 -- One core has acted as a rule says, and all others are as before.
 use Rattle.std.specs.Prelude.{ℕ, ◌≡◌, Bool, Option, Some, None, if◌then◌else◌}
 use Rattle.tcc_base.specs.Put.{put}
-use Rattle.tcc_rules.specs.Attempt.{Out}
-use Rattle.tcc_rules.specs.State.{CoreState}
+use Rattle.rules_tcc.specs.Attempt.{Out}
+use Rattle.rules_tcc.specs.State.{CoreState}
 use Rattle.core_node.specs.Executing.{overflows}
-use Rattle.core_bank.specs.Bank.{CoresData, cores_of}
-use Rattle.bus_rules.specs.Exec.{gone_alone}
+use Rattle.machine_cores.specs.Bank.{CoresData, cores_of}
+use Rattle.rules_bus.specs.Exec.{gone_alone}
 
 abbrev pub Acted : Option Out → (core : ℕ) → (old new : CoresData) → Type 0
 Acted None core old new = ⊥

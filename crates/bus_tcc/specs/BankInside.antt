@@ -1,7 +1,7 @@
 -- The parts of a bank of cores, and what always holds of them.
 use Rattle.tcc_base.specs.Settings.{IsAllowed}
-use Rattle.core_bank.specs.Bank.{CoresData}
-use Rattle.core_bank.specs.BankInside.{AreCores}
+use Rattle.machine_cores.specs.Bank.{CoresData}
+use Rattle.machine_cores.specs.BankInside.{AreCores}
 use Rattle.bus_tcc.specs.declared.bank.BusBank.TheInside.{Inside}
 
 abbrev pub bank_of : Inside → CoresData

@@ -1,8 +1,8 @@
 -- What a core knows of lines once memory has them.
 use Rattle.std.specs.Prelude.{List, [], ◌∷◌}
 use Rattle.tcc_base.specs.declared.access.Tagged.{Tagged}
-use Rattle.tcc_maps.specs.CacheChange.{cleaned}
-use Rattle.tcc_rules.specs.State.{CoreState}
+use Rattle.rules_maps.specs.CacheChange.{cleaned}
+use Rattle.rules_tcc.specs.State.{CoreState}
 
 -- none of their words is dirty
 unfoldable pub cleaned_by : List Tagged → CoreState → CoreState

@@ -1,9 +1,9 @@
 -- What a core's commit leaves, notes and writes.
 use Rattle.std.specs.Prelude.{ℕ, ◌≡◌, ◌<◌, ◌/◌, ◌==◌, true, not, length, Some, None, is_some}
-use Rattle.tcc_maps.specs.Shape.{Shape, lines}
-use Rattle.tcc_maps.specs.Words.{line_of}
-use Rattle.tcc_rules.specs.State.{CoreState}
-use Rattle.bus_rules.specs.Commit.{commit_out, wrote_some, written_words}
+use Rattle.rules_maps.specs.Shape.{Shape, lines}
+use Rattle.rules_maps.specs.Words.{line_of}
+use Rattle.rules_tcc.specs.State.{CoreState}
+use Rattle.rules_bus.specs.Commit.{commit_out, wrote_some, written_words}
 use Rattle.core_node.specs.AtHand.{words_in}
 use Rattle.bus_tcc.specs.Packets.{AreInOrder}
 use Rattle.bus_tcc.specs.Storing.{AreInside}

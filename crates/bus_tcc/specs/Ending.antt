@@ -1,8 +1,8 @@
 -- The end of an attempt: who may commit, and what.
 use Rattle.std.specs.Prelude.{ℕ, ◌≡◌, true, if◌then◌else◌}
-use Rattle.tcc_program.specs.Program.{Program}
-use Rattle.tcc_rules.specs.Attempt.{finished, is_solo}
-use Rattle.tcc_rules.specs.State.{CoreState, Phase, AwaitTid, Solo}
+use Rattle.rules_program.specs.Program.{Program}
+use Rattle.rules_tcc.specs.Attempt.{finished, is_solo}
+use Rattle.rules_tcc.specs.State.{CoreState, Phase, AwaitTid, Solo}
 use Rattle.core_node.specs.AtHand.{ends_by}
 
 -- an attempt as it commits: that of a core that is alone has the instruction that ends it

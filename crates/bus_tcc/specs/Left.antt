@@ -1,8 +1,8 @@
 -- The packet on a bus, and the cores that are still to take it.
 use Rattle.std.specs.Prelude.{ℕ, Bool, false, not, nat_lt, ◌==◌, ◌&&◌, Option, None, if◌then◌else◌}
 use Rattle.tcc_base.specs.declared.names.CoreId.{CoreId}
-use Rattle.tcc_maps.specs.Words.{any_below, put}
-use Rattle.bus_rules.specs.State.{Bus, Free, Alone, Packet}
+use Rattle.rules_maps.specs.Words.{any_below, put}
+use Rattle.rules_bus.specs.State.{Bus, Free, Alone, Packet}
 
 abbrev pub is_left : Bus → (core : ℕ) → Bool
 is_left Free c = false

@@ -5,14 +5,14 @@ use Rattle.image_load.specs.Start.{Start}
 use Rattle.rv_code.specs.Machine.{program}
 use Rattle.tcc_base.specs.Settings.{Settings}
 use Rattle.tcc_base.specs.declared.access.Commit.{Commit}
-use Rattle.tcc_maps.specs.Masks.{has}
-use Rattle.tcc_program.specs.Program.{Program}
+use Rattle.rules_maps.specs.Masks.{has}
+use Rattle.rules_program.specs.Program.{Program}
 use Rattle.core_node.specs.AtHand.{words_in}
 use Rattle.core_node.specs.declared.state.Core.{Core}
-use Rattle.core_bank.specs.Bank.{cores_of}
-use Rattle.bus_rules.specs.State as rules
-use Rattle.bus_rules.specs.State.{BusWorld}
-use Rattle.bus_rules.specs.Step.{BusHistory}
+use Rattle.machine_cores.specs.Bank.{cores_of}
+use Rattle.rules_bus.specs.State as rules
+use Rattle.rules_bus.specs.State.{BusWorld}
+use Rattle.rules_bus.specs.Step.{BusHistory}
 use Rattle.bus_tcc.specs.declared.bus.Bus.{Bus}
 use Rattle.bus_tcc.specs.declared.bus.Bus.TheVariants.{Free, Alone, Packet}
 use Rattle.bus_tcc.specs.declared.event.BusEvent.{BusEvent}

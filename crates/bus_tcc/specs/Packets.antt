@@ -1,9 +1,9 @@
 -- The packet of a commit, line by line.
 use Rattle.std.specs.Prelude.{ℕ, ◌≡◌, List, [], map, Option, is_some, unwrap_or}
 use Rattle.tcc_base.specs.declared.access.Tagged.{Tagged}
-use Rattle.tcc_maps.specs.Masks.{mask_of, masked}
-use Rattle.tcc_maps.specs.Shape.{Shape, lines}
-use Rattle.tcc_maps.specs.Words.{any_word, eight, those, word_at}
+use Rattle.rules_maps.specs.Masks.{mask_of, masked}
+use Rattle.rules_maps.specs.Shape.{Shape, lines}
+use Rattle.rules_maps.specs.Words.{any_word, eight, those, word_at}
 use Rattle.core_node.specs.AtHand.{words_in}
 use Rattle.bus_tcc.specs.declared.bus.Bus.{Bus}
 use Rattle.bus_tcc.specs.declared.bus.Bus.TheVariants.{Free, Alone, Packet}

@@ -1,8 +1,8 @@
 -- The useful events of a machine in three parts, and the counts by which they are found.
 use Rattle.std.specs.Prelude.{ℕ, List, [], ◌∷◌, map, filter, if◌then◌else◌}
 use Rattle.std.specs.List.{flat_map}
-use Rattle.tcc_rules.specs.Seen.{numbers}
-use Rattle.bus_rules.specs.State.{BusEvent, Exec, Evict, Take}
+use Rattle.rules_tcc.specs.Seen.{numbers}
+use Rattle.rules_bus.specs.State.{BusEvent, Exec, Evict, Take}
 use Rattle.bus_tcc.specs.Left.{is_left}
 use Rattle.bus_tcc.specs.Machine.{BusMachine, bus_program_of, bus_settings_of, bus_world_of, is_free}
 use Rattle.bus_tcc.specs.Uses.{AreCounted, AreCountedBut, may_exec, room_ways}

@@ -1,9 +1,9 @@
 -- What a machine has come to by its events: the commits are a serial execution of the plain machine, and it isn't stuck.
 use Rattle.std.specs.Prelude.{◌≡◌, []}
 use Rattle.tcc_base.specs.Settings.{IsAllowed}
-use Rattle.bus_rules.specs.Useful.{BusIsDone}
-use Rattle.bus_serial.specs.Given.{BusSerial}
-use Rattle.bus_serial.specs.Laws.{AreNumbered}
+use Rattle.rules_bus.specs.Useful.{BusIsDone}
+use Rattle.theorem_bus.specs.Given.{BusSerial}
+use Rattle.theorem_bus.specs.Laws.{AreNumbered}
 use Rattle.bus_tcc.specs.Chosen.{bus_useful_of}
 use Rattle.bus_tcc.specs.Machine.{BusMachine, bus_history_of, bus_settings_of, bus_start_of, bus_world_of}
 

@@ -1,11 +1,11 @@
 -- What a core does with the lines of a packet, one after another.
 use Rattle.std.specs.Prelude.{Bool, false, ◌||◌, List, [], ◌∷◌, if◌then◌else◌}
 use Rattle.tcc_base.specs.declared.access.Tagged.{Tagged}
-use Rattle.tcc_maps.specs.Cache.{Cache}
-use Rattle.tcc_maps.specs.CacheLook.{reads_masked}
-use Rattle.tcc_rules.specs.Attempt.{roll_back}
-use Rattle.tcc_rules.specs.CoreDeliver.{words_invalidated}
-use Rattle.tcc_rules.specs.State.{CoreState, Running}
+use Rattle.rules_maps.specs.Cache.{Cache}
+use Rattle.rules_maps.specs.CacheLook.{reads_masked}
+use Rattle.rules_tcc.specs.Attempt.{roll_back}
+use Rattle.rules_tcc.specs.CoreDeliver.{words_invalidated}
+use Rattle.rules_tcc.specs.State.{CoreState, Running}
 
 unfoldable pub struck_by : List Tagged → CoreState → CoreState
 struck_by [] s = s

@@ -1,13 +1,13 @@
 -- What each core may do next, by itself, and the counts of that by core.
 use Rattle.std.specs.Prelude.{ℕ, ◌≡◌, ◌≢◌, ◌<◌, Bool, true, false, not, ◌&&◌, ◌||◌, List, [], map, filter, length, get_or, Option, Some}
 use Rattle.std.specs.Prelude.{None, is_some, if◌then◌else◌}
-use Rattle.tcc_maps.specs.Shape.{Shape}
-use Rattle.tcc_program.specs.Program.{Program}
-use Rattle.tcc_rules.specs.CoreEvict.{core_evict}
-use Rattle.tcc_rules.specs.CoreExec.{core_exec}
-use Rattle.tcc_rules.specs.Seen.{numbers}
-use Rattle.tcc_rules.specs.State.{CoreState, Phase, Running, AwaitTid, Solo}
-use Rattle.tcc_rules.specs.Useful.{room}
+use Rattle.rules_maps.specs.Shape.{Shape}
+use Rattle.rules_program.specs.Program.{Program}
+use Rattle.rules_tcc.specs.CoreEvict.{core_evict}
+use Rattle.rules_tcc.specs.CoreExec.{core_exec}
+use Rattle.rules_tcc.specs.Seen.{numbers}
+use Rattle.rules_tcc.specs.State.{CoreState, Phase, Running, AwaitTid, Solo}
+use Rattle.rules_tcc.specs.Useful.{room}
 use Rattle.core_node.specs.AtHand.{goes_alone}
 use Rattle.bus_tcc.specs.declared.counts.Counts.{Counts}
 

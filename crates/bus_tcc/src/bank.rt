@@ -1,13 +1,13 @@
 // The cores of the machine.
 ghost use Rattle.std.specs.Prelude.{◌≡◌, ◌<◌, ◌↔◌, ℕ, true, IsTrue, IfOk, OnOk, OnErr, Some, None};
 ghost use Rattle.image_load.specs.Contents.{started};
-ghost use Rattle.tcc_rules.specs.CoreEvict.{core_evict};
-ghost use Rattle.tcc_rules.specs.State.{Halted};
+ghost use Rattle.rules_tcc.specs.CoreEvict.{core_evict};
+ghost use Rattle.rules_tcc.specs.State.{Halted};
 ghost use Rattle.core_node.specs.Answers.{IsBlocked, IsMemory};
 ghost use Rattle.core_node.specs.View.{core_of};
-ghost use Rattle.core_bank.specs.Bank.{cores_of, first_core};
-ghost use Rattle.bus_rules.specs.Commit.{all_clean, commit_out};
-ghost use Rattle.bus_rules.specs.Exec.{instruction};
+ghost use Rattle.machine_cores.specs.Bank.{cores_of, first_core};
+ghost use Rattle.rules_bus.specs.Commit.{all_clean, commit_out};
+ghost use Rattle.rules_bus.specs.Exec.{instruction};
 ghost use Rattle.bus_tcc.specs.Committing.{CanCommit, IsCommitOf};
 ghost use Rattle.bus_tcc.specs.Bank.{Acted, ExecutedAt};
 ghost use Rattle.bus_tcc.specs.Ending.{CommitsBy, at_commit};
@@ -15,15 +15,15 @@ ghost use Rattle.bus_tcc.specs.Machine.{word_in};
 ghost use Rattle.bus_tcc.specs.Taking.{took};
 ghost use Rattle.tcc_base.specs.Put.{put};
 ghost use Rattle.core_node.specs.AtHand.{ends_by, executes, goes_alone};
-ghost use Rattle.tcc_rules.specs.CoreExec.{core_exec};
+ghost use Rattle.rules_tcc.specs.CoreExec.{core_exec};
 ghost use Rattle.rv_code.specs.Machine.{program};
 
 use crate::committing::{Written, commit_one};
 use crate::executing::execute_one;
 use crate::taking::take_lines;
 use commit_engine::Phase;
-use core_bank::start_cores;
 use core_node::{CoreError, CoreNode};
+use machine_cores::start_cores;
 use rv_code::Code;
 use std::alloc::Global;
 use std::marker::Model;
@@ -38,7 +38,7 @@ pub struct BusBank {
 }
 
 impl Model for BusBank {
-    ghost use Rattle.core_bank.specs.Bank.{CoresData};
+    ghost use Rattle.machine_cores.specs.Bank.{CoresData};
 
     ghost Value = { CoresData };
 

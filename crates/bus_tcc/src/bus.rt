@@ -1,13 +1,13 @@
 // The bus: who has it, and the packet that is on it.
 ghost use Rattle.std.specs.Prelude.{◌≡◌, ◌<◌, ◌≤◌, [], false, not, nat_lt, filter, length, option_map, slice_get, if◌then◌else◌};
-ghost use Rattle.tcc_rules.specs.Seen.{numbers};
+ghost use Rattle.rules_tcc.specs.Seen.{numbers};
 ghost use Rattle.tcc_base.specs.Put.{put};
-ghost use Rattle.tcc_maps.specs.Masks.{has};
-ghost use Rattle.tcc_maps.specs.Words.{any_below};
+ghost use Rattle.rules_maps.specs.Masks.{has};
+ghost use Rattle.rules_maps.specs.Words.{any_below};
 ghost use Rattle.core_node.specs.AtHand.{words_in};
 ghost use Rattle.bus_tcc.specs.Left.{is_left, number_of, packet_words, without_core};
 ghost use Rattle.bus_tcc.specs.Packets.{lines_on};
-ghost use Rattle.bus_rules.specs.Useful.{is_packet};
+ghost use Rattle.rules_bus.specs.Useful.{is_packet};
 ghost use Rattle.bus_tcc.specs.Machine.{bus_of, is_free};
 
 use commit_engine::DirSet;

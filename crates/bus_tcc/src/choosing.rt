@@ -1,6 +1,6 @@
 // The events that are worth choosing, as the counts of what each core may do find them.
 ghost use Rattle.std.specs.Prelude.{◌≡◌, ◌<◌, length, is_some, option_map, slice_get};
-ghost use Rattle.bus_rules.specs.State.{Exec, Evict, Take};
+ghost use Rattle.rules_bus.specs.State.{Exec, Evict, Take};
 ghost use Rattle.bus_tcc.specs.Answers.{bus_step_of};
 ghost use Rattle.bus_tcc.specs.Chosen.{bus_useful_of};
 ghost use Rattle.bus_tcc.specs.Machine.{bus_event_of, bus_settings_of};

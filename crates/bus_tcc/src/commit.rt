@@ -1,8 +1,8 @@
 // A core commits.
 ghost use Rattle.std.specs.Prelude.{◌≡◌, ◌<◌, Some};
-ghost use Rattle.bus_rules.specs.Commit.{bus_commit};
-ghost use Rattle.bus_rules.specs.State.{Exec};
-ghost use Rattle.tcc_rules.specs.State.{AwaitTid};
+ghost use Rattle.rules_bus.specs.Commit.{bus_commit};
+ghost use Rattle.rules_bus.specs.State.{Exec};
+ghost use Rattle.rules_tcc.specs.State.{AwaitTid};
 ghost use Rattle.bus_tcc.specs.Answers.{Answers, bus_step_of};
 ghost use Rattle.bus_tcc.specs.Ending.{CommitsBy, at_commit};
 ghost use Rattle.bus_tcc.specs.Machine.{bus_program_of, bus_settings_of, bus_world_of};

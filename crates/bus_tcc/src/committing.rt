@@ -2,10 +2,10 @@
 ghost use Rattle.std.specs.Prelude.{◌≡◌, ◌<◌, None, IfOk, OnOk, OnErr};
 ghost use Rattle.image_load.specs.Contents.{started};
 ghost use Rattle.rv_code.specs.Machine.{program};
-ghost use Rattle.bus_rules.specs.Commit.{all_clean, commit_out};
+ghost use Rattle.rules_bus.specs.Commit.{all_clean, commit_out};
 ghost use Rattle.core_node.specs.Answers.{IsMemory};
 ghost use Rattle.core_node.specs.View.{core_of};
-ghost use Rattle.tcc_maps.specs.Shape.{lines};
+ghost use Rattle.rules_maps.specs.Shape.{lines};
 ghost use Rattle.bus_tcc.specs.Committing.{CanCommit, IsCommitOf};
 ghost use Rattle.bus_tcc.specs.Ending.{CommitsBy, at_commit};
 

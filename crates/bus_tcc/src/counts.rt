@@ -2,13 +2,13 @@
 ghost use Rattle.std.specs.Prelude.{◌≡◌, ◌<◌, ℕ, true, false, IfOk, length, slice_get, slice_set, option_map, if◌then◌else◌};
 ghost use Rattle.image_load.specs.Contents.{started};
 ghost use Rattle.rv_code.specs.Machine.{program};
-ghost use Rattle.core_bank.specs.Bank.{cores_of};
+ghost use Rattle.machine_cores.specs.Bank.{cores_of};
 ghost use Rattle.bus_tcc.specs.Uses.{AreCounted, HavePlaces, exec_count as count_of, may_exec as may, way_count as ways_of};
 
 use crate::bank::BusBank;
 use crate::uses::{exec_count, way_count};
+use base_sums::SumTree;
 use std::alloc::Global;
-use sum_tree::SumTree;
 use tcc_base::{CoreId, NoMemory};
 
 /// The counts by core.

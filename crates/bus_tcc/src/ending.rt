@@ -2,11 +2,11 @@
 ghost use Rattle.std.specs.Prelude.{◌≡◌, ◌<◌, true, None, Some, IfOk, OnOk, OnErr};
 ghost use Rattle.image_load.specs.Contents.{started};
 ghost use Rattle.rv_code.specs.Machine.{program};
-ghost use Rattle.bus_rules.specs.Commit.{commit_out};
+ghost use Rattle.rules_bus.specs.Commit.{commit_out};
 ghost use Rattle.commit_engine.specs.Engine.{phase_of};
 ghost use Rattle.core_node.specs.Answers.{IsMemory};
 ghost use Rattle.core_node.specs.View.{core_of};
-ghost use Rattle.tcc_rules.specs.Attempt.{is_solo};
+ghost use Rattle.rules_tcc.specs.Attempt.{is_solo};
 ghost use Rattle.bus_tcc.specs.Ending.{CommitsBy, at_commit};
 
 use commit_engine::Phase;

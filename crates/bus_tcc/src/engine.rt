@@ -3,15 +3,15 @@ ghost use Rattle.std.specs.Prelude.{◌≡◌, ◌<◌, ℕ, IfOk, length, get_o
 ghost use Rattle.image_load.specs.Contents.{started};
 ghost use Rattle.rv_code.specs.Machine.{first_ram};
 ghost use Rattle.tcc_base.specs.Settings.{IsAllowed};
-ghost use Rattle.bus_serial.specs.Given.{bus_at_start};
+ghost use Rattle.theorem_bus.specs.Given.{bus_at_start};
 ghost use Rattle.bus_tcc.specs.Whole.{BusReached};
-ghost use Rattle.core_bank.specs.Bank.{cores_of};
+ghost use Rattle.machine_cores.specs.Bank.{cores_of};
 ghost use Rattle.bus_tcc.specs.Machine.{bus_history_of, bus_world_of};
 
 use crate::bank::BusBank;
 use crate::bus::Bus;
-use commit_list::CommitList;
 use image_load::Loaded;
+use machine_commits::CommitList;
 use rv_code::Code;
 use std::alloc::Global;
 use std::marker::Model;

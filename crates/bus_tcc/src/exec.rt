@@ -1,9 +1,9 @@
 // A core executes.
 ghost use Rattle.std.specs.Prelude.{◌≡◌, ◌<◌, ◌&&◌, [], not, true, if◌then◌else◌};
-ghost use Rattle.bus_rules.specs.Exec.{goes_on, instruction};
-ghost use Rattle.bus_rules.specs.State.{Alone, Exec};
+ghost use Rattle.rules_bus.specs.Exec.{goes_on, instruction};
+ghost use Rattle.rules_bus.specs.State.{Alone, Exec};
 ghost use Rattle.core_node.specs.AtHand.{executes, goes_alone};
-ghost use Rattle.tcc_rules.specs.CoreExec.{core_exec};
+ghost use Rattle.rules_tcc.specs.CoreExec.{core_exec};
 ghost use Rattle.bus_tcc.specs.Answers.{Answers, bus_step_of};
 ghost use Rattle.bus_tcc.specs.Machine.{bus_of, bus_program_of, bus_settings_of, bus_world_of, is_free};
 ghost use Rattle.bus_tcc.specs.Packets.{lines_on};

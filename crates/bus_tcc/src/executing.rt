@@ -7,7 +7,7 @@ ghost use Rattle.core_node.specs.Answers.{IsBlocked};
 ghost use Rattle.core_node.specs.AtHand.{executes};
 ghost use Rattle.core_node.specs.Executing.{overflows};
 ghost use Rattle.core_node.specs.View.{core_of};
-ghost use Rattle.bus_rules.specs.Exec.{instruction};
+ghost use Rattle.rules_bus.specs.Exec.{instruction};
 ghost use Rattle.bus_tcc.specs.Bank.{Executed, gone_if};
 ghost use Rattle.bus_tcc.specs.Machine.{word_in};
 

@@ -1,9 +1,9 @@
 // What a commit wrote goes over the bus.
 ghost use Rattle.std.specs.Prelude.{◌≡◌, ◌<◌, ◌≤◌, ◌==◌, ◌&&◌, [], not, length, if◌then◌else◌};
-ghost use Rattle.tcc_maps.specs.Masks.{has};
-ghost use Rattle.tcc_maps.specs.Words.{any_below};
+ghost use Rattle.rules_maps.specs.Masks.{has};
+ghost use Rattle.rules_maps.specs.Words.{any_below};
 ghost use Rattle.core_node.specs.AtHand.{words_in};
-ghost use Rattle.bus_rules.specs.State.{Free, Packet as OnBus};
+ghost use Rattle.rules_bus.specs.State.{Free, Packet as OnBus};
 ghost use Rattle.bus_tcc.specs.Left.{all_but};
 ghost use Rattle.bus_tcc.specs.Machine.{bus_of, is_free};
 ghost use Rattle.bus_tcc.specs.Packets.{lines_on};

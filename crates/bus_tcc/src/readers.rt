@@ -1,16 +1,16 @@
 // What is committed, and what memory holds.
 ghost use Rattle.std.specs.Prelude.{◌≡◌, ◌<◌, ◌/◌, ◌*◌, ◌↔◌, IsTrue, IfOk, map};
-ghost use Rattle.bus_rules.specs.Exec.{line_words};
-ghost use Rattle.bus_rules.specs.Useful.{BusIsDone};
+ghost use Rattle.rules_bus.specs.Exec.{line_words};
+ghost use Rattle.rules_bus.specs.Useful.{BusIsDone};
 ghost use Rattle.core_node.specs.View.{core_of};
 ghost use Rattle.rv_plain.specs.Attempts.{outcome_of};
-ghost use Rattle.tcc_rules.specs.State.{Halted};
+ghost use Rattle.rules_tcc.specs.State.{Halted};
 ghost use Rattle.bus_tcc.specs.Left.{packet_words};
 ghost use Rattle.bus_tcc.specs.Machine.{bus_of, bus_settings_of, bus_world_of, word_in};
 ghost use Rattle.bus_tcc.specs.Packets.{lines_on, packet_line_of, packet_lines};
 ghost use Rattle.bus_tcc.specs.Refined.{IsBusRefined};
-ghost use Rattle.tcc_program.specs.Cores.{printed};
-ghost use Rattle.tcc_serial.specs.Commits.{end_after};
+ghost use Rattle.rules_program.specs.Cores.{printed};
+ghost use Rattle.theorem_serial.specs.Commits.{end_after};
 
 use crate::bus::Bus;
 use crate::engine::Engine;

@@ -1,7 +1,7 @@
 // The machine takes an event.
 ghost use Rattle.std.specs.Prelude.{◌≡◌, ◌<◌, true};
-ghost use Rattle.tcc_rules.specs.Attempt.{is_solo};
-ghost use Rattle.bus_rules.specs.State.{Exec};
+ghost use Rattle.rules_tcc.specs.Attempt.{is_solo};
+ghost use Rattle.rules_bus.specs.State.{Exec};
 ghost use Rattle.bus_tcc.specs.Answers.{Answers};
 ghost use Rattle.bus_tcc.specs.Machine.{bus_event_of, bus_settings_of, bus_world_of};
 

@@ -1,7 +1,7 @@
 // The machine takes events.
 ghost use Rattle.std.specs.Prelude.{◌≡◌, ◌≢◌, ◌+◌, ◌<◌, ◌↔◌, ℕ, Err, None, Some, IsTrue, IsErrOf, IfOk, OnOk, OnErr, is_ok, if◌then◌else◌};
-ghost use Rattle.bus_rules.specs.State.{Evict};
-ghost use Rattle.bus_rules.specs.Step.{bus_next};
+ghost use Rattle.rules_bus.specs.State.{Evict};
+ghost use Rattle.rules_bus.specs.Step.{bus_next};
 ghost use Rattle.bus_tcc.specs.Answers.{Answers, bus_step_of, refusal_of, tid_noted, tid_told};
 ghost use Rattle.bus_tcc.specs.Machine.{bus_event_of, bus_history_of, bus_program_of, bus_settings_of};
 

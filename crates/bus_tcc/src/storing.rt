@@ -1,8 +1,8 @@
 // What a commit writes to memory.
 ghost use Rattle.std.specs.Prelude.{◌≡◌, ◌<◌, ◌≤◌, ◌+◌, ◌*◌, ℕ, length, get_or, slice_set, if◌then◌else◌};
-ghost use Rattle.tcc_maps.specs.Masks.{has, hit};
-ghost use Rattle.tcc_maps.specs.Words.{place_of};
-ghost use Rattle.bus_rules.specs.Commit.{with_words};
+ghost use Rattle.rules_maps.specs.Masks.{has, hit};
+ghost use Rattle.rules_maps.specs.Words.{place_of};
+ghost use Rattle.rules_bus.specs.Commit.{with_words};
 ghost use Rattle.core_node.specs.AtHand.{words_in};
 ghost use Rattle.bus_tcc.specs.Machine.{word_in};
 ghost use Rattle.bus_tcc.specs.Storing.{AreInside};

@@ -1,9 +1,9 @@
 // The machine as one object.
 ghost use Rattle.std.specs.Prelude.{◌≡◌, ◌<◌, ◌↔◌, IsTrue, IfOk, map};
 ghost use Rattle.image_load.specs.Contents.{started};
-ghost use Rattle.bus_rules.specs.Exec.{line_words};
-ghost use Rattle.bus_rules.specs.Useful.{BusIsDone};
-ghost use Rattle.bus_serial.specs.Given.{bus_at_start};
+ghost use Rattle.rules_bus.specs.Exec.{line_words};
+ghost use Rattle.rules_bus.specs.Useful.{BusIsDone};
+ghost use Rattle.theorem_bus.specs.Given.{bus_at_start};
 ghost use Rattle.bus_tcc.specs.Answers.{Answers};
 ghost use Rattle.bus_tcc.specs.Left.{packet_words};
 ghost use Rattle.bus_tcc.specs.Machine.{bus_event_of, bus_history_of, bus_of, bus_settings_of, bus_world_of};
@@ -12,8 +12,8 @@ ghost use Rattle.core_node.specs.View.{core_of as state_of};
 ghost use Rattle.bus_tcc.specs.Refined.{IsBusRefined};
 ghost use Rattle.bus_tcc.specs.Parts.{CountedBut, CountedIn, core_named};
 ghost use Rattle.bus_tcc.specs.Whole.{BusReached};
-ghost use Rattle.tcc_program.specs.Cores.{printed};
-ghost use Rattle.tcc_serial.specs.Commits.{end_after};
+ghost use Rattle.rules_program.specs.Cores.{printed};
+ghost use Rattle.theorem_serial.specs.Commits.{end_after};
 
 use crate::bus::Bus;
 use crate::counts::Counts;

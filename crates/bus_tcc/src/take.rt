@@ -1,6 +1,6 @@
 // A core takes the packet that is on the bus.
 ghost use Rattle.std.specs.Prelude.{◌<◌};
-ghost use Rattle.bus_rules.specs.State.{Take};
+ghost use Rattle.rules_bus.specs.State.{Take};
 ghost use Rattle.bus_tcc.specs.Answers.{Answers};
 
 use crate::engine::Engine;

@@ -1,7 +1,7 @@
 // A core that isn't alone.
 ghost use Rattle.std.specs.Prelude.{◌≡◌, ◌<◌, false};
-ghost use Rattle.tcc_rules.specs.Attempt.{is_solo};
-ghost use Rattle.bus_rules.specs.State.{Exec};
+ghost use Rattle.rules_tcc.specs.Attempt.{is_solo};
+ghost use Rattle.rules_bus.specs.State.{Exec};
 ghost use Rattle.bus_tcc.specs.Answers.{Answers};
 ghost use Rattle.bus_tcc.specs.Machine.{bus_settings_of, bus_world_of};
 

@@ -2,8 +2,8 @@
 use Rattle.std.proofs.Common.{◌≡◌, ℕ, ◌%◌, ◌<◌, List, [], ◌∷◌, length, Option, Some, None, refl, ap, ◌∙◌, arith}
 use Rattle.std.specs.Prelude.{slice_get, get_or, is_some, option_map, true}
 use Rattle.std.proofs.lemmas.Option.{slice_get-get_or}
-use Rattle.bus_rules.specs.State.{BusEvent}
-use Rattle.bus_rules.specs.Useful.{bus_chosen}
+use Rattle.rules_bus.specs.State.{BusEvent}
+use Rattle.rules_bus.specs.Useful.{bus_chosen}
 use Rattle.bus_tcc.specs.Machine.{bus_event_of}
 use Rattle.bus_tcc.specs.declared.event.BusEvent.{BusEvent as CodeEvent}
 

@@ -5,9 +5,9 @@ use Rattle.rand_core.specs.Steps.{first_words}
 use Rattle.rand_pcg.specs.Lcg.{Lcg}
 use Rattle.rand_pcg.specs.Pcg.{pcg32}
 use Rattle.rv_code.specs.Machine.{program}
-use Rattle.bus_rules.specs.State.{BusEvent}
-use Rattle.bus_rules.specs.Step.{BusHistory, and_then, bus_from, bus_next, bus_run}
-use Rattle.bus_rules.specs.Useful.{after_event, bus_chosen, bus_pick, bus_picked, bus_useful}
+use Rattle.rules_bus.specs.State.{BusEvent}
+use Rattle.rules_bus.specs.Step.{BusHistory, and_then, bus_from, bus_next, bus_run}
+use Rattle.rules_bus.specs.Useful.{after_event, bus_chosen, bus_pick, bus_picked, bus_useful}
 use Rattle.bus_tcc.specs.Chosen.{bus_useful_of}
 use Rattle.bus_tcc.specs.Machine.{BusMachine, bus_history_of, bus_program_of, bus_settings_of}
 use Rattle.bus_tool.specs.Picking.{TookPicked, picks}

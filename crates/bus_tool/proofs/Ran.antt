@@ -5,9 +5,9 @@ use Rattle.rand_core.specs.Steps.{first_words}
 use Rattle.rand_pcg.specs.Lcg.{Lcg}
 use Rattle.rand_pcg.specs.Pcg.{pcg32}
 use Rattle.rv_code.specs.Machine.{program}
-use Rattle.bus_rules.specs.Step.{bus_from, bus_run}
-use Rattle.bus_rules.specs.Useful.{BusIsDone, bus_picked}
-use Rattle.bus_serial.specs.Given.{BusSerial, bus_at_start}
+use Rattle.rules_bus.specs.Step.{bus_from, bus_run}
+use Rattle.rules_bus.specs.Useful.{BusIsDone, bus_picked}
+use Rattle.theorem_bus.specs.Given.{BusSerial, bus_at_start}
 use Rattle.bus_tcc.specs.Chosen.{bus_useful_of}
 use Rattle.bus_tcc.specs.Machine.{BusMachine, bus_history_of, bus_program_of, bus_settings_of, bus_start_of, bus_world_of}
 use Rattle.bus_tcc.specs.Refined.{IsBusRefined}

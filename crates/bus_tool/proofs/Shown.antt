@@ -7,12 +7,12 @@ use Rattle.std.proofs.lemmas.List.FromFn.{map-range_with_len_more}
 use Rattle.image_load.specs.Start.{Start}
 use Rattle.report_text.specs.Plain.{shown_core}
 use Rattle.tcc_base.specs.declared.access.CoreEnd.{CoreEnd}
-use Rattle.tcc_maps.specs.Words.{eight}
-use Rattle.tcc_program.specs.Cores.{printed}
-use Rattle.tcc_serial.specs.Commits.{end_after}
-use Rattle.bus_rules.specs.Exec.{line_words}
-use Rattle.bus_rules.specs.Step.{BusHistory}
-use Rattle.bus_serial.specs.Given.{bus_committed}
+use Rattle.rules_maps.specs.Words.{eight}
+use Rattle.rules_program.specs.Cores.{printed}
+use Rattle.theorem_serial.specs.Commits.{end_after}
+use Rattle.rules_bus.specs.Exec.{line_words}
+use Rattle.rules_bus.specs.Step.{BusHistory}
+use Rattle.theorem_bus.specs.Given.{bus_committed}
 
 -- what is shown of core c
 pub shown-at : (s : Start) (h : BusHistory) (c : ℕ) (ended : CoreEnd) (pc : ℕ) (regs console : List ℕ) → c < s.settings.cores

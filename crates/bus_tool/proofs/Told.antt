@@ -1,7 +1,7 @@
 -- Whether a machine is done is told once.
 use Rattle.std.proofs.Common.{◌≡◌, ◌↔◌, ◌∙◌, Bool, true, false, List, ℕ, refl, ap}
 use Rattle.std.specs.Prelude.{IsTrue}
-use Rattle.bus_rules.specs.Useful.{BusIsDone}
+use Rattle.rules_bus.specs.Useful.{BusIsDone}
 use Rattle.bus_tcc.specs.Machine.{BusMachine, bus_history_of, bus_settings_of, bus_start_of, bus_world_of}
 use Rattle.bus_tool.specs.Report.{IsBusReport, bus_run_text}
 

@@ -4,9 +4,9 @@ use Rattle.image_load.specs.Start.{Start}
 use Rattle.report_text.specs.Plain.{shown_plain}
 use Rattle.report_text.specs.Shown.{Shown}
 use Rattle.report_text.specs.Text.{bus_text}
-use Rattle.bus_rules.specs.Step.{BusHistory}
-use Rattle.bus_rules.specs.Useful.{BusIsDone}
-use Rattle.bus_serial.specs.Given.{bus_committed}
+use Rattle.rules_bus.specs.Step.{BusHistory}
+use Rattle.rules_bus.specs.Useful.{BusIsDone}
+use Rattle.theorem_bus.specs.Given.{bus_committed}
 use Rattle.bus_tcc.specs.Machine.{BusMachine, bus_history_of, bus_settings_of, bus_start_of, bus_world_of}
 
 -- what is committed, as the plain machine that executed the commits

@@ -6,11 +6,11 @@ use Rattle.rand_core.specs.Steps.{first_words}
 use Rattle.rand_pcg.specs.Lcg.{Lcg}
 use Rattle.rand_pcg.specs.Pcg.{pcg32, pcg32_of_seed}
 use Rattle.rv_code.specs.Machine.{program}
-use Rattle.bus_rules.specs.State.{BusEvent}
-use Rattle.bus_rules.specs.Step.{bus_run}
-use Rattle.bus_rules.specs.Useful.{BusIsDone}
-use Rattle.bus_serial.specs.Given.{BusSerial, bus_at_start, bus_picked_from}
-use Rattle.bus_serial.specs.Laws.{AreNumbered}
+use Rattle.rules_bus.specs.State.{BusEvent}
+use Rattle.rules_bus.specs.Step.{bus_run}
+use Rattle.rules_bus.specs.Useful.{BusIsDone}
+use Rattle.theorem_bus.specs.Given.{BusSerial, bus_at_start, bus_picked_from}
+use Rattle.theorem_bus.specs.Laws.{AreNumbered}
 use Rattle.bus_tcc.specs.Machine.{BusMachine, bus_history_of, bus_world_of}
 
 -- the generator of a seed, PCG XSH RR 64/32: that of the machine with directories

@@ -2,7 +2,7 @@
 ghost use Rattle.std.specs.Prelude.{◌≡◌, IfOk, map};
 ghost use Rattle.std.specs.List.{range_with_len};
 ghost use Rattle.std.specs.String.{string_bytes};
-ghost use Rattle.tcc_program.specs.Cores.{printed};
+ghost use Rattle.rules_program.specs.Cores.{printed};
 ghost use Rattle.bus_tcc.specs.Machine.{bus_history_of, bus_settings_of, bus_start_of};
 ghost use Rattle.bus_tool.specs.Report.{IsBusReport, bus_shown};
 

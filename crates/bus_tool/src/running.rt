@@ -2,7 +2,7 @@
 ghost use Rattle.std.specs.Prelude.{◌≡◌, ◌+◌, ◌≤◌, IfOk, OnOk, is_some, option_map, if◌then◌else◌};
 ghost use Rattle.image_load.specs.Contents.{started};
 ghost use Rattle.rand_pcg.specs.Pcg.{pcg32};
-ghost use Rattle.bus_rules.specs.Useful.{bus_chosen};
+ghost use Rattle.rules_bus.specs.Useful.{bus_chosen};
 ghost use Rattle.bus_tcc.specs.Chosen.{bus_useful_of};
 ghost use Rattle.bus_tcc.specs.Machine.{bus_event_of};
 ghost use Rattle.bus_tool.specs.Picking.{TookPicked};

@@ -5,10 +5,10 @@ use Rattle.std.proofs.lemmas.Bool.Decides.{nat_tests}
 use Rattle.std.proofs.lemmas.List.{append-nil, drop_all}
 use Rattle.image_load.specs.Start.{Start}
 use Rattle.rv_code.specs.Machine.{program}
-use Rattle.tcc_program.specs.Program.{Program}
-use Rattle.tcc_maps.specs.Shape.{Shape}
-use Rattle.bus_rules.specs.State.{BusEvent, BusWorld}
-use Rattle.bus_rules.specs.Step.{BusHistory, and_then, bus_next, bus_from}
+use Rattle.rules_program.specs.Program.{Program}
+use Rattle.rules_maps.specs.Shape.{Shape}
+use Rattle.rules_bus.specs.State.{BusEvent, BusWorld}
+use Rattle.rules_bus.specs.Step.{BusHistory, and_then, bus_next, bus_from}
 use Rattle.schedule_text.specs.Grammar.{joined}
 use Rattle.watch_trace.specs.Text.{tail_text}
 use Rattle.watch_trace.proofs.Lemmas.{joined-from}

@@ -1,8 +1,8 @@
 -- The words of a line that a mask has are the same where all others are zero.
 use Rattle.std.proofs.Common.{◌≡◌, ℕ, Bool, true, false, List, [], ◌++◌, get_or, codes, refl}
 use Rattle.std.specs.Prelude.{if◌then◌else◌}
-use Rattle.tcc_maps.specs.Masks.{has, masked}
-use Rattle.tcc_maps.specs.Words.{eight}
+use Rattle.rules_maps.specs.Masks.{has, masked}
+use Rattle.rules_maps.specs.Words.{eight}
 use Rattle.report_text.specs.Lines.{hex}
 use Rattle.watch_trace.specs.Words.{value_word, value_words}
 

@@ -2,7 +2,7 @@
 use Rattle.std.specs.Prelude.{ℕ, List, ◌++◌, codes}
 use Rattle.std.specs.Fmt.{decimal}
 use Rattle.tcc_base.specs.Settings.{Settings}
-use Rattle.bus_rules.specs.State.{BusEvent, Exec, Evict, Take}
+use Rattle.rules_bus.specs.State.{BusEvent, Exec, Evict, Take}
 use Rattle.bus_tcc.specs.Packets.{PacketLine}
 use Rattle.schedule_text.specs.Grammar.{newline}
 use Rattle.watch_trace.specs.Lines.{fact_line}

@@ -1,12 +1,12 @@
 -- Lines of a trace that a second implementation wrote, each with the fact that it shows; its first lines; and the last event of a schedule
 -- that is worked by hand.
 use Rattle.std.specs.Prelude.{◌≡◌, ℕ, List, [], ◌∷◌, ◌++◌, map, codes}
-use Rattle.tcc_rules.specs.Needs.{needs, entry}
-use Rattle.tcc_rules.specs.State.{Running}
-use Rattle.tcc_rules.specs.Told.{machine, first_words}
-use Rattle.bus_rules.specs.Cases.{alone_code, alone_events}
-use Rattle.bus_rules.specs.State.{bus_start}
-use Rattle.bus_rules.specs.Told.{e, x}
+use Rattle.rules_tcc.specs.Needs.{needs, entry}
+use Rattle.rules_tcc.specs.State.{Running}
+use Rattle.rules_tcc.specs.Told.{machine, first_words}
+use Rattle.rules_bus.specs.Cases.{alone_code, alone_events}
+use Rattle.rules_bus.specs.State.{bus_start}
+use Rattle.rules_bus.specs.Told.{e, x}
 use Rattle.schedule_text.specs.Grammar.{newline}
 use Rattle.watch.specs.Facts.{Missed, Violated}
 use Rattle.bus_watch.specs.Facts.{BusFact, Common, TookPacket, HeldBy, SentLine, Nobody, OneCore, PacketOf}

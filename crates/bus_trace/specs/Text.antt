@@ -4,10 +4,10 @@ use Rattle.std.specs.List.{flat_map}
 use Rattle.image_load.specs.Start.{Start}
 use Rattle.rv_code.specs.Machine.{program}
 use Rattle.tcc_base.specs.Settings.{Settings}
-use Rattle.tcc_program.specs.Program.{Program}
-use Rattle.tcc_maps.specs.Shape.{Shape}
-use Rattle.bus_rules.specs.State.{BusEvent, BusWorld}
-use Rattle.bus_rules.specs.Step.{BusHistory, bus_next}
+use Rattle.rules_program.specs.Program.{Program}
+use Rattle.rules_maps.specs.Shape.{Shape}
+use Rattle.rules_bus.specs.State.{BusEvent, BusWorld}
+use Rattle.rules_bus.specs.Step.{BusHistory, bus_next}
 use Rattle.schedule_text.specs.Grammar.{newline, joined}
 use Rattle.watch_trace.specs.Text.{from_line, tail_text}
 use Rattle.bus_watch.specs.Facts.{BusFact}

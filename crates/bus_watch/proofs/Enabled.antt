@@ -3,8 +3,8 @@ use Rattle.std.proofs.Common.{◌≡◌, ◌≢◌, ℕ, ◌<◌, Bool, true, fa
 use Rattle.std.specs.Prelude.{nat_lt}
 use Rattle.std.proofs.lemmas.Bool.Decides.{nat_tests}
 use Rattle.tcc_base.specs.Settings.{Settings}
-use Rattle.bus_rules.specs.State.{BusEvent, Exec, Evict, Take}
-use Rattle.bus_rules.specs.Step.{bus_names, bus_step}
+use Rattle.rules_bus.specs.State.{BusEvent, Exec, Evict, Take}
+use Rattle.rules_bus.specs.Step.{bus_names, bus_step}
 use Rattle.bus_tcc.specs.Answers.{bus_step_of}
 use Rattle.bus_tcc.specs.Machine.{BusMachine, bus_settings_of}
 

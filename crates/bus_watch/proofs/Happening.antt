@@ -2,9 +2,9 @@
 use Rattle.std.proofs.Common.{◌≡◌, ℕ, suc, ◌-◌, List, [], ◌∷◌, ◌++◌, length, map, Option, Some, None, refl, ap, sym, ◌∙◌, subst, arith}
 use Rattle.std.specs.Prelude.{option_map, slice_get, Err}
 use Rattle.tcc_base.specs.declared.access.Commit.{Commit}
-use Rattle.bus_rules.specs.Commit.{BusStepped}
-use Rattle.bus_rules.specs.State.{BusEvent}
-use Rattle.bus_rules.specs.Step.{BusHistory, and_noted, bus_next, recorded}
+use Rattle.rules_bus.specs.Commit.{BusStepped}
+use Rattle.rules_bus.specs.State.{BusEvent}
+use Rattle.rules_bus.specs.Step.{BusHistory, and_noted, bus_next, recorded}
 use Rattle.bus_tcc.specs.Answers.{Answers, Took, bus_step_of, tid_noted, tid_told}
 use Rattle.bus_tcc.specs.Machine.{BusMachine, bus_history_of, bus_program_of, bus_settings_of, bus_world_of}
 use Rattle.bus_tcc.specs.declared.event.BusError.{BusError}

@@ -1,10 +1,10 @@
 -- A cache answers with a value exactly where the word is valid.
 use Rattle.std.proofs.Common.{◌≡◌, ℕ, Bool, true, false, Option, Some, None, is_some, refl}
 use Rattle.std.specs.Prelude.{if◌then◌else◌}
-use Rattle.tcc_maps.specs.Cache.{Cache, all_marked, free_way}
-use Rattle.tcc_maps.specs.CacheLook.{Look, Hit, Miss, NeedsRoom, Overflow, look_line, look_load, look_value}
-use Rattle.tcc_maps.specs.Shape.{Shape, set_of}
-use Rattle.tcc_maps.specs.Words.{line_of}
+use Rattle.rules_maps.specs.Cache.{Cache, all_marked, free_way}
+use Rattle.rules_maps.specs.CacheLook.{Look, Hit, Miss, NeedsRoom, Overflow, look_line, look_load, look_value}
+use Rattle.rules_maps.specs.Shape.{Shape, set_of}
+use Rattle.rules_maps.specs.Words.{line_of}
 use Rattle.bus_watch.specs.Telling.{hits}
 
 no-hit : (held free marked : Bool) (set : ℕ)

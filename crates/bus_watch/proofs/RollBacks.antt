@@ -3,12 +3,12 @@ use Rattle.std.proofs.Common.{◌≡◌, ℕ, zero, suc, ◌<◌, Bool, true, fa
 use Rattle.std.proofs.Common.{is_some, refl, ap, sym, ◌∙◌, arith}
 use Rattle.std.specs.Prelude.{◌==◌, cond, if◌then◌else◌}
 use Rattle.std.proofs.lemmas.List.{map-append}
-use Rattle.tcc_maps.proofs.Lemmas.{any_below-at, any_below-found, has-mask_of}
-use Rattle.tcc_maps.specs.Masks.{has, mask_of}
-use Rattle.tcc_maps.specs.Shape.{Shape, lines}
-use Rattle.tcc_maps.specs.Words.{any_below, any_word, or_else, those, word_at}
-use Rattle.tcc_rules.specs.State.{CoreState}
-use Rattle.bus_rules.specs.Take.{reads_some}
+use Rattle.rules_maps.proofs.Lemmas.{any_below-at, any_below-found, has-mask_of}
+use Rattle.rules_maps.specs.Masks.{has, mask_of}
+use Rattle.rules_maps.specs.Shape.{Shape, lines}
+use Rattle.rules_maps.specs.Words.{any_below, any_word, or_else, those, word_at}
+use Rattle.rules_tcc.specs.State.{CoreState}
+use Rattle.rules_bus.specs.Take.{reads_some}
 use Rattle.bus_tcc.specs.Packets.{PacketLine, packet_line, packet_lines}
 use Rattle.watch.specs.Messages.{words_read}
 use Rattle.watch_core.proofs.Lemmas.{some-bit}

@@ -2,13 +2,13 @@
 use Rattle.std.specs.Prelude.{ℕ, ◌-◌, Bool, true, false, not, ◌||◌, ◌==◌, List, [], ◌∷◌, ◌++◌, map, Option, Some, None, is_some}
 use Rattle.std.specs.Prelude.{if◌then◌else◌}
 use Rattle.tcc_base.specs.declared.access.Commit.{Commit as Noted}
-use Rattle.tcc_program.specs.Program.{Need, Program}
-use Rattle.tcc_maps.specs.Shape.{Shape}
-use Rattle.tcc_rules.specs.State.{CoreState, Phase, Running, AwaitTid, Solo}
-use Rattle.bus_rules.specs.Commit.{BusStepped}
-use Rattle.bus_rules.specs.Exec.{word_read}
-use Rattle.bus_rules.specs.State.{Bus, Free, Alone, Packet, BusWorld, BusEvent, Exec, Evict, Take}
-use Rattle.bus_rules.specs.Step.{BusHistory, bus_step}
+use Rattle.rules_program.specs.Program.{Need, Program}
+use Rattle.rules_maps.specs.Shape.{Shape}
+use Rattle.rules_tcc.specs.State.{CoreState, Phase, Running, AwaitTid, Solo}
+use Rattle.rules_bus.specs.Commit.{BusStepped}
+use Rattle.rules_bus.specs.Exec.{word_read}
+use Rattle.rules_bus.specs.State.{Bus, Free, Alone, Packet, BusWorld, BusEvent, Exec, Evict, Take}
+use Rattle.rules_bus.specs.Step.{BusHistory, bus_step}
 use Rattle.bus_tcc.specs.Left.{packet_words}
 use Rattle.bus_tcc.specs.Packets.{PacketLine, packet_lines}
 use Rattle.watch.specs.Facts.{Did, Missed, Overflowed, Violated}

@@ -5,13 +5,13 @@ use Rattle.tcc_base.specs.declared.names.LineAddr.{LineAddr}
 use Rattle.tcc_base.specs.declared.names.Mask.{Mask}
 use Rattle.tcc_base.specs.declared.names.Tid.{Tid}
 use Rattle.tcc_base.specs.declared.names.WordAddr.{WordAddr}
-use Rattle.tcc_program.specs.Program.{Program}
-use Rattle.tcc_maps.specs.CacheLook.{Look, Hit}
-use Rattle.tcc_maps.specs.Shape.{Shape}
-use Rattle.tcc_rules.specs.State.{CoreState, Phase}
+use Rattle.rules_program.specs.Program.{Program}
+use Rattle.rules_maps.specs.CacheLook.{Look, Hit}
+use Rattle.rules_maps.specs.Shape.{Shape}
+use Rattle.rules_tcc.specs.State.{CoreState, Phase}
 use Rattle.commit_engine.specs.Engine.{phase_of}
-use Rattle.bus_rules.specs.Exec.{word_read}
-use Rattle.bus_rules.specs.State.{Bus}
+use Rattle.rules_bus.specs.Exec.{word_read}
+use Rattle.rules_bus.specs.State.{Bus}
 use Rattle.bus_tcc.specs.Machine.{BusMachine, bus_settings_of, bus_world_of}
 use Rattle.watch.specs.Happened.{commit_fact, phase_fact}
 use Rattle.watch_core.specs.Seen.{Saw}

@@ -1,7 +1,7 @@
 -- What `watch_bus` answers.
 use Rattle.std.specs.Prelude.{◌≡◌, ◌≢◌, ◌+◌, List, map, Some, None, Result, Ok, Err}
-use Rattle.bus_rules.specs.State.{BusEvent}
-use Rattle.bus_rules.specs.Step.{bus_next}
+use Rattle.rules_bus.specs.State.{BusEvent}
+use Rattle.rules_bus.specs.Step.{bus_next}
 use Rattle.bus_tcc.specs.Answers.{Kept, bus_step_of}
 use Rattle.bus_tcc.specs.Machine.{BusMachine, bus_history_of, bus_program_of, bus_settings_of}
 use Rattle.bus_tcc.specs.declared.event.BusError.{BusError}

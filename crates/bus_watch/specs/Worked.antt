@@ -1,16 +1,16 @@
--- The facts of each event of two schedules that are worked by hand in bus_rules: a core that had read a word of a packet begins anew, and
+-- The facts of each event of two schedules that are worked by hand in rules_bus: a core that had read a word of a packet begins anew, and
 -- a core whose set is full takes the bus.
 use Rattle.std.specs.Prelude.{ℕ, ◌≡◌, List, [], ◌∷◌, ◌++◌, Option, Some, None}
 use Rattle.tcc_base.specs.declared.access.Size.TheVariants.{Word}
-use Rattle.tcc_program.specs.Program.{Program}
-use Rattle.tcc_maps.specs.Shape.{Shape}
-use Rattle.tcc_rules.specs.Needs.{Codes, needs, entry}
-use Rattle.tcc_rules.specs.State.{Running, AwaitTid, Solo}
-use Rattle.tcc_rules.specs.Told.{machine, first_words}
-use Rattle.bus_rules.specs.Cases.{reader_code, reader_events, alone_code, alone_events}
-use Rattle.bus_rules.specs.State.{BusEvent, bus_start}
-use Rattle.bus_rules.specs.Step.{BusHistory, bus_next}
-use Rattle.bus_rules.specs.Told.{e, x}
+use Rattle.rules_program.specs.Program.{Program}
+use Rattle.rules_maps.specs.Shape.{Shape}
+use Rattle.rules_tcc.specs.Needs.{Codes, needs, entry}
+use Rattle.rules_tcc.specs.State.{Running, AwaitTid, Solo}
+use Rattle.rules_tcc.specs.Told.{machine, first_words}
+use Rattle.rules_bus.specs.Cases.{reader_code, reader_events, alone_code, alone_events}
+use Rattle.rules_bus.specs.State.{BusEvent, bus_start}
+use Rattle.rules_bus.specs.Step.{BusHistory, bus_next}
+use Rattle.rules_bus.specs.Told.{e, x}
 use Rattle.bus_tcc.specs.Packets.{PacketLine}
 use Rattle.watch.specs.Facts.{Fact, Did, Missed, Overflowed, Evicted, Violated, Committed, CameTo, Loaded, Stored, Ended}
 use Rattle.bus_watch.specs.Facts.{BusFact, Common, TookPacket, HeldBy, SentLine, Nobody, OneCore, PacketOf}

@@ -1,11 +1,11 @@
 // What is told behind each event: its commit, the core's phase, who has the bus, and what was sent.
 ghost use Rattle.std.specs.Prelude.{◌≡◌, ◌≢◌, ◌<◌, ◌-◌, ◌++◌, None, OnOk, map};
 ghost use Rattle.commit_engine.specs.Engine.{phase_of};
-ghost use Rattle.bus_rules.specs.State.{BusWorld};
+ghost use Rattle.rules_bus.specs.State.{BusWorld};
 ghost use Rattle.bus_tcc.specs.Answers.{bus_step_of, tid_told};
 ghost use Rattle.bus_tcc.specs.Machine.{bus_event_of, bus_program_of, bus_settings_of, bus_world_of};
 ghost use Rattle.bus_tcc.specs.Packets.{packet_line_of};
-ghost use Rattle.tcc_rules.specs.State.{CoreState};
+ghost use Rattle.rules_tcc.specs.State.{CoreState};
 ghost use Rattle.watch.specs.Happened.{phase_fact};
 ghost use Rattle.bus_watch.specs.Facts.{Common, Holder as PlainHolder, SentLine};
 ghost use Rattle.bus_watch.specs.Happened.{acted, core_of, holder, holder_fact, same_holder as are_same};

@@ -1,6 +1,6 @@
 // A way is emptied.
 ghost use Rattle.std.specs.Prelude.{◌≡◌, ◌≢◌, ◌<◌, ◌++◌, [], None, OnOk, map};
-ghost use Rattle.bus_rules.specs.State.{Evict};
+ghost use Rattle.rules_bus.specs.State.{Evict};
 ghost use Rattle.core_node.specs.View.{core_of};
 ghost use Rattle.bus_tcc.specs.Answers.{bus_step_of};
 ghost use Rattle.watch.specs.Instructions.{evicted as emptied};

@@ -4,12 +4,12 @@ ghost use Rattle.std.specs.Option.{option_map};
 ghost use Rattle.image_load.specs.Contents.{started};
 ghost use Rattle.rv_code.specs.Machine.{program};
 ghost use Rattle.rv_exec.specs.Needs.{need_of};
-ghost use Rattle.tcc_program.specs.Program.{Program};
-ghost use Rattle.tcc_program.specs.Ram.{word_of};
-ghost use Rattle.tcc_rules.specs.State.{CoreState};
+ghost use Rattle.rules_program.specs.Program.{Program};
+ghost use Rattle.rules_program.specs.Ram.{word_of};
+ghost use Rattle.rules_tcc.specs.State.{CoreState};
 ghost use Rattle.core_node.specs.View.{core_of};
-ghost use Rattle.bus_rules.specs.Exec.{word_read as read_by};
-ghost use Rattle.bus_rules.specs.State.{Exec};
+ghost use Rattle.rules_bus.specs.Exec.{word_read as read_by};
+ghost use Rattle.rules_bus.specs.State.{Exec};
 ghost use Rattle.bus_tcc.specs.Answers.{bus_step_of, tid_told};
 ghost use Rattle.bus_tcc.specs.Machine.{bus_program_of, bus_settings_of, bus_world_of};
 ghost use Rattle.bus_watch.specs.Facts.{Holder};
@@ -43,7 +43,7 @@ pub struct SeenExec {
 }
 
 /// The word of an address.
-#[tactic(auto, unfolding(tcc_program::specs::Ram::word_of))]
+#[tactic(auto, unfolding(rules_program::specs::Ram::word_of))]
 fn word_at(config: &Config, addr: u32) -> WordAddr
     ensures { result.0 ≡ word_of config.now.base addr }
 {

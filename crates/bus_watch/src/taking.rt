@@ -1,7 +1,7 @@
 // A core takes the packet that is on the bus.
 ghost use Rattle.std.specs.Prelude.{◌≡◌, ◌≢◌, ◌<◌, ◌++◌, [], None, OnOk, map};
 ghost use Rattle.std.specs.Option.{option_map};
-ghost use Rattle.bus_rules.specs.State.{Take};
+ghost use Rattle.rules_bus.specs.State.{Take};
 ghost use Rattle.core_node.specs.View.{core_of};
 ghost use Rattle.bus_tcc.specs.Answers.{bus_step_of};
 ghost use Rattle.bus_tcc.specs.Machine.{bus_settings_of, bus_world_of};

@@ -3,12 +3,12 @@ use Rattle.std.proofs.Common.{ℕ, ◌+◌, ◌≡◌, Bool, true, false, not, �
 use Rattle.std.proofs.Common.{arith}
 use Rattle.std.proofs.lemmas.Bool.Decides.{nat_tests}
 use Rattle.tcc_base.specs.Put.{put}
-use Rattle.tcc_maps.specs.Masks.{has}
-use Rattle.tcc_maps.specs.Nodes.{Node, Core, Dir, Vendor, Skip, Probe, Abort}
-use Rattle.tcc_maps.specs.Shape.{Shape}
-use Rattle.tcc_maps.specs.Cache.{Cache, reads_at, writes_at}
-use Rattle.tcc_rules.specs.Sends.{when, abort_written}
-use Rattle.tcc_rules.specs.CoreDeliver.{grant_sends}
+use Rattle.rules_maps.specs.Masks.{has}
+use Rattle.rules_maps.specs.Nodes.{Node, Core, Dir, Vendor, Skip, Probe, Abort}
+use Rattle.rules_maps.specs.Shape.{Shape}
+use Rattle.rules_maps.specs.Cache.{Cache, reads_at, writes_at}
+use Rattle.rules_tcc.specs.Sends.{when, abort_written}
+use Rattle.rules_tcc.specs.CoreDeliver.{grant_sends}
 use Rattle.commit_engine.specs.Engine.{first_with}
 use Rattle.commit_engine.specs.Sent.{followed, to_first, to_members}
 

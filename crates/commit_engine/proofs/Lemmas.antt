@@ -6,16 +6,16 @@ use Rattle.std.specs.List.{flat_map}
 use Rattle.std.proofs.lemmas.Bool.{cases_eq, ne_eqb}
 use Rattle.std.proofs.lemmas.Bool.Decides.{nat_tests}
 use Rattle.tcc_base.specs.declared.names.NodeId.{NodeId}
-use Rattle.tcc_maps.specs.Nodes.{Node, Core, Dir, Vendor, Msg, Mark, Skip, Probe, node_eq}
-use Rattle.tcc_maps.specs.Masks.{has}
-use Rattle.tcc_maps.specs.Shape.{Shape}
-use Rattle.tcc_maps.specs.Bridge.{node_of}
-use Rattle.tcc_maps.specs.Cache.{Cache, modified_mask, written_lines, marks_by_home}
+use Rattle.rules_maps.specs.Nodes.{Node, Core, Dir, Vendor, Msg, Mark, Skip, Probe, node_eq}
+use Rattle.rules_maps.specs.Masks.{has}
+use Rattle.rules_maps.specs.Shape.{Shape}
+use Rattle.rules_maps.specs.Bridge.{node_of}
+use Rattle.rules_maps.specs.Cache.{Cache, modified_mask, written_lines, marks_by_home}
 use Rattle.tcc_msg.specs.Plain.{msg_of, sends_of}
 use Rattle.tcc_msg.specs.declared.msg.Msg.{Msg as CodeMsg}
 use Rattle.tcc_msg.specs.declared.outgoing.Outgoing.{Outgoing}
 use Rattle.tcc_msg.proofs.Lemmas.{sends_of-push}
-use Rattle.tcc_rules.specs.Sends.{Sends, to, when, skip_all, probe_all, marks_for}
+use Rattle.rules_tcc.specs.Sends.{Sends, to, when, skip_all, probe_all, marks_for}
 use Rattle.commit_engine.specs.Sent.{Sent, followed, to_first, to_members, mark_at}
 
 pub followed-nothing : (s : Sends) → followed s (λ dst. []) ≡ s

@@ -7,10 +7,10 @@ use Rattle.tcc_base.specs.declared.names.DirId.{DirId}
 use Rattle.tcc_base.specs.declared.names.LineAddr.{LineAddr}
 use Rattle.tcc_base.specs.declared.names.Mask.{Mask}
 use Rattle.tcc_base.specs.declared.names.Tid.{Tid}
-use Rattle.tcc_maps.specs.Nodes.{Dir}
+use Rattle.rules_maps.specs.Nodes.{Dir}
 use Rattle.tcc_msg.specs.declared.outgoing.Outgoing.{Outgoing}
 use Rattle.tcc_msg.specs.declared.msg.Msg.TheVariants.{Mark as CodeMark}
-use Rattle.tcc_rules.specs.Sends.{to}
+use Rattle.rules_tcc.specs.Sends.{to}
 use Rattle.spec_cache.specs.Home.{mark_of}
 use Rattle.commit_engine.specs.Sent.{Sent, mark_at}
 use Rattle.commit_engine.proofs.Lemmas.{sent_push, to-append, to-none, sent_nothing, sent_as}

@@ -7,14 +7,14 @@ use Rattle.std.proofs.lemmas.Bool.Decides.{nat_tests}
 use Rattle.std.proofs.lemmas.List.{get_or-set_same, get_or-set_other}
 use Rattle.tcc_base.specs.Put.{put}
 use Rattle.tcc_base.specs.declared.names.Tid.{Tid}
-use Rattle.tcc_maps.specs.Words.{any_below, count_below}
-use Rattle.tcc_maps.specs.Masks.{has}
-use Rattle.tcc_maps.specs.Spilled.{Spilled}
-use Rattle.tcc_maps.specs.Nodes.{Node, Core, Dir, Vendor, Msg, Commit}
-use Rattle.tcc_maps.specs.Shape.{Shape, home, lines}
-use Rattle.tcc_maps.specs.Cache.{Cache, is_modified, writes_at}
-use Rattle.tcc_rules.specs.Commit.{with_last_commit, commit_sends, is_written, solo_writes_at}
-use Rattle.tcc_rules.specs.Sends.{when}
+use Rattle.rules_maps.specs.Words.{any_below, count_below}
+use Rattle.rules_maps.specs.Masks.{has}
+use Rattle.rules_maps.specs.Spilled.{Spilled}
+use Rattle.rules_maps.specs.Nodes.{Node, Core, Dir, Vendor, Msg, Commit}
+use Rattle.rules_maps.specs.Shape.{Shape, home, lines}
+use Rattle.rules_maps.specs.Cache.{Cache, is_modified, writes_at}
+use Rattle.rules_tcc.specs.Commit.{with_last_commit, commit_sends, is_written, solo_writes_at}
+use Rattle.rules_tcc.specs.Sends.{when}
 use Rattle.commit_engine.specs.Engine.{after_of, first_with}
 use Rattle.commit_engine.specs.Sent.{to_first}
 use Rattle.commit_engine.proofs.FirstWith.{first_none, first_in, first_out}

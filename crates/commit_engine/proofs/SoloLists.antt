@@ -5,13 +5,13 @@ use Rattle.std.specs.List.{flat_map}
 use Rattle.std.proofs.Math.Nat.{mod-lt}
 use Rattle.std.proofs.lemmas.Bool.Decides.{nat_tests}
 use Rattle.std.proofs.lemmas.List.{map-append, length-map}
-use Rattle.tcc_maps.specs.Words.{count_below, those}
-use Rattle.tcc_maps.specs.Nodes.{Node, Core, Dir, Vendor, Msg, Skip, Mark, Commit, WriteBack}
-use Rattle.tcc_maps.specs.Shape.{Shape, home, lines}
-use Rattle.tcc_maps.specs.Cache.{Cache, is_modified}
-use Rattle.tcc_maps.specs.Spilled.{Spilled, holds, spilled_mask, spilled_words}
-use Rattle.tcc_maps.proofs.Lemmas.{length-those}
-use Rattle.tcc_rules.specs.Commit.{is_written, written_mask, solo_writes_at, solo_marks_or_skip, solo_write_backs, solo_sends}
+use Rattle.rules_maps.specs.Words.{count_below, those}
+use Rattle.rules_maps.specs.Nodes.{Node, Core, Dir, Vendor, Msg, Skip, Mark, Commit, WriteBack}
+use Rattle.rules_maps.specs.Shape.{Shape, home, lines}
+use Rattle.rules_maps.specs.Cache.{Cache, is_modified}
+use Rattle.rules_maps.specs.Spilled.{Spilled, holds, spilled_mask, spilled_words}
+use Rattle.rules_maps.proofs.Lemmas.{length-those}
+use Rattle.rules_tcc.specs.Commit.{is_written, written_mask, solo_writes_at, solo_marks_or_skip, solo_write_backs, solo_sends}
 use Rattle.commit_engine.specs.Sent.{followed, to_first}
 use Rattle.commit_engine.specs.Solo.{solo_list, at_homes, marked_line, spilled_back, here, closing}
 use Rattle.commit_engine.proofs.Noting.{any_below-count}

@@ -1,13 +1,13 @@
 -- The mask of the words of a line that are modified or spilled.
 use Rattle.std.proofs.Common.{ℕ, ◌^◌, ◌<◌, ◌≡◌, Bool, true, false, ◌||◌, None, is_some, bit_or, refl, ap, sym, ◌∙◌, arith}
 use Rattle.std.proofs.lemmas.Nat.{or_lt}
-use Rattle.tcc_maps.specs.Words.{line_of, word_at}
-use Rattle.tcc_maps.specs.Masks.{has, mask_of, join}
-use Rattle.tcc_maps.specs.Shape.{Shape}
-use Rattle.tcc_maps.specs.Cache.{Cache, IsCache, modified_mask}
-use Rattle.tcc_maps.specs.Spilled.{Spilled, spilled_mask}
-use Rattle.tcc_rules.specs.Commit.{written_mask}
-use Rattle.tcc_maps.proofs.Lemmas.{has-join, has-mask_of, mask_of-has, mask_of-small}
+use Rattle.rules_maps.specs.Words.{line_of, word_at}
+use Rattle.rules_maps.specs.Masks.{has, mask_of, join}
+use Rattle.rules_maps.specs.Shape.{Shape}
+use Rattle.rules_maps.specs.Cache.{Cache, IsCache, modified_mask}
+use Rattle.rules_maps.specs.Spilled.{Spilled, spilled_mask}
+use Rattle.rules_tcc.specs.Commit.{written_mask}
+use Rattle.rules_maps.proofs.Lemmas.{has-join, has-mask_of, mask_of-has, mask_of-small}
 
 pub mask_of-same : (p q : ℕ → Bool) → ((k : ℕ) → k < 8 → p k ≡ q k) → mask_of p ≡ mask_of q
 unfolding mask_of

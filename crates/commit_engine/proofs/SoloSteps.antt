@@ -10,14 +10,14 @@ use Rattle.tcc_base.specs.declared.names.DirId.{DirId}
 use Rattle.tcc_base.specs.declared.names.LineAddr.{LineAddr}
 use Rattle.tcc_base.specs.declared.names.Mask.{Mask}
 use Rattle.tcc_base.specs.declared.access.Tagged.{Tagged as CodeTagged}
-use Rattle.tcc_maps.specs.Bridge.{tagged_of}
-use Rattle.tcc_maps.specs.Nodes.{Node, Dir, Msg, Skip, Commit, WriteBack, Tagged}
-use Rattle.tcc_maps.specs.Spilled.{Spilled, holds, spilled_line}
-use Rattle.tcc_maps.specs.Shape.{Shape, home}
+use Rattle.rules_maps.specs.Bridge.{tagged_of}
+use Rattle.rules_maps.specs.Nodes.{Node, Dir, Msg, Skip, Commit, WriteBack, Tagged}
+use Rattle.rules_maps.specs.Spilled.{Spilled, holds, spilled_line}
+use Rattle.rules_maps.specs.Shape.{Shape, home}
 use Rattle.tcc_msg.specs.Plain.{msg_of}
 use Rattle.tcc_msg.specs.declared.msg.Msg.{Msg as CodeMsg}
 use Rattle.tcc_msg.specs.declared.outgoing.Outgoing.{Outgoing}
-use Rattle.tcc_rules.specs.Sends.{to}
+use Rattle.rules_tcc.specs.Sends.{to}
 use Rattle.spec_cache.specs.Home.{mark_of}
 use Rattle.commit_engine.specs.Sent.{Sent, followed}
 use Rattle.commit_engine.specs.Solo.{at_homes, spilled_back, here, closing}

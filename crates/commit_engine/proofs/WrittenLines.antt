@@ -9,12 +9,12 @@ use Rattle.std.proofs.lemmas.List.Elements.{Contains-append_cases, Contains-appe
 use Rattle.std.proofs.lemmas.List.Kept.{AllPairs-filter}
 use Rattle.tcc_base.specs.declared.names.LineAddr.{LineAddr}
 use Rattle.tcc_base.specs.declared.names.Mask.{Mask}
-use Rattle.tcc_maps.specs.Words.{those}
-use Rattle.tcc_maps.specs.Shape.{Shape, home, lines}
-use Rattle.tcc_maps.specs.Cache.{Cache, is_modified, modified_mask, written_lines, marks_by_home}
-use Rattle.tcc_maps.specs.Spilled.{Spilled, holds}
-use Rattle.tcc_maps.proofs.Lemmas.{those-holds, those-only, those-rise}
-use Rattle.tcc_rules.specs.Commit.{is_written, written_mask}
+use Rattle.rules_maps.specs.Words.{those}
+use Rattle.rules_maps.specs.Shape.{Shape, home, lines}
+use Rattle.rules_maps.specs.Cache.{Cache, is_modified, modified_mask, written_lines, marks_by_home}
+use Rattle.rules_maps.specs.Spilled.{Spilled, holds}
+use Rattle.rules_maps.proofs.Lemmas.{those-holds, those-only, those-rise}
+use Rattle.rules_tcc.specs.Commit.{is_written, written_mask}
 use Rattle.spec_cache.specs.Home.{mark_of}
 use Rattle.commit_engine.specs.Solo.{line_in, solo_list}
 use Rattle.commit_engine.proofs.Rising.{Rises, rising_same, filter-has, filter-only}

@@ -1,7 +1,7 @@
 -- The phase of the code as the rules' phase, and sets of directories as the bits of a number.
 use Rattle.std.specs.Prelude.{ℕ, Bool, ◌&&◌, nat_lt, List, get_or, Some, None}
 use Rattle.tcc_base.specs.declared.names.Tid.{Tid}
-use Rattle.tcc_rules.specs.State as rules
+use Rattle.rules_tcc.specs.State as rules
 use Rattle.commit_engine.specs.declared.phase.Phase.{Phase}
 use Rattle.commit_engine.specs.declared.phase.Phase.TheVariants as code
 

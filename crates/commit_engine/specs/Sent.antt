@@ -1,10 +1,10 @@
 -- What was sent before and after a call, by destination.
 use Rattle.std.specs.Prelude.{ℕ, ◌+◌, ◌≤◌, ◌≡◌, List, [], ◌∷◌, ◌++◌, length, vec_capacity, nat_lt, if◌then◌else◌}
-use Rattle.tcc_maps.specs.Masks.{has}
-use Rattle.tcc_maps.specs.Nodes.{Core, Dir, Vendor, Msg, Mark}
+use Rattle.rules_maps.specs.Masks.{has}
+use Rattle.rules_maps.specs.Nodes.{Core, Dir, Vendor, Msg, Mark}
 use Rattle.tcc_msg.specs.Plain.{sends_of}
 use Rattle.tcc_msg.specs.declared.outgoing.Outgoing.{Outgoing}
-use Rattle.tcc_rules.specs.Sends.{Sends, when}
+use Rattle.rules_tcc.specs.Sends.{Sends, when}
 
 -- these, and behind them those
 unfoldable pub followed : Sends → Sends → Sends

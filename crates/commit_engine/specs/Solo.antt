@@ -3,13 +3,13 @@ use Rattle.std.specs.Prelude.{ℕ, List, [], ◌∷◌, map, length, ◌==◌, i
 use Rattle.std.specs.List.{flat_map}
 use Rattle.tcc_base.specs.declared.names.LineAddr.{LineAddr}
 use Rattle.tcc_base.specs.declared.names.Mask.{Mask}
-use Rattle.tcc_maps.specs.Words.{those}
-use Rattle.tcc_maps.specs.Nodes.{Dir, Msg, Skip, Mark, Commit, WriteBack}
-use Rattle.tcc_maps.specs.Shape.{Shape, home, lines}
-use Rattle.tcc_maps.specs.Cache.{Cache}
-use Rattle.tcc_maps.specs.Spilled.{Spilled, holds, spilled_mask, spilled_words}
-use Rattle.tcc_rules.specs.Commit.{is_written, written_mask}
-use Rattle.tcc_rules.specs.Sends.{Sends, to, when}
+use Rattle.rules_maps.specs.Words.{those}
+use Rattle.rules_maps.specs.Nodes.{Dir, Msg, Skip, Mark, Commit, WriteBack}
+use Rattle.rules_maps.specs.Shape.{Shape, home, lines}
+use Rattle.rules_maps.specs.Cache.{Cache}
+use Rattle.rules_maps.specs.Spilled.{Spilled, holds, spilled_mask, spilled_words}
+use Rattle.rules_tcc.specs.Commit.{is_written, written_mask}
+use Rattle.rules_tcc.specs.Sends.{Sends, to, when}
 
 -- the lines with modified or spilled words, rising, each with the mask of these words
 unfoldable pub solo_list : Shape → Cache → Spilled → List (ℕ × ℕ)

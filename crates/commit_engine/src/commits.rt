@@ -1,7 +1,7 @@
 // What goes out where a transaction commits, and what a core notes of it.
 ghost use Rattle.std.specs.Prelude.{◌≡◌, ◌≤◌, length};
-ghost use Rattle.tcc_maps.specs.Masks.{has};
-ghost use Rattle.tcc_rules.specs.Commit.{with_last_commit, commit_sends};
+ghost use Rattle.rules_maps.specs.Masks.{has};
+ghost use Rattle.rules_tcc.specs.Commit.{with_last_commit, commit_sends};
 ghost use Rattle.spec_cache.specs.Held.{maps};
 ghost use Rattle.commit_engine.specs.Engine.{after_of, first_with};
 ghost use Rattle.commit_engine.specs.Sent.{HasRoom, Sent};

@@ -1,8 +1,8 @@
 // A set of directories as the bits of a number.
 ghost use Rattle.std.specs.Prelude.{◌≡◌, ◌<◌, ◌≤◌, ℕ, true, false, not, ◌&&◌, ◌||◌, nat_lt};
 ghost use Rattle.tcc_base.specs.Put.{put};
-ghost use Rattle.tcc_maps.specs.Masks.{has};
-ghost use Rattle.tcc_maps.specs.Words.{any_below};
+ghost use Rattle.rules_maps.specs.Masks.{has};
+ghost use Rattle.rules_maps.specs.Words.{any_below};
 
 use tcc_base::DirId;
 

@@ -1,7 +1,7 @@
 // The directories at which a core's lines with marks are at home.
 ghost use Rattle.std.specs.Prelude.{◌≡◌};
-ghost use Rattle.tcc_maps.specs.Cache.{reads_at as reads_at_home, writes_at as writes_at_home};
-ghost use Rattle.tcc_maps.specs.Masks.{has};
+ghost use Rattle.rules_maps.specs.Cache.{reads_at as reads_at_home, writes_at as writes_at_home};
+ghost use Rattle.rules_maps.specs.Masks.{has};
 ghost use Rattle.spec_cache.specs.Held.{maps};
 ghost use Rattle.commit_engine.specs.Engine.{first_with};
 

@@ -1,11 +1,11 @@
 // What is sent to each directory of a set.
 ghost use Rattle.std.specs.Prelude.{◌≡◌, ◌*◌, length, map};
-ghost use Rattle.tcc_maps.specs.Nodes.{Dir};
+ghost use Rattle.rules_maps.specs.Nodes.{Dir};
 ghost use Rattle.tcc_msg.specs.Plain.{msg_of};
-ghost use Rattle.tcc_rules.specs.Sends.{to, skip_all, probe_all, abort_written};
-ghost use Rattle.tcc_rules.specs.CoreDeliver.{grant_sends};
-ghost use Rattle.tcc_maps.specs.Cache.{reads_at, writes_at};
-ghost use Rattle.tcc_maps.specs.Masks.{has};
+ghost use Rattle.rules_tcc.specs.Sends.{to, skip_all, probe_all, abort_written};
+ghost use Rattle.rules_tcc.specs.CoreDeliver.{grant_sends};
+ghost use Rattle.rules_maps.specs.Cache.{reads_at, writes_at};
+ghost use Rattle.rules_maps.specs.Masks.{has};
 ghost use Rattle.spec_cache.specs.Held.{maps};
 ghost use Rattle.commit_engine.specs.Engine.{first_with};
 ghost use Rattle.spec_cache.specs.Home.{mark_of};

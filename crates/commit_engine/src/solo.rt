@@ -1,8 +1,8 @@
 // The commit of a core that is alone: all that it wrote goes out at once.
 ghost use Rattle.std.specs.Prelude.{◌≡◌, ◌+◌, ◌*◌, ◌<◌, ◌≤◌, length, map, OnOk};
-ghost use Rattle.tcc_maps.specs.Masks.{has};
-ghost use Rattle.tcc_maps.specs.Shape.{home, lines};
-ghost use Rattle.tcc_rules.specs.Commit.{solo_sends, solo_writes_at, written_mask as joined_mask};
+ghost use Rattle.rules_maps.specs.Masks.{has};
+ghost use Rattle.rules_maps.specs.Shape.{home, lines};
+ghost use Rattle.rules_tcc.specs.Commit.{solo_sends, solo_writes_at, written_mask as joined_mask};
 ghost use Rattle.spec_cache.specs.Held.{maps};
 ghost use Rattle.spec_cache.specs.Home.{mark_of};
 ghost use Rattle.overflow_buf.specs.Kept.{spilled as words_of};

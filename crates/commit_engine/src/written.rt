@@ -1,8 +1,8 @@
 // The lines that a core has written: gathered from the marked frames and the spilled words, and put in order once.
 ghost use Rattle.std.specs.Prelude.{◌≡◌, ◌<◌, ◌↔◌, ◌++◌, ℕ, true, map, Contains, IfOk, OnOk};
 ghost use Rattle.std.specs.List.{AllPairs};
-ghost use Rattle.tcc_maps.specs.Shape.{lines as ram_lines};
-ghost use Rattle.tcc_rules.specs.Commit.{is_written};
+ghost use Rattle.rules_maps.specs.Shape.{lines as ram_lines};
+ghost use Rattle.rules_tcc.specs.Commit.{is_written};
 ghost use Rattle.spec_cache.specs.Held.{maps};
 ghost use Rattle.overflow_buf.specs.Kept.{spilled as words_of};
 ghost use Rattle.commit_engine.specs.Solo.{line_in};

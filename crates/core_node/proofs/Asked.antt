@@ -4,11 +4,11 @@ use Rattle.tcc_base.specs.declared.names.NodeId.TheVariants.{Dir as CodeDir}
 use Rattle.tcc_base.specs.declared.names.DirId.{DirId}
 use Rattle.tcc_base.specs.declared.names.LineAddr.{LineAddr}
 use Rattle.tcc_base.specs.declared.names.Tid.{Tid}
-use Rattle.tcc_maps.specs.Nodes.{Dir, LoadReq}
-use Rattle.tcc_maps.specs.Shape.{Shape, home}
+use Rattle.rules_maps.specs.Nodes.{Dir, LoadReq}
+use Rattle.rules_maps.specs.Shape.{Shape, home}
 use Rattle.tcc_msg.specs.declared.outgoing.Outgoing.{Outgoing}
 use Rattle.tcc_msg.specs.declared.msg.Msg.TheVariants as code
-use Rattle.tcc_rules.specs.Sends.{to}
+use Rattle.rules_tcc.specs.Sends.{to}
 use Rattle.commit_engine.specs.Sent.{Sent}
 use Rattle.commit_engine.proofs.Lemmas.{sent_one}
 

@@ -2,20 +2,20 @@
 use Rattle.std.proofs.Common.{◌≡◌, ℕ, Bool, true, false, is_some, Option, Some, None, [], ◌∷◌, ◌++◌, refl, ap, sym, ◌∙◌}
 use Rattle.tcc_base.specs.declared.access.Size.{Size}
 use Rattle.tcc_base.specs.declared.access.Size.TheVariants.{Word}
-use Rattle.tcc_program.specs.Program.{Program, Nothing, Loads, Stores}
-use Rattle.tcc_program.specs.Plain.{load_of, store_of}
-use Rattle.tcc_program.specs.Ram.{part}
+use Rattle.rules_program.specs.Program.{Program, Nothing, Loads, Stores}
+use Rattle.rules_program.specs.Plain.{load_of, store_of}
+use Rattle.rules_program.specs.Ram.{part}
 use Rattle.tcc_msg.specs.declared.outgoing.Outgoing.{Outgoing}
-use Rattle.tcc_maps.specs.Cache.{Cache, dirty_copy}
-use Rattle.tcc_maps.specs.CacheChange.{stored}
-use Rattle.tcc_maps.specs.Spilled.{holds}
-use Rattle.tcc_maps.specs.Words.{line_of}
-use Rattle.tcc_maps.specs.Nodes.{Dir}
-use Rattle.tcc_maps.specs.Shape.{Shape, home}
-use Rattle.tcc_rules.specs.State.{CoreState}
-use Rattle.tcc_rules.specs.Attempt.{Out, moves, one_more_instruction, finished, new_word, is_running}
-use Rattle.tcc_rules.specs.Execute.{load, with_read_mark, stored_in_frame, word_store, partial_store, marks_read, execute_need}
-use Rattle.tcc_rules.specs.Sends.{Sends, nothing, flush_line}
+use Rattle.rules_maps.specs.Cache.{Cache, dirty_copy}
+use Rattle.rules_maps.specs.CacheChange.{stored}
+use Rattle.rules_maps.specs.Spilled.{holds}
+use Rattle.rules_maps.specs.Words.{line_of}
+use Rattle.rules_maps.specs.Nodes.{Dir}
+use Rattle.rules_maps.specs.Shape.{Shape, home}
+use Rattle.rules_tcc.specs.State.{CoreState}
+use Rattle.rules_tcc.specs.Attempt.{Out, moves, one_more_instruction, finished, new_word, is_running}
+use Rattle.rules_tcc.specs.Execute.{load, with_read_mark, stored_in_frame, word_store, partial_store, marks_read, execute_need}
+use Rattle.rules_tcc.specs.Sends.{Sends, nothing, flush_line}
 use Rattle.spec_cache.specs.Held.{Held, maps}
 use Rattle.spec_cache.specs.Look.{loaded, StoresClean}
 use Rattle.commit_engine.proofs.Lemmas.{to-none}

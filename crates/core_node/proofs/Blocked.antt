@@ -1,9 +1,9 @@
 -- What an answer says of the rules: that they have the event, or that they have none.
 use Rattle.std.proofs.Common.{◌≡◌, ◌≢◌, ℕ, not, is_some, if◌then◌else◌, Option, Some, None, Result, Ok, Err, OnOk, OnErr, refl, ap}
 use Rattle.tcc_msg.specs.declared.outgoing.Outgoing.{Outgoing}
-use Rattle.tcc_rules.specs.State.{CoreState}
-use Rattle.tcc_rules.specs.Attempt.{Out, moves}
-use Rattle.tcc_rules.specs.Sends.{nothing}
+use Rattle.rules_tcc.specs.State.{CoreState}
+use Rattle.rules_tcc.specs.Attempt.{Out, moves}
+use Rattle.rules_tcc.specs.Sends.{nothing}
 use Rattle.core_node.specs.Answers.{IsBlocked, IsMemory}
 use Rattle.core_node.specs.Executing.{DidSome}
 use Rattle.core_node.specs.View.{core_of, Did}

@@ -1,12 +1,12 @@
 -- An instruction that stores: finished before its word is stored, or after.
 use Rattle.std.proofs.Common.{◌≡◌, ℕ, Bool, refl, ap, ◌∙◌}
-use Rattle.tcc_program.specs.Program.{Program, Need, Nothing, Loads, Stores, Changes, Prints, Ends, Halts, Traps}
-use Rattle.tcc_maps.specs.Cache.{Cache}
-use Rattle.tcc_maps.specs.CacheChange.{stored, placed}
-use Rattle.tcc_maps.specs.Shape.{Shape}
-use Rattle.tcc_rules.specs.State.{CoreState}
-use Rattle.tcc_rules.specs.Attempt.{one_more_instruction, finished}
-use Rattle.tcc_rules.specs.Execute.{stored_in_buffer, stored_in_frame, place}
+use Rattle.rules_program.specs.Program.{Program, Need, Nothing, Loads, Stores, Changes, Prints, Ends, Halts, Traps}
+use Rattle.rules_maps.specs.Cache.{Cache}
+use Rattle.rules_maps.specs.CacheChange.{stored, placed}
+use Rattle.rules_maps.specs.Shape.{Shape}
+use Rattle.rules_tcc.specs.State.{CoreState}
+use Rattle.rules_tcc.specs.Attempt.{one_more_instruction, finished}
+use Rattle.rules_tcc.specs.Execute.{stored_in_buffer, stored_in_frame, place}
 use Rattle.core_node.specs.Executing.{noted, given, GoesOn}
 use Rattle.core_node.proofs.Finished.{finished_noted, finished_cache, cache-finished}
 

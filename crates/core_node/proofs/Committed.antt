@@ -1,12 +1,12 @@
 -- What holds of a core that has committed, and what it notes of its directories.
 use Rattle.std.proofs.Common.{◌≡◌, ℕ, ◌<◌, List, length, ap, ◌∙◌}
 use Rattle.tcc_base.specs.declared.names.Tid.{Tid}
-use Rattle.tcc_maps.specs.Cache.{Cache, writes_at}
-use Rattle.tcc_maps.specs.CacheChange.{committed, words_dropped}
-use Rattle.tcc_maps.specs.Spilled.{Spilled}
-use Rattle.tcc_maps.specs.Masks.{has}
-use Rattle.tcc_maps.specs.Shape.{Shape}
-use Rattle.tcc_rules.specs.Commit.{with_last_commit, solo_writes_at}
+use Rattle.rules_maps.specs.Cache.{Cache, writes_at}
+use Rattle.rules_maps.specs.CacheChange.{committed, words_dropped}
+use Rattle.rules_maps.specs.Spilled.{Spilled}
+use Rattle.rules_maps.specs.Masks.{has}
+use Rattle.rules_maps.specs.Shape.{Shape}
+use Rattle.rules_tcc.specs.Commit.{with_last_commit, solo_writes_at}
 use Rattle.spec_cache.specs.Held.{Held, maps}
 use Rattle.overflow_buf.specs.Kept.{Entries}
 use Rattle.commit_engine.specs.Engine.{first_with}

@@ -1,7 +1,7 @@
 -- What holds of every core, where only its cache changes.
 use Rattle.std.proofs.Common.{◌≡◌, ℕ, zero, suc, get_or, replicate, Bool, Option, Some, None, refl, ap, ◌∙◌}
 use Rattle.tcc_base.specs.declared.names.Tid.{Tid}
-use Rattle.tcc_maps.specs.Cache.{Cache}
+use Rattle.rules_maps.specs.Cache.{Cache}
 use Rattle.commit_engine.specs.Engine.{after_of}
 use Rattle.spec_cache.specs.Held.{Held, maps}
 use Rattle.core_node.specs.declared.state.Core.{Core}

@@ -2,12 +2,12 @@
 use Rattle.std.proofs.Common.{◌≡◌, ℕ, [], Bool, true, false, ◌&&◌, nat_eq, Option, Some, None, is_some, get_or, if◌then◌else◌, refl, ap}
 use Rattle.std.proofs.Common.{◌∙◌, arith}
 use Rattle.std.proofs.lemmas.Bool.Decides.{nat_tests}
-use Rattle.tcc_maps.specs.Cache.{Cache}
-use Rattle.tcc_maps.specs.CacheChange.{words_dropped}
-use Rattle.tcc_maps.specs.Masks.{has, hit, mask_of}
-use Rattle.tcc_maps.specs.Spilled.{Spilled, none_spilled, spill, spilled_mask}
-use Rattle.tcc_maps.specs.Words.{line_of, place_of, word_at}
-use Rattle.tcc_maps.proofs.Lemmas.{has-mask_of}
+use Rattle.rules_maps.specs.Cache.{Cache}
+use Rattle.rules_maps.specs.CacheChange.{words_dropped}
+use Rattle.rules_maps.specs.Masks.{has, hit, mask_of}
+use Rattle.rules_maps.specs.Spilled.{Spilled, none_spilled, spill, spilled_mask}
+use Rattle.rules_maps.specs.Words.{line_of, place_of, word_at}
+use Rattle.rules_maps.proofs.Lemmas.{has-mask_of}
 use Rattle.overflow_buf.specs.Kept.{without_line}
 
 at_place : (l v : ℕ) → nat_eq l (line_of v) ≡ true → word_at l (place_of v) ≡ v

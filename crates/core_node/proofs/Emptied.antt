@@ -1,15 +1,15 @@
 -- A frame that is emptied, in the words of the maps and of the rules.
 use Rattle.std.proofs.Common.{◌≡◌, ℕ, Bool, true, false, not, is_some, ◌&&◌, ◌||◌, if◌then◌else◌, Option, Some, None, refl, ap, ◌∙◌, sym}
 use Rattle.std.proofs.lemmas.Bool.{false≢true}
-use Rattle.tcc_maps.specs.Cache.{Cache, IsCache, is_marked}
-use Rattle.tcc_maps.specs.CacheChange.{evicted, evicted_line}
-use Rattle.tcc_maps.specs.Shape.{Shape}
-use Rattle.tcc_maps.specs.Laws.{SpillsModified}
-use Rattle.tcc_maps.specs.Spilled.{Spilled, spill, spill_line}
-use Rattle.tcc_rules.specs.State.{CoreState}
-use Rattle.tcc_rules.specs.Sends.{write_back_line}
-use Rattle.tcc_rules.specs.Attempt.{Out, moves, is_solo}
-use Rattle.tcc_rules.specs.CoreEvict.{core_evict, is_awaited}
+use Rattle.rules_maps.specs.Cache.{Cache, IsCache, is_marked}
+use Rattle.rules_maps.specs.CacheChange.{evicted, evicted_line}
+use Rattle.rules_maps.specs.Shape.{Shape}
+use Rattle.rules_maps.specs.Laws.{SpillsModified}
+use Rattle.rules_maps.specs.Spilled.{Spilled, spill, spill_line}
+use Rattle.rules_tcc.specs.State.{CoreState}
+use Rattle.rules_tcc.specs.Sends.{write_back_line}
+use Rattle.rules_tcc.specs.Attempt.{Out, moves, is_solo}
+use Rattle.rules_tcc.specs.CoreEvict.{core_evict, is_awaited}
 use Rattle.spec_cache.specs.declared.frame.FrameView.{FrameView}
 use Rattle.spec_cache.specs.Held.{Held, maps}
 use Rattle.spec_cache.specs.Look.{Views}

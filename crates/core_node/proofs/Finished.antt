@@ -1,11 +1,11 @@
 -- What finishing an instruction is: what it did is noted, and the core goes on.
 use Rattle.std.proofs.Common.{◌≡◌, ℕ, None, refl}
-use Rattle.tcc_program.specs.Program.{unreserved, Program, Need, Nothing, Loads, Stores, Changes, Prints, Ends, Halts, Traps}
-use Rattle.tcc_program.specs.Plain.{Ended, Halted, Trapped}
-use Rattle.tcc_maps.specs.Cache.{Cache}
-use Rattle.tcc_maps.specs.Spilled.{Spilled}
-use Rattle.tcc_rules.specs.State.{CoreState}
-use Rattle.tcc_rules.specs.Attempt.{one_more_instruction, finished}
+use Rattle.rules_program.specs.Program.{unreserved, Program, Need, Nothing, Loads, Stores, Changes, Prints, Ends, Halts, Traps}
+use Rattle.rules_program.specs.Plain.{Ended, Halted, Trapped}
+use Rattle.rules_maps.specs.Cache.{Cache}
+use Rattle.rules_maps.specs.Spilled.{Spilled}
+use Rattle.rules_tcc.specs.State.{CoreState}
+use Rattle.rules_tcc.specs.Attempt.{one_more_instruction, finished}
 use Rattle.core_node.specs.Executing.{noted, given, concluded, GoesOn}
 
 pub finished_noted : (p : Program) (n : Need) (x : ℕ) (s : CoreState) → GoesOn n

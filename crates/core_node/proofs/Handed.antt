@@ -3,13 +3,13 @@ use Rattle.std.proofs.Common.{◌≡◌, ℕ, [], ◌∷◌, ◌++◌, Some, Non
 use Rattle.tcc_base.specs.declared.access.Tagged.{Tagged as CodeTagged}
 use Rattle.tcc_base.specs.declared.names.NodeId.TheVariants.{Dir as CodeDir}
 use Rattle.tcc_base.specs.declared.names.DirId.{DirId}
-use Rattle.tcc_maps.specs.Bridge.{tagged_of}
-use Rattle.tcc_maps.specs.Cache.{Cache, dirty_copy}
-use Rattle.tcc_maps.specs.Nodes.{Node, Dir}
-use Rattle.tcc_maps.specs.Shape.{Shape, home}
+use Rattle.rules_maps.specs.Bridge.{tagged_of}
+use Rattle.rules_maps.specs.Cache.{Cache, dirty_copy}
+use Rattle.rules_maps.specs.Nodes.{Node, Dir}
+use Rattle.rules_maps.specs.Shape.{Shape, home}
 use Rattle.tcc_msg.specs.declared.outgoing.Outgoing.{Outgoing}
 use Rattle.tcc_msg.specs.declared.msg.Msg.TheVariants as code
-use Rattle.tcc_rules.specs.Sends.{to, flush_line, write_back_line}
+use Rattle.rules_tcc.specs.Sends.{to, flush_line, write_back_line}
 use Rattle.commit_engine.specs.Sent.{Sent}
 use Rattle.commit_engine.proofs.Lemmas.{sent_one, sent_as, sent_nothing, to-none}
 

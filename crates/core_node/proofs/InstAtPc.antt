@@ -1,10 +1,10 @@
 -- The instruction at pc as what the program does there.
 use Rattle.std.proofs.Common.{◌≡◌, ℕ, Some, ap, ◌∙◌, sym}
-use Rattle.tcc_program.specs.Program.{unreserved, Need}
-use Rattle.tcc_program.specs.Plain.{Trapped}
-use Rattle.tcc_maps.specs.Shape.{Shape}
-use Rattle.tcc_rules.specs.State.{CoreState}
-use Rattle.tcc_rules.specs.Execute.{end_transaction, execute, execute_need}
+use Rattle.rules_program.specs.Program.{unreserved, Need}
+use Rattle.rules_program.specs.Plain.{Trapped}
+use Rattle.rules_maps.specs.Shape.{Shape}
+use Rattle.rules_tcc.specs.State.{CoreState}
+use Rattle.rules_tcc.specs.Execute.{end_transaction, execute, execute_need}
 use Rattle.image_load.specs.Start.{Start}
 use Rattle.rv_code.specs.Instructions.{Runs, FailsToFetch}
 use Rattle.rv_code.specs.Machine.{program, in_ram}

@@ -16,25 +16,25 @@ use Rattle.rv_exec.specs.Needs.{need_of}
 use Rattle.rv_exec.specs.declared.need.Need.{Need as CodeNeed}
 use Rattle.rv_exec.specs.declared.need.Need.TheVariants as code_need
 use Rattle.rv_plain.specs.Attempts.{alone}
-use Rattle.tcc_program.specs.Program.{Need, Nothing, Loads, Stores, Changes, Prints, Ends, Halts, Traps, Program}
-use Rattle.tcc_program.specs.Ram.{word_of}
-use Rattle.tcc_maps.specs.Cache.{Cache, free_way, all_marked}
-use Rattle.tcc_maps.specs.CacheChange.{filled, marked, placed, placed_at}
-use Rattle.tcc_maps.specs.CacheLook.{Look, Hit, Miss, NeedsRoom, Overflow, look_line, look_store}
-use Rattle.tcc_maps.specs.Shape.{Shape, set_of}
-use Rattle.tcc_maps.specs.Spilled.{holds}
-use Rattle.tcc_maps.specs.Words.{line_of, place_of}
-use Rattle.tcc_rules.specs.Attempt.{Out, finished, is_running, is_solo, moves, new_word, one_more_instruction}
-use Rattle.tcc_rules.specs.Commit.{solo_commit, committed_core}
-use Rattle.tcc_rules.specs.CoreDeliver.{fill}
-use Rattle.tcc_rules.specs.CoreExec.{core_exec, exec_in_phase, unless_awaiting}
-use Rattle.tcc_rules.specs.Execute.{request_line, miss, full_set, load, load_spilled, load_valid, overflow, place, with_read_mark}
-use Rattle.tcc_rules.specs.Execute.{stored_in_buffer, stored_in_frame}
-use Rattle.tcc_rules.specs.Execute.{word_store, partial_store, change_spilled, change_valid, marks_read, end_transaction, execute}
-use Rattle.tcc_rules.specs.Execute.{execute_need}
-use Rattle.tcc_rules.specs.Sends.{Sends}
-use Rattle.tcc_rules.specs.State.{CoreState, Awaited, Phase, Running, AwaitTid, DoomedTid, Probing, Ready, Overflowing as Overflows, Solo}
-use Rattle.tcc_rules.specs.State.{Halted}
+use Rattle.rules_program.specs.Program.{Need, Nothing, Loads, Stores, Changes, Prints, Ends, Halts, Traps, Program}
+use Rattle.rules_program.specs.Ram.{word_of}
+use Rattle.rules_maps.specs.Cache.{Cache, free_way, all_marked}
+use Rattle.rules_maps.specs.CacheChange.{filled, marked, placed, placed_at}
+use Rattle.rules_maps.specs.CacheLook.{Look, Hit, Miss, NeedsRoom, Overflow, look_line, look_store}
+use Rattle.rules_maps.specs.Shape.{Shape, set_of}
+use Rattle.rules_maps.specs.Spilled.{holds}
+use Rattle.rules_maps.specs.Words.{line_of, place_of}
+use Rattle.rules_tcc.specs.Attempt.{Out, finished, is_running, is_solo, moves, new_word, one_more_instruction}
+use Rattle.rules_tcc.specs.Commit.{solo_commit, committed_core}
+use Rattle.rules_tcc.specs.CoreDeliver.{fill}
+use Rattle.rules_tcc.specs.CoreExec.{core_exec, exec_in_phase, unless_awaiting}
+use Rattle.rules_tcc.specs.Execute.{request_line, miss, full_set, load, load_spilled, load_valid, overflow, place, with_read_mark}
+use Rattle.rules_tcc.specs.Execute.{stored_in_buffer, stored_in_frame}
+use Rattle.rules_tcc.specs.Execute.{word_store, partial_store, change_spilled, change_valid, marks_read, end_transaction, execute}
+use Rattle.rules_tcc.specs.Execute.{execute_need}
+use Rattle.rules_tcc.specs.Sends.{Sends}
+use Rattle.rules_tcc.specs.State.{CoreState, Awaited, Phase, Running, AwaitTid, DoomedTid, Probing, Ready, Overflowing as Overflows, Solo}
+use Rattle.rules_tcc.specs.State.{Halted}
 use Rattle.core_node.specs.AtHand.{Leaves, changed, executes, is_whole, lined, need_fills, ready, with_line, word_fills}
 use Rattle.core_node.specs.AtHand.{word_lined}
 use Rattle.core_node.specs.Answers.{IsBlocked, IsMemory}

@@ -1,15 +1,15 @@
 -- What the rule of a load gives, by where its word is.
 use Rattle.std.proofs.Common.{◌≡◌, ◌≢◌, ℕ, Bool, true, false, if◌then◌else◌, Option, Some, None, refl, ap, ◌∙◌}
-use Rattle.tcc_program.specs.Program.{Program, Need}
-use Rattle.tcc_maps.specs.Words.{line_of}
-use Rattle.tcc_maps.specs.Shape.{Shape}
-use Rattle.tcc_maps.specs.Cache.{Cache}
-use Rattle.tcc_maps.specs.CacheChange.{marked}
-use Rattle.tcc_maps.specs.CacheLook.{Hit, Miss, look_load, look_value, look_line}
-use Rattle.tcc_rules.specs.State.{CoreState, Phase}
-use Rattle.tcc_rules.specs.Sends.{nothing}
-use Rattle.tcc_rules.specs.Attempt.{moves, finished, is_running}
-use Rattle.tcc_rules.specs.Execute.{load, with_read_mark, miss}
+use Rattle.rules_program.specs.Program.{Program, Need}
+use Rattle.rules_maps.specs.Words.{line_of}
+use Rattle.rules_maps.specs.Shape.{Shape}
+use Rattle.rules_maps.specs.Cache.{Cache}
+use Rattle.rules_maps.specs.CacheChange.{marked}
+use Rattle.rules_maps.specs.CacheLook.{Hit, Miss, look_load, look_value, look_line}
+use Rattle.rules_tcc.specs.State.{CoreState, Phase}
+use Rattle.rules_tcc.specs.Sends.{nothing}
+use Rattle.rules_tcc.specs.Attempt.{moves, finished, is_running}
+use Rattle.rules_tcc.specs.Execute.{load, with_read_mark, miss}
 use Rattle.core_node.proofs.Finished.{finished_cache, cache-finished, phase-finished}
 use Rattle.spec_cache.specs.Look.{look_of}
 use Rattle.spec_cache.specs.declared.look.Look.{Look as CodeLook}

@@ -1,11 +1,11 @@
 -- What the rules do about a line that isn't there, by what the cache answers.
 use Rattle.std.proofs.Common.{◌≡◌, ℕ, Bool, true, false, not, Option, Some, None, is_some, ◌||◌, if◌then◌else◌, refl}
-use Rattle.tcc_maps.specs.Shape.{Shape, set_of}
-use Rattle.tcc_maps.specs.Cache.{Cache, free_way, all_marked}
-use Rattle.tcc_maps.specs.CacheLook.{Look, Hit, Miss, NeedsRoom, Overflow, look_line}
-use Rattle.tcc_rules.specs.State.{CoreState}
-use Rattle.tcc_rules.specs.Attempt.{Out, is_solo}
-use Rattle.tcc_rules.specs.Execute.{request_line, place, overflow, miss, full_set}
+use Rattle.rules_maps.specs.Shape.{Shape, set_of}
+use Rattle.rules_maps.specs.Cache.{Cache, free_way, all_marked}
+use Rattle.rules_maps.specs.CacheLook.{Look, Hit, Miss, NeedsRoom, Overflow, look_line}
+use Rattle.rules_tcc.specs.State.{CoreState}
+use Rattle.rules_tcc.specs.Attempt.{Out, is_solo}
+use Rattle.rules_tcc.specs.Execute.{request_line, place, overflow, miss, full_set}
 
 abbrev pub look_by : (held free marked : Bool) → (set : ℕ) → Look
 look_by held free marked n = if held then Miss else if free then Miss else if marked then Overflow n else NeedsRoom n

@@ -1,12 +1,12 @@
 -- Where a machine has one directory and nothing is spilled, what a core has written is what is modified in the lines at home there.
 use Rattle.std.proofs.Common.{◌≡◌, ℕ, ◌%◌, Bool, true, false, ◌||◌, ◌&&◌, ◌==◌, map}
 use Rattle.std.proofs.Common.{refl, ap, sym, ◌∙◌, arith}
-use Rattle.tcc_maps.specs.Words.{any_below, any_word, those, word_at}
-use Rattle.tcc_maps.specs.Masks.{mask_of}
-use Rattle.tcc_maps.specs.Shape.{Shape, home, lines}
-use Rattle.tcc_maps.specs.Cache.{Cache, is_modified, modified_mask, written_lines, marks_by_home}
-use Rattle.tcc_maps.specs.Spilled.{Spilled, none_spilled, holds}
-use Rattle.tcc_rules.specs.Commit.{is_written, written_mask}
+use Rattle.rules_maps.specs.Words.{any_below, any_word, those, word_at}
+use Rattle.rules_maps.specs.Masks.{mask_of}
+use Rattle.rules_maps.specs.Shape.{Shape, home, lines}
+use Rattle.rules_maps.specs.Cache.{Cache, is_modified, modified_mask, written_lines, marks_by_home}
+use Rattle.rules_maps.specs.Spilled.{Spilled, none_spilled, holds}
+use Rattle.rules_tcc.specs.Commit.{is_written, written_mask}
 use Rattle.commit_engine.specs.Solo.{solo_list}
 
 or-false : (b : Bool) → (b || false) ≡ b

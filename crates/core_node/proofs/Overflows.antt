@@ -1,22 +1,22 @@
 -- Which executions make a core wait to go on alone.
 use Rattle.std.proofs.Common.{◌≡◌, ◌≢◌, ℕ, Bool, true, false, not, is_some, ◌||◌, ◌&&◌, if◌then◌else◌, Option, Some, None, refl, ap, ◌∙◌}
 use Rattle.tcc_base.specs.declared.access.Size.TheVariants.{Byte, Half, Word}
-use Rattle.tcc_program.specs.Program.{Need, Nothing, Loads, Stores, Changes, Prints, Ends, Halts, Traps, Program}
-use Rattle.tcc_program.specs.Ram.{word_of}
-use Rattle.tcc_maps.specs.Cache.{free_way, all_marked}
-use Rattle.tcc_maps.specs.CacheChange.{marked}
-use Rattle.tcc_maps.specs.CacheLook.{Look, Hit, Miss, NeedsRoom, Overflow, look_line, look_value, look_load, look_store}
-use Rattle.tcc_maps.specs.Shape.{Shape, set_of}
-use Rattle.tcc_maps.specs.Spilled.{holds}
-use Rattle.tcc_maps.specs.Words.{line_of}
-use Rattle.tcc_rules.specs.Attempt.{Out, finished, is_running, is_solo}
-use Rattle.tcc_rules.specs.Execute.{request_line, miss, full_set, load, load_spilled, load_valid, overflow, place, with_read_mark}
-use Rattle.tcc_rules.specs.Execute.{stored_in_buffer, stored_in_frame}
-use Rattle.tcc_rules.specs.Execute.{word_store, partial_store, change_spilled, change_valid, end_transaction, execute, execute_need}
-use Rattle.tcc_program.specs.Plain.{Outcome, Goes, Ended, Halted as HaltedWith, Trapped as TrappedWith}
-use Rattle.tcc_rules.specs.Commit.{commit, committed_core, phase_after_commit, solo_commit}
-use Rattle.tcc_rules.specs.CoreExec.{exec_in_phase, unless_awaiting}
-use Rattle.tcc_rules.specs.State.{CoreState, Awaited, Phase, Running, AwaitTid, DoomedTid, Probing, Ready, Overflowing, Solo, Halted}
+use Rattle.rules_program.specs.Program.{Need, Nothing, Loads, Stores, Changes, Prints, Ends, Halts, Traps, Program}
+use Rattle.rules_program.specs.Ram.{word_of}
+use Rattle.rules_maps.specs.Cache.{free_way, all_marked}
+use Rattle.rules_maps.specs.CacheChange.{marked}
+use Rattle.rules_maps.specs.CacheLook.{Look, Hit, Miss, NeedsRoom, Overflow, look_line, look_value, look_load, look_store}
+use Rattle.rules_maps.specs.Shape.{Shape, set_of}
+use Rattle.rules_maps.specs.Spilled.{holds}
+use Rattle.rules_maps.specs.Words.{line_of}
+use Rattle.rules_tcc.specs.Attempt.{Out, finished, is_running, is_solo}
+use Rattle.rules_tcc.specs.Execute.{request_line, miss, full_set, load, load_spilled, load_valid, overflow, place, with_read_mark}
+use Rattle.rules_tcc.specs.Execute.{stored_in_buffer, stored_in_frame}
+use Rattle.rules_tcc.specs.Execute.{word_store, partial_store, change_spilled, change_valid, end_transaction, execute, execute_need}
+use Rattle.rules_program.specs.Plain.{Outcome, Goes, Ended, Halted as HaltedWith, Trapped as TrappedWith}
+use Rattle.rules_tcc.specs.Commit.{commit, committed_core, phase_after_commit, solo_commit}
+use Rattle.rules_tcc.specs.CoreExec.{exec_in_phase, unless_awaiting}
+use Rattle.rules_tcc.specs.State.{CoreState, Awaited, Phase, Running, AwaitTid, DoomedTid, Probing, Ready, Overflowing, Solo, Halted}
 use Rattle.commit_engine.specs.Engine.{phase_of}
 use Rattle.commit_engine.specs.declared.phase.Phase.{Phase as CodePhase}
 use Rattle.commit_engine.specs.declared.phase.Phase.TheVariants as code

@@ -2,9 +2,9 @@
 use Rattle.std.proofs.Common.{◌≡◌, ℕ, Bool, true, false, Option, Some, None, is_some, if◌then◌else◌, refl, nat_eq, arith}
 use Rattle.std.proofs.lemmas.Bool.Decides.{nat_tests}
 use Rattle.tcc_base.specs.Put.{put}
-use Rattle.tcc_maps.specs.Shape.{Shape, set_of}
-use Rattle.tcc_maps.specs.Cache.{Cache, free_way}
-use Rattle.tcc_maps.specs.CacheChange.{placed, placed_at}
+use Rattle.rules_maps.specs.Shape.{Shape, set_of}
+use Rattle.rules_maps.specs.Cache.{Cache, free_way}
+use Rattle.rules_maps.specs.CacheChange.{placed, placed_at}
 use Rattle.core_node.specs.declared.state.Awaited.{Awaited}
 use Rattle.core_node.specs.View.{AwaitsFrame}
 

@@ -1,19 +1,19 @@
 -- An execution asks of its program only what it does at the core's state; and what it notes, unless it ends a transaction, is nothing.
 use Rattle.std.proofs.Common.{◌≡◌, ℕ, Bool, true, false, not, Option, Some, None, is_some, ◌||◌, if◌then◌else◌, refl, ap}
 use Rattle.tcc_base.specs.declared.access.Size.TheVariants.{Byte, Half, Word}
-use Rattle.tcc_program.specs.Program.{Program, Local, Need, Nothing, Loads, Stores, Changes, Prints, Ends, Halts, Traps}
-use Rattle.tcc_program.specs.Ram.{part, word_of}
-use Rattle.tcc_maps.specs.Shape.{Shape, set_of}
-use Rattle.tcc_maps.specs.Cache.{free_way, all_marked}
-use Rattle.tcc_maps.specs.CacheChange.{marked}
-use Rattle.tcc_maps.specs.Spilled.{holds}
-use Rattle.tcc_maps.specs.Words.{line_of}
-use Rattle.tcc_rules.specs.State.{CoreState}
-use Rattle.tcc_rules.specs.Attempt.{Out, moves, is_solo, is_running, new_word, one_more_instruction, finished}
-use Rattle.tcc_rules.specs.Execute.{request_line, overflow, place, with_read_mark, stored_in_buffer, stored_in_frame, marks_read, full_set}
-use Rattle.tcc_rules.specs.Execute.{miss, load, load_spilled, load_valid, word_store, partial_store, change_spilled, change_valid}
-use Rattle.tcc_rules.specs.Execute.{end_transaction, execute_need}
-use Rattle.tcc_rules.specs.Sends.{nothing}
+use Rattle.rules_program.specs.Program.{Program, Local, Need, Nothing, Loads, Stores, Changes, Prints, Ends, Halts, Traps}
+use Rattle.rules_program.specs.Ram.{part, word_of}
+use Rattle.rules_maps.specs.Shape.{Shape, set_of}
+use Rattle.rules_maps.specs.Cache.{free_way, all_marked}
+use Rattle.rules_maps.specs.CacheChange.{marked}
+use Rattle.rules_maps.specs.Spilled.{holds}
+use Rattle.rules_maps.specs.Words.{line_of}
+use Rattle.rules_tcc.specs.State.{CoreState}
+use Rattle.rules_tcc.specs.Attempt.{Out, moves, is_solo, is_running, new_word, one_more_instruction, finished}
+use Rattle.rules_tcc.specs.Execute.{request_line, overflow, place, with_read_mark, stored_in_buffer, stored_in_frame, marks_read, full_set}
+use Rattle.rules_tcc.specs.Execute.{miss, load, load_spilled, load_valid, word_store, partial_store, change_spilled, change_valid}
+use Rattle.rules_tcc.specs.Execute.{end_transaction, execute_need}
+use Rattle.rules_tcc.specs.Sends.{nothing}
 
 -- two programs do the same at these registers and pc
 abbrev pub SameAt : Program → Program → Local → Type 0

@@ -1,15 +1,15 @@
 -- Where a core waits for room, from what its cache and its buffer answer.
 use Rattle.std.proofs.Common.{◌≡◌, ℕ, Bool, true, false, not, is_some, ◌||◌, if◌then◌else◌, Option, Some, None, refl, ◌∙◌}
 use Rattle.tcc_base.specs.declared.names.Tid.{Tid}
-use Rattle.tcc_program.specs.Program.{Program}
-use Rattle.tcc_maps.specs.Cache.{free_way, all_marked}
-use Rattle.tcc_maps.specs.CacheLook.{Look, Hit, Miss, NeedsRoom, Overflow, look_line, look_value, look_load, look_store}
-use Rattle.tcc_maps.specs.Shape.{Shape, set_of}
-use Rattle.tcc_maps.specs.Spilled.{holds}
-use Rattle.tcc_maps.specs.Words.{line_of}
-use Rattle.tcc_rules.specs.Attempt.{is_solo}
-use Rattle.tcc_rules.specs.State.{CoreState}
-use Rattle.tcc_rules.specs.Useful.{room_in_phase, room_for_line, room_for_store, room_for_word}
+use Rattle.rules_program.specs.Program.{Program}
+use Rattle.rules_maps.specs.Cache.{free_way, all_marked}
+use Rattle.rules_maps.specs.CacheLook.{Look, Hit, Miss, NeedsRoom, Overflow, look_line, look_value, look_load, look_store}
+use Rattle.rules_maps.specs.Shape.{Shape, set_of}
+use Rattle.rules_maps.specs.Spilled.{holds}
+use Rattle.rules_maps.specs.Words.{line_of}
+use Rattle.rules_tcc.specs.Attempt.{is_solo}
+use Rattle.rules_tcc.specs.State.{CoreState}
+use Rattle.rules_tcc.specs.Useful.{room_in_phase, room_for_line, room_for_store, room_for_word}
 use Rattle.commit_engine.specs.Engine.{phase_of}
 use Rattle.commit_engine.specs.declared.phase.Phase.TheVariants as code
 use Rattle.core_node.specs.Waiting.{room_after}

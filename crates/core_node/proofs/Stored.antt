@@ -1,15 +1,15 @@
 -- What the rules of a word store and of a partial store give, by where the word is.
 use Rattle.std.proofs.Common.{◌≡◌, ◌≢◌, ℕ, Bool, true, false, Some, None, is_some, if◌then◌else◌, refl, ◌∙◌}
-use Rattle.tcc_program.specs.Program.{Program, Need}
-use Rattle.tcc_maps.specs.Words.{line_of}
-use Rattle.tcc_maps.specs.Shape.{Shape, set_of}
-use Rattle.tcc_maps.specs.Cache.{Cache, IsCache, free_way, all_marked}
-use Rattle.tcc_maps.specs.CacheLook.{Look, Hit, Miss, look_store, look_line}
-use Rattle.tcc_maps.specs.Spilled.{holds}
-use Rattle.tcc_rules.specs.State.{CoreState}
-use Rattle.tcc_rules.specs.Sends.{nothing, flush_line}
-use Rattle.tcc_rules.specs.Attempt.{moves, finished, new_word}
-use Rattle.tcc_rules.specs.Execute.{word_store, partial_store, change_valid, marks_read, stored_in_buffer, stored_in_frame, place, miss}
+use Rattle.rules_program.specs.Program.{Program, Need}
+use Rattle.rules_maps.specs.Words.{line_of}
+use Rattle.rules_maps.specs.Shape.{Shape, set_of}
+use Rattle.rules_maps.specs.Cache.{Cache, IsCache, free_way, all_marked}
+use Rattle.rules_maps.specs.CacheLook.{Look, Hit, Miss, look_store, look_line}
+use Rattle.rules_maps.specs.Spilled.{holds}
+use Rattle.rules_tcc.specs.State.{CoreState}
+use Rattle.rules_tcc.specs.Sends.{nothing, flush_line}
+use Rattle.rules_tcc.specs.Attempt.{moves, finished, new_word}
+use Rattle.rules_tcc.specs.Execute.{word_store, partial_store, change_valid, marks_read, stored_in_buffer, stored_in_frame, place, miss}
 use Rattle.spec_cache.specs.Look.{look_of}
 use Rattle.spec_cache.specs.declared.look.Look.{Look as CodeLook}
 use Rattle.spec_cache.specs.declared.look.Look.TheVariants as code

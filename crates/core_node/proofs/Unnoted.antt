@@ -4,7 +4,7 @@ use Rattle.std.proofs.Math.Seq.{take-append_seam}
 use Rattle.std.proofs.lemmas.List.{length-append}
 use Rattle.tcc_base.specs.declared.access.Load.{Load}
 use Rattle.tcc_base.specs.declared.access.Stored.{Stored}
-use Rattle.tcc_rules.specs.State.{CoreState}
+use Rattle.rules_tcc.specs.State.{CoreState}
 
 last_off : {A : Type 0} → (ys : List A) (y : A) → take (length (ys ++ y ∷ []) - 1) (ys ++ y ∷ []) ≡ ys
 last_off ys y =

@@ -1,8 +1,8 @@
 -- What a load that found its word leaves in the cache.
 use Rattle.std.proofs.Common.{◌≡◌, ℕ, Bool, true, false, ◌&&◌, cond, is_some, if◌then◌else◌, refl}
-use Rattle.tcc_maps.specs.Cache.{Cache}
-use Rattle.tcc_maps.specs.CacheChange.{marked}
-use Rattle.tcc_rules.specs.State.{CoreState}
+use Rattle.rules_maps.specs.Cache.{Cache}
+use Rattle.rules_maps.specs.CacheChange.{marked}
+use Rattle.rules_tcc.specs.State.{CoreState}
 use Rattle.spec_cache.specs.Look.{loaded}
 
 pub loaded_valid : (w : ℕ) (b : Bool) (c : Cache) → is_some (c.value w) ≡ true → loaded w b c ≡ cond b (marked w c) c

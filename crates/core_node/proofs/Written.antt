@@ -7,9 +7,9 @@ use Rattle.std.proofs.lemmas.List.{map-append}
 use Rattle.tcc_base.specs.declared.access.Tagged.{Tagged}
 use Rattle.tcc_base.specs.declared.names.LineAddr.{LineAddr}
 use Rattle.tcc_base.specs.declared.names.Mask.{Mask}
-use Rattle.tcc_maps.specs.Shape.{Shape, lines}
-use Rattle.tcc_maps.specs.Words.{those}
-use Rattle.tcc_rules.specs.State.{CoreState}
+use Rattle.rules_maps.specs.Shape.{Shape, lines}
+use Rattle.rules_maps.specs.Words.{those}
+use Rattle.rules_tcc.specs.State.{CoreState}
 use Rattle.spec_cache.specs.Home.{mark_of}
 use Rattle.commit_engine.specs.Solo.{solo_list}
 use Rattle.core_node.specs.AtHand.{line_told, lines_told}

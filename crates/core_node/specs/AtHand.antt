@@ -4,17 +4,17 @@ use Rattle.std.specs.Prelude.{None, is_some, if◌then◌else◌}
 use Rattle.tcc_base.specs.declared.access.Size.TheVariants.{Byte, Half, Word}
 use Rattle.tcc_base.specs.declared.access.Tagged.{Tagged}
 use Rattle.tcc_base.specs.declared.names.WordAddr.{WordAddr}
-use Rattle.tcc_maps.specs.Cache.{Cache, free_way, all_marked}
-use Rattle.tcc_maps.specs.Masks.{hit, mask_of}
-use Rattle.tcc_maps.specs.Shape.{Shape, set_of}
-use Rattle.tcc_maps.specs.Spilled.{holds}
-use Rattle.tcc_maps.specs.Words.{eight, line_of, or_else, place_of, word_at}
-use Rattle.tcc_program.specs.Program.{Need, Loads, Stores, Changes, Ends, Halts, Traps, Program}
-use Rattle.tcc_program.specs.Ram.{word_of}
-use Rattle.tcc_maps.specs.CacheChange.{filled, placed}
-use Rattle.tcc_rules.specs.Attempt.{Out, finished, is_running, is_solo, new_word}
-use Rattle.tcc_rules.specs.Execute.{marks_read, stored_in_buffer, stored_in_frame}
-use Rattle.tcc_rules.specs.State.{CoreState, Phase}
+use Rattle.rules_maps.specs.Cache.{Cache, free_way, all_marked}
+use Rattle.rules_maps.specs.Masks.{hit, mask_of}
+use Rattle.rules_maps.specs.Shape.{Shape, set_of}
+use Rattle.rules_maps.specs.Spilled.{holds}
+use Rattle.rules_maps.specs.Words.{eight, line_of, or_else, place_of, word_at}
+use Rattle.rules_program.specs.Program.{Need, Loads, Stores, Changes, Ends, Halts, Traps, Program}
+use Rattle.rules_program.specs.Ram.{word_of}
+use Rattle.rules_maps.specs.CacheChange.{filled, placed}
+use Rattle.rules_tcc.specs.Attempt.{Out, finished, is_running, is_solo, new_word}
+use Rattle.rules_tcc.specs.Execute.{marks_read, stored_in_buffer, stored_in_frame}
+use Rattle.rules_tcc.specs.State.{CoreState, Phase}
 use Rattle.commit_engine.specs.Solo.{solo_list}
 use Rattle.core_node.specs.Executing.{overflows}
 

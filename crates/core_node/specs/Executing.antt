@@ -6,12 +6,12 @@ use Rattle.tcc_base.specs.Bytes.{bytes_of}
 use Rattle.tcc_base.specs.declared.access.Commit.{Commit}
 use Rattle.tcc_base.specs.declared.access.Size.TheVariants.{Word}
 use Rattle.tcc_msg.specs.declared.outgoing.Outgoing.{Outgoing}
-use Rattle.tcc_program.specs.Program.{Local, Need, Loads, Stores, Changes, Prints, Ends, Halts, Traps}
-use Rattle.tcc_program.specs.Plain.{Outcome, load_of, store_of}
-use Rattle.tcc_program.specs.Ram.{part}
-use Rattle.tcc_rules.specs.State.{CoreState, Phase, Overflowing}
-use Rattle.tcc_rules.specs.Attempt.{Out, moves}
-use Rattle.tcc_rules.specs.Sends.{nothing}
+use Rattle.rules_program.specs.Program.{Local, Need, Loads, Stores, Changes, Prints, Ends, Halts, Traps}
+use Rattle.rules_program.specs.Plain.{Outcome, load_of, store_of}
+use Rattle.rules_program.specs.Ram.{part}
+use Rattle.rules_tcc.specs.State.{CoreState, Phase, Overflowing}
+use Rattle.rules_tcc.specs.Attempt.{Out, moves}
+use Rattle.rules_tcc.specs.Sends.{nothing}
 use Rattle.core_node.specs.View.{Did}
 use Rattle.core_node.specs.declared.exec.Executed.{Executed}
 use Rattle.core_node.specs.declared.exec.Executed.TheVariants.{Stepped, Asked, Committed}

@@ -1,14 +1,14 @@
 -- Which evictions of a core are useful, in the order of set and way.
 use Rattle.std.specs.Prelude.{ℕ, Bool, ◌&&◌, ◌||◌, List, map, Option, Some, None, is_some}
 use Rattle.std.specs.List.{filter, flat_map}
-use Rattle.tcc_maps.specs.CacheUse.{Wants}
-use Rattle.tcc_maps.specs.Shape.{Shape}
-use Rattle.tcc_program.specs.Program.{Program}
-use Rattle.tcc_rules.specs.Attempt.{is_solo}
-use Rattle.tcc_rules.specs.CoreEvict.{core_evict}
-use Rattle.tcc_rules.specs.Seen.{numbers}
-use Rattle.tcc_rules.specs.State.{CoreState, Awaited}
-use Rattle.tcc_rules.specs.Useful.{holds_written, is_this_set, room}
+use Rattle.rules_maps.specs.CacheUse.{Wants}
+use Rattle.rules_maps.specs.Shape.{Shape}
+use Rattle.rules_program.specs.Program.{Program}
+use Rattle.rules_tcc.specs.Attempt.{is_solo}
+use Rattle.rules_tcc.specs.CoreEvict.{core_evict}
+use Rattle.rules_tcc.specs.Seen.{numbers}
+use Rattle.rules_tcc.specs.State.{CoreState, Awaited}
+use Rattle.rules_tcc.specs.Useful.{holds_written, is_this_set, room}
 
 -- the eviction is enabled, and words leave the way or the core waits for room in its set
 unfoldable pub evict_is_useful : Shape → Program → CoreState → (set way : ℕ) → Bool

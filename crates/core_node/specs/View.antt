@@ -3,11 +3,11 @@ use Rattle.std.specs.Prelude.{ℕ, ◌≡◌, ◌<◌, true, length, Option, Som
 use Rattle.tcc_base.specs.Settings.{Settings}
 use Rattle.tcc_base.specs.declared.names.NodeId.{NodeId}
 use Rattle.tcc_base.specs.declared.names.NodeId.TheVariants as code_node
-use Rattle.tcc_maps.specs.Cache.{Cache}
-use Rattle.tcc_maps.specs.Masks.{has}
+use Rattle.rules_maps.specs.Cache.{Cache}
+use Rattle.rules_maps.specs.Masks.{has}
 use Rattle.tcc_msg.specs.declared.outgoing.Outgoing.{Outgoing}
-use Rattle.tcc_rules.specs.State as rules
-use Rattle.tcc_rules.specs.Attempt.{Out}
+use Rattle.rules_tcc.specs.State as rules
+use Rattle.rules_tcc.specs.Attempt.{Out}
 use Rattle.spec_cache.specs.Held.{maps}
 use Rattle.overflow_buf.specs.Kept.{spilled}
 use Rattle.rv_plain.specs.Attempts.{outcome_of}

@@ -1,6 +1,6 @@
 -- The set in which a core waits for room, from what its cache answers.
 use Rattle.std.specs.Prelude.{ℕ, Bool, true, false, Option, Some, None, if◌then◌else◌}
-use Rattle.tcc_maps.specs.CacheLook.{Look, Hit, Miss, NeedsRoom, Overflow}
+use Rattle.rules_maps.specs.CacheLook.{Look, Hit, Miss, NeedsRoom, Overflow}
 
 -- a full set with an unmarked way is waited for, one without by a core that is alone
 abbrev pub room_after : Look → (alone : Bool) → Option ℕ

@@ -1,12 +1,12 @@
 // An instruction that stores a word, or a part of one: in the overflow buffer, in its line's frame, or in a new frame.
 ghost use Rattle.std.specs.Prelude.{◌≡◌, ◌<◌, ◌-◌, ◌^◌, true, false, Some, is_some, OnOk, OnErr};
-ghost use Rattle.tcc_maps.specs.Cache.{free_way};
-ghost use Rattle.tcc_maps.specs.Shape.{lines, set_of};
-ghost use Rattle.tcc_maps.specs.Spilled.{holds};
-ghost use Rattle.tcc_maps.specs.Words.{line_of};
-ghost use Rattle.tcc_rules.specs.Attempt.{moves, finished, new_word as word_after};
-ghost use Rattle.tcc_rules.specs.Execute.{marks_read, place as placed_in, stored_in_frame, stored_in_buffer, change_valid as valid_rule, partial_store as partial_rule, word_store as word_rule};
-ghost use Rattle.tcc_rules.specs.Sends.{flush_line};
+ghost use Rattle.rules_maps.specs.Cache.{free_way};
+ghost use Rattle.rules_maps.specs.Shape.{lines, set_of};
+ghost use Rattle.rules_maps.specs.Spilled.{holds};
+ghost use Rattle.rules_maps.specs.Words.{line_of};
+ghost use Rattle.rules_tcc.specs.Attempt.{moves, finished, new_word as word_after};
+ghost use Rattle.rules_tcc.specs.Execute.{marks_read, place as placed_in, stored_in_frame, stored_in_buffer, change_valid as valid_rule, partial_store as partial_rule, word_store as word_rule};
+ghost use Rattle.rules_tcc.specs.Sends.{flush_line};
 ghost use Rattle.rv_exec.specs.Needs.{need_of};
 ghost use Rattle.rv_plain.specs.Attempts.{alone};
 ghost use Rattle.spec_cache.specs.Held.{maps};

@@ -1,11 +1,11 @@
 // The instruction that ends a transaction: a core that runs asks for a TID then, and one that is alone commits at once.
 ghost use Rattle.std.specs.Prelude.{◌≡◌, ◌<◌, ◌-◌, ◌^◌, IfOk, OnOk, OnErr, None, map, [], ◌∷◌};
-ghost use Rattle.tcc_program.specs.Program.{unreserved, Ends};
-ghost use Rattle.tcc_rules.specs.Attempt.{moves, finished};
-ghost use Rattle.tcc_rules.specs.Execute.{end_transaction};
-ghost use Rattle.tcc_rules.specs.Sends.{to};
-ghost use Rattle.tcc_rules.specs.State.{AwaitTid};
-ghost use Rattle.tcc_maps.specs.Nodes.{Vendor, TidReq};
+ghost use Rattle.rules_program.specs.Program.{unreserved, Ends};
+ghost use Rattle.rules_tcc.specs.Attempt.{moves, finished};
+ghost use Rattle.rules_tcc.specs.Execute.{end_transaction};
+ghost use Rattle.rules_tcc.specs.Sends.{to};
+ghost use Rattle.rules_tcc.specs.State.{AwaitTid};
+ghost use Rattle.rules_maps.specs.Nodes.{Vendor, TidReq};
 ghost use Rattle.spec_cache.specs.Held.{maps};
 ghost use Rattle.spec_cache.specs.Home.{mark_of};
 ghost use Rattle.overflow_buf.specs.Kept.{spilled as words_of};

@@ -1,8 +1,8 @@
 // A transaction commits: what goes out, what is noted, and how the core goes on.
 ghost use Rattle.std.specs.Prelude.{◌≡◌, ◌+◌, ◌*◌, [], length, map, Some};
-ghost use Rattle.tcc_rules.specs.Commit.{commit as commit_rule, ended_after_commit, noted, phase_after_commit, solo_commit as solo_rule};
-ghost use Rattle.tcc_maps.specs.CacheChange.{words_dropped};
-ghost use Rattle.tcc_maps.specs.Spilled.{none_spilled};
+ghost use Rattle.rules_tcc.specs.Commit.{commit as commit_rule, ended_after_commit, noted, phase_after_commit, solo_commit as solo_rule};
+ghost use Rattle.rules_maps.specs.CacheChange.{words_dropped};
+ghost use Rattle.rules_maps.specs.Spilled.{none_spilled};
 ghost use Rattle.spec_cache.specs.Held.{maps};
 ghost use Rattle.spec_cache.specs.Home.{mark_of};
 ghost use Rattle.overflow_buf.specs.Kept.{spilled as words_of};
@@ -47,7 +47,7 @@ fn ended_after(ended: Outcome) -> Outcome
 }
 
 /// What is noted of the commit, moved out of the attempt, which is empty then. Takes no memory.
-#[tactic(auto, unfolding(crate::specs::View::core_of, tcc_rules::specs::Commit::noted))]
+#[tactic(auto, unfolding(crate::specs::View::core_of, rules_tcc::specs::Commit::noted))]
 fn take_attempt(core: &mut Core, tid: Tid) -> Commit
     ensures taken { result ≡ noted tid.0 core.old.id.0 (core_of core.old) }
     ensures emptied { core.new ≡ record core.old { n = 0; loads = []; stores = []; console = [] } }

@@ -1,10 +1,10 @@
 // A message that a core takes: by its sender and kind.
 ghost use Rattle.std.specs.Prelude.{◌≡◌, ◌<◌, map, IfOk, OnOk, OnErr};
-ghost use Rattle.tcc_maps.specs.Cache.{marks_by_home};
+ghost use Rattle.rules_maps.specs.Cache.{marks_by_home};
 ghost use Rattle.spec_cache.specs.Held.{maps};
 ghost use Rattle.spec_cache.specs.Home.{mark_of};
 ghost use Rattle.tcc_msg.specs.Plain.{msg_of};
-ghost use Rattle.tcc_rules.specs.CoreDeliver.{from_dir as dir_rule, from_vendor as vendor_rule};
+ghost use Rattle.rules_tcc.specs.CoreDeliver.{from_dir as dir_rule, from_vendor as vendor_rule};
 ghost use Rattle.core_node.specs.View.{core_of, IsCore, Stays};
 ghost use Rattle.commit_engine.specs.Sent.{HasRoom};
 ghost use Rattle.core_node.specs.Answers.{Happened, IsBlocked, IsMemory};

@@ -1,10 +1,10 @@
 // Emptying a frame.
 ghost use Rattle.std.specs.Prelude.{◌≡◌, ◌<◌, ◌||◌, ◌&&◌, ℕ, not, is_some, true, Some, IfSome, OnOk, OnErr};
-ghost use Rattle.tcc_maps.specs.CacheChange.{evicted};
-ghost use Rattle.tcc_maps.specs.Spilled.{spill_line};
-ghost use Rattle.tcc_rules.specs.Attempt.{is_solo};
-ghost use Rattle.tcc_rules.specs.CoreEvict.{core_evict, is_awaited};
-ghost use Rattle.tcc_rules.specs.Sends.{write_back_line};
+ghost use Rattle.rules_maps.specs.CacheChange.{evicted};
+ghost use Rattle.rules_maps.specs.Spilled.{spill_line};
+ghost use Rattle.rules_tcc.specs.Attempt.{is_solo};
+ghost use Rattle.rules_tcc.specs.CoreEvict.{core_evict, is_awaited};
+ghost use Rattle.rules_tcc.specs.Sends.{write_back_line};
 ghost use Rattle.spec_cache.specs.Held.{maps};
 ghost use Rattle.overflow_buf.specs.Kept.{spilled};
 ghost use Rattle.commit_engine.specs.Engine.{phase_of};
@@ -15,8 +15,8 @@ ghost use Rattle.core_node.specs.Answers.{Happened, IsBlocked, IsMemory};
 use crate::delivering::{CoreError, make_room};
 use crate::state::{Awaited, Core};
 use commit_engine::Phase;
+use rules_maps::maps_fit_together;
 use tcc_base::{LineAddr, NodeId, Tagged};
-use tcc_maps::maps_fit_together;
 use tcc_msg::{Msg, Outgoing};
 
 /// Whether the line is awaited.

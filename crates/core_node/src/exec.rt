@@ -1,8 +1,8 @@
 // An execution: by the phase and the awaited line, then by the instruction at pc.
 ghost use Rattle.std.specs.Prelude.{◌≡◌, ◌<◌, ◌-◌, ◌^◌, IfOk, OnOk, OnErr, Some};
-ghost use Rattle.tcc_rules.specs.Commit.{commit as commit_rule};
-ghost use Rattle.tcc_rules.specs.CoreExec.{core_exec, unless_awaiting};
-ghost use Rattle.tcc_rules.specs.Execute.{execute as execute_rule};
+ghost use Rattle.rules_tcc.specs.Commit.{commit as commit_rule};
+ghost use Rattle.rules_tcc.specs.CoreExec.{core_exec, unless_awaiting};
+ghost use Rattle.rules_tcc.specs.Execute.{execute as execute_rule};
 ghost use Rattle.image_load.specs.Contents.{started};
 ghost use Rattle.rv_code.specs.Machine.{program};
 ghost use Rattle.commit_engine.specs.Engine.{phase_of};
@@ -95,7 +95,7 @@ pub(crate) fn commit_ready(
 }
 
 /// Executes, commits or does nothing, by the phase. Gives what is noted, where a transaction commits.
-#[tactic(auto, unfolding(tcc_rules::specs::CoreExec::core_exec, crate::specs::View::core_of))]
+#[tactic(auto, unfolding(rules_tcc::specs::CoreExec::core_exec, crate::specs::View::core_of))]
 fn exec_any(core: &mut Core, code: &Code, out: &mut Outgoing) -> Result<Option<Commit>, CoreError>
     requires whole { IsCore core.old }
     requires counts { core.old.n < 2 ^ 32 - 1 }

@@ -1,11 +1,11 @@
 // What an instruction needs decides what the core does.
 ghost use Rattle.std.specs.Prelude.{◌≡◌, ◌<◌, ◌-◌, ◌^◌, IfOk, OnOk, OnErr, is_some, if◌then◌else◌};
-ghost use Rattle.tcc_maps.specs.Shape.{lines};
-ghost use Rattle.tcc_maps.specs.Words.{line_of};
-ghost use Rattle.tcc_program.specs.Ram.{word_of};
-ghost use Rattle.tcc_rules.specs.Attempt.{finished};
-ghost use Rattle.tcc_rules.specs.Execute.{store_by_size, execute_need as need_rule};
-ghost use Rattle.tcc_rules.specs.Useful.{room_for_need};
+ghost use Rattle.rules_maps.specs.Shape.{lines};
+ghost use Rattle.rules_maps.specs.Words.{line_of};
+ghost use Rattle.rules_program.specs.Ram.{word_of};
+ghost use Rattle.rules_tcc.specs.Attempt.{finished};
+ghost use Rattle.rules_tcc.specs.Execute.{store_by_size, execute_need as need_rule};
+ghost use Rattle.rules_tcc.specs.Useful.{room_for_need};
 ghost use Rattle.rv_code.specs.Served.{Lies, IsServed};
 ghost use Rattle.rv_exec.specs.Needs.{need_of};
 ghost use Rattle.rv_plain.specs.Attempts.{alone};
@@ -28,7 +28,7 @@ use tcc_base::{Commit, Size, WordAddr};
 use tcc_msg::Outgoing;
 
 /// The word in which an address of RAM lies.
-#[tactic(auto, unfolding(tcc_program::specs::Ram::word_of))]
+#[tactic(auto, unfolding(rules_program::specs::Ram::word_of))]
 pub(crate) fn word_at(core: &Core, addr: u32) -> WordAddr
     requires { Lies core.now.config.base core.now.config.ram addr 1 }
     ensures value { result.0 ≡ word_of core.now.config.base addr }

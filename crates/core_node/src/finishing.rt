@@ -1,9 +1,9 @@
 // An instruction that has what it needs: what it loads, stores and prints is noted, and the core goes on to the next one.
 ghost use Rattle.std.specs.Prelude.{ℕ, ◌≡◌, ◌<◌, ◌-◌, ◌^◌, OnOk, OnErr, [], ◌∷◌, ◌++◌};
-ghost use Rattle.tcc_program.specs.Plain.{load_of, store_of};
+ghost use Rattle.rules_program.specs.Plain.{load_of, store_of};
 ghost use Rattle.tcc_base.specs.declared.access.Size.TheVariants.{Word};
-ghost use Rattle.tcc_rules.specs.State.{CoreState};
-ghost use Rattle.tcc_rules.specs.Attempt.{one_more_instruction, finished};
+ghost use Rattle.rules_tcc.specs.State.{CoreState};
+ghost use Rattle.rules_tcc.specs.Attempt.{one_more_instruction, finished};
 ghost use Rattle.rv_exec.specs.Needs.{need_of};
 ghost use Rattle.rv_plain.specs.Attempts.{alone};
 ghost use Rattle.core_node.specs.Executing.{noted, given as given_by, GoesOn};
@@ -32,7 +32,7 @@ pub(crate) fn given(need: Need, word: u32) -> Option<u32>
 }
 
 /// The next instruction, with the loaded bytes where there are any.
-#[tactic(auto, unfolding(crate::specs::View::core_of, tcc_rules::specs::Attempt::one_more_instruction))]
+#[tactic(auto, unfolding(crate::specs::View::core_of, rules_tcc::specs::Attempt::one_more_instruction))]
 pub(crate) fn advance(core: &mut Core, inst: &Inst, loaded: Option<u32>)
     requires whole { IsCore core.old }
     requires room { core.old.n < 2 ^ 32 - 1 }

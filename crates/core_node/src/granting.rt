@@ -1,14 +1,14 @@
 // What a core does with its TID, and with the replies of the directories that it probed.
 ghost use Rattle.std.specs.Prelude.{◌≡◌, ◌≤◌, ◌==◌, ◌&&◌, ◌*◌, ◌<◌, length, map, Some, None};
-ghost use Rattle.tcc_maps.specs.Cache.{marks_by_home};
-ghost use Rattle.tcc_maps.specs.Masks.{has};
-ghost use Rattle.tcc_rules.specs.CoreDeliver.{grant_in_phase, probing_or_ready, reply_in_phase, ready_once_replied, solo_once_replied};
-ghost use Rattle.tcc_rules.specs.CoreDeliver.{replied};
-ghost use Rattle.tcc_rules.specs.Attempt.{moves};
-ghost use Rattle.tcc_rules.specs.Sends.{nothing, to, marks_for};
-ghost use Rattle.tcc_rules.specs.State.{AwaitTid, DoomedTid, Overflowing, Probing};
-ghost use Rattle.tcc_maps.specs.Nodes.{Dir};
-ghost use Rattle.tcc_maps.specs.Words.{any_below};
+ghost use Rattle.rules_maps.specs.Cache.{marks_by_home};
+ghost use Rattle.rules_maps.specs.Masks.{has};
+ghost use Rattle.rules_tcc.specs.CoreDeliver.{grant_in_phase, probing_or_ready, reply_in_phase, ready_once_replied, solo_once_replied};
+ghost use Rattle.rules_tcc.specs.CoreDeliver.{replied};
+ghost use Rattle.rules_tcc.specs.Attempt.{moves};
+ghost use Rattle.rules_tcc.specs.Sends.{nothing, to, marks_for};
+ghost use Rattle.rules_tcc.specs.State.{AwaitTid, DoomedTid, Overflowing, Probing};
+ghost use Rattle.rules_maps.specs.Nodes.{Dir};
+ghost use Rattle.rules_maps.specs.Words.{any_below};
 ghost use Rattle.spec_cache.specs.Held.{maps};
 ghost use Rattle.spec_cache.specs.Home.{mark_of};
 ghost use Rattle.commit_engine.specs.Engine.{phase_of};
@@ -128,7 +128,7 @@ fn mark_replied(core: &mut Core, d: DirId, tid: Tid, marks: &[(LineAddr, Mask)],
 }
 
 /// A directory serves the TID of a core that needs room: with the last of them the core is alone, and reads without marks.
-#[tactic(auto, using(crate::proofs::Cores::whole_cache), unfolding(crate::specs::View::core_of, tcc_maps::specs::CacheChange::read_cleared))]
+#[tactic(auto, using(crate::proofs::Cores::whole_cache), unfolding(crate::specs::View::core_of, rules_maps::specs::CacheChange::read_cleared))]
 fn count_alone(core: &mut Core, d: DirId, tid: Tid)
     requires whole { IsCore core.old }
     requires exists { d.0 < core.old.config.dirs }

@@ -1,8 +1,8 @@
 // A load: of a word that is spilled, that is valid, or neither.
 ghost use Rattle.std.specs.Prelude.{◌≡◌, ◌<◌, ◌-◌, ◌^◌, OnOk, OnErr};
-ghost use Rattle.tcc_maps.specs.Shape.{lines};
-ghost use Rattle.tcc_maps.specs.Words.{line_of};
-ghost use Rattle.tcc_rules.specs.Execute.{load as load_rule};
+ghost use Rattle.rules_maps.specs.Shape.{lines};
+ghost use Rattle.rules_maps.specs.Words.{line_of};
+ghost use Rattle.rules_tcc.specs.Execute.{load as load_rule};
 ghost use Rattle.rv_exec.specs.Needs.{need_of};
 ghost use Rattle.rv_plain.specs.Attempts.{alone};
 ghost use Rattle.commit_engine.specs.Sent.{HasRoom};

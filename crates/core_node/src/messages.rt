@@ -1,8 +1,8 @@
 // What a core does with each message.
 ghost use Rattle.std.specs.Prelude.{◌≡◌, ◌+◌, ◌&&◌};
-ghost use Rattle.tcc_maps.specs.Cache.{Cache};
-ghost use Rattle.tcc_maps.specs.CacheLook.{reads_masked};
-ghost use Rattle.tcc_rules.specs.CoreDeliver.{fill as fill_rule, data_request as data_request_rule, invalidate as invalidate_rule, may_be_above, staled as staled_by, words_invalidated, if_violated};
+ghost use Rattle.rules_maps.specs.Cache.{Cache};
+ghost use Rattle.rules_maps.specs.CacheLook.{reads_masked};
+ghost use Rattle.rules_tcc.specs.CoreDeliver.{fill as fill_rule, data_request as data_request_rule, invalidate as invalidate_rule, may_be_above, staled as staled_by, words_invalidated, if_violated};
 ghost use Rattle.spec_cache.specs.Held.{maps};
 ghost use Rattle.commit_engine.specs.Engine.{phase_of};
 ghost use Rattle.commit_engine.specs.Sent.{HasRoom};
@@ -15,7 +15,7 @@ use tcc_base::{LineAddr, Mask, NodeId, Tagged, Tid};
 use tcc_msg::{Msg, Outgoing};
 
 /// The line's home words: they fill what isn't valid, unless the line was invalidated since it was asked for.
-#[tactic(auto, unfolding(crate::specs::View::core_of, tcc_rules::specs::CoreDeliver::fill))]
+#[tactic(auto, unfolding(crate::specs::View::core_of, rules_tcc::specs::CoreDeliver::fill))]
 pub(crate) fn fill(core: &mut Core, line: LineAddr, words: &[u32; 8])
     requires { IsCore core.old }
     ensures does { core_of core.new ≡ (fill_rule line.0 words.now (core_of core.old)).core }
@@ -33,7 +33,7 @@ pub(crate) fn fill(core: &mut Core, line: LineAddr, words: &[u32; 8])
 }
 
 /// The line's dirty words go home and stay as clean ones.
-#[tactic(auto, unfolding(crate::specs::View::core_of, tcc_rules::specs::CoreDeliver::data_request))]
+#[tactic(auto, unfolding(crate::specs::View::core_of, rules_tcc::specs::CoreDeliver::data_request))]
 pub(crate) fn data_request(core: &mut Core, line: LineAddr, out: &mut Outgoing)
     requires whole { IsCore core.old }
     requires room { HasRoom out.old 1 }
@@ -93,7 +93,7 @@ pub(crate) fn staled(line: LineAddr, awaited: Option<Awaited>) -> Option<Awaited
 
 /// The masked words that aren't modified are dropped, and an awaited line becomes stale. Says whether a masked word was
 /// marked read.
-#[tactic(auto, unfolding(crate::specs::View::core_of, tcc_rules::specs::CoreDeliver::words_invalidated, tcc_maps::specs::CacheChange::invalidated))]
+#[tactic(auto, unfolding(crate::specs::View::core_of, rules_tcc::specs::CoreDeliver::words_invalidated, rules_maps::specs::CacheChange::invalidated))]
 pub(crate) fn strike(core: &mut Core, line: LineAddr, mask: Mask) -> bool
     requires { IsCore core.old }
     ensures does { core_of core.new ≡ words_invalidated line.0 mask.0 (core_of core.old) }
@@ -107,7 +107,7 @@ pub(crate) fn strike(core: &mut Core, line: LineAddr, mask: Mask) -> bool
 }
 
 /// What a core does that is violated, or isn't.
-#[tactic(auto, using(crate::proofs::Steps::did_silently), unfolding(crate::specs::View::core_of, tcc_rules::specs::CoreDeliver::if_violated))]
+#[tactic(auto, using(crate::proofs::Steps::did_silently), unfolding(crate::specs::View::core_of, rules_tcc::specs::CoreDeliver::if_violated))]
 fn answer_violation(core: &mut Core, violated: bool, out: &mut Outgoing)
     requires whole { IsCore core.old }
     requires room { HasRoom out.old core.old.config.dirs }

@@ -1,9 +1,9 @@
 // A line that the core wants and doesn't have: it is asked for, or room for it is.
 ghost use Rattle.std.specs.Prelude.{◌≡◌, ◌<◌, true, false, is_some, None, Err, OnOk, OnErr};
-ghost use Rattle.tcc_maps.specs.Cache.{free_way};
-ghost use Rattle.tcc_maps.specs.Shape.{lines, set_of};
-ghost use Rattle.tcc_rules.specs.Execute.{request_line, place as placed_in, overflow as overflow_rule, miss};
-ghost use Rattle.tcc_maps.specs.CacheLook.{Miss as Misses, look_line};
+ghost use Rattle.rules_maps.specs.Cache.{free_way};
+ghost use Rattle.rules_maps.specs.Shape.{lines, set_of};
+ghost use Rattle.rules_tcc.specs.Execute.{request_line, place as placed_in, overflow as overflow_rule, miss};
+ghost use Rattle.rules_maps.specs.CacheLook.{Miss as Misses, look_line};
 ghost use Rattle.spec_cache.specs.Held.{maps};
 ghost use Rattle.spec_cache.specs.Look.{look_of};
 ghost use Rattle.commit_engine.specs.Engine.{after_of};
@@ -31,7 +31,7 @@ fn last_commit(after: &[Tid; 64], d: DirId) -> Tid
 }
 
 /// A request for the line goes to its home, and the core awaits it. The line has a frame.
-#[tactic(auto, unfolding(crate::specs::View::core_of, tcc_rules::specs::Execute::request_line))]
+#[tactic(auto, unfolding(crate::specs::View::core_of, rules_tcc::specs::Execute::request_line))]
 pub(crate) fn ask(core: &mut Core, line: LineAddr, out: &mut Outgoing)
     requires whole { IsCore core.old }
     requires held { (maps core.old.cache).held line.0 ≡ true }
@@ -46,7 +46,7 @@ pub(crate) fn ask(core: &mut Core, line: LineAddr, out: &mut Outgoing)
 }
 
 /// A TID is asked for, by which the core will go on alone.
-#[tactic(auto, unfolding(crate::specs::View::core_of, tcc_rules::specs::Execute::overflow))]
+#[tactic(auto, unfolding(crate::specs::View::core_of, rules_tcc::specs::Execute::overflow))]
 pub(crate) fn overflow(core: &mut Core, out: &mut Outgoing)
     requires whole { IsCore core.old }
     requires room { HasRoom out.old 1 }
@@ -58,7 +58,7 @@ pub(crate) fn overflow(core: &mut Core, out: &mut Outgoing)
 }
 
 /// The line, which has no frame, gets one, where a way of its set is free. Says whether one was.
-#[tactic(auto, unfolding(crate::specs::View::core_of, tcc_rules::specs::Execute::place))]
+#[tactic(auto, unfolding(crate::specs::View::core_of, rules_tcc::specs::Execute::place))]
 pub(crate) fn place(core: &mut Core, line: LineAddr) -> bool
     requires whole { IsCore core.old }
     requires exists { line.0 < lines core.old.config }

@@ -1,17 +1,17 @@
 // A core of the machine, with the calls by which it takes messages, empties frames and is looked at.
 ghost use Rattle.std.specs.Prelude.{◌≡◌, ◌<◌, IfOk, IsTrue, MatchOption, OnOk, OnErr, is_some, length, slice_get, false, Some, None};
-ghost use Rattle.tcc_maps.specs.Bridge.{node_of};
+ghost use Rattle.rules_maps.specs.Bridge.{node_of};
 ghost use Rattle.tcc_msg.specs.Plain.{msg_of};
-ghost use Rattle.tcc_rules.specs.CoreDeliver.{core_deliver};
+ghost use Rattle.rules_tcc.specs.CoreDeliver.{core_deliver};
 ghost use Rattle.image_load.specs.Contents.{started};
 ghost use Rattle.rv_code.specs.Machine.{program};
-ghost use Rattle.tcc_rules.specs.CoreEvict.{core_evict};
-ghost use Rattle.tcc_rules.specs.CoreExec.{core_exec};
-ghost use Rattle.tcc_rules.specs.Useful.{room};
-ghost use Rattle.tcc_rules.specs.State.{core_start};
-ghost use Rattle.tcc_maps.specs.Cache.{is_dirty};
-ghost use Rattle.tcc_maps.specs.Shape.{lines};
-ghost use Rattle.tcc_maps.specs.Words.{any_below};
+ghost use Rattle.rules_tcc.specs.CoreEvict.{core_evict};
+ghost use Rattle.rules_tcc.specs.CoreExec.{core_exec};
+ghost use Rattle.rules_tcc.specs.Useful.{room};
+ghost use Rattle.rules_tcc.specs.State.{core_start};
+ghost use Rattle.rules_maps.specs.Cache.{is_dirty};
+ghost use Rattle.rules_maps.specs.Shape.{lines};
+ghost use Rattle.rules_maps.specs.Words.{any_below};
 ghost use Rattle.spec_cache.specs.Held.{maps};
 ghost use Rattle.spec_cache.specs.Look.{Views};
 ghost use Rattle.commit_engine.specs.Engine.{phase_of, after_of};
@@ -95,7 +95,7 @@ impl CoreNode {
 
     /// Takes a message. Blocked exactly where the rules know no such message to a core; after an error the core is as before
     /// and nothing is sent. The sender exists.
-    #[tactic(auto, unfolding(tcc_rules::specs::CoreDeliver::core_deliver))]
+    #[tactic(auto, unfolding(rules_tcc::specs::CoreDeliver::core_deliver))]
     pub fn deliver(&mut self, src: NodeId, msg: &Msg, out: &mut Outgoing) -> Result<(), CoreError>
         requires { IsKnown self.old.config src }
         ensures does { OnOk result (Happened (core_deliver self.old.config (core_of self.old) (node_of src) (msg_of msg.now)) out.old self.new out.new) }

@@ -5,7 +5,7 @@ ghost use Rattle.rv_code.specs.Machine.{program};
 ghost use Rattle.rv_code.specs.Served.{IsServed};
 ghost use Rattle.rv_exec.specs.Needs.{need_of};
 ghost use Rattle.spec_cache.specs.Look.{look_of};
-ghost use Rattle.tcc_rules.specs.CoreExec.{core_exec};
+ghost use Rattle.rules_tcc.specs.CoreExec.{core_exec};
 ghost use Rattle.core_node.specs.AtHand.{goes_alone, need_overflows, store_overflows, word_overflows};
 ghost use Rattle.core_node.specs.View.{core_of, IsCore};
 ghost use Rattle.core_node.specs.Waiting.{is_full};
@@ -51,7 +51,7 @@ fn at_store(core: &Core, w: WordAddr) -> bool
 }
 
 /// The same of what an instruction needs.
-#[tactic(auto, unfolding(tcc_program::specs::Ram::word_of))]
+#[tactic(auto, unfolding(rules_program::specs::Ram::word_of))]
 fn at_need(core: &Core, need: Need) -> bool
     requires whole { IsCore core.now }
     requires served { IsServed core.now.config.base core.now.config.ram need }

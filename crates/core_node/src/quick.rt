@@ -1,19 +1,19 @@
 // An instruction that goes on, sends nothing and takes no memory is done at once, in few steps. Each other one is left as it is.
 ghost use Rattle.std.specs.Prelude.{◌≡◌, ◌<◌, ◌-◌, ◌^◌, ◌&&◌, not, true, false};
-ghost use Rattle.tcc_maps.specs.Shape.{lines};
-ghost use Rattle.tcc_maps.specs.Words.{line_of};
-ghost use Rattle.tcc_rules.specs.CoreExec.{core_exec};
-ghost use Rattle.tcc_rules.specs.Execute.{load as load_rule, word_store as word_rule, partial_store as partial_rule, execute as execute_rule, execute_need as need_rule};
+ghost use Rattle.rules_maps.specs.Shape.{lines};
+ghost use Rattle.rules_maps.specs.Words.{line_of};
+ghost use Rattle.rules_tcc.specs.CoreExec.{core_exec};
+ghost use Rattle.rules_tcc.specs.Execute.{load as load_rule, word_store as word_rule, partial_store as partial_rule, execute as execute_rule, execute_need as need_rule};
 ghost use Rattle.image_load.specs.Contents.{started};
 ghost use Rattle.rv_code.specs.Machine.{program};
 ghost use Rattle.rv_code.specs.Served.{IsServed};
 ghost use Rattle.rv_exec.specs.Effects.{planned};
 ghost use Rattle.rv_exec.specs.Needs.{need_of};
-ghost use Rattle.tcc_program.specs.Program.{Local, Nothing};
+ghost use Rattle.rules_program.specs.Program.{Local, Nothing};
 ghost use Rattle.rv_exec.specs.declared.need.Need.TheVariants.{Load as Loads, Store as Stores};
 ghost use Rattle.tcc_base.specs.declared.access.Size.TheVariants.{Word};
 ghost use Rattle.rv_plain.specs.Attempts.{alone};
-ghost use Rattle.tcc_rules.specs.Attempt.{is_running};
+ghost use Rattle.rules_tcc.specs.Attempt.{is_running};
 ghost use Rattle.commit_engine.specs.Engine.{phase_of};
 ghost use Rattle.spec_cache.specs.Held.{maps};
 ghost use Rattle.core_node.specs.Executing.{AtOnce, IsAligned, asks};
@@ -206,7 +206,7 @@ fn here_quickly(core: &mut Core, code: &Code) -> bool
 }
 
 /// Executes an instruction at once, where it can. Says whether it did.
-#[tactic(auto, unfolding(tcc_rules::specs::CoreExec::core_exec, crate::specs::View::core_of))]
+#[tactic(auto, unfolding(rules_tcc::specs::CoreExec::core_exec, crate::specs::View::core_of))]
 pub(crate) fn exec_quickly(core: &mut Core, code: &Code) -> bool
     requires whole { IsCore core.old }
     requires counts { core.old.n < 2 ^ 32 - 1 }

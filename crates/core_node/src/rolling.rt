@@ -1,10 +1,10 @@
 // Giving an attempt up: the roll back, and what each phase sends at it.
 ghost use Rattle.std.specs.Prelude.{◌≡◌};
-ghost use Rattle.tcc_maps.specs.Spilled.{none_spilled};
-ghost use Rattle.tcc_rules.specs.State.{Running, DoomedTid};
-ghost use Rattle.tcc_rules.specs.Sends.{abort_written, skip_all};
-ghost use Rattle.tcc_rules.specs.Attempt.{moves, roll_back as rolled};
-ghost use Rattle.tcc_rules.specs.CoreDeliver.{violated_in_phase, if_violated};
+ghost use Rattle.rules_maps.specs.Spilled.{none_spilled};
+ghost use Rattle.rules_tcc.specs.State.{Running, DoomedTid};
+ghost use Rattle.rules_tcc.specs.Sends.{abort_written, skip_all};
+ghost use Rattle.rules_tcc.specs.Attempt.{moves, roll_back as rolled};
+ghost use Rattle.rules_tcc.specs.CoreDeliver.{violated_in_phase, if_violated};
 ghost use Rattle.spec_cache.specs.Held.{maps};
 ghost use Rattle.commit_engine.specs.Engine.{phase_of};
 ghost use Rattle.commit_engine.specs.Sent.{HasRoom};
@@ -17,7 +17,7 @@ use tcc_base::Tid;
 use tcc_msg::Outgoing;
 
 /// The attempt begins anew from the checkpoint, and no directory owes a reply.
-#[tactic(auto, unfolding(crate::specs::View::core_of, tcc_rules::specs::Attempt::roll_back, tcc_maps::specs::CacheChange::rolled_back))]
+#[tactic(auto, unfolding(crate::specs::View::core_of, rules_tcc::specs::Attempt::roll_back, rules_maps::specs::CacheChange::rolled_back))]
 pub(crate) fn roll_back(core: &mut Core)
     requires { IsCore core.old }
     ensures does { core_of core.new ≡ rolled (core_of core.old) }

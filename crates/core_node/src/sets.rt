@@ -1,11 +1,11 @@
 // Where the frames of a core's cache are that something may change.
 ghost use Rattle.std.specs.Prelude.{◌≡◌, ◌<◌, ◌||◌, IfOk, IfSome};
 ghost use Rattle.std.specs.Option.{option_map};
-ghost use Rattle.tcc_maps.specs.Cache.{IsCache};
-ghost use Rattle.tcc_maps.specs.CacheLook.{reads_masked as any_masked};
-ghost use Rattle.tcc_maps.specs.CacheUse.{is_number};
-ghost use Rattle.tcc_maps.specs.Shape.{set_of};
-ghost use Rattle.tcc_maps.specs.Words.{those};
+ghost use Rattle.rules_maps.specs.Cache.{IsCache};
+ghost use Rattle.rules_maps.specs.CacheLook.{reads_masked as any_masked};
+ghost use Rattle.rules_maps.specs.CacheUse.{is_number};
+ghost use Rattle.rules_maps.specs.Shape.{set_of};
+ghost use Rattle.rules_maps.specs.Words.{those};
 ghost use Rattle.spec_cache.specs.MarkedSets.{has_marked};
 ghost use Rattle.core_node.specs.View.{core_of};
 

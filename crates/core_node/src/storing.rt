@@ -1,10 +1,10 @@
 // A word that an instruction has found or stores: in its frame, or in the overflow buffer.
 ghost use Rattle.std.specs.Prelude.{◌≡◌, ◌<◌, true, OnOk, OnErr, is_some};
-ghost use Rattle.tcc_maps.specs.Shape.{lines};
-ghost use Rattle.tcc_maps.specs.Words.{line_of};
-ghost use Rattle.tcc_rules.specs.Attempt.{moves, is_running};
-ghost use Rattle.tcc_rules.specs.Execute.{with_read_mark, stored_in_frame, stored_in_buffer};
-ghost use Rattle.tcc_rules.specs.Sends.{flush_line};
+ghost use Rattle.rules_maps.specs.Shape.{lines};
+ghost use Rattle.rules_maps.specs.Words.{line_of};
+ghost use Rattle.rules_tcc.specs.Attempt.{moves, is_running};
+ghost use Rattle.rules_tcc.specs.Execute.{with_read_mark, stored_in_frame, stored_in_buffer};
+ghost use Rattle.rules_tcc.specs.Sends.{flush_line};
 ghost use Rattle.spec_cache.specs.Held.{maps};
 ghost use Rattle.commit_engine.specs.Engine.{phase_of};
 ghost use Rattle.commit_engine.specs.Sent.{HasRoom};
@@ -41,7 +41,7 @@ pub(crate) fn runs(phase: Phase) -> bool
 }
 
 /// A valid word that is used is marked read, unless it is modified or the core is alone.
-#[tactic(auto, unfolding(crate::specs::View::core_of, tcc_rules::specs::Execute::with_read_mark))]
+#[tactic(auto, unfolding(crate::specs::View::core_of, rules_tcc::specs::Execute::with_read_mark))]
 pub(crate) fn mark_used(core: &mut Core, w: WordAddr)
     requires whole { IsCore core.old }
     requires valid { is_some ((maps core.old.cache).value w.0) ≡ true }
@@ -52,7 +52,7 @@ pub(crate) fn mark_used(core: &mut Core, w: WordAddr)
 }
 
 /// Stores a word in its line's frame, and read-marks it too where `also` is set. Dirty words of the frame go home first.
-#[tactic(auto, unfolding(crate::specs::View::core_of, tcc_rules::specs::Execute::stored_in_frame))]
+#[tactic(auto, unfolding(crate::specs::View::core_of, rules_tcc::specs::Execute::stored_in_frame))]
 pub(crate) fn store_framed(core: &mut Core, w: WordAddr, value: u32, also: bool, out: &mut Outgoing)
     requires whole { IsCore core.old }
     requires held { (maps core.old.cache).held (line_of w.0) ≡ true }
@@ -68,7 +68,7 @@ pub(crate) fn store_framed(core: &mut Core, w: WordAddr, value: u32, also: bool,
 }
 
 /// Stores a word in the overflow buffer. After want of memory it is as before.
-#[tactic(auto, unfolding(crate::specs::View::core_of, tcc_rules::specs::Execute::stored_in_buffer))]
+#[tactic(auto, unfolding(crate::specs::View::core_of, rules_tcc::specs::Execute::stored_in_buffer))]
 pub(crate) fn store_buffered(core: &mut Core, w: WordAddr, value: u32) -> Result<(), NoMemory>
     requires whole { IsCore core.old }
     requires exists { line_of w.0 < lines core.old.config }

@@ -4,8 +4,8 @@ ghost use Rattle.image_load.specs.Contents.{started};
 ghost use Rattle.rv_code.specs.Machine.{program};
 ghost use Rattle.rv_code.specs.Served.{IsServed};
 ghost use Rattle.rv_exec.specs.Needs.{need_of};
-ghost use Rattle.tcc_rules.specs.CoreExec.{core_exec, unless_awaiting as exec_unless_awaiting};
-ghost use Rattle.tcc_rules.specs.Useful.{room, room_for_need, room_for_store, room_for_word, room_unless_awaiting as unless_awaiting};
+ghost use Rattle.rules_tcc.specs.CoreExec.{core_exec, unless_awaiting as exec_unless_awaiting};
+ghost use Rattle.rules_tcc.specs.Useful.{room, room_for_need, room_for_store, room_for_word, room_unless_awaiting as unless_awaiting};
 ghost use Rattle.spec_cache.specs.Look.{look_of};
 ghost use Rattle.core_node.specs.View.{awaited_of, core_of, IsCore};
 ghost use Rattle.core_node.specs.Waiting.{room_after};
@@ -54,7 +54,7 @@ fn room_at_store(core: &Core, w: WordAddr) -> Option<u16>
 }
 
 /// Where the core waits for room whose instruction needs this.
-#[tactic(auto, unfolding(tcc_program::specs::Ram::word_of))]
+#[tactic(auto, unfolding(rules_program::specs::Ram::word_of))]
 pub(crate) fn room_at_need(core: &Core, need: Need) -> Option<u16>
     requires whole { IsCore core.now }
     requires served { IsServed core.now.config.base core.now.config.ram need }

@@ -1,7 +1,7 @@
 // What an attempt has written, line by line.
 ghost use Rattle.std.specs.Prelude.{◌≡◌, ◌<◌, ◌+◌, ◌*◌, map, IfOk, OnErr};
-ghost use Rattle.tcc_maps.specs.Shape.{lines};
-ghost use Rattle.tcc_maps.specs.Words.{line_of};
+ghost use Rattle.rules_maps.specs.Shape.{lines};
+ghost use Rattle.rules_maps.specs.Words.{line_of};
 ghost use Rattle.commit_engine.specs.Solo.{solo_list};
 ghost use Rattle.core_node.specs.Answers.{IsMemory};
 ghost use Rattle.core_node.specs.AtHand.{line_told, lines_told, word_told};

@@ -4,7 +4,7 @@ use Rattle.std.proofs.Common.{cond, filter, refl, ap, arith}
 use Rattle.std.proofs.lemmas.Bool.Decides.{nat_tests}
 use Rattle.std.proofs.lemmas.List.Sums.{sum_by-cons}
 use Rattle.tcc_base.specs.declared.access.Commit.{Commit as Noted}
-use Rattle.tcc_rules.specs.Step.{insert_commit, and_noted}
+use Rattle.rules_tcc.specs.Step.{insert_commit, and_noted}
 use Rattle.count_law.specs.Sums.{is_of, commits_of, instructions_of}
 
 -- a commit counts as one

@@ -2,13 +2,13 @@
 use Rattle.std.proofs.Common.{◌≡◌, ◌==◌, ℕ, Bool, true, false, List, Option, Some, None, ◌&&◌, ◌||◌, refl, arith}
 use Rattle.std.proofs.lemmas.Bool.Decides.{nat_tests}
 use Rattle.tcc_base.specs.declared.access.Commit.{Commit as Noted}
-use Rattle.tcc_maps.specs.Nodes.{Node, Core, Dir, Vendor, Msg, TidGrant, Fill, ProbeReply, DataReq, Inv}
-use Rattle.tcc_maps.specs.Shape.{Shape}
-use Rattle.tcc_rules.specs.Attempt.{Out, roll_back}
-use Rattle.tcc_rules.specs.CoreDeliver.{core_deliver, grant, grant_in_phase, probe_reply, reply_in_phase, fill, fill_awaited, data_request}
-use Rattle.tcc_rules.specs.CoreDeliver.{invalidate, acknowledged, if_violated, violated_in_phase, words_invalidated}
-use Rattle.tcc_rules.specs.CoreEvict.{core_evict, evict_line}
-use Rattle.tcc_rules.specs.State.{Awaited, CoreState, Phase, Running, AwaitTid, DoomedTid, Probing, Ready, Overflowing, Solo}
+use Rattle.rules_maps.specs.Nodes.{Node, Core, Dir, Vendor, Msg, TidGrant, Fill, ProbeReply, DataReq, Inv}
+use Rattle.rules_maps.specs.Shape.{Shape}
+use Rattle.rules_tcc.specs.Attempt.{Out, roll_back}
+use Rattle.rules_tcc.specs.CoreDeliver.{core_deliver, grant, grant_in_phase, probe_reply, reply_in_phase, fill, fill_awaited, data_request}
+use Rattle.rules_tcc.specs.CoreDeliver.{invalidate, acknowledged, if_violated, violated_in_phase, words_invalidated}
+use Rattle.rules_tcc.specs.CoreEvict.{core_evict, evict_line}
+use Rattle.rules_tcc.specs.State.{Awaited, CoreState, Phase, Running, AwaitTid, DoomedTid, Probing, Ready, Overflowing, Solo}
 use Rattle.count_law.proofs.Executed.{started, Started}
 
 abbrev pub is_none : Option Noted → Bool

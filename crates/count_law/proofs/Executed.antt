@@ -5,18 +5,18 @@ use Rattle.std.proofs.lemmas.Bool.Decides.{nat_tests}
 use Rattle.tcc_base.specs.declared.access.Commit.{Commit as Noted}
 use Rattle.tcc_base.specs.declared.access.Size.{Size}
 use Rattle.tcc_base.specs.declared.access.Size.TheVariants.{Byte, Half, Word}
-use Rattle.tcc_maps.specs.Shape.{Shape}
-use Rattle.tcc_maps.specs.Words.{line_of}
-use Rattle.tcc_program.specs.Program.{Need, Nothing, Loads, Stores, Changes, Prints, Ends, Halts, Traps, Program}
-use Rattle.tcc_program.specs.Ram.{word_of}
-use Rattle.tcc_rules.specs.Attempt.{Out, finished, one_more_instruction, new_word}
-use Rattle.tcc_rules.specs.Commit.{noted, committed_core, solo_commit, phase_after_commit}
-use Rattle.tcc_rules.specs.CoreExec.{unless_awaiting}
-use Rattle.tcc_rules.specs.Execute.{execute, execute_need, load, load_spilled, load_valid, miss, request_line, place, overflow, full_set}
-use Rattle.tcc_rules.specs.Execute.{with_read_mark, word_store, partial_store, change_spilled, change_valid, store_by_size, end_transaction}
-use Rattle.tcc_rules.specs.Execute.{stored_in_buffer, stored_in_frame}
-use Rattle.tcc_rules.specs.State.{Awaited, CoreState, Phase, Running, AwaitTid, DoomedTid, Probing, Ready, Overflowing, Solo, Halted}
-use Rattle.tcc_program.specs.Plain.{Outcome, Goes, Ended, Halted as HaltedWith, Trapped as TrappedWith}
+use Rattle.rules_maps.specs.Shape.{Shape}
+use Rattle.rules_maps.specs.Words.{line_of}
+use Rattle.rules_program.specs.Program.{Need, Nothing, Loads, Stores, Changes, Prints, Ends, Halts, Traps, Program}
+use Rattle.rules_program.specs.Ram.{word_of}
+use Rattle.rules_tcc.specs.Attempt.{Out, finished, one_more_instruction, new_word}
+use Rattle.rules_tcc.specs.Commit.{noted, committed_core, solo_commit, phase_after_commit}
+use Rattle.rules_tcc.specs.CoreExec.{unless_awaiting}
+use Rattle.rules_tcc.specs.Execute.{execute, execute_need, load, load_spilled, load_valid, miss, request_line, place, overflow, full_set}
+use Rattle.rules_tcc.specs.Execute.{with_read_mark, word_store, partial_store, change_spilled, change_valid, store_by_size, end_transaction}
+use Rattle.rules_tcc.specs.Execute.{stored_in_buffer, stored_in_frame}
+use Rattle.rules_tcc.specs.State.{Awaited, CoreState, Phase, Running, AwaitTid, DoomedTid, Probing, Ready, Overflowing, Solo, Halted}
+use Rattle.rules_program.specs.Plain.{Outcome, Goes, Ended, Halted as HaltedWith, Trapped as TrappedWith}
 use Rattle.count_law.proofs.Committed.{gone}
 
 -- in these phases an attempt has executed some instruction

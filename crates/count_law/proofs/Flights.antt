@@ -3,14 +3,14 @@ use Rattle.std.proofs.Common.{◌≡◌, ◌+◌, ℕ, zero, suc, Bool, true, fa
 use Rattle.std.proofs.Common.{cond, if◌then◌else◌, refl, sym, ap, subst, arith}
 use Rattle.std.specs.Prelude.{slice_set, slice_index_or}
 use Rattle.std.proofs.lemmas.List.Sums.{sum_by-cons, sum_by-append}
-use Rattle.tcc_maps.specs.Nodes.{Node, Msg, node_eq}
-use Rattle.tcc_maps.specs.Shape.{Shape}
-use Rattle.tcc_rules.specs.Links.{in_flight, sending, sent_all, taking}
-use Rattle.tcc_rules.specs.Sends.{Sends}
-use Rattle.tcc_rules.specs.State.{Link}
-use Rattle.tcc_rules.specs.Step.{is_node}
-use Rattle.tcc_rules.specs.Useful.{nodes}
-use Rattle.tcc_rules.proofs.Lemmas.{node_eq-eq}
+use Rattle.rules_maps.specs.Nodes.{Node, Msg, node_eq}
+use Rattle.rules_maps.specs.Shape.{Shape}
+use Rattle.rules_tcc.specs.Links.{in_flight, sending, sent_all, taking}
+use Rattle.rules_tcc.specs.Sends.{Sends}
+use Rattle.rules_tcc.specs.State.{Link}
+use Rattle.rules_tcc.specs.Step.{is_node}
+use Rattle.rules_tcc.specs.Useful.{nodes}
+use Rattle.rules_tcc.proofs.Lemmas.{node_eq-eq}
 use Rattle.count_law.specs.Messages.{is_of_kind, flying_on, flying}
 use Rattle.count_law.proofs.Nodes.{where_so, sums-balance, sum-none, node-once}
 

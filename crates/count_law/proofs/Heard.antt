@@ -3,7 +3,7 @@ use Rattle.std.proofs.Common.{◌≡◌, ◌==◌, ◌<◌, ◌+◌, ℕ, Bool, 
 use Rattle.std.proofs.Common.{get_or, length, if◌then◌else◌, refl, sym, subst, sum_by, arith}
 use Rattle.std.specs.List.{flat_map}
 use Rattle.std.proofs.lemmas.List.Sums.{sum_by-cons}
-use Rattle.tcc_maps.specs.Nodes.{Node}
+use Rattle.rules_maps.specs.Nodes.{Node}
 use Rattle.watch.specs.Facts.{Fact, Took, Dropped, AskedOwner}
 use Rattle.watch.specs.Facts.{Sent}
 use Rattle.watch_count.specs.Counts.{Counts, counted, all_counted, event_begun, event_counted}

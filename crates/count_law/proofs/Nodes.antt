@@ -3,11 +3,11 @@ use Rattle.std.proofs.Common.{◌≡◌, ◌==◌, ◌+◌, ℕ, zero, suc, Bool
 use Rattle.std.proofs.Common.{if◌then◌else◌, refl, ap, ◌∙◌, arith}
 use Rattle.std.proofs.lemmas.Bool.Decides.{nat_tests}
 use Rattle.std.proofs.lemmas.List.Sums.{sum_by-cons, sum_by-append}
-use Rattle.tcc_maps.specs.Nodes.{Node, Core, Dir, Vendor, node_eq}
-use Rattle.tcc_maps.specs.Shape.{Shape}
-use Rattle.tcc_maps.specs.Words.{those}
-use Rattle.tcc_rules.specs.Step.{is_node}
-use Rattle.tcc_rules.specs.Useful.{nodes}
+use Rattle.rules_maps.specs.Nodes.{Node, Core, Dir, Vendor, node_eq}
+use Rattle.rules_maps.specs.Shape.{Shape}
+use Rattle.rules_maps.specs.Words.{those}
+use Rattle.rules_tcc.specs.Step.{is_node}
+use Rattle.rules_tcc.specs.Useful.{nodes}
 
 abbrev pub where_so : Bool → (v : ℕ) → ℕ
 where_so b v = if b then v else 0

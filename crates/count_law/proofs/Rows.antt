@@ -3,7 +3,7 @@ use Rattle.std.proofs.Common.{◌≡◌, ◌==◌, ◌<◌, ℕ, zero, suc, Bool
 use Rattle.std.proofs.Common.{get_or, length, refl, sym, ap, subst, ◌∙◌, arith}
 use Rattle.std.proofs.lemmas.Bool.Decides.{nat_tests}
 use Rattle.std.proofs.lemmas.List.{get_or-map, length-map}
-use Rattle.tcc_maps.specs.Nodes.{Node}
+use Rattle.rules_maps.specs.Nodes.{Node}
 use Rattle.watch.specs.Facts.{Fact}
 use Rattle.watch_count.specs.Counts.{Counts, core_of, changed, changed_if, counted, all_counted, event_begun, event_counted}
 use Rattle.watch_count.specs.Tables.{nothing, core_after, event_came}

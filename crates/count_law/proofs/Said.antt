@@ -3,13 +3,13 @@ use Rattle.std.proofs.Common.{◌≡◌, ◌==◌, ◌+◌, ℕ, Bool, true, fal
 use Rattle.std.proofs.Common.{if◌then◌else◌, length, drop, refl, ap, ◌∙◌, arith}
 use Rattle.std.proofs.lemmas.Bool.Decides.{nat_tests}
 use Rattle.tcc_base.specs.declared.access.Commit.{Commit as Noted}
-use Rattle.tcc_maps.specs.Nodes.{Node, Core, Dir, Vendor, Msg, TidGrant, Inv, node_eq}
-use Rattle.tcc_maps.specs.Shape.{Shape}
-use Rattle.tcc_program.specs.Program.{Program}
-use Rattle.tcc_rules.specs.Links.{sending, sent_all}
-use Rattle.tcc_rules.specs.Sends.{Sends}
-use Rattle.tcc_rules.specs.State.{Awaited, CoreState, Phase, DoomedTid, Ready, Overflowing, Link, World}
-use Rattle.tcc_rules.specs.Useful.{nodes}
+use Rattle.rules_maps.specs.Nodes.{Node, Core, Dir, Vendor, Msg, TidGrant, Inv, node_eq}
+use Rattle.rules_maps.specs.Shape.{Shape}
+use Rattle.rules_program.specs.Program.{Program}
+use Rattle.rules_tcc.specs.Links.{sending, sent_all}
+use Rattle.rules_tcc.specs.Sends.{Sends}
+use Rattle.rules_tcc.specs.State.{Awaited, CoreState, Phase, DoomedTid, Ready, Overflowing, Link, World}
+use Rattle.rules_tcc.specs.Useful.{nodes}
 use Rattle.watch.specs.Facts.{Fact, Took, Dropped, CameTo, Serves, Violated}
 use Rattle.watch.specs.Happened.{commit_fact, moved, same_phase, numbered, sent_to, sent}
 use Rattle.watch.specs.Instructions.{executed, executed_in, missed_or_else, overflowed_or_done, evicted, evicted_line}

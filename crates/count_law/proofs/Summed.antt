@@ -3,12 +3,12 @@ use Rattle.std.proofs.Common.{◌≡◌, ◌<◌, ℕ, List, [], ◌∷◌, Opti
 use Rattle.std.proofs.Common.{refl, sym, ap, subst, ◌∙◌}
 use Rattle.std.proofs.lemmas.List.{get_or-replicate, length-replicate}
 use Rattle.rv_code.specs.Machine.{first_ram, program}
-use Rattle.rv_serial.specs.Suiting.{local_at_start, world_at_start}
-use Rattle.tcc_maps.specs.Nodes.{Event}
-use Rattle.tcc_maps.specs.Shape.{Shape}
-use Rattle.tcc_program.specs.Program.{Local, Program}
-use Rattle.tcc_rules.specs.State.{start, core_start}
-use Rattle.tcc_rules.specs.Step.{History, Stepped, and_noted, and_then, next_history, recorded, run, run_from, step}
+use Rattle.theorem_riscv.specs.Suiting.{local_at_start, world_at_start}
+use Rattle.rules_maps.specs.Nodes.{Event}
+use Rattle.rules_maps.specs.Shape.{Shape}
+use Rattle.rules_program.specs.Program.{Local, Program}
+use Rattle.rules_tcc.specs.State.{start, core_start}
+use Rattle.rules_tcc.specs.Step.{History, Stepped, and_noted, and_then, next_history, recorded, run, run_from, step}
 use Rattle.net_core.specs.Reached.{first_history}
 use Rattle.watch.specs.Happened.{actor, facts_of, happened}
 use Rattle.watch_count.specs.Counts.{Counts, event_counted, nothing_counted, run_counted}

@@ -3,11 +3,11 @@ use Rattle.std.proofs.Common.{◌≡◌, ◌==◌, ◌<◌, ◌++◌, ℕ, Bool,
 use Rattle.std.proofs.Common.{if◌then◌else◌, refl, sym, subst, arith}
 use Rattle.std.proofs.lemmas.Bool.Decides.{nat_tests}
 use Rattle.tcc_base.specs.declared.access.Commit.{Commit as Noted}
-use Rattle.tcc_maps.specs.Nodes.{Node, Core, Msg, TidGrant, Inv}
-use Rattle.tcc_maps.specs.Shape.{Shape}
-use Rattle.tcc_rules.specs.Attempt.{Out}
-use Rattle.tcc_rules.specs.CoreDeliver.{core_deliver}
-use Rattle.tcc_rules.specs.State.{CoreState, Phase, DoomedTid}
+use Rattle.rules_maps.specs.Nodes.{Node, Core, Msg, TidGrant, Inv}
+use Rattle.rules_maps.specs.Shape.{Shape}
+use Rattle.rules_tcc.specs.Attempt.{Out}
+use Rattle.rules_tcc.specs.CoreDeliver.{core_deliver}
+use Rattle.rules_tcc.specs.State.{CoreState, Phase, DoomedTid}
 use Rattle.watch.specs.Facts.{Fact, Took, Dropped, Violated}
 use Rattle.watch.specs.Messages.{taken, is_of_use, violated, grant_given_up, given_up, tid_in, committer, commit_of, words_read}
 use Rattle.watch_count.specs.Tables.{core_after}

@@ -3,14 +3,14 @@ use Rattle.std.proofs.Common.{◌≡◌, ◌==◌, ◌<◌, ◌+◌, ℕ, Bool, 
 use Rattle.std.proofs.Common.{if◌then◌else◌, refl, subst, arith}
 use Rattle.std.proofs.lemmas.Bool.Decides.{nat_tests}
 use Rattle.tcc_base.specs.declared.access.Commit.{Commit as Noted}
-use Rattle.tcc_maps.specs.Nodes.{Core}
-use Rattle.tcc_maps.specs.Shape.{Shape}
-use Rattle.tcc_program.specs.Program.{Program}
-use Rattle.tcc_rules.specs.Attempt.{Out}
-use Rattle.tcc_rules.specs.Commit.{commit, committed_core, noted}
-use Rattle.tcc_rules.specs.CoreEvict.{core_evict}
-use Rattle.tcc_rules.specs.CoreExec.{core_exec, exec_in_phase, unless_awaiting}
-use Rattle.tcc_rules.specs.State.{Awaited, CoreState, Phase, Running, Ready, Overflowing, Solo}
+use Rattle.rules_maps.specs.Nodes.{Core}
+use Rattle.rules_maps.specs.Shape.{Shape}
+use Rattle.rules_program.specs.Program.{Program}
+use Rattle.rules_tcc.specs.Attempt.{Out}
+use Rattle.rules_tcc.specs.Commit.{commit, committed_core, noted}
+use Rattle.rules_tcc.specs.CoreEvict.{core_evict}
+use Rattle.rules_tcc.specs.CoreExec.{core_exec, exec_in_phase, unless_awaiting}
+use Rattle.rules_tcc.specs.State.{Awaited, CoreState, Phase, Running, Ready, Overflowing, Solo}
 use Rattle.watch.specs.Facts.{Fact, Committed}
 use Rattle.watch.specs.Happened.{commit_fact}
 use Rattle.watch.specs.Instructions.{executed, executed_in, missed_or_else, overflowed_or_done, evicted, evicted_line}

@@ -1,11 +1,11 @@
 -- How the counts of messages add up.
 use Rattle.std.specs.Prelude.{ℕ, ◌+◌, ◌<◌, ◌≡◌, ◌==◌, Bool, false, List, Option, Some, None, get_or, count_by, sum_by}
 use Rattle.image_load.specs.Start.{Start}
-use Rattle.rv_serial.specs.Suiting.{AfterRun}
-use Rattle.tcc_maps.specs.Nodes.{Event, Msg, Node}
-use Rattle.tcc_maps.specs.Shape.{Shape}
-use Rattle.tcc_rules.specs.State.{Link}
-use Rattle.tcc_rules.specs.Useful.{nodes}
+use Rattle.theorem_riscv.specs.Suiting.{AfterRun}
+use Rattle.rules_maps.specs.Nodes.{Event, Msg, Node}
+use Rattle.rules_maps.specs.Shape.{Shape}
+use Rattle.rules_tcc.specs.State.{Link}
+use Rattle.rules_tcc.specs.Useful.{nodes}
 use Rattle.watch_count.specs.Messages.{kind_place, no_messages}
 use Rattle.watch_count.specs.declared.messages.MessageCounts.{MessageCounts}
 use Rattle.watch_run.specs.Looked.{counts_of_run}

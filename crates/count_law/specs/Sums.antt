@@ -1,10 +1,10 @@
 -- How the counts of a core add up.
 use Rattle.std.specs.Prelude.{ℕ, ◌+◌, ◌<◌, ◌≡◌, ◌==◌, Bool, List, get_or, count_by, sum_by, filter, if◌then◌else◌}
 use Rattle.image_load.specs.Start.{Start}
-use Rattle.rv_serial.specs.Suiting.{AfterRun}
+use Rattle.theorem_riscv.specs.Suiting.{AfterRun}
 use Rattle.tcc_base.specs.declared.access.Commit.{Commit}
-use Rattle.tcc_maps.specs.Nodes.{Event}
-use Rattle.tcc_rules.specs.Step.{History}
+use Rattle.rules_maps.specs.Nodes.{Event}
+use Rattle.rules_tcc.specs.Step.{History}
 use Rattle.watch_count.specs.Tables.{nothing}
 use Rattle.watch_count.specs.declared.tables.CoreCounts.{CoreCounts}
 use Rattle.watch_run.specs.Looked.{counts_of_run}

@@ -4,8 +4,8 @@ use Rattle.std.proofs.Common.{arith}
 use Rattle.std.specs.Int.Bits.{bit_and, bit_or, bit_xor}
 use Rattle.std.proofs.lemmas.Bool.Decides.{nat_tests}
 use Rattle.std.proofs.lemmas.Grind.{common_steps}
-use Rattle.tcc_maps.specs.Masks.{has}
-use Rattle.tcc_maps.proofs.Lemmas.{has-join, has-minus, has-pow}
+use Rattle.rules_maps.specs.Masks.{has}
+use Rattle.rules_maps.proofs.Lemmas.{has-join, has-minus, has-pow}
 
 pub has-odd : (m k : ℕ) → (m / 2 ^ k % 2 == 1) ≡ has m k
 unfolding has

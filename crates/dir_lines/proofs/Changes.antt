@@ -5,10 +5,10 @@ use Rattle.tcc_base.specs.declared.names.CoreId.{CoreId}
 use Rattle.tcc_base.specs.declared.names.Tid.{Tid}
 use Rattle.tcc_base.specs.declared.names.Mask.{Mask}
 use Rattle.dir_lines.specs.declared.core_set.CoreSet.{CoreSet}
-use Rattle.tcc_maps.specs.Words.{put, put_at}
-use Rattle.tcc_maps.specs.Masks.{has}
-use Rattle.tcc_maps.proofs.Lemmas.{has-zero}
-use Rattle.tcc_maps.specs.Lines.{with_sharer, with_owner, with_tag, with_asked, with_mark, no_lines}
+use Rattle.rules_maps.specs.Words.{put, put_at}
+use Rattle.rules_maps.specs.Masks.{has}
+use Rattle.rules_maps.proofs.Lemmas.{has-zero}
+use Rattle.rules_maps.specs.Lines.{with_sharer, with_owner, with_tag, with_asked, with_mark, no_lines}
 use Rattle.dir_lines.specs.Owned.{owned_line}
 use Rattle.dir_lines.specs.Record.{Record, blank, lines_of}
 

@@ -4,10 +4,10 @@ use Rattle.std.proofs.Common.{slice_get, Some, None, Contains, ◌⊎◌, inl, i
 use Rattle.std.proofs.lemmas.Option.{slice_get_cases}
 use Rattle.std.proofs.lemmas.List.Elements.{Contains-get_or}
 use borrow.Author.Tests.{eqb-true, eqb-false, ne_eqb, ltb-false}
-use Rattle.tcc_maps.specs.Words.{put, those, count_below, num}
-use Rattle.tcc_maps.specs.Shape.{lines}
-use Rattle.tcc_maps.specs.Lines.{Lines, with_mark, unmarked, has_mark}
-use Rattle.tcc_maps.proofs.Lemmas.{length-those, those-only}
+use Rattle.rules_maps.specs.Words.{put, those, count_below, num}
+use Rattle.rules_maps.specs.Shape.{lines}
+use Rattle.rules_maps.specs.Lines.{Lines, with_mark, unmarked, has_mark}
+use Rattle.rules_maps.proofs.Lemmas.{length-those, those-only}
 use Rattle.dir_lines.specs.Home.{Home, IsAtHome}
 
 count_below-same : (p q : ℕ → Bool) (n : ℕ) → ((k : ℕ) → k < n → p k ≡ q k) → count_below p n ≡ count_below q n

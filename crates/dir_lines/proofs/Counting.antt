@@ -4,7 +4,7 @@ use Rattle.std.proofs.Common.{ap, subst, ◌∙◌, arith}
 use Rattle.std.proofs.lemmas.Bool.Decides.{nat_tests}
 use borrow.Author.Tests.{ltb-true, ltb-false, eqb-true, eqb-false}
 use Rattle.std.proofs.Math.Nat.{mod-add-div', mod-lt, mul-add-mod_self_right, mod-eq_of_lt, mul-le-mul_right}
-use Rattle.tcc_maps.specs.Words.{count_below, num}
+use Rattle.rules_maps.specs.Words.{count_below, num}
 
 -- some of the numbers with h have p
 pub count_below-le : (p h : ℕ → Bool) (n : ℕ) → ((k : ℕ) → p k ≡ true → h k ≡ true) → count_below p n ≤ count_below h n

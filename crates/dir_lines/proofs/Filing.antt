@@ -4,8 +4,8 @@ use Rattle.std.proofs.Common.{sym, subst, ◌∙◌}
 use Rattle.std.specs.Option.{unwrap_or}
 use borrow.Author.Tests.{eqb-true, eqb-false, ne_eqb, eq-eqb}
 use Rattle.tcc_base.specs.declared.names.Mask.{Mask}
-use Rattle.tcc_maps.specs.Words.{put}
-use Rattle.tcc_maps.specs.Lines.{has_mark}
+use Rattle.rules_maps.specs.Words.{put}
+use Rattle.rules_maps.specs.Lines.{has_mark}
 use Rattle.dir_lines.specs.Home.{IsAtHome}
 use Rattle.dir_lines.specs.Record.{Record, blank, lines_of}
 use Rattle.dir_lines.specs.Pages.{is_at_home}

@@ -1,9 +1,9 @@
 -- What callers' proofs need of a directory's lines: only lines of the home are ever marked.
 use Rattle.std.proofs.Common.{◌≡◌, ℕ, true, Some, length, slice_get}
-use Rattle.tcc_maps.specs.Words.{those, count_below}
-use Rattle.tcc_maps.specs.Shape.{lines}
-use Rattle.tcc_maps.proofs.Lemmas.{length-those, those-only}
-use Rattle.tcc_maps.specs.Lines.{has_mark}
+use Rattle.rules_maps.specs.Words.{those, count_below}
+use Rattle.rules_maps.specs.Shape.{lines}
+use Rattle.rules_maps.proofs.Lemmas.{length-those, those-only}
+use Rattle.rules_maps.specs.Lines.{has_mark}
 use Rattle.dir_lines.specs.Home.{Home, IsAtHome}
 use Rattle.dir_lines.specs.Pages.{Pages, is_at_home}
 use Rattle.dir_lines.specs.Kept.{kept}

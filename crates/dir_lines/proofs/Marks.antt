@@ -7,7 +7,7 @@ use Rattle.std.proofs.lemmas.List.Elements.{All-get_or, All-append, All-cons, Al
 use Rattle.std.proofs.Math.ListN.{get_or-append}
 use Rattle.std.proofs.Math.Seq.{take-append_seam, drop-append_seam, get_or-append_right}
 use borrow.Author.Tests.{ltb-true, ltb-false, ne_eqb, eq-eqb}
-use Rattle.tcc_maps.specs.Words.{put, those}
+use Rattle.rules_maps.specs.Words.{put, those}
 
 -- the numbers from a on, m of them, that have p
 between : (ℕ → Bool) → ℕ → ℕ → List ℕ

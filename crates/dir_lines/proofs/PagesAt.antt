@@ -3,8 +3,8 @@ use Rattle.std.proofs.Common.{◌≡◌, ◌≢◌, ℕ, zero, suc, ◌+◌, ◌
 use Rattle.std.proofs.Common.{get_or, set, replicate, get_or-set_other, get_or-set_same, refl, ap, sym, subst, ◌∙◌}
 use Rattle.std.proofs.Math.Nat.{mod-add-div'}
 use borrow.Author.Tests.{eqb-true, eqb-false, ltb-true, lt-ltb, eq-eqb}
-use Rattle.tcc_maps.specs.Words.{put}
-use Rattle.tcc_maps.specs.Shape.{lines, home}
+use Rattle.rules_maps.specs.Words.{put}
+use Rattle.rules_maps.specs.Shape.{lines, home}
 use Rattle.dir_lines.specs.Home.{Home, IsAtHome, home_lines}
 use Rattle.dir_lines.specs.Record.{Record, blank}
 use Rattle.dir_lines.specs.Pages.{Pages, pages_at, is_at_home}

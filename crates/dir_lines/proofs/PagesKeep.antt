@@ -4,10 +4,10 @@ use Rattle.std.proofs.Common.{length, get_or, set, length-set, refl, ap, sym, su
 use Rattle.std.proofs.lemmas.List.{get_or_default}
 use borrow.Author.Tests.{eq-eqb}
 use Rattle.tcc_base.specs.declared.names.Mask.{Mask}
-use Rattle.tcc_maps.specs.Words.{put, those, count_below}
-use Rattle.tcc_maps.specs.Shape.{lines}
-use Rattle.tcc_maps.specs.Lines.{has_mark}
-use Rattle.tcc_maps.proofs.Lemmas.{length-those}
+use Rattle.rules_maps.specs.Words.{put, those, count_below}
+use Rattle.rules_maps.specs.Shape.{lines}
+use Rattle.rules_maps.specs.Lines.{has_mark}
+use Rattle.rules_maps.proofs.Lemmas.{length-those}
 use Rattle.dir_lines.specs.Home.{Home, IsAtHome, home_lines}
 use Rattle.dir_lines.specs.Record.{Record, blank, lines_of}
 use Rattle.dir_lines.specs.Pages.{Pages, pages_at, is_at_home}

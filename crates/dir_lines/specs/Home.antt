@@ -1,7 +1,7 @@
 -- Which lines are at home at a directory.
 use Rattle.std.specs.Prelude.{ℕ, ◌+◌, ◌/◌, ◌%◌, ◌<◌, ◌≡◌, nat_lt, if◌then◌else◌}
 use Rattle.tcc_base.specs.Settings.{Settings, IsAllowed}
-use Rattle.tcc_maps.specs.Shape.{lines, home}
+use Rattle.rules_maps.specs.Shape.{lines, home}
 
 -- one directory of a machine
 pub record Home : Type 0 where

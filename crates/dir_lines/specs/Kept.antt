@@ -1,5 +1,5 @@
 -- What a directory's lines are to the protocol.
-use Rattle.tcc_maps.specs.Lines.{Lines}
+use Rattle.rules_maps.specs.Lines.{Lines}
 use Rattle.dir_lines.specs.Record.{lines_of}
 use Rattle.dir_lines.specs.Pages.{Pages, pages_at}
 

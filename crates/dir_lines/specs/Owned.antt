@@ -1,6 +1,6 @@
 -- A line after its commit by a core.
 use Rattle.std.specs.Prelude.{ℕ, true, false, Some}
-use Rattle.tcc_maps.specs.Lines.{Lines, with_sharer, with_owner, with_tag, with_asked}
+use Rattle.rules_maps.specs.Lines.{Lines, with_sharer, with_owner, with_tag, with_asked}
 
 -- the committer owns it and is a sharer, with the commit's tag; the owner isn't asked yet
 abbrev pub owned_line : (line core tid : ℕ) → Lines → Lines

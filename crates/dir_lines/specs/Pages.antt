@@ -1,6 +1,6 @@
 -- An array of records as a map by line.
 use Rattle.std.specs.Prelude.{ℕ, ◌/◌, Bool, ◌==◌, ◌&&◌, List, nat_lt, get_or, if◌then◌else◌}
-use Rattle.tcc_maps.specs.Shape.{lines, home}
+use Rattle.rules_maps.specs.Shape.{lines, home}
 use Rattle.dir_lines.specs.Home.{Home}
 use Rattle.dir_lines.specs.Record.{Record, blank}
 

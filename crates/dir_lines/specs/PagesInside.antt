@@ -1,8 +1,8 @@
 -- The fields of an array of lines, and what always holds of them.
 use Rattle.std.specs.Prelude.{◌≡◌, ◌≤◌, length, vec_capacity}
-use Rattle.tcc_maps.specs.Words.{those}
-use Rattle.tcc_maps.specs.Shape.{lines}
-use Rattle.tcc_maps.specs.Lines.{has_mark}
+use Rattle.rules_maps.specs.Words.{those}
+use Rattle.rules_maps.specs.Shape.{lines}
+use Rattle.rules_maps.specs.Lines.{has_mark}
 use Rattle.dir_lines.specs.declared.pages.PageLines.TheInside.{Inside}
 use Rattle.dir_lines.specs.Home.{IsHome, home_lines}
 use Rattle.dir_lines.specs.Record.{lines_of}

@@ -1,7 +1,7 @@
 -- The records of the lines as the protocol's map of lines.
 use Rattle.std.specs.Prelude.{ℕ, false, None, option_map}
-use Rattle.tcc_maps.specs.Masks.{has}
-use Rattle.tcc_maps.specs.Lines.{Lines}
+use Rattle.rules_maps.specs.Masks.{has}
+use Rattle.rules_maps.specs.Lines.{Lines}
 use Rattle.dir_lines.specs.declared.record.LineRecord.{LineRecord}
 
 abbrev pub Record : Type 0

@@ -1,7 +1,7 @@
 -- An array of words as a map by word.
 use Rattle.std.specs.Prelude.{ℕ, ◌+◌, ◌*◌, ◌/◌, ◌<◌, ◌≡◌, ◌≢◌, List, length, get_or, if◌then◌else◌}
-use Rattle.tcc_maps.specs.Words.{line_of, place_of}
-use Rattle.tcc_maps.specs.Masks.{has, hit}
+use Rattle.rules_maps.specs.Words.{line_of, place_of}
+use Rattle.rules_maps.specs.Masks.{has, hit}
 use Rattle.dir_lines.specs.Home.{Home}
 use Rattle.dir_lines.specs.Pages.{is_at_home}
 

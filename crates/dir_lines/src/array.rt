@@ -1,10 +1,10 @@
 // The lines that a directory keeps: the array.
 ghost use Rattle.std.specs.Prelude.{◌≡◌, ℕ, ◌<◌, true, IfOk, option_map, slice_get};
-ghost use Rattle.tcc_maps.specs.Words.{those, count_below};
-ghost use Rattle.tcc_maps.specs.Shape.{lines};
-ghost use Rattle.tcc_maps.specs.Lines.{no_lines, with_sharer, with_owner, with_tag, with_asked, with_mark, unmarked, has_mark};
+ghost use Rattle.rules_maps.specs.Words.{those, count_below};
+ghost use Rattle.rules_maps.specs.Shape.{lines};
+ghost use Rattle.rules_maps.specs.Lines.{no_lines, with_sharer, with_owner, with_tag, with_asked, with_mark, unmarked, has_mark};
 ghost use Rattle.dir_lines.specs.Home.{IsAtHome};
-ghost use Rattle.tcc_maps.specs.Masks.{has};
+ghost use Rattle.rules_maps.specs.Masks.{has};
 ghost use Rattle.dir_lines.specs.Kept.{kept};
 ghost use Rattle.dir_lines.specs.Owned.{owned_line};
 ghost use Rattle.dir_lines.specs.Pages.{is_at_home};

@@ -1,6 +1,6 @@
 // A set of cores as the bits of one number, so that a line's sharers take eight bytes.
 ghost use Rattle.std.specs.Prelude.{◌≡◌, ℕ, ◌==◌, ◌<◌, if◌then◌else◌};
-ghost use Rattle.tcc_maps.specs.Masks.{has};
+ghost use Rattle.rules_maps.specs.Masks.{has};
 
 use tcc_base::CoreId;
 

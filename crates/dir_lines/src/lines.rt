@@ -1,9 +1,9 @@
 // What every form of a directory's lines does: the calls and their meaning, over the protocol's map of lines.
 ghost use Rattle.std.specs.Prelude.{◌≡◌, ℕ, ◌<◌, ◌≤◌, true, IfOk, option_map, slice_get};
 ghost use Rattle.tcc_base.specs.Settings.{Settings};
-ghost use Rattle.tcc_maps.specs.Words.{put, those, count_below};
-ghost use Rattle.tcc_maps.specs.Shape.{lines};
-ghost use Rattle.tcc_maps.specs.Lines.{no_lines, with_sharer, with_owner, with_tag, with_asked, with_mark, unmarked, has_mark};
+ghost use Rattle.rules_maps.specs.Words.{put, those, count_below};
+ghost use Rattle.rules_maps.specs.Shape.{lines};
+ghost use Rattle.rules_maps.specs.Lines.{no_lines, with_sharer, with_owner, with_tag, with_asked, with_mark, unmarked, has_mark};
 ghost use Rattle.dir_lines.specs.Home.{IsHome, IsAtHome};
 ghost use Rattle.dir_lines.specs.Owned.{owned_line};
 

@@ -1,6 +1,6 @@
 // The rising list of the marked lines' numbers, kept beside the records so that no call has to look for them.
 ghost use Rattle.std.specs.Prelude.{◌≡◌, ℕ, ◌-◌, ◌<◌, ◌≤◌, Bool, true, false, length, slice_index, nat_lt, vec_len, vec_capacity};
-ghost use Rattle.tcc_maps.specs.Words.{put, those};
+ghost use Rattle.rules_maps.specs.Words.{put, those};
 
 use tcc_base::Mask;
 

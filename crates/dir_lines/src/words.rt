@@ -1,7 +1,7 @@
 // The words of the lines that are at home at a directory, in one array.
 ghost use Rattle.std.specs.Prelude.{◌≡◌, ℕ, ◌+◌, ◌*◌, ◌/◌, ◌^◌, ◌<◌, ◌≤◌, IfOk, length, replicate};
-ghost use Rattle.tcc_maps.specs.Words.{eight, word_at, line_of};
-ghost use Rattle.tcc_maps.specs.Masks.{has as has_word};
+ghost use Rattle.rules_maps.specs.Words.{eight, word_at, line_of};
+ghost use Rattle.rules_maps.specs.Masks.{has as has_word};
 ghost use Rattle.dir_lines.specs.Home.{IsAtHome};
 ghost use Rattle.dir_lines.specs.Words.{words_at, first_place, with_words, IsWritten};
 

@@ -1,10 +1,10 @@
 -- A commit of the served TID is what its rule gives.
 use Rattle.std.proofs.Common.{◌≡◌, ℕ, Bool, true, ◌==◌, ◌++◌, ap, sym, ◌∙◌}
-use Rattle.tcc_maps.specs.Words.{count_below}
-use Rattle.tcc_maps.specs.Shape.{Shape, lines}
-use Rattle.tcc_maps.specs.Serving.{Serving}
-use Rattle.tcc_maps.specs.Lines.{has_mark}
-use Rattle.tcc_rules.specs.DirDeliver as rules
+use Rattle.rules_maps.specs.Words.{count_below}
+use Rattle.rules_maps.specs.Shape.{Shape, lines}
+use Rattle.rules_maps.specs.Serving.{Serving}
+use Rattle.rules_maps.specs.Lines.{has_mark}
+use Rattle.rules_tcc.specs.DirDeliver as rules
 use Rattle.tcc_msg.specs.Plain.{sends_of}
 use Rattle.dir_lines.specs.Kept.{kept}
 use Rattle.dir_lines.specs.Pages.{Pages}

@@ -8,16 +8,16 @@ use Rattle.tcc_base.specs.declared.names.NodeId.TheVariants as node
 use Rattle.tcc_base.specs.declared.names.CoreId.{CoreId}
 use Rattle.tcc_base.specs.declared.names.LineAddr.{LineAddr}
 use Rattle.tcc_base.specs.declared.names.Tid.{Tid}
-use Rattle.tcc_maps.specs.Words.{eight, word_at}
-use Rattle.tcc_maps.specs.Masks.{full}
-use Rattle.tcc_maps.specs.Nodes.{Core, ProbeReply, DataReq, Fill, node_eq}
-use Rattle.tcc_maps.specs.Shape.{Shape}
-use Rattle.tcc_maps.specs.Bridge.{node_of}
-use Rattle.tcc_maps.specs.Serving.{Serving, advance, skipped, kept as kept_skip}
-use Rattle.tcc_maps.specs.Lines.{Lines, with_sharer, with_owner, with_asked, with_mark, unmarked, has_mark}
-use Rattle.tcc_rules.specs.State.{DirState}
-use Rattle.tcc_rules.specs.Sends.{nothing, to}
-use Rattle.tcc_rules.specs.DirDeliver as rules
+use Rattle.rules_maps.specs.Words.{eight, word_at}
+use Rattle.rules_maps.specs.Masks.{full}
+use Rattle.rules_maps.specs.Nodes.{Core, ProbeReply, DataReq, Fill, node_eq}
+use Rattle.rules_maps.specs.Shape.{Shape}
+use Rattle.rules_maps.specs.Bridge.{node_of}
+use Rattle.rules_maps.specs.Serving.{Serving, advance, skipped, kept as kept_skip}
+use Rattle.rules_maps.specs.Lines.{Lines, with_sharer, with_owner, with_asked, with_mark, unmarked, has_mark}
+use Rattle.rules_tcc.specs.State.{DirState}
+use Rattle.rules_tcc.specs.Sends.{nothing, to}
+use Rattle.rules_tcc.specs.DirDeliver as rules
 use Rattle.tcc_msg.specs.declared.msg.Msg.{Msg}
 use Rattle.tcc_msg.specs.declared.msg.Msg.TheVariants as code
 use Rattle.tcc_msg.specs.Plain.{msg_of, sends_of}

@@ -6,22 +6,22 @@ use Rattle.std.specs.Prelude.{nat_le}
 use Rattle.std.proofs.lemmas.Bool.{false≢true}
 use Rattle.std.proofs.lemmas.Bool.Decides.{nat_tests}
 use borrow.Author.Tests.{ltb-false}
-use Rattle.tcc_maps.specs.Words.{count_below, put}
-use Rattle.tcc_maps.specs.Masks.{full}
-use Rattle.tcc_maps.specs.Nodes.{Msg, TidReq, TidGrant, LoadReq, Fill, Skip, Probe, ProbeReply, Mark, Commit, Abort, WriteBack, Flush}
-use Rattle.tcc_maps.specs.Nodes.{Core, DataReq, Inv, InvAck}
-use Rattle.tcc_maps.specs.Shape.{Shape, lines}
-use Rattle.tcc_maps.specs.Serving.{Serving, advance, skipped, kept}
-use Rattle.tcc_maps.specs.Lines.{with_asked, with_owner, with_mark, with_sharer, unmarked, has_mark}
-use Rattle.tcc_maps.specs.Judge.{Judgement, judge, Current, Outdated, TooEarly}
-use Rattle.tcc_maps.proofs.Lemmas.{advance-rises}
-use Rattle.tcc_rules.specs.State.{DirState}
-use Rattle.tcc_rules.specs.Sends.{nothing, to}
-use Rattle.tcc_rules.specs.DirDeliver.{Answer, Waits, Drops, Asks, Takes, dir_deliver, skip, abort, probe, ask_owner, load_request}
-use Rattle.tcc_rules.specs.DirDeliver.{load_unless_owned}
-use Rattle.tcc_rules.specs.DirDeliver.{mark, mark_taken, mark_unless_owned, dir_commit, acknowledgement, unless_keeps, write_back, judged}
-use Rattle.tcc_rules.specs.DirDeliver.{came_home}
-use Rattle.tcc_rules.specs.DirDeliver.{moved_on, moved_on_if_settled, owned_by_committer, invalidation_count, invalidations}
+use Rattle.rules_maps.specs.Words.{count_below, put}
+use Rattle.rules_maps.specs.Masks.{full}
+use Rattle.rules_maps.specs.Nodes.{Msg, TidReq, TidGrant, LoadReq, Fill, Skip, Probe, ProbeReply, Mark, Commit, Abort, WriteBack, Flush}
+use Rattle.rules_maps.specs.Nodes.{Core, DataReq, Inv, InvAck}
+use Rattle.rules_maps.specs.Shape.{Shape, lines}
+use Rattle.rules_maps.specs.Serving.{Serving, advance, skipped, kept}
+use Rattle.rules_maps.specs.Lines.{with_asked, with_owner, with_mark, with_sharer, unmarked, has_mark}
+use Rattle.rules_maps.specs.Judge.{Judgement, judge, Current, Outdated, TooEarly}
+use Rattle.rules_maps.proofs.Lemmas.{advance-rises}
+use Rattle.rules_tcc.specs.State.{DirState}
+use Rattle.rules_tcc.specs.Sends.{nothing, to}
+use Rattle.rules_tcc.specs.DirDeliver.{Answer, Waits, Drops, Asks, Takes, dir_deliver, skip, abort, probe, ask_owner, load_request}
+use Rattle.rules_tcc.specs.DirDeliver.{load_unless_owned}
+use Rattle.rules_tcc.specs.DirDeliver.{mark, mark_taken, mark_unless_owned, dir_commit, acknowledgement, unless_keeps, write_back, judged}
+use Rattle.rules_tcc.specs.DirDeliver.{came_home}
+use Rattle.rules_tcc.specs.DirDeliver.{moved_on, moved_on_if_settled, owned_by_committer, invalidation_count, invalidations}
 use Rattle.directory.specs.declared.waits.Cause.TheVariants.{Turn, Done, Line, Served, Marks}
 use Rattle.tcc_base.specs.declared.names.NodeId.{NodeId}
 use Rattle.tcc_msg.specs.declared.msg.Msg as code

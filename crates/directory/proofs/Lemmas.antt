@@ -1,7 +1,7 @@
 -- What other crates may cite: causes that stay over several events.
 use Rattle.std.proofs.Common.{ℕ, nat_lt, Some, refl, sym, ◌∙◌, ap, arith}
-use Rattle.tcc_rules.specs.State.{DirState}
-use Rattle.tcc_rules.specs.DirDeliver.{Answer}
+use Rattle.rules_tcc.specs.State.{DirState}
+use Rattle.rules_tcc.specs.DirDeliver.{Answer}
 use Rattle.directory.specs.declared.waits.Cause.{Cause}
 use Rattle.directory.specs.declared.waits.Cause.TheVariants.{Turn, Done, Line, Served, Marks}
 use Rattle.directory.specs.Stays.{SameLine, Stays}

@@ -3,9 +3,9 @@ use Rattle.std.proofs.Common.{◌≡◌, ℕ, zero, suc, ◌+◌, ◌*◌, ◌/�
 use Rattle.std.proofs.Common.{List, get_or, nat_lt, if◌then◌else◌, refl, ap, sym, ◌∙◌, arith}
 use Rattle.std.proofs.Math.Nat.{mod-add-div', mod-eq_of_lt, mul-le-mul_right}
 use borrow.Author.Tests.{eqb-true, eqb-false, ltb-true, ltb-false}
-use Rattle.tcc_maps.specs.Words.{eight, word_at, line_of, place_of}
-use Rattle.tcc_maps.specs.Masks.{has, hit}
-use Rattle.tcc_maps.specs.Shape.{lines}
+use Rattle.rules_maps.specs.Words.{eight, word_at, line_of, place_of}
+use Rattle.rules_maps.specs.Masks.{has, hit}
+use Rattle.rules_maps.specs.Shape.{lines}
 use Rattle.dir_lines.specs.Home.{Home, IsAtHome}
 use Rattle.dir_lines.specs.Pages.{is_at_home}
 use Rattle.dir_lines.specs.Words.{Words, words_at, with_words}

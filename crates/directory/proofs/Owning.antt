@@ -3,9 +3,9 @@ use Rattle.std.proofs.Common.{◌≡◌, ℕ, zero, suc, ◌<◌, Bool, true, fa
 use Rattle.std.proofs.Common.{◌++◌, Some, refl, ap, sym, subst, ◌∙◌, arith}
 use Rattle.std.proofs.lemmas.Bool.Decides.{nat_tests}
 use borrow.Author.Tests.{lt-ltb, le-ltb, eqb-true, eqb-false}
-use Rattle.tcc_maps.specs.Words.{those}
-use Rattle.tcc_maps.specs.Lines.{Lines, has_mark, with_sharer, with_owner, with_tag, with_asked}
-use Rattle.tcc_rules.specs.DirDeliver.{owned_by_committer}
+use Rattle.rules_maps.specs.Words.{those}
+use Rattle.rules_maps.specs.Lines.{Lines, has_mark, with_sharer, with_owner, with_tag, with_asked}
+use Rattle.rules_tcc.specs.DirDeliver.{owned_by_committer}
 use Rattle.dir_lines.specs.Owned.{owned_line}
 
 pub is_in : ℕ → List ℕ → Bool

@@ -3,18 +3,18 @@ use Rattle.std.proofs.Common.{◌≡◌, ℕ, ◌-◌, ◌<◌, ◌≤◌, Bool,
 use Rattle.std.proofs.Common.{None, refl, ap, arith}
 use Rattle.std.specs.Prelude.{nat_le}
 use Rattle.std.proofs.lemmas.Bool.Decides.{nat_tests}
-use Rattle.tcc_maps.specs.Words.{count_below}
-use Rattle.tcc_maps.specs.Masks.{full}
-use Rattle.tcc_maps.specs.Nodes.{Core, ProbeReply, DataReq}
-use Rattle.tcc_maps.specs.Shape.{Shape, lines}
-use Rattle.tcc_maps.specs.Serving.{Serving, advance, skipped, kept as kept_skip}
-use Rattle.tcc_maps.specs.Lines.{with_asked, with_mark, has_mark}
-use Rattle.tcc_maps.specs.Judge.{judge, Current, Outdated, TooEarly}
-use Rattle.tcc_rules.specs.State.{DirState}
-use Rattle.tcc_rules.specs.Sends.{nothing, to}
-use Rattle.tcc_rules.specs.DirDeliver.{Waits, Drops, Asks, Takes, skip, abort, probe, ask_owner, load_unless_owned, load_request, mark}
-use Rattle.tcc_rules.specs.DirDeliver.{mark_taken, mark_unless_owned, dir_commit, acknowledgement, write_back, judged, came_home, moved_on}
-use Rattle.tcc_rules.specs.DirDeliver.{moved_on_if_settled, owned_by_committer, invalidation_count, invalidations, unless_keeps}
+use Rattle.rules_maps.specs.Words.{count_below}
+use Rattle.rules_maps.specs.Masks.{full}
+use Rattle.rules_maps.specs.Nodes.{Core, ProbeReply, DataReq}
+use Rattle.rules_maps.specs.Shape.{Shape, lines}
+use Rattle.rules_maps.specs.Serving.{Serving, advance, skipped, kept as kept_skip}
+use Rattle.rules_maps.specs.Lines.{with_asked, with_mark, has_mark}
+use Rattle.rules_maps.specs.Judge.{judge, Current, Outdated, TooEarly}
+use Rattle.rules_tcc.specs.State.{DirState}
+use Rattle.rules_tcc.specs.Sends.{nothing, to}
+use Rattle.rules_tcc.specs.DirDeliver.{Waits, Drops, Asks, Takes, skip, abort, probe, ask_owner, load_unless_owned, load_request, mark}
+use Rattle.rules_tcc.specs.DirDeliver.{mark_taken, mark_unless_owned, dir_commit, acknowledgement, write_back, judged, came_home, moved_on}
+use Rattle.rules_tcc.specs.DirDeliver.{moved_on_if_settled, owned_by_committer, invalidation_count, invalidations, unless_keeps}
 
 pub le-true : (a b : ℕ) → a ≤ b → nat_le a b ≡ true
 le-true a b h = grind (arith, nat_tests)

@@ -6,17 +6,17 @@ use Rattle.std.specs.Prelude.{nat_le}
 use Rattle.std.proofs.lemmas.Bool.{false≢true}
 use borrow.Author.Tests.{ltb-true}
 use Rattle.tcc_base.specs.declared.names.LineAddr.{LineAddr}
-use Rattle.tcc_maps.specs.Words.{count_below}
-use Rattle.tcc_maps.specs.Masks.{full}
-use Rattle.tcc_maps.specs.Shape.{Shape, lines}
-use Rattle.tcc_maps.specs.Lines.{has_mark}
-use Rattle.tcc_maps.specs.Judge.{Judgement, judge, Current, Outdated, TooEarly}
-use Rattle.tcc_rules.specs.State.{DirState}
-use Rattle.tcc_rules.specs.DirDeliver.{Waits, Drops, Takes, moved_on_if_settled, owned_by_committer, invalidation_count, invalidations}
-use Rattle.tcc_rules.specs.DirDeliver.{load_request, load_unless_owned}
-use Rattle.tcc_rules.specs.Sends.{to}
-use Rattle.tcc_maps.specs.Nodes.{Core, ProbeReply}
-use Rattle.tcc_rules.specs.DirDeliver.{probe, mark, mark_taken, mark_unless_owned, dir_commit, write_back, judged}
+use Rattle.rules_maps.specs.Words.{count_below}
+use Rattle.rules_maps.specs.Masks.{full}
+use Rattle.rules_maps.specs.Shape.{Shape, lines}
+use Rattle.rules_maps.specs.Lines.{has_mark}
+use Rattle.rules_maps.specs.Judge.{Judgement, judge, Current, Outdated, TooEarly}
+use Rattle.rules_tcc.specs.State.{DirState}
+use Rattle.rules_tcc.specs.DirDeliver.{Waits, Drops, Takes, moved_on_if_settled, owned_by_committer, invalidation_count, invalidations}
+use Rattle.rules_tcc.specs.DirDeliver.{load_request, load_unless_owned}
+use Rattle.rules_tcc.specs.Sends.{to}
+use Rattle.rules_maps.specs.Nodes.{Core, ProbeReply}
+use Rattle.rules_tcc.specs.DirDeliver.{probe, mark, mark_taken, mark_unless_owned, dir_commit, write_back, judged}
 use Rattle.directory.specs.declared.waits.Cause.TheVariants.{Line, Served}
 use Rattle.directory.specs.Gives.{is_taken}
 use Rattle.directory.specs.Stays.{SameLine, SameServed, SameMarks, Stays}

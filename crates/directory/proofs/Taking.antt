@@ -1,7 +1,7 @@
 -- Which messages are taken, by the rules' tests.
 use Rattle.std.proofs.Common.{◌≡◌, ℕ, Bool, true, false, not, ◌==◌, nat_lt, refl, ap, sym, ◌∙◌}
-use Rattle.tcc_rules.specs.State.{DirState}
-use Rattle.tcc_rules.specs.DirDeliver.{ask_owner, skip, abort, acknowledgement}
+use Rattle.rules_tcc.specs.State.{DirState}
+use Rattle.rules_tcc.specs.DirDeliver.{ask_owner, skip, abort, acknowledgement}
 use Rattle.directory.specs.Gives.{is_taken}
 use Rattle.directory.proofs.RuleCases.{ask-asked, ask-first, skip-lower, skip-other, abort-lower, abort-served, abort-higher}
 use Rattle.directory.proofs.RuleCases.{acknowledgement-none, acknowledgement-owed}

@@ -10,11 +10,11 @@ use Rattle.std.proofs.lemmas.Bool.Decides.{nat_tests}
 use borrow.Author.Tests.{lt-ltb, le-ltb, eqb-true, eqb-false, eq-eqb, ne_eqb}
 use Rattle.tcc_base.specs.declared.names.NodeId.{NodeId}
 use Rattle.tcc_base.specs.declared.names.NodeId.TheVariants as node
-use Rattle.tcc_maps.specs.Words.{those, count_below, num}
-use Rattle.tcc_maps.specs.Shape.{Shape, lines}
-use Rattle.tcc_maps.specs.Lines.{Lines, has_mark}
-use Rattle.tcc_maps.specs.Nodes as plain
-use Rattle.tcc_rules.specs.DirDeliver.{is_invalidated, invs_to, invalidations, sum_below, invalidation_count}
+use Rattle.rules_maps.specs.Words.{those, count_below, num}
+use Rattle.rules_maps.specs.Shape.{Shape, lines}
+use Rattle.rules_maps.specs.Lines.{Lines, has_mark}
+use Rattle.rules_maps.specs.Nodes as plain
+use Rattle.rules_tcc.specs.DirDeliver.{is_invalidated, invs_to, invalidations, sum_below, invalidation_count}
 use Rattle.tcc_msg.specs.declared.msg.Msg.{Msg}
 use Rattle.tcc_msg.specs.declared.msg.Msg.TheVariants as code
 use Rattle.tcc_msg.specs.Plain.{sends_of}

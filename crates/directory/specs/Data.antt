@@ -1,7 +1,7 @@
 -- A directory's plain data, and the state of the rules that it stands for.
 use Rattle.std.specs.Prelude.{ℕ}
-use Rattle.tcc_maps.specs.Serving.{Serving}
-use Rattle.tcc_rules.specs.State.{DirState}
+use Rattle.rules_maps.specs.Serving.{Serving}
+use Rattle.rules_tcc.specs.State.{DirState}
 use Rattle.dir_lines.specs.Pages.{Pages}
 use Rattle.dir_lines.specs.Words.{Words, words_at}
 use Rattle.dir_lines.specs.Kept.{kept}

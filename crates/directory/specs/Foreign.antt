@@ -1,7 +1,7 @@
 -- Which messages a directory takes.
 use Rattle.std.specs.Prelude.{ℕ, ◌^◌, ◌<◌, Bool, true, false, not}
-use Rattle.tcc_maps.specs.Nodes.{Msg, TidReq, TidGrant, LoadReq, Fill, Skip, Probe, ProbeReply, Mark, Commit, Abort, WriteBack, Flush}
-use Rattle.tcc_maps.specs.Nodes.{DataReq, Inv, InvAck}
+use Rattle.rules_maps.specs.Nodes.{Msg, TidReq, TidGrant, LoadReq, Fill, Skip, Probe, ProbeReply, Mark, Commit, Abort, WriteBack, Flush}
+use Rattle.rules_maps.specs.Nodes.{DataReq, Inv, InvAck}
 use Rattle.dir_lines.specs.Home.{Home}
 use Rattle.dir_lines.specs.Pages.{is_at_home}
 

@@ -1,9 +1,9 @@
 -- What a call of a directory did, against what a rule gives for the state before.
 use Rattle.std.specs.Prelude.{ℕ, ◌≡◌, Bool, true, false, List, ◌++◌}
 use Rattle.tcc_base.specs.declared.names.NodeId.{NodeId}
-use Rattle.tcc_rules.specs.State.{DirState}
-use Rattle.tcc_rules.specs.Sends.{Sends}
-use Rattle.tcc_rules.specs.DirDeliver as rules
+use Rattle.rules_tcc.specs.State.{DirState}
+use Rattle.rules_tcc.specs.Sends.{Sends}
+use Rattle.rules_tcc.specs.DirDeliver as rules
 use Rattle.tcc_msg.specs.declared.msg.Msg.{Msg}
 use Rattle.tcc_msg.specs.Plain.{sends_of}
 use Rattle.directory.specs.declared.handled.Handled.{Handled}

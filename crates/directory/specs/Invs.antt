@@ -3,9 +3,9 @@ use Rattle.std.specs.Prelude.{ℕ, zero, suc, ◌≡◌, Bool, not, ◌==◌, �
 use Rattle.std.specs.List.{flat_map}
 use Rattle.tcc_base.specs.declared.names.NodeId.{NodeId}
 use Rattle.tcc_base.specs.declared.names.NodeId.TheVariants.{Core}
-use Rattle.tcc_maps.specs.Words.{those}
-use Rattle.tcc_maps.specs.Shape.{Shape, lines}
-use Rattle.tcc_maps.specs.Lines.{Lines, has_mark}
+use Rattle.rules_maps.specs.Words.{those}
+use Rattle.rules_maps.specs.Shape.{Shape, lines}
+use Rattle.rules_maps.specs.Lines.{Lines, has_mark}
 use Rattle.tcc_msg.specs.declared.msg.Msg.{Msg}
 use Rattle.tcc_msg.specs.declared.msg.Msg.TheVariants.{Inv}
 

@@ -1,7 +1,7 @@
 -- What the handling of a message leaves as it was, so that the messages that wait for it needn't be looked at.
 use Rattle.std.specs.Prelude.{ℕ, Bool, true, false, ◌≡◌, ◌==◌, ◌||◌, nat_lt, nat_le}
-use Rattle.tcc_maps.specs.Nodes.{Msg, LoadReq, Mark, Commit, WriteBack, Flush}
-use Rattle.tcc_rules.specs.State.{DirState}
+use Rattle.rules_maps.specs.Nodes.{Msg, LoadReq, Mark, Commit, WriteBack, Flush}
+use Rattle.rules_tcc.specs.State.{DirState}
 use Rattle.directory.specs.declared.waits.Cause.{Cause}
 use Rattle.directory.specs.declared.waits.Cause.TheVariants.{Turn, Done, Line, Served, Marks}
 use Rattle.directory.specs.Stays.{Stays}

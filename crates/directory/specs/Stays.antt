@@ -1,7 +1,7 @@
 -- What a message waits for is in a later state as it was.
 use Rattle.std.specs.Prelude.{◌≡◌, ◌<◌, ◌≤◌, ℕ, false}
-use Rattle.tcc_maps.specs.Lines.{has_mark}
-use Rattle.tcc_rules.specs.State.{DirState}
+use Rattle.rules_maps.specs.Lines.{has_mark}
+use Rattle.rules_tcc.specs.State.{DirState}
 use Rattle.directory.specs.declared.waits.Cause.{Cause}
 use Rattle.directory.specs.declared.waits.Cause.TheVariants.{Turn, Done, Line, Served, Marks}
 

@@ -1,7 +1,7 @@
 -- What a message waits for, against the rule that takes it.
 use Rattle.std.specs.Prelude.{◌≡◌, false, Option, is_none, IfSome}
-use Rattle.tcc_rules.specs.State.{DirState}
-use Rattle.tcc_rules.specs.DirDeliver.{Answer}
+use Rattle.rules_tcc.specs.State.{DirState}
+use Rattle.rules_tcc.specs.DirDeliver.{Answer}
 use Rattle.directory.specs.declared.waits.Cause.{Cause}
 use Rattle.directory.specs.Gives.{is_taken}
 use Rattle.directory.specs.Stays.{Stays}

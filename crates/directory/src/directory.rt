@@ -1,11 +1,11 @@
 // A directory: its parts, and the readers of what it knows.
 ghost use Rattle.std.specs.Prelude.{◌≡◌, ℕ, ◌^◌, ◌<◌, ◌≤◌, ◌↔◌, true, false, Err, IfOk, OnOk, OnErr, IsTrue, option_map};
-ghost use Rattle.tcc_maps.specs.Words.{count_below, eight, word_at};
-ghost use Rattle.tcc_maps.specs.Words.{line_of as line_number};
-ghost use Rattle.tcc_maps.specs.Shape.{lines as line_count};
-ghost use Rattle.tcc_maps.specs.Lines.{has_mark};
-ghost use Rattle.tcc_rules.specs.State.{dir_start};
-ghost use Rattle.tcc_rules.specs.DirDeliver.{dir_deliver};
+ghost use Rattle.rules_maps.specs.Words.{count_below, eight, word_at};
+ghost use Rattle.rules_maps.specs.Words.{line_of as line_number};
+ghost use Rattle.rules_maps.specs.Shape.{lines as line_count};
+ghost use Rattle.rules_maps.specs.Lines.{has_mark};
+ghost use Rattle.rules_tcc.specs.State.{dir_start};
+ghost use Rattle.rules_tcc.specs.DirDeliver.{dir_deliver};
 ghost use Rattle.image_load.specs.Contents.{started};
 ghost use Rattle.dir_lines.specs.Home.{IsAtHome};
 ghost use Rattle.tcc_msg.specs.Plain.{msg_of};

@@ -1,9 +1,9 @@
 // A commit at its home: the other sharers of each marked line are told, and the committer becomes the lines' owner.
 ghost use Rattle.std.specs.Prelude.{◌≡◌, ℕ, ◌<◌, ◌++◌, IfOk, OnOk, OnErr};
-ghost use Rattle.tcc_maps.specs.Words.{those};
-ghost use Rattle.tcc_maps.specs.Shape.{lines as line_count};
-ghost use Rattle.tcc_maps.specs.Lines.{has_mark};
-ghost use Rattle.tcc_rules.specs.DirDeliver.{invalidation_count, owned_by_committer};
+ghost use Rattle.rules_maps.specs.Words.{those};
+ghost use Rattle.rules_maps.specs.Shape.{lines as line_count};
+ghost use Rattle.rules_maps.specs.Lines.{has_mark};
+ghost use Rattle.rules_tcc.specs.DirDeliver.{invalidation_count, owned_by_committer};
 ghost use Rattle.dir_lines.specs.Home.{IsAtHome};
 ghost use Rattle.dir_lines.specs.Kept.{kept};
 ghost use Rattle.directory.specs.Invs.{told, told_all, is_told, Extends};

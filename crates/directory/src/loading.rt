@@ -1,7 +1,7 @@
 // The home words at the start: those that were loaded.
 ghost use Rattle.std.specs.Prelude.{◌≡◌, ℕ, ◌/◌, ◌^◌, ◌<◌};
-ghost use Rattle.tcc_maps.specs.Words.{eight, word_at};
-ghost use Rattle.tcc_maps.specs.Words.{line_of as line_number};
+ghost use Rattle.rules_maps.specs.Words.{eight, word_at};
+ghost use Rattle.rules_maps.specs.Words.{line_of as line_number};
 ghost use Rattle.dir_lines.specs.Home.{IsAtHome};
 ghost use Rattle.dir_lines.specs.Words.{words_at};
 ghost use Rattle.image_load.specs.Contents.{started};

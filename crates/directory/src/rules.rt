@@ -1,7 +1,7 @@
 // The rules of a directory, one function each.
 ghost use Rattle.std.specs.Prelude.{◌≡◌, ℕ, ◌^◌, ◌<◌, ◌≤◌, IfOk, OnErr, option_map, None, if◌then◌else◌, ◌==◌};
-ghost use Rattle.tcc_maps.specs.Masks.{full};
-ghost use Rattle.tcc_rules.specs.DirDeliver.{skip, abort, probe, ask_owner, load_request, load_unless_owned, mark, dir_commit, acknowledgement, write_back, moved_on_if_settled, unless_keeps};
+ghost use Rattle.rules_maps.specs.Masks.{full};
+ghost use Rattle.rules_tcc.specs.DirDeliver.{skip, abort, probe, ask_owner, load_request, load_unless_owned, mark, dir_commit, acknowledgement, write_back, moved_on_if_settled, unless_keeps};
 ghost use Rattle.dir_lines.specs.Home.{IsAtHome};
 ghost use Rattle.dir_lines.specs.Kept.{kept};
 ghost use Rattle.directory.specs.Data.{dir_of};

@@ -1,10 +1,10 @@
 // What is shown of a directory beside a line's state: the skips, the sharers and which lines are marked.
 ghost use Rattle.std.specs.Prelude.{◌≡◌, ◌+◌, ◌<◌, ◌^◌, ℕ, length, option_map, slice_get};
-ghost use Rattle.tcc_maps.specs.Lines.{has_mark};
-ghost use Rattle.tcc_maps.specs.Masks.{has};
-ghost use Rattle.tcc_maps.specs.Serving.{is_skipped};
-ghost use Rattle.tcc_maps.specs.Shape.{lines as line_count};
-ghost use Rattle.tcc_maps.specs.Words.{those};
+ghost use Rattle.rules_maps.specs.Lines.{has_mark};
+ghost use Rattle.rules_maps.specs.Masks.{has};
+ghost use Rattle.rules_maps.specs.Serving.{is_skipped};
+ghost use Rattle.rules_maps.specs.Shape.{lines as line_count};
+ghost use Rattle.rules_maps.specs.Words.{those};
 ghost use Rattle.dir_lines.specs.Home.{IsAtHome};
 ghost use Rattle.directory.specs.Data.{dir_of};
 

@@ -1,6 +1,6 @@
 // Whether a directory would take a message now.
 ghost use Rattle.std.specs.Prelude.{◌≡◌, ℕ, ◌<◌, List, not, ◌&&◌};
-ghost use Rattle.tcc_rules.specs.DirDeliver.{dir_deliver, probe, load_request, mark, dir_commit, write_back};
+ghost use Rattle.rules_tcc.specs.DirDeliver.{dir_deliver, probe, load_request, mark, dir_commit, write_back};
 ghost use Rattle.tcc_msg.specs.Plain.{msg_of};
 ghost use Rattle.dir_lines.specs.Home.{IsAtHome};
 ghost use Rattle.directory.specs.Data.{dir_of};

@@ -1,7 +1,7 @@
 // What a message that can't be taken yet waits for.
 ghost use Rattle.std.specs.Prelude.{◌≡◌, ℕ, List, false, if◌then◌else◌};
-ghost use Rattle.tcc_maps.specs.Lines.{has_mark};
-ghost use Rattle.tcc_rules.specs.DirDeliver.{dir_deliver, probe, load_request, mark, dir_commit, write_back};
+ghost use Rattle.rules_maps.specs.Lines.{has_mark};
+ghost use Rattle.rules_tcc.specs.DirDeliver.{dir_deliver, probe, load_request, mark, dir_commit, write_back};
 ghost use Rattle.tcc_msg.specs.Plain.{msg_of};
 ghost use Rattle.dir_lines.specs.Home.{IsAtHome};
 ghost use Rattle.directory.specs.Data.{dir_of};

@@ -4,19 +4,19 @@ use Rattle.std.specs.Prelude.{is_some, nat_lt, not}
 use Rattle.std.specs.Option.{option_map}
 use Rattle.std.proofs.lemmas.Bool.Decides.{nat_tests}
 use Rattle.directory.specs.Gives.{is_taken}
-use Rattle.tcc_bounds.specs.Messages.{InBounds, MessagesInBounds, line_named}
-use Rattle.tcc_bounds.proofs.Lemmas.{fits_out, fits_back}
-use Rattle.tcc_live.specs.Fits.{fits, goes_to_core, is_grant, is_request}
-use Rattle.tcc_maps.specs.Nodes.{Node, Core, Dir, Vendor, Deliver, Msg, TidReq, TidGrant, Fill, ProbeReply, DataReq, Inv}
-use Rattle.tcc_maps.specs.Shape.{Shape, home, lines}
-use Rattle.tcc_program.specs.Program.{Program}
-use Rattle.tcc_rules.specs.Attempt.{Out}
-use Rattle.tcc_rules.specs.CoreDeliver.{core_deliver, from_dir, from_vendor}
-use Rattle.tcc_rules.specs.DirDeliver.{Answer, Waits, Drops, Asks, Takes, dir_deliver}
-use Rattle.tcc_rules.specs.Links.{in_flight}
-use Rattle.tcc_rules.specs.State.{CoreState, World}
-use Rattle.tcc_rules.specs.Step.{answered, delivered, if_vendor_gives, happens, names_nodes, step, if_core_takes}
-use Rattle.tcc_rules.specs.VendorDeliver.{vendor_deliver}
+use Rattle.theorem_bounds.specs.Messages.{InBounds, MessagesInBounds, line_named}
+use Rattle.theorem_bounds.proofs.Lemmas.{fits_out, fits_back}
+use Rattle.theorem_live.specs.Fits.{fits, goes_to_core, is_grant, is_request}
+use Rattle.rules_maps.specs.Nodes.{Node, Core, Dir, Vendor, Deliver, Msg, TidReq, TidGrant, Fill, ProbeReply, DataReq, Inv}
+use Rattle.rules_maps.specs.Shape.{Shape, home, lines}
+use Rattle.rules_program.specs.Program.{Program}
+use Rattle.rules_tcc.specs.Attempt.{Out}
+use Rattle.rules_tcc.specs.CoreDeliver.{core_deliver, from_dir, from_vendor}
+use Rattle.rules_tcc.specs.DirDeliver.{Answer, Waits, Drops, Asks, Takes, dir_deliver}
+use Rattle.rules_tcc.specs.Links.{in_flight}
+use Rattle.rules_tcc.specs.State.{CoreState, World}
+use Rattle.rules_tcc.specs.Step.{answered, delivered, if_vendor_gives, happens, names_nodes, step, if_core_takes}
+use Rattle.rules_tcc.specs.VendorDeliver.{vendor_deliver}
 use Rattle.live_core.specs.Plain.{plain_reason}
 use Rattle.live_core.specs.Waiting.{reason_at, reason_in}
 use Rattle.live_core.specs.declared.reason.Reason.{Reason as CodeReason}

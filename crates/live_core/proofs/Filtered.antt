@@ -2,8 +2,8 @@
 use Rattle.std.proofs.Common.{◌≡◌, ℕ, zero, suc, ◌+◌, ◌≤◌, Bool, true, false, cond, List, [], ◌∷◌, length, take, Some, None}
 use Rattle.std.proofs.Common.{refl, ap, sym, ◌∙◌, arith, add-one, inl, inr, ⊎_elim}
 use Rattle.std.specs.Prelude.{filter, slice_get}
-use Rattle.tcc_maps.specs.Nodes.{Event}
-use Rattle.tcc_rules.specs.Laws.{IsIn}
+use Rattle.rules_maps.specs.Nodes.{Event}
+use Rattle.rules_tcc.specs.Laws.{IsIn}
 
 -- none of the first n passes
 abbrev pub NonePass : (Event → Bool) → (n : ℕ) → List Event → Type 0

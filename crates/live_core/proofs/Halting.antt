@@ -4,39 +4,39 @@ use Rattle.std.specs.Prelude.{is_some, not, ◌||◌, ◌==◌, if◌then◌else
 use Rattle.tcc_base.specs.Put.{put}
 use Rattle.tcc_base.specs.declared.access.Size.TheVariants.{Byte, Half, Word}
 use Rattle.tcc_base.specs.declared.access.CoreEnd.TheVariants.{Run, Halt, Trap}
-use Rattle.tcc_maps.specs.Cache.{Cache, all_marked, free_way, is_marked}
-use Rattle.tcc_maps.specs.CacheChange.{marked, read_cleared}
-use Rattle.tcc_maps.specs.Nodes.{Node, Core, Dir, Vendor, Event, Exec, Evict, Deliver, Msg, TidGrant, Fill, ProbeReply, DataReq, Inv}
-use Rattle.tcc_maps.specs.Shape.{Shape, set_of}
-use Rattle.tcc_maps.specs.Spilled.{holds}
-use Rattle.tcc_maps.specs.Words.{any_below, line_of}
-use Rattle.tcc_program.specs.Plain.{Outcome, Goes, Ended, Halted as HaltedWith, Trapped as TrappedWith}
-use Rattle.tcc_program.specs.Program.{Local, Need, Nothing, Loads, Stores, Changes, Prints, Ends, Halts, Traps, Program}
-use Rattle.tcc_program.specs.Ram.{word_of}
-use Rattle.tcc_rules.specs.Attempt.{Out, finished, is_running, is_solo, moves, new_word, roll_back, one_more_instruction}
-use Rattle.tcc_rules.specs.Commit.{commit, committed_core, ended_after_commit, phase_after_commit, solo_commit}
-use Rattle.tcc_rules.specs.CoreDeliver.{acknowledged, all_replied, core_deliver, data_request, fill, fill_awaited}
-use Rattle.tcc_rules.specs.CoreDeliver.{grant, grant_in_phase, if_violated, ignored, invalidate, is_probed, is_violated, probe_reply}
-use Rattle.tcc_rules.specs.CoreDeliver.{probing_or_ready}
-use Rattle.tcc_rules.specs.CoreDeliver.{replied, reply_in_phase, violated_in_phase, words_invalidated}
-use Rattle.tcc_rules.specs.CoreEvict.{core_evict, evict_line, is_awaited}
-use Rattle.tcc_rules.specs.CoreExec.{core_exec, exec_in_phase, unless_awaiting}
-use Rattle.tcc_rules.specs.DirDeliver.{Answer, Waits, Drops, Asks, Takes, dir_deliver}
-use Rattle.tcc_rules.specs.Execute.{marks_read, request_line, stored_in_buffer, change_spilled, change_valid, end_transaction, execute}
-use Rattle.tcc_rules.specs.Execute.{execute_need, miss, stored_in_frame}
-use Rattle.tcc_rules.specs.Execute.{full_set, load, load_spilled, load_valid, overflow, partial_store, place, with_read_mark, word_store}
-use Rattle.tcc_rules.specs.Links.{in_flight}
-use Rattle.tcc_rules.specs.Sends.{flush_line, nothing}
-use Rattle.tcc_rules.specs.State.{Awaited, CoreState, Phase, Running, AwaitTid, DoomedTid, Probing}
-use Rattle.tcc_rules.specs.State.{Ready, Overflowing, Solo, Halted, World, start}
-use Rattle.tcc_rules.specs.State.{core_start}
-use Rattle.tcc_rules.specs.Step.{Stepped, History, and_then, answered, core_moves, core_takes, dir_asks, dir_takes, if_vendor_gives}
-use Rattle.tcc_rules.specs.Step.{happens}
-use Rattle.tcc_rules.specs.Step.{if_in_flight, if_core_moves, names_nodes, next_history, recorded, run, run_from, step, if_core_takes}
-use Rattle.tcc_rules.specs.Step.{vendor_gives}
-use Rattle.tcc_serial.specs.Commits.{end_after}
+use Rattle.rules_maps.specs.Cache.{Cache, all_marked, free_way, is_marked}
+use Rattle.rules_maps.specs.CacheChange.{marked, read_cleared}
+use Rattle.rules_maps.specs.Nodes.{Node, Core, Dir, Vendor, Event, Exec, Evict, Deliver, Msg, TidGrant, Fill, ProbeReply, DataReq, Inv}
+use Rattle.rules_maps.specs.Shape.{Shape, set_of}
+use Rattle.rules_maps.specs.Spilled.{holds}
+use Rattle.rules_maps.specs.Words.{any_below, line_of}
+use Rattle.rules_program.specs.Plain.{Outcome, Goes, Ended, Halted as HaltedWith, Trapped as TrappedWith}
+use Rattle.rules_program.specs.Program.{Local, Need, Nothing, Loads, Stores, Changes, Prints, Ends, Halts, Traps, Program}
+use Rattle.rules_program.specs.Ram.{word_of}
+use Rattle.rules_tcc.specs.Attempt.{Out, finished, is_running, is_solo, moves, new_word, roll_back, one_more_instruction}
+use Rattle.rules_tcc.specs.Commit.{commit, committed_core, ended_after_commit, phase_after_commit, solo_commit}
+use Rattle.rules_tcc.specs.CoreDeliver.{acknowledged, all_replied, core_deliver, data_request, fill, fill_awaited}
+use Rattle.rules_tcc.specs.CoreDeliver.{grant, grant_in_phase, if_violated, ignored, invalidate, is_probed, is_violated, probe_reply}
+use Rattle.rules_tcc.specs.CoreDeliver.{probing_or_ready}
+use Rattle.rules_tcc.specs.CoreDeliver.{replied, reply_in_phase, violated_in_phase, words_invalidated}
+use Rattle.rules_tcc.specs.CoreEvict.{core_evict, evict_line, is_awaited}
+use Rattle.rules_tcc.specs.CoreExec.{core_exec, exec_in_phase, unless_awaiting}
+use Rattle.rules_tcc.specs.DirDeliver.{Answer, Waits, Drops, Asks, Takes, dir_deliver}
+use Rattle.rules_tcc.specs.Execute.{marks_read, request_line, stored_in_buffer, change_spilled, change_valid, end_transaction, execute}
+use Rattle.rules_tcc.specs.Execute.{execute_need, miss, stored_in_frame}
+use Rattle.rules_tcc.specs.Execute.{full_set, load, load_spilled, load_valid, overflow, partial_store, place, with_read_mark, word_store}
+use Rattle.rules_tcc.specs.Links.{in_flight}
+use Rattle.rules_tcc.specs.Sends.{flush_line, nothing}
+use Rattle.rules_tcc.specs.State.{Awaited, CoreState, Phase, Running, AwaitTid, DoomedTid, Probing}
+use Rattle.rules_tcc.specs.State.{Ready, Overflowing, Solo, Halted, World, start}
+use Rattle.rules_tcc.specs.State.{core_start}
+use Rattle.rules_tcc.specs.Step.{Stepped, History, and_then, answered, core_moves, core_takes, dir_asks, dir_takes, if_vendor_gives}
+use Rattle.rules_tcc.specs.Step.{happens}
+use Rattle.rules_tcc.specs.Step.{if_in_flight, if_core_moves, names_nodes, next_history, recorded, run, run_from, step, if_core_takes}
+use Rattle.rules_tcc.specs.Step.{vendor_gives}
+use Rattle.theorem_serial.specs.Commits.{end_after}
 use Rattle.live_core.specs.Reached.{KeepsItsEnd}
-use Rattle.tcc_rules.specs.VendorDeliver.{Granted, vendor_deliver}
+use Rattle.rules_tcc.specs.VendorDeliver.{Granted, vendor_deliver}
 
 -- what a core that has halted keeps says how
 abbrev says : Phase → Outcome → Bool

@@ -2,14 +2,14 @@
 use Rattle.std.proofs.Common.{◌≡◌, ℕ, List, Some}
 use Rattle.image_load.specs.Contents.{Contents, started}
 use Rattle.rv_code.specs.Machine.{first_ram, program}
-use Rattle.rv_serial.specs.Going.{RiscvNeverStuck, RiscvCoresGoOn}
-use Rattle.rv_serial.specs.Suiting.{local_at_start, world_at_start}
+use Rattle.theorem_riscv.specs.Going.{RiscvNeverStuck, RiscvCoresGoOn}
+use Rattle.theorem_riscv.specs.Suiting.{local_at_start, world_at_start}
 use Rattle.tcc_base.specs.Settings.{IsAllowed}
-use Rattle.tcc_bounds.specs.Bounds.{IsBounded}
-use Rattle.tcc_bounds.proofs.Lemmas.{riscv_bounded_after}
-use Rattle.tcc_live.specs.Progress.{DoneWhereNoneUseful, EachGoesOn}
-use Rattle.tcc_maps.specs.Nodes.{Event}
-use Rattle.tcc_rules.specs.Step.{History, run}
+use Rattle.theorem_bounds.specs.Bounds.{IsBounded}
+use Rattle.theorem_bounds.proofs.Lemmas.{riscv_bounded_after}
+use Rattle.theorem_live.specs.Progress.{DoneWhereNoneUseful, EachGoesOn}
+use Rattle.rules_maps.specs.Nodes.{Event}
+use Rattle.rules_tcc.specs.Step.{History, run}
 use Rattle.net_core.specs.Machine.{Machine, history_of, settings_of}
 use Rattle.net_core.specs.Reached.{Reached}
 use Rattle.live_core.specs.Reached.{IsLive, KeepsItsEnd}

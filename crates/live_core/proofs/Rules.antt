@@ -3,17 +3,17 @@ use Rattle.std.proofs.Common.{◌≡◌, ℕ, Bool, true, false, ◌&&◌, ◌||
 use Rattle.std.specs.Prelude.{not, is_some, nat_lt, nat_le, ◌==◌, if◌then◌else◌}
 use Rattle.std.proofs.lemmas.Bool.Decides.{nat_tests}
 use Rattle.directory.specs.Gives.{is_taken}
-use Rattle.tcc_maps.specs.Judge.{judge, is_owner, Current, Outdated, TooEarly}
-use Rattle.tcc_maps.specs.Lines.{has_mark}
-use Rattle.tcc_maps.specs.Masks.{full}
-use Rattle.tcc_maps.specs.Nodes.{TidReq, TidGrant, LoadReq, Fill, Skip, Probe, ProbeReply, Mark, Commit, Abort}
-use Rattle.tcc_maps.specs.Nodes.{WriteBack, Flush, DataReq, Inv, InvAck}
-use Rattle.tcc_maps.specs.Shape.{Shape}
-use Rattle.tcc_rules.specs.DirDeliver.{Answer, Waits, Drops, Asks, Takes, dir_deliver, skip, abort, probe, ask_owner}
-use Rattle.tcc_rules.specs.DirDeliver.{load_unless_owned, load_request, mark, mark_unless_owned, mark_taken, dir_commit, acknowledgement}
-use Rattle.tcc_rules.specs.DirDeliver.{judged, write_back}
-use Rattle.tcc_rules.specs.Sends.{Sends}
-use Rattle.tcc_rules.specs.State.{DirState}
+use Rattle.rules_maps.specs.Judge.{judge, is_owner, Current, Outdated, TooEarly}
+use Rattle.rules_maps.specs.Lines.{has_mark}
+use Rattle.rules_maps.specs.Masks.{full}
+use Rattle.rules_maps.specs.Nodes.{TidReq, TidGrant, LoadReq, Fill, Skip, Probe, ProbeReply, Mark, Commit, Abort}
+use Rattle.rules_maps.specs.Nodes.{WriteBack, Flush, DataReq, Inv, InvAck}
+use Rattle.rules_maps.specs.Shape.{Shape}
+use Rattle.rules_tcc.specs.DirDeliver.{Answer, Waits, Drops, Asks, Takes, dir_deliver, skip, abort, probe, ask_owner}
+use Rattle.rules_tcc.specs.DirDeliver.{load_unless_owned, load_request, mark, mark_unless_owned, mark_taken, dir_commit, acknowledgement}
+use Rattle.rules_tcc.specs.DirDeliver.{judged, write_back}
+use Rattle.rules_tcc.specs.Sends.{Sends}
+use Rattle.rules_tcc.specs.State.{DirState}
 use Rattle.live_core.specs.Reasons.{Reason, Early, Marked, Count, Tag, probe_waits, owner_asked, load_waits, mark_waits, marked_lines}
 use Rattle.live_core.specs.Reasons.{commit_waits, words_wait, reason_of}
 use Rattle.live_core.specs.Waiting.{ReasonsAreTheRules}

@@ -4,8 +4,8 @@ use Rattle.std.specs.Prelude.{nat_lt, nat_le, ◌==◌, if◌then◌else◌}
 use Rattle.std.specs.Bool.{then_some}
 use Rattle.std.specs.Option.{option_map}
 use Rattle.std.proofs.lemmas.Bool.Decides.{nat_tests}
-use Rattle.tcc_maps.specs.Shape.{Shape}
-use Rattle.tcc_rules.specs.State.{DirState}
+use Rattle.rules_maps.specs.Shape.{Shape}
+use Rattle.rules_tcc.specs.State.{DirState}
 use Rattle.live_core.specs.Plain.{plain_reason}
 use Rattle.live_core.specs.Reasons.{Reason, Early, Marked, Count, Tag, probe_waits, owner_asked, load_waits, mark_waits, marked_lines}
 use Rattle.live_core.specs.Reasons.{commit_waits, words_wait}

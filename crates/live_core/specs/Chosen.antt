@@ -1,8 +1,8 @@
 -- The first of the useful events, of all and of those for which no other core gets a place in the order.
 use Rattle.std.specs.Prelude.{ℕ, List, Option, filter, slice_get}
-use Rattle.tcc_live.specs.Progress.{spares}
-use Rattle.tcc_maps.specs.Nodes.{Event}
-use Rattle.tcc_rules.specs.Useful.{useful}
+use Rattle.theorem_live.specs.Progress.{spares}
+use Rattle.rules_maps.specs.Nodes.{Event}
+use Rattle.rules_tcc.specs.Useful.{useful}
 use Rattle.net_core.specs.Machine.{Machine, program_of, settings_of, world_of}
 
 abbrev pub useful_events : Machine → List Event

@@ -1,10 +1,10 @@
 -- What holds of a machine because the rules have led to it.
 use Rattle.std.specs.Prelude.{ℕ, ◌≡◌, ◌≢◌}
 use Rattle.tcc_base.specs.declared.access.CoreEnd.TheVariants.{Run}
-use Rattle.tcc_bounds.specs.Messages.{MessagesInBounds}
-use Rattle.tcc_live.specs.Progress.{DoneWhereNoneUseful, EachGoesOn}
-use Rattle.tcc_rules.specs.State.{CoreState, Halted}
-use Rattle.tcc_serial.specs.Commits.{end_after}
+use Rattle.theorem_bounds.specs.Messages.{MessagesInBounds}
+use Rattle.theorem_live.specs.Progress.{DoneWhereNoneUseful, EachGoesOn}
+use Rattle.rules_tcc.specs.State.{CoreState, Halted}
+use Rattle.theorem_serial.specs.Commits.{end_after}
 use Rattle.net_core.specs.Machine.{Machine, program_of, settings_of, world_of}
 
 -- where the core has halted, what it keeps says how

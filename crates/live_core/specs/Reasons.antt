@@ -5,12 +5,12 @@
 --   Commit            early, count
 --   WriteBack, Flush  tag
 use Rattle.std.specs.Prelude.{ℕ, Bool, true, Option, Some, None, nat_lt, nat_le, ◌==◌, ◌||◌, if◌then◌else◌}
-use Rattle.tcc_maps.specs.Lines.{has_mark}
-use Rattle.tcc_maps.specs.Masks.{full}
-use Rattle.tcc_maps.specs.Nodes.{Msg, LoadReq, Probe, Mark, Commit, WriteBack, Flush}
-use Rattle.tcc_maps.specs.Shape.{Shape, lines}
-use Rattle.tcc_maps.specs.Words.{count_below}
-use Rattle.tcc_rules.specs.State.{DirState}
+use Rattle.rules_maps.specs.Lines.{has_mark}
+use Rattle.rules_maps.specs.Masks.{full}
+use Rattle.rules_maps.specs.Nodes.{Msg, LoadReq, Probe, Mark, Commit, WriteBack, Flush}
+use Rattle.rules_maps.specs.Shape.{Shape, lines}
+use Rattle.rules_maps.specs.Words.{count_below}
+use Rattle.rules_tcc.specs.State.{DirState}
 
 pub data Reason : Type 0 where
   Early : (serving : ℕ) → Reason  -- its turn hasn't come: this TID is served

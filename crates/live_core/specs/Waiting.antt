@@ -1,12 +1,12 @@
 -- Which messages of a machine wait, and why.
 use Rattle.std.specs.Prelude.{ℕ, ◌≡◌, true, not, Option, Some, None, is_some}
 use Rattle.directory.specs.Gives.{is_taken}
-use Rattle.tcc_live.specs.Fits.{goes_to_dir}
-use Rattle.tcc_maps.specs.Nodes.{Node, Dir, Msg}
-use Rattle.tcc_maps.specs.Shape.{Shape}
-use Rattle.tcc_rules.specs.DirDeliver.{dir_deliver}
-use Rattle.tcc_rules.specs.Links.{in_flight}
-use Rattle.tcc_rules.specs.State.{DirState, World}
+use Rattle.theorem_live.specs.Fits.{goes_to_dir}
+use Rattle.rules_maps.specs.Nodes.{Node, Dir, Msg}
+use Rattle.rules_maps.specs.Shape.{Shape}
+use Rattle.rules_tcc.specs.DirDeliver.{dir_deliver}
+use Rattle.rules_tcc.specs.Links.{in_flight}
+use Rattle.rules_tcc.specs.State.{DirState, World}
 use Rattle.live_core.specs.Reasons.{Reason, reason_of}
 
 -- a core and the vendor take all that comes to them

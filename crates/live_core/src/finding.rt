@@ -1,19 +1,19 @@
 // What can happen next.
 ghost use Rattle.std.specs.Prelude.{◌≡◌, ◌≢◌, ◌<◌, ◌↔◌, [], IfSome, IsSome, IsTrue, None, true};
 ghost use Rattle.std.specs.Option.{option_map};
-ghost use Rattle.tcc_live.specs.Progress.{spares};
+ghost use Rattle.theorem_live.specs.Progress.{spares};
 ghost use Rattle.tcc_msg.specs.Plain.{event_of};
-ghost use Rattle.tcc_rules.specs.Seen.{IsDone};
-ghost use Rattle.tcc_rules.specs.State.{Halted};
-ghost use Rattle.tcc_rules.specs.Useful.{is_useful};
+ghost use Rattle.rules_tcc.specs.Seen.{IsDone};
+ghost use Rattle.rules_tcc.specs.State.{Halted};
+ghost use Rattle.rules_tcc.specs.Useful.{is_useful};
 ghost use Rattle.net_core.specs.Machine.{program_of, settings_of, world_of};
 ghost use Rattle.live_core.specs.Chosen.{first_for, first_useful};
 
 use crate::laws::machines_are_live;
 use net_core::System;
+use rules_tcc::useful_events_are_listed;
 use tcc_base::{CoreEnd, CoreId, NodeId};
 use tcc_msg::{Event, Name};
-use tcc_rules::useful_events_are_listed;
 
 /// The first of the useful events of a machine whose messages all stand on their links. `None` exactly where the machine is done. Takes
 /// no memory, and time in the logarithm of the numbers of cores and of links, and in what is in flight on one link.

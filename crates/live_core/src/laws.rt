@@ -3,7 +3,7 @@ ghost use Rattle.live_core.specs.Reached.{IsLive};
 ghost use Rattle.live_core.specs.Waiting.{ReasonsAreTheRules};
 
 use net_core::System;
-use rv_serial::riscv_machines_are_never_stuck;
+use theorem_riscv::riscv_machines_are_never_stuck;
 
 /// A law: what goes to a directory is taken there exactly where it has no reason to wait.
 pub fn reasons_are_the_rules()

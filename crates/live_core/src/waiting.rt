@@ -1,12 +1,12 @@
 // Why a message waits.
 ghost use Rattle.std.specs.Prelude.{◌≡◌, ◌<◌, ◌&&◌, IfSome, is_some, not};
 ghost use Rattle.std.specs.Option.{option_map};
-ghost use Rattle.tcc_bounds.specs.Messages.{line_named};
-ghost use Rattle.tcc_maps.specs.Bridge.{node_of};
-ghost use Rattle.tcc_maps.specs.Nodes.{Deliver};
-ghost use Rattle.tcc_maps.specs.Shape.{home, lines};
+ghost use Rattle.theorem_bounds.specs.Messages.{line_named};
+ghost use Rattle.rules_maps.specs.Bridge.{node_of};
+ghost use Rattle.rules_maps.specs.Nodes.{Deliver};
+ghost use Rattle.rules_maps.specs.Shape.{home, lines};
 ghost use Rattle.tcc_msg.specs.Plain.{msg_of};
-ghost use Rattle.tcc_rules.specs.Links.{in_flight};
+ghost use Rattle.rules_tcc.specs.Links.{in_flight};
 ghost use Rattle.net_core.specs.Answers.{step_of};
 ghost use Rattle.net_core.specs.Machine.{settings_of, world_of};
 ghost use Rattle.live_core.specs.Plain.{plain_reason};

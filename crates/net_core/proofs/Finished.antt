@@ -3,21 +3,21 @@ use Rattle.std.proofs.Common.{◌≡◌, ℕ, ◌<◌, Bool, true, false, List, 
 use Rattle.std.proofs.Common.{◌∙◌, subst, get_or}
 use Rattle.std.specs.Prelude.{◌↔◌, IsTrue}
 use Rattle.tcc_base.specs.declared.names.NodeId.{NodeId}
-use Rattle.tcc_bounds.specs.Bounds.{CacheInMemory}
-use Rattle.tcc_maps.specs.Bridge.{node_of}
-use Rattle.tcc_maps.specs.Cache.{Cache, is_dirty}
-use Rattle.tcc_maps.specs.Nodes.{Node, Msg as PlainMsg}
-use Rattle.tcc_maps.specs.Shape.{Shape, lines}
-use Rattle.tcc_maps.specs.Words.{any_below, any_word, word_at}
-use Rattle.tcc_maps.proofs.Lemmas.{any_below-found}
+use Rattle.theorem_bounds.specs.Bounds.{CacheInMemory}
+use Rattle.rules_maps.specs.Bridge.{node_of}
+use Rattle.rules_maps.specs.Cache.{Cache, is_dirty}
+use Rattle.rules_maps.specs.Nodes.{Node, Msg as PlainMsg}
+use Rattle.rules_maps.specs.Shape.{Shape, lines}
+use Rattle.rules_maps.specs.Words.{any_below, any_word, word_at}
+use Rattle.rules_maps.proofs.Lemmas.{any_below-found}
 use Rattle.tcc_msg.specs.Plain.{msg_of, sends_of}
 use Rattle.tcc_msg.specs.declared.msg.Msg.{Msg}
-use Rattle.tcc_rules.specs.Links.{in_flight, sending, sent_all}
-use Rattle.tcc_rules.specs.Seen.{IsDone}
-use Rattle.tcc_rules.specs.State.{Link}
-use Rattle.core_bank.specs.Bank.{cores_of}
-use Rattle.core_bank.specs.Rest.{IsAtRest}
-use Rattle.in_flight.specs.Flights.{net_of}
+use Rattle.rules_tcc.specs.Links.{in_flight, sending, sent_all}
+use Rattle.rules_tcc.specs.Seen.{IsDone}
+use Rattle.rules_tcc.specs.State.{Link}
+use Rattle.machine_cores.specs.Bank.{cores_of}
+use Rattle.machine_cores.specs.Rest.{IsAtRest}
+use Rattle.machine_links.specs.Flights.{net_of}
 use Rattle.net_core.specs.Machine.{Machine, history_of, settings_of, world_of}
 use Rattle.net_core.specs.Whole.{IsWhole}
 use Rattle.net_core.proofs.Links.Placing.{node_eq-itself}

@@ -6,12 +6,12 @@ use Rattle.std.proofs.lemmas.Bool.{cases_lt}
 use Rattle.std.specs.Option.{option_map}
 use Rattle.std.proofs.lemmas.List.{length-map}
 use Rattle.std.proofs.lemmas.Option.{slice_get-map, slice_get_past}
-use Rattle.tcc_maps.specs.Nodes.{Node, Core, Dir, Vendor}
-use Rattle.tcc_maps.specs.Shape.{Shape}
-use Rattle.tcc_maps.specs.Words.{those}
-use Rattle.tcc_rules.specs.Seen.{numbers}
-use Rattle.tcc_rules.specs.Useful.{nodes}
-use Rattle.core_bank.proofs.Lemmas.{get-left, get-right, numbers-length}
+use Rattle.rules_maps.specs.Nodes.{Node, Core, Dir, Vendor}
+use Rattle.rules_maps.specs.Shape.{Shape}
+use Rattle.rules_maps.specs.Words.{those}
+use Rattle.rules_tcc.specs.Seen.{numbers}
+use Rattle.rules_tcc.specs.Useful.{nodes}
+use Rattle.machine_cores.proofs.Lemmas.{get-left, get-right, numbers-length}
 
 numbers-at : (n i : ℕ) → i < n → slice_get (numbers n) i ≡ Some i
 unfolding those

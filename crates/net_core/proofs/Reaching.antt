@@ -5,23 +5,23 @@ use Rattle.std.specs.Prelude.{nat_lt, ◌==◌, IfSome, drop}
 use Rattle.std.proofs.lemmas.Bool.Decides.{nat_tests}
 use Rattle.image_load.specs.Contents.{Contents, started}
 use Rattle.rv_code.specs.Machine.{program}
-use Rattle.rv_serial.specs.Suiting.{world_at_start}
+use Rattle.theorem_riscv.specs.Suiting.{world_at_start}
 use Rattle.tcc_base.specs.Settings.{Settings, IsAllowed}
-use Rattle.tcc_live.specs.Fits.{fits, goes_to_dir, goes_to_core}
-use Rattle.tcc_maps.specs.Bridge.{node_of}
-use Rattle.tcc_maps.specs.Nodes.{Node, Core, Dir, Vendor, Event, Msg, TidReq, TidGrant, LoadReq, Fill, Skip, Probe, ProbeReply, Mark}
-use Rattle.tcc_maps.specs.Nodes.{Commit, Abort, WriteBack, Flush, DataReq, Inv, InvAck}
-use Rattle.tcc_maps.specs.Shape.{home, lines}
+use Rattle.theorem_live.specs.Fits.{fits, goes_to_dir, goes_to_core}
+use Rattle.rules_maps.specs.Bridge.{node_of}
+use Rattle.rules_maps.specs.Nodes.{Node, Core, Dir, Vendor, Event, Msg, TidReq, TidGrant, LoadReq, Fill, Skip, Probe, ProbeReply, Mark}
+use Rattle.rules_maps.specs.Nodes.{Commit, Abort, WriteBack, Flush, DataReq, Inv, InvAck}
+use Rattle.rules_maps.specs.Shape.{home, lines}
 use Rattle.tcc_msg.specs.Plain.{sends_of}
-use Rattle.tcc_program.specs.Program.{Program}
-use Rattle.tcc_rules.specs.Links.{in_flight, sending}
-use Rattle.tcc_rules.specs.State.{World}
-use Rattle.tcc_rules.specs.Step.{History, and_then, next_history, run, run_from}
-use Rattle.tcc_bounds.specs.Bounds.{IsBounded}
-use Rattle.tcc_bounds.specs.Messages.{InBounds, IsLine, WasGranted, line_named, tid_named}
-use Rattle.tcc_bounds.proofs.Lemmas.{riscv_bounded_after}
+use Rattle.rules_program.specs.Program.{Program}
+use Rattle.rules_tcc.specs.Links.{in_flight, sending}
+use Rattle.rules_tcc.specs.State.{World}
+use Rattle.rules_tcc.specs.Step.{History, and_then, next_history, run, run_from}
+use Rattle.theorem_bounds.specs.Bounds.{IsBounded}
+use Rattle.theorem_bounds.specs.Messages.{InBounds, IsLine, WasGranted, line_named, tid_named}
+use Rattle.theorem_bounds.proofs.Lemmas.{riscv_bounded_after}
 use Rattle.directory.specs.Foreign.{is_foreign, HasSmallTids}
-use Rattle.in_flight.specs.Flights.{net_of}
+use Rattle.machine_links.specs.Flights.{net_of}
 use Rattle.net_core.specs.Delivery.{AllMayGo, MayGo}
 use Rattle.net_core.specs.Machine.{Machine, history_of, program_of, settings_of, start_of, world_of}
 use Rattle.net_core.specs.Reached.{Reached}

@@ -3,14 +3,14 @@ use Rattle.std.proofs.Common.{arith, ◌≡◌, [], get_or, Some, None, ap, sym,
 use Rattle.image_load.specs.Contents.{Contents, started}
 use Rattle.rv_code.specs.Machine.{first_ram}
 use Rattle.tcc_base.specs.Settings.{IsAllowed}
-use Rattle.tcc_maps.specs.Bridge.{node_of}
+use Rattle.rules_maps.specs.Bridge.{node_of}
 use Rattle.tcc_msg.specs.Plain.{sends_of}
-use Rattle.tcc_rules.specs.Links.{sending}
-use Rattle.tcc_rules.specs.State.{dir_start, start, vendor_start}
-use Rattle.tcc_rules.specs.Step.{run, run_from}
-use Rattle.core_bank.specs.Bank.{cores_of, first_core}
-use Rattle.dir_bank.specs.Bank.{dirs_of}
-use Rattle.in_flight.specs.Flights.{net_of}
+use Rattle.rules_tcc.specs.Links.{sending}
+use Rattle.rules_tcc.specs.State.{dir_start, start, vendor_start}
+use Rattle.rules_tcc.specs.Step.{run, run_from}
+use Rattle.machine_cores.specs.Bank.{cores_of, first_core}
+use Rattle.machine_dirs.specs.Bank.{dirs_of}
+use Rattle.machine_links.specs.Flights.{net_of}
 use Rattle.net_core.specs.Delivery.{AreMarked}
 use Rattle.net_core.specs.Machine.{Machine, history_of, settings_of, start_of, world_of}
 use Rattle.net_core.specs.Reached.{Reached, first_history}

@@ -1,13 +1,13 @@
 -- What the calls that take events answer.
 use Rattle.std.specs.Prelude.{ℕ, ◌+◌, ◌≡◌, ◌≢◌, List, ◌++◌, length, map, take, Option, Some, None, option_map, slice_get, Result, Ok, Err}
 use Rattle.tcc_base.specs.declared.names.Tid.{Tid}
-use Rattle.tcc_maps.specs.Nodes.{Node, Core, Msg, Event, Exec, Evict, Deliver}
+use Rattle.rules_maps.specs.Nodes.{Node, Core, Msg, Event, Exec, Evict, Deliver}
 use Rattle.tcc_msg.specs.Plain.{event_of, sends_of}
 use Rattle.tcc_msg.specs.declared.event.Event.{Event as CodeEvent}
-use Rattle.tcc_rules.specs.Links.{sent_all}
-use Rattle.tcc_rules.specs.Sends.{Sends}
-use Rattle.tcc_rules.specs.State.{Link, World}
-use Rattle.tcc_rules.specs.Step.{Stepped, step, next_history, run_from}
+use Rattle.rules_tcc.specs.Links.{sent_all}
+use Rattle.rules_tcc.specs.Sends.{Sends}
+use Rattle.rules_tcc.specs.State.{Link, World}
+use Rattle.rules_tcc.specs.Step.{Stepped, step, next_history, run_from}
 use Rattle.core_node.specs.declared.delivering.CoreError.{CoreError}
 use Rattle.core_node.specs.declared.delivering.CoreError.TheVariants.{Blocked}
 use Rattle.core_node.specs.declared.delivering.CoreError.TheVariants as core_error

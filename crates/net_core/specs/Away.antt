@@ -1,8 +1,8 @@
 -- Which lines have copies away from their homes: a note for each line of RAM, which most lines don't get.
 use Rattle.std.specs.Prelude.{ℕ, ◌≡◌, ◌<◌, Bool, true, false, List, [], get_or}
-use Rattle.tcc_maps.specs.Shape.{lines}
-use Rattle.tcc_maps.specs.Words.{line_of}
-use Rattle.tcc_rules.specs.Seen.{copies}
+use Rattle.rules_maps.specs.Shape.{lines}
+use Rattle.rules_maps.specs.Words.{line_of}
+use Rattle.rules_tcc.specs.Seen.{copies}
 use Rattle.net_core.specs.Machine.{Machine, settings_of, world_of}
 
 -- whether the line is noted, as each line that RAM doesn't have is

@@ -1,6 +1,6 @@
 -- Copies of the words of a line, as those of the rules.
 use Rattle.std.specs.Prelude.{ℕ, ◌≡◌, ◌<◌, List, get_or}
-use Rattle.tcc_rules.specs.Seen.{Copy, newest}
+use Rattle.rules_tcc.specs.Seen.{Copy, newest}
 use Rattle.net_core.specs.declared.copies.Copied.{Copied}
 
 abbrev pub plain_copy : Copied → Copy

@@ -1,16 +1,16 @@
 -- Which messages may be delivered, and where messages may go.
 use Rattle.std.specs.Prelude.{ℕ, ◌≡◌, Bool, true, false, Some}
 use Rattle.tcc_base.specs.Settings.{Settings}
-use Rattle.tcc_maps.specs.Nodes.{Node, Core, Dir, Msg}
-use Rattle.tcc_rules.specs.DirDeliver.{dir_deliver}
-use Rattle.tcc_rules.specs.Links.{in_flight}
-use Rattle.tcc_rules.specs.State.{DirState, Link}
+use Rattle.rules_maps.specs.Nodes.{Node, Core, Dir, Msg}
+use Rattle.rules_tcc.specs.DirDeliver.{dir_deliver}
+use Rattle.rules_tcc.specs.Links.{in_flight}
+use Rattle.rules_tcc.specs.State.{DirState, Link}
 use Rattle.directory.specs.Foreign.{is_foreign}
 use Rattle.directory.specs.Gives.{is_taken}
 use Rattle.directory.specs.declared.handled.Handled.{Handled}
 use Rattle.directory.specs.declared.handled.Handled.TheVariants.{Handled as Done, Waits, Asked, Dropped}
-use Rattle.in_flight.specs.Flights.{Flights, net_of, is_ready}
-use Rattle.in_flight.specs.Places.{is_link}
+use Rattle.machine_links.specs.Flights.{Flights, net_of, is_ready}
+use Rattle.machine_links.specs.Places.{is_link}
 
 -- what goes to a directory where that takes it, all else always
 abbrev pub is_deliverable : Settings → (dirs : ℕ → DirState) → (src dst : Node) → Msg → Bool

@@ -6,16 +6,16 @@ use Rattle.rv_code.specs.Machine.{first_ram, program}
 use Rattle.tcc_base.specs.Settings.{Settings}
 use Rattle.tcc_base.specs.declared.access.Commit.{Commit}
 use Rattle.tcc_base.specs.declared.names.NodeId.{NodeId}
-use Rattle.tcc_maps.specs.Bridge.{node_of}
+use Rattle.rules_maps.specs.Bridge.{node_of}
 use Rattle.tcc_msg.specs.Plain.{sends_of}
 use Rattle.tcc_msg.specs.declared.msg.Msg.{Msg}
-use Rattle.tcc_program.specs.Program.{Program}
-use Rattle.tcc_rules.specs.Links.{sending}
-use Rattle.tcc_rules.specs.State.{World}
-use Rattle.tcc_rules.specs.Step.{History}
-use Rattle.in_flight.specs.Flights.{Flights, net_of}
-use Rattle.dir_bank.specs.Bank.{DirsData, dirs_of}
-use Rattle.core_bank.specs.Bank.{CoresData, cores_of}
+use Rattle.rules_program.specs.Program.{Program}
+use Rattle.rules_tcc.specs.Links.{sending}
+use Rattle.rules_tcc.specs.State.{World}
+use Rattle.rules_tcc.specs.Step.{History}
+use Rattle.machine_links.specs.Flights.{Flights, net_of}
+use Rattle.machine_dirs.specs.Bank.{DirsData, dirs_of}
+use Rattle.machine_cores.specs.Bank.{CoresData, cores_of}
 
 pub record Machine : Type 0 where
   pub cores : CoresData

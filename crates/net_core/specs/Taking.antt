@@ -1,10 +1,10 @@
 -- What decides whether a directory takes a message, and which messages have to be looked at again once it has handled one.
 use Rattle.std.specs.Prelude.{ℕ, ◌≡◌, ◌≢◌, Bool, true, false, ◌==◌, if◌then◌else◌, Option, Some, None}
-use Rattle.tcc_maps.specs.Nodes.{Msg, LoadReq, Skip, Probe, Mark, Abort, WriteBack, Flush, InvAck}
-use Rattle.tcc_rules.specs.State.{DirState}
+use Rattle.rules_maps.specs.Nodes.{Msg, LoadReq, Skip, Probe, Mark, Abort, WriteBack, Flush, InvAck}
+use Rattle.rules_tcc.specs.State.{DirState}
 use Rattle.directory.specs.declared.handled.Handled.{Handled}
 use Rattle.directory.specs.declared.handled.Handled.TheVariants.{Handled as Done, Waits, Asked, Dropped}
-use Rattle.in_flight.specs.Subject.{Subject, Line, Marks, about}
+use Rattle.machine_links.specs.Subject.{Subject, Line, Marks, about}
 use Rattle.net_core.specs.declared.looking.Look.{Look as CodeLook}
 use Rattle.net_core.specs.declared.looking.Look.TheVariants as code
 

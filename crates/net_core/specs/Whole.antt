@@ -2,7 +2,7 @@
 use Rattle.std.specs.Prelude.{◌≡◌, ◌≤◌}
 use Rattle.rv_code.specs.Machine.{first_ram}
 use Rattle.tcc_base.specs.Settings.{IsAllowed}
-use Rattle.dir_bank.specs.Bank.{dirs_of}
+use Rattle.machine_dirs.specs.Bank.{dirs_of}
 use Rattle.net_core.specs.Machine.{Machine, start_of, settings_of}
 use Rattle.net_core.specs.Delivery.{AreMarked}
 use Rattle.net_core.specs.Reached.{Reached}

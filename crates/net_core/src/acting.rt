@@ -1,10 +1,10 @@
 // A core executes, evicts, or takes a message.
 ghost use Rattle.std.specs.Prelude.{◌≡◌, ◌<◌, ◌↔◌, [], IsTrue, Some};
-ghost use Rattle.tcc_maps.specs.Bridge.{node_of};
-ghost use Rattle.tcc_maps.specs.Nodes.{Core, Exec, Evict, Deliver};
+ghost use Rattle.rules_maps.specs.Bridge.{node_of};
+ghost use Rattle.rules_maps.specs.Nodes.{Core, Exec, Evict, Deliver};
 ghost use Rattle.tcc_msg.specs.Plain.{msg_of};
-ghost use Rattle.tcc_rules.specs.Links.{in_flight};
-ghost use Rattle.in_flight.specs.Flights.{net_of};
+ghost use Rattle.rules_tcc.specs.Links.{in_flight};
+ghost use Rattle.machine_links.specs.Flights.{net_of};
 ghost use Rattle.net_core.specs.Answers.{Answers, refusal_of};
 
 use crate::system::System;

@@ -1,10 +1,10 @@
 // A message is delivered: to a core, to a directory, or to the vendor.
 ghost use Rattle.std.specs.Prelude.{◌≡◌, ◌<◌, ℕ, [], Some, if◌then◌else◌};
-ghost use Rattle.tcc_maps.specs.Bridge.{node_of};
-ghost use Rattle.tcc_maps.specs.Nodes.{Node, Msg as PlainMsg, Core, Deliver, Dir, Vendor};
+ghost use Rattle.rules_maps.specs.Bridge.{node_of};
+ghost use Rattle.rules_maps.specs.Nodes.{Node, Msg as PlainMsg, Core, Deliver, Dir, Vendor};
 ghost use Rattle.tcc_msg.specs.Plain.{msg_of};
-ghost use Rattle.tcc_rules.specs.Links.{in_flight, taking};
-ghost use Rattle.in_flight.specs.Flights.{is_ready, net_of};
+ghost use Rattle.rules_tcc.specs.Links.{in_flight, taking};
+ghost use Rattle.machine_links.specs.Flights.{is_ready, net_of};
 ghost use Rattle.net_core.specs.Answers.{Answers};
 ghost use Rattle.net_core.specs.Delivery.{is_consumed};
 
@@ -12,7 +12,7 @@ use crate::looking::{look_again, looks};
 use crate::system::System;
 use crate::taking::{Step, StepError};
 use directory::Handled;
-use in_flight::InFlight;
+use machine_links::InFlight;
 use tcc_base::{CoreId, DirId, NodeId};
 use tcc_msg::{Msg, Name};
 

@@ -1,7 +1,7 @@
 // The useful events: counted, by number, and as a list.
 ghost use Rattle.std.specs.Prelude.{◌≡◌, [], IfOk, length, map, slice_get, option_map};
 ghost use Rattle.tcc_msg.specs.Plain.{event_of};
-ghost use Rattle.tcc_rules.specs.Useful.{useful};
+ghost use Rattle.rules_tcc.specs.Useful.{useful};
 ghost use Rattle.net_core.specs.Machine.{program_of, settings_of, world_of};
 
 use crate::system::System;

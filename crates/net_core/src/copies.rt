@@ -1,10 +1,10 @@
 // Copies of the words of a line, and the newest of two at each place.
 ghost use Rattle.std.specs.Prelude.{◌≡◌, ◌<◌, ℕ, get_or, length};
-ghost use Rattle.tcc_maps.specs.Masks.{has};
-ghost use Rattle.tcc_maps.specs.Nodes.{WriteBack};
-ghost use Rattle.tcc_maps.specs.Words.{word_at};
+ghost use Rattle.rules_maps.specs.Masks.{has};
+ghost use Rattle.rules_maps.specs.Nodes.{WriteBack};
+ghost use Rattle.rules_maps.specs.Words.{word_at};
 ghost use Rattle.tcc_msg.specs.Plain.{msg_of};
-ghost use Rattle.tcc_rules.specs.Seen.{copy_of, newer};
+ghost use Rattle.rules_tcc.specs.Seen.{copy_of, newer};
 ghost use Rattle.net_core.specs.Copies.{AreNewest, nth_copy, plain_copy};
 
 use tcc_base::{LineAddr, Mask, Tid};

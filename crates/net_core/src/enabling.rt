@@ -1,9 +1,9 @@
 // Which events are enabled.
 ghost use Rattle.std.specs.Prelude.{◌≡◌, drop, is_some, option_map, slice_get};
-ghost use Rattle.tcc_maps.specs.Bridge.{node_of};
-ghost use Rattle.tcc_maps.specs.Nodes.{node_eq};
+ghost use Rattle.rules_maps.specs.Bridge.{node_of};
+ghost use Rattle.rules_maps.specs.Nodes.{node_eq};
 ghost use Rattle.tcc_msg.specs.Plain.{event_of, msg_of, sends_of};
-ghost use Rattle.tcc_rules.specs.Links.{in_flight};
+ghost use Rattle.rules_tcc.specs.Links.{in_flight};
 ghost use Rattle.net_core.specs.Answers.{step_of};
 ghost use Rattle.net_core.specs.Machine.{world_of};
 

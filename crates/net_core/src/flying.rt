@@ -1,9 +1,9 @@
 // What is in flight on a link, by rising number.
 ghost use Rattle.std.specs.Prelude.{◌≡◌, [], IfSome, Some, is_some, length, option_map, slice_get};
-ghost use Rattle.tcc_maps.specs.Bridge.{node_of};
-ghost use Rattle.tcc_maps.specs.Words.{those};
+ghost use Rattle.rules_maps.specs.Bridge.{node_of};
+ghost use Rattle.rules_maps.specs.Words.{those};
 ghost use Rattle.tcc_msg.specs.Plain.{msg_of};
-ghost use Rattle.tcc_rules.specs.Links.{in_flight};
+ghost use Rattle.rules_tcc.specs.Links.{in_flight};
 ghost use Rattle.net_core.specs.Machine.{world_of};
 
 use crate::system::System;

@@ -1,18 +1,18 @@
 // Which messages to a directory are looked at again once it has handled one.
 ghost use Rattle.std.specs.Prelude.{◌≡◌, ◌<◌, ◌⊎◌, ℕ, Some, true, false};
-ghost use Rattle.tcc_maps.specs.Nodes.{Node, Msg as PlainMsg, Core, Dir, node_eq};
+ghost use Rattle.rules_maps.specs.Nodes.{Node, Msg as PlainMsg, Core, Dir, node_eq};
 ghost use Rattle.tcc_msg.specs.Plain.{msg_of};
-ghost use Rattle.tcc_rules.specs.DirDeliver.{dir_deliver};
-ghost use Rattle.tcc_rules.specs.Links.{in_flight};
-ghost use Rattle.dir_bank.specs.Bank.{dirs_of};
+ghost use Rattle.rules_tcc.specs.DirDeliver.{dir_deliver};
+ghost use Rattle.rules_tcc.specs.Links.{in_flight};
+ghost use Rattle.machine_dirs.specs.Bank.{dirs_of};
 ghost use Rattle.directory.specs.Foreign.{is_foreign};
 ghost use Rattle.directory.specs.Gives.{is_taken};
-ghost use Rattle.in_flight.specs.Flights.{is_ready, net_of};
+ghost use Rattle.machine_links.specs.Flights.{is_ready, net_of};
 ghost use Rattle.net_core.specs.Taking.{is_seen, look_of, looks as plain_looks};
 
-use dir_bank::DirBank;
 use directory::Handled;
-use in_flight::{InFlight, Subject};
+use machine_dirs::DirBank;
+use machine_links::{InFlight, Subject};
 use tcc_base::{DirId, LineAddr, Tid};
 use tcc_msg::Msg;
 

@@ -1,7 +1,7 @@
 // The nodes of a machine in their order: cores by number, directories by number, the vendor.
 ghost use Rattle.std.specs.Prelude.{◌≡◌, length, option_map, slice_get};
-ghost use Rattle.tcc_maps.specs.Bridge.{node_of};
-ghost use Rattle.tcc_rules.specs.Useful.{nodes};
+ghost use Rattle.rules_maps.specs.Bridge.{node_of};
+ghost use Rattle.rules_tcc.specs.Useful.{nodes};
 
 use tcc_base::{Config, CoreId, DirId, NodeId};
 

@@ -1,19 +1,19 @@
 // Which lines have a copy away from their homes: in a core's frame, or in a message on its way from a core.
 ghost use Rattle.std.specs.Prelude.{◌≡◌, ◌≢◌, ◌<◌, ℕ, [], Some, IfOk};
-ghost use Rattle.tcc_maps.specs.Cache.{IsCache, dirty_mask};
-ghost use Rattle.tcc_maps.specs.Nodes.{Core, Dir};
-ghost use Rattle.tcc_maps.specs.Shape.{lines};
-ghost use Rattle.tcc_maps.specs.Words.{line_of};
+ghost use Rattle.rules_maps.specs.Cache.{IsCache, dirty_mask};
+ghost use Rattle.rules_maps.specs.Nodes.{Core, Dir};
+ghost use Rattle.rules_maps.specs.Shape.{lines};
+ghost use Rattle.rules_maps.specs.Words.{line_of};
 ghost use Rattle.tcc_msg.specs.Plain.{msg_of};
-ghost use Rattle.tcc_rules.specs.Seen.{copies_of, copies_on, copy_of};
+ghost use Rattle.rules_tcc.specs.Seen.{copies_of, copies_on, copy_of};
 ghost use Rattle.core_node.specs.View.{core_of};
-ghost use Rattle.in_flight.specs.Flights.{net_of};
+ghost use Rattle.machine_links.specs.Flights.{net_of};
 ghost use Rattle.net_core.specs.Away.{Covers, CoversCopies, is_noted};
 ghost use Rattle.net_core.specs.Machine.{settings_of, world_of};
 
 use crate::system::System;
 use core_node::CoreNode;
-use in_flight::InFlight;
+use machine_links::InFlight;
 use std::alloc::Global;
 use tcc_base::{CoreId, DirId, LineAddr, NoMemory, NodeId};
 use tcc_msg::Msg;

@@ -1,14 +1,14 @@
 // What a node sent is put on its links.
 ghost use Rattle.std.specs.Prelude.{◌≡◌, ℕ, [], drop, OnOk};
-ghost use Rattle.tcc_maps.specs.Bridge.{node_of};
+ghost use Rattle.rules_maps.specs.Bridge.{node_of};
 ghost use Rattle.tcc_msg.specs.Plain.{msg_of, sends_of};
-ghost use Rattle.tcc_rules.specs.Links.{sending};
-ghost use Rattle.in_flight.specs.Flights.{net_of};
-ghost use Rattle.dir_bank.specs.Bank.{dirs_of};
+ghost use Rattle.rules_tcc.specs.Links.{sending};
+ghost use Rattle.machine_links.specs.Flights.{net_of};
+ghost use Rattle.machine_dirs.specs.Bank.{dirs_of};
 ghost use Rattle.net_core.specs.Delivery.{AllMayGo, AreMarked, MayGo, is_deliverable};
 
-use dir_bank::DirBank;
-use in_flight::InFlight;
+use machine_dirs::DirBank;
+use machine_links::InFlight;
 use tcc_base::{NoMemory, NodeId};
 use tcc_msg::{Msg, Outgoing};
 

@@ -1,11 +1,11 @@
 // Whether an event is useful, and what the directories know.
 ghost use Rattle.std.specs.Prelude.{◌≡◌, ◌<◌, ◌↔◌, [], IsTrue, Some, option_map};
-ghost use Rattle.tcc_maps.specs.Lines.{has_mark};
-ghost use Rattle.tcc_maps.specs.Nodes.{Evict};
-ghost use Rattle.tcc_maps.specs.Shape.{home, lines};
-ghost use Rattle.tcc_maps.specs.Words.{count_below};
+ghost use Rattle.rules_maps.specs.Lines.{has_mark};
+ghost use Rattle.rules_maps.specs.Nodes.{Evict};
+ghost use Rattle.rules_maps.specs.Shape.{home, lines};
+ghost use Rattle.rules_maps.specs.Words.{count_below};
 ghost use Rattle.tcc_msg.specs.Plain.{event_of};
-ghost use Rattle.tcc_rules.specs.Useful.{is_useful};
+ghost use Rattle.rules_tcc.specs.Useful.{is_useful};
 ghost use Rattle.net_core.specs.Machine.{program_of, settings_of, world_of};
 
 use crate::system::System;

@@ -1,11 +1,11 @@
 // What is committed, and what the nodes hold.
 ghost use Rattle.std.specs.Prelude.{◌≡◌, ◌<◌, ◌↔◌, [], IsTrue, IfOk, length};
 ghost use Rattle.core_node.specs.View.{core_of};
-ghost use Rattle.tcc_maps.specs.Bridge.{node_of};
-ghost use Rattle.tcc_maps.specs.Shape.{lines};
-ghost use Rattle.tcc_program.specs.Cores.{printed};
-ghost use Rattle.tcc_rules.specs.Seen.{IsDone};
-ghost use Rattle.tcc_serial.specs.Commits.{end_after};
+ghost use Rattle.rules_maps.specs.Bridge.{node_of};
+ghost use Rattle.rules_maps.specs.Shape.{lines};
+ghost use Rattle.rules_program.specs.Cores.{printed};
+ghost use Rattle.rules_tcc.specs.Seen.{IsDone};
+ghost use Rattle.theorem_serial.specs.Commits.{end_after};
 ghost use Rattle.net_core.specs.Machine.{settings_of, world_of};
 
 use crate::system::System;

@@ -1,19 +1,19 @@
 // Words as the commits left them, wherever the newest copy is.
 ghost use Rattle.std.specs.Prelude.{◌≡◌, ◌<◌, ◌*◌, ◌/◌, [], map};
 ghost use Rattle.std.specs.List.{range_with_len};
-ghost use Rattle.tcc_maps.specs.Cache.{IsCache};
-ghost use Rattle.tcc_maps.specs.Nodes.{Core, Dir};
-ghost use Rattle.tcc_maps.specs.Words.{word_at};
-ghost use Rattle.tcc_rules.specs.Seen.{copies_on, copy_in, seen};
-ghost use Rattle.in_flight.specs.Flights.{net_of};
-ghost use Rattle.core_bank.specs.Bank.{cores_of};
+ghost use Rattle.rules_maps.specs.Cache.{IsCache};
+ghost use Rattle.rules_maps.specs.Nodes.{Core, Dir};
+ghost use Rattle.rules_maps.specs.Words.{word_at};
+ghost use Rattle.rules_tcc.specs.Seen.{copies_on, copy_in, seen};
+ghost use Rattle.machine_links.specs.Flights.{net_of};
+ghost use Rattle.machine_cores.specs.Bank.{cores_of};
 ghost use Rattle.net_core.specs.Machine.{settings_of, world_of};
 ghost use Rattle.net_core.specs.Copies.{AreNewest};
 
 use crate::copies::{Copied, dated, newest_in_msg, newest_under, values};
 use crate::system::System;
-use core_bank::CoreBank;
-use in_flight::InFlight;
+use machine_cores::CoreBank;
+use machine_links::InFlight;
 use tcc_base::{CoreId, DirId, LineAddr, NodeId, WordAddr};
 
 /// Makes of each copy the newest of it and those of all messages from a core to a directory.

@@ -1,7 +1,7 @@
 // RAM as the commits left it, read line by line.
 ghost use Rattle.std.specs.Prelude.{◌≡◌, ◌<◌, ◌*◌, ◌/◌, [], IfOk, map};
 ghost use Rattle.std.specs.List.{range_with_len};
-ghost use Rattle.tcc_rules.specs.Seen.{seen};
+ghost use Rattle.rules_tcc.specs.Seen.{seen};
 ghost use Rattle.net_core.specs.Machine.{settings_of, world_of};
 
 use crate::noting::is_noted;

@@ -5,11 +5,11 @@ ghost use Rattle.net_core.specs.Machine.{history_of};
 ghost use Rattle.net_core.specs.Reached.{Reached, first_history};
 
 use crate::placing::place_all;
-use commit_list::CommitList;
-use core_bank::CoreBank;
-use dir_bank::DirBank;
 use image_load::Loaded;
-use in_flight::InFlight;
+use machine_commits::CommitList;
+use machine_cores::CoreBank;
+use machine_dirs::DirBank;
+use machine_links::InFlight;
 use rv_code::Code;
 use std::alloc::Global;
 use std::marker::Model;

@@ -2,7 +2,7 @@
 ghost use Rattle.std.specs.Prelude.{◌≡◌, ◌≢◌, ◌+◌, ◌<◌, ◌≤◌, ◌↔◌, [], length, Err, IsTrue, None, Some, IsErrOf, IfOk, IfErr, OnOk, OnErr};
 ghost use Rattle.std.specs.Prelude.{is_ok, if◌then◌else◌};
 ghost use Rattle.tcc_msg.specs.Plain.{event_of, sends_of};
-ghost use Rattle.tcc_rules.specs.Step.{next_history};
+ghost use Rattle.rules_tcc.specs.Step.{next_history};
 ghost use Rattle.net_core.specs.Answers.{Answers, IsSent, Kept, Ran, StoppedAt, acts_in, step_of, tid_noted, tid_told};
 ghost use Rattle.net_core.specs.Machine.{history_of, program_of, settings_of, world_of};
 

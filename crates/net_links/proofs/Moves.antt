@@ -7,7 +7,7 @@ use lib.ListN.{get_elem?}
 use Rattle.crossbeam_queue.specs.Fifo.{Pushes, Pops, Forks, Merges}
 use Rattle.crossbeam_queue.proofs.Lists.{at_set, at_snoc}
 use Rattle.tcc_msg.specs.Plain.{msg_of}
-use Rattle.node_logs.specs.declared.logs.Mail.{Mail}
+use Rattle.rules_apart.specs.declared.logs.Mail.{Mail}
 use Rattle.net_links.specs.declared.rule.Ends.{Ends}
 use Rattle.net_links.specs.declared.rule.Hand.{Hand}
 use Rattle.net_links.specs.Linked.{StartsWith, MayCarry, both_hands, outlet_hand, inlet_hand, receipt, Traffic, Shows, Linked}

@@ -4,7 +4,7 @@ use Rattle.std.specs.Prelude.{All}
 use mathlib.Core.Option.{some, some-ne-none}
 use lib.ListN.{get_elem?}
 use Rattle.crossbeam_queue.proofs.Lists.{at_set, at_snoc}
-use Rattle.node_logs.specs.declared.logs.Mail.{Mail}
+use Rattle.rules_apart.specs.declared.logs.Mail.{Mail}
 use Rattle.net_links.specs.declared.rule.Hand.{Hand}
 
 -- what is so of each pass and its view

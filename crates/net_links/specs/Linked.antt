@@ -4,11 +4,11 @@ use Rattle.std.specs.Prelude.{◌≡◌, ℕ, Bool, true, false, List, [], ◌++
 use mathlib.Core.Option.{some}
 use lib.ListN.{get_elem?}
 use Rattle.tcc_base.specs.declared.names.NodeId.TheVariants.{Vendor}
-use Rattle.tcc_maps.specs.Bridge.{node_of}
-use Rattle.tcc_maps.specs.Nodes.{Msg}
+use Rattle.rules_maps.specs.Bridge.{node_of}
+use Rattle.rules_maps.specs.Nodes.{Msg}
 use Rattle.tcc_msg.specs.Plain.{msg_of}
-use Rattle.node_logs.specs.Carried.{IsCarried}
-use Rattle.node_logs.specs.declared.logs.Mail.{Mail}
+use Rattle.rules_apart.specs.Carried.{IsCarried}
+use Rattle.rules_apart.specs.declared.logs.Mail.{Mail}
 use Rattle.net_links.specs.declared.rule.Ends.{Ends}
 use Rattle.net_links.specs.declared.rule.Hand.{Hand}
 

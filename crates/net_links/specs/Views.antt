@@ -2,7 +2,7 @@
 use Rattle.std.specs.Prelude.{List}
 use Rattle.std.specs.declared.alloc.Global.{Global}
 use Rattle.crossbeam_queue.specs.SegTies.{SegId}
-use Rattle.node_logs.specs.declared.logs.Mail.{Mail}
+use Rattle.rules_apart.specs.declared.logs.Mail.{Mail}
 use Rattle.net_links.specs.declared.rule.Ends.{Ends}
 
 -- what tells one link from another

@@ -7,7 +7,7 @@ ghost use Rattle.net_links.specs.Linked.{MayCarry, receipt};
 
 use crate::rule::{Acknowledges, Popped};
 use crate::wire::{Pass, Wire};
-use node_logs::Mail;
+use rules_apart::Mail;
 use std::alloc::Global;
 use std::marker::Model;
 use std::sync::{Arc, Wait};

@@ -8,7 +8,7 @@ ghost use Rattle.net_links.specs.Linked.{MayCarry, StartsWith};
 use crate::inlet::Inlet;
 use crate::rule::{Hears, Pushed};
 use crate::wire::{Pass, Wire};
-use node_logs::Mail;
+use rules_apart::Mail;
 use std::alloc::Global;
 use std::marker::Model;
 use std::sync::{Arc, Wait};

@@ -1,7 +1,7 @@
 // The rule of a link's queue, and what each step upon it tells. But for `Ends`, no value of these types is made.
 
 use crossbeam_queue::protocol::{Join, Lesson, Outcome, Protocol, Split};
-use node_logs::Mail;
+use rules_apart::Mail;
 use std::collections::LinkedList;
 use std::marker::{Brand, PhantomData};
 use tcc_base::{Config, NodeId};

@@ -8,7 +8,7 @@ use crate::inlet::Inlet;
 use crate::outlet::Outlet;
 use crate::rule::{Ends, Hand, InOrder, Placed, Roles};
 use crossbeam_queue::{RuledSegQueue, SegPass};
-use node_logs::Mail;
+use rules_apart::Mail;
 use std::alloc::Global;
 use std::marker::Brand;
 use std::sync::Arc;

@@ -2,10 +2,10 @@
 use Rattle.std.proofs.Common.{◌≡◌, ℕ, suc, ap, sym, ◌∙◌, subst}
 use Rattle.rand_pcg.specs.Lcg.{Lcg}
 use Rattle.rand_pcg.specs.Pcg.{pcg32}
-use Rattle.logged_node.specs.Acts.{AnswersAct}
-use Rattle.logged_node.specs.Node.{NodeData}
-use Rattle.logged_node.specs.declared.node.Act.{Act}
-use Rattle.logged_node.specs.declared.node.Act.TheVariants.{Moved}
+use Rattle.apart_node.specs.Acts.{AnswersAct}
+use Rattle.apart_node.specs.Node.{NodeData}
+use Rattle.apart_node.specs.declared.node.Act.{Act}
+use Rattle.apart_node.specs.declared.node.Act.TheVariants.{Moved}
 use Rattle.node_locks.specs.Turns.{MovedOn, after_words, nth_word}
 
 module _ (g words : Lcg) (n k pick : ℕ) (drawn : Lcg) (at : words ≡ after_words n g) (draws : (pick, drawn) ≡ pcg32 words) where

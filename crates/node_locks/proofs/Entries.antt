@@ -4,11 +4,11 @@ use Rattle.std.specs.Prelude.{reverse, All}
 use Rattle.std.proofs.lemmas.List.{reverse-append, length-append}
 use Rattle.std.proofs.lemmas.List.Elements.{All-head, All-tail}
 use Rattle.rand_pcg.specs.Lcg.{Lcg}
-use Rattle.logged_node.specs.Acts.{AnswersAct}
-use Rattle.logged_node.specs.Node.{NodeData}
-use Rattle.logged_node.specs.declared.node.Act.{Act}
-use Rattle.logged_node.specs.declared.node.Act.TheVariants.{Moved, Idle, Memory}
-use Rattle.node_logs.specs.declared.logs.Logged.{Logged}
+use Rattle.apart_node.specs.Acts.{AnswersAct}
+use Rattle.apart_node.specs.Node.{NodeData}
+use Rattle.apart_node.specs.declared.node.Act.{Act}
+use Rattle.apart_node.specs.declared.node.Act.TheVariants.{Moved, Idle, Memory}
+use Rattle.rules_apart.specs.declared.logs.Logged.{Logged}
 use Rattle.node_locks.specs.Turns.{ActedOn, MovedOn, entries_by, entries_in, moved_in}
 use Rattle.node_locks.specs.Wiring.{logs_of}
 use Rattle.node_locks.specs.declared.acts.Acts.{Acts}

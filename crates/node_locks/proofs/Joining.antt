@@ -7,8 +7,8 @@ use Rattle.std.proofs.lemmas.Bool.Decides.{nat_tests}
 use Rattle.std.proofs.lemmas.List.{length-append, length-replicate}
 use Rattle.std.proofs.lemmas.Option.{slice_get_within}
 use Rattle.tcc_base.specs.Settings.{Settings}
-use Rattle.node_logs.specs.Fitting.{node_count}
-use Rattle.logged_node.specs.Ports.{PortData, IsPortAt, IsUnused}
+use Rattle.rules_apart.specs.Fitting.{node_count}
+use Rattle.apart_node.specs.Ports.{PortData, IsPortAt, IsUnused}
 use Rattle.node_locks.specs.Joining.{AreJoined, AreJoinedTo, ports_due}
 use Rattle.node_locks.specs.Places.{nth_node}
 use Rattle.node_locks.proofs.Lists.{get-set, get-set_other, length-set}

@@ -7,14 +7,14 @@ use Rattle.std.proofs.lemmas.Bool.Decides.{nat_tests}
 use Rattle.std.proofs.lemmas.Option.{slice_get_within}
 use Rattle.image_load.specs.Contents.{Contents}
 use Rattle.tcc_base.specs.Settings.{Settings}
-use Rattle.tcc_maps.specs.Bridge.{node_of}
-use Rattle.tcc_maps.specs.Nodes.{Core, Dir, Vendor}
-use Rattle.logged_node.specs.Acts.{SameNode}
-use Rattle.logged_node.specs.Linked.{IsLinkedTo}
-use Rattle.logged_node.specs.Moves.{Both, Room, SameLinks}
-use Rattle.logged_node.specs.Node.{NodeData, here}
-use Rattle.logged_node.specs.Peers.{seat}
-use Rattle.logged_node.specs.Ports.{PortData, RoomData, port_to}
+use Rattle.rules_maps.specs.Bridge.{node_of}
+use Rattle.rules_maps.specs.Nodes.{Core, Dir, Vendor}
+use Rattle.apart_node.specs.Acts.{SameNode}
+use Rattle.apart_node.specs.Linked.{IsLinkedTo}
+use Rattle.apart_node.specs.Moves.{Both, Room, SameLinks}
+use Rattle.apart_node.specs.Node.{NodeData, here}
+use Rattle.apart_node.specs.Peers.{seat}
+use Rattle.apart_node.specs.Ports.{PortData, RoomData, port_to}
 use Rattle.node_locks.specs.Places.{nth_node}
 use Rattle.node_locks.specs.Wiring.{AreNodes, IsOf, Wiring, are_peers, link_to, link_from}
 use Rattle.node_locks.proofs.Lists.{get-set, get-set_other, length-set}

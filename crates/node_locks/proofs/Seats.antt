@@ -10,14 +10,14 @@ use Rattle.std.proofs.lemmas.Option.{slice_get_within, slice_get-map}
 use Rattle.image_load.specs.Contents.{Contents}
 use Rattle.tcc_base.specs.Settings.{Settings}
 use Rattle.tcc_base.specs.declared.names.NodeId.{NodeId}
-use Rattle.tcc_maps.specs.Bridge.{node_of}
-use Rattle.tcc_maps.specs.Nodes.{Node, Core, Dir, Vendor}
-use Rattle.node_logs.specs.Fitting.{node_count}
-use Rattle.node_logs.specs.declared.logs.Logged.{Logged}
-use Rattle.logged_node.specs.Linked.{IsLinkedTo}
-use Rattle.logged_node.specs.Node.{NodeData, here}
-use Rattle.logged_node.specs.Peers.{seat, peer_count}
-use Rattle.logged_node.specs.Ports.{ArePorts, IsPortAt, IsUnused, PortData, RoomData, port_to}
+use Rattle.rules_maps.specs.Bridge.{node_of}
+use Rattle.rules_maps.specs.Nodes.{Node, Core, Dir, Vendor}
+use Rattle.rules_apart.specs.Fitting.{node_count}
+use Rattle.rules_apart.specs.declared.logs.Logged.{Logged}
+use Rattle.apart_node.specs.Linked.{IsLinkedTo}
+use Rattle.apart_node.specs.Node.{NodeData, here}
+use Rattle.apart_node.specs.Peers.{seat, peer_count}
+use Rattle.apart_node.specs.Ports.{ArePorts, IsPortAt, IsUnused, PortData, RoomData, port_to}
 use Rattle.node_locks.specs.Joining.{AreJoinedTo, ports_due}
 use Rattle.node_locks.specs.Places.{nth_node}
 use Rattle.node_locks.specs.Starting.{IsFresh}

@@ -6,14 +6,14 @@ use Rattle.std.proofs.lemmas.Bool.Decides.{nat_tests}
 use Rattle.std.proofs.lemmas.Option.{slice_get_within}
 use Rattle.image_load.specs.Contents.{Contents}
 use Rattle.tcc_base.specs.Settings.{Settings}
-use Rattle.tcc_maps.specs.Bridge.{node_of}
-use Rattle.tcc_maps.specs.Nodes.{Node, Core, Dir, Vendor}
-use Rattle.tcc_rules.specs.Step.{is_node}
-use Rattle.node_logs.specs.Fitting.{place, node_count}
-use Rattle.logged_node.specs.Linked.{IsLinkedTo}
-use Rattle.logged_node.specs.Node.{NodeData, here}
-use Rattle.logged_node.specs.Peers.{seat}
-use Rattle.logged_node.specs.Ports.{PortData, RoomData, port_to}
+use Rattle.rules_maps.specs.Bridge.{node_of}
+use Rattle.rules_maps.specs.Nodes.{Node, Core, Dir, Vendor}
+use Rattle.rules_tcc.specs.Step.{is_node}
+use Rattle.rules_apart.specs.Fitting.{place, node_count}
+use Rattle.apart_node.specs.Linked.{IsLinkedTo}
+use Rattle.apart_node.specs.Node.{NodeData, here}
+use Rattle.apart_node.specs.Peers.{seat}
+use Rattle.apart_node.specs.Ports.{PortData, RoomData, port_to}
 use Rattle.node_locks.specs.Hearing.{AllAreNodes}
 use Rattle.node_locks.specs.Places.{nth_node}
 use Rattle.node_locks.specs.Wiring.{AreNodes, AreOf, NodesData, Wiring, are_peers, link_of, link_to, link_from, links_of}

@@ -1,8 +1,8 @@
 -- Nodes that have heard of one another.
 use Rattle.std.specs.Prelude.{ℕ, ◌≡◌, ◌+◌, ◌<◌, List, ◌++◌, slice_get, Some}
 use Rattle.image_load.specs.Contents.{Contents}
-use Rattle.tcc_rules.specs.Local.{Mail}
-use Rattle.logged_node.specs.Node.{NodeData, IsNode, got_from, here, sent_to}
+use Rattle.rules_tcc.specs.Local.{Mail}
+use Rattle.apart_node.specs.Node.{NodeData, IsNode, got_from, here, sent_to}
 use Rattle.node_locks.specs.Wiring.{AreNodes}
 
 -- what the second has taken of the first is a beginning of what that has sent it

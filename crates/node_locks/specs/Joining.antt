@@ -1,8 +1,8 @@
 -- The ports of all nodes while they are made: for one core after the other, and for each the nodes behind the cores.
 use Rattle.std.specs.Prelude.{ℕ, ◌≡◌, ◌+◌, ◌-◌, ◌<◌, ◌==◌, nat_lt, List, length, slice_get, Some, if◌then◌else◌}
 use Rattle.tcc_base.specs.Settings.{Settings}
-use Rattle.node_logs.specs.Fitting.{node_count}
-use Rattle.logged_node.specs.Ports.{PortData, IsPortAt, IsUnused}
+use Rattle.rules_apart.specs.Fitting.{node_count}
+use Rattle.apart_node.specs.Ports.{PortData, IsPortAt, IsUnused}
 use Rattle.node_locks.specs.Places.{nth_node}
 
 -- what the one sends comes to the other

@@ -1,7 +1,7 @@
 -- A node that has done nothing.
 use Rattle.std.specs.Prelude.{ℕ, ◌≡◌, []}
 use Rattle.image_load.specs.Contents.{Contents}
-use Rattle.logged_node.specs.Node.{NodeData}
+use Rattle.apart_node.specs.Node.{NodeData}
 use Rattle.node_locks.specs.Wiring.{IsPlaced}
 
 -- the node of that place, with this program and nothing in its log

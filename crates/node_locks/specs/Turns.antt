@@ -2,11 +2,11 @@
 use Rattle.std.specs.Prelude.{ℕ, zero, suc, ◌≡◌, ◌+◌, ◌<◌, List, [], ◌∷◌, length, Some, slice_get, slice_set}
 use Rattle.rand_pcg.specs.Lcg.{Lcg}
 use Rattle.rand_pcg.specs.Pcg.{pcg32}
-use Rattle.node_logs.specs.declared.logs.Logged.{Logged}
-use Rattle.logged_node.specs.Acts.{AnswersAct}
-use Rattle.logged_node.specs.Node.{NodeData}
-use Rattle.logged_node.specs.declared.node.Act.{Act}
-use Rattle.logged_node.specs.declared.node.Act.TheVariants.{Moved, Idle, Memory}
+use Rattle.rules_apart.specs.declared.logs.Logged.{Logged}
+use Rattle.apart_node.specs.Acts.{AnswersAct}
+use Rattle.apart_node.specs.Node.{NodeData}
+use Rattle.apart_node.specs.declared.node.Act.{Act}
+use Rattle.apart_node.specs.declared.node.Act.TheVariants.{Moved, Idle, Memory}
 use Rattle.node_locks.specs.Wiring.{NodesData}
 use Rattle.node_locks.specs.declared.acts.Acts.{Acts}
 

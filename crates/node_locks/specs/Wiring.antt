@@ -2,14 +2,14 @@
 use Rattle.std.specs.Prelude.{ℕ, true, ◌≡◌, Bool, List, length, map, slice_get, Option, Some, None, is_some, option_map}
 use Rattle.image_load.specs.Contents.{Contents}
 use Rattle.tcc_base.specs.Settings.{Settings}
-use Rattle.tcc_maps.specs.Nodes.{Node}
+use Rattle.rules_maps.specs.Nodes.{Node}
 use Rattle.net_links.specs.Views.{LinkId}
-use Rattle.node_logs.specs.Fitting.{place, node_count}
-use Rattle.node_logs.specs.declared.logs.Logged.{Logged}
-use Rattle.logged_node.specs.Linked.{IsLinkedTo}
-use Rattle.logged_node.specs.Node.{NodeData, here}
-use Rattle.logged_node.specs.Peers.{seat}
-use Rattle.logged_node.specs.Ports.{port_to}
+use Rattle.rules_apart.specs.Fitting.{place, node_count}
+use Rattle.rules_apart.specs.declared.logs.Logged.{Logged}
+use Rattle.apart_node.specs.Linked.{IsLinkedTo}
+use Rattle.apart_node.specs.Node.{NodeData, here}
+use Rattle.apart_node.specs.Peers.{seat}
+use Rattle.apart_node.specs.Ports.{port_to}
 use Rattle.node_locks.specs.Places.{nth_node}
 
 pub record NodesData : Type 0 where

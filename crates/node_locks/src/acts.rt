@@ -4,7 +4,7 @@ ghost use Rattle.image_load.specs.Contents.{Contents};
 ghost use Rattle.node_locks.specs.Turns.{ActedOn, IsTurn, after_words, moved_in};
 ghost use Rattle.node_locks.specs.Wiring.{IsOf, Wiring};
 
-use logged_node::{Act, Node};
+use apart_node::{Act, Node};
 use rand_core::utils::NextWord;
 use rand_pcg::Lcg64Xsh32;
 use std::sync::Wait;

@@ -1,14 +1,14 @@
 // What the nodes of one machine are together, once they have heard of one another.
 ghost use Rattle.std.specs.Prelude.{◌≡◌, ℕ, ◌≤◌, ◌<◌, [], Some, slice_get, vec_len, vec_capacity};
 ghost use Rattle.image_load.specs.Contents.{started};
-ghost use Rattle.logged_node.specs.Linked.{IsLinkedTo};
-ghost use Rattle.logged_node.specs.Node.{NodeData};
-ghost use Rattle.node_logs.specs.Fitting.{FitLogs};
+ghost use Rattle.apart_node.specs.Linked.{IsLinkedTo};
+ghost use Rattle.apart_node.specs.Node.{NodeData};
+ghost use Rattle.rules_apart.specs.Fitting.{FitLogs};
 ghost use Rattle.node_locks.specs.Hearing.{AllAreNodes, AllHaveMet, HasMetAll};
 ghost use Rattle.node_locks.specs.Wiring.{AreNodes, logs_of};
 
-use logged_node::Node;
-use node_logs::Logged;
+use apart_node::Node;
+use rules_apart::Logged;
 use rv_code::Code;
 use std::sync::Wait;
 use tcc_base::List;

@@ -6,7 +6,7 @@ ghost use Rattle.node_locks.specs.Wiring.{IsOf};
 use crate::acts::{Acts, act_on};
 use crate::setup::Setup;
 use crate::ticket::Ticket;
-use logged_node::Node;
+use apart_node::Node;
 use rand_pcg::Lcg64Xsh32;
 use std::marker::PhantomData;
 use std::sync::ledger::{Book, Ledger, Share};

@@ -2,7 +2,7 @@
 ghost use Rattle.std.specs.Prelude.{◌≡◌, ℕ, suc, ◌+◌, ◌^◌, ◌<◌, ◌≤◌, [], All, IfOk, IfErr, length, vec_capacity, vec_len};
 ghost use Rattle.std.specs.Arc.{arc_value};
 ghost use Rattle.image_load.specs.Contents.{started};
-ghost use Rattle.node_logs.specs.Fitting.{FitLogs, node_count};
+ghost use Rattle.rules_apart.specs.Fitting.{FitLogs, node_count};
 ghost use Rattle.node_locks.specs.Turns.{IsTurn, after_words, entries_in, moved_in};
 ghost use Rattle.node_locks.specs.Wiring.{AreOf, links_of, logs_of};
 
@@ -13,9 +13,9 @@ use crate::nodes::Nodes;
 use crate::places::all_placed;
 use crate::setup::Setup;
 use crate::ticket::Ticket;
-use logged_node::Node;
-use node_logs::Logs;
+use apart_node::Node;
 use rand_pcg::Lcg64Xsh32;
+use rules_apart::Logs;
 use rv_code::Code;
 use std::alloc::Global;
 use std::sync::ledger::{Blank, Ledger, Share};

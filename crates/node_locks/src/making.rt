@@ -2,20 +2,20 @@
 ghost use Rattle.std.specs.Prelude.{◌≡◌, ℕ, ◌+◌, ◌<◌, ◌≤◌, [], All, IfOk, OnOk, replicate};
 ghost use Rattle.std.specs.Arc.{arc_value};
 ghost use Rattle.image_load.specs.Contents.{started};
-ghost use Rattle.rv_serial.specs.Suiting.{world_at_start};
-ghost use Rattle.tcc_maps.specs.Bridge.{node_of};
-ghost use Rattle.tcc_rules.specs.Local.{state_at};
-ghost use Rattle.node_member.specs.Data.{state_of};
-ghost use Rattle.node_logs.specs.Fitting.{node_count};
+ghost use Rattle.theorem_riscv.specs.Suiting.{world_at_start};
+ghost use Rattle.rules_maps.specs.Bridge.{node_of};
+ghost use Rattle.rules_tcc.specs.Local.{state_at};
+ghost use Rattle.apart_member.specs.Data.{state_of};
+ghost use Rattle.rules_apart.specs.Fitting.{node_count};
 ghost use Rattle.node_locks.specs.Joining.{AreJoinedTo};
 ghost use Rattle.node_locks.specs.Places.{nth_node};
 ghost use Rattle.node_locks.specs.Wiring.{AreNodes, logs_of};
 
 use crate::places::nth_node;
+use apart_member::Member;
+use apart_node::{Node, Port};
 use image_load::Loaded;
-use logged_node::{Node, Port};
 use net_links::link;
-use node_member::Member;
 use rv_code::Code;
 use std::alloc::Global;
 use std::sync::Arc;

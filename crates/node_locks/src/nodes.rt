@@ -2,16 +2,16 @@
 ghost use Rattle.std.specs.Prelude.{◌≡◌, ℕ, ◌<◌, [], IfOk, IfErr, All, map};
 ghost use Rattle.std.specs.Arc.{arc_value};
 ghost use Rattle.image_load.specs.Contents.{started};
-ghost use Rattle.node_logs.specs.Fitting.{FitLogs, node_count};
+ghost use Rattle.rules_apart.specs.Fitting.{FitLogs, node_count};
 ghost use Rattle.node_locks.specs.Turns.{ActedAt};
 ghost use Rattle.node_locks.specs.Wiring.{AreNodes, logs_of};
 
 use crate::closing::{fit, take_logs};
 use crate::making::{join_all, seat_all};
 use crate::ringing::hang_bells;
+use apart_node::{Act, Node};
 use image_load::Loaded;
-use logged_node::{Act, Node};
-use node_logs::Logs;
+use rules_apart::Logs;
 use rv_code::Code;
 use std::alloc::Global;
 use std::marker::Model;

@@ -1,11 +1,11 @@
 // Nodes by their places.
 ghost use Rattle.std.specs.Prelude.{◌≡◌, ℕ, ◌<◌, IsTrue, Some, length, slice_get};
-ghost use Rattle.logged_node.specs.Node.{NodeData, here};
-ghost use Rattle.node_logs.specs.Fitting.{node_count};
+ghost use Rattle.apart_node.specs.Node.{NodeData, here};
+ghost use Rattle.rules_apart.specs.Fitting.{node_count};
 ghost use Rattle.node_locks.specs.Places.{nth_node};
-ghost use Rattle.tcc_maps.specs.Bridge.{node_of};
+ghost use Rattle.rules_maps.specs.Bridge.{node_of};
 
-use logged_node::Node;
+use apart_node::Node;
 use tcc_base::{Config, CoreId, DirId, NodeId};
 
 /// The node at a place.

@@ -1,7 +1,7 @@
 // Bells between the nodes of a machine.
 ghost use Rattle.std.specs.Prelude.{◌≡◌, ◌≤◌, length};
 
-use logged_node::Node;
+use apart_node::Node;
 use tcc_base::NoMemory;
 
 // A node and each of the others ring at one another.

@@ -1,17 +1,17 @@
 -- Where a run of the machine with one bus is done all cores have ended, and so what it shows is an outcome.
 use Rattle.std.proofs.Common.{◌≡◌, true, Option, Some, None, IfSome, nat_lt, arith}
 use Rattle.std.proofs.lemmas.Bool.Decides.{nat_tests}
-use Rattle.bus_rules.specs.Step.{BusHistory, bus_run}
-use Rattle.bus_rules.specs.Useful.{BusIsDone}
-use Rattle.bus_serial.proofs.Lemmas.{bus_runs_give_the_plain_machine}
-use Rattle.bus_serial.specs.Given.{BusSerial, bus_at_start, bus_committed}
+use Rattle.rules_bus.specs.Step.{BusHistory, bus_run}
+use Rattle.rules_bus.specs.Useful.{BusIsDone}
+use Rattle.theorem_bus.proofs.Lemmas.{bus_runs_give_the_plain_machine}
+use Rattle.theorem_bus.specs.Given.{BusSerial, bus_at_start, bus_committed}
 use Rattle.image_load.specs.Contents.{started}
 use Rattle.image_load.specs.Start.{Start}
-use Rattle.outcomes_text.specs.Laws.{HasOutcome}
-use Rattle.outcomes_text.specs.Table.{table_of}
+use Rattle.text_outcomes.specs.Laws.{HasOutcome}
+use Rattle.text_outcomes.specs.Table.{table_of}
 use Rattle.run_outcomes.specs.Outcomes.{HaveEnded}
 use Rattle.rv_code.specs.Machine.{first_ram, program}
-use Rattle.rv_serial.specs.Suiting.{local_at_start}
+use Rattle.theorem_riscv.specs.Suiting.{local_at_start}
 use Rattle.outcomes_law.specs.Laws.{DoneBusRunsAreOutcomes, shown}
 use Rattle.outcomes_law.proofs.BusHalts.{BusFit, bus-run-fits}
 use Rattle.outcomes_law.proofs.Done.{core-ended}

@@ -1,19 +1,19 @@
 -- On the machine with one bus too a core that has halted did so by a halt or a trap.
 use Rattle.std.proofs.Common.{ℕ, Bool, true, false, List, [], ◌∷◌, Option, Some, None, IfSome, if◌then◌else◌, refl, arith}
 use Rattle.std.proofs.lemmas.Bool.Decides.{nat_tests}
-use Rattle.bus_rules.specs.Commit.{BusStepped, all_clean, bus_commit, commit_out}
-use Rattle.bus_rules.specs.Exec.{bus_exec, bus_exec_in_phase, exec_alone, executed, goes_on, gone_alone, instruction, line_at_hand}
-use Rattle.bus_rules.specs.Exec.{when_free}
-use Rattle.bus_rules.specs.State.{Bus, Free, Alone, Packet, BusWorld, BusEvent, Exec, Evict, Take, bus_start}
-use Rattle.bus_rules.specs.Step.{BusHistory, and_then, bus_from, bus_happens, bus_names, bus_next, bus_run, bus_step, if_evicted, recorded}
-use Rattle.bus_rules.specs.Take.{bus_left, bus_take, packet_invalidated, packet_taken, reads_some, take_from}
-use Rattle.tcc_maps.specs.Shape.{Shape}
-use Rattle.tcc_maps.specs.Words.{put}
-use Rattle.tcc_program.specs.Program.{Local, Need, Ends, Halts, Traps, Program}
-use Rattle.tcc_rules.specs.Attempt.{Out, finished, is_solo, roll_back}
-use Rattle.tcc_rules.specs.Commit.{commit, solo_commit}
-use Rattle.tcc_rules.specs.CoreEvict.{core_evict}
-use Rattle.tcc_rules.specs.State.{CoreState, Phase, Running, AwaitTid, Overflowing, Solo, core_start}
+use Rattle.rules_bus.specs.Commit.{BusStepped, all_clean, bus_commit, commit_out}
+use Rattle.rules_bus.specs.Exec.{bus_exec, bus_exec_in_phase, exec_alone, executed, goes_on, gone_alone, instruction, line_at_hand}
+use Rattle.rules_bus.specs.Exec.{when_free}
+use Rattle.rules_bus.specs.State.{Bus, Free, Alone, Packet, BusWorld, BusEvent, Exec, Evict, Take, bus_start}
+use Rattle.rules_bus.specs.Step.{BusHistory, and_then, bus_from, bus_happens, bus_names, bus_next, bus_run, bus_step, if_evicted, recorded}
+use Rattle.rules_bus.specs.Take.{bus_left, bus_take, packet_invalidated, packet_taken, reads_some, take_from}
+use Rattle.rules_maps.specs.Shape.{Shape}
+use Rattle.rules_maps.specs.Words.{put}
+use Rattle.rules_program.specs.Program.{Local, Need, Ends, Halts, Traps, Program}
+use Rattle.rules_tcc.specs.Attempt.{Out, finished, is_solo, roll_back}
+use Rattle.rules_tcc.specs.Commit.{commit, solo_commit}
+use Rattle.rules_tcc.specs.CoreEvict.{core_evict}
+use Rattle.rules_tcc.specs.State.{CoreState, Phase, Running, AwaitTid, Overflowing, Solo, core_start}
 use Rattle.outcomes_law.proofs.Halts.{Fits, OutFits, commit-fits, evict-fits, exec-fits, solo-fits}
 
 abbrev pub BusFit : BusWorld → Type 0

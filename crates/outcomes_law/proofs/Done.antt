@@ -3,20 +3,20 @@ use Rattle.std.proofs.Common.{◌≡◌, ◌<◌, ℕ, true, Option, Some, None,
 use Rattle.std.proofs.lemmas.Bool.Decides.{nat_tests}
 use Rattle.image_load.specs.Contents.{started}
 use Rattle.image_load.specs.Start.{Start}
-use Rattle.outcomes_text.specs.Laws.{HasOutcome}
-use Rattle.outcomes_text.specs.Table.{table_of}
+use Rattle.text_outcomes.specs.Laws.{HasOutcome}
+use Rattle.text_outcomes.specs.Table.{table_of}
 use Rattle.run_outcomes.specs.Outcomes.{HaveEnded}
 use Rattle.rv_code.specs.Machine.{first_ram, program}
-use Rattle.rv_serial.proofs.Lemmas.{runs_give_the_plain_machine}
-use Rattle.rv_serial.specs.Given.{IsSerial, committed}
-use Rattle.rv_serial.specs.Suiting.{AfterRun, local_at_start, world_at_start}
+use Rattle.theorem_riscv.proofs.Lemmas.{runs_give_the_plain_machine}
+use Rattle.theorem_riscv.specs.Given.{IsSerial, committed}
+use Rattle.theorem_riscv.specs.Suiting.{AfterRun, local_at_start, world_at_start}
 use Rattle.tcc_base.specs.declared.access.CoreEnd.TheVariants.{Run}
-use Rattle.tcc_maps.specs.Nodes.{Event}
-use Rattle.tcc_program.specs.Plain.{Outcome, Goes, Ended, Halted as HaltedWith, Trapped as TrappedWith}
-use Rattle.tcc_rules.specs.Seen.{IsDone}
-use Rattle.tcc_rules.specs.State.{Phase, Halted}
-use Rattle.tcc_rules.specs.Step.{History, run}
-use Rattle.tcc_serial.specs.Commits.{end_after}
+use Rattle.rules_maps.specs.Nodes.{Event}
+use Rattle.rules_program.specs.Plain.{Outcome, Goes, Ended, Halted as HaltedWith, Trapped as TrappedWith}
+use Rattle.rules_tcc.specs.Seen.{IsDone}
+use Rattle.rules_tcc.specs.State.{Phase, Halted}
+use Rattle.rules_tcc.specs.Step.{History, run}
+use Rattle.theorem_serial.specs.Commits.{end_after}
 use Rattle.outcomes_law.specs.Laws.{DoneRunsAreOutcomes, shown}
 use Rattle.outcomes_law.proofs.Halts.{AllFit, fits, is_end, run-fits}
 use Rattle.outcomes_law.proofs.Reports.{reports-are-outcomes}

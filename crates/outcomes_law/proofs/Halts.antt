@@ -4,29 +4,29 @@ use Rattle.std.proofs.Common.{refl, sym, subst, arith}
 use Rattle.std.proofs.lemmas.Bool.Decides.{nat_tests}
 use Rattle.tcc_base.specs.declared.access.Size.{Size}
 use Rattle.tcc_base.specs.declared.access.Size.TheVariants.{Byte, Half, Word}
-use Rattle.tcc_maps.specs.Nodes.{Node, Core, Dir, Vendor, Event, Exec, Evict, Deliver, Msg, TidGrant, Fill, ProbeReply, DataReq, Inv}
-use Rattle.tcc_maps.specs.Shape.{Shape}
-use Rattle.tcc_maps.specs.Words.{line_of}
-use Rattle.tcc_program.specs.Plain.{Outcome, Goes, Ended, Halted as HaltedWith, Trapped as TrappedWith}
-use Rattle.tcc_program.specs.Program.{Local, Need, Nothing, Loads, Stores, Changes, Prints, Ends, Halts, Traps, Program}
-use Rattle.tcc_program.specs.Ram.{word_of}
-use Rattle.tcc_rules.specs.Attempt.{Out, finished, one_more_instruction, roll_back, new_word}
-use Rattle.tcc_rules.specs.Commit.{commit, committed_core, ended_after_commit, phase_after_commit, solo_commit}
-use Rattle.tcc_rules.specs.CoreDeliver.{core_deliver, grant, grant_in_phase, probe_reply, reply_in_phase, fill, fill_awaited, data_request}
-use Rattle.tcc_rules.specs.CoreDeliver.{invalidate, acknowledged, if_violated, violated_in_phase, words_invalidated}
-use Rattle.tcc_rules.specs.CoreEvict.{core_evict, evict_line}
-use Rattle.tcc_rules.specs.CoreExec.{core_exec, exec_in_phase, unless_awaiting}
-use Rattle.tcc_rules.specs.DirDeliver.{Answer, Waits, Drops, Asks, Takes, dir_deliver}
-use Rattle.tcc_rules.specs.Execute.{execute, execute_need, load, load_spilled, load_valid, miss, request_line, place, overflow, full_set}
-use Rattle.tcc_rules.specs.Execute.{with_read_mark, word_store, partial_store, change_spilled, change_valid, store_by_size, end_transaction}
-use Rattle.tcc_rules.specs.Execute.{stored_in_buffer, stored_in_frame}
-use Rattle.tcc_rules.specs.Links.{in_flight}
-use Rattle.tcc_rules.specs.State.{Awaited, CoreState, Phase, Running, AwaitTid, DoomedTid, Probing, Ready, Overflowing, Solo, Halted, World}
-use Rattle.tcc_rules.specs.State.{start, core_start}
-use Rattle.tcc_rules.specs.Step.{History, Stepped, core_moves, core_takes, dir_takes, dir_asks, vendor_gives, if_core_moves, if_core_takes}
-use Rattle.tcc_rules.specs.Step.{answered, if_vendor_gives, delivered, if_in_flight, names_nodes, happens, step, next_history, recorded}
-use Rattle.tcc_rules.specs.Step.{and_then, run_from, run}
-use Rattle.tcc_rules.specs.VendorDeliver.{Granted, vendor_deliver}
+use Rattle.rules_maps.specs.Nodes.{Node, Core, Dir, Vendor, Event, Exec, Evict, Deliver, Msg, TidGrant, Fill, ProbeReply, DataReq, Inv}
+use Rattle.rules_maps.specs.Shape.{Shape}
+use Rattle.rules_maps.specs.Words.{line_of}
+use Rattle.rules_program.specs.Plain.{Outcome, Goes, Ended, Halted as HaltedWith, Trapped as TrappedWith}
+use Rattle.rules_program.specs.Program.{Local, Need, Nothing, Loads, Stores, Changes, Prints, Ends, Halts, Traps, Program}
+use Rattle.rules_program.specs.Ram.{word_of}
+use Rattle.rules_tcc.specs.Attempt.{Out, finished, one_more_instruction, roll_back, new_word}
+use Rattle.rules_tcc.specs.Commit.{commit, committed_core, ended_after_commit, phase_after_commit, solo_commit}
+use Rattle.rules_tcc.specs.CoreDeliver.{core_deliver, grant, grant_in_phase, probe_reply, reply_in_phase, fill, fill_awaited, data_request}
+use Rattle.rules_tcc.specs.CoreDeliver.{invalidate, acknowledged, if_violated, violated_in_phase, words_invalidated}
+use Rattle.rules_tcc.specs.CoreEvict.{core_evict, evict_line}
+use Rattle.rules_tcc.specs.CoreExec.{core_exec, exec_in_phase, unless_awaiting}
+use Rattle.rules_tcc.specs.DirDeliver.{Answer, Waits, Drops, Asks, Takes, dir_deliver}
+use Rattle.rules_tcc.specs.Execute.{execute, execute_need, load, load_spilled, load_valid, miss, request_line, place, overflow, full_set}
+use Rattle.rules_tcc.specs.Execute.{with_read_mark, word_store, partial_store, change_spilled, change_valid, store_by_size, end_transaction}
+use Rattle.rules_tcc.specs.Execute.{stored_in_buffer, stored_in_frame}
+use Rattle.rules_tcc.specs.Links.{in_flight}
+use Rattle.rules_tcc.specs.State.{Awaited, CoreState, Phase, Running, AwaitTid, DoomedTid, Probing, Ready, Overflowing, Solo, Halted, World}
+use Rattle.rules_tcc.specs.State.{start, core_start}
+use Rattle.rules_tcc.specs.Step.{History, Stepped, core_moves, core_takes, dir_takes, dir_asks, vendor_gives, if_core_moves, if_core_takes}
+use Rattle.rules_tcc.specs.Step.{answered, if_vendor_gives, delivered, if_in_flight, names_nodes, happens, step, next_history, recorded}
+use Rattle.rules_tcc.specs.Step.{and_then, run_from, run}
+use Rattle.rules_tcc.specs.VendorDeliver.{Granted, vendor_deliver}
 
 -- how a core ended that has halted
 abbrev pub is_end : Outcome → Bool

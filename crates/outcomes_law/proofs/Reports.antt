@@ -2,16 +2,16 @@
 use Rattle.std.proofs.Common.{◌≡◌, ℕ, List, ◌++◌, IfSome, codes, append_assoc, sym, ◌∙◌, ap, subst, map}
 use Rattle.std.specs.List.{flat_map}
 use Rattle.image_load.specs.Contents.{started}
-use Rattle.outcomes_text.specs.Laws.{HasOutcome}
-use Rattle.outcomes_text.specs.Table.{table_of}
-use Rattle.outcomes_text.specs.Told.{machine_shown, memory_text, told_text}
-use Rattle.outcomes_text.proofs.Lemmas.{told-commits, tables-tell-every-end}
+use Rattle.text_outcomes.specs.Laws.{HasOutcome}
+use Rattle.text_outcomes.specs.Table.{table_of}
+use Rattle.text_outcomes.specs.Told.{machine_shown, memory_text, told_text}
+use Rattle.text_outcomes.proofs.Lemmas.{told-commits, tables-tell-every-end}
 use Rattle.report_text.specs.Lines.{newline, end_line, events_line}
 use Rattle.report_text.specs.Text.{body_text, bus_text, commit_text, cores_text, ended_text, report_text, serial_text}
 use Rattle.run_outcomes.specs.Outcomes.{HaveEnded}
-use Rattle.rv_serial.specs.Given.{IsSerial, committed}
-use Rattle.bus_serial.specs.Given.{BusSerial, bus_committed}
-use Rattle.tcc_program.specs.Orders.{order_of_commit}
+use Rattle.theorem_riscv.specs.Given.{IsSerial, committed}
+use Rattle.theorem_bus.specs.Given.{BusSerial, bus_committed}
+use Rattle.rules_program.specs.Orders.{order_of_commit}
 use Rattle.outcomes_law.specs.Laws.{BusReportsAreOutcomes, ListsAreOutcomes, ReportsAreOutcomes, ReportsEndWithTheirState, shown}
 
 pub lists-are-outcomes : ListsAreOutcomes

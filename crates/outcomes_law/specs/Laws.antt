@@ -1,15 +1,15 @@
 -- What a table of outcomes says of the reports of its program.
 use Rattle.std.specs.Prelude.{ℕ, ◌≡◌, ◌/◌, Bool, List, ◌++◌, Some, codes}
 use Rattle.std.specs.List.{flat_map}
-use Rattle.bus_rules.specs.Step.{BusHistory}
-use Rattle.bus_rules.specs.State.{BusEvent}
-use Rattle.bus_rules.specs.Useful.{BusIsDone}
-use Rattle.bus_serial.specs.Given.{AfterBusRun, BusSerial, bus_committed}
+use Rattle.rules_bus.specs.Step.{BusHistory}
+use Rattle.rules_bus.specs.State.{BusEvent}
+use Rattle.rules_bus.specs.Useful.{BusIsDone}
+use Rattle.theorem_bus.specs.Given.{AfterBusRun, BusSerial, bus_committed}
 use Rattle.image_load.specs.Contents.{started}
 use Rattle.image_load.specs.Start.{Start}
-use Rattle.outcomes_text.specs.Laws.{HasOutcome}
-use Rattle.outcomes_text.specs.Table.{table_of}
-use Rattle.outcomes_text.specs.Told.{told_text}
+use Rattle.text_outcomes.specs.Laws.{HasOutcome}
+use Rattle.text_outcomes.specs.Table.{table_of}
+use Rattle.text_outcomes.specs.Told.{told_text}
 use Rattle.report_text.specs.Lines.{newline, end_line, events_line}
 use Rattle.report_text.specs.Plain.{shown_plain}
 use Rattle.report_text.specs.Shown.{Shown}
@@ -22,14 +22,14 @@ use Rattle.run_outcomes.specs.declared.stuck.Stuck.{Stuck}
 use Rattle.run_outcomes.specs.declared.outcomes.Tell.TheVariants.{Everything}
 use Rattle.rv_code.specs.Machine.{program}
 use Rattle.rv_plain.specs.Machine.{plain_start}
-use Rattle.rv_serial.specs.Given.{IsSerial, committed}
-use Rattle.rv_serial.specs.Suiting.{AfterRun}
+use Rattle.theorem_riscv.specs.Given.{IsSerial, committed}
+use Rattle.theorem_riscv.specs.Suiting.{AfterRun}
 use Rattle.tcc_base.specs.Settings.{IsAllowed}
 use Rattle.tcc_base.specs.declared.access.Commit.{Commit}
-use Rattle.tcc_maps.specs.Nodes.{Event}
-use Rattle.tcc_program.specs.Plain.{Order, Plain, serial}
-use Rattle.tcc_rules.specs.Seen.{IsDone}
-use Rattle.tcc_rules.specs.Step.{History}
+use Rattle.rules_maps.specs.Nodes.{Event}
+use Rattle.rules_program.specs.Plain.{Order, Plain, serial}
+use Rattle.rules_tcc.specs.Seen.{IsDone}
+use Rattle.rules_tcc.specs.Step.{History}
 
 -- what a report shows of a plain machine after these commits
 abbrev pub shown : Start → List Commit → Plain → Shown

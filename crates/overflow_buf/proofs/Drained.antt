@@ -3,8 +3,8 @@ use Rattle.std.proofs.Common.{ℕ, ◌<◌, ◌≡◌, true, false, cond, [], �
 use Rattle.std.proofs.Common.{arith, Bool, List, length, zero, suc, ◌⊎◌, inl, inr, Contains, subst}
 use Rattle.std.specs.Map.{keys_of, lookup}
 use Rattle.std.proofs.lemmas.Bool.{false≢true, cases_eq, eq-eqb, ne_eqb}
-use Rattle.tcc_maps.specs.Words.{line_of, place_of, any_word, any_below}
-use Rattle.tcc_maps.specs.Spilled.{none_spilled, holds}
+use Rattle.rules_maps.specs.Words.{line_of, place_of, any_word, any_below}
+use Rattle.rules_maps.specs.Spilled.{none_spilled, holds}
 use Rattle.overflow_buf.specs.declared.line.SpilledLine.{SpilledLine}
 use Rattle.overflow_buf.specs.Kept.{Entries, kept_at, word_in, spilled, without_line, IsBuffer, IsLine}
 use Rattle.overflow_buf.proofs.Lines.{Keeps, holds-line, spilled-empty}

@@ -1,7 +1,7 @@
 -- Lists of eight words by their places.
 use Rattle.std.proofs.Common.{ℕ, suc, zero, ◌<◌, ◌≡◌, List, length, get_or, refl, sym, ◌∙◌, arith}
 use Rattle.std.proofs.lemmas.Grind.{same_number_lists}
-use Rattle.tcc_maps.specs.Words.{eight}
+use Rattle.rules_maps.specs.Words.{eight}
 
 pub length-eight : (f : ℕ → ℕ) → length (eight f) ≡ 8
 unfolding eight

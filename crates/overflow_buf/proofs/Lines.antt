@@ -5,10 +5,10 @@ use Rattle.std.proofs.Common.{get_or-set_same, get_or-set_other}
 use Rattle.std.proofs.lemmas.Bool.{false≢true, cases_eq, cases_Bool, eq-eqb, ne_eqb}
 use Rattle.std.proofs.lemmas.Nat.{or_of_8, le_or_r}
 use Rattle.tcc_base.specs.Put.{put}
-use Rattle.tcc_maps.specs.Words.{line_of, place_of, word_at, any_below, any_word, eight}
-use Rattle.tcc_maps.specs.Masks.{has, hit, mask_of, masked, join}
-use Rattle.tcc_maps.specs.Spilled.{Spilled, none_spilled, spill, holds, spilled_mask, spilled_words, spilled_line}
-use Rattle.tcc_maps.proofs.Lemmas.{has-join, has-pow, has-zero, mask_of-has, any_below-at}
+use Rattle.rules_maps.specs.Words.{line_of, place_of, word_at, any_below, any_word, eight}
+use Rattle.rules_maps.specs.Masks.{has, hit, mask_of, masked, join}
+use Rattle.rules_maps.specs.Spilled.{Spilled, none_spilled, spill, holds, spilled_mask, spilled_words, spilled_line}
+use Rattle.rules_maps.proofs.Lemmas.{has-join, has-pow, has-zero, mask_of-has, any_below-at}
 use Rattle.overflow_buf.specs.declared.line.SpilledLine.{SpilledLine}
 use Rattle.overflow_buf.specs.Kept.{Entries, kept_at, word_in, spilled, IsSpilled, IsLine, IsBuffer, merged}
 use Rattle.overflow_buf.proofs.Eights.{length-eight, get_or-eight}

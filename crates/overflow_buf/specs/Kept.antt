@@ -1,9 +1,9 @@
 -- What an overflow buffer keeps, line by line, and the map from words to values that it stands for.
 use Rattle.std.specs.Prelude.{ℕ, ◌<◌, ◌≡◌, ◌≢◌, ◌==◌, List, length, get_or, Option, Some, None, if◌then◌else◌}
 use Rattle.std.specs.Map.{lookup}
-use Rattle.tcc_maps.specs.Words.{line_of, place_of, eight}
-use Rattle.tcc_maps.specs.Masks.{has}
-use Rattle.tcc_maps.specs.Spilled.{Spilled}
+use Rattle.rules_maps.specs.Words.{line_of, place_of, eight}
+use Rattle.rules_maps.specs.Masks.{has}
+use Rattle.rules_maps.specs.Spilled.{Spilled}
 use Rattle.overflow_buf.specs.declared.line.SpilledLine.{SpilledLine}
 
 abbrev pub Entries : Type 0

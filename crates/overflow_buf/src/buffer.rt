@@ -3,8 +3,8 @@ ghost use Rattle.std.specs.Prelude.{◌≡◌, ◌≢◌, ◌<◌, ◌↔◌, �
 ghost use Rattle.std.specs.List.{AllPairs, IsDistinct};
 ghost use Rattle.std.specs.Map.{keys_of};
 ghost use Rattle.tcc_base.specs.Put.{put as put_value};
-ghost use Rattle.tcc_maps.specs.Bridge.{tagged_of};
-ghost use Rattle.tcc_maps.specs.Spilled.{none_spilled, spill as spill_words, holds as holds_word, spilled_mask, spilled_line};
+ghost use Rattle.rules_maps.specs.Bridge.{tagged_of};
+ghost use Rattle.rules_maps.specs.Spilled.{none_spilled, spill as spill_words, holds as holds_word, spilled_mask, spilled_line};
 ghost use Rattle.overflow_buf.specs.Kept.{IsBuffer, IsSpilled, kept_at, spilled, without_line};
 
 use crate::line::{SpilledLine, with_word, with_words};

@@ -1,6 +1,6 @@
 // The kept words of one line.
 ghost use Rattle.std.specs.Prelude.{◌≡◌, ◌≢◌, ◌<◌, ℕ, Option, Some, None, get_or, cond, ◌==◌};
-ghost use Rattle.tcc_maps.specs.Masks.{has as has_word, masked};
+ghost use Rattle.rules_maps.specs.Masks.{has as has_word, masked};
 ghost use Rattle.overflow_buf.specs.Kept.{word_in, merged, IsLine, IsSpilled};
 
 use tcc_base::{LineAddr, Mask, Tagged, Tid};

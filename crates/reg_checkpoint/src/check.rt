@@ -12,7 +12,7 @@ pub struct Check {
 }
 
 impl Model for Check {
-    ghost use Rattle.tcc_program.specs.Program.{Local};
+    ghost use Rattle.rules_program.specs.Program.{Local};
 
     ghost Value = { Local };
 

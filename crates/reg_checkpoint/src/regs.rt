@@ -1,6 +1,6 @@
 // The integer registers of one core; contracts see them as the list of their values.
 ghost use Rattle.std.specs.Prelude.{◌≡◌};
-ghost use Rattle.tcc_program.specs.Registers.{zeroed, register, written};
+ghost use Rattle.rules_program.specs.Registers.{zeroed, register, written};
 ghost use Rattle.reg_checkpoint.specs.Registers.{IsRegisters};
 
 use std::marker::Model;
@@ -27,7 +27,7 @@ impl Model for Regs {
     ghost inverse = { λ values. record { values = values } };
 }
 
-#[tactic(auto, unfolding(tcc_program::specs::Registers::zeroed, tcc_program::specs::Registers::register, tcc_program::specs::Registers::written))]
+#[tactic(auto, unfolding(rules_program::specs::Registers::zeroed, rules_program::specs::Registers::register, rules_program::specs::Registers::written))]
 impl Regs {
     /// All 32 registers zero. Takes no memory.
     pub fn new() -> Regs

@@ -1,7 +1,7 @@
 // What a core holds beside memory: its registers, its pc and its reservation.
 ghost use Rattle.std.specs.Prelude.{◌≡◌, Some, None};
-ghost use Rattle.tcc_program.specs.Program.{unreserved};
-ghost use Rattle.tcc_program.specs.Registers.{register, written};
+ghost use Rattle.rules_program.specs.Program.{unreserved};
+ghost use Rattle.rules_program.specs.Registers.{register, written};
 
 use crate::regs::Regs;
 use std::marker::Model;
@@ -16,7 +16,7 @@ pub struct State {
 }
 
 impl Model for State {
-    ghost use Rattle.tcc_program.specs.Program.{Local};
+    ghost use Rattle.rules_program.specs.Program.{Local};
 
     ghost Value = { Local };
 

@@ -2,7 +2,7 @@
 use Rattle.std.specs.Prelude.{ℕ, List, map}
 use Rattle.std.specs.List.{range_with_len}
 use Rattle.tcc_base.specs.declared.access.Commit.{Commit}
-use Rattle.tcc_program.specs.Plain.{Plain, PlainCore}
+use Rattle.rules_program.specs.Plain.{Plain, PlainCore}
 use Rattle.report_text.specs.Shown.{Shown, ShownCore}
 
 abbrev pub shown_core : PlainCore → ShownCore

@@ -2,7 +2,7 @@
 use Rattle.std.specs.Prelude.{ℕ, List, [], ◌∷◌, ◌++◌, ◌+◌, ◌*◌, ◌==◌, if◌then◌else◌, Bool, codes}
 use Rattle.std.specs.List.{flat_map, range_with_len}
 use Rattle.tcc_base.specs.declared.access.Commit.{Commit}
-use Rattle.tcc_program.specs.Registers.{register}
+use Rattle.rules_program.specs.Registers.{register}
 use Rattle.report_text.specs.Shown.{ShownCore, Shown}
 use Rattle.report_text.specs.Lines.{newline, end_line, events_line, commit_line, load_line, core_line, pc_line, reg_line, console_line}
 use Rattle.report_text.specs.Lines.{mem_line}

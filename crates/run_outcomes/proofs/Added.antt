@@ -24,7 +24,7 @@ use Rattle.rv_plain.specs.Buffered.{seen}
 use Rattle.rv_plain.specs.Cores.{core_of, no_state}
 use Rattle.rv_plain.specs.Machine.{plain_start, start_core, core_at_start}
 use Rattle.rv_plain.specs.declared.plain.CoreState.{CoreState}
-use Rattle.tcc_program.specs.Plain.{serial}
+use Rattle.rules_program.specs.Plain.{serial}
 
 pub sized-at : (l : Contents) (states : List Snapshot) (k : ℕ) → AreFound l states → k < length states
     → length (state_at states k).cores ≡ l.settings.cores

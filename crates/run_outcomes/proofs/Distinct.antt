@@ -16,7 +16,7 @@ use Rattle.run_outcomes.specs.declared.states.Snapshot.{Snapshot}
 use Rattle.rv_code.specs.Machine.{first_ram}
 use Rattle.rv_plain.specs.Cores.{no_state}
 use Rattle.rv_plain.specs.declared.plain.CoreState.{CoreState}
-use Rattle.tcc_program.specs.Plain.{PlainCore}
+use Rattle.rules_program.specs.Plain.{PlainCore}
 
 -- the code's core that stands for this one
 abbrev code_core : PlainCore → CoreState

@@ -22,7 +22,7 @@ use Rattle.run_outcomes.specs.declared.states.Snapshot.{Snapshot}
 use Rattle.rv_code.specs.Machine.{program}
 use Rattle.rv_plain.specs.declared.plain.CoreState.{CoreState}
 use Rattle.tcc_base.specs.declared.access.CoreEnd.TheVariants.{Run}
-use Rattle.tcc_program.specs.Plain.{Plain, Attempt, transaction}
+use Rattle.rules_program.specs.Plain.{Plain, Attempt, transaction}
 
 edge-kept : (edges more : List Edge) (i : ℕ) → i < length edges → edge_at (edges ++ more) i ≡ edge_at edges i
 edge-kept edges more i lt = grind (arith, common_steps)

@@ -15,10 +15,10 @@ use Rattle.tcc_base.specs.Put.{put}
 use Rattle.tcc_base.specs.Settings.{Settings}
 use Rattle.tcc_base.specs.declared.access.Size.{Size}
 use Rattle.tcc_base.specs.declared.access.Size.TheVariants.{Word}
-use Rattle.tcc_program.specs.Plain.{Attempt, Outcome, Goes, Ended, Halted, Trapped, stepped, plain_step, steps, when_going}
-use Rattle.tcc_program.specs.Plain.{then_step, store_of}
-use Rattle.tcc_program.specs.Program.{Local, Need, Nothing, Loads, Stores, Changes, Prints, Ends, Halts, Traps, Program}
-use Rattle.tcc_program.specs.Ram.{loaded, stored, word_of, patched}
+use Rattle.rules_program.specs.Plain.{Attempt, Outcome, Goes, Ended, Halted, Trapped, stepped, plain_step, steps, when_going}
+use Rattle.rules_program.specs.Plain.{then_step, store_of}
+use Rattle.rules_program.specs.Program.{Local, Need, Nothing, Loads, Stores, Changes, Prints, Ends, Halts, Traps, Program}
+use Rattle.rules_program.specs.Ram.{loaded, stored, word_of, patched}
 
 -- a need stores in RAM alone
 abbrev NeedsInside : Settings → Need → Type 0

@@ -16,8 +16,8 @@ use Rattle.run_outcomes.specs.declared.states.Snapshot.{Snapshot}
 use Rattle.rv_code.specs.Machine.{program}
 use Rattle.rv_plain.specs.Cores.{no_state}
 use Rattle.tcc_base.specs.declared.access.Commit.{Commit}
-use Rattle.tcc_program.specs.Plain.{Plain, Attempt, Order, transaction, serial, after_order, and_commit, commit_of}
-use Rattle.tcc_program.specs.Program.{Program}
+use Rattle.rules_program.specs.Plain.{Plain, Attempt, Order, transaction, serial, after_order, and_commit, commit_of}
+use Rattle.rules_program.specs.Program.{Program}
 
 have-ended : (l : Contents) (s : Snapshot) → length s.cores ≡ l.settings.cores → IsEnd s → HaveEnded l.settings.cores (machine_of l s)
 unfolding machine_of

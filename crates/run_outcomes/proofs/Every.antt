@@ -18,7 +18,7 @@ use Rattle.rv_plain.specs.Machine.{plain_start}
 use Rattle.rv_plain.specs.declared.plain.CoreState.{CoreState}
 use Rattle.tcc_base.specs.declared.access.CoreEnd.{CoreEnd}
 use Rattle.tcc_base.specs.declared.access.Commit.{Commit}
-use Rattle.tcc_program.specs.Plain.{Plain, serial}
+use Rattle.rules_program.specs.Plain.{Plain, serial}
 
 -- lists of cores that tell the same do so core by core
 told-at : (a b : List CoreState) (core : ℕ) → core < length a → core < length b → map told_core a ≡ map told_core b

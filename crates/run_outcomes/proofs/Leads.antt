@@ -21,9 +21,9 @@ use Rattle.run_outcomes.specs.declared.next.Next.{Next}
 use Rattle.run_outcomes.specs.declared.next.Next.TheVariants.{Stopped, Endless, Leads}
 use Rattle.tcc_base.specs.Put.{put}
 use Rattle.tcc_base.specs.declared.access.CoreEnd.TheVariants.{Run}
-use Rattle.tcc_program.specs.Plain.{Attempt, Goes, begun, steps}
-use Rattle.tcc_program.specs.Program.{Local}
-use Rattle.tcc_program.specs.Ram.{flat}
+use Rattle.rules_program.specs.Plain.{Attempt, Goes, begun, steps}
+use Rattle.rules_program.specs.Program.{Local}
+use Rattle.rules_program.specs.Ram.{flat}
 
 pub value_in-drop : (xs : List (ℕ × ℕ)) (k : ℕ) (d : ℕ × ℕ) → k < length xs
     → value_in (drop k xs) ≡ put (value_in (drop (k + 1) xs)) (get_or xs k d).0 (Some (get_or xs k d).1)

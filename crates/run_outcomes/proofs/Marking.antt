@@ -25,7 +25,7 @@ use Rattle.run_outcomes.specs.declared.states.Snapshot.{Snapshot}
 use Rattle.run_outcomes.specs.declared.stuck.Marks.{Marks}
 use Rattle.rv_code.specs.Machine.{program}
 use Rattle.tcc_base.specs.declared.access.Commit.{Commit}
-use Rattle.tcc_program.specs.Plain.{Plain, serial}
+use Rattle.rules_program.specs.Plain.{Plain, serial}
 
 set-there : (xs : List Bool) (k : ℕ) → k < length xs → slice_index_or (slice_set xs k true) k false ≡ true
 set-there xs k lt = grind (arith, common_steps)

@@ -6,9 +6,9 @@ use Rattle.std.proofs.lemmas.Bool.{cases_lt}
 use Rattle.rv_plain.specs.Endings.{HasEnded}
 use Rattle.tcc_base.specs.declared.access.CoreEnd.{CoreEnd}
 use Rattle.tcc_base.specs.declared.access.CoreEnd.TheVariants.{Run, Halt, Trap}
-use Rattle.tcc_program.specs.Plain.{Attempt, Outcome, Goes, Ended, Halted, Trapped, Plain, steps, begun, transaction, close}
-use Rattle.tcc_program.specs.Plain.{close_if, if_runs, when_going, then_step, end_of}
-use Rattle.tcc_program.specs.Program.{Program}
+use Rattle.rules_program.specs.Plain.{Attempt, Outcome, Goes, Ended, Halted, Trapped, Plain, steps, begun, transaction, close}
+use Rattle.rules_program.specs.Plain.{close_if, if_runs, when_going, then_step, end_of}
+use Rattle.rules_program.specs.Program.{Program}
 
 -- no instruction follows one that ends the transaction
 none-after : (base : ℕ) (p : Program) (a : Attempt) (o : Outcome) → HasEnded o → when_going base p a o ≡ None

@@ -15,10 +15,10 @@ use Rattle.rv_plain.specs.Machine.{plain_start}
 use Rattle.rv_plain.specs.PlainState.{order_of}
 use Rattle.rv_plain.specs.declared.plain.Order.{Order as CodeOrder}
 use Rattle.tcc_base.specs.declared.access.Commit.{Commit}
-use Rattle.tcc_program.proofs.Lemmas.{serial-snoc}
-use Rattle.tcc_program.specs.Orders.{last_tid}
-use Rattle.tcc_program.specs.Plain.{Plain, Attempt, Order, transaction, serial}
-use Rattle.tcc_program.specs.Program.{Program}
+use Rattle.rules_program.proofs.Lemmas.{serial-snoc}
+use Rattle.rules_program.specs.Orders.{last_tid}
+use Rattle.rules_program.specs.Plain.{Plain, Attempt, Order, transaction, serial}
+use Rattle.rules_program.specs.Program.{Program}
 
 reverse-cons : (w : Way) (ws : List Way) → reverse (w ∷ ws) ≡ reverse ws ++ w ∷ []
 reverse-cons w ws = reverse-append (w ∷ []) ws

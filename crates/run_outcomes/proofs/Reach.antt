@@ -21,10 +21,10 @@ use Rattle.tcc_base.specs.Put.{put}
 use Rattle.tcc_base.specs.declared.access.CoreEnd.{CoreEnd}
 use Rattle.tcc_base.specs.declared.access.CoreEnd.TheVariants.{Run, Halt, Trap}
 use Rattle.tcc_base.specs.declared.access.Commit.{Commit}
-use Rattle.tcc_program.proofs.Lemmas.{serial-snoc}
-use Rattle.tcc_program.specs.Orders.{last_tid}
-use Rattle.tcc_program.specs.Plain.{Plain, PlainCore, Attempt, Order, transaction, closed, begun, steps, close_if, if_runs, serial}
-use Rattle.tcc_program.specs.Program.{Program}
+use Rattle.rules_program.proofs.Lemmas.{serial-snoc}
+use Rattle.rules_program.specs.Orders.{last_tid}
+use Rattle.rules_program.specs.Plain.{Plain, PlainCore, Attempt, Order, transaction, closed, begun, steps, close_if, if_runs, serial}
+use Rattle.rules_program.specs.Program.{Program}
 
 cores-put : (cores : List CoreState) (c : ℕ) (new : CoreState) (to : PlainCore) → core_of new ≡ to → c < length cores
     → (j : ℕ) → core_of (slice_index_or (slice_set cores c new) j no_state)

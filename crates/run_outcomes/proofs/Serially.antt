@@ -3,8 +3,8 @@ use Rattle.std.proofs.Common.{ℕ, List, [], ◌∷◌, Bool, true, false, Optio
 use Rattle.std.proofs.lemmas.List.Elements.{All-contains}
 use Rattle.run_outcomes.specs.Serially.{IsFollowed, AreFollowed, HasEveryEnd}
 use Rattle.tcc_base.specs.declared.access.Commit.{Commit}
-use Rattle.tcc_program.specs.Plain.{Plain, Attempt, Order, transaction, serial, after_order, and_commit, commit_of}
-use Rattle.tcc_program.specs.Program.{Program}
+use Rattle.rules_program.specs.Plain.{Plain, Attempt, Order, transaction, serial, after_order, and_commit, commit_of}
+use Rattle.rules_program.specs.Program.{Program}
 
 commit-ends : (ms : List Plain) (c : Commit) (x : Option (Plain × List Commit)) → IfSome x (λ r. Contains ms r.0)
     → IfSome (and_commit c x) (λ r. Contains ms r.0)

@@ -7,7 +7,7 @@ use Rattle.rv_plain.specs.Buffered.{seen, or_else}
 use Rattle.rv_plain.specs.Store.{Store}
 use Rattle.run_outcomes.specs.Changes.{value_in}
 use Rattle.run_outcomes.specs.Left.{IsTold, sees}
-use Rattle.tcc_program.specs.Ram.{flat}
+use Rattle.rules_program.specs.Ram.{flat}
 
 -- the first of two values that is one
 abbrev first_of : Option ℕ → Option ℕ → Option ℕ

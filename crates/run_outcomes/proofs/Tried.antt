@@ -29,7 +29,7 @@ use Rattle.run_outcomes.specs.declared.states.Snapshot.{Snapshot}
 use Rattle.rv_code.specs.Machine.{program}
 use Rattle.rv_plain.specs.declared.plain.CoreState.{CoreState}
 use Rattle.tcc_base.specs.declared.access.CoreEnd.TheVariants.{Run}
-use Rattle.tcc_program.specs.Plain.{Plain, Attempt, transaction}
+use Rattle.rules_program.specs.Plain.{Plain, Attempt, transaction}
 
 abbrev pub pair_of : (k c : ℕ) → Pair
 pair_of k c = record { state = k; core = record { 0 = c } }

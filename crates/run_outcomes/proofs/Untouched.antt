@@ -15,7 +15,7 @@ use Rattle.tcc_base.specs.Settings.{Settings}
 use Rattle.tcc_base.specs.declared.access.Size.{Size}
 use Rattle.tcc_base.specs.declared.access.Size.TheVariants.{Byte, Half, Word}
 use Rattle.tcc_base.specs.declared.access.Stored.{Stored}
-use Rattle.tcc_program.specs.Ram.{flat, word_of}
+use Rattle.rules_program.specs.Ram.{flat, word_of}
 
 abbrev touched_words : (base : ℕ) → List (ℕ × ℕ) → List Stored → List ℕ
 touched_words base changes stores = map (λ change. change.0) changes ++ map (λ store. word_of base store.addr) stores

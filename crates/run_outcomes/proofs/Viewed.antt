@@ -3,9 +3,9 @@ use Rattle.std.proofs.Common.{ℕ, suc, ◌≡◌, ◌+◌, ◌==◌, Bool, true
 use Rattle.rv_plain.specs.Buffered.{Buffered, buffered, buffered_step, plain_view, seen, or_else}
 use Rattle.tcc_base.specs.Put.{put}
 use Rattle.tcc_base.specs.declared.access.Size.TheVariants.{Word}
-use Rattle.tcc_program.specs.Plain.{Attempt, Goes, stepped, plain_step, steps}
-use Rattle.tcc_program.specs.Program.{Need, Nothing, Loads, Stores, Changes, Prints, Ends, Halts, Traps, Program}
-use Rattle.tcc_program.specs.Ram.{loaded, stored, word_of, patched}
+use Rattle.rules_program.specs.Plain.{Attempt, Goes, stepped, plain_step, steps}
+use Rattle.rules_program.specs.Program.{Need, Nothing, Loads, Stores, Changes, Prints, Ends, Halts, Traps, Program}
+use Rattle.rules_program.specs.Ram.{loaded, stored, word_of, patched}
 
 or_else-if : (b : Bool) (x : Option ℕ) (v here : ℕ) → or_else (if b then Some v else x) here ≡ (if b then v else or_else x here)
 or_else-if true x v here = refl

@@ -6,7 +6,7 @@ use Rattle.run_outcomes.specs.declared.states.Snapshot.{Snapshot}
 use Rattle.rv_plain.specs.declared.plain.CoreState.{CoreState}
 use Rattle.tcc_base.specs.declared.access.CoreEnd.{CoreEnd}
 use Rattle.tcc_base.specs.declared.access.CoreEnd.TheVariants.{Run, Halt, Trap}
-use Rattle.tcc_program.specs.Registers.{register}
+use Rattle.rules_program.specs.Registers.{register}
 
 -- a further number is mixed into a digest
 unfoldable pub mixed : (sum more : ℕ) → ℕ

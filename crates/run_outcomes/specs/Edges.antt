@@ -8,7 +8,7 @@ use Rattle.run_outcomes.specs.declared.states.Place.{Place}
 use Rattle.run_outcomes.specs.declared.states.Place.TheVariants.{Known, New, Full}
 use Rattle.run_outcomes.specs.declared.states.Snapshot.{Snapshot}
 use Rattle.rv_code.specs.Machine.{program}
-use Rattle.tcc_program.specs.Plain.{Plain, transaction}
+use Rattle.rules_program.specs.Plain.{Plain, transaction}
 
 abbrev pub no_edge : Edge
 no_edge = record { from = 0; to = 0 }

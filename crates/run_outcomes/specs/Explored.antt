@@ -14,7 +14,7 @@ use Rattle.run_outcomes.specs.declared.states.Place.TheVariants.{Known, New, Ful
 use Rattle.run_outcomes.specs.declared.states.Snapshot.{Snapshot}
 use Rattle.rv_code.specs.Machine.{program, first_ram}
 use Rattle.rv_plain.specs.Machine.{plain_start}
-use Rattle.tcc_program.specs.Plain.{Plain, transaction}
+use Rattle.rules_program.specs.Plain.{Plain, transaction}
 
 abbrev pub no_snapshot : Snapshot
 no_snapshot = record { cores = []; changes = [] }

@@ -12,8 +12,8 @@ use Rattle.rv_plain.specs.declared.attempt.Outcome.{Outcome}
 use Rattle.rv_plain.specs.declared.plain.CoreState.{CoreState}
 use Rattle.tcc_base.specs.Settings.{Settings}
 use Rattle.tcc_base.specs.declared.access.Stored.{Stored}
-use Rattle.tcc_program.specs.Plain.{end_of}
-use Rattle.tcc_program.specs.Ram.{flat, word_of}
+use Rattle.rules_program.specs.Plain.{end_of}
+use Rattle.rules_program.specs.Ram.{flat, word_of}
 
 -- each store lies in RAM
 abbrev pub AreStoresInside : Settings → List Stored → Type 0

@@ -7,7 +7,7 @@ use Rattle.run_outcomes.specs.declared.next.Next.TheVariants.{Stopped, Endless, 
 use Rattle.rv_code.specs.Machine.{program, first_ram}
 use Rattle.rv_plain.specs.declared.plain.CoreState.{CoreState}
 use Rattle.tcc_base.specs.declared.access.CoreEnd.TheVariants.{Run}
-use Rattle.tcc_program.specs.Plain.{Attempt, Goes, steps, begun, end_of}
+use Rattle.rules_program.specs.Plain.{Attempt, Goes, steps, begun, end_of}
 
 -- the core's next instructions over this RAM, as a transaction
 abbrev pub next_steps : Contents → CoreState → (ram : ℕ → ℕ) → (n : ℕ) → Option Attempt

@@ -11,7 +11,7 @@ use Rattle.rv_code.specs.Machine.{program}
 use Rattle.rv_plain.specs.Machine.{plain_start}
 use Rattle.tcc_base.specs.declared.access.CoreEnd.{CoreEnd}
 use Rattle.tcc_base.specs.declared.access.CoreEnd.TheVariants.{Run}
-use Rattle.tcc_program.specs.Plain.{Plain, PlainCore, Order, serial}
+use Rattle.rules_program.specs.Plain.{Plain, PlainCore, Order, serial}
 
 -- all of so many cores have ended
 abbrev pub HaveEnded : (cores : ℕ) → Plain → Type 0

@@ -1,7 +1,7 @@
 -- A search through the states of the plain machine: which are reached, and what it means that none is left out.
 use Rattle.std.specs.Prelude.{ℕ, List, IfSome, IsSomeAnd, All, Contains, ◌≡◌}
-use Rattle.tcc_program.specs.Plain.{Plain, Order, transaction, serial}
-use Rattle.tcc_program.specs.Program.{Program}
+use Rattle.rules_program.specs.Plain.{Plain, Order, transaction, serial}
+use Rattle.rules_program.specs.Program.{Program}
 
 -- whatever the core's next transaction from this machine is, the machine after it is one of these
 unfoldable pub IsFollowed : (base : ℕ) → Program → List Plain → Plain → (core : ℕ) → Type 0

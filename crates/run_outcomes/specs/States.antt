@@ -7,7 +7,7 @@ use Rattle.run_outcomes.specs.declared.states.Place.TheVariants.{Known, New, Ful
 use Rattle.run_outcomes.specs.declared.states.Snapshot.{Snapshot}
 use Rattle.rv_plain.specs.Cores.{core_of, no_state}
 use Rattle.rv_plain.specs.declared.plain.CoreState.{CoreState}
-use Rattle.tcc_program.specs.Plain.{Plain}
+use Rattle.rules_program.specs.Plain.{Plain}
 
 -- the core of a state
 abbrev pub core_in : Snapshot → (core : ℕ) → CoreState

@@ -12,7 +12,7 @@ use Rattle.run_outcomes.specs.declared.search.Edge.{Edge}
 use Rattle.run_outcomes.specs.declared.states.Snapshot.{Snapshot}
 use Rattle.run_outcomes.specs.declared.stuck.Marks.{Marks}
 use Rattle.rv_code.specs.Machine.{program}
-use Rattle.tcc_program.specs.Plain.{Order, serial}
+use Rattle.rules_program.specs.Plain.{Order, serial}
 
 -- whichever transactions are executed from state k on, one after another, under whatever TIDs, not all cores have ended after them
 abbrev pub CannotEnd : Contents → List Snapshot → (k : ℕ) → Type 0

@@ -11,7 +11,7 @@ use Rattle.run_outcomes.specs.declared.search.Limits.{Limits}
 use Rattle.run_outcomes.specs.declared.search.Pair.{Pair}
 use Rattle.run_outcomes.specs.declared.states.Snapshot.{Snapshot}
 use Rattle.rv_code.specs.Machine.{program}
-use Rattle.tcc_program.specs.Plain.{Plain, Attempt, transaction}
+use Rattle.rules_program.specs.Plain.{Plain, Attempt, transaction}
 
 -- pair number i: pairs are tried state by state, and in a state core by core
 abbrev pub pair_at : (cores i : ℕ) → Pair

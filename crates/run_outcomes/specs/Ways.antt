@@ -6,7 +6,7 @@ use Rattle.run_outcomes.specs.declared.search.Edge.{Edge}
 use Rattle.run_outcomes.specs.declared.search.Pair.{Pair}
 use Rattle.run_outcomes.specs.declared.search.Way.{Way}
 use Rattle.run_outcomes.specs.declared.states.Snapshot.{Snapshot}
-use Rattle.tcc_program.specs.Plain.{Order}
+use Rattle.rules_program.specs.Plain.{Order}
 
 -- what is known of an exploration: the states that were found, in their order, by which transaction each was found, from which
 -- state a transaction leads to which, how many transactions were executed and how many didn't end, which was the first of these, and

@@ -4,7 +4,7 @@ ghost use Rattle.std.specs.List.Sorted.{IsPermutation};
 ghost use Rattle.std.specs.Ordering.{nat_cmp};
 ghost use Rattle.rv_plain.specs.Buffered.{seen};
 ghost use Rattle.rv_plain.specs.Store.{buffer_of};
-ghost use Rattle.tcc_program.specs.Ram.{flat, word_of};
+ghost use Rattle.rules_program.specs.Ram.{flat, word_of};
 ghost use Rattle.run_outcomes.specs.Left.{IsTold, IsUntouched, sees};
 ghost use Rattle.run_outcomes.specs.Changes.{value_in, AreInside, AreNormal};
 
@@ -50,7 +50,7 @@ pub(crate) fn left_words(
 }
 
 /// The words of these changes and stores, in ascending order; a word may stand more than once.
-#[tactic(auto, unfolding(tcc_program::specs::Ram::word_of))]
+#[tactic(auto, unfolding(rules_program::specs::Ram::word_of))]
 fn touched(
     alloc: Global,
     base: u32,

@@ -4,7 +4,7 @@ ghost use Rattle.image_load.specs.Contents.{started};
 ghost use Rattle.rv_code.specs.Machine.{program};
 ghost use Rattle.rv_plain.specs.Machine.{plain_start};
 ghost use Rattle.rv_plain.specs.PlainState.{order_of};
-ghost use Rattle.tcc_program.specs.Plain.{serial};
+ghost use Rattle.rules_program.specs.Plain.{serial};
 ghost use Rattle.run_outcomes.specs.Counted.{Counts, all_running};
 ghost use Rattle.run_outcomes.specs.Edges.{AreAllEdges, AreEdges};
 ghost use Rattle.run_outcomes.specs.Explored.{AreFound, AreLed, AreOnce, AreAllStates, IsOpen, state_at, way_at};

@@ -5,8 +5,8 @@ ghost use Rattle.rv_code.specs.Machine.{program, first_ram};
 ghost use Rattle.rv_plain.specs.Attempts.{attempt_of, outcome_of};
 ghost use Rattle.rv_plain.specs.Buffered.{plain_view};
 ghost use Rattle.rv_plain.specs.Endings.{HasEnded};
-ghost use Rattle.tcc_program.specs.Plain.{steps};
-ghost use Rattle.tcc_program.specs.Ram.{flat};
+ghost use Rattle.rules_program.specs.Plain.{steps};
+ghost use Rattle.rules_program.specs.Ram.{flat};
 ghost use Rattle.run_outcomes.specs.Changes.{AreInside};
 ghost use Rattle.run_outcomes.specs.Left.{AreStoresInside, IsLeft};
 ghost use Rattle.run_outcomes.specs.Next.{IsNext};
@@ -46,7 +46,7 @@ impl Model for Executor {
     ghost use Rattle.std.specs.Prelude.{◌≡◌, ◌*◌, [], length};
     ghost use Rattle.image_load.specs.Contents.{Contents, started};
     ghost use Rattle.rv_code.specs.Machine.{first_ram};
-    ghost use Rattle.tcc_program.specs.Ram.{flat};
+    ghost use Rattle.rules_program.specs.Ram.{flat};
 
     ghost Value = { Contents };
 

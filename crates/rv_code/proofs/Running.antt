@@ -9,7 +9,7 @@ use Rattle.rv_exec.specs.Effects.{planned, finished}
 use Rattle.rv_exec.specs.Running as rv32ima
 use Rattle.rv_exec.specs.Running.{bounded, need_of_word, need_of_inst, after_word, after_inst}
 use Rattle.tcc_base.specs.Settings.{Settings}
-use Rattle.tcc_program.specs.Program.{Local, Traps}
+use Rattle.rules_program.specs.Program.{Local, Traps}
 
 found-need : (s : Settings) (l : Local) (f : Option ℕ) (inst : Inst) → Finds f inst
     → need_of_word (in_ram s) l f ≡ bounded (in_ram s) (planned inst l)

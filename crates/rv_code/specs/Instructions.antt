@@ -7,7 +7,7 @@ use Rattle.rv_decode.specs.Decoding.{decoded}
 use Rattle.rv_decode.specs.declared.instruction.Inst.{Inst}
 use Rattle.rv_exec.specs.Effects.{planned, finished}
 use Rattle.rv_exec.specs.Running.{bounded}
-use Rattle.tcc_program.specs.Program.{Local, Traps}
+use Rattle.rules_program.specs.Program.{Local, Traps}
 
 -- a core at this state executes this instruction: the program needs what the instruction plans, bounded by RAM, and leaves what
 -- it finishes with

@@ -5,8 +5,8 @@ use Rattle.rv_exec.specs.Running as rv32ima
 use Rattle.tcc_base.specs.Bytes.{bytes_of}
 use Rattle.tcc_base.specs.Settings.{Settings}
 use Rattle.tcc_base.specs.declared.access.Size.{Size}
-use Rattle.tcc_program.specs.Program.{Local, Program}
-use Rattle.tcc_program.specs.Registers.{zeroed, written}
+use Rattle.rules_program.specs.Program.{Local, Program}
+use Rattle.rules_program.specs.Registers.{zeroed, written}
 
 -- all bytes of an access lie in RAM
 unfoldable pub in_ram : Settings → ℕ → Size → Bool

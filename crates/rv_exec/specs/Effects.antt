@@ -11,8 +11,8 @@ use Rattle.rv_exec.specs.Words.{displaced}
 use Rattle.tcc_base.specs.Bytes.{bytes_of}
 use Rattle.tcc_base.specs.declared.access.Size.{Size}
 use Rattle.tcc_base.specs.declared.access.Size.TheVariants.{Byte, Half, Word}
-use Rattle.tcc_program.specs.Program.{Local, Need, Nothing, Loads, Stores, Changes, Prints, Ends, Halts, Traps}
-use Rattle.tcc_program.specs.Registers.{register, written}
+use Rattle.rules_program.specs.Program.{Local, Need, Nothing, Loads, Stores, Changes, Prints, Ends, Halts, Traps}
+use Rattle.rules_program.specs.Registers.{register, written}
 
 abbrev pub next_pc : ℕ → ℕ
 next_pc pc = (pc + 4) % 2 ^ 32

@@ -8,7 +8,7 @@ use Rattle.rv_exec.specs.Operations.{reg_result}
 use Rattle.rv_exec.specs.Running.{program, bounded}
 use Rattle.rv_exec.specs.Words.{signed}
 use Rattle.tcc_base.specs.declared.access.Size.{Size}
-use Rattle.tcc_program.specs.Program.{Local, Traps}
+use Rattle.rules_program.specs.Program.{Local, Traps}
 
 abbrev pub TrapsWhereNoWordIsFetched : Type 0
 TrapsWhereNoWordIsFetched =

@@ -4,7 +4,7 @@ use Rattle.rv_exec.specs.declared.need.Need.{Need as CodeNeed}
 use Rattle.rv_exec.specs.declared.need.Need.TheVariants as code
 use Rattle.rv_exec.specs.Operations.{amo_result}
 use Rattle.tcc_base.specs.Bytes.{bytes_of}
-use Rattle.tcc_program.specs.Program.{Need, Nothing, Loads, Stores, Changes, Prints, Ends, Halts, Traps}
+use Rattle.rules_program.specs.Program.{Need, Nothing, Loads, Stores, Changes, Prints, Ends, Halts, Traps}
 
 abbrev pub need_of : CodeNeed → Need
 need_of code.Nothing = Nothing

@@ -1,7 +1,7 @@
 // The registers, the pc and the reservation after an instruction.
 ghost use Rattle.std.specs.Prelude.{◌≡◌, if◌then◌else◌};
 ghost use Rattle.rv_exec.specs.Effects.{finished, next_pc};
-ghost use Rattle.tcc_program.specs.Registers.{written};
+ghost use Rattle.rules_program.specs.Registers.{written};
 
 use crate::operations::{displace, extend, has_reserved, is_taken, operate, operation};
 use reg_checkpoint::State;

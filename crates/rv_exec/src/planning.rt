@@ -5,7 +5,7 @@ ghost use Rattle.rv_exec.specs.Needs.{need_of, IsPlanned};
 ghost use Rattle.rv_exec.specs.Operations.{holds, amo_result};
 ghost use Rattle.rv_exec.specs.Words.{displaced};
 ghost use Rattle.tcc_base.specs.Bytes.{bytes_of};
-ghost use Rattle.tcc_program.specs.Registers.{register};
+ghost use Rattle.rules_program.specs.Registers.{register};
 
 use crate::need::Need;
 use crate::operations::{displace, has_reserved, is_taken};

@@ -10,9 +10,9 @@ use Rattle.rv_plain.specs.declared.plain.PlainFault.{PlainFault}
 use Rattle.rv_plain.specs.declared.plain.PlainFault.TheVariants.{NotEnding, Memory}
 use Rattle.tcc_base.specs.declared.access.CoreEnd.{CoreEnd}
 use Rattle.tcc_base.specs.declared.access.CoreEnd.TheVariants.{Run, Halt, Trap}
-use Rattle.tcc_program.specs.Plain.{Attempt, Outcome, Goes, Ended, Halted, Trapped, Plain, steps, begun, transaction, close_if, if_runs}
-use Rattle.tcc_program.specs.Plain.{when_going}
-use Rattle.tcc_program.specs.Program.{Program}
+use Rattle.rules_program.specs.Plain.{Attempt, Outcome, Goes, Ended, Halted, Trapped, Plain, steps, begun, transaction, close_if, if_runs}
+use Rattle.rules_program.specs.Plain.{when_going}
+use Rattle.rules_program.specs.Program.{Program}
 
 pub fault-early : (st : ℕ → Option Attempt) (n k : ℕ) (a : Attempt) → k < n → (k + 1 ≡ n → ⊥) → st (k + 1) ≡ Some a
     → HasEnded a.outcome → IsFault st n (NotEnding (k + 1))

@@ -13,10 +13,10 @@ use Rattle.rv_plain.specs.declared.plain.Done.{Done}
 use Rattle.rv_plain.specs.declared.plain.Order.{Order as CodeOrder}
 use Rattle.rv_plain.specs.declared.plain.SerialFault.TheVariants.{NotRising, NotEnding}
 use Rattle.tcc_base.specs.declared.access.Commit.{Commit}
-use Rattle.tcc_program.proofs.Serials.{serial-append, serial-snoc, last_tid-snoc}
-use Rattle.tcc_program.specs.Orders.{last_tid}
-use Rattle.tcc_program.specs.Plain.{Plain, Attempt, Order, transaction, commit_of, serial}
-use Rattle.tcc_program.specs.Program.{Program}
+use Rattle.rules_program.proofs.Serials.{serial-append, serial-snoc, last_tid-snoc}
+use Rattle.rules_program.specs.Orders.{last_tid}
+use Rattle.rules_program.specs.Plain.{Plain, Attempt, Order, transaction, commit_of, serial}
+use Rattle.rules_program.specs.Program.{Program}
 
 abbrev pub no_order : CodeOrder
 no_order = record { tid = record { 0 = 0 }; core = record { 0 = 0 }; n = 0 }

@@ -9,7 +9,7 @@ use Rattle.rv_code.specs.Machine.{first_ram}
 use Rattle.rv_plain.specs.Machine.{plain_start, start_core, core_at_start}
 use Rattle.rv_plain.specs.PlainState.{plain_of}
 use Rattle.rv_plain.specs.declared.plain.CoreState.{CoreState}
-use Rattle.tcc_program.specs.Ram.{flat}
+use Rattle.rules_program.specs.Ram.{flat}
 
 -- words that are the start's up to RAM's end are its RAM, which has none beyond
 pub flat-first : (s : Start) (ram : List ℕ) → length ram ≡ s.settings.ram / 4

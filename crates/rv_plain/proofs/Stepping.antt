@@ -9,9 +9,9 @@ use Rattle.rv_exec.specs.Running.{bounded}
 use Rattle.rv_plain.specs.Attempts.{alone}
 use Rattle.rv_plain.specs.Buffered.{Buffered, buffered, buffered_step, seen}
 use Rattle.tcc_base.specs.declared.access.Size.TheVariants.{Word}
-use Rattle.tcc_program.specs.Plain.{Trapped}
-use Rattle.tcc_program.specs.Program.{unreserved, Need, Nothing, Loads, Stores, Changes, Prints, Ends, Halts, Traps, Program}
-use Rattle.tcc_program.specs.Ram.{loaded}
+use Rattle.rules_program.specs.Plain.{Trapped}
+use Rattle.rules_program.specs.Program.{unreserved, Need, Nothing, Loads, Stores, Changes, Prints, Ends, Halts, Traps, Program}
+use Rattle.rules_program.specs.Ram.{loaded}
 
 pub buffered-after : (base : ℕ) (p q : Program) (b : Buffered) → ((x : Option ℕ) → p.after b.local x ≡ q.after b.local x)
     → (n : Need) → buffered base p b n ≡ buffered base q b n

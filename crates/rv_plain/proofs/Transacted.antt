@@ -19,9 +19,9 @@ use Rattle.rv_plain.specs.declared.plain.PlainFault.{PlainFault}
 use Rattle.tcc_base.specs.Put.{put}
 use Rattle.tcc_base.specs.declared.access.CoreEnd.{CoreEnd}
 use Rattle.tcc_base.specs.declared.access.CoreEnd.TheVariants.{Run}
-use Rattle.tcc_program.specs.Plain.{PlainCore, begun, end_of, transaction, closed}
-use Rattle.tcc_program.specs.Program.{Local}
-use Rattle.tcc_program.specs.Ram.{flat}
+use Rattle.rules_program.specs.Plain.{PlainCore, begun, end_of, transaction, closed}
+use Rattle.rules_program.specs.Program.{Local}
+use Rattle.rules_program.specs.Ram.{flat}
 
 pub begun-view : (l : Local) (m : Store) → m.waiting ≡ []
     → plain_view (attempt_of (record { state = l; n = 0; loads = []; stores = []; console = [] }) m Goes) ≡ begun l (flat m.ram)

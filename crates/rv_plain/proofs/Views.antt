@@ -3,9 +3,9 @@ use Rattle.std.proofs.Common.{ℕ, suc, ◌≡◌, ◌+◌, ◌==◌, Bool, true
 use Rattle.rv_plain.specs.Buffered.{Buffered, buffered, buffered_step, plain_view, seen, or_else}
 use Rattle.tcc_base.specs.Put.{put}
 use Rattle.tcc_base.specs.declared.access.Size.TheVariants.{Word}
-use Rattle.tcc_program.specs.Plain.{Attempt, Goes, stepped, plain_step, steps}
-use Rattle.tcc_program.specs.Program.{Need, Nothing, Loads, Stores, Changes, Prints, Ends, Halts, Traps, Program}
-use Rattle.tcc_program.specs.Ram.{loaded, stored, word_of, patched}
+use Rattle.rules_program.specs.Plain.{Attempt, Goes, stepped, plain_step, steps}
+use Rattle.rules_program.specs.Program.{Need, Nothing, Loads, Stores, Changes, Prints, Ends, Halts, Traps, Program}
+use Rattle.rules_program.specs.Ram.{loaded, stored, word_of, patched}
 
 seen-put-at : (ram : ℕ → ℕ) (buffer : ℕ → Option ℕ) (w v j : ℕ) (b : Bool)
     → or_else (if b then Some v else buffer j) (ram j) ≡ (if b then v else or_else (buffer j) (ram j))

@@ -6,9 +6,9 @@ use Rattle.rv_plain.specs.declared.attempt.Attempt.{Attempt}
 use Rattle.rv_plain.specs.declared.attempt.Outcome.{Outcome as CodeOutcome}
 use Rattle.rv_plain.specs.declared.attempt.Outcome.TheVariants as code
 use Rattle.rv_decode.specs.declared.instruction.Inst.{Inst}
-use Rattle.tcc_program.specs.Plain.{Outcome, Goes, Ended, Halted, Trapped}
-use Rattle.tcc_program.specs.Program.{Program, Nothing}
-use Rattle.tcc_program.specs.Ram.{flat}
+use Rattle.rules_program.specs.Plain.{Outcome, Goes, Ended, Halted, Trapped}
+use Rattle.rules_program.specs.Program.{Program, Nothing}
+use Rattle.rules_program.specs.Ram.{flat}
 
 abbrev pub outcome_of : CodeOutcome → Outcome
 outcome_of code.Goes = Goes

@@ -5,9 +5,9 @@ use Rattle.tcc_base.specs.declared.access.Load.{Load}
 use Rattle.tcc_base.specs.declared.access.Size.{Size}
 use Rattle.tcc_base.specs.declared.access.Size.TheVariants.{Word}
 use Rattle.tcc_base.specs.declared.access.Stored.{Stored}
-use Rattle.tcc_program.specs.Plain.{Attempt, Outcome, Ended, Halted, Trapped, load_of, store_of}
-use Rattle.tcc_program.specs.Program.{Local, unreserved, Need, Nothing, Loads, Stores, Changes, Prints, Ends, Halts, Traps, Program}
-use Rattle.tcc_program.specs.Ram.{word_of, loaded, patched}
+use Rattle.rules_program.specs.Plain.{Attempt, Outcome, Ended, Halted, Trapped, load_of, store_of}
+use Rattle.rules_program.specs.Program.{Local, unreserved, Need, Nothing, Loads, Stores, Changes, Prints, Ends, Halts, Traps, Program}
+use Rattle.rules_program.specs.Ram.{word_of, loaded, patched}
 
 abbrev pub or_else : Option ℕ → ℕ → ℕ
 or_else None v = v

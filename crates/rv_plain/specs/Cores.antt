@@ -2,7 +2,7 @@
 use Rattle.std.specs.Prelude.{[], None}
 use Rattle.rv_plain.specs.declared.plain.CoreState.{CoreState}
 use Rattle.tcc_base.specs.declared.access.CoreEnd.TheVariants.{Halt}
-use Rattle.tcc_program.specs.Plain.{PlainCore}
+use Rattle.rules_program.specs.Plain.{PlainCore}
 
 abbrev pub core_of : CoreState → PlainCore
 core_of c = record { local = c.state; ended = c.ended; console = c.console }

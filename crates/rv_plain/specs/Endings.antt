@@ -4,7 +4,7 @@ use Rattle.rv_plain.specs.declared.plain.PlainFault.{PlainFault}
 use Rattle.rv_plain.specs.declared.plain.PlainFault.TheVariants.{NotEnding, Memory}
 use Rattle.tcc_base.specs.declared.access.CoreEnd.{CoreEnd}
 use Rattle.tcc_base.specs.declared.access.CoreEnd.TheVariants.{Run, Halt, Trap}
-use Rattle.tcc_program.specs.Plain.{Attempt, Outcome, Goes, Ended, Halted, Trapped}
+use Rattle.rules_program.specs.Plain.{Attempt, Outcome, Goes, Ended, Halted, Trapped}
 
 abbrev pub HasEnded : Outcome → Type 0
 HasEnded Goes = ⊥

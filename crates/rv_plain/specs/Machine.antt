@@ -3,7 +3,7 @@ use Rattle.std.specs.Prelude.{ℕ, [], nat_lt, if◌then◌else◌, None}
 use Rattle.image_load.specs.Start.{Start}
 use Rattle.rv_code.specs.Machine.{first_ram, start_local}
 use Rattle.tcc_base.specs.declared.access.CoreEnd.TheVariants.{Run, Halt}
-use Rattle.tcc_program.specs.Plain.{Plain, PlainCore}
+use Rattle.rules_program.specs.Plain.{Plain, PlainCore}
 
 -- what stands for a core that doesn't exist
 abbrev pub no_core : PlainCore

@@ -10,8 +10,8 @@ use Rattle.rv_plain.specs.declared.plain.PlainFault.{PlainFault}
 use Rattle.rv_plain.specs.declared.plain.PlainFault.TheVariants.{NotEnding, Memory}
 use Rattle.rv_plain.specs.declared.plain.Order.{Order as CodeOrder}
 use Rattle.tcc_base.specs.declared.access.Commit.{Commit}
-use Rattle.tcc_program.specs.Plain.{Plain, Attempt, Order, transaction, steps, begun, serial}
-use Rattle.tcc_program.specs.Ram.{flat}
+use Rattle.rules_program.specs.Plain.{Plain, Attempt, Order, transaction, steps, begun, serial}
+use Rattle.rules_program.specs.Ram.{flat}
 
 pub record PlainState : Type 0 where
   pub loaded : Contents

@@ -5,7 +5,7 @@ use Rattle.rv_plain.specs.declared.plain.Order.{Order as CodeOrder}
 use Rattle.rv_plain.specs.declared.plain.SerialFault.{SerialFault}
 use Rattle.rv_plain.specs.declared.plain.SerialFault.TheVariants.{NotRising, NotEnding, Memory}
 use Rattle.tcc_base.specs.declared.access.Commit.{Commit}
-use Rattle.tcc_program.specs.Orders.{last_tid}
+use Rattle.rules_program.specs.Orders.{last_tid}
 
 -- the serial execution of the orders has a value, which is the machine afterwards and the commits
 abbrev pub Executed : PlainState → List CodeOrder → PlainState → List Commit → Type 0

@@ -6,8 +6,8 @@ use Rattle.rv_plain.specs.Store.{Store}
 use Rattle.rv_plain.specs.declared.plain.CoreState.{CoreState}
 use Rattle.rv_plain.specs.declared.plain.Done.{Done}
 use Rattle.tcc_base.specs.declared.access.CoreEnd.TheVariants.{Run}
-use Rattle.tcc_program.specs.Plain.{Attempt, steps, begun, end_of}
-use Rattle.tcc_program.specs.Ram.{flat}
+use Rattle.rules_program.specs.Plain.{Attempt, steps, begun, end_of}
+use Rattle.rules_program.specs.Ram.{flat}
 
 abbrev pub steps_at : Contents → CoreState → Store → ℕ → Option Attempt
 steps_at l c s k = steps l.settings.base (program (started l)) k (begun c.state (flat s.ram))

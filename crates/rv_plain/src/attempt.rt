@@ -8,8 +8,8 @@ ghost use Rattle.rv_code.specs.Machine.{program, in_ram};
 ghost use Rattle.rv_code.specs.Served.{IsServed};
 ghost use Rattle.rv_exec.specs.Needs.{need_of};
 ghost use Rattle.tcc_base.specs.declared.access.Size.TheVariants.{Word};
-ghost use Rattle.tcc_program.specs.Plain.{steps, end_of, load_of, store_of};
-ghost use Rattle.tcc_program.specs.Program.{unreserved};
+ghost use Rattle.rules_program.specs.Plain.{steps, end_of, load_of, store_of};
+ghost use Rattle.rules_program.specs.Program.{unreserved};
 
 use crate::bytes;
 use crate::memory::BufferedRam;
@@ -91,7 +91,7 @@ impl Attempt {
         }
     }
 
-    #[tactic(auto, unfolding(crate::specs::Attempts::attempt_of, tcc_program::specs::Ram::loaded, tcc_program::specs::Ram::word_of))]
+    #[tactic(auto, unfolding(crate::specs::Attempts::attempt_of, rules_program::specs::Ram::loaded, rules_program::specs::Ram::word_of))]
     fn load(
         &mut self,
         memory: &BufferedRam,
@@ -112,7 +112,7 @@ impl Attempt {
         Ok(Outcome::Goes)
     }
 
-    #[tactic(auto, unfolding(crate::specs::Attempts::attempt_of, tcc_program::specs::Ram::word_of))]
+    #[tactic(auto, unfolding(crate::specs::Attempts::attempt_of, rules_program::specs::Ram::word_of))]
     fn store(
         &mut self,
         memory: &mut BufferedRam,
@@ -145,7 +145,7 @@ impl Attempt {
         }
     }
 
-    #[tactic(auto, unfolding(crate::specs::Attempts::attempt_of, tcc_program::specs::Ram::loaded, tcc_program::specs::Ram::word_of))]
+    #[tactic(auto, unfolding(crate::specs::Attempts::attempt_of, rules_program::specs::Ram::loaded, rules_program::specs::Ram::word_of))]
     fn change(
         &mut self,
         memory: &mut BufferedRam,

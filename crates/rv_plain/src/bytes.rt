@@ -1,11 +1,11 @@
 // The bytes of a word: which an access reads, and the word in which it replaced them.
 ghost use Rattle.std.specs.Prelude.{◌≡◌, ℕ, ◌<◌, ◌%◌};
 ghost use Rattle.tcc_base.specs.Bytes.{bytes_of};
-ghost use Rattle.tcc_program.specs.Ram.{unit_of, part, patched};
+ghost use Rattle.rules_program.specs.Ram.{unit_of, part, patched};
 
 use tcc_base::Size;
 
-#[tactic(auto, unfolding(tcc_program::specs::Ram::unit_of))]
+#[tactic(auto, unfolding(rules_program::specs::Ram::unit_of))]
 fn unit(addr: u32) -> u32
     ensures value { result ≡ unit_of addr }
     ensures positive { 0 < result }
@@ -19,7 +19,7 @@ fn unit(addr: u32) -> u32
 }
 
 /// The bytes of a word from an address on, with zeros above. Takes no memory.
-#[tactic(auto, unfolding(tcc_program::specs::Ram::part))]
+#[tactic(auto, unfolding(rules_program::specs::Ram::part))]
 pub fn read(word: u32, addr: u32, size: Size) -> u32
     ensures { result ≡ part word addr size }
 {
@@ -32,7 +32,7 @@ pub fn read(word: u32, addr: u32, size: Size) -> u32
 }
 
 /// The word in which the bytes from an address on are those of a value. Takes no memory.
-#[tactic(auto, unfolding(tcc_program::specs::Ram::patched))]
+#[tactic(auto, unfolding(rules_program::specs::Ram::patched))]
 pub fn replace(word: u32, addr: u32, size: Size, value: u32) -> u32
     requires { addr % bytes_of size ≡ 0 }
     ensures { result ≡ patched word addr size value }

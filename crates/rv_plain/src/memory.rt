@@ -5,7 +5,7 @@ ghost use Rattle.rv_plain.specs.Buffered.{seen};
 ghost use Rattle.rv_code.specs.Machine.{first_ram};
 ghost use Rattle.rv_plain.specs.Store.{buffer_of, IsInside};
 ghost use Rattle.tcc_base.specs.Put.{put};
-ghost use Rattle.tcc_program.specs.Ram.{flat};
+ghost use Rattle.rules_program.specs.Ram.{flat};
 
 use rv_code::Code;
 use std::alloc::Global;
@@ -31,7 +31,7 @@ impl Model for BufferedRam {
     ghost invariant = { λ m. IsInside (length m.ram.items) m.buffer.entries };
 }
 
-#[tactic(auto, unfolding(crate::specs::Store::buffer_of, crate::specs::Buffered::seen, tcc_program::specs::Ram::flat))]
+#[tactic(auto, unfolding(crate::specs::Store::buffer_of, crate::specs::Buffered::seen, rules_program::specs::Ram::flat))]
 impl BufferedRam {
     /// RAM as it was loaded. Nothing waits.
     pub fn new(alloc: Global, code: &Code) -> Result<BufferedRam, NoMemory>
@@ -119,7 +119,7 @@ impl BufferedRam {
     }
 }
 
-#[tactic(auto, unfolding(crate::specs::Store::buffer_of, crate::specs::Buffered::seen, tcc_program::specs::Ram::flat))]
+#[tactic(auto, unfolding(crate::specs::Store::buffer_of, crate::specs::Buffered::seen, rules_program::specs::Ram::flat))]
 fn drain(ram: &mut [u32], buffer: &mut BTreeMap<u32, u32>)
     requires { IsInside (length ram.old) buffer.old.entries }
     ensures ram { flat ram.new ≡ seen (flat ram.old) (buffer_of buffer.old.entries) }

@@ -7,7 +7,7 @@ ghost use Rattle.rv_plain.specs.Cores.{core_of, no_state};
 ghost use Rattle.rv_plain.specs.Endings.{IsFault, IsCoreFault};
 ghost use Rattle.rv_plain.specs.Store.{buffer_of};
 ghost use Rattle.rv_plain.specs.Transacts.{Transacts, steps_at};
-ghost use Rattle.tcc_program.specs.Ram.{flat};
+ghost use Rattle.rules_program.specs.Ram.{flat};
 
 use crate::attempt::{Attempt, Outcome};
 use crate::memory::BufferedRam;

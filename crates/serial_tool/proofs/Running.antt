@@ -15,10 +15,10 @@ use Rattle.rv_plain.specs.Serials.{Executed, IsSerialFault, tid_before}
 use Rattle.rv_plain.specs.declared.plain.Order.{Order}
 use Rattle.rv_plain.specs.declared.plain.SerialFault.TheVariants.{NotRising, NotEnding}
 use Rattle.tcc_base.specs.declared.access.Commit.{Commit}
-use Rattle.tcc_program.proofs.Lemmas.{serial-append}
-use Rattle.tcc_program.specs.Orders.{joined, last_tid}
-use Rattle.tcc_program.specs.Plain.{Plain, Order as PlainOrder, serial}
-use Rattle.tcc_program.specs.Program.{Program}
+use Rattle.rules_program.proofs.Lemmas.{serial-append}
+use Rattle.rules_program.specs.Orders.{joined, last_tid}
+use Rattle.rules_program.specs.Plain.{Plain, Order as PlainOrder, serial}
+use Rattle.rules_program.specs.Program.{Program}
 use Rattle.serial_tool.specs.Laws.{RunFaultsAreAlike, RunFaultsHaveNoRun}
 use Rattle.serial_tool.specs.Runs.{IsStuckAt, serial_by}
 use Rattle.serial_tool.specs.declared.reading.Listed.{Listed}

@@ -7,7 +7,7 @@ use Rattle.rv_plain.specs.PlainState.{order_of}
 use Rattle.schedule_text.specs.declared.fault.TextFault.{TextFault}
 use Rattle.schedule_text.specs.declared.fault.TextFault.TheVariants.{Line, Memory}
 use Rattle.tcc_base.specs.declared.access.Commit.{Commit}
-use Rattle.tcc_program.specs.Plain.{Plain, serial}
+use Rattle.rules_program.specs.Plain.{Plain, serial}
 use Rattle.serial_tool.specs.declared.reading.Listed.{Listed}
 
 -- the orders one after another from the start, under rising TIDs from 1 on: the plain machine afterwards and the

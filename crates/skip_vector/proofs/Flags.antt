@@ -4,7 +4,7 @@ use Rattle.std.proofs.Common.{length-append, append-nil, replicate, set, refl, a
 use Rattle.std.proofs.lemmas.List.{length-replicate}
 use Rattle.std.proofs.lemmas.Bool.Decides.{nat_tests}
 use borrow.Author.Tests.{ltb-true, ltb-false}
-use Rattle.tcc_maps.specs.Serving.{Serving, serve_from, skip_at, advance, skipped, kept}
+use Rattle.rules_maps.specs.Serving.{Serving, serve_from, skip_at, advance, skipped, kept}
 
 -- a flag that the list has
 pub set-skip_at : (k : ℕ) (xs : List Bool) → k < length xs → set xs k true ≡ skip_at k xs

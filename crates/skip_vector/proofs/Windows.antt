@@ -5,7 +5,7 @@ use Rattle.std.specs.Ordering.{nat_cmp, match_ordering}
 use Rattle.std.specs.declared.cmp.Ordering.TheVariants.{Less, Equal, Greater}
 use borrow.Author.Tests.{ltb-true, ltb-false, eqb-true, eqb-false}
 use Rattle.std.specs.BTreeSet.{insert_key}
-use Rattle.tcc_maps.specs.Serving.{serve_from, skip_at, skipped}
+use Rattle.rules_maps.specs.Serving.{serve_from, skip_at, skipped}
 use Rattle.skip_vector.specs.Window.{clear_before, window, Rises}
 use Rattle.skip_vector.proofs.Flags.{serve_from-none, serve_from-clear, serve_from-set, advance-serve_from, skipped-lower, skipped-served}
 use Rattle.skip_vector.proofs.Flags.{skipped-higher}

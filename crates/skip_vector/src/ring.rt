@@ -1,6 +1,6 @@
 // The skips as a ring of flags, one for each TID above the served one as far as the last that was skipped.
 ghost use Rattle.std.specs.Prelude.{◌≡◌, ℕ, ◌+◌, ◌-◌, ◌^◌, ◌<◌, ◌≤◌, ◌++◌, Bool, false, OnOk, OnErr, length, replicate};
-ghost use Rattle.tcc_maps.specs.Serving.{Serving, first_serving, is_skipped, skipped, skip_at, advance as advanced};
+ghost use Rattle.rules_maps.specs.Serving.{Serving, first_serving, is_skipped, skipped, skip_at, advance as advanced};
 
 use crate::skips::Skips;
 use std::alloc::Global;
@@ -21,7 +21,7 @@ pub struct RingSkips {
 
 impl Model for RingSkips {
     ghost use Rattle.std.specs.Prelude.{◌+◌, ◌^◌, ◌<◌, ◌≤◌, length};
-    ghost use Rattle.tcc_maps.specs.Serving.{Serving};
+    ghost use Rattle.rules_maps.specs.Serving.{Serving};
 
     ghost Value = { Serving };
 
@@ -40,7 +40,7 @@ impl RingSkips {
     }
 
     /// Whether the TID is above the served one and was skipped. It takes constant time.
-    #[tactic(auto, unfolding(tcc_maps::specs::Serving::is_skipped))]
+    #[tactic(auto, unfolding(rules_maps::specs::Serving::is_skipped))]
     pub fn is_skipped(&self, tid: Tid) -> bool
         ensures { result ≡ is_skipped self.now tid.0 }
     {

@@ -1,7 +1,7 @@
 // The skips as an ordered set of TIDs: the plain form.
 ghost use Rattle.std.specs.Prelude.{◌≡◌, ℕ, ◌+◌, ◌-◌, ◌^◌, ◌<◌, ◌≤◌, ◌∷◌, slice_get, OnOk, OnErr, length};
 ghost use Rattle.std.specs.Bool.{OnTrue, OnFalse};
-ghost use Rattle.tcc_maps.specs.Serving.{Serving, first_serving, skipped, advance as advanced};
+ghost use Rattle.rules_maps.specs.Serving.{Serving, first_serving, skipped, advance as advanced};
 
 use crate::skips::Skips;
 use std::alloc::Global;
@@ -18,7 +18,7 @@ pub struct SetSkips {
 
 impl Model for SetSkips {
     ghost use Rattle.std.specs.Prelude.{◌+◌, ◌^◌, ◌≤◌};
-    ghost use Rattle.tcc_maps.specs.Serving.{Serving};
+    ghost use Rattle.rules_maps.specs.Serving.{Serving};
     ghost use Rattle.skip_vector.specs.Window.{window, Rises};
 
     ghost Value = { Serving };

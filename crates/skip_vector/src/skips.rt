@@ -1,6 +1,6 @@
 // What every form of the skips does: the calls and their meaning, over the TID that is served and the skipped ones above it.
 ghost use Rattle.std.specs.Prelude.{◌≡◌, ℕ, ◌^◌, ◌<◌, ◌≤◌, OnOk, OnErr};
-ghost use Rattle.tcc_maps.specs.Serving.{Serving, first_serving, skipped, advance as advanced};
+ghost use Rattle.rules_maps.specs.Serving.{Serving, first_serving, skipped, advance as advanced};
 
 use std::alloc::Global;
 use tcc_base::{NoMemory, Tid};

@@ -1,6 +1,6 @@
 // The skip vector that a directory keeps: the ring.
 ghost use Rattle.std.specs.Prelude.{◌≡◌, ℕ, ◌+◌, ◌^◌, ◌<◌, ◌≤◌, OnOk, OnErr, length};
-ghost use Rattle.tcc_maps.specs.Serving.{Serving, first_serving, is_skipped, skipped, advance as advanced};
+ghost use Rattle.rules_maps.specs.Serving.{Serving, first_serving, is_skipped, skipped, advance as advanced};
 
 use crate::ring::RingSkips;
 use crate::skips::Skips;
@@ -15,7 +15,7 @@ pub struct SkipVector {
 }
 
 impl Model for SkipVector {
-    ghost use Rattle.tcc_maps.specs.Serving.{Serving};
+    ghost use Rattle.rules_maps.specs.Serving.{Serving};
 
     ghost Value = { Serving };
 

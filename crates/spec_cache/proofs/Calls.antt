@@ -1,10 +1,10 @@
 -- What each call does to the maps, where the line has a frame and where it has none.
 use Rattle.std.proofs.Common.{[], ℕ, ◌<◌, ◌≡◌, Bool, true, false, cond, List, set, Option, Some, None, nat_eq, refl, sym, ◌∙◌, ap, subst}
 use Rattle.std.proofs.lemmas.Bool.{eq-eqb, eqb-true, and_parts}
-use Rattle.tcc_maps.specs.Words.{line_of, place_of}
-use Rattle.tcc_maps.specs.Masks.{hit}
-use Rattle.tcc_maps.specs.CacheChange.{marked, stored, filled, invalidated, cleaned, words_dropped, rolled_back, read_cleared, committed}
-use Rattle.tcc_maps.specs.Spilled.{spill, none_spilled}
+use Rattle.rules_maps.specs.Words.{line_of, place_of}
+use Rattle.rules_maps.specs.Masks.{hit}
+use Rattle.rules_maps.specs.CacheChange.{marked, stored, filled, invalidated, cleaned, words_dropped, rolled_back, read_cleared, committed}
+use Rattle.rules_maps.specs.Spilled.{spill, none_spilled}
 use Rattle.spec_cache.specs.declared.frame.Change.TheVariants.{RollBack, ClearRead, Commit}
 use Rattle.spec_cache.specs.Change.{all_changed}
 use Rattle.spec_cache.proofs.MapsAll.{maps-rolled_back, maps-read_cleared, maps-committed}

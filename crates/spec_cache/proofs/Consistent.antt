@@ -3,11 +3,11 @@ use Rattle.std.proofs.Common.{ℕ, zero, suc, ◌+◌, ◌*◌, ◌/◌, ◌%◌
 use Rattle.std.proofs.Common.{Option, Some, None, is_some, nat_lt, refl, sym, ◌∙◌, ap, subst, arith}
 use Rattle.std.proofs.lemmas.Bool.{false≢true, ltb-true, eqb-true}
 use Rattle.std.proofs.lemmas.Nat.{div_below, div-mul-add}
-use Rattle.tcc_maps.specs.Words.{line_of, place_of}
-use Rattle.tcc_maps.specs.Masks.{has}
-use Rattle.tcc_maps.specs.Shape.{set_of}
-use Rattle.tcc_maps.specs.Cache.{IsCache}
-use Rattle.tcc_maps.proofs.Lemmas.{has-zero}
+use Rattle.rules_maps.specs.Words.{line_of, place_of}
+use Rattle.rules_maps.specs.Masks.{has}
+use Rattle.rules_maps.specs.Shape.{set_of}
+use Rattle.rules_maps.specs.Cache.{IsCache}
+use Rattle.rules_maps.proofs.Lemmas.{has-zero}
 use Rattle.spec_cache.specs.declared.frame.FrameView.{FrameView}
 use Rattle.spec_cache.specs.Frame.{value_in, read_in, modified_in, dirty_in, line_in, holds_line, IsFrame}
 use Rattle.spec_cache.specs.Held.{Held, IsHeld, frame_of, frame_at, maps}

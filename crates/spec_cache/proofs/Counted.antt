@@ -3,8 +3,8 @@ use Rattle.std.proofs.Common.{ℕ, suc, zero, ◌+◌, ◌<◌, ◌≤◌, ◌�
 use Rattle.std.proofs.Common.{length, get_or, Option, Some, None, nat_eq, refl, sym, ◌∙◌, ap, arith}
 use Rattle.std.proofs.lemmas.Bool.{cases_eq, cases_Bool}
 use Rattle.std.proofs.lemmas.Bool.Decides.{nat_tests}
-use Rattle.tcc_maps.specs.Words.{num, count_below, any_below, those}
-use Rattle.tcc_maps.proofs.Lemmas.{length-those}
+use Rattle.rules_maps.specs.Words.{num, count_below, any_below, those}
+use Rattle.rules_maps.proofs.Lemmas.{length-those}
 use Rattle.spec_cache.specs.declared.frame.FrameView.{FrameView}
 use Rattle.spec_cache.specs.Frame.{holds_line}
 use Rattle.spec_cache.specs.Held.{frame_of}

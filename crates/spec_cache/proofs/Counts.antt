@@ -4,12 +4,12 @@ use Rattle.std.proofs.Common.{Some, None, is_some, nat_eq, refl, sym, ◌∙◌,
 use Rattle.std.specs.Option.{MatchOption}
 use Rattle.std.proofs.lemmas.Bool.{eqb-true}
 use Rattle.std.proofs.Math.Bool.{and-false}
-use Rattle.tcc_maps.specs.Words.{line_of, place_of, any_word, any_below, count_below}
-use Rattle.tcc_maps.specs.Masks.{has}
-use Rattle.tcc_maps.specs.Shape.{lines}
-use Rattle.tcc_maps.specs.Cache.{is_marked, is_modified, is_dirty, writes_at, keeps}
-use Rattle.tcc_maps.specs.CacheUse.{Wants, is_number, is_useful_way, useful_at, useful_ways}
-use Rattle.tcc_maps.proofs.Lemmas.{length-those}
+use Rattle.rules_maps.specs.Words.{line_of, place_of, any_word, any_below, count_below}
+use Rattle.rules_maps.specs.Masks.{has}
+use Rattle.rules_maps.specs.Shape.{lines}
+use Rattle.rules_maps.specs.Cache.{is_marked, is_modified, is_dirty, writes_at, keeps}
+use Rattle.rules_maps.specs.CacheUse.{Wants, is_number, is_useful_way, useful_at, useful_ways}
+use Rattle.rules_maps.proofs.Lemmas.{length-those}
 use Rattle.spec_cache.specs.declared.frame.FrameView.{FrameView}
 use Rattle.spec_cache.specs.Frame.{modified_in, dirty_in, line_in, holds_line, IsFrame, IsWay}
 use Rattle.spec_cache.specs.Held.{Held, IsHeld, IsWayOf, frame_of, maps}

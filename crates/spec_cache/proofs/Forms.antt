@@ -6,8 +6,8 @@ use Rattle.std.specs.Option.{option_map, MatchOption}
 use Rattle.std.proofs.lemmas.Bool.{cases_Bool}
 use Rattle.std.proofs.lemmas.List.{length-map, length-replicate, take-append-le, take_all}
 use Rattle.tcc_base.specs.Settings.{Settings, IsAllowed}
-use Rattle.tcc_maps.specs.Words.{line_of}
-use Rattle.tcc_maps.specs.Cache.{empty_cache}
+use Rattle.rules_maps.specs.Words.{line_of}
+use Rattle.rules_maps.specs.Cache.{empty_cache}
 use Rattle.spec_cache.specs.declared.frame.FrameView.{FrameView}
 use Rattle.spec_cache.specs.declared.frame.Change.{Change}
 use Rattle.spec_cache.specs.declared.frame.Change.TheVariants.{RollBack, ClearRead, Commit}

@@ -2,15 +2,15 @@
 use Rattle.std.proofs.Common.{ℕ, suc, zero, ◌+◌, ◌*◌, ◌<◌, ◌≡◌, Bool, true, false, not, get_or, set, Option, Some, None, is_some, nat_eq}
 use Rattle.std.proofs.Common.{bit_and, refl, sym, ◌∙◌, ap, arith}
 use Rattle.std.specs.Option.{MatchOption, option_map}
-use Rattle.tcc_maps.specs.Words.{line_of, place_of, word_at, any_below, any_word}
-use Rattle.tcc_maps.specs.Cache.{dirty_copy, is_dirty, keeps}
-use Rattle.tcc_maps.specs.CacheChange.{evicted, evicted_line}
-use Rattle.tcc_maps.specs.Bridge.{tagged_of}
+use Rattle.rules_maps.specs.Words.{line_of, place_of, word_at, any_below, any_word}
+use Rattle.rules_maps.specs.Cache.{dirty_copy, is_dirty, keeps}
+use Rattle.rules_maps.specs.CacheChange.{evicted, evicted_line}
+use Rattle.rules_maps.specs.Bridge.{tagged_of}
 use Rattle.spec_cache.specs.declared.frame.FrameView.{FrameView}
 use Rattle.tcc_base.specs.declared.access.Tagged.{Tagged}
 use Rattle.std.proofs.Math.Bool.{and-false}
-use Rattle.tcc_maps.specs.Masks.{hit}
-use Rattle.tcc_maps.specs.CacheLook.{reads_masked}
+use Rattle.rules_maps.specs.Masks.{hit}
+use Rattle.rules_maps.specs.CacheLook.{reads_masked}
 use Rattle.spec_cache.proofs.FrameKept.{IsFrame-invalidated}
 use Rattle.spec_cache.specs.Frame.{value_in, read_in, dirty_in, line_in, IsFrame, IsWay, dirty_part, invalidated_frame}
 use Rattle.spec_cache.specs.Held.{Held, IsHeld, IsWayOf, frame_of, maps}

@@ -4,7 +4,7 @@ use Rattle.std.proofs.Common.{subst, length-set, get_or-set_same, get_or-set_oth
 use Rattle.std.specs.Option.{option_map}
 use Rattle.std.proofs.lemmas.Bool.{cases_eq}
 use Rattle.std.proofs.lemmas.List.{length-map}
-use Rattle.tcc_maps.specs.Shape.{lines}
+use Rattle.rules_maps.specs.Shape.{lines}
 use Rattle.spec_cache.specs.declared.frame.FrameView.{FrameView}
 use Rattle.spec_cache.specs.Frame.{IsFrame, IsWay, empty_frame}
 use Rattle.spec_cache.specs.Held.{Held, IsHeld, FitsAt, FitsWay, frame_of}

@@ -4,9 +4,9 @@ use Rattle.std.proofs.Common.{sym, ap, subst}
 use Rattle.std.proofs.lemmas.List.{set-get_or}
 use Rattle.std.specs.Bool.{MatchBool}
 use Rattle.std.specs.Option.{IfSome}
-use Rattle.tcc_maps.specs.Words.{line_of, place_of}
-use Rattle.tcc_maps.specs.Cache.{dirty_copy}
-use Rattle.tcc_maps.specs.CacheLook.{Hit, look_load}
+use Rattle.rules_maps.specs.Words.{line_of, place_of}
+use Rattle.rules_maps.specs.Cache.{dirty_copy}
+use Rattle.rules_maps.specs.CacheLook.{Hit, look_load}
 use Rattle.spec_cache.specs.declared.frame.FrameView.{FrameView}
 use Rattle.spec_cache.specs.Frame.{stored_frame, dirty_part, marked_in}
 use Rattle.spec_cache.specs.Held.{Held, IsHeld, IsWayOf, maps}

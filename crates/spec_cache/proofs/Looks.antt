@@ -4,10 +4,10 @@ use Rattle.std.proofs.Common.{is_none, refl, sym, ◌∙◌, ap, subst, arith, a
 use Rattle.std.proofs.lemmas.Bool.{cases_eq, lt-ltb}
 use Rattle.std.proofs.Math.Bool.{and-false}
 use Rattle.tcc_base.specs.Settings.{Settings}
-use Rattle.tcc_maps.specs.Words.{line_of, place_of, lowest, all_below}
-use Rattle.tcc_maps.specs.Shape.{set_of}
-use Rattle.tcc_maps.specs.Cache.{free_way, all_marked, way_marked}
-use Rattle.tcc_maps.specs.CacheLook.{Hit, Miss, NeedsRoom, Overflow, look_line, look_load, look_value, look_store}
+use Rattle.rules_maps.specs.Words.{line_of, place_of, lowest, all_below}
+use Rattle.rules_maps.specs.Shape.{set_of}
+use Rattle.rules_maps.specs.Cache.{free_way, all_marked, way_marked}
+use Rattle.rules_maps.specs.CacheLook.{Hit, Miss, NeedsRoom, Overflow, look_line, look_load, look_value, look_store}
 use Rattle.spec_cache.specs.declared.frame.FrameView.{FrameView}
 use Rattle.spec_cache.specs.Frame.{value_in, line_in, marked_in, IsWay}
 use Rattle.spec_cache.specs.Held.{Held, IsHeld, IsWayOf, frame_of, frame_at, maps}

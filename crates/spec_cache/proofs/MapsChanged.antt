@@ -3,11 +3,11 @@ use Rattle.std.proofs.Common.{[], ℕ, ◌+◌, ◌*◌, ◌/◌, ◌%◌, ◌<�
 use Rattle.std.proofs.Common.{set, unwrap_or, Option, Some, None, is_some, nat_eq, nat_lt, refl, sym, ◌∙◌, ap, subst, arith}
 use Rattle.std.proofs.Common.{get_or-set_same, get_or-set_other}
 use Rattle.std.proofs.lemmas.Bool.{cases_eq, eq-eqb, ne_eqb}
-use Rattle.tcc_maps.specs.Words.{line_of, place_of}
-use Rattle.tcc_maps.specs.Masks.{has, hit}
-use Rattle.tcc_maps.specs.Cache.{Cache}
-use Rattle.tcc_maps.specs.CacheChange.{marked, stored, filled, invalidated, cleaned, words_dropped}
-use Rattle.tcc_maps.specs.Spilled.{spill, none_spilled}
+use Rattle.rules_maps.specs.Words.{line_of, place_of}
+use Rattle.rules_maps.specs.Masks.{has, hit}
+use Rattle.rules_maps.specs.Cache.{Cache}
+use Rattle.rules_maps.specs.CacheChange.{marked, stored, filled, invalidated, cleaned, words_dropped}
+use Rattle.rules_maps.specs.Spilled.{spill, none_spilled}
 use Rattle.spec_cache.specs.declared.frame.FrameView.{FrameView}
 use Rattle.spec_cache.specs.Frame.{value_in, read_in, modified_in, dirty_in, line_in, IsFrame, marked_frame, stored_frame, filled_frame}
 use Rattle.spec_cache.specs.Frame.{invalidated_frame, cleaned_frame, dropped_frame}

@@ -4,8 +4,8 @@ use Rattle.std.proofs.Common.{None, is_some, nat_eq, nat_lt, refl, sym, ◌∙�
 use Rattle.std.proofs.lemmas.Bool.{cases_eq, eq-eqb, ne_eqb, ltb-true, ltb-false}
 use Rattle.std.proofs.lemmas.Nat.{div-mul-add}
 use Rattle.std.proofs.Math.Bool.{and-false}
-use Rattle.tcc_maps.specs.Words.{line_of, place_of}
-use Rattle.tcc_maps.specs.CacheChange.{placed_at, evicted_line}
+use Rattle.rules_maps.specs.Words.{line_of, place_of}
+use Rattle.rules_maps.specs.CacheChange.{placed_at, evicted_line}
 use Rattle.spec_cache.specs.declared.frame.FrameView.{FrameView}
 use Rattle.spec_cache.specs.Frame.{value_in, read_in, modified_in, dirty_in, line_in, empty_frame}
 use Rattle.spec_cache.specs.Held.{Held, IsHeld, frame_of, frame_at, maps}

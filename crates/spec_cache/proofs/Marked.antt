@@ -8,11 +8,11 @@ use Rattle.std.proofs.lemmas.List.Elements.{Contains-append_left, Contains-push,
 use Rattle.std.proofs.lemmas.List.{take_all, take_more, map-append}
 use Rattle.tcc_base.specs.declared.names.LineAddr.{LineAddr}
 use Rattle.tcc_base.specs.declared.names.Mask.{Mask}
-use Rattle.tcc_maps.specs.Words.{line_of, place_of, word_at, any_below, any_word, those}
-use Rattle.tcc_maps.specs.Masks.{has}
-use Rattle.tcc_maps.specs.Shape.{lines}
-use Rattle.tcc_maps.specs.Cache.{is_modified, written_lines, marks_by_home, modified_mask, reads_at}
-use Rattle.tcc_maps.proofs.Lemmas.{any_below-found, any_below-at, those-holds, those-only, those-rise}
+use Rattle.rules_maps.specs.Words.{line_of, place_of, word_at, any_below, any_word, those}
+use Rattle.rules_maps.specs.Masks.{has}
+use Rattle.rules_maps.specs.Shape.{lines}
+use Rattle.rules_maps.specs.Cache.{is_modified, written_lines, marks_by_home, modified_mask, reads_at}
+use Rattle.rules_maps.proofs.Lemmas.{any_below-found, any_below-at, those-holds, those-only, those-rise}
 use Rattle.spec_cache.specs.declared.frame.FrameView.{FrameView}
 use Rattle.spec_cache.specs.Frame.{read_in, modified_in, IsFrame, IsWay}
 use Rattle.spec_cache.specs.Held.{Held, IsHeld, IsWayOf, frame_of, maps}

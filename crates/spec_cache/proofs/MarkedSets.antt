@@ -12,10 +12,10 @@ use Rattle.std.proofs.lemmas.List.Kept.{AllPairs-from_increasing, Contains-dedup
 use Rattle.std.proofs.lemmas.List.Sorted.{Contains-permutation, IsPermutation-sym}
 use Rattle.std.proofs.lemmas.Map.Keys.{IsStrictlyIncreasing-dedup}
 use Rattle.std.proofs.lemmas.Nat.{div_below, div-mul-add}
-use Rattle.tcc_maps.specs.Words.{any_below, those}
-use Rattle.tcc_maps.specs.Cache.{way_marked}
-use Rattle.tcc_maps.specs.CacheUse.{is_number}
-use Rattle.tcc_maps.proofs.Lemmas.{any_below-found, any_below-at, those-holds, those-only, those-rise}
+use Rattle.rules_maps.specs.Words.{any_below, those}
+use Rattle.rules_maps.specs.Cache.{way_marked}
+use Rattle.rules_maps.specs.CacheUse.{is_number}
+use Rattle.rules_maps.proofs.Lemmas.{any_below-found, any_below-at, those-holds, those-only, those-rise}
 use Rattle.spec_cache.specs.declared.frame.FrameView.{FrameView}
 use Rattle.spec_cache.specs.Frame.{marked_in}
 use Rattle.spec_cache.specs.Held.{Held, IsHeld, maps}

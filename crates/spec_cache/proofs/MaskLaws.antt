@@ -5,7 +5,7 @@ use Rattle.std.specs.Int.{bit_at}
 use Rattle.std.proofs.lemmas.Nat.Bits.{bit_at_and, bit_at_or, bit_at_xor, bit_at-lt, bit_at-pow_same, bit_at-pow_other, bit_at-zero}
 use Rattle.std.proofs.lemmas.Bool.{cases_eq, eq-eqb, ne_eqb}
 use Rattle.std.proofs.lemmas.Bool.Decides.{nat_tests}
-use Rattle.tcc_maps.specs.Masks.{has, minus, meet, join}
+use Rattle.rules_maps.specs.Masks.{has, minus, meet, join}
 
 bit_meet : (a b : ℕ) → a < 2 → b < 2 → nat_eq 1 (min a b) ≡ (nat_eq 1 a && nat_eq 1 b)
 bit_meet a b p q = grind (arith, nat_tests)

@@ -5,7 +5,7 @@ use Rattle.std.proofs.Common.{get_or-set_other}
 use Rattle.std.specs.Option.{option_map}
 use Rattle.std.proofs.lemmas.Bool.{false≢true, cases_eq, cases_Bool, and_parts, eqb-true}
 use Rattle.std.proofs.lemmas.Nat.{and_comm, xor_comm}
-use Rattle.tcc_maps.specs.Masks.{minus}
+use Rattle.rules_maps.specs.Masks.{minus}
 use Rattle.spec_cache.specs.declared.frame.FrameView.{FrameView}
 use Rattle.spec_cache.specs.declared.frame.Change.{Change}
 use Rattle.spec_cache.specs.declared.frame.Change.TheVariants.{RollBack, ClearRead, Commit}

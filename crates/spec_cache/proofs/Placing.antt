@@ -6,11 +6,11 @@ use Rattle.std.proofs.lemmas.Bool.{false≢true}
 use Rattle.std.proofs.lemmas.List.{set-get_or}
 use Rattle.std.proofs.lemmas.Nat.{div-mul-add}
 use Rattle.std.proofs.Math.Bool.{and-false}
-use Rattle.tcc_maps.specs.Words.{line_of, place_of, lowest}
-use Rattle.tcc_maps.specs.Shape.{set_of, lines}
-use Rattle.tcc_maps.specs.Cache.{Cache, free_way}
-use Rattle.tcc_maps.specs.CacheChange.{marked, placed, placed_at}
-use Rattle.tcc_maps.proofs.Lemmas.{lowest-cases}
+use Rattle.rules_maps.specs.Words.{line_of, place_of, lowest}
+use Rattle.rules_maps.specs.Shape.{set_of, lines}
+use Rattle.rules_maps.specs.Cache.{Cache, free_way}
+use Rattle.rules_maps.specs.CacheChange.{marked, placed, placed_at}
+use Rattle.rules_maps.proofs.Lemmas.{lowest-cases}
 use Rattle.spec_cache.specs.declared.frame.FrameView.{FrameView}
 use Rattle.spec_cache.specs.Frame.{value_in, line_in, marked_frame, empty_frame}
 use Rattle.spec_cache.specs.Held.{Held, IsHeld, FitsWay, IsWayOf, frame_of, maps}

@@ -4,12 +4,12 @@ use Rattle.std.proofs.Common.{Some, None, is_some, nat_eq, bit_and, refl, sym, â
 use Rattle.std.specs.Option.{option_map}
 use Rattle.std.proofs.lemmas.Bool.{falseâ‰¢true, cases_eq, cases_Bool, eq-eqb, ne_eqb}
 use Rattle.std.proofs.lemmas.Nat.{and_le_l, le_or_l, or_of_8}
-use Rattle.tcc_maps.specs.Words.{line_of, place_of, word_at, any_below, any_word, eight, or_else}
-use Rattle.tcc_maps.specs.Masks.{has, hit, mask_of, masked, meet, join}
-use Rattle.tcc_maps.specs.Cache.{is_marked, is_dirty, modified_mask, dirty_mask, dirty_words, dirty_tag, first_of_line, dirty_copy, keeps}
-use Rattle.tcc_maps.specs.CacheLook.{reads_masked}
-use Rattle.tcc_maps.specs.Bridge.{tagged_of}
-use Rattle.tcc_maps.proofs.Lemmas.{mask_of-has, has-meet, has-join, has-zero}
+use Rattle.rules_maps.specs.Words.{line_of, place_of, word_at, any_below, any_word, eight, or_else}
+use Rattle.rules_maps.specs.Masks.{has, hit, mask_of, masked, meet, join}
+use Rattle.rules_maps.specs.Cache.{is_marked, is_dirty, modified_mask, dirty_mask, dirty_words, dirty_tag, first_of_line, dirty_copy, keeps}
+use Rattle.rules_maps.specs.CacheLook.{reads_masked}
+use Rattle.rules_maps.specs.Bridge.{tagged_of}
+use Rattle.rules_maps.proofs.Lemmas.{mask_of-has, has-meet, has-join, has-zero}
 use Rattle.spec_cache.specs.declared.frame.FrameView.{FrameView}
 use Rattle.spec_cache.specs.Frame.{value_in, read_in, modified_in, dirty_in, IsFrame, dirty_part}
 use Rattle.spec_cache.specs.Held.{Held, frame_of, maps}

@@ -5,8 +5,8 @@ use Rattle.std.specs.Option.{IfSome}
 use Rattle.std.specs.Bool.{MatchBool}
 use Rattle.std.proofs.lemmas.Bool.{false≢true, cases_lt, cases_Bool, eq-eqb, ne_eqb}
 use Rattle.tcc_base.specs.Settings.{Settings, IsAllowed}
-use Rattle.tcc_maps.specs.Words.{num, any_below}
-use Rattle.tcc_maps.proofs.Lemmas.{any_below-found, any_below-at}
+use Rattle.rules_maps.specs.Words.{num, any_below}
+use Rattle.rules_maps.proofs.Lemmas.{any_below-found, any_below-at}
 use Rattle.spec_cache.specs.declared.frame.FrameView.{FrameView}
 use Rattle.spec_cache.specs.Frame.{holds_line}
 use Rattle.spec_cache.specs.Home.{reads_in, written_in}

@@ -4,7 +4,7 @@ use Rattle.std.proofs.Common.{Option, Some, None, inl, inr, refl, sym, ap, â—Œâˆ
 use Rattle.std.proofs.lemmas.Bool.{cases_eq}
 use Rattle.std.proofs.lemmas.List.{map-set, length-replicate}
 use Rattle.tcc_base.specs.Settings.{Settings}
-use Rattle.tcc_maps.specs.Words.{num, count_below}
+use Rattle.rules_maps.specs.Words.{num, count_below}
 use Rattle.spec_cache.specs.declared.frame.FrameView.{FrameView}
 use Rattle.spec_cache.specs.Home.{reads_in, written_in}
 use Rattle.spec_cache.specs.Useful.{writes_in, dirty_way}

@@ -5,8 +5,8 @@ use Rattle.std.specs.Option.{option_map, IfSome}
 use Rattle.std.specs.Prelude.{nat_lt, if◌then◌else◌}
 use Rattle.std.proofs.lemmas.Bool.{false≢true, cases_eq, cases_Bool, eq-eqb, eqb-true, ne_eqb, lt-ltb}
 use Rattle.std.proofs.lemmas.Nat.{div-mul-add}
-use Rattle.tcc_maps.specs.Words.{count_below}
-use Rattle.tcc_maps.specs.CacheUse.{Wants, is_number, useful_ways}
+use Rattle.rules_maps.specs.Words.{count_below}
+use Rattle.rules_maps.specs.CacheUse.{Wants, is_number, useful_ways}
 use Rattle.spec_cache.specs.declared.frame.FrameView.{FrameView}
 use Rattle.spec_cache.specs.Useful.{useful_in, set_below, other_set, room_set, line_set, in_set}
 use Rattle.spec_cache.specs.Held.{Held, IsHeld, maps}

@@ -5,8 +5,8 @@ use Rattle.std.specs.Option.{option_map}
 use Rattle.std.proofs.lemmas.Bool.{false≢true, cases_eq, or_parts, eq-eqb, ne_eqb}
 use Rattle.std.proofs.lemmas.Nat.{div-mul-add}
 use Rattle.std.proofs.Math.Nat.{mul-le-mul_right}
-use Rattle.tcc_maps.specs.Words.{count_below}
-use Rattle.tcc_maps.specs.CacheUse.{Wants, is_number, useful_ways}
+use Rattle.rules_maps.specs.Words.{count_below}
+use Rattle.rules_maps.specs.CacheUse.{Wants, is_number, useful_ways}
 use Rattle.spec_cache.specs.declared.frame.FrameView.{FrameView}
 use Rattle.spec_cache.specs.Useful.{useful_in}
 use Rattle.spec_cache.specs.Held.{Held, IsHeld, maps}

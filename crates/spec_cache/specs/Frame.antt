@@ -2,8 +2,8 @@
 use Rattle.std.specs.Prelude.{ℕ, ◌^◌, ◌<◌, ◌≡◌, ◌≢◌, Bool, true, false, not, cond, ◌==◌, ◌&&◌, List, length, get_or, slice_set, Option}
 use Rattle.std.specs.Prelude.{Some, None, if◌then◌else◌}
 use Rattle.tcc_base.specs.declared.access.Tagged.{Tagged}
-use Rattle.tcc_maps.specs.Masks.{has, minus, join, masked}
-use Rattle.tcc_maps.specs.Words.{eight}
+use Rattle.rules_maps.specs.Masks.{has, minus, join, masked}
+use Rattle.rules_maps.specs.Words.{eight}
 use Rattle.spec_cache.specs.declared.frame.FrameView.{FrameView}
 
 -- the value of a valid word, by its place in the line

@@ -2,9 +2,9 @@
 use Rattle.std.specs.Prelude.{ℕ, ◌+◌, ◌*◌, ◌/◌, ◌%◌, ◌<◌, ◌≡◌, cond, nat_lt, List, [], ◌∷◌, length, get_or, Option, Some, None, is_some}
 use Rattle.std.specs.Prelude.{if◌then◌else◌}
 use Rattle.tcc_base.specs.Settings.{Settings, IsAllowed}
-use Rattle.tcc_maps.specs.Words.{line_of, place_of}
-use Rattle.tcc_maps.specs.Shape.{lines}
-use Rattle.tcc_maps.specs.Cache.{Cache}
+use Rattle.rules_maps.specs.Words.{line_of, place_of}
+use Rattle.rules_maps.specs.Shape.{lines}
+use Rattle.rules_maps.specs.Cache.{Cache}
 use Rattle.spec_cache.specs.declared.frame.FrameView.{FrameView}
 use Rattle.spec_cache.specs.Frame.{value_in, read_in, modified_in, dirty_in, holds_line, line_in, IsFrame, IsWay}
 

@@ -1,12 +1,12 @@
 -- What a cache answers and hands out, in the words of its maps.
 use Rattle.std.specs.Prelude.{ℕ, ◌≡◌, Bool, true, cond, ◌&&◌, get_or, Some, None, is_some}
 use Rattle.std.specs.Option.{option_map}
-use Rattle.tcc_maps.specs.Words.{line_of, place_of, word_at}
-use Rattle.tcc_maps.specs.Masks.{mask_of}
-use Rattle.tcc_maps.specs.Cache.{Cache, modified_mask, dirty_mask, dirty_copy}
-use Rattle.tcc_maps.specs.CacheChange.{marked, stored}
-use Rattle.tcc_maps.specs.CacheLook.{Look as Answer, Hit as Hits, Miss as Misses, NeedsRoom as WantsRoom, Overflow as Overflows}
-use Rattle.tcc_maps.specs.Bridge.{tagged_of}
+use Rattle.rules_maps.specs.Words.{line_of, place_of, word_at}
+use Rattle.rules_maps.specs.Masks.{mask_of}
+use Rattle.rules_maps.specs.Cache.{Cache, modified_mask, dirty_mask, dirty_copy}
+use Rattle.rules_maps.specs.CacheChange.{marked, stored}
+use Rattle.rules_maps.specs.CacheLook.{Look as Answer, Hit as Hits, Miss as Misses, NeedsRoom as WantsRoom, Overflow as Overflows}
+use Rattle.rules_maps.specs.Bridge.{tagged_of}
 use Rattle.spec_cache.specs.declared.frame.FrameView.{FrameView}
 use Rattle.spec_cache.specs.declared.look.Look.{Look}
 use Rattle.spec_cache.specs.declared.look.Look.TheVariants.{Hit, Miss, NeedsRoom, Overflow}

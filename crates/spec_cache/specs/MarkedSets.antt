@@ -1,8 +1,8 @@
 -- The sets of a cache in which a frame is marked.
 use Rattle.std.specs.Prelude.{ℕ, ◌/◌, Bool, List, get_or, Option, Some, None, if◌then◌else◌}
-use Rattle.tcc_maps.specs.Words.{any_below}
-use Rattle.tcc_maps.specs.Shape.{Shape}
-use Rattle.tcc_maps.specs.Cache.{Cache, way_marked}
+use Rattle.rules_maps.specs.Words.{any_below}
+use Rattle.rules_maps.specs.Shape.{Shape}
+use Rattle.rules_maps.specs.Cache.{Cache, way_marked}
 use Rattle.spec_cache.specs.declared.frame.FrameView.{FrameView}
 use Rattle.spec_cache.specs.Frame.{marked_in}
 

@@ -1,6 +1,6 @@
 -- Ways counted set by set.
 use Rattle.std.specs.Prelude.{ℕ, ◌+◌, ◌*◌, ◌<◌, ◌≡◌, Bool, true, false, not, ◌==◌, ◌&&◌, List, length, get_or, Option, Some, None}
-use Rattle.tcc_maps.specs.Words.{count_below}
+use Rattle.rules_maps.specs.Words.{count_below}
 use Rattle.spec_cache.specs.declared.frame.FrameView.{FrameView}
 use Rattle.spec_cache.specs.Useful.{is_marked_frame, is_written_frame}
 use Rattle.spec_cache.specs.Held.{Held}

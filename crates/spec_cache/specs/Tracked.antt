@@ -1,7 +1,7 @@
 -- What is counted of a cache's ways, and the line of each way apart from its frame.
 use Rattle.std.specs.Prelude.{ℕ, ◌*◌, ◌%◌, ◌<◌, ◌≤◌, ◌≡◌, Bool, false, not, ◌==◌, List, length, get_or, map, Option, Some, None}
 use Rattle.std.specs.Prelude.{if◌then◌else◌}
-use Rattle.tcc_maps.specs.Words.{count_below}
+use Rattle.rules_maps.specs.Words.{count_below}
 use Rattle.spec_cache.specs.declared.frame.FrameView.{FrameView}
 use Rattle.spec_cache.specs.Home.{reads_in}
 use Rattle.spec_cache.specs.Useful.{writes_in, dirty_way}

@@ -3,7 +3,7 @@
 use Rattle.std.specs.Prelude.{ℕ, ◌%◌, Bool, false, not, ◌==◌, ◌&&◌, ◌||◌, nat_lt, Option, Some, None, is_some, if◌then◌else◌}
 use Rattle.std.specs.Option.{option_map}
 use Rattle.tcc_base.specs.declared.names.LineAddr.{LineAddr}
-use Rattle.tcc_maps.specs.CacheUse.{Wants, is_number}
+use Rattle.rules_maps.specs.CacheUse.{Wants, is_number}
 use Rattle.spec_cache.specs.declared.frame.FrameView.{FrameView}
 use Rattle.spec_cache.specs.declared.useful.Wants.{Wants as CodeWants}
 use Rattle.spec_cache.specs.Home.{written_in}

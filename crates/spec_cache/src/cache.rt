@@ -1,13 +1,13 @@
 // A core's cache: the calls of its frames, held in one array by set and way.
 ghost use Rattle.std.specs.Prelude.{◌≡◌, ◌<◌, ℕ, [], Option, Some, None, MatchBool, MatchOption, MatchResult, IfOk, map, IsTrue, IsSome, is_some, false};
 ghost use Rattle.std.specs.Option.{option_map};
-ghost use Rattle.tcc_maps.specs.Words.{line_of};
-ghost use Rattle.tcc_maps.specs.Shape.{lines, set_of};
-ghost use Rattle.tcc_maps.specs.Bridge.{tagged_of};
-ghost use Rattle.tcc_maps.specs.Cache.{IsCache, empty_cache, dirty_copy, free_way as lowest_free, keeps as keeps_word, reads_at as any_read, marks_by_home as every_mark};
-ghost use Rattle.tcc_maps.specs.CacheChange.{stored, placed, filled, invalidated, cleaned, evicted, words_dropped, rolled_back, read_cleared, committed};
-ghost use Rattle.tcc_maps.specs.CacheLook.{look_load as load_answer, look_store as store_answer, reads_masked};
-ghost use Rattle.tcc_maps.specs.Spilled.{spill, none_spilled};
+ghost use Rattle.rules_maps.specs.Words.{line_of};
+ghost use Rattle.rules_maps.specs.Shape.{lines, set_of};
+ghost use Rattle.rules_maps.specs.Bridge.{tagged_of};
+ghost use Rattle.rules_maps.specs.Cache.{IsCache, empty_cache, dirty_copy, free_way as lowest_free, keeps as keeps_word, reads_at as any_read, marks_by_home as every_mark};
+ghost use Rattle.rules_maps.specs.CacheChange.{stored, placed, filled, invalidated, cleaned, evicted, words_dropped, rolled_back, read_cleared, committed};
+ghost use Rattle.rules_maps.specs.CacheLook.{look_load as load_answer, look_store as store_answer, reads_masked};
+ghost use Rattle.rules_maps.specs.Spilled.{spill, none_spilled};
 ghost use Rattle.spec_cache.specs.Held.{Held, maps};
 ghost use Rattle.spec_cache.specs.Home.{mark_of};
 ghost use Rattle.spec_cache.specs.Look.{look_of, loaded, Views, Gives, StoresClean};

@@ -1,6 +1,6 @@
 // A frame: one line's eight words with their marks, and how each call of the cache changes it.
 ghost use Rattle.std.specs.Prelude.{false, ◌≡◌, ◌≢◌, ℕ, ◌^◌, ◌<◌, ◌≤◌, ◌↔◌, ◌==◌, ◌&&◌, Bool, not, IsTrue, Option, Some, None, length};
-ghost use Rattle.tcc_maps.specs.Masks.{has as has_word, meet, masked};
+ghost use Rattle.rules_maps.specs.Masks.{has as has_word, meet, masked};
 ghost use Rattle.spec_cache.specs.Frame.{value_in, read_in, modified_in, empty_frame, marked_frame, stored_frame, filled_frame, filled_up, invalidated_frame, cleaned_frame, dropped_frame, rolled_back_frame, read_cleared_frame, committed_frame, dirty_part};
 
 use crate::masks::{bit, has, without};
@@ -33,7 +33,7 @@ impl FrameView {
     ghost use Rattle.spec_cache.specs.Change.{changed_frame};
 
     /// A frame of the line with no valid word.
-    #[tactic(auto, unfolding(crate::specs::Frame::empty_frame, tcc_maps::specs::Words::eight))]
+    #[tactic(auto, unfolding(crate::specs::Frame::empty_frame, rules_maps::specs::Words::eight))]
     pub(crate) fn empty(line: LineAddr) -> FrameView
         ensures { result ≡ empty_frame line.0 }
     {

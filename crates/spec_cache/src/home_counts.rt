@@ -1,6 +1,6 @@
 // Numbers of ways by the home of their lines.
 ghost use Rattle.std.specs.Prelude.{◌≡◌, ◌<◌, ◌≤◌, ◌+◌, ℕ, Option, IfSome, get_or};
-ghost use Rattle.tcc_maps.specs.Words.{num};
+ghost use Rattle.rules_maps.specs.Words.{num};
 ghost use Rattle.spec_cache.specs.Tracked.{is_home, written_home as home_written, read_home as home_read, tag_of};
 
 use crate::frame::FrameView;

@@ -1,6 +1,6 @@
 // Masks of a line's eight words as bits of a byte.
 ghost use Rattle.std.specs.Prelude.{◌≡◌, ◌^◌, ◌<◌, ◌≤◌};
-ghost use Rattle.tcc_maps.specs.Masks.{has as has_word, minus, meet, join};
+ghost use Rattle.rules_maps.specs.Masks.{has as has_word, minus, meet, join};
 
 /// The mask of the word at place `k` alone.
 pub(crate) fn bit(k: usize) -> u8

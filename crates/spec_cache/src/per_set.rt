@@ -1,6 +1,6 @@
 // How many ways of each set pass a test, and of all sets together.
 ghost use Rattle.std.specs.Prelude.{◌≡◌, ◌<◌, ◌≤◌, ◌+◌, ◌==◌, ◌&&◌, not, ℕ, true, false, length, get_or, replicate, IfOk};
-ghost use Rattle.tcc_maps.specs.Words.{num};
+ghost use Rattle.rules_maps.specs.Words.{num};
 
 use crate::slots::zeros;
 use std::alloc::Global;

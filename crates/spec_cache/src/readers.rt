@@ -1,11 +1,11 @@
 // What a core asks of its cache between its changes: single frames, and what all frames hold together.
 ghost use Rattle.std.specs.Prelude.{◌≡◌, ◌<◌, ◌≤◌, ◌+◌, ◌*◌, ◌&&◌, ◌||◌, ◌==◌, ℕ, Option, None, Some, MatchOption, IfOk, IfSome, OnOk, cond, length, get_or, map};
 ghost use Rattle.std.specs.Option.{option_map};
-ghost use Rattle.tcc_maps.specs.Words.{any_below, count_below, those};
-ghost use Rattle.tcc_maps.specs.Shape.{lines, home, set_of};
-ghost use Rattle.tcc_maps.specs.Cache.{IsCache, keeps as keeps_word, is_marked as marked_line, is_modified as modified_line, is_dirty as dirty_line, writes_at as any_write, marks_by_home as every_mark};
-ghost use Rattle.tcc_maps.specs.CacheUse.{is_number, useful_ways};
-ghost use Rattle.tcc_maps.specs.CacheLook.{reads_masked as any_masked};
+ghost use Rattle.rules_maps.specs.Words.{any_below, count_below, those};
+ghost use Rattle.rules_maps.specs.Shape.{lines, home, set_of};
+ghost use Rattle.rules_maps.specs.Cache.{IsCache, keeps as keeps_word, is_marked as marked_line, is_modified as modified_line, is_dirty as dirty_line, writes_at as any_write, marks_by_home as every_mark};
+ghost use Rattle.rules_maps.specs.CacheUse.{is_number, useful_ways};
+ghost use Rattle.rules_maps.specs.CacheLook.{reads_masked as any_masked};
 ghost use Rattle.spec_cache.specs.Held.{maps};
 ghost use Rattle.spec_cache.specs.Home.{mark_of};
 ghost use Rattle.spec_cache.specs.MarkedSets.{has_marked};

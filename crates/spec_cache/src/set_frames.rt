@@ -1,8 +1,8 @@
 // The frames of a cache in one array, a line's frame among the ways of its set.
 ghost use Rattle.std.specs.Prelude.{◌≡◌, ◌*◌, ◌≤◌, replicate, Option, None, IfOk, IfSome, MatchBool, cond, ◌<◌, ◌||◌};
-ghost use Rattle.tcc_maps.specs.CacheUse.{is_number};
-ghost use Rattle.tcc_maps.specs.CacheLook.{look_load as load_answer, Hit};
-ghost use Rattle.tcc_maps.specs.Words.{those};
+ghost use Rattle.rules_maps.specs.CacheUse.{is_number};
+ghost use Rattle.rules_maps.specs.CacheLook.{look_load as load_answer, Hit};
+ghost use Rattle.rules_maps.specs.Words.{those};
 ghost use Rattle.spec_cache.specs.Held.{maps};
 ghost use Rattle.spec_cache.specs.Look.{loaded, StoresClean};
 ghost use Rattle.spec_cache.specs.Home.{reads_in};

@@ -1,8 +1,8 @@
 // What a form of the frames gives to the calls of a cache: its ways by place, and changes of all frames at once.
 ghost use Rattle.std.specs.Prelude.{◌≡◌, ◌<◌, ◌+◌, ◌*◌, ℕ, length, get_or, set, Option, Some, None, MatchOption, MatchBool, IfSome, IfOk, IsTrue, true, false};
-ghost use Rattle.tcc_maps.specs.Shape.{set_of};
-ghost use Rattle.tcc_maps.specs.Cache.{free_way as lowest_free, all_marked as every_marked};
-ghost use Rattle.tcc_maps.specs.CacheLook.{look_line};
+ghost use Rattle.rules_maps.specs.Shape.{set_of};
+ghost use Rattle.rules_maps.specs.Cache.{free_way as lowest_free, all_marked as every_marked};
+ghost use Rattle.rules_maps.specs.CacheLook.{look_line};
 ghost use Rattle.spec_cache.specs.Look.{look_of};
 ghost use Rattle.spec_cache.specs.Frame.{marked_in};
 ghost use Rattle.spec_cache.specs.Change.{all_changed};

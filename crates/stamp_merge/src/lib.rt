@@ -3,13 +3,13 @@
 
 ghost use Rattle.std.specs.Prelude.{◌≡◌, IfOk, map};
 ghost use Rattle.std.specs.List.{flat_map};
-ghost use Rattle.node_logs.specs.Fitting.{IsMergeOf};
+ghost use Rattle.rules_apart.specs.Fitting.{IsMergeOf};
 ghost use Rattle.stamp_merge.specs.Merging.{AreByStamp, AreLogs, MergeIsOne, MergedLogsRun};
 
 mod counting;
 
 use counting::by_counting;
-use node_logs::{Logged, Logs};
+use rules_apart::{Logged, Logs};
 use std::alloc::{AllocError, Global};
 use tcc_base::{List, NoMemory};
 use tcc_msg::{Event, Schedule};

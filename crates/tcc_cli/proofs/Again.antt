@@ -4,7 +4,7 @@ use Rattle.std.proofs.Common.{Bool, true, false, Option, Some, None, Ok, Err, Is
 use Rattle.std.proofs.Common.{◌⊎◌, ap, subst, inl, inr, length, if◌then◌else◌}
 use Rattle.std.specs.Prelude.{Contains}
 use Rattle.image_load.specs.Start.{Start}
-use Rattle.phase_rules.specs.Phases.{phases_of}
+use Rattle.theorem_phases.specs.Phases.{phases_of}
 use Rattle.schedule_text.specs.Grammar.{text_of}
 use Rattle.tcc_base.specs.Settings.{Settings}
 use Rattle.tcc_cli.proofs.Complete.{answers_complete, given-told, of-command}
@@ -29,8 +29,8 @@ use Rattle.tcc_cli.specs.declared.status.Status.{Status}
 use Rattle.tcc_cli.specs.declared.status.Status.TheVariants.{Done, Stopped, Memory}
 use Rattle.tcc_msg.specs.declared.event.Event.{Event}
 use Rattle.tcc_msg.specs.declared.event.Schedule.{Schedule}
-use Rattle.tcc_rules.specs.Seen.{IsDone}
-use Rattle.tcc_rules.specs.Step.{History}
+use Rattle.rules_tcc.specs.Seen.{IsDone}
+use Rattle.rules_tcc.specs.Step.{History}
 use Rattle.tcc_words.specs.Asked.{IsCommand}
 use Rattle.tcc_words.specs.declared.command.Command.{Command}
 use Rattle.tcc_words.specs.declared.command.Command.TheVariants.{Run, Replay, Phases, Follow}

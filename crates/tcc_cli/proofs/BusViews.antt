@@ -8,9 +8,9 @@ use Rattle.bus_count.specs.Text.{bus_count_text}
 use Rattle.bus_count.specs.Counts.{BusCounts}
 use Rattle.bus_run.specs.Counted.{IsBusCounted}
 use Rattle.bus_run.specs.Leading.{BusLeadsTo}
-use Rattle.bus_rules.specs.State.{BusEvent}
-use Rattle.bus_rules.specs.Step.{BusHistory}
-use Rattle.bus_rules.specs.Useful.{BusIsDone}
+use Rattle.rules_bus.specs.State.{BusEvent}
+use Rattle.rules_bus.specs.Step.{BusHistory}
+use Rattle.rules_bus.specs.Useful.{BusIsDone}
 use Rattle.bus_state.specs.Text.{bus_state_text}
 use Rattle.bus_tcc.specs.Machine.{BusMachine, bus_history_of, bus_settings_of, bus_start_of, bus_world_of}
 use Rattle.bus_tool.specs.Running.{RanBySeed}

@@ -9,7 +9,7 @@ use Rattle.tcc_cli.specs.Following.{RanFollowing}
 use Rattle.tcc_cli.specs.Images.{start_of}
 use Rattle.tcc_cli.specs.Runs.{RunsTo}
 use Rattle.tcc_msg.specs.declared.event.Event.{Event}
-use Rattle.tcc_rules.specs.Step.{History}
+use Rattle.rules_tcc.specs.Step.{History}
 use Rattle.tcc_cli.specs.Phased.{IsPhasePicked, RanInPhases}
 use Rattle.tcc_cli.specs.Schedules.{IsRecorded, Ran}
 use Rattle.tcc_words.specs.declared.command.Command.{Command}

@@ -13,15 +13,15 @@ use Rattle.tcc_cli.specs.Comes.{Comes, IsFaultyLine}
 use Rattle.tcc_cli.specs.Looks.{AreFirst, IsFaultOfFirst, LookedAt, most_of, view_text}
 use Rattle.tcc_cli.specs.Schedules.{IsScheduleFault, IsScheduleOf, Ran}
 use Rattle.tcc_cli.specs.Runs.{IsRun, run_text}
-use Rattle.why_text.specs.Text.{why_text}
-use Rattle.tcc_maps.specs.Nodes.{Event as RulesEvent}
+use Rattle.text_why.specs.Text.{why_text}
+use Rattle.rules_maps.specs.Nodes.{Event as RulesEvent}
 use Rattle.tcc_msg.specs.Plain.{event_of}
 use Rattle.tcc_msg.specs.declared.event.Event.{Event}
 use Rattle.serial_tool.specs.Lists.{IsList}
 use Rattle.serial_tool.specs.Runs.{serial_by}
 use Rattle.serial_tool.specs.declared.reading.Listed.{Listed}
 use Rattle.tcc_replay.specs.Replayed.{history_by}
-use Rattle.tcc_rules.specs.Step.{History}
+use Rattle.rules_tcc.specs.Step.{History}
 use Rattle.tcc_words.specs.Bounds.{IsInBounds}
 use Rattle.tcc_words.specs.declared.command.Command.{Command}
 use Rattle.tcc_words.specs.declared.command.Command.TheVariants.{Replay, Serial, Why, Look, Follow}

@@ -2,15 +2,15 @@
 use Rattle.std.proofs.Common.{◌≡◌, ◌<◌, ℕ, Bool, List, [], ◌∷◌, map, length, IfSome, Some, ap, refl, sym, subst, ◌∙◌}
 use Rattle.std.proofs.lemmas.List.{length-map}
 use Rattle.std.specs.Prelude.{IsSome}
-use Rattle.follow_run.specs.Following.{Agree, followed_by}
-use Rattle.follow_run.specs.Laws.{FollowedAll, FollowedKeeps, Keeps}
+use Rattle.run_follow.specs.Following.{Agree, followed_by}
+use Rattle.run_follow.specs.Laws.{FollowedAll, FollowedKeeps, Keeps}
 use Rattle.image_load.specs.Contents.{Contents, started}
 use Rattle.image_load.specs.Start.{Start}
 use Rattle.rv_code.specs.Machine.{program}
 use Rattle.rv_plain.specs.Machine.{plain_start}
 use Rattle.rv_plain.specs.PlainState.{order_of}
 use Rattle.rv_plain.specs.declared.plain.Order.{Order as CodeOrder}
-use Rattle.rv_serial.specs.Suiting.{AfterRun}
+use Rattle.theorem_riscv.specs.Suiting.{AfterRun}
 use Rattle.serial_tool.specs.Lists.{IsList}
 use Rattle.serial_tool.specs.Runs.{serial_by}
 use Rattle.serial_tool.specs.declared.reading.Listed.{Listed}
@@ -18,11 +18,11 @@ use Rattle.tcc_base.specs.Settings.{IsAllowed}
 use Rattle.tcc_base.specs.declared.access.Commit.{Commit}
 use Rattle.tcc_cli.specs.Following.{Follows, IsFollowed, IsListed, RanFollowing}
 use Rattle.tcc_cli.specs.Runs.{IsRun, RunsTo, run_text}
-use Rattle.tcc_maps.specs.Nodes as rules
+use Rattle.rules_maps.specs.Nodes as rules
 use Rattle.tcc_msg.specs.Plain.{event_of}
 use Rattle.tcc_msg.specs.declared.event.Event.{Event}
-use Rattle.tcc_program.specs.Plain.{Order, Plain, serial}
-use Rattle.tcc_rules.specs.Step.{History}
+use Rattle.rules_program.specs.Plain.{Order, Plain, serial}
+use Rattle.rules_tcc.specs.Step.{History}
 
 -- what the plain machine has executed is listed
 pub was-listed : (l : Contents) (bytes : List ℕ) (listed there : List Listed) (orders : List CodeOrder) (done : Plain × List Commit)

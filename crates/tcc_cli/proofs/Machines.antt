@@ -4,18 +4,18 @@ use Rattle.std.proofs.lemmas.List.{length-map}
 use Rattle.image_load.specs.Contents.{Contents, started}
 use Rattle.rand_pcg.specs.Lcg.{Lcg}
 use Rattle.rv_code.specs.Machine.{program}
-use Rattle.rv_serial.specs.Given.{IsSerial}
-use Rattle.rv_serial.specs.Suiting.{world_at_start}
+use Rattle.theorem_riscv.specs.Given.{IsSerial}
+use Rattle.theorem_riscv.specs.Suiting.{world_at_start}
 use Rattle.tcc_msg.specs.Plain.{event_of}
-use Rattle.tcc_rules.specs.Picked.{picked}
-use Rattle.tcc_rules.specs.Seen.{IsDone}
-use Rattle.tcc_rules.specs.Step.{run}
+use Rattle.rules_tcc.specs.Picked.{picked}
+use Rattle.rules_tcc.specs.Seen.{IsDone}
+use Rattle.rules_tcc.specs.Step.{run}
 use Rattle.net_core.specs.Machine.{Machine, history_of, settings_of, world_of}
 use Rattle.net_core.specs.Reached.{first_history}
 use Rattle.tcc_refine.specs.Refined.{IsRefined, Refined}
 use Rattle.tcc_pick.specs.Picking.{picks}
 use Rattle.tcc_pick.specs.Words.{seeded, words}
-use Rattle.tcc_rules.specs.Laws.{PickedEnds}
+use Rattle.rules_tcc.specs.Laws.{PickedEnds}
 use Rattle.tcc_cli.proofs.Taken.{as-many}
 use Rattle.tcc_cli.specs.Runs.{RunsTo, picked_by}
 

@@ -3,12 +3,12 @@ use Rattle.std.proofs.Common.{◌≡◌, ℕ, suc, ◌<◌, ◌≤◌, ◌↔◌
 use Rattle.image_load.specs.Contents.{Contents, started}
 use Rattle.rand_core.specs.Steps.{first_words}
 use Rattle.rand_pcg.specs.Pcg.{pcg32}
-use Rattle.tcc_maps.specs.Shape.{Shape}
-use Rattle.tcc_program.specs.Program.{Program}
-use Rattle.bus_rules.specs.State.{BusEvent}
-use Rattle.bus_rules.specs.Step.{BusHistory, bus_next}
-use Rattle.bus_rules.specs.Useful.{BusIsDone, after_event, bus_chosen, bus_pick, bus_picked, bus_useful}
-use Rattle.bus_serial.specs.Given.{RiscvBusPickedEndsDone, bus_at_start}
+use Rattle.rules_maps.specs.Shape.{Shape}
+use Rattle.rules_program.specs.Program.{Program}
+use Rattle.rules_bus.specs.State.{BusEvent}
+use Rattle.rules_bus.specs.Step.{BusHistory, bus_next}
+use Rattle.rules_bus.specs.Useful.{BusIsDone, after_event, bus_chosen, bus_pick, bus_picked, bus_useful}
+use Rattle.theorem_bus.specs.Given.{RiscvBusPickedEndsDone, bus_at_start}
 use Rattle.bus_tcc.specs.Machine.{BusMachine, bus_history_of, bus_settings_of, bus_world_of}
 use Rattle.bus_tool.specs.Report.{IsBusReport, bus_run_text}
 use Rattle.bus_tool.specs.Running.{RanBySeed, bus_picked_by, seeded}

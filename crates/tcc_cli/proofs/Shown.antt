@@ -7,12 +7,12 @@ use Rattle.std.proofs.lemmas.List.FromFn.{map-range_with_len_more}
 use Rattle.image_load.specs.Start.{Start}
 use Rattle.report_text.specs.Plain.{shown_core}
 use Rattle.report_text.specs.Shown.{ShownCore}
-use Rattle.rv_serial.specs.Given.{committed}
+use Rattle.theorem_riscv.specs.Given.{committed}
 use Rattle.tcc_base.specs.declared.access.CoreEnd.{CoreEnd}
 use Rattle.tcc_base.specs.declared.access.Commit.{Commit}
-use Rattle.tcc_program.specs.Cores.{printed}
-use Rattle.tcc_rules.specs.Step.{History}
-use Rattle.tcc_serial.specs.Commits.{end_after}
+use Rattle.rules_program.specs.Cores.{printed}
+use Rattle.rules_tcc.specs.Step.{History}
+use Rattle.theorem_serial.specs.Commits.{end_after}
 
 -- what is shown of core c
 pub shown-at : (s : Start) (h : History) (c : ℕ) (ended : CoreEnd) (pc : ℕ) (regs console : List ℕ) → c < s.settings.cores

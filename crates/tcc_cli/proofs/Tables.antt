@@ -2,10 +2,10 @@
 use Rattle.std.proofs.Common.{◌≡◌, ℕ, Bool, List, Option, refl, inr, subst, sym}
 use Rattle.image_load.specs.Contents.{started}
 use Rattle.image_load.specs.Start.{Start}
-use Rattle.outcomes_text.specs.Table.{table_of, table_text}
-use Rattle.outcomes_text.specs.Written.{IsBroken}
-use Rattle.outcomes_text.specs.declared.writing.Broken.{Broken}
-use Rattle.outcomes_text.specs.declared.writing.Broken.TheVariants.{Memory, Output}
+use Rattle.text_outcomes.specs.Table.{table_of, table_text}
+use Rattle.text_outcomes.specs.Written.{IsBroken}
+use Rattle.text_outcomes.specs.declared.writing.Broken.{Broken}
+use Rattle.text_outcomes.specs.declared.writing.Broken.TheVariants.{Memory, Output}
 use Rattle.run_outcomes.specs.Ways.{Explored}
 use Rattle.run_outcomes.specs.declared.outcomes.Results.{Results}
 use Rattle.run_outcomes.specs.declared.outcomes.Tell.{Tell}

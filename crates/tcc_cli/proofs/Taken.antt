@@ -1,26 +1,26 @@
 -- A run at whose end the machine isn't done has taken one event for each that it was asked for.
 use Rattle.std.proofs.Common.{ℕ, zero, suc, ◌≡◌, ◌<◌, ◌≤◌, List, [], ◌∷◌, length, map, Option, None, Some, refl, sym, ap, subst, ◌∙◌, arith}
 use Rattle.std.specs.Prelude.{IfSome, IsSome}
-use Rattle.phase_rules.specs.Laws.{PhasedPickedEndsDone, PhasedPickedRuns, PhasedRunsAreRuns, at_start}
-use Rattle.phase_rules.specs.Phased.{after_event, phased_from, phased_next, phased_picked, phased_useful, pick}
+use Rattle.theorem_phases.specs.Laws.{PhasedPickedEndsDone, PhasedPickedRuns, PhasedRunsAreRuns, at_start}
+use Rattle.theorem_phases.specs.Phased.{after_event, phased_from, phased_next, phased_picked, phased_useful, pick}
 use Rattle.rand_core.specs.Steps.{first_words}
 use Rattle.rand_pcg.specs.Lcg.{Lcg}
 use Rattle.rand_pcg.specs.Pcg.{pcg32}
 use Rattle.rv_code.specs.Machine.{program}
-use Rattle.rv_serial.specs.Going.{RiscvPickedEndsDone}
-use Rattle.rv_serial.specs.Suiting.{world_at_start}
-use Rattle.tcc_rules.specs.Laws.{PickedEnds}
-use Rattle.tcc_rules.specs.Picked.{chosen}
+use Rattle.theorem_riscv.specs.Going.{RiscvPickedEndsDone}
+use Rattle.theorem_riscv.specs.Suiting.{world_at_start}
+use Rattle.rules_tcc.specs.Laws.{PickedEnds}
+use Rattle.rules_tcc.specs.Picked.{chosen}
 use Rattle.tcc_cli.specs.Laws.{OpenPhasedRunsTakeAllEvents, OpenRunsTakeAllEvents}
 use Rattle.tcc_cli.specs.Phased.{phased_by}
 use Rattle.tcc_cli.specs.Runs.{IsRun, picked_by}
-use Rattle.tcc_maps.specs.Nodes as rules
+use Rattle.rules_maps.specs.Nodes as rules
 use Rattle.tcc_msg.specs.Plain.{event_of}
 use Rattle.tcc_msg.specs.declared.event.Event.{Event}
 use Rattle.tcc_pick.specs.Words.{seeded, words}
-use Rattle.tcc_rules.specs.Seen.{IsDone}
-use Rattle.tcc_rules.specs.Step.{History}
-use Rattle.tcc_threads.specs.Laws.{OpenJoinedRunsTakeAllEvents}
+use Rattle.rules_tcc.specs.Seen.{IsDone}
+use Rattle.rules_tcc.specs.Step.{History}
+use Rattle.apart_run.specs.Laws.{OpenJoinedRunsTakeAllEvents}
 use Rattle.image_load.specs.Start.{Start}
 use Rattle.tcc_base.specs.Settings.{IsAllowed}
 

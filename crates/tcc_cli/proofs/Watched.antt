@@ -5,8 +5,8 @@ use Rattle.std.proofs.Common.{inl, inr, refl, sym, ap, ◌∙◌, subst, arith, 
 use Rattle.image_load.specs.Start.{Start}
 use Rattle.rand_pcg.specs.Lcg.{Lcg}
 use Rattle.rv_code.specs.Machine.{program}
-use Rattle.rv_serial.specs.Going.{picked_from}
-use Rattle.rv_serial.specs.Suiting.{world_at_start}
+use Rattle.theorem_riscv.specs.Going.{picked_from}
+use Rattle.theorem_riscv.specs.Suiting.{world_at_start}
 use Rattle.tcc_base.specs.Settings.{Settings}
 use Rattle.tcc_cli.specs.Lines.{Written}
 use Rattle.std.proofs.lemmas.List.{length-map}
@@ -14,14 +14,14 @@ use Rattle.tcc_cli.specs.Looks.{IsTraceStopped, IsTraceTold, LookedAt, broken_re
 use Rattle.tcc_cli.specs.Runs.{RunsBy, RunsTo, picked_by}
 use Rattle.tcc_cli.specs.declared.refusal.Refusal.{Refusal}
 use Rattle.tcc_cli.specs.declared.refusal.Refusal.TheVariants as why
-use Rattle.tcc_maps.specs.Nodes.{Event}
+use Rattle.rules_maps.specs.Nodes.{Event}
 use Rattle.tcc_msg.specs.Plain.{event_of}
 use Rattle.tcc_msg.specs.declared.event.Event.{Event as Listed}
 use Rattle.tcc_pick.specs.Words.{seeded, words}
-use Rattle.tcc_rules.specs.Laws.{PickedEnds}
-use Rattle.tcc_rules.specs.Picked.{picked}
-use Rattle.tcc_rules.specs.Seen.{IsDone}
-use Rattle.tcc_rules.specs.Step.{History}
+use Rattle.rules_tcc.specs.Laws.{PickedEnds}
+use Rattle.rules_tcc.specs.Picked.{picked}
+use Rattle.rules_tcc.specs.Seen.{IsDone}
+use Rattle.rules_tcc.specs.Step.{History}
 use Rattle.tcc_words.specs.declared.command.View.TheVariants.{Count, State}
 use Rattle.watch_count.specs.Counts.{Counts}
 use Rattle.watch_count.specs.Csv.{csv_text}

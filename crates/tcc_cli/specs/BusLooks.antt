@@ -3,8 +3,8 @@ use Rattle.std.specs.Prelude.{ℕ, ◌≡◌, ◌⊎◌, Bool, true, false, List
 use Rattle.image_load.specs.Start.{Start}
 use Rattle.bus_count.specs.Csv.{bus_csv_text}
 use Rattle.bus_count.specs.Text.{bus_count_text}
-use Rattle.bus_rules.specs.State.{BusEvent}
-use Rattle.bus_rules.specs.Step.{BusHistory}
+use Rattle.rules_bus.specs.State.{BusEvent}
+use Rattle.rules_bus.specs.Step.{BusHistory}
 use Rattle.bus_run.specs.Counted.{counts_of_bus_run}
 use Rattle.bus_run.specs.Traced.{bus_lines_by, bus_trace_of}
 use Rattle.bus_state.specs.Text.{bus_state_text}

@@ -13,14 +13,14 @@ use Rattle.tcc_cli.specs.Phased.{IsPhasePicked, RanInPhases}
 use Rattle.tcc_cli.specs.Runs.{run_text, summary_text}
 use Rattle.tcc_cli.specs.Schedules.{IsMade, IsPicked, IsRecorded, IsScheduleFault, IsScheduleOf, Ran, RecordsOne}
 use Rattle.image_load.specs.Start.{Start}
-use Rattle.tcc_maps.specs.Nodes.{Event}
+use Rattle.rules_maps.specs.Nodes.{Event}
 use Rattle.tcc_words.specs.declared.command.Command.{Command}
 use Rattle.tcc_words.specs.declared.command.Command.TheVariants.{Run, Replay, Serial, Trial, Why, Phases, Bus, Look}
 use Rattle.tcc_words.specs.declared.command.Command.TheVariants.{LookOnBus, Outcomes, Follow}
 use Rattle.tcc_words.specs.declared.command.Source.{Source}
 use Rattle.tcc_words.specs.declared.command.Source.TheVariants.{Seed, Schedule}
 use Rattle.tcc_words.specs.declared.command.View.TheVariants.{Trace}
-use Rattle.why_text.specs.Text.{why_text}
+use Rattle.text_why.specs.Text.{why_text}
 
 -- the events of the run that is looked at, at most so many
 abbrev pub AreLookedAt : Source → (most : ℕ) → Start → Settings → (files : List (List ℕ)) → List Event → Type 0

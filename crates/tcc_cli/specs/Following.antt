@@ -1,7 +1,7 @@
 -- A run whose transactions commit in the order of a list.
 use Rattle.std.specs.Prelude.{ℕ, ◌≡◌, ◌<◌, Bool, List, map, length, IsSome}
-use Rattle.follow_run.specs.Following.{Agree, followed_by}
-use Rattle.follow_run.specs.Laws.{Keeps}
+use Rattle.run_follow.specs.Following.{Agree, followed_by}
+use Rattle.run_follow.specs.Laws.{Keeps}
 use Rattle.image_load.specs.Start.{Start}
 use Rattle.rv_plain.specs.PlainState.{order_of}
 use Rattle.serial_tool.specs.Lists.{IsList}
@@ -11,7 +11,7 @@ use Rattle.tcc_cli.specs.Runs.{run_text}
 use Rattle.tcc_cli.specs.Schedules.{Ran}
 use Rattle.tcc_msg.specs.Plain.{event_of}
 use Rattle.tcc_msg.specs.declared.event.Event.{Event}
-use Rattle.tcc_program.specs.Plain.{Order}
+use Rattle.rules_program.specs.Plain.{Order}
 
 -- the list of these bytes names these transactions, and the plain machine executes them from the start on, whole
 pub record IsListed (s : Start) (bytes : List ℕ) (orders : List Order) : Type 0 where

@@ -1,7 +1,7 @@
 -- What follows from the program's answers.
 use Rattle.std.specs.Prelude.{ℕ, true, List, length, map, Contains, Option, IsSome, ◌≡◌, ◌≢◌, ◌↔◌, ◌⊎◌, Some, None}
-use Rattle.bus_rules.specs.Step.{BusHistory}
-use Rattle.bus_rules.specs.Useful.{BusIsDone}
+use Rattle.rules_bus.specs.Step.{BusHistory}
+use Rattle.rules_bus.specs.Useful.{BusIsDone}
 use Rattle.bus_tool.specs.Running.{bus_picked_by}
 use Rattle.image_load.specs.Start.{Start}
 use Rattle.tcc_base.specs.Settings.{IsAllowed}
@@ -19,8 +19,8 @@ use Rattle.tcc_cli.specs.declared.status.Status.{Status}
 use Rattle.tcc_cli.specs.declared.status.Status.TheVariants.{Done, Stopped, Words, Image, Schedule, Memory}
 use Rattle.tcc_msg.specs.Plain.{event_of}
 use Rattle.tcc_msg.specs.declared.event.Event.{Event}
-use Rattle.tcc_rules.specs.Seen.{IsDone}
-use Rattle.tcc_rules.specs.Step.{History}
+use Rattle.rules_tcc.specs.Seen.{IsDone}
+use Rattle.rules_tcc.specs.Step.{History}
 use Rattle.tcc_words.specs.Asked.{IsCommand}
 use Rattle.tcc_words.specs.declared.command.Command.{Command}
 use Rattle.tcc_words.specs.declared.command.Command.TheVariants.{Replay, Phases}

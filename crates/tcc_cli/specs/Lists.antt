@@ -7,7 +7,7 @@ use Rattle.serial_tool.specs.Lists.{IsFirstFault, IsList}
 use Rattle.serial_tool.specs.Runs.{IsStuckAt, serial_by}
 use Rattle.serial_tool.specs.declared.reading.Listed.{Listed}
 use Rattle.tcc_base.specs.declared.access.Commit.{Commit}
-use Rattle.tcc_program.specs.Plain.{Plain}
+use Rattle.rules_program.specs.Plain.{Plain}
 
 -- the text of the plain machine after some commits
 unfoldable pub list_text : Start → List Commit → Plain → List ℕ

@@ -1,17 +1,17 @@
 -- Runs that are looked at: which events they take, and what is told of them.
 use Rattle.std.specs.Prelude.{ℕ, Bool, true, false, List, length, map, min, take, ◌≡◌, ◌⊎◌, Option, Some, None}
 use Rattle.image_load.specs.Start.{Start}
-use Rattle.rv_serial.specs.Suiting.{world_at_start}
+use Rattle.theorem_riscv.specs.Suiting.{world_at_start}
 use Rattle.tcc_base.specs.Settings.{Settings}
 use Rattle.tcc_cli.specs.Lines.{Written, IsWhole, IsCut}
 use Rattle.tcc_cli.specs.Runs.{RunsBy, picked_by}
 use Rattle.tcc_cli.specs.Schedules.{IsFaultOf, IsScheduleOf}
 use Rattle.tcc_cli.specs.declared.refusal.Refusal.{Refusal}
 use Rattle.tcc_cli.specs.declared.refusal.Refusal.TheVariants as why
-use Rattle.tcc_maps.specs.Nodes.{Event}
+use Rattle.rules_maps.specs.Nodes.{Event}
 use Rattle.tcc_msg.specs.Plain.{event_of}
 use Rattle.tcc_msg.specs.declared.event.Event.{Event as Listed}
-use Rattle.tcc_rules.specs.Step.{History}
+use Rattle.rules_tcc.specs.Step.{History}
 use Rattle.tcc_words.specs.declared.command.Source.{Source}
 use Rattle.tcc_words.specs.declared.command.Source.TheVariants.{Seed, Schedule}
 use Rattle.tcc_words.specs.declared.command.View.{View}

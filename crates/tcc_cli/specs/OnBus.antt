@@ -2,11 +2,11 @@
 use Rattle.std.specs.Prelude.{ℕ, Bool, List, length, ◌≡◌, ◌↔◌, Some, IsTrue}
 use Rattle.image_load.specs.Start.{Start}
 use Rattle.rv_code.specs.Machine.{program}
-use Rattle.bus_rules.specs.State.{BusEvent}
-use Rattle.bus_rules.specs.Step.{BusHistory, bus_run}
-use Rattle.bus_rules.specs.Useful.{BusIsDone}
-use Rattle.bus_serial.specs.Given.{BusSerial, bus_at_start}
-use Rattle.bus_serial.specs.Laws.{AreNumbered}
+use Rattle.rules_bus.specs.State.{BusEvent}
+use Rattle.rules_bus.specs.Step.{BusHistory, bus_run}
+use Rattle.rules_bus.specs.Useful.{BusIsDone}
+use Rattle.theorem_bus.specs.Given.{BusSerial, bus_at_start}
+use Rattle.theorem_bus.specs.Laws.{AreNumbered}
 use Rattle.bus_tool.specs.Report.{bus_run_text}
 use Rattle.bus_tool.specs.Running.{bus_picked_by}
 

@@ -3,9 +3,9 @@ use Rattle.std.specs.Prelude.{ℕ, ◌≡◌, ◌≤◌, ◌<◌, ◌⊎◌, Boo
 use Rattle.std.specs.Io.KnownBytes.{Appends}
 use Rattle.image_load.specs.Contents.{started}
 use Rattle.image_load.specs.Start.{Start}
-use Rattle.outcomes_text.specs.Table.{table_of, table_text}
-use Rattle.outcomes_text.specs.declared.writing.Broken.{Broken}
-use Rattle.outcomes_text.specs.declared.writing.Broken.TheVariants as broken
+use Rattle.text_outcomes.specs.Table.{table_of, table_text}
+use Rattle.text_outcomes.specs.declared.writing.Broken.{Broken}
+use Rattle.text_outcomes.specs.declared.writing.Broken.TheVariants as broken
 use Rattle.run_outcomes.specs.Counted.{Counts, all_running}
 use Rattle.run_outcomes.specs.Explored.{AreFound, AreLed, IsOpen}
 use Rattle.run_outcomes.specs.HowMany.{HowMany, IsFirst}

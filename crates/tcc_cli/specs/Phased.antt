@@ -2,18 +2,18 @@
 use Rattle.std.specs.Prelude.{ℕ, Bool, List, [], ◌∷◌, ◌++◌, map, ◌≡◌, codes}
 use Rattle.std.specs.Fmt.{decimal}
 use Rattle.image_load.specs.Start.{Start}
-use Rattle.phase_rules.specs.Laws.{InPhases, at_start}
-use Rattle.phase_rules.specs.Phased.{phased_picked}
-use Rattle.phase_rules.specs.Phases.{phases_of}
+use Rattle.theorem_phases.specs.Laws.{InPhases, at_start}
+use Rattle.theorem_phases.specs.Phased.{phased_picked}
+use Rattle.theorem_phases.specs.Phases.{phases_of}
 use Rattle.report_text.specs.Lines.{newline}
 use Rattle.tcc_base.specs.declared.access.Commit.{Commit}
 use Rattle.tcc_cli.specs.Runs.{run_text}
 use Rattle.tcc_cli.specs.Schedules.{Ran}
-use Rattle.tcc_maps.specs.Nodes as rules
+use Rattle.rules_maps.specs.Nodes as rules
 use Rattle.tcc_msg.specs.Plain.{event_of}
 use Rattle.tcc_msg.specs.declared.event.Event.{Event}
 use Rattle.tcc_pick.specs.Words.{seeded, words}
-use Rattle.tcc_rules.specs.Step.{History}
+use Rattle.rules_tcc.specs.Step.{History}
 
 -- the schedule that a seed picks by phases: one event for each random word, or fewer where none is useful any more that isn't held back
 abbrev pub phased_by : Start → (seed steps : ℕ) → List rules.Event

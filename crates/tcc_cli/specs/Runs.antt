@@ -6,14 +6,14 @@ use Rattle.report_text.specs.Shown.{Shown}
 use Rattle.report_text.specs.Text.{report_text}
 use Rattle.report_text.specs.Trial.{trial_text}
 use Rattle.rv_code.specs.Machine.{program}
-use Rattle.rv_serial.specs.Given.{IsSerial, committed}
-use Rattle.rv_serial.specs.Going.{picked_from}
-use Rattle.rv_serial.specs.Suiting.{world_at_start}
-use Rattle.tcc_maps.specs.Nodes as rules
+use Rattle.theorem_riscv.specs.Given.{IsSerial, committed}
+use Rattle.theorem_riscv.specs.Going.{picked_from}
+use Rattle.theorem_riscv.specs.Suiting.{world_at_start}
+use Rattle.rules_maps.specs.Nodes as rules
 use Rattle.tcc_msg.specs.Plain.{event_of}
 use Rattle.tcc_msg.specs.declared.event.Event.{Event}
-use Rattle.tcc_rules.specs.Seen.{IsDone}
-use Rattle.tcc_rules.specs.Step.{History, run}
+use Rattle.rules_tcc.specs.Seen.{IsDone}
+use Rattle.rules_tcc.specs.Step.{History, run}
 use Rattle.tcc_pick.specs.Words.{seeded, words}
 use Rattle.work_gen.specs.declared.work.Work.{Work}
 

@@ -10,8 +10,8 @@ use Rattle.tcc_msg.specs.Plain.{event_of}
 use Rattle.tcc_msg.specs.declared.event.Event.{Event}
 use Rattle.tcc_msg.specs.declared.event.Schedule.{Schedule}
 use Rattle.tcc_replay.specs.Replayed.{IsRefusedAt}
-use Rattle.tcc_rules.specs.Step.{History}
-use Rattle.tcc_threads.specs.Joined.{IsJoined}
+use Rattle.rules_tcc.specs.Step.{History}
+use Rattle.apart_run.specs.Joined.{IsJoined}
 
 -- these bytes are the text of a schedule with these settings and events
 pub record IsScheduleOf (settings : Settings) (es : List Event) (bytes : List ℕ) : Type 0 where

@@ -2,17 +2,17 @@
 ghost use Rattle.tcc_cli.specs.Laws.{AnswersAreComplete, OpenBusRunsTakeAllEvents, OpenPhasedRunsTakeAllEvents, OpenRunsTakeAllEvents};
 ghost use Rattle.tcc_cli.specs.Laws.{OthersAreRefused, ReplaysPrintTheSame};
 
-use bus_serial::riscv_bus_machines_are_never_stuck;
-use phase_rules::{
-    a_schedule_picked_by_phases_runs, phased_runs_are_never_stuck, phased_runs_are_runs,
-};
-use rv_serial::riscv_machines_are_never_stuck;
+use apart_run::open_joined_runs_take_all_events;
+use rules_tcc::a_picked_schedule_is_a_run;
 use schedule_text::{texts_tell_schedules_apart, the_first_fault_is_one};
 use serial_tool::{lists_are_read_alike, lists_are_run_alike};
 use tcc_replay::what_runs_is_not_refused;
-use tcc_rules::a_picked_schedule_is_a_run;
-use tcc_threads::open_joined_runs_take_all_events;
 use tcc_words::{commands_are_in_bounds, words_ask_for_one_command};
+use theorem_bus::riscv_bus_machines_are_never_stuck;
+use theorem_phases::{
+    a_schedule_picked_by_phases_runs, phased_runs_are_never_stuck, phased_runs_are_runs,
+};
+use theorem_riscv::riscv_machines_are_never_stuck;
 
 /// A law: where the words ask for a command, the files' bytes are told, and no count of faults rose, the command was carried out and its
 /// whole text written, or the first fault of the images was answered, or else that of the schedule or list, or the status is `Memory`.

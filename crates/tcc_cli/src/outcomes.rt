@@ -5,11 +5,11 @@ ghost use Rattle.tcc_cli.specs.Outcomes.{AreResults, AreSearched, AreStuck, IsTa
 
 use crate::refusal::Refusal;
 use image_load::Loaded;
-use outcomes_text::{Broken, Table, write_table};
 use run_outcomes::{Exploration, Limits, Results, Stuck, Tell, explore, tell_results, tell_stuck};
 use std::alloc::Global;
 use tcc_base::NoMemory;
 use tcc_world::Sink;
+use text_outcomes::{Broken, Table, write_table};
 
 /// What a search has come to.
 #[derive(Debug, Drop)]

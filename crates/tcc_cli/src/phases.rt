@@ -3,7 +3,7 @@ ghost use Rattle.std.specs.Prelude.{◌≡◌, ◌++◌, [], IfOk, OnOk, length}
 ghost use Rattle.std.specs.String.{string_bytes};
 ghost use Rattle.image_load.specs.Contents.{started};
 ghost use Rattle.net_core.specs.Machine.{history_of};
-ghost use Rattle.phase_rules.specs.Laws.{InPhases};
+ghost use Rattle.theorem_phases.specs.Laws.{InPhases};
 ghost use Rattle.tcc_cli.specs.Phased.{phase_line, phase_lines, phases_and, phases_text};
 ghost use Rattle.tcc_cli.specs.Runs.{RunsTo};
 

@@ -3,11 +3,11 @@ ghost use Rattle.std.specs.Prelude.{◌≡◌, ◌/◌, [], IfOk, length, map};
 ghost use Rattle.std.specs.List.{range_with_len};
 ghost use Rattle.std.specs.String.{string_bytes};
 ghost use Rattle.image_load.specs.Contents.{started};
-ghost use Rattle.tcc_program.specs.Cores.{printed};
-ghost use Rattle.tcc_rules.specs.Seen.{seen};
+ghost use Rattle.rules_program.specs.Cores.{printed};
+ghost use Rattle.rules_tcc.specs.Seen.{seen};
 ghost use Rattle.net_core.specs.Machine.{history_of, settings_of, start_of, world_of};
 ghost use Rattle.tcc_cli.specs.Runs.{RunsTo, run_text, shown, summary_text};
-ghost use Rattle.why_text.specs.Text.{why_text};
+ghost use Rattle.text_why.specs.Text.{why_text};
 
 use crate::laid::Laid;
 use image_load::Loaded;
@@ -17,7 +17,7 @@ use std::alloc::Global;
 use std::marker::Model;
 use tcc_base::{CoreId, LineAddr, List, NoMemory};
 use tcc_refine::Refined;
-use why_text::why;
+use text_why::why;
 use work_gen::Work;
 
 /// A text, and whether what it tells of has run to its end.

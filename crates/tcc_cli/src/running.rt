@@ -6,7 +6,7 @@ ghost use Rattle.tcc_cli.specs.Failing.{IsRunStopped, IsScheduleRefused};
 ghost use Rattle.tcc_cli.specs.Phased.{IsPhasePicked, RanInPhases};
 ghost use Rattle.tcc_cli.specs.Runs.{run_text, summary_text};
 ghost use Rattle.tcc_cli.specs.Schedules.{IsMade, IsPicked, IsRecorded, IsScheduleOf, Ran};
-ghost use Rattle.why_text.specs.Text.{why_text};
+ghost use Rattle.text_why.specs.Text.{why_text};
 
 use crate::phases::phases_of;
 use crate::records::record;

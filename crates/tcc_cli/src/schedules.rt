@@ -8,7 +8,9 @@ ghost use Rattle.tcc_cli.specs.Schedules.{IsMade, IsScheduleOf};
 ghost use Rattle.tcc_msg.specs.Plain.{event_of};
 
 use crate::refusal::Refusal;
+use apart_run::run_threads;
 use image_load::Loaded;
+use rules_tcc::a_picked_schedule_is_a_run;
 use schedule_text::{TextFault, read};
 use std::alloc::Global;
 use std::sync::Wait;
@@ -18,8 +20,6 @@ use tcc_msg::Schedule;
 use tcc_pick::Chooser;
 use tcc_refine::Refined;
 use tcc_replay::{ReplayFault, replay};
-use tcc_rules::a_picked_schedule_is_a_run;
-use tcc_threads::run_threads;
 use tcc_workers::WorkPlan;
 use tcc_world::Gate;
 

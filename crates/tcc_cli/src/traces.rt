@@ -7,10 +7,10 @@ ghost use Rattle.tcc_msg.specs.Plain.{event_of};
 use crate::refusal::Refusal;
 use crate::schedules::run_first;
 use image_load::Loaded;
+use rules_tcc::a_picked_schedule_is_a_run;
 use std::alloc::Global;
 use tcc_base::Config;
 use tcc_msg::Event;
-use tcc_rules::a_picked_schedule_is_a_run;
 use tcc_world::Sink;
 use watch_run::{Broken, Listed, Picked, Shown, trace};
 

@@ -1,8 +1,8 @@
 -- What is sent to one node, for lists that grow at their end: for the proofs of callers too.
 use Rattle.std.proofs.Common.{◌≡◌, List, [], ◌∷◌, ◌++◌, if◌then◌else◌, append_assoc, append-nil, refl, ap, sym, ◌∙◌}
 use Rattle.tcc_base.specs.declared.names.NodeId.{NodeId}
-use Rattle.tcc_maps.specs.Nodes as plain
-use Rattle.tcc_maps.specs.Bridge.{node_of}
+use Rattle.rules_maps.specs.Nodes as plain
+use Rattle.rules_maps.specs.Bridge.{node_of}
 use Rattle.tcc_msg.specs.declared.msg.Msg.{Msg}
 use Rattle.tcc_msg.specs.Plain.{msg_of, sends_of}
 

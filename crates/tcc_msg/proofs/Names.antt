@@ -6,8 +6,8 @@ use Rattle.tcc_base.specs.declared.names.NodeId.TheVariants.{Core, Dir, Vendor}
 use Rattle.tcc_msg.specs.declared.event.Name.{Name}
 use Rattle.tcc_msg.specs.contracts.event.NamePartialEq.TheImpl.{eq-value as name}
 use Rattle.tcc_base.specs.contracts.names.NodeIdPartialEq.TheImpl.{eq-value as node}
-use Rattle.tcc_maps.specs.Nodes.{node_eq}
-use Rattle.tcc_maps.specs.Bridge.{node_of}
+use Rattle.rules_maps.specs.Nodes.{node_eq}
+use Rattle.rules_maps.specs.Bridge.{node_of}
 use Rattle.tcc_msg.specs.Held.{PoolData, name_eq, held}
 
 pub eq-node_eq : (a b : NodeId) → node.it a b ≡ node_eq (node_of a) (node_of b)

@@ -1,9 +1,9 @@
 -- What a pool holds, and as a map from names to messages.
 use Rattle.std.specs.Prelude.{ℕ, Bool, ◌==◌, ◌&&◌, List, Option, Some, None, if◌then◌else◌}
 use Rattle.std.specs.Map.{lookup}
-use Rattle.tcc_maps.specs.Nodes.{node_eq}
+use Rattle.rules_maps.specs.Nodes.{node_eq}
 use Rattle.tcc_msg.specs.declared.event.Name.{Name}
-use Rattle.tcc_maps.specs.Bridge.{node_of}
+use Rattle.rules_maps.specs.Bridge.{node_of}
 
 -- the messages of a pool with their names, each name once, and for how many more there is room
 pub record PoolData (M : Type 0) : Type 0 where

@@ -1,8 +1,8 @@
 -- The nodes, messages and events of the code as those of the protocol's rules, which are plain data over numbers.
 use Rattle.std.specs.Prelude.{List, [], ◌∷◌, ◌++◌, if◌then◌else◌}
 use Rattle.tcc_base.specs.declared.names.NodeId.{NodeId}
-use Rattle.tcc_maps.specs.Nodes as plain
-use Rattle.tcc_maps.specs.Bridge.{node_of}
+use Rattle.rules_maps.specs.Nodes as plain
+use Rattle.rules_maps.specs.Bridge.{node_of}
 use Rattle.tcc_msg.specs.declared.msg.Msg.{Msg}
 use Rattle.tcc_msg.specs.declared.msg.Msg.TheVariants as code
 use Rattle.tcc_msg.specs.declared.event.Event.{Event}

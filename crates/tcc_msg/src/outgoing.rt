@@ -1,7 +1,7 @@
 // What a node sends in one event, in order, each message with its destination.
 ghost use Rattle.std.specs.Prelude.{◌≡◌, ◌==◌, ◌+◌, ◌<◌, ◌≤◌, [], ◌∷◌, ◌++◌, length, take, OnOk, OnErr, vec_capacity, if◌then◌else◌};
-ghost use Rattle.tcc_maps.specs.Nodes.{Node, node_eq};
-ghost use Rattle.tcc_maps.specs.Bridge.{node_of};
+ghost use Rattle.rules_maps.specs.Nodes.{Node, node_eq};
+ghost use Rattle.rules_maps.specs.Bridge.{node_of};
 ghost use Rattle.tcc_msg.specs.Plain.{msg_of, sends_of};
 
 use crate::msg::Msg;

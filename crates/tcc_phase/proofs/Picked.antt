@@ -7,13 +7,13 @@ use Rattle.image_load.specs.Start.{Start}
 use Rattle.rand_core.specs.Steps.{first_words}
 use Rattle.rand_pcg.specs.Lcg.{Lcg}
 use Rattle.rand_pcg.specs.Pcg.{pcg32}
-use Rattle.tcc_maps.specs.Nodes.{Event}
+use Rattle.rules_maps.specs.Nodes.{Event}
 use Rattle.tcc_msg.specs.Plain.{event_of}
 use Rattle.tcc_msg.specs.declared.event.Event.{Event as CodeEvent}
-use Rattle.tcc_rules.specs.Picked.{chosen}
-use Rattle.tcc_rules.specs.Step.{History}
-use Rattle.phase_rules.specs.Laws.{at_start}
-use Rattle.phase_rules.specs.Phased.{after_event, phased_next, phased_picked, phased_useful, pick}
+use Rattle.rules_tcc.specs.Picked.{chosen}
+use Rattle.rules_tcc.specs.Step.{History}
+use Rattle.theorem_phases.specs.Laws.{at_start}
+use Rattle.theorem_phases.specs.Phased.{after_event, phased_next, phased_picked, phased_useful, pick}
 use Rattle.net_core.specs.Machine.{history_of}
 use Rattle.net_core.specs.Reached.{first_history}
 use Rattle.tcc_pick.specs.Words.{words}

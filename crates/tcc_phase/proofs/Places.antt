@@ -4,12 +4,12 @@ use Rattle.std.proofs.Common.{subst, arith}
 use Rattle.std.specs.Prelude.{filter, nat_lt, slice_get}
 use Rattle.std.proofs.lemmas.Bool.Decides.{nat_tests}
 use Rattle.tcc_base.specs.declared.access.Commit.{Commit}
-use Rattle.tcc_program.specs.Cores.{AreBy}
-use Rattle.tcc_program.specs.Orders.{order_of_commit}
+use Rattle.rules_program.specs.Cores.{AreBy}
+use Rattle.rules_program.specs.Orders.{order_of_commit}
 use Rattle.std.specs.Prelude.{map}
-use Rattle.tcc_rules.specs.Step.{insert_commit}
-use Rattle.tcc_serial.specs.Owners.{IsRising}
-use Rattle.phase_rules.specs.Laws.{place_of}
+use Rattle.rules_tcc.specs.Step.{insert_commit}
+use Rattle.theorem_serial.specs.Owners.{IsRising}
+use Rattle.theorem_phases.specs.Laws.{place_of}
 
 -- none behind a TID is smaller
 pub none-smaller : (b t : ℕ) (cs : List Commit) → IsRising b cs → t ≤ b + 1 → place_of t cs ≡ 0

@@ -6,12 +6,12 @@ use Rattle.std.proofs.lemmas.Option.{slice_get-get_or, slice_get-map}
 use Rattle.std.proofs.lemmas.List.{get_or_read, length-map}
 use Rattle.image_load.specs.Contents.{started}
 use Rattle.rv_code.specs.Machine.{program}
-use Rattle.tcc_maps.specs.Nodes.{Core, Deliver, Event, Vendor}
+use Rattle.rules_maps.specs.Nodes.{Core, Deliver, Event, Vendor}
 use Rattle.tcc_msg.specs.Plain.{event_of}
 use Rattle.tcc_msg.specs.declared.event.Event.{Event as CodeEvent}
-use Rattle.tcc_rules.specs.Laws.{IsOrdered, UsefulHolds, UsefulOrdered}
-use Rattle.tcc_rules.specs.Useful.{event_before, useful}
-use Rattle.phase_rules.specs.Phased.{is_held, phased_useful}
+use Rattle.rules_tcc.specs.Laws.{IsOrdered, UsefulHolds, UsefulOrdered}
+use Rattle.rules_tcc.specs.Useful.{event_before, useful}
+use Rattle.theorem_phases.specs.Phased.{is_held, phased_useful}
 use Rattle.net_core.specs.Machine.{Machine, history_of, program_of, settings_of, start_of, world_of}
 use Rattle.tcc_phase.specs.Choosing.{IsPassed, all_in, held_in, passed_by}
 use Rattle.tcc_phase.specs.Kept.{IsKept}

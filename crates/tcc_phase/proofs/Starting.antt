@@ -4,14 +4,14 @@ use Rattle.std.specs.Prelude.{get_or, replicate}
 use Rattle.image_load.specs.Contents.{Contents, started}
 use Rattle.image_load.specs.Start.{Start}
 use Rattle.rv_code.specs.Machine.{program, start_regs}
-use Rattle.tcc_maps.specs.Nodes.{Core, Vendor}
+use Rattle.rules_maps.specs.Nodes.{Core, Vendor}
 use Rattle.tcc_msg.specs.Plain.{event_of}
 use Rattle.tcc_msg.specs.declared.event.Event.{Event as CodeEvent}
-use Rattle.tcc_program.specs.Registers.{register, written, zeroed}
-use Rattle.tcc_rules.specs.State.{core_start, start}
-use Rattle.phase_rules.specs.Laws.{at_start}
-use Rattle.phase_rules.specs.Phased.{phased_from}
-use Rattle.phase_rules.specs.Phases.{phase_of, phases_along, phases_in, phases_of}
+use Rattle.rules_program.specs.Registers.{register, written, zeroed}
+use Rattle.rules_tcc.specs.State.{core_start, start}
+use Rattle.theorem_phases.specs.Laws.{at_start}
+use Rattle.theorem_phases.specs.Phased.{phased_from}
+use Rattle.theorem_phases.specs.Phases.{phase_of, phases_along, phases_in, phases_of}
 use Rattle.net_core.specs.Machine.{Machine, history_of, start_of}
 use Rattle.net_core.specs.Reached.{first_history}
 use Rattle.tcc_phase.specs.Kept.{HasRows, IsKept}

@@ -1,10 +1,10 @@
 -- How many of the useful events that are held back stand among the first ones.
 use Rattle.std.specs.Prelude.{ℕ, ◌≡◌, ◌+◌, List, filter, length, take}
 use Rattle.rv_code.specs.Machine.{program}
-use Rattle.tcc_rules.specs.Useful.{useful}
-use Rattle.phase_rules.specs.Phased.{is_held}
+use Rattle.rules_tcc.specs.Useful.{useful}
+use Rattle.theorem_phases.specs.Phased.{is_held}
 use Rattle.net_core.specs.Machine.{Machine, history_of, start_of}
-use Rattle.tcc_maps.specs.Nodes.{Event}
+use Rattle.rules_maps.specs.Nodes.{Event}
 
 -- all useful events
 unfoldable pub all_in : Machine → List Event

@@ -2,10 +2,10 @@
 use Rattle.std.specs.Prelude.{ℕ, ◌≡◌, ◌<◌, ◌≤◌, get_or, length, vec_capacity}
 use Rattle.image_load.specs.Start.{Start}
 use Rattle.rv_code.specs.Machine.{program}
-use Rattle.tcc_maps.specs.Nodes.{Core, Vendor}
-use Rattle.tcc_maps.specs.Words.{those}
-use Rattle.tcc_rules.specs.Step.{History}
-use Rattle.phase_rules.specs.Phases.{phase_of, phases_of}
+use Rattle.rules_maps.specs.Nodes.{Core, Vendor}
+use Rattle.rules_maps.specs.Words.{those}
+use Rattle.rules_tcc.specs.Step.{History}
+use Rattle.theorem_phases.specs.Phases.{phase_of, phases_of}
 use Rattle.tcc_phase.specs.Requests.{IsAsked, Limits, is_waiting}
 use Rattle.tcc_phase.specs.declared.ledger.Ledger.{Ledger}
 

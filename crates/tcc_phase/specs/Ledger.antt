@@ -1,9 +1,9 @@
 -- What an event that was taken changes of what is kept beside a machine, and what it leaves.
 use Rattle.std.specs.Prelude.{ℕ, ◌≡◌, ◌<◌, ◌≤◌, List, length, get_or, max, Some, IfSome, slice_get, slice_set}
 use Rattle.tcc_base.specs.declared.access.Commit.{Commit}
-use Rattle.phase_rules.specs.Laws.{place_of, put_in}
-use Rattle.tcc_maps.specs.Nodes.{Event}
-use Rattle.phase_rules.specs.Phases.{x27}
+use Rattle.theorem_phases.specs.Laws.{place_of, put_in}
+use Rattle.rules_maps.specs.Nodes.{Event}
+use Rattle.theorem_phases.specs.Phases.{x27}
 use Rattle.net_core.specs.Machine.{Machine, program_of, settings_of, world_of}
 use Rattle.net_core.specs.declared.taking.Step.{Step}
 use Rattle.net_core.specs.declared.taking.Step.TheVariants.{Moved, Committed}

@@ -1,9 +1,9 @@
 -- A machine that runs by phases, and what it has come to.
 use Rattle.std.specs.Prelude.{◌≡◌, List, map, Some}
-use Rattle.tcc_maps.specs.Nodes.{Event}
+use Rattle.rules_maps.specs.Nodes.{Event}
 use Rattle.tcc_msg.specs.Plain.{event_of}
-use Rattle.phase_rules.specs.Laws.{InPhases, at_start}
-use Rattle.phase_rules.specs.Phased.{phased_from, phased_useful}
+use Rattle.theorem_phases.specs.Laws.{InPhases, at_start}
+use Rattle.theorem_phases.specs.Phased.{phased_from, phased_useful}
 use Rattle.net_core.specs.Machine.{Machine, history_of, start_of}
 use Rattle.tcc_refine.specs.Refined.{Refined}
 

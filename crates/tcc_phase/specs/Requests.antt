@@ -2,13 +2,13 @@
 use Rattle.std.specs.Prelude.{ℕ, zero, suc, ◌≡◌, ◌<◌, ◌+◌, Bool, true, false, not, ◌&&◌, ◌||◌, List, [], ◌∷◌, length, get_or, Option}
 use Rattle.std.specs.Prelude.{Some, None, is_some, nat_lt, if◌then◌else◌}
 use Rattle.tcc_base.specs.Settings.{Settings}
-use Rattle.tcc_maps.specs.Nodes.{Core, Vendor, Event, Deliver}
-use Rattle.tcc_maps.specs.Words.{any_below, those}
-use Rattle.tcc_program.specs.Program.{Program}
-use Rattle.tcc_rules.specs.State.{Link, World}
-use Rattle.tcc_rules.specs.Step.{step}
-use Rattle.phase_rules.specs.Laws.{asks, executes}
-use Rattle.phase_rules.specs.Phased.{has_halted}
+use Rattle.rules_maps.specs.Nodes.{Core, Vendor, Event, Deliver}
+use Rattle.rules_maps.specs.Words.{any_below, those}
+use Rattle.rules_program.specs.Program.{Program}
+use Rattle.rules_tcc.specs.State.{Link, World}
+use Rattle.rules_tcc.specs.Step.{step}
+use Rattle.theorem_phases.specs.Laws.{asks, executes}
+use Rattle.theorem_phases.specs.Phased.{has_halted}
 
 -- the delivery of a core's next request
 abbrev pub request : (asked : List ℕ) → (core : ℕ) → Event

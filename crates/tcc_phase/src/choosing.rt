@@ -1,16 +1,16 @@
 // The useful events that aren't held back: counted, by number, and as a list.
 ghost use Rattle.std.specs.Prelude.{◌≡◌, ◌+◌, ◌<◌, ◌≤◌, ◌^◌, [], IfOk, length, map, option_map, slice_get, true, false};
-ghost use Rattle.tcc_maps.specs.Nodes.{Core, Deliver, Vendor};
+ghost use Rattle.rules_maps.specs.Nodes.{Core, Deliver, Vendor};
 ghost use Rattle.tcc_msg.specs.Plain.{event_of};
-ghost use Rattle.tcc_rules.specs.Useful.{event_before};
+ghost use Rattle.rules_tcc.specs.Useful.{event_before};
 ghost use Rattle.tcc_phase.specs.Choosing.{IsPassed, held_in, passed_by};
 ghost use Rattle.tcc_phase.specs.Phased.{useful_in};
 
 use crate::system::PhaseSystem;
+use rules_tcc::useful_events_are_listed;
 use std::alloc::Global;
 use tcc_base::{List, NoMemory, NodeId};
 use tcc_msg::{Event, Name};
-use tcc_rules::useful_events_are_listed;
 
 /// Whether an event stands before the request of that number of a core in the order of useful events.
 fn stands_before(e: Event, core: u8, seq: u64) -> bool

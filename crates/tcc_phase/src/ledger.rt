@@ -1,11 +1,11 @@
 // What is kept beside the machine: the commits' phases, each core's phase and requests, and who is held back.
 ghost use Rattle.std.specs.Prelude.{◌≡◌, ◌<◌, ◌≤◌, ◌+◌, ◌^◌, [], IfOk, None, OnOk, get_or, length, replicate, vec_capacity, ℕ};
-ghost use Rattle.tcc_maps.specs.Nodes.{Core, Deliver, Exec, Vendor};
-ghost use Rattle.tcc_maps.specs.Words.{those};
+ghost use Rattle.rules_maps.specs.Nodes.{Core, Deliver, Exec, Vendor};
+ghost use Rattle.rules_maps.specs.Words.{those};
 ghost use Rattle.tcc_msg.specs.Plain.{event_of};
-ghost use Rattle.tcc_serial.specs.Owners.{IsRising};
-ghost use Rattle.phase_rules.specs.Laws.{place_of};
-ghost use Rattle.phase_rules.specs.Phases.{x27};
+ghost use Rattle.theorem_serial.specs.Owners.{IsRising};
+ghost use Rattle.theorem_phases.specs.Laws.{place_of};
+ghost use Rattle.theorem_phases.specs.Phases.{x27};
 ghost use Rattle.net_core.specs.Machine.{program_of, settings_of, world_of};
 ghost use Rattle.tcc_phase.specs.Kept.{HasRows};
 ghost use Rattle.tcc_phase.specs.Ledger.{IsListed, Notes, StillHolds};

@@ -1,11 +1,11 @@
 // A machine that runs by phases, with its events chosen by a seed.
 ghost use Rattle.std.specs.Prelude.{◌≡◌, ◌≤◌, [], IfOk, is_some, length, map, option_map, if◌then◌else◌};
 ghost use Rattle.image_load.specs.Contents.{started};
-ghost use Rattle.phase_rules.specs.Laws.{at_start};
-ghost use Rattle.phase_rules.specs.Phased.{phased_picked};
+ghost use Rattle.theorem_phases.specs.Laws.{at_start};
+ghost use Rattle.theorem_phases.specs.Phased.{phased_picked};
 ghost use Rattle.rand_pcg.specs.Pcg.{pcg32};
 ghost use Rattle.tcc_msg.specs.Plain.{event_of};
-ghost use Rattle.tcc_rules.specs.Picked.{chosen};
+ghost use Rattle.rules_tcc.specs.Picked.{chosen};
 ghost use Rattle.tcc_pick.specs.Words.{seeded, words};
 ghost use Rattle.tcc_phase.specs.Phased.{useful_in};
 

@@ -1,7 +1,7 @@
 // The machine and what is read of it.
 ghost use Rattle.std.specs.Prelude.{◌≡◌, ◌<◌, [], IfOk};
 ghost use Rattle.image_load.specs.Contents.{started};
-ghost use Rattle.phase_rules.specs.Phases.{phase_of, phases_of};
+ghost use Rattle.theorem_phases.specs.Phases.{phase_of, phases_of};
 ghost use Rattle.net_core.specs.Machine.{history_of, settings_of, start_of};
 ghost use Rattle.net_core.specs.Reached.{first_history};
 ghost use Rattle.tcc_phase.specs.Phased.{IsPhased};

@@ -2,7 +2,7 @@
 ghost use Rattle.std.specs.Prelude.{◌≡◌, ◌+◌, ◌<◌, ◌≤◌, ◌↔◌, ◌++◌, [], ◌∷◌, IfErr, IfOk, IsErrOf, None, OnErr, OnOk, Some, is_ok, is_some, option_map};
 ghost use Rattle.std.specs.Prelude.{length, if◌then◌else◌};
 ghost use Rattle.tcc_msg.specs.Plain.{event_of};
-ghost use Rattle.tcc_rules.specs.Step.{next_history};
+ghost use Rattle.rules_tcc.specs.Step.{next_history};
 ghost use Rattle.net_core.specs.Answers.{step_of, tid_noted, tid_told};
 ghost use Rattle.net_core.specs.Machine.{history_of, program_of, settings_of};
 ghost use Rattle.tcc_phase.specs.Answers.{Ran, StoppedAt, cause_of, next_of};
@@ -10,9 +10,9 @@ ghost use Rattle.tcc_phase.specs.Requests.{asker};
 
 use crate::system::PhaseSystem;
 use net_core::{Step, StepError, System};
+use rules_tcc::an_event_acts_on_one_node;
 use tcc_base::{CoreId, NoMemory, NodeId};
 use tcc_msg::{Event, Name};
-use tcc_rules::an_event_acts_on_one_node;
 
 /// The core whose message to the vendor the event delivers, if it is such an event.
 fn asker(e: Event) -> Option<CoreId>

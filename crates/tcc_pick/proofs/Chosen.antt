@@ -2,10 +2,10 @@
 use Rattle.std.proofs.Common.{◌≡◌, ℕ, ◌%◌, ◌<◌, List, [], ◌∷◌, length, Option, Some, None, refl, ap, ◌∙◌, arith}
 use Rattle.std.specs.Prelude.{slice_get, get_or, is_some, option_map, true}
 use Rattle.std.proofs.lemmas.Option.{slice_get-get_or}
-use Rattle.tcc_maps.specs.Nodes.{Event}
+use Rattle.rules_maps.specs.Nodes.{Event}
 use Rattle.tcc_msg.specs.Plain.{event_of}
 use Rattle.tcc_msg.specs.declared.event.Event.{Event as CodeEvent}
-use Rattle.tcc_rules.specs.Picked.{chosen}
+use Rattle.rules_tcc.specs.Picked.{chosen}
 
 pub chosen-none : (r : ℕ) (l : List Event) → length l ≡ 0 → chosen r l ≡ None
 unfolding chosen

@@ -6,13 +6,13 @@ use Rattle.rand_core.specs.Steps.{first_words}
 use Rattle.rand_pcg.specs.Lcg.{Lcg}
 use Rattle.rand_pcg.specs.Pcg.{pcg32}
 use Rattle.rv_code.specs.Machine.{program}
-use Rattle.tcc_maps.specs.Nodes.{Event}
+use Rattle.rules_maps.specs.Nodes.{Event}
 use Rattle.tcc_msg.specs.Plain.{event_of}
 use Rattle.tcc_msg.specs.declared.event.Event.{Event as CodeEvent}
-use Rattle.tcc_rules.specs.Picked.{after_step, chosen, pick, picked}
-use Rattle.tcc_rules.specs.State.{World}
-use Rattle.tcc_rules.specs.Step.{History, Stepped, next_history, recorded, step}
-use Rattle.tcc_rules.specs.Useful.{useful}
+use Rattle.rules_tcc.specs.Picked.{after_step, chosen, pick, picked}
+use Rattle.rules_tcc.specs.State.{World}
+use Rattle.rules_tcc.specs.Step.{History, Stepped, next_history, recorded, step}
+use Rattle.rules_tcc.specs.Useful.{useful}
 use Rattle.net_core.specs.Machine.{Machine, history_of, program_of, settings_of, world_of}
 use Rattle.tcc_refine.specs.Refined.{Refined}
 use Rattle.tcc_pick.specs.Picking.{TookAll, picks}

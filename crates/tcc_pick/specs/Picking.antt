@@ -1,10 +1,10 @@
 -- Events of a schedule that a machine has taken and listed.
 use Rattle.std.specs.Prelude.{ℕ, ◌+◌, ◌≡◌, List, ◌++◌, length, map, Some}
 use Rattle.rand_pcg.specs.Lcg.{Lcg}
-use Rattle.tcc_maps.specs.Nodes.{Event}
+use Rattle.rules_maps.specs.Nodes.{Event}
 use Rattle.tcc_msg.specs.Plain.{event_of}
-use Rattle.tcc_rules.specs.Picked.{picked}
-use Rattle.tcc_rules.specs.Step.{run_from}
+use Rattle.rules_tcc.specs.Picked.{picked}
+use Rattle.rules_tcc.specs.Step.{run_from}
 use Rattle.net_core.specs.Machine.{Machine, history_of, program_of, settings_of, world_of}
 use Rattle.tcc_refine.specs.Refined.{Refined}
 use Rattle.tcc_pick.specs.Words.{words}

@@ -3,8 +3,8 @@ ghost use Rattle.std.specs.Prelude.{◌≡◌, ◌+◌, ◌≤◌, [], OnOk, OnE
 ghost use Rattle.std.specs.Option.{option_map};
 ghost use Rattle.rand_pcg.specs.Pcg.{pcg32};
 ghost use Rattle.tcc_msg.specs.Plain.{event_of};
-ghost use Rattle.tcc_rules.specs.Picked.{chosen};
-ghost use Rattle.tcc_rules.specs.Useful.{useful};
+ghost use Rattle.rules_tcc.specs.Picked.{chosen};
+ghost use Rattle.rules_tcc.specs.Useful.{useful};
 ghost use Rattle.net_core.specs.Machine.{program_of, settings_of, world_of};
 ghost use Rattle.tcc_pick.specs.Picking.{TookAll, TookSome, picks};
 ghost use Rattle.tcc_pick.specs.Words.{after_words, seeded};

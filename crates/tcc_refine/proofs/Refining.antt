@@ -3,14 +3,14 @@ use Rattle.std.proofs.Common.{◌≡◌, ◌+◌, List, [], ◌∷◌, ◌++◌,
 use Rattle.std.proofs.lemmas.List.{map-append}
 use Rattle.image_load.specs.Contents.{Contents, started}
 use Rattle.rv_code.specs.Machine.{program}
-use Rattle.rv_serial.specs.Given.{IsSerial}
-use Rattle.rv_serial.specs.Suiting.{world_at_start}
-use Rattle.rv_serial.proofs.Lemmas.{runs_give_the_plain_machine}
+use Rattle.theorem_riscv.specs.Given.{IsSerial}
+use Rattle.theorem_riscv.specs.Suiting.{world_at_start}
+use Rattle.theorem_riscv.proofs.Lemmas.{runs_give_the_plain_machine}
 use Rattle.tcc_base.specs.Settings.{IsAllowed}
-use Rattle.tcc_maps.specs.Nodes.{Event}
+use Rattle.rules_maps.specs.Nodes.{Event}
 use Rattle.tcc_msg.specs.Plain.{event_of}
 use Rattle.tcc_msg.specs.declared.event.Event.{Event as CodeEvent}
-use Rattle.tcc_rules.specs.Step.{History, next_history, run, run_from}
+use Rattle.rules_tcc.specs.Step.{History, next_history, run, run_from}
 use Rattle.net_core.specs.Machine.{Machine, history_of, program_of, settings_of, start_of}
 use Rattle.net_core.specs.Reached.{first_history}
 use Rattle.net_core.proofs.Lemmas.{run-on}

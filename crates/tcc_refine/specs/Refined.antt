@@ -1,11 +1,11 @@
 -- A machine with the events that it took, and what it has come to by them.
 use Rattle.std.specs.Prelude.{◌≡◌, List, map, length, Some}
-use Rattle.rv_serial.specs.Given.{IsSerial}
-use Rattle.rv_serial.specs.Suiting.{world_at_start}
+use Rattle.theorem_riscv.specs.Given.{IsSerial}
+use Rattle.theorem_riscv.specs.Suiting.{world_at_start}
 use Rattle.tcc_base.specs.Settings.{IsAllowed}
 use Rattle.tcc_msg.specs.Plain.{event_of}
 use Rattle.tcc_msg.specs.declared.event.Event.{Event}
-use Rattle.tcc_rules.specs.Step.{run}
+use Rattle.rules_tcc.specs.Step.{run}
 use Rattle.net_core.specs.Machine.{Machine, history_of, program_of, settings_of, start_of}
 
 pub record Refined : Type 0 where

@@ -4,7 +4,7 @@ ghost use Rattle.std.specs.Prelude.{length, take, if◌then◌else◌};
 ghost use Rattle.image_load.specs.Contents.{started};
 ghost use Rattle.tcc_base.specs.Settings.{IsAllowed};
 ghost use Rattle.tcc_msg.specs.Plain.{event_of};
-ghost use Rattle.tcc_rules.specs.Step.{next_history};
+ghost use Rattle.rules_tcc.specs.Step.{next_history};
 ghost use Rattle.net_core.specs.Answers.{step_of, tid_noted, tid_told};
 ghost use Rattle.net_core.specs.Machine.{history_of, program_of, settings_of};
 ghost use Rattle.net_core.specs.Reached.{first_history};

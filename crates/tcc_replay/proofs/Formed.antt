@@ -6,25 +6,25 @@ use Rattle.std.proofs.lemmas.Bool.Decides.{nat_tests}
 use Rattle.std.proofs.lemmas.List.Elements.{All-cons, All-nil}
 use Rattle.image_load.specs.Contents.{Contents, started}
 use Rattle.rv_code.specs.Machine.{program}
-use Rattle.rv_serial.specs.Suiting.{world_at_start}
+use Rattle.theorem_riscv.specs.Suiting.{world_at_start}
 use Rattle.schedule_text.specs.WellFormed.{IsNode, Names, one_is_core}
 use Rattle.tcc_base.specs.Settings.{Settings, IsAllowed}
 use Rattle.tcc_base.specs.declared.names.NodeId.{NodeId}
 use Rattle.tcc_base.specs.declared.names.NodeId.TheVariants.{Core, Dir, Vendor}
-use Rattle.tcc_bounds.specs.Bounds.{IsBounded}
-use Rattle.tcc_bounds.proofs.Lemmas.{link_short, riscv_bounded_after}
-use Rattle.tcc_live.specs.Fits.{fits}
-use Rattle.tcc_maps.specs.Bridge.{node_of}
-use Rattle.tcc_maps.specs.Nodes.{Event as RuleEvent, Msg, Node}
+use Rattle.theorem_bounds.specs.Bounds.{IsBounded}
+use Rattle.theorem_bounds.proofs.Lemmas.{link_short, riscv_bounded_after}
+use Rattle.theorem_live.specs.Fits.{fits}
+use Rattle.rules_maps.specs.Bridge.{node_of}
+use Rattle.rules_maps.specs.Nodes.{Event as RuleEvent, Msg, Node}
 use Rattle.tcc_msg.specs.Plain.{event_of}
 use Rattle.tcc_msg.specs.declared.event.Event.{Event}
 use Rattle.tcc_msg.specs.declared.event.Event.TheVariants.{Exec, Evict, Deliver}
-use Rattle.tcc_program.specs.Program.{Program}
-use Rattle.tcc_rules.specs.Links.{in_flight}
-use Rattle.tcc_rules.specs.State.{Link}
-use Rattle.tcc_rules.specs.Step.{History, Stepped, and_then, happens, if_in_flight, is_node, names_nodes, next_history, recorded, run}
-use Rattle.tcc_rules.specs.Step.{run_from}
-use Rattle.tcc_rules.specs.Step.{step}
+use Rattle.rules_program.specs.Program.{Program}
+use Rattle.rules_tcc.specs.Links.{in_flight}
+use Rattle.rules_tcc.specs.State.{Link}
+use Rattle.rules_tcc.specs.Step.{History, Stepped, and_then, happens, if_in_flight, is_node, names_nodes, next_history, recorded, run}
+use Rattle.rules_tcc.specs.Step.{run_from}
+use Rattle.rules_tcc.specs.Step.{step}
 use Rattle.net_core.specs.Machine.{history_of}
 use Rattle.net_core.proofs.Lemmas.{run-on}
 use Rattle.tcc_replay.specs.Replayed.{TakenHasText}

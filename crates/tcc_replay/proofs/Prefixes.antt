@@ -7,12 +7,12 @@ use Rattle.std.proofs.lemmas.List.{length-take-le, map-append}
 use Rattle.image_load.specs.Contents.{Contents, started}
 use Rattle.image_load.specs.Start.{Start}
 use Rattle.rv_code.specs.Machine.{program}
-use Rattle.rv_serial.specs.Suiting.{world_at_start}
+use Rattle.theorem_riscv.specs.Suiting.{world_at_start}
 use Rattle.tcc_base.specs.Settings.{Settings}
 use Rattle.tcc_msg.specs.Plain.{event_of}
 use Rattle.tcc_msg.specs.declared.event.Event.{Event}
-use Rattle.tcc_program.specs.Program.{Program}
-use Rattle.tcc_rules.specs.Step.{History, and_then, next_history, recorded, run, run_from}
+use Rattle.rules_program.specs.Program.{Program}
+use Rattle.rules_tcc.specs.Step.{History, and_then, next_history, recorded, run, run_from}
 use Rattle.net_core.specs.Answers.{step_of}
 use Rattle.net_core.specs.Machine.{Machine, history_of, program_of, settings_of, start_of}
 use Rattle.net_core.proofs.Lemmas.{run-on}

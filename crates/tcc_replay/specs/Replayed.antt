@@ -2,11 +2,11 @@
 use Rattle.std.specs.Prelude.{ℕ, ◌+◌, ◌<◌, ◌≤◌, ◌≡◌, List, length, map, take, Option, IsSome, None, Some}
 use Rattle.image_load.specs.Start.{Start}
 use Rattle.rv_code.specs.Machine.{program}
-use Rattle.rv_serial.specs.Suiting.{world_at_start}
+use Rattle.theorem_riscv.specs.Suiting.{world_at_start}
 use Rattle.schedule_text.specs.WellFormed.{IsWellFormed}
 use Rattle.tcc_msg.specs.Plain.{event_of}
 use Rattle.tcc_msg.specs.declared.event.Event.{Event}
-use Rattle.tcc_rules.specs.Step.{History, run}
+use Rattle.rules_tcc.specs.Step.{History, run}
 use Rattle.net_core.specs.Machine.{history_of, settings_of}
 use Rattle.tcc_refine.specs.Refined.{IsRefined, Refined}
 use Rattle.tcc_replay.specs.declared.replaying.ReplayFault.{ReplayFault}

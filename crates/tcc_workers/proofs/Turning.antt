@@ -6,8 +6,8 @@ use Rattle.std.proofs.lemmas.Bool.{false≢true}
 use Rattle.std.proofs.lemmas.Bool.Decides.{nat_tests}
 use Rattle.rand_pcg.specs.Lcg.{Lcg}
 use Rattle.rand_pcg.specs.Pcg.{pcg32}
-use Rattle.logged_node.specs.declared.node.Act.{Act}
-use Rattle.logged_node.specs.declared.node.Act.TheVariants.{Moved, Idle, Memory}
+use Rattle.apart_node.specs.declared.node.Act.{Act}
+use Rattle.apart_node.specs.declared.node.Act.TheVariants.{Moved, Idle, Memory}
 use Rattle.node_locks.specs.Turns.{IsTurn, after_words, entries_by, moved_in}
 use Rattle.node_locks.specs.declared.acts.Acts.{Acts}
 use Rattle.tcc_workers.specs.Calls.{Made, acts_at, calls_of, drawn_by, moved_by, idle_run, is_want, met_want, most_next, GoesOn, WentOn}

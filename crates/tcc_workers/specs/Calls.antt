@@ -2,8 +2,8 @@
 use Rattle.std.specs.Prelude.{ℕ, zero, suc, ◌≡◌, ◌+◌, ◌-◌, ◌%◌, ◌<◌, ◌==◌, ◌⊎◌, min, Bool, true, false, not, if◌then◌else◌}
 use Rattle.std.specs.Prelude.{List, [], ◌∷◌, ◌++◌, length, Option, Some, None}
 use Rattle.rand_pcg.specs.Lcg.{Lcg}
-use Rattle.logged_node.specs.declared.node.Act.{Act}
-use Rattle.logged_node.specs.declared.node.Act.TheVariants.{Moved, Idle, Memory}
+use Rattle.apart_node.specs.declared.node.Act.{Act}
+use Rattle.apart_node.specs.declared.node.Act.TheVariants.{Moved, Idle, Memory}
 use Rattle.node_locks.specs.Turns.{IsTurn, after_words, moved_in, nth_word}
 use Rattle.node_locks.specs.declared.acts.Acts.{Acts}
 use Rattle.tcc_workers.specs.Words.{words_of}

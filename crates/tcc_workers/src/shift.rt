@@ -4,7 +4,7 @@ ghost use Rattle.tcc_workers.specs.Calls.{TookTurns};
 ghost use Rattle.tcc_workers.specs.Words.{words_of};
 
 use crate::turns::Turns;
-use logged_node::Act;
+use apart_node::Act;
 use rand_core::SeedableRng;
 use rand_core::utils::NextWord;
 use rand_pcg::Lcg64Xsh32;

@@ -73,7 +73,7 @@ pub struct AtFarm<'a, W: Setup, E: Ledger, T: Ledger, R: Wait, G: Gate> {
 impl<'a, W: Setup, E: Ledger, T: Ledger, R: Wait, G: Gate> Turns<Ticket<T>>
     for AtFarm<'a, W, E, T, R, G> {
     ghost use Rattle.std.specs.Prelude.{None};
-    ghost use Rattle.node_logs.specs.Fitting.{node_count};
+    ghost use Rattle.rules_apart.specs.Fitting.{node_count};
 
     ghost calls = { λ k. None };
 

@@ -2,10 +2,10 @@
 use Rattle.std.proofs.Common.{◌≡◌, Bool, true, false, List, [], ◌∷◌, ◌++◌, map, Option, Some, None, IfSome, nat_lt, if◌then◌else◌}
 use Rattle.std.proofs.Common.{refl, sym, ap, ◌∙◌}
 use Rattle.tcc_base.specs.declared.access.Commit.{Commit as Noted}
-use Rattle.tcc_maps.specs.Nodes.{Event}
-use Rattle.tcc_maps.specs.Shape.{Shape}
-use Rattle.tcc_program.specs.Program.{Program}
-use Rattle.tcc_rules.specs.Step.{History, Stepped, insert_commit, and_noted, and_then, next_history, recorded, run, run_from, step}
+use Rattle.rules_maps.specs.Nodes.{Event}
+use Rattle.rules_maps.specs.Shape.{Shape}
+use Rattle.rules_program.specs.Program.{Program}
+use Rattle.rules_tcc.specs.Step.{History, Stepped, insert_commit, and_noted, and_then, next_history, recorded, run, run_from, step}
 use Rattle.watch.specs.Facts.{Fact}
 use Rattle.watch.specs.Happened.{facts_of, happened}
 use Rattle.trace_law.specs.Commits.{CommitLines, CommitTold, as_told, commits_in, insert, with_inserted}

@@ -5,14 +5,14 @@ use Rattle.std.specs.List.{count_by}
 use Rattle.std.specs.Prelude.{slice_set, slice_index_or}
 use Rattle.std.proofs.lemmas.Bool.Decides.{nat_tests}
 use Rattle.std.proofs.lemmas.List.Sums.{sum_by-cons}
-use Rattle.tcc_maps.specs.Nodes.{Node, Core, Msg, Event, Exec, Evict, Deliver, node_eq}
-use Rattle.tcc_maps.specs.Shape.{Shape}
-use Rattle.tcc_program.specs.Program.{Program}
-use Rattle.tcc_rules.specs.Links.{in_flight, sent_all, sending}
-use Rattle.tcc_rules.specs.Sends.{Sends}
-use Rattle.tcc_rules.specs.State.{Link, World}
-use Rattle.tcc_rules.specs.Step.{History, Stepped, and_noted, and_then, next_history, recorded, run, run_from, step}
-use Rattle.tcc_rules.proofs.Lemmas.{node_eq-eq}
+use Rattle.rules_maps.specs.Nodes.{Node, Core, Msg, Event, Exec, Evict, Deliver, node_eq}
+use Rattle.rules_maps.specs.Shape.{Shape}
+use Rattle.rules_program.specs.Program.{Program}
+use Rattle.rules_tcc.specs.Links.{in_flight, sent_all, sending}
+use Rattle.rules_tcc.specs.Sends.{Sends}
+use Rattle.rules_tcc.specs.State.{Link, World}
+use Rattle.rules_tcc.specs.Step.{History, Stepped, and_noted, and_then, next_history, recorded, run, run_from, step}
+use Rattle.rules_tcc.proofs.Lemmas.{node_eq-eq}
 use Rattle.watch.specs.Facts.{Fact}
 use Rattle.watch.specs.Happened.{acted, facts_of, happened}
 use Rattle.trace_law.specs.Sent.{ConsumedOnce, NothingSent, is_delivery, consumes, is_gone}

@@ -3,10 +3,10 @@ use Rattle.std.proofs.Common.{◌≡◌, ◌==◌, ℕ, Bool, true, false, List,
 use Rattle.std.proofs.Common.{if◌then◌else◌, refl}
 use Rattle.std.specs.List.{list_any}
 use Rattle.tcc_base.specs.declared.access.Commit.{Commit as Noted}
-use Rattle.tcc_maps.specs.Nodes.{Node, Core, Dir, Vendor, Msg, TidGrant, Inv}
-use Rattle.tcc_maps.specs.Shape.{Shape}
-use Rattle.tcc_program.specs.Program.{Program}
-use Rattle.tcc_rules.specs.State.{Awaited, CoreState, Phase, DoomedTid, Ready, Overflowing, World}
+use Rattle.rules_maps.specs.Nodes.{Node, Core, Dir, Vendor, Msg, TidGrant, Inv}
+use Rattle.rules_maps.specs.Shape.{Shape}
+use Rattle.rules_program.specs.Program.{Program}
+use Rattle.rules_tcc.specs.State.{Awaited, CoreState, Phase, DoomedTid, Ready, Overflowing, World}
 use Rattle.watch.specs.Facts.{Fact, Took, Dropped, AskedOwner, Committed, Sent, CameTo, Serves, Violated}
 use Rattle.watch.specs.Happened.{moved, same_phase}
 use Rattle.watch.specs.Instructions.{executed, executed_in, missed_or_else, overflowed_or_done, evicted, evicted_line}

@@ -6,15 +6,15 @@ use Rattle.std.specs.Prelude.{slice_index_or}
 use Rattle.std.proofs.lemmas.Bool.Decides.{nat_tests}
 use Rattle.std.proofs.lemmas.List.{append-nil, append_assoc}
 use Rattle.std.proofs.lemmas.List.Elements.{Contains-append_right}
-use Rattle.tcc_maps.specs.Nodes.{Node, Core, Dir, Vendor, Msg, node_eq}
-use Rattle.tcc_maps.specs.Shape.{Shape}
-use Rattle.tcc_rules.specs.Laws.{counting}
-use Rattle.tcc_rules.specs.Links.{in_flight, sent_all, sending}
-use Rattle.tcc_rules.specs.Sends.{Sends}
-use Rattle.tcc_rules.specs.State.{Link, World}
-use Rattle.tcc_rules.specs.Step.{is_node}
-use Rattle.tcc_rules.specs.Useful.{nodes}
-use Rattle.tcc_rules.proofs.Lemmas.{node_eq-eq}
+use Rattle.rules_maps.specs.Nodes.{Node, Core, Dir, Vendor, Msg, node_eq}
+use Rattle.rules_maps.specs.Shape.{Shape}
+use Rattle.rules_tcc.specs.Laws.{counting}
+use Rattle.rules_tcc.specs.Links.{in_flight, sent_all, sending}
+use Rattle.rules_tcc.specs.Sends.{Sends}
+use Rattle.rules_tcc.specs.State.{Link, World}
+use Rattle.rules_tcc.specs.Step.{is_node}
+use Rattle.rules_tcc.specs.Useful.{nodes}
+use Rattle.rules_tcc.proofs.Lemmas.{node_eq-eq}
 use Rattle.watch.specs.Facts.{Fact, Sent}
 use Rattle.watch.specs.Happened.{numbered, sent_to, sent}
 use Rattle.trace_law.specs.Sent.{number_in, numbers_in}

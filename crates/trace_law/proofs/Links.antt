@@ -3,10 +3,10 @@ use Rattle.std.proofs.Common.{◌≡◌, ◌==◌, ◌+◌, ◌⊎◌, ℕ, zero
 use Rattle.std.proofs.Common.{nat_lt, ◌&&◌, is_some, cond, length, drop, refl, ap, ◌∙◌, inl, inr, arith}
 use Rattle.std.specs.Prelude.{slice_set, slice_index_or}
 use Rattle.std.proofs.lemmas.Bool.Decides.{nat_tests}
-use Rattle.tcc_maps.specs.Nodes.{Msg}
-use Rattle.tcc_rules.specs.Laws.{counting}
-use Rattle.tcc_rules.specs.Links.{sent_all}
-use Rattle.tcc_rules.specs.State.{Link}
+use Rattle.rules_maps.specs.Nodes.{Msg}
+use Rattle.rules_tcc.specs.Laws.{counting}
+use Rattle.rules_tcc.specs.Links.{sent_all}
+use Rattle.rules_tcc.specs.State.{Link}
 
 pub length-sent : (l : Link) (ms : List Msg) → length (l ++ sent_all ms) ≡ length l + length ms
 unfolding sent_all

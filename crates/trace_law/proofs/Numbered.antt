@@ -1,11 +1,11 @@
 -- After each run the messages that are told as sent on a link are numbered.
 use Rattle.std.proofs.Common.{◌≡◌, ℕ, true, List, [], ◌∷◌, ◌++◌, Option, Some, None, IfSome, length, sym, ap, ◌∙◌}
 use Rattle.std.proofs.lemmas.List.{append-nil, append_assoc}
-use Rattle.tcc_maps.specs.Nodes.{Node, Event}
-use Rattle.tcc_maps.specs.Shape.{Shape}
-use Rattle.tcc_program.specs.Program.{Program}
-use Rattle.tcc_rules.specs.Laws.{counting}
-use Rattle.tcc_rules.specs.Step.{History, Stepped, and_noted, and_then, is_node, next_history, recorded, run, run_from, step}
+use Rattle.rules_maps.specs.Nodes.{Node, Event}
+use Rattle.rules_maps.specs.Shape.{Shape}
+use Rattle.rules_program.specs.Program.{Program}
+use Rattle.rules_tcc.specs.Laws.{counting}
+use Rattle.rules_tcc.specs.Step.{History, Stepped, and_noted, and_then, is_node, next_history, recorded, run, run_from, step}
 use Rattle.watch.specs.Facts.{Fact}
 use Rattle.watch.specs.Happened.{actor, acted, facts_of, happened}
 use Rattle.trace_law.specs.Sent.{SentNumbered, numbers_in}

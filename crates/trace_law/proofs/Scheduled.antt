@@ -5,10 +5,10 @@ use Rattle.std.specs.Fmt.{decimal}
 use Rattle.std.specs.List.{flat_map}
 use Rattle.std.proofs.lemmas.Grind.{flat_map-append}
 use Rattle.std.proofs.lemmas.List.{append-nil, append_assoc, drop-map, length-map}
-use Rattle.tcc_maps.specs.Nodes.{Event, Exec, Evict, Deliver}
-use Rattle.tcc_maps.specs.Shape.{Shape}
-use Rattle.tcc_program.specs.Program.{Program}
-use Rattle.tcc_rules.specs.Step.{History, and_then, next_history, run_from}
+use Rattle.rules_maps.specs.Nodes.{Event, Exec, Evict, Deliver}
+use Rattle.rules_maps.specs.Shape.{Shape}
+use Rattle.rules_program.specs.Program.{Program}
+use Rattle.rules_tcc.specs.Step.{History, and_then, next_history, run_from}
 use Rattle.schedule_text.specs.Grammar.{newline, version_of, version_line, config_line, node_word, event_line, end_line, lines_of, joined}
 use Rattle.watch.specs.Facts.{Fact}
 use Rattle.watch.specs.Happened.{happened}

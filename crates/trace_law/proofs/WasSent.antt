@@ -5,12 +5,12 @@ use Rattle.std.specs.List.{Contains}
 use Rattle.std.specs.Prelude.{slice_index_or}
 use Rattle.std.proofs.lemmas.List.{append_assoc}
 use Rattle.std.proofs.lemmas.List.Elements.{Contains-append_left, Contains-append_right}
-use Rattle.tcc_maps.specs.Nodes.{Node, Msg, Event, Deliver}
-use Rattle.tcc_maps.specs.Shape.{Shape}
-use Rattle.tcc_program.specs.Program.{Program}
-use Rattle.tcc_rules.specs.Links.{in_flight}
-use Rattle.tcc_rules.specs.State.{Link, World}
-use Rattle.tcc_rules.specs.Step.{History, Stepped, and_noted, is_node, names_nodes, next_history, recorded, step}
+use Rattle.rules_maps.specs.Nodes.{Node, Msg, Event, Deliver}
+use Rattle.rules_maps.specs.Shape.{Shape}
+use Rattle.rules_program.specs.Program.{Program}
+use Rattle.rules_tcc.specs.Links.{in_flight}
+use Rattle.rules_tcc.specs.State.{Link, World}
+use Rattle.rules_tcc.specs.Step.{History, Stepped, and_noted, is_node, names_nodes, next_history, recorded, step}
 use Rattle.watch.specs.Facts.{Fact, Took, Dropped, AskedOwner, Sent}
 use Rattle.watch.specs.Happened.{actor, acted, commit_fact, moved, sent, facts_of, happened}
 use Rattle.trace_law.specs.Sent.{HeardWasSent, NothingSent, Hears}

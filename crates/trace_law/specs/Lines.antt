@@ -1,10 +1,10 @@
 -- The text of a trace, and the schedule in it.
 use Rattle.std.specs.Prelude.{ℕ, ◌==◌, ◌≡◌, Bool, false, not, List, [], ◌∷◌, ◌++◌, drop, length, map, filter, IsSome, if◌then◌else◌}
-use Rattle.tcc_maps.specs.Nodes.{Event}
-use Rattle.tcc_maps.specs.Shape.{Shape}
+use Rattle.rules_maps.specs.Nodes.{Event}
+use Rattle.rules_maps.specs.Shape.{Shape}
 use Rattle.tcc_msg.specs.declared.event.Schedule.{Schedule}
-use Rattle.tcc_program.specs.Program.{Program}
-use Rattle.tcc_rules.specs.Step.{History, run_from}
+use Rattle.rules_program.specs.Program.{Program}
+use Rattle.rules_tcc.specs.Step.{History, run_from}
 use Rattle.schedule_text.specs.Grammar.{newline, version_of, version_line, config_line, event_line, end_line, joined, text_of}
 use Rattle.watch_trace.specs.Shown.{shown_event_of}
 use Rattle.watch_trace.specs.Text.{event_and_facts, text_from}

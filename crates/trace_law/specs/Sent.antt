@@ -2,13 +2,13 @@
 use Rattle.std.specs.Prelude.{ℕ, ◌≡◌, ◌⊎◌, ◌==◌, ◌&&◌, Bool, true, false, not, List, [], ◌∷◌, ◌++◌, length}
 use Rattle.std.specs.Prelude.{is_some, nat_lt, IfSome, if◌then◌else◌}
 use Rattle.std.specs.List.{Contains, count_by, list_any}
-use Rattle.tcc_maps.specs.Nodes.{Node, Msg, Event, Deliver, node_eq}
-use Rattle.tcc_maps.specs.Shape.{Shape}
-use Rattle.tcc_program.specs.Program.{Program}
-use Rattle.tcc_rules.specs.Laws.{counting}
-use Rattle.tcc_rules.specs.Links.{in_flight}
-use Rattle.tcc_rules.specs.State.{World}
-use Rattle.tcc_rules.specs.Step.{is_node, run}
+use Rattle.rules_maps.specs.Nodes.{Node, Msg, Event, Deliver, node_eq}
+use Rattle.rules_maps.specs.Shape.{Shape}
+use Rattle.rules_program.specs.Program.{Program}
+use Rattle.rules_tcc.specs.Laws.{counting}
+use Rattle.rules_tcc.specs.Links.{in_flight}
+use Rattle.rules_tcc.specs.State.{World}
+use Rattle.rules_tcc.specs.Step.{is_node, run}
 use Rattle.watch.specs.Facts.{Fact, Took, Dropped, AskedOwner, Sent}
 use Rattle.trace_law.specs.Told.{Told, told, facts_in, begun}
 

@@ -1,10 +1,10 @@
 -- A trace as a list: each event of a run with what it did.
 use Rattle.std.specs.Prelude.{List, [], ◌∷◌, ◌++◌, Option, Some, None}
-use Rattle.tcc_maps.specs.Nodes.{Event}
-use Rattle.tcc_maps.specs.Shape.{Shape}
-use Rattle.tcc_program.specs.Program.{Program}
-use Rattle.tcc_rules.specs.State.{World}
-use Rattle.tcc_rules.specs.Step.{History, next_history}
+use Rattle.rules_maps.specs.Nodes.{Event}
+use Rattle.rules_maps.specs.Shape.{Shape}
+use Rattle.rules_program.specs.Program.{Program}
+use Rattle.rules_tcc.specs.State.{World}
+use Rattle.rules_tcc.specs.Step.{History, next_history}
 use Rattle.watch.specs.Facts.{Fact}
 use Rattle.watch.specs.Happened.{happened}
 

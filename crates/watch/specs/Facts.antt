@@ -1,8 +1,8 @@
 -- What an event did, one fact each.
 use Rattle.std.specs.Prelude.{ℕ}
 use Rattle.tcc_base.specs.declared.access.Size.{Size}
-use Rattle.tcc_maps.specs.Nodes.{Node, Msg}
-use Rattle.tcc_rules.specs.State.{Phase}
+use Rattle.rules_maps.specs.Nodes.{Node, Msg}
+use Rattle.rules_tcc.specs.State.{Phase}
 
 -- what an instruction did that was finished
 pub data Done : Type 0 where

@@ -2,14 +2,14 @@
 use Rattle.std.specs.Prelude.{ℕ, ◌+◌, Bool, true, false, List, [], ◌∷◌, ◌++◌, length, drop, Option, Some, None, ◌==◌, if◌then◌else◌}
 use Rattle.std.specs.List.{flat_map}
 use Rattle.tcc_base.specs.declared.access.Commit.{Commit as Noted}
-use Rattle.tcc_program.specs.Program.{Program}
-use Rattle.tcc_maps.specs.Nodes.{Node, Core, Dir, Vendor, Msg, Event, Exec, Evict, Deliver}
-use Rattle.tcc_maps.specs.Shape.{Shape}
-use Rattle.tcc_rules.specs.State.{Phase, Running, AwaitTid, DoomedTid, Probing, Ready, Overflowing, Solo, Halted, Link, World}
-use Rattle.tcc_rules.specs.Links.{in_flight}
-use Rattle.tcc_rules.specs.DirDeliver.{dir_deliver}
-use Rattle.tcc_rules.specs.Step.{History, Stepped, step}
-use Rattle.tcc_rules.specs.Useful.{nodes}
+use Rattle.rules_program.specs.Program.{Program}
+use Rattle.rules_maps.specs.Nodes.{Node, Core, Dir, Vendor, Msg, Event, Exec, Evict, Deliver}
+use Rattle.rules_maps.specs.Shape.{Shape}
+use Rattle.rules_tcc.specs.State.{Phase, Running, AwaitTid, DoomedTid, Probing, Ready, Overflowing, Solo, Halted, Link, World}
+use Rattle.rules_tcc.specs.Links.{in_flight}
+use Rattle.rules_tcc.specs.DirDeliver.{dir_deliver}
+use Rattle.rules_tcc.specs.Step.{History, Stepped, step}
+use Rattle.rules_tcc.specs.Useful.{nodes}
 use Rattle.watch.specs.Facts.{Fact, Took, Committed, CameTo, Serves, Sent}
 use Rattle.watch.specs.Instructions.{executed, evicted}
 use Rattle.watch.specs.Messages.{answered, taken, violated, grant_given_up}

@@ -3,12 +3,12 @@ use Rattle.std.specs.Prelude.{ℕ, List, [], ◌∷◌, Option, Some, None}
 use Rattle.tcc_base.specs.declared.access.Load.{Load}
 use Rattle.tcc_base.specs.declared.access.Stored.{Stored as NotedStore}
 use Rattle.tcc_base.specs.declared.access.Size.TheVariants.{Word}
-use Rattle.tcc_program.specs.Program.{Need, Nothing, Loads, Stores, Changes, Prints, Ends, Halts, Traps, Program}
-use Rattle.tcc_program.specs.Ram.{word_of}
-use Rattle.tcc_maps.specs.Words.{line_of}
-use Rattle.tcc_maps.specs.Shape.{Shape}
-use Rattle.tcc_maps.specs.Cache.{dirty_mask, modified_mask}
-use Rattle.tcc_rules.specs.State.{CoreState, Awaited, Phase, Ready, Overflowing}
+use Rattle.rules_program.specs.Program.{Need, Nothing, Loads, Stores, Changes, Prints, Ends, Halts, Traps, Program}
+use Rattle.rules_program.specs.Ram.{word_of}
+use Rattle.rules_maps.specs.Words.{line_of}
+use Rattle.rules_maps.specs.Shape.{Shape}
+use Rattle.rules_maps.specs.Cache.{dirty_mask, modified_mask}
+use Rattle.rules_tcc.specs.State.{CoreState, Awaited, Phase, Ready, Overflowing}
 use Rattle.watch.specs.Facts.{Done, Plainly, Loaded, Stored, Changed, Printed, Ended, HaltedWith, TrappedWith}
 use Rattle.watch.specs.Facts.{Fact, Did, Missed, Overflowed, Evicted}
 

@@ -1,12 +1,12 @@
 -- What became of a message that was delivered.
 use Rattle.std.specs.Prelude.{ℕ, Bool, true, false, List, [], ◌∷◌, Option, Some, None, nat_lt, ◌==◌, ◌&&◌, if◌then◌else◌}
 use Rattle.tcc_base.specs.declared.access.Commit.{Commit as Noted}
-use Rattle.tcc_maps.specs.Cache.{is_dirty}
-use Rattle.tcc_maps.specs.Masks.{has, mask_of}
-use Rattle.tcc_maps.specs.Words.{or_else, word_at}
-use Rattle.tcc_maps.specs.Nodes.{Node, Dir, Vendor, Msg, TidGrant, Fill, ProbeReply, DataReq, Inv}
-use Rattle.tcc_rules.specs.State.{CoreState, Awaited, Phase, AwaitTid, DoomedTid, Probing, Ready, Overflowing, Solo}
-use Rattle.tcc_rules.specs.DirDeliver.{Answer, Waits, Drops, Asks, Takes}
+use Rattle.rules_maps.specs.Cache.{is_dirty}
+use Rattle.rules_maps.specs.Masks.{has, mask_of}
+use Rattle.rules_maps.specs.Words.{or_else, word_at}
+use Rattle.rules_maps.specs.Nodes.{Node, Dir, Vendor, Msg, TidGrant, Fill, ProbeReply, DataReq, Inv}
+use Rattle.rules_tcc.specs.State.{CoreState, Awaited, Phase, AwaitTid, DoomedTid, Probing, Ready, Overflowing, Solo}
+use Rattle.rules_tcc.specs.DirDeliver.{Answer, Waits, Drops, Asks, Takes}
 use Rattle.watch.specs.Facts.{Fact, Took, Dropped, AskedOwner, Violated, GaveUp}
 
 -- a directory's answer

@@ -1,6 +1,6 @@
 -- The facts of the code as the facts that are defined.
 use Rattle.tcc_base.specs.declared.access.Size.TheVariants.{Word}
-use Rattle.tcc_maps.specs.Bridge.{node_of}
+use Rattle.rules_maps.specs.Bridge.{node_of}
 use Rattle.tcc_msg.specs.Plain.{msg_of}
 use Rattle.commit_engine.specs.Engine.{phase_of}
 use Rattle.watch.specs.Facts as plain

@@ -1,20 +1,20 @@
--- The facts of each event of five schedules. The first four are worked schedules of tcc_rules, and their facts were told by a second
+-- The facts of each event of five schedules. The first four are worked schedules of rules_tcc, and their facts were told by a second
 -- implementation; the last is one core's transaction that changes a word, prints and halts.
 use Rattle.std.specs.Prelude.{◌≡◌, true, false, List, [], ◌∷◌, Option, Some, None}
 use Rattle.tcc_base.specs.declared.access.Size.TheVariants.{Word}
-use Rattle.tcc_program.specs.Program.{Program, Prints, Halts}
-use Rattle.tcc_program.specs.Ram.{flat}
-use Rattle.tcc_maps.specs.Nodes.{Event, TidReq, TidGrant, LoadReq, Fill, Skip, Probe, ProbeReply, Mark, Commit}
-use Rattle.tcc_maps.specs.Nodes.{WriteBack, Flush, DataReq, Inv, InvAck}
-use Rattle.tcc_maps.specs.Shape.{Shape}
-use Rattle.tcc_rules.specs.State.{Running, AwaitTid, DoomedTid, Probing, Ready, Overflowing, Solo, Halted, start}
-use Rattle.tcc_rules.specs.Step.{History, next_history}
-use Rattle.tcc_rules.specs.Needs.{Codes, needs, entry, add}
-use Rattle.tcc_rules.specs.Told.{machine, first_words}
-use Rattle.tcc_rules.specs.Rows.{Image, e, d, c0, c1, d0, d1, v, two_cores, small_machine, both_words, both_code, entries}
-use Rattle.tcc_rules.specs.Rows.{stores_second, breaks_at_zero, copies_word, stores_base, stores_line, stores_both}
-use Rattle.tcc_rules.specs.Schedules.{doomed_attempt, before_the_fill, over_a_dirty_owner, alone_after_overflow}
-use Rattle.tcc_rules.specs.Small.{small}
+use Rattle.rules_program.specs.Program.{Program, Prints, Halts}
+use Rattle.rules_program.specs.Ram.{flat}
+use Rattle.rules_maps.specs.Nodes.{Event, TidReq, TidGrant, LoadReq, Fill, Skip, Probe, ProbeReply, Mark, Commit}
+use Rattle.rules_maps.specs.Nodes.{WriteBack, Flush, DataReq, Inv, InvAck}
+use Rattle.rules_maps.specs.Shape.{Shape}
+use Rattle.rules_tcc.specs.State.{Running, AwaitTid, DoomedTid, Probing, Ready, Overflowing, Solo, Halted, start}
+use Rattle.rules_tcc.specs.Step.{History, next_history}
+use Rattle.rules_tcc.specs.Needs.{Codes, needs, entry, add}
+use Rattle.rules_tcc.specs.Told.{machine, first_words}
+use Rattle.rules_tcc.specs.Rows.{Image, e, d, c0, c1, d0, d1, v, two_cores, small_machine, both_words, both_code, entries}
+use Rattle.rules_tcc.specs.Rows.{stores_second, breaks_at_zero, copies_word, stores_base, stores_line, stores_both}
+use Rattle.rules_tcc.specs.Schedules.{doomed_attempt, before_the_fill, over_a_dirty_owner, alone_after_overflow}
+use Rattle.rules_tcc.specs.Small.{small}
 use Rattle.watch.specs.Facts.{Fact, Did, Missed, Overflowed, Evicted, Took, Dropped, AskedOwner, Violated, GaveUp, Committed, CameTo}
 use Rattle.watch.specs.Facts.{Serves, Sent}
 use Rattle.watch.specs.Facts.{Plainly, Loaded, Stored, Changed, Printed, Ended, HaltedWith, TrappedWith}

@@ -1,19 +1,19 @@
 -- An event leaves the records of all nodes as they are but those of the node that acts.
 use Rattle.std.proofs.Common.{◌≡◌, ℕ, Bool, true, false, if◌then◌else◌, [], Option, Some, None, refl, ap, subst}
-use Rattle.tcc_program.specs.Program.{Program}
-use Rattle.tcc_maps.specs.Nodes.{Node, Core, Dir, Vendor, Msg, Event, Exec, Evict, Deliver}
-use Rattle.tcc_maps.specs.Shape.{Shape}
-use Rattle.tcc_rules.specs.Attempt.{Out}
-use Rattle.tcc_rules.specs.CoreDeliver.{core_deliver}
-use Rattle.tcc_rules.specs.CoreEvict.{core_evict}
-use Rattle.tcc_rules.specs.CoreExec.{core_exec}
-use Rattle.tcc_rules.specs.DirDeliver.{Answer, Waits, Drops, Asks, Takes, dir_deliver}
-use Rattle.tcc_rules.specs.Links.{in_flight}
-use Rattle.tcc_rules.specs.Sends.{Sends}
-use Rattle.tcc_rules.specs.State.{DirState, World}
-use Rattle.tcc_rules.specs.Step.{History, Stepped, answered, core_moves, core_takes, delivered, dir_asks, dir_takes, happens, if_core_moves}
-use Rattle.tcc_rules.specs.Step.{if_core_takes, if_in_flight, if_vendor_gives, names_nodes, next_history, recorded, step, vendor_gives}
-use Rattle.tcc_rules.specs.VendorDeliver.{Granted, vendor_deliver}
+use Rattle.rules_program.specs.Program.{Program}
+use Rattle.rules_maps.specs.Nodes.{Node, Core, Dir, Vendor, Msg, Event, Exec, Evict, Deliver}
+use Rattle.rules_maps.specs.Shape.{Shape}
+use Rattle.rules_tcc.specs.Attempt.{Out}
+use Rattle.rules_tcc.specs.CoreDeliver.{core_deliver}
+use Rattle.rules_tcc.specs.CoreEvict.{core_evict}
+use Rattle.rules_tcc.specs.CoreExec.{core_exec}
+use Rattle.rules_tcc.specs.DirDeliver.{Answer, Waits, Drops, Asks, Takes, dir_deliver}
+use Rattle.rules_tcc.specs.Links.{in_flight}
+use Rattle.rules_tcc.specs.Sends.{Sends}
+use Rattle.rules_tcc.specs.State.{DirState, World}
+use Rattle.rules_tcc.specs.Step.{History, Stepped, answered, core_moves, core_takes, delivered, dir_asks, dir_takes, happens, if_core_moves}
+use Rattle.rules_tcc.specs.Step.{if_core_takes, if_in_flight, if_vendor_gives, names_nodes, next_history, recorded, step, vendor_gives}
+use Rattle.rules_tcc.specs.VendorDeliver.{Granted, vendor_deliver}
 use Rattle.watch.specs.Happened.{actor}
 use Rattle.watch_changes.specs.Nodes.{AreAlikeBut, records_at}
 

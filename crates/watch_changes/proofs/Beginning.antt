@@ -5,11 +5,11 @@ use Rattle.std.proofs.lemmas.List.Concat.{flat_map-append}
 use Rattle.std.proofs.lemmas.List.Folds.{flat_map-map}
 use Rattle.image_load.specs.Start.{Start}
 use Rattle.rv_code.specs.Machine.{first_ram}
-use Rattle.tcc_maps.specs.Nodes.{Node, Core, Dir, Vendor}
-use Rattle.tcc_maps.specs.Shape.{Shape}
-use Rattle.tcc_rules.specs.Seen.{numbers}
-use Rattle.tcc_rules.specs.State.{World}
-use Rattle.tcc_rules.specs.Useful.{nodes}
+use Rattle.rules_maps.specs.Nodes.{Node, Core, Dir, Vendor}
+use Rattle.rules_maps.specs.Shape.{Shape}
+use Rattle.rules_tcc.specs.Seen.{numbers}
+use Rattle.rules_tcc.specs.State.{World}
+use Rattle.rules_tcc.specs.Useful.{nodes}
 use Rattle.watch_state.specs.Cores.{core_records}
 use Rattle.watch_state.specs.Directories.{directory_records}
 use Rattle.watch_state.specs.Records.{Record, VendorIs}

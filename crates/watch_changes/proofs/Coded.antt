@@ -4,8 +4,8 @@ use Rattle.std.proofs.Common.{IsTrue, ◌↔◌, refl, ap, sym, ◌∙◌, arith
 use Rattle.std.specs.Int.{bit_at}
 use Rattle.std.proofs.lemmas.Bool.Decides.{nat_tests}
 use Rattle.std.proofs.lemmas.Nat.Bits.{bit_at-lt, same_from_bits_below}
-use Rattle.tcc_maps.specs.Masks.{has}
-use Rattle.tcc_maps.specs.Words.{those}
+use Rattle.rules_maps.specs.Masks.{has}
+use Rattle.rules_maps.specs.Words.{those}
 use Rattle.watch_state.specs.Records.{Frame, Holds}
 use Rattle.watch_changes.specs.Same.{alike, frame_numbers, same}
 use Rattle.watch_changes.proofs.Lowering.{alike-is, alike-self}

@@ -1,9 +1,9 @@
 -- Records with the same numbers are the same: each is read back from its numbers.
 use Rattle.std.proofs.Common.{◌≡◌, ℕ, zero, suc, ◌==◌, Bool, true, false, List, [], ◌∷◌, Option, Some, None}
 use Rattle.std.proofs.Common.{if◌then◌else◌, refl, ap, sym, ◌∙◌}
-use Rattle.tcc_program.specs.Plain.{Outcome, Goes, Ended, Halted, Trapped}
-use Rattle.tcc_maps.specs.Words.{num}
-use Rattle.tcc_rules.specs.State.{Phase, Running, AwaitTid, DoomedTid, Probing, Ready, Overflowing, Solo, Halted as Stopped}
+use Rattle.rules_program.specs.Plain.{Outcome, Goes, Ended, Halted, Trapped}
+use Rattle.rules_maps.specs.Words.{num}
+use Rattle.rules_tcc.specs.State.{Phase, Running, AwaitTid, DoomedTid, Probing, Ready, Overflowing, Solo, Halted as Stopped}
 use Rattle.watch_state.specs.Records.{Frame, Known, Record, CoreIs, Reserved, EndedBy, AwaitsLine, OwedBy, CommittedAt, Register, SavedPc}
 use Rattle.watch_state.specs.Records.{SavedRegister, Holds, Spilled, DirectoryIs, Skipped, LineIs, HomeWord, VendorIs, InFlight}
 use Rattle.watch_changes.specs.Same.{numbers_of, outcome_numbers, owner_numbers, phase_numbers, same, same_numbers}

@@ -2,12 +2,12 @@
 use Rattle.std.proofs.Common.{◌≡◌, ℕ, suc, ◌<◌, ◌==◌, ◌||◌, Bool, true, false, List, [], ◌∷◌, ◌++◌, Option, Some, None, refl, ap, sym}
 use Rattle.std.proofs.Common.{◌∙◌, arith}
 use Rattle.std.specs.List.{flat_map}
-use Rattle.tcc_maps.specs.Cache.{Cache, is_marked, way_marked}
-use Rattle.tcc_maps.specs.CacheUse.{is_number}
-use Rattle.tcc_maps.specs.Shape.{Shape, lines, set_of}
-use Rattle.tcc_maps.specs.Words.{any_below, those}
-use Rattle.tcc_rules.specs.Seen.{numbers}
-use Rattle.tcc_rules.specs.State.{CoreState}
+use Rattle.rules_maps.specs.Cache.{Cache, is_marked, way_marked}
+use Rattle.rules_maps.specs.CacheUse.{is_number}
+use Rattle.rules_maps.specs.Shape.{Shape, lines, set_of}
+use Rattle.rules_maps.specs.Words.{any_below, those}
+use Rattle.rules_tcc.specs.Seen.{numbers}
+use Rattle.rules_tcc.specs.State.{CoreState}
 use Rattle.spec_cache.specs.MarkedSets.{has_marked}
 use Rattle.watch_state.specs.Cores.{attempt_records, cached_records, core_part, core_records, frame_of, held_record, register_records}
 use Rattle.watch_state.specs.Cores.{set_records, spilled_records, way_record}

@@ -4,11 +4,11 @@ use Rattle.std.proofs.Common.{if◌then◌else◌, append-nil, append_assoc, ref
 use Rattle.std.proofs.lemmas.Bool.Decides.{nat_tests}
 use Rattle.image_load.specs.Start.{Start}
 use Rattle.rv_code.specs.Machine.{program}
-use Rattle.tcc_program.specs.Program.{Program}
-use Rattle.tcc_maps.specs.Nodes.{Event}
-use Rattle.tcc_maps.specs.Shape.{Shape}
-use Rattle.tcc_rules.specs.State.{World}
-use Rattle.tcc_rules.specs.Step.{History, and_then, next_history, run_from}
+use Rattle.rules_program.specs.Program.{Program}
+use Rattle.rules_maps.specs.Nodes.{Event}
+use Rattle.rules_maps.specs.Shape.{Shape}
+use Rattle.rules_tcc.specs.State.{World}
+use Rattle.rules_tcc.specs.Step.{History, and_then, next_history, run_from}
 use Rattle.schedule_text.specs.Grammar.{joined}
 use Rattle.watch_trace.specs.Text.{event_text, head_text, tail_text}
 use Rattle.watch_changes.specs.Text.{Shows, added, if_shown, if_taken, shown_from, shown_text, shown_texts}

@@ -2,13 +2,13 @@
 use Rattle.std.proofs.Common.{◌≡◌, ℕ, zero, suc, ◌<◌, ◌==◌, ◌||◌, Bool, true, false, List, get_or, Option, Some, None, is_some, unwrap_or}
 use Rattle.std.proofs.Common.{if◌then◌else◌, refl, ap, sym, ◌∙◌, arith}
 use Rattle.std.proofs.lemmas.Bool.Decides.{nat_tests}
-use Rattle.tcc_maps.specs.Cache.{Cache, dirty_mask, dirty_tag, first_of_line, free_way, is_marked, modified_mask}
-use Rattle.tcc_maps.specs.CacheChange.{cleaned, committed, evicted, evicted_line, filled, invalidated, marked, placed, placed_at}
-use Rattle.tcc_maps.specs.CacheChange.{read_cleared, rolled_back, stored, words_dropped}
-use Rattle.tcc_maps.specs.Masks.{hit, mask_of}
-use Rattle.tcc_maps.specs.Shape.{Shape, set_of}
-use Rattle.tcc_maps.specs.Words.{any_below, any_word, eight, line_of, word_at}
-use Rattle.tcc_maps.proofs.Lemmas.{any_below-at}
+use Rattle.rules_maps.specs.Cache.{Cache, dirty_mask, dirty_tag, first_of_line, free_way, is_marked, modified_mask}
+use Rattle.rules_maps.specs.CacheChange.{cleaned, committed, evicted, evicted_line, filled, invalidated, marked, placed, placed_at}
+use Rattle.rules_maps.specs.CacheChange.{read_cleared, rolled_back, stored, words_dropped}
+use Rattle.rules_maps.specs.Masks.{hit, mask_of}
+use Rattle.rules_maps.specs.Shape.{Shape, set_of}
+use Rattle.rules_maps.specs.Words.{any_below, any_word, eight, line_of, word_at}
+use Rattle.rules_maps.proofs.Lemmas.{any_below-at}
 use Rattle.watch_state.specs.Cores.{frame_of}
 
 -- the words of a line are the same in both

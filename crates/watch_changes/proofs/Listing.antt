@@ -9,8 +9,8 @@ use Rattle.std.proofs.lemmas.Option.{get_or_from_slice_get, slice_get-get_or, sl
 use Rattle.std.proofs.lemmas.List.Elements.{Contains-get_or}
 use Rattle.std.specs.List.{All}
 use Rattle.tcc_base.specs.declared.names.LineAddr.{LineAddr}
-use Rattle.tcc_maps.specs.Words.{those}
-use Rattle.tcc_maps.proofs.Lemmas.{those-only}
+use Rattle.rules_maps.specs.Words.{those}
+use Rattle.rules_maps.proofs.Lemmas.{those-only}
 use Rattle.watch_changes.specs.Plain.{line_numbers, with_line}
 
 -- sets that are alike below a bound

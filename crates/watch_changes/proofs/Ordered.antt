@@ -1,8 +1,8 @@
 -- The records of each node are ordered by their keys.
 use Rattle.std.proofs.Common.{ℕ}
-use Rattle.tcc_maps.specs.Nodes.{Node, Core, Dir, Vendor}
-use Rattle.tcc_maps.specs.Shape.{Shape}
-use Rattle.tcc_rules.specs.State.{World}
+use Rattle.rules_maps.specs.Nodes.{Node, Core, Dir, Vendor}
+use Rattle.rules_maps.specs.Shape.{Shape}
+use Rattle.rules_tcc.specs.State.{World}
 use Rattle.watch_changes.specs.Nodes.{records_at}
 use Rattle.watch_changes.specs.Order.{AreOrdered}
 use Rattle.watch_changes.proofs.OrderedCores.{core-ordered}

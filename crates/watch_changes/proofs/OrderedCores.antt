@@ -2,13 +2,13 @@
 use Rattle.std.proofs.Common.{◌≡◌, ℕ, suc, ◌<◌, ◌==◌, List, [], ◌∷◌, ◌++◌, Option, Some, None}
 use Rattle.std.proofs.Common.{refl, subst, sym, arith}
 use Rattle.std.specs.List.{flat_map}
-use Rattle.tcc_program.specs.Plain.{Outcome, Goes, Ended, Halted, Trapped}
-use Rattle.tcc_program.specs.Registers.{register}
-use Rattle.tcc_maps.specs.Cache.{Cache}
-use Rattle.tcc_maps.specs.Shape.{Shape, lines}
-use Rattle.tcc_maps.specs.Words.{those, word_at}
-use Rattle.tcc_rules.specs.Seen.{numbers}
-use Rattle.tcc_rules.specs.State.{Awaited, CoreState}
+use Rattle.rules_program.specs.Plain.{Outcome, Goes, Ended, Halted, Trapped}
+use Rattle.rules_program.specs.Registers.{register}
+use Rattle.rules_maps.specs.Cache.{Cache}
+use Rattle.rules_maps.specs.Shape.{Shape, lines}
+use Rattle.rules_maps.specs.Words.{those, word_at}
+use Rattle.rules_tcc.specs.Seen.{numbers}
+use Rattle.rules_tcc.specs.State.{Awaited, CoreState}
 use Rattle.watch_state.specs.Cores.{addr_of, attempt_records, awaited_record, cached_records, committed_record, core_records, ended_record}
 use Rattle.watch_state.specs.Cores.{frame_of, held_record, owed_record, register_record, register_records, reserved_record, saved_record}
 use Rattle.watch_state.specs.Cores.{set_records, spilled_record, spilled_records, spilled_word, way_record}

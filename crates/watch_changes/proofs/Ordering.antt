@@ -4,8 +4,8 @@ use Rattle.std.proofs.Common.{refl, ap, subst, sym, ◌∙◌, arith}
 use Rattle.std.specs.List.{flat_map}
 use Rattle.std.proofs.lemmas.List.Concat.{flat_map-append}
 use Rattle.std.proofs.Common.{append-nil}
-use Rattle.tcc_maps.specs.Words.{those}
-use Rattle.tcc_rules.specs.Seen.{numbers}
+use Rattle.rules_maps.specs.Words.{those}
+use Rattle.rules_tcc.specs.Seen.{numbers}
 use Rattle.watch_state.specs.Records.{Record}
 use Rattle.watch_changes.specs.Order.{AreBehind, AreOrdered, key, lower}
 use Rattle.watch_changes.proofs.Lowering.{lower-neither, lower-not, lower-self, lower-then}

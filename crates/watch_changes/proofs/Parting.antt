@@ -2,11 +2,11 @@
 use Rattle.std.proofs.Common.{◌≡◌, ℕ, suc, ◌==◌, Bool, true, false, List, [], ◌∷◌, ◌++◌, if◌then◌else◌}
 use Rattle.std.proofs.Common.{refl, ap, sym, ◌∙◌, arith}
 use Rattle.std.specs.List.{flat_map}
-use Rattle.tcc_maps.specs.Lines.{Lines}
-use Rattle.tcc_maps.specs.Shape.{Shape, home, lines}
-use Rattle.tcc_maps.specs.Words.{those, word_at}
-use Rattle.tcc_rules.specs.Seen.{numbers}
-use Rattle.tcc_rules.specs.State.{DirState}
+use Rattle.rules_maps.specs.Lines.{Lines}
+use Rattle.rules_maps.specs.Shape.{Shape, home, lines}
+use Rattle.rules_maps.specs.Words.{those, word_at}
+use Rattle.rules_tcc.specs.Seen.{numbers}
+use Rattle.rules_tcc.specs.State.{DirState}
 use Rattle.watch_state.specs.Cores.{addr_of}
 use Rattle.watch_state.specs.Directories.{at_home, directory_part, directory_records, is_known, known_of, line_record, serving_records}
 use Rattle.watch_state.specs.Directories.{word_record, word_records}

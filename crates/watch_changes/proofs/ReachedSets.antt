@@ -7,11 +7,11 @@ use Rattle.std.proofs.lemmas.List.Elements.{Contains-get_or}
 use Rattle.std.specs.List.{All}
 use Rattle.std.specs.Option.{option_map, option_to_list}
 use Rattle.tcc_base.specs.declared.names.LineAddr.{LineAddr}
-use Rattle.tcc_maps.specs.Cache.{Cache, IsCache}
-use Rattle.tcc_maps.specs.CacheUse.{is_number}
-use Rattle.tcc_maps.specs.Shape.{Shape, set_of}
-use Rattle.tcc_maps.specs.Words.{any_below, those}
-use Rattle.tcc_maps.proofs.Lemmas.{any_below-found, those-only}
+use Rattle.rules_maps.specs.Cache.{Cache, IsCache}
+use Rattle.rules_maps.specs.CacheUse.{is_number}
+use Rattle.rules_maps.specs.Shape.{Shape, set_of}
+use Rattle.rules_maps.specs.Words.{any_below, those}
+use Rattle.rules_maps.proofs.Lemmas.{any_below-found, those-only}
 use Rattle.spec_cache.specs.MarkedSets.{has_marked}
 use Rattle.watch_changes.specs.Touched.{More, NoMore, Marked, Every, Reach, may_hold, reaches}
 use Rattle.watch_changes.proofs.Listing.{alone-inside, those-alike, those-none}

@@ -4,29 +4,29 @@ use Rattle.std.proofs.Common.{if◌then◌else◌, refl, ap, subst, sym, ◌∙�
 use Rattle.std.proofs.lemmas.Bool.Decides.{nat_tests}
 use Rattle.tcc_base.specs.declared.access.Size.{Size}
 use Rattle.tcc_base.specs.declared.access.Size.TheVariants.{Byte, Half, Word}
-use Rattle.tcc_program.specs.Program.{Need, Nothing, Loads, Stores, Changes, Prints, Ends, Halts, Traps, Program}
-use Rattle.tcc_program.specs.Ram.{word_of}
-use Rattle.tcc_maps.specs.Cache.{Cache, all_marked, free_way, is_marked}
-use Rattle.tcc_maps.specs.CacheChange.{cleaned, committed, evicted, evicted_line, filled, invalidated, marked, placed, placed_at}
-use Rattle.tcc_maps.specs.CacheChange.{read_cleared, rolled_back, stored, words_dropped}
-use Rattle.tcc_maps.specs.CacheLook.{reads_masked}
-use Rattle.tcc_maps.specs.CacheUse.{is_number}
-use Rattle.tcc_maps.specs.Nodes.{Node, Core, Dir, Vendor, Msg, TidReq, TidGrant, LoadReq, Fill, Skip, Probe, ProbeReply, Mark}
-use Rattle.tcc_maps.specs.Nodes.{Commit, Abort, WriteBack, Flush, DataReq, Inv, InvAck}
-use Rattle.tcc_maps.specs.Shape.{Shape, set_of}
-use Rattle.tcc_maps.specs.Spilled.{holds}
-use Rattle.tcc_maps.specs.Words.{any_below, line_of}
-use Rattle.tcc_rules.specs.Attempt.{Out, finished, is_running, is_solo, moves, new_word, one_more_instruction, roll_back}
-use Rattle.tcc_rules.specs.Commit.{commit, committed_core, solo_commit}
-use Rattle.tcc_rules.specs.CoreDeliver.{acknowledged, core_deliver, data_request, fill, fill_awaited, from_dir, from_vendor, grant}
-use Rattle.tcc_rules.specs.CoreDeliver.{grant_in_phase, if_violated, invalidate, is_violated, may_be_above, probe_reply, ready_once_replied}
-use Rattle.tcc_rules.specs.CoreDeliver.{all_replied, replied, reply_in_phase, solo_once_replied, violated_in_phase, words_invalidated}
-use Rattle.tcc_rules.specs.CoreEvict.{core_evict, evict_line, is_awaited}
-use Rattle.tcc_rules.specs.CoreExec.{core_exec, exec_in_phase, unless_awaiting}
-use Rattle.tcc_rules.specs.Execute.{change_spilled, change_valid, end_transaction, execute, execute_need, full_set, load, load_spilled}
-use Rattle.tcc_rules.specs.Execute.{load_valid, marks_read, miss, overflow, partial_store, place, request_line, store_by_size}
-use Rattle.tcc_rules.specs.Execute.{stored_in_buffer, stored_in_frame, with_read_mark, word_store}
-use Rattle.tcc_rules.specs.State.{Awaited, CoreState, Phase, Running, AwaitTid, DoomedTid, Probing, Ready, Overflowing, Solo, Halted}
+use Rattle.rules_program.specs.Program.{Need, Nothing, Loads, Stores, Changes, Prints, Ends, Halts, Traps, Program}
+use Rattle.rules_program.specs.Ram.{word_of}
+use Rattle.rules_maps.specs.Cache.{Cache, all_marked, free_way, is_marked}
+use Rattle.rules_maps.specs.CacheChange.{cleaned, committed, evicted, evicted_line, filled, invalidated, marked, placed, placed_at}
+use Rattle.rules_maps.specs.CacheChange.{read_cleared, rolled_back, stored, words_dropped}
+use Rattle.rules_maps.specs.CacheLook.{reads_masked}
+use Rattle.rules_maps.specs.CacheUse.{is_number}
+use Rattle.rules_maps.specs.Nodes.{Node, Core, Dir, Vendor, Msg, TidReq, TidGrant, LoadReq, Fill, Skip, Probe, ProbeReply, Mark}
+use Rattle.rules_maps.specs.Nodes.{Commit, Abort, WriteBack, Flush, DataReq, Inv, InvAck}
+use Rattle.rules_maps.specs.Shape.{Shape, set_of}
+use Rattle.rules_maps.specs.Spilled.{holds}
+use Rattle.rules_maps.specs.Words.{any_below, line_of}
+use Rattle.rules_tcc.specs.Attempt.{Out, finished, is_running, is_solo, moves, new_word, one_more_instruction, roll_back}
+use Rattle.rules_tcc.specs.Commit.{commit, committed_core, solo_commit}
+use Rattle.rules_tcc.specs.CoreDeliver.{acknowledged, core_deliver, data_request, fill, fill_awaited, from_dir, from_vendor, grant}
+use Rattle.rules_tcc.specs.CoreDeliver.{grant_in_phase, if_violated, invalidate, is_violated, may_be_above, probe_reply, ready_once_replied}
+use Rattle.rules_tcc.specs.CoreDeliver.{all_replied, replied, reply_in_phase, solo_once_replied, violated_in_phase, words_invalidated}
+use Rattle.rules_tcc.specs.CoreEvict.{core_evict, evict_line, is_awaited}
+use Rattle.rules_tcc.specs.CoreExec.{core_exec, exec_in_phase, unless_awaiting}
+use Rattle.rules_tcc.specs.Execute.{change_spilled, change_valid, end_transaction, execute, execute_need, full_set, load, load_spilled}
+use Rattle.rules_tcc.specs.Execute.{load_valid, marks_read, miss, overflow, partial_store, place, request_line, store_by_size}
+use Rattle.rules_tcc.specs.Execute.{stored_in_buffer, stored_in_frame, with_read_mark, word_store}
+use Rattle.rules_tcc.specs.State.{Awaited, CoreState, Phase, Running, AwaitTid, DoomedTid, Probing, Ready, Overflowing, Solo, Halted}
 use Rattle.spec_cache.specs.MarkedSets.{has_marked}
 use Rattle.watch_changes.specs.Touched.{More, NoMore, Marked, Every, Reach, frame_of_line, marked_frames, may_hold, more_if_read, no_frame}
 use Rattle.watch_changes.specs.Touched.{reach_of_delivery, reach_of_end, reach_of_exec, reach_of_msg, reach_of_need, reach_of_reply}

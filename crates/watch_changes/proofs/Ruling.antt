@@ -5,21 +5,21 @@ use Rattle.std.proofs.Common.{if◌then◌else◌, nat_le, nat_lt, is_some, refl
 use Rattle.std.specs.List.{flat_map}
 use Rattle.std.proofs.lemmas.Bool.Decides.{nat_tests}
 use Rattle.std.proofs.lemmas.List.Concat.{flat_map-append}
-use Rattle.tcc_maps.specs.Judge.{Judgement, judge, Current, Outdated, TooEarly}
-use Rattle.tcc_maps.specs.Lines.{Lines, has_mark, unmarked, with_asked, with_mark, with_owner, with_sharer}
-use Rattle.tcc_maps.specs.Masks.{full, hit}
-use Rattle.tcc_maps.specs.Nodes.{Msg, LoadReq, Fill, Skip, Probe, ProbeReply, Mark, Commit, Abort, WriteBack, Flush, DataReq, Inv, InvAck}
-use Rattle.tcc_maps.specs.Nodes.{TidReq, TidGrant}
-use Rattle.tcc_maps.specs.Serving.{advance}
-use Rattle.tcc_maps.specs.Shape.{Shape, home, lines}
-use Rattle.tcc_maps.specs.Words.{any_below, count_below, line_of, those, word_at}
-use Rattle.tcc_rules.specs.DirDeliver.{Answer, Waits, Drops, Asks, Takes, abort, acknowledgement, ask_owner, came_home}
-use Rattle.tcc_rules.specs.DirDeliver.{dir_commit, dir_deliver}
-use Rattle.tcc_rules.specs.DirDeliver.{invalidation_count, judged, load_request, load_unless_owned, mark, mark_taken}
-use Rattle.tcc_rules.specs.DirDeliver.{mark_unless_owned, moved_on, moved_on_if_settled, owned_by_committer, probe, skip, unless_keeps}
-use Rattle.tcc_rules.specs.DirDeliver.{write_back}
-use Rattle.tcc_rules.specs.Seen.{numbers}
-use Rattle.tcc_rules.specs.State.{DirState}
+use Rattle.rules_maps.specs.Judge.{Judgement, judge, Current, Outdated, TooEarly}
+use Rattle.rules_maps.specs.Lines.{Lines, has_mark, unmarked, with_asked, with_mark, with_owner, with_sharer}
+use Rattle.rules_maps.specs.Masks.{full, hit}
+use Rattle.rules_maps.specs.Nodes.{Msg, LoadReq, Fill, Skip, Probe, ProbeReply, Mark, Commit, Abort, WriteBack, Flush, DataReq, Inv, InvAck}
+use Rattle.rules_maps.specs.Nodes.{TidReq, TidGrant}
+use Rattle.rules_maps.specs.Serving.{advance}
+use Rattle.rules_maps.specs.Shape.{Shape, home, lines}
+use Rattle.rules_maps.specs.Words.{any_below, count_below, line_of, those, word_at}
+use Rattle.rules_tcc.specs.DirDeliver.{Answer, Waits, Drops, Asks, Takes, abort, acknowledgement, ask_owner, came_home}
+use Rattle.rules_tcc.specs.DirDeliver.{dir_commit, dir_deliver}
+use Rattle.rules_tcc.specs.DirDeliver.{invalidation_count, judged, load_request, load_unless_owned, mark, mark_taken}
+use Rattle.rules_tcc.specs.DirDeliver.{mark_unless_owned, moved_on, moved_on_if_settled, owned_by_committer, probe, skip, unless_keeps}
+use Rattle.rules_tcc.specs.DirDeliver.{write_back}
+use Rattle.rules_tcc.specs.Seen.{numbers}
+use Rattle.rules_tcc.specs.State.{DirState}
 use Rattle.watch_state.specs.Directories.{known_of, line_record, word_record, word_records}
 use Rattle.watch_state.specs.Records.{Record, LineIs}
 use Rattle.watch_changes.specs.Touched.{may_change, may_come_home}

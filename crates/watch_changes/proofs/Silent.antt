@@ -3,8 +3,8 @@ use Rattle.std.proofs.Common.{◌≡◌, ℕ, Bool, false, List, refl}
 use Rattle.tcc_base.specs.declared.names.LineAddr.{LineAddr}
 use Rattle.tcc_base.specs.declared.names.Mask.{Mask}
 use Rattle.tcc_base.specs.declared.names.Tid.{Tid}
-use Rattle.tcc_maps.specs.Lines.{Lines}
-use Rattle.tcc_maps.specs.Words.{those}
+use Rattle.rules_maps.specs.Lines.{Lines}
+use Rattle.rules_maps.specs.Words.{those}
 use Rattle.tcc_msg.specs.Plain.{msg_of}
 use Rattle.tcc_msg.specs.declared.msg.Msg.{Msg}
 use Rattle.tcc_msg.specs.declared.msg.Msg.TheVariants as code

@@ -3,8 +3,8 @@ use Rattle.std.proofs.Common.{◌≡◌, ℕ, zero, suc, Bool, true, false, cond
 use Rattle.std.proofs.Common.{refl, ap, sym, ◌∙◌}
 use Rattle.std.specs.List.{flat_map}
 use Rattle.std.proofs.lemmas.List.Concat.{flat_map-append}
-use Rattle.tcc_maps.specs.Words.{those}
-use Rattle.tcc_rules.specs.Seen.{numbers}
+use Rattle.rules_maps.specs.Words.{those}
+use Rattle.rules_tcc.specs.Seen.{numbers}
 use Rattle.watch_state.specs.Records.{Record}
 use Rattle.watch_changes.specs.Changes.{Change, Told, Gone, Meeting, Unchanged, Left, Came, Changed, changes, meeting, told_of}
 use Rattle.watch_changes.specs.Order.{key, lower}

@@ -1,21 +1,21 @@
 -- What an event changed of its node is what it changed of the part that it touches.
 use Rattle.std.proofs.Common.{◌≡◌, ℕ, Bool, true, false, if◌then◌else◌, Option, Some, None, refl, ap, subst, sym, ◌==◌, arith}
 use Rattle.std.proofs.lemmas.Bool.Decides.{nat_tests}
-use Rattle.tcc_program.specs.Program.{Program}
-use Rattle.tcc_maps.specs.Nodes.{Node, Core, Dir, Vendor, Msg, Event, Exec, Evict, Deliver}
-use Rattle.tcc_maps.specs.Shape.{Shape, lines}
-use Rattle.tcc_maps.specs.Words.{put, those}
-use Rattle.tcc_rules.specs.Attempt.{Out}
-use Rattle.tcc_rules.specs.CoreDeliver.{core_deliver}
-use Rattle.tcc_rules.specs.CoreEvict.{core_evict}
-use Rattle.tcc_rules.specs.CoreExec.{core_exec}
-use Rattle.tcc_rules.specs.DirDeliver.{Answer, Waits, Drops, Asks, Takes, dir_deliver}
-use Rattle.tcc_rules.specs.Links.{in_flight}
-use Rattle.tcc_rules.specs.State.{CoreState, DirState, World}
-use Rattle.tcc_rules.specs.Step.{History, Stepped, answered, core_moves, core_takes, delivered, dir_asks, dir_takes, happens}
-use Rattle.tcc_rules.specs.Step.{if_core_moves, if_core_takes}
-use Rattle.tcc_rules.specs.Step.{if_in_flight, if_vendor_gives, names_nodes, next_history, recorded, step}
-use Rattle.tcc_rules.specs.VendorDeliver.{vendor_deliver}
+use Rattle.rules_program.specs.Program.{Program}
+use Rattle.rules_maps.specs.Nodes.{Node, Core, Dir, Vendor, Msg, Event, Exec, Evict, Deliver}
+use Rattle.rules_maps.specs.Shape.{Shape, lines}
+use Rattle.rules_maps.specs.Words.{put, those}
+use Rattle.rules_tcc.specs.Attempt.{Out}
+use Rattle.rules_tcc.specs.CoreDeliver.{core_deliver}
+use Rattle.rules_tcc.specs.CoreEvict.{core_evict}
+use Rattle.rules_tcc.specs.CoreExec.{core_exec}
+use Rattle.rules_tcc.specs.DirDeliver.{Answer, Waits, Drops, Asks, Takes, dir_deliver}
+use Rattle.rules_tcc.specs.Links.{in_flight}
+use Rattle.rules_tcc.specs.State.{CoreState, DirState, World}
+use Rattle.rules_tcc.specs.Step.{History, Stepped, answered, core_moves, core_takes, delivered, dir_asks, dir_takes, happens}
+use Rattle.rules_tcc.specs.Step.{if_core_moves, if_core_takes}
+use Rattle.rules_tcc.specs.Step.{if_in_flight, if_vendor_gives, names_nodes, next_history, recorded, step}
+use Rattle.rules_tcc.specs.VendorDeliver.{vendor_deliver}
 use Rattle.watch.specs.Happened.{actor}
 use Rattle.watch_changes.specs.Changes.{changes}
 use Rattle.watch_state.specs.Cores.{core_part, core_records}

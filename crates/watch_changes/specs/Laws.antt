@@ -3,12 +3,12 @@ use Rattle.std.specs.Prelude.{ℕ, ◌≡◌, Bool, List, [], ◌++◌, Some}
 use Rattle.std.specs.List.{flat_map}
 use Rattle.image_load.specs.Start.{Start}
 use Rattle.rv_code.specs.Machine.{first_ram}
-use Rattle.tcc_program.specs.Program.{Program}
-use Rattle.tcc_maps.specs.Nodes.{Node, Event}
-use Rattle.tcc_maps.specs.Shape.{Shape}
-use Rattle.tcc_rules.specs.State.{World}
-use Rattle.tcc_rules.specs.Step.{History, next_history}
-use Rattle.tcc_rules.specs.Useful.{nodes}
+use Rattle.rules_program.specs.Program.{Program}
+use Rattle.rules_maps.specs.Nodes.{Node, Event}
+use Rattle.rules_maps.specs.Shape.{Shape}
+use Rattle.rules_tcc.specs.State.{World}
+use Rattle.rules_tcc.specs.Step.{History, next_history}
+use Rattle.rules_tcc.specs.Useful.{nodes}
 use Rattle.watch.specs.Happened.{actor}
 use Rattle.watch_state.specs.Text.{records_from, state_records}
 use Rattle.watch_trace.specs.Text.{trace_text}

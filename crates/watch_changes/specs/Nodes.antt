@@ -1,9 +1,9 @@
 -- The records of one node of a machine.
 use Rattle.std.specs.Prelude.{ℕ, ◌≡◌, false, List, [], ◌∷◌, map}
-use Rattle.tcc_maps.specs.Nodes.{Node, Core, Dir, Vendor, node_eq}
-use Rattle.tcc_maps.specs.Shape.{Shape}
-use Rattle.tcc_rules.specs.State.{World}
-use Rattle.tcc_rules.specs.Useful.{nodes}
+use Rattle.rules_maps.specs.Nodes.{Node, Core, Dir, Vendor, node_eq}
+use Rattle.rules_maps.specs.Shape.{Shape}
+use Rattle.rules_tcc.specs.State.{World}
+use Rattle.rules_tcc.specs.Useful.{nodes}
 use Rattle.watch_state.specs.Cores.{core_records}
 use Rattle.watch_state.specs.Directories.{directory_records}
 use Rattle.watch_state.specs.Records.{Record, VendorIs}

@@ -1,6 +1,6 @@
 -- The order of records: by kind, as the kinds stand in the table of records, and within a kind by the numbers of the key.
 use Rattle.std.specs.Prelude.{ℕ, Bool, true, false, nat_lt, ◌==◌, ◌≡◌, List, [], ◌∷◌, ◌++◌, if◌then◌else◌}
-use Rattle.tcc_maps.specs.Nodes.{Node, Core, Dir, Vendor}
+use Rattle.rules_maps.specs.Nodes.{Node, Core, Dir, Vendor}
 use Rattle.watch_state.specs.Records.{Record, CoreIs, Reserved, EndedBy, AwaitsLine, OwedBy, CommittedAt, Register, SavedPc}
 use Rattle.watch_state.specs.Records.{SavedRegister, Holds, Spilled, DirectoryIs, Skipped, LineIs, HomeWord, VendorIs, InFlight}
 

@@ -1,8 +1,8 @@
 -- Records that are the same word for word: those with the same numbers.
 use Rattle.std.specs.Prelude.{ℕ, Bool, true, false, ◌==◌, ◌&&◌, List, [], ◌∷◌, Option, Some, None}
-use Rattle.tcc_program.specs.Plain.{Outcome, Goes, Ended, Halted, Trapped}
-use Rattle.tcc_maps.specs.Words.{num}
-use Rattle.tcc_rules.specs.State.{Phase, Running, AwaitTid, DoomedTid, Probing, Ready, Overflowing, Solo, Halted as Stopped}
+use Rattle.rules_program.specs.Plain.{Outcome, Goes, Ended, Halted, Trapped}
+use Rattle.rules_maps.specs.Words.{num}
+use Rattle.rules_tcc.specs.State.{Phase, Running, AwaitTid, DoomedTid, Probing, Ready, Overflowing, Solo, Halted as Stopped}
 use Rattle.watch_state.specs.Records.{Frame, Known, Record, CoreIs, Reserved, EndedBy, AwaitsLine, OwedBy, CommittedAt, Register, SavedPc}
 use Rattle.watch_state.specs.Records.{SavedRegister, Holds, Spilled, DirectoryIs, Skipped, LineIs, HomeWord, VendorIs, InFlight}
 

@@ -1,17 +1,17 @@
 -- The part of a node's records that an event may change.
 use Rattle.std.specs.Prelude.{ℕ, Bool, true, false, ◌==◌, ◌||◌, List, [], ◌∷◌, Option, Some, None, if◌then◌else◌}
-use Rattle.tcc_program.specs.Program.{Need, Nothing, Loads, Stores, Changes, Prints, Ends, Halts, Traps, Program}
-use Rattle.tcc_program.specs.Ram.{word_of}
-use Rattle.tcc_maps.specs.Cache.{Cache}
-use Rattle.tcc_maps.specs.CacheLook.{reads_masked}
-use Rattle.tcc_maps.specs.CacheUse.{is_number}
-use Rattle.tcc_maps.specs.Lines.{Lines, has_mark}
-use Rattle.tcc_maps.specs.Nodes.{Node, Core, Dir, Vendor, Msg, LoadReq, Fill, ProbeReply, Mark, Commit, Abort, InvAck, WriteBack, Flush}
-use Rattle.tcc_maps.specs.Nodes.{DataReq, Inv, Event, Exec, Evict, Deliver}
-use Rattle.tcc_maps.specs.Shape.{Shape, lines, set_of}
-use Rattle.tcc_maps.specs.Words.{any_below, line_of, those}
-use Rattle.tcc_rules.specs.Links.{in_flight}
-use Rattle.tcc_rules.specs.State.{CoreState, Phase, Ready, Overflowing, Solo, World}
+use Rattle.rules_program.specs.Program.{Need, Nothing, Loads, Stores, Changes, Prints, Ends, Halts, Traps, Program}
+use Rattle.rules_program.specs.Ram.{word_of}
+use Rattle.rules_maps.specs.Cache.{Cache}
+use Rattle.rules_maps.specs.CacheLook.{reads_masked}
+use Rattle.rules_maps.specs.CacheUse.{is_number}
+use Rattle.rules_maps.specs.Lines.{Lines, has_mark}
+use Rattle.rules_maps.specs.Nodes.{Node, Core, Dir, Vendor, Msg, LoadReq, Fill, ProbeReply, Mark, Commit, Abort, InvAck, WriteBack, Flush}
+use Rattle.rules_maps.specs.Nodes.{DataReq, Inv, Event, Exec, Evict, Deliver}
+use Rattle.rules_maps.specs.Shape.{Shape, lines, set_of}
+use Rattle.rules_maps.specs.Words.{any_below, line_of, those}
+use Rattle.rules_tcc.specs.Links.{in_flight}
+use Rattle.rules_tcc.specs.State.{CoreState, Phase, Ready, Overflowing, Solo, World}
 use Rattle.spec_cache.specs.MarkedSets.{has_marked}
 use Rattle.watch_state.specs.Cores.{core_part}
 use Rattle.watch_state.specs.Directories.{directory_part}

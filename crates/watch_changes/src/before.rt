@@ -1,7 +1,7 @@
 // The records that an event may change, as they were before it.
 ghost use Rattle.std.specs.Prelude.{◌≡◌, ◌++◌, IfOk, OnOk, string_bytes, true};
 ghost use Rattle.tcc_msg.specs.Plain.{event_of};
-ghost use Rattle.tcc_rules.specs.Step.{is_node};
+ghost use Rattle.rules_tcc.specs.Step.{is_node};
 ghost use Rattle.net_core.specs.Machine.{program_of, settings_of, world_of};
 ghost use Rattle.watch.specs.Happened.{actor};
 ghost use Rattle.watch_changes.specs.Changes.{change_lines};

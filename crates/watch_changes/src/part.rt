@@ -1,10 +1,10 @@
 // The part of a node's records that an event may change.
 ghost use Rattle.std.specs.Prelude.{◌≡◌, ◌<◌, [], IfOk, Some, map, true};
 ghost use Rattle.rv_code.specs.Machine.{first_ram};
-ghost use Rattle.tcc_maps.specs.Bridge.{node_of};
-ghost use Rattle.tcc_maps.specs.Nodes.{Deliver, Evict, Exec};
+ghost use Rattle.rules_maps.specs.Bridge.{node_of};
+ghost use Rattle.rules_maps.specs.Nodes.{Deliver, Evict, Exec};
 ghost use Rattle.tcc_msg.specs.Plain.{event_of, msg_of};
-ghost use Rattle.tcc_rules.specs.Step.{is_node};
+ghost use Rattle.rules_tcc.specs.Step.{is_node};
 ghost use Rattle.net_core.specs.Machine.{program_of, settings_of, start_of, world_of};
 ghost use Rattle.watch.specs.Happened.{actor};
 ghost use Rattle.watch_state.specs.Plain.{record_of};

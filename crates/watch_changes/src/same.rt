@@ -2,8 +2,8 @@
 ghost use Rattle.std.specs.Prelude.{◌≡◌, ◌↔◌, ◌==◌, ◌&&◌, IsTrue, option_map};
 ghost use Rattle.commit_engine.specs.Engine.{phase_of};
 ghost use Rattle.rv_plain.specs.Attempts.{outcome_of};
-ghost use Rattle.tcc_maps.specs.Masks.{has};
-ghost use Rattle.tcc_maps.specs.Words.{those};
+ghost use Rattle.rules_maps.specs.Masks.{has};
+ghost use Rattle.rules_maps.specs.Words.{those};
 ghost use Rattle.watch_state.specs.Plain.{frame_of, known_of, record_of};
 ghost use Rattle.watch_state.specs.Records as plain;
 ghost use Rattle.watch_changes.specs.Same.{alike, frame_numbers, known_numbers, outcome_numbers, owner_numbers, phase_numbers, same};

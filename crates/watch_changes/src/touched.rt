@@ -1,9 +1,9 @@
 // The lines of which a message may change what a directory knows, and those whose words may come home with it.
 ghost use Rattle.std.specs.Prelude.{◌≡◌, ◌==◌, ◌||◌, ◌<◌, ◌≤◌, ◌++◌, ℕ, false, IfOk, OnOk, drop, length, slice_index_or, take};
 ghost use Rattle.tcc_base.specs.declared.names.LineAddr.{LineAddr};
-ghost use Rattle.tcc_maps.specs.Lines.{has_mark};
-ghost use Rattle.tcc_maps.specs.Shape.{lines};
-ghost use Rattle.tcc_maps.specs.Words.{those};
+ghost use Rattle.rules_maps.specs.Lines.{has_mark};
+ghost use Rattle.rules_maps.specs.Shape.{lines};
+ghost use Rattle.rules_maps.specs.Words.{those};
 ghost use Rattle.tcc_msg.specs.Plain.{msg_of};
 ghost use Rattle.directory.specs.Data.{dir_of};
 ghost use Rattle.watch_changes.specs.Plain.{line_numbers, with_line};
@@ -15,7 +15,7 @@ use tcc_base::{Config, LineAddr, List, NoMemory};
 use tcc_msg::Msg;
 
 /// A line, where it is in RAM.
-#[tactic(auto, unfolding(tcc_maps::specs::Words::those))]
+#[tactic(auto, unfolding(rules_maps::specs::Words::those))]
 fn line_alone(alloc: Global, config: &Config, line: LineAddr) -> Result<List<LineAddr>, NoMemory>
     ensures { IfOk result (λ found. line_numbers found ≡ those (λ j. j == line.0) (lines config.now)) }
 {

@@ -2,8 +2,8 @@
 // part of them.
 ghost use Rattle.std.specs.Prelude.{◌≡◌, ◌<◌, ◌++◌, [], OnOk, string_bytes};
 ghost use Rattle.std.specs.List.{flat_map};
-ghost use Rattle.tcc_maps.specs.Nodes.{Core, Dir, Vendor};
-ghost use Rattle.tcc_rules.specs.Seen.{numbers};
+ghost use Rattle.rules_maps.specs.Nodes.{Core, Dir, Vendor};
+ghost use Rattle.rules_tcc.specs.Seen.{numbers};
 ghost use Rattle.net_core.specs.Machine.{settings_of, start_of, world_of};
 ghost use Rattle.watch_state.specs.Text.{state_records};
 ghost use Rattle.watch_changes.specs.Changes.{all_lines, change_lines, changes};
@@ -60,7 +60,7 @@ fn push_vendor(alloc: Global, text: &mut String, system: &System) -> Result<(), 
     }
 }
 
-#[tactic(auto, unfolding(tcc_maps::specs::Words::those))]
+#[tactic(auto, unfolding(rules_maps::specs::Words::those))]
 fn push_cores(alloc: Global, text: &mut String, system: &System) -> Result<(), AllocError>
     ensures { OnOk result (string_bytes text.new ≡ string_bytes text.old
         ++ flat_map (λ c. all_lines (records_now system.now (Core c))) (numbers (settings_of system.now).cores)) }
@@ -71,7 +71,7 @@ fn push_cores(alloc: Global, text: &mut String, system: &System) -> Result<(), A
     Ok(())
 }
 
-#[tactic(auto, unfolding(tcc_maps::specs::Words::those))]
+#[tactic(auto, unfolding(rules_maps::specs::Words::those))]
 fn push_directories(alloc: Global, text: &mut String, system: &System) -> Result<(), AllocError>
     ensures { OnOk result (string_bytes text.new ≡ string_bytes text.old
         ++ flat_map (λ d. all_lines (records_now system.now (Dir d))) (numbers (settings_of system.now).dirs)) }

@@ -4,10 +4,10 @@ use Rattle.std.proofs.Common.{refl, ap, sym, ◌∙◌, arith, Option, Some, Non
 use Rattle.std.proofs.lemmas.Bool.Decides.{nat_tests}
 use Rattle.std.proofs.lemmas.Nat.{and_le_l}
 use Rattle.std.specs.Prelude.{bit_and}
-use Rattle.tcc_maps.proofs.Lemmas.{has-meet, has-mask_of, mask_of-has, mask_of-small}
-use Rattle.tcc_maps.specs.Cache.{Cache, is_dirty, dirty_mask}
-use Rattle.tcc_maps.specs.Masks.{has, mask_of}
-use Rattle.tcc_maps.specs.Words.{any_below, any_word, num, word_at}
+use Rattle.rules_maps.proofs.Lemmas.{has-meet, has-mask_of, mask_of-has, mask_of-small}
+use Rattle.rules_maps.specs.Cache.{Cache, is_dirty, dirty_mask}
+use Rattle.rules_maps.specs.Masks.{has, mask_of}
+use Rattle.rules_maps.specs.Words.{any_below, any_word, num, word_at}
 use Rattle.spec_cache.specs.declared.frame.FrameView.{FrameView}
 use Rattle.spec_cache.specs.Frame.{dirty_in, read_in}
 use Rattle.spec_cache.specs.Held.{Held, frame_of, maps}

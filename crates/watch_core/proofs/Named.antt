@@ -5,7 +5,7 @@ use Rattle.std.specs.Prelude.{get_or, ◌==◌, if◌then◌else◌}
 use Rattle.std.proofs.Math.Seq.{drop-length}
 use Rattle.std.proofs.lemmas.Bool.Decides.{nat_tests}
 use Rattle.tcc_base.specs.declared.access.Commit.{Commit}
-use Rattle.tcc_maps.specs.Words.{or_else}
+use Rattle.rules_maps.specs.Words.{or_else}
 use Rattle.watch.specs.Messages.{commit_of}
 
 -- the commit, where its TID is this

@@ -2,8 +2,8 @@
 use Rattle.std.specs.Prelude.{ℕ, ◌≡◌, Option, Some, None}
 use Rattle.rv_exec.specs.Needs.{need_of}
 use Rattle.tcc_base.specs.declared.names.Tid.{Tid}
-use Rattle.tcc_program.specs.Program.{Program}
-use Rattle.tcc_rules.specs.State.{CoreState}
+use Rattle.rules_program.specs.Program.{Program}
+use Rattle.rules_tcc.specs.State.{CoreState}
 use Rattle.commit_engine.specs.Engine.{phase_of}
 use Rattle.watch_core.specs.declared.executing.Seen.{Seen}
 

@@ -118,7 +118,7 @@ pub fn addr_of(need: Need) -> u32
 }
 
 /// The line of an address.
-#[tactic(auto, unfolding(tcc_program::specs::Ram::word_of, tcc_maps::specs::Words::line_of))]
+#[tactic(auto, unfolding(rules_program::specs::Ram::word_of, rules_maps::specs::Words::line_of))]
 pub fn line_at(config: &Config, addr: u32) -> LineAddr
     ensures { result.0 ≡ line_of_addr config.now addr }
 {

@@ -4,7 +4,7 @@ use Rattle.std.specs.List.{fold}
 use Rattle.std.specs.Map.{values_of}
 use Rattle.std.proofs.lemmas.List.{at_drop_more, drop_all}
 use Rattle.tcc_base.specs.declared.names.NodeId.{NodeId}
-use Rattle.tcc_maps.specs.Nodes.{Node, Vendor, Msg}
+use Rattle.rules_maps.specs.Nodes.{Node, Vendor, Msg}
 use Rattle.tcc_msg.specs.Plain.{msg_of}
 use Rattle.tcc_msg.specs.declared.msg.Msg.{Msg as CodeMsg}
 use Rattle.watch.specs.Facts.{Fact, Sent}

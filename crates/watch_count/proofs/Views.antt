@@ -6,7 +6,7 @@ use Rattle.std.specs.Map.{values_of}
 use Rattle.std.specs.Ordering.{nat_cmp}
 use Rattle.std.proofs.lemmas.List.{length-map, at_drop_more, drop_all}
 use Rattle.std.proofs.lemmas.List.Elements.{All-same}
-use Rattle.tcc_maps.specs.Nodes.{Node}
+use Rattle.rules_maps.specs.Nodes.{Node}
 use Rattle.watch.specs.Facts.{Fact}
 use Rattle.watch.specs.Plain.{fact_of}
 use Rattle.watch.specs.declared.fact.Fact.{Fact as CodeFact}

@@ -4,7 +4,7 @@ use Rattle.std.specs.declared.cmp.Ordering.{Ordering}
 use Rattle.std.specs.Ordering.{nat_cmp, on, then_cmp}
 use Rattle.std.specs.BTreeMap.{is_at, insert_entry}
 use Rattle.std.specs.Map.{lookup}
-use Rattle.tcc_maps.specs.Nodes.{Node, Core, Vendor, Msg, Fill}
+use Rattle.rules_maps.specs.Nodes.{Node, Core, Vendor, Msg, Fill}
 use Rattle.watch.specs.Facts.{Fact, Did, Missed, Overflowed, Evicted, Took, Violated, GaveUp, Committed, CameTo, Sent}
 use Rattle.watch_count.specs.declared.tables.CoreCounts.{CoreCounts}
 use Rattle.watch_count.specs.declared.messages.MessageCounts.{MessageCounts}

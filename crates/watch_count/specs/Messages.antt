@@ -1,7 +1,7 @@
 -- What is counted of one kind of message.
 use Rattle.std.specs.Prelude.{ℕ, ◌+◌, Option, Some, None}
-use Rattle.tcc_maps.specs.Nodes.{Msg, TidReq, TidGrant, LoadReq, Fill, Skip, Probe, ProbeReply, Mark, Commit, Abort, WriteBack, Flush}
-use Rattle.tcc_maps.specs.Nodes.{DataReq, Inv, InvAck}
+use Rattle.rules_maps.specs.Nodes.{Msg, TidReq, TidGrant, LoadReq, Fill, Skip, Probe, ProbeReply, Mark, Commit, Abort, WriteBack, Flush}
+use Rattle.rules_maps.specs.Nodes.{DataReq, Inv, InvAck}
 use Rattle.watch.specs.Facts.{Fact, Took, Dropped, AskedOwner, Sent}
 use Rattle.watch_count.specs.declared.messages.MessageCounts.{MessageCounts}
 

@@ -1,6 +1,6 @@
 -- What is counted of one line, and of one conflict: who committed, who was violated, and by which line.
 use Rattle.std.specs.Prelude.{ℕ, ◌+◌, Option, Some, None}
-use Rattle.tcc_maps.specs.Nodes.{Inv}
+use Rattle.rules_maps.specs.Nodes.{Inv}
 use Rattle.watch.specs.Facts.{Fact, Missed, Took, Violated}
 use Rattle.watch_count.specs.declared.places.LineCounts.{LineCounts}
 use Rattle.watch_count.specs.declared.places.Conflict.{Conflict}

@@ -1,7 +1,7 @@
 -- What is counted of one core, table by table: what one fact of the core adds to the numbers. All numbers begin at 0.
 use Rattle.std.specs.Prelude.{◌+◌, ◌==◌, ◌&&◌, max, if◌then◌else◌}
-use Rattle.tcc_maps.specs.Nodes.{Fill}
-use Rattle.tcc_rules.specs.State.{Phase, Running, AwaitTid, DoomedTid, Probing, Ready, Overflowing, Solo, Halted}
+use Rattle.rules_maps.specs.Nodes.{Fill}
+use Rattle.rules_tcc.specs.State.{Phase, Running, AwaitTid, DoomedTid, Probing, Ready, Overflowing, Solo, Halted}
 use Rattle.watch.specs.Facts.{Done, Loaded, Stored, Changed}
 use Rattle.watch.specs.Facts.{Fact, Did, Missed, Overflowed, Evicted, Took, Violated, GaveUp, Committed, CameTo}
 use Rattle.watch_count.specs.declared.tables.PhaseName.{PhaseName}

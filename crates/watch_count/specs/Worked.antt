@@ -1,8 +1,8 @@
 -- What is counted of worked schedules, whose facts are worked out in watch.
 use Rattle.std.specs.Prelude.{ℕ, ◌≡◌, List, [], ◌∷◌, ◌++◌, map, codes, get_or}
 use Rattle.std.specs.List.{flat_map}
-use Rattle.tcc_maps.specs.Nodes.{Node, Event}
-use Rattle.tcc_rules.specs.Schedules.{doomed_attempt, before_the_fill, over_a_dirty_owner, alone_after_overflow}
+use Rattle.rules_maps.specs.Nodes.{Node, Event}
+use Rattle.rules_tcc.specs.Schedules.{doomed_attempt, before_the_fill, over_a_dirty_owner, alone_after_overflow}
 use Rattle.watch.specs.Facts.{Fact}
 use Rattle.watch.specs.Happened.{actor}
 use Rattle.watch.specs.Worked.{doomed_attempt_facts, before_the_fill_facts, over_a_dirty_owner_facts, alone_after_overflow_facts}

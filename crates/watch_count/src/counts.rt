@@ -4,7 +4,7 @@ ghost use Rattle.std.specs.List.{flat_map, fold};
 ghost use Rattle.std.specs.Ordering.{nat_cmp};
 ghost use Rattle.std.specs.Map.{values_of, lookup};
 ghost use Rattle.std.specs.BTreeMap.{is_at};
-ghost use Rattle.tcc_maps.specs.Bridge.{node_of};
+ghost use Rattle.rules_maps.specs.Bridge.{node_of};
 ghost use Rattle.watch.specs.Plain.{fact_of};
 ghost use Rattle.watch_count.specs.Tables.{core_after};
 ghost use Rattle.watch_count.specs.KeptCores.{numbers_after};

@@ -6,15 +6,15 @@ use Rattle.tcc_base.specs.Settings.{Settings}
 use Rattle.tcc_base.specs.declared.names.CoreId.{CoreId}
 use Rattle.tcc_base.specs.declared.names.NodeId.{NodeId}
 use Rattle.tcc_base.specs.declared.names.NodeId.TheVariants as code_node
-use Rattle.tcc_maps.specs.Bridge.{node_of}
+use Rattle.rules_maps.specs.Bridge.{node_of}
 use Rattle.core_node.specs.View.{IsKnown}
-use Rattle.tcc_maps.specs.Nodes.{Node, Core, Dir, Vendor, Msg, Event, Exec, Evict, Deliver}
-use Rattle.tcc_rules.specs.DirDeliver.{Answer, dir_deliver}
-use Rattle.tcc_rules.specs.DirDeliver as rules
-use Rattle.tcc_rules.specs.Links.{in_flight}
-use Rattle.tcc_rules.specs.State.{World}
-use Rattle.tcc_rules.specs.Step.{Stepped, answered, happens, if_in_flight, is_node, names_nodes, next_history, recorded, step}
-use Rattle.tcc_live.specs.Fits.{fits}
+use Rattle.rules_maps.specs.Nodes.{Node, Core, Dir, Vendor, Msg, Event, Exec, Evict, Deliver}
+use Rattle.rules_tcc.specs.DirDeliver.{Answer, dir_deliver}
+use Rattle.rules_tcc.specs.DirDeliver as rules
+use Rattle.rules_tcc.specs.Links.{in_flight}
+use Rattle.rules_tcc.specs.State.{World}
+use Rattle.rules_tcc.specs.Step.{Stepped, answered, happens, if_in_flight, is_node, names_nodes, next_history, recorded, step}
+use Rattle.theorem_live.specs.Fits.{fits}
 use Rattle.live_core.specs.Reached.{IsLive}
 use Rattle.net_core.specs.Answers.{step_of}
 use Rattle.net_core.specs.Machine.{Machine, history_of, program_of, settings_of, world_of}

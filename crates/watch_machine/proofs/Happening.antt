@@ -6,13 +6,13 @@ use Rattle.std.proofs.Math.Seq.{drop-append_seam}
 use Rattle.std.specs.Option.{option_map}
 use Rattle.tcc_base.specs.declared.access.Commit.{Commit}
 use Rattle.tcc_base.specs.declared.names.NodeId.{NodeId}
-use Rattle.tcc_maps.specs.Bridge.{node_of}
-use Rattle.tcc_maps.specs.Nodes.{Node, Msg, Event, Exec, Evict, Deliver}
+use Rattle.rules_maps.specs.Bridge.{node_of}
+use Rattle.rules_maps.specs.Nodes.{Node, Msg, Event, Exec, Evict, Deliver}
 use Rattle.tcc_msg.specs.Plain.{sends_of}
-use Rattle.tcc_rules.specs.Links.{in_flight, sent_all}
-use Rattle.tcc_rules.specs.State.{World}
-use Rattle.tcc_rules.specs.Step.{History, Stepped, and_noted, next_history, recorded}
-use Rattle.tcc_rules.specs.Useful.{nodes}
+use Rattle.rules_tcc.specs.Links.{in_flight, sent_all}
+use Rattle.rules_tcc.specs.State.{World}
+use Rattle.rules_tcc.specs.Step.{History, Stepped, and_noted, next_history, recorded}
+use Rattle.rules_tcc.specs.Useful.{nodes}
 use Rattle.net_core.specs.Answers.{IsSent, StandBehind, acts_in, step_of, tid_noted, tid_told}
 use Rattle.net_core.specs.Machine.{Machine, history_of, program_of, settings_of, world_of}
 use Rattle.net_core.specs.Reached.{Reached}

@@ -4,9 +4,9 @@ use Rattle.std.proofs.Common.{Option, Some, None, refl, ap, ◌∙◌, arith}
 use Rattle.std.specs.Prelude.{nat_lt, ◌==◌, if◌then◌else◌}
 use Rattle.std.proofs.lemmas.Bool.Decides.{nat_tests}
 use Rattle.tcc_base.specs.declared.access.Commit.{Commit}
-use Rattle.tcc_maps.specs.Words.{or_else}
-use Rattle.tcc_rules.specs.Step.{insert_commit}
-use Rattle.commit_list.specs.Rising.{HasNone}
+use Rattle.rules_maps.specs.Words.{or_else}
+use Rattle.rules_tcc.specs.Step.{insert_commit}
+use Rattle.machine_commits.specs.Rising.{HasNone}
 use Rattle.watch.specs.Messages.{commit_of}
 
 -- the commit, where its TID is this

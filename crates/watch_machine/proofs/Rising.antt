@@ -7,16 +7,16 @@ use Rattle.std.proofs.lemmas.Bool.{cases_eq, cases_lt}
 use Rattle.std.proofs.lemmas.Bool.Decides.{nat_tests}
 use Rattle.std.proofs.lemmas.List.{drop_all, drop_more, length-map, map-append}
 use Rattle.tcc_base.specs.declared.names.NodeId.{NodeId}
-use Rattle.tcc_maps.specs.Bridge.{node_of}
-use Rattle.tcc_maps.specs.Nodes.{Node, Core, Dir, Vendor, Msg as PlainMsg, node_eq}
-use Rattle.tcc_maps.specs.Shape.{Shape}
-use Rattle.tcc_maps.specs.Words.{those}
+use Rattle.rules_maps.specs.Bridge.{node_of}
+use Rattle.rules_maps.specs.Nodes.{Node, Core, Dir, Vendor, Msg as PlainMsg, node_eq}
+use Rattle.rules_maps.specs.Shape.{Shape}
+use Rattle.rules_maps.specs.Words.{those}
 use Rattle.tcc_msg.specs.Plain.{msg_of, sends_of}
 use Rattle.tcc_msg.specs.declared.msg.Msg.{Msg}
-use Rattle.tcc_rules.specs.Seen.{numbers}
-use Rattle.tcc_rules.specs.Step.{is_node}
-use Rattle.tcc_rules.specs.Useful.{nodes}
-use Rattle.tcc_rules.proofs.Lemmas.{node_eq-eq}
+use Rattle.rules_tcc.specs.Seen.{numbers}
+use Rattle.rules_tcc.specs.Step.{is_node}
+use Rattle.rules_tcc.specs.Useful.{nodes}
+use Rattle.rules_tcc.proofs.Lemmas.{node_eq-eq}
 use Rattle.net_core.specs.Machine.{Machine, settings_of}
 use Rattle.watch.specs.Facts.{Fact, Sent}
 use Rattle.watch_machine.specs.Rising.{Rises, each_told, place_of}

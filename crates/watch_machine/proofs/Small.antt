@@ -2,13 +2,13 @@
 use Rattle.std.proofs.Common.{ℕ, Bool, true, false}
 use Rattle.std.proofs.Common.{refl, if◌then◌else◌}
 use Rattle.std.specs.Prelude.{nat_lt, ◌==◌, ◌&&◌}
-use Rattle.tcc_maps.specs.Lines.{has_mark}
-use Rattle.tcc_maps.specs.Nodes.{Probe, Commit}
-use Rattle.tcc_maps.specs.Shape.{Shape, lines}
-use Rattle.tcc_maps.specs.Words.{count_below}
-use Rattle.tcc_rules.specs.DirDeliver.{Waits, Takes, dir_commit, probe}
-use Rattle.tcc_rules.specs.Sends.{Sends}
-use Rattle.tcc_rules.specs.State.{DirState}
+use Rattle.rules_maps.specs.Lines.{has_mark}
+use Rattle.rules_maps.specs.Nodes.{Probe, Commit}
+use Rattle.rules_maps.specs.Shape.{Shape, lines}
+use Rattle.rules_maps.specs.Words.{count_below}
+use Rattle.rules_tcc.specs.DirDeliver.{Waits, Takes, dir_commit, probe}
+use Rattle.rules_tcc.specs.Sends.{Sends}
+use Rattle.rules_tcc.specs.State.{DirState}
 use Rattle.watch_machine.specs.Telling.{IsAnswer}
 use Rattle.watch_machine.specs.declared.answering.Became.TheVariants as became
 

@@ -3,13 +3,13 @@ use Rattle.std.specs.Prelude.{ℕ, ◌≡◌, ◌≢◌, ◌+◌, ◌-◌, ◌�
 use Rattle.std.specs.List.{flat_map}
 use Rattle.tcc_base.specs.declared.access.Commit.{Commit}
 use Rattle.tcc_base.specs.declared.names.Tid.{Tid}
-use Rattle.tcc_maps.specs.Bridge.{node_of}
-use Rattle.tcc_maps.specs.Nodes.{Node, Msg as PlainMsg, Inv, Event}
+use Rattle.rules_maps.specs.Bridge.{node_of}
+use Rattle.rules_maps.specs.Nodes.{Node, Msg as PlainMsg, Inv, Event}
 use Rattle.tcc_msg.specs.Plain.{msg_of, sends_of}
-use Rattle.tcc_rules.specs.DirDeliver.{Answer, Waits}
-use Rattle.tcc_rules.specs.State.{CoreState}
-use Rattle.tcc_rules.specs.Step.{is_node, next_history}
-use Rattle.tcc_rules.specs.Useful.{nodes}
+use Rattle.rules_tcc.specs.DirDeliver.{Answer, Waits}
+use Rattle.rules_tcc.specs.State.{CoreState}
+use Rattle.rules_tcc.specs.Step.{is_node, next_history}
+use Rattle.rules_tcc.specs.Useful.{nodes}
 use Rattle.commit_engine.specs.Engine.{phase_of}
 use Rattle.net_core.specs.Answers.{Kept, IsSent, acts_in, step_of, tid_noted, tid_told}
 use Rattle.net_core.specs.Machine.{Machine, history_of, program_of, settings_of, world_of}

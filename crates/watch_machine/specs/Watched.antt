@@ -1,8 +1,8 @@
 -- What `watch` and `watch_node` answer.
 use Rattle.std.specs.Prelude.{◌≡◌, ◌≢◌, ◌+◌, true, List, [], ◌++◌, All, map, Some, None, Result, Ok, Err}
-use Rattle.tcc_maps.specs.Bridge.{node_of}
-use Rattle.tcc_maps.specs.Nodes.{Event}
-use Rattle.tcc_rules.specs.Step.{is_node, next_history}
+use Rattle.rules_maps.specs.Bridge.{node_of}
+use Rattle.rules_maps.specs.Nodes.{Event}
+use Rattle.rules_tcc.specs.Step.{is_node, next_history}
 use Rattle.net_core.specs.Answers.{Kept, step_of}
 use Rattle.net_core.specs.Machine.{Machine, history_of, program_of, settings_of}
 use Rattle.net_core.specs.declared.taking.StepError.{StepError}

@@ -1,10 +1,10 @@
 // What becomes of a message that a directory takes.
 ghost use Rattle.std.specs.Prelude.{◌≡◌, ◌<◌, IfSome};
-ghost use Rattle.tcc_bounds.specs.Messages.{line_named};
-ghost use Rattle.tcc_maps.specs.Nodes.{Skip, Abort, Mark, InvAck, LoadReq, WriteBack, Flush};
-ghost use Rattle.tcc_maps.specs.Shape.{home, lines};
+ghost use Rattle.theorem_bounds.specs.Messages.{line_named};
+ghost use Rattle.rules_maps.specs.Nodes.{Skip, Abort, Mark, InvAck, LoadReq, WriteBack, Flush};
+ghost use Rattle.rules_maps.specs.Shape.{home, lines};
 ghost use Rattle.tcc_msg.specs.Plain.{msg_of};
-ghost use Rattle.tcc_rules.specs.DirDeliver.{abort, acknowledgement, dir_deliver, load_request, mark, skip, write_back};
+ghost use Rattle.rules_tcc.specs.DirDeliver.{abort, acknowledgement, dir_deliver, load_request, mark, skip, write_back};
 ghost use Rattle.net_core.specs.Machine.{settings_of, world_of};
 ghost use Rattle.watch_machine.specs.Telling.{IsAnswer};
 
@@ -25,7 +25,7 @@ pub enum Became {
 }
 
 /// A Skip or an Abort is dropped below the served TID.
-#[tactic(auto, unfolding(tcc_rules::specs::DirDeliver::skip, tcc_rules::specs::DirDeliver::abort))]
+#[tactic(auto, unfolding(rules_tcc::specs::DirDeliver::skip, rules_tcc::specs::DirDeliver::abort))]
 fn given_up(system: &System, dir: DirId, tid: Tid) -> Became
     requires { dir.0 < (settings_of system.now).dirs }
     ensures skip { IsAnswer result (Skip tid.0) (skip tid.0 ((world_of system.now).dirs dir.0)) }
@@ -39,7 +39,7 @@ fn given_up(system: &System, dir: DirId, tid: Tid) -> Became
 }
 
 /// A LoadReq asks the owner, where the line has one.
-#[tactic(auto, unfolding(tcc_rules::specs::DirDeliver::load_request, tcc_rules::specs::DirDeliver::ask_owner))]
+#[tactic(auto, unfolding(rules_tcc::specs::DirDeliver::load_request, rules_tcc::specs::DirDeliver::ask_owner))]
 fn load(system: &System, dir: DirId, core: CoreId, line: LineAddr, after: Tid) -> Became
     requires line { line.0 < lines (settings_of system.now) }
     requires home { home (settings_of system.now) line.0 ≡ dir.0 }
@@ -52,7 +52,7 @@ fn load(system: &System, dir: DirId, core: CoreId, line: LineAddr, after: Tid) -
 }
 
 /// A Mark is dropped below the served TID, and asks the owner of a line that isn't wholly stored to.
-#[tactic(auto, unfolding(tcc_rules::specs::DirDeliver::mark, tcc_rules::specs::DirDeliver::ask_owner))]
+#[tactic(auto, unfolding(rules_tcc::specs::DirDeliver::mark, rules_tcc::specs::DirDeliver::ask_owner))]
 fn mark(system: &System, dir: DirId, line: LineAddr, mask: Mask, tid: Tid) -> Became
     requires dir { dir.0 < (settings_of system.now).dirs }
     requires line { line.0 < lines (settings_of system.now) }
@@ -72,7 +72,7 @@ fn mark(system: &System, dir: DirId, line: LineAddr, mask: Mask, tid: Tid) -> Be
 }
 
 /// An acknowledgement is dropped where none is owed.
-#[tactic(auto, unfolding(tcc_rules::specs::DirDeliver::acknowledgement))]
+#[tactic(auto, unfolding(rules_tcc::specs::DirDeliver::acknowledgement))]
 fn acknowledged(system: &System, dir: DirId, core: CoreId, line: LineAddr, keeps: bool) -> Became
     requires { dir.0 < (settings_of system.now).dirs }
     ensures { IsAnswer result (InvAck line.0 keeps) (acknowledgement core.0 line.0 keeps ((world_of system.now).dirs dir.0)) }
@@ -85,7 +85,7 @@ fn acknowledged(system: &System, dir: DirId, core: CoreId, line: LineAddr, keeps
 }
 
 /// Words that come home are dropped where they are of an earlier commit than the line's last, or came already.
-#[tactic(auto, unfolding(tcc_rules::specs::DirDeliver::write_back))]
+#[tactic(auto, unfolding(rules_tcc::specs::DirDeliver::write_back))]
 fn came_home(system: &System, dir: DirId, core: CoreId, tagged: &Tagged) -> Became
     requires line { tagged.now.line.0 < lines (settings_of system.now) }
     requires home { home (settings_of system.now) tagged.now.line.0 ≡ dir.0 }
@@ -103,7 +103,7 @@ fn came_home(system: &System, dir: DirId, core: CoreId, tagged: &Tagged) -> Beca
 }
 
 /// What becomes of a message to a directory that takes it now.
-#[tactic(auto, unfolding(tcc_rules::specs::DirDeliver::dir_deliver))]
+#[tactic(auto, unfolding(rules_tcc::specs::DirDeliver::dir_deliver))]
 pub(crate) fn what_became(system: &System, dir: DirId, core: CoreId, msg: &Msg) -> Became
     requires dir { dir.0 < (settings_of system.now).dirs }
     requires line { IfSome (line_named (msg_of msg.now)) (λ l.

@@ -1,12 +1,12 @@
 // A message is delivered: to a core, to a directory, or to the vendor.
 ghost use Rattle.std.specs.Prelude.{List as Seq, ◌≡◌, ◌≢◌, ◌++◌, ◌∷◌, ◌<◌, [], None, OnOk, Some, map};
 ghost use Rattle.std.specs.Option.{option_map};
-ghost use Rattle.tcc_maps.specs.Bridge.{node_of};
-ghost use Rattle.tcc_maps.specs.Cache.{is_dirty};
-ghost use Rattle.tcc_maps.specs.Nodes.{Node, Msg as PlainMsg, Core, Dir, Vendor, Deliver};
+ghost use Rattle.rules_maps.specs.Bridge.{node_of};
+ghost use Rattle.rules_maps.specs.Cache.{is_dirty};
+ghost use Rattle.rules_maps.specs.Nodes.{Node, Msg as PlainMsg, Core, Dir, Vendor, Deliver};
 ghost use Rattle.tcc_msg.specs.Plain.{msg_of};
-ghost use Rattle.tcc_rules.specs.Links.{in_flight};
-ghost use Rattle.tcc_rules.specs.State.{CoreState};
+ghost use Rattle.rules_tcc.specs.Links.{in_flight};
+ghost use Rattle.rules_tcc.specs.State.{CoreState};
 ghost use Rattle.core_node.specs.View.{awaited_of, core_of, IsKnown};
 ghost use Rattle.commit_engine.specs.Engine.{phase_of};
 ghost use Rattle.net_core.specs.Answers.{step_of, tid_told};

@@ -1,7 +1,7 @@
 // A way is emptied.
 ghost use Rattle.std.specs.Prelude.{◌≡◌, ◌≢◌, ◌++◌, ◌<◌, [], None, OnOk, map};
 ghost use Rattle.std.specs.Option.{option_to_list};
-ghost use Rattle.tcc_maps.specs.Nodes.{Evict};
+ghost use Rattle.rules_maps.specs.Nodes.{Evict};
 ghost use Rattle.commit_engine.specs.Engine.{phase_of};
 ghost use Rattle.net_core.specs.Answers.{step_of, tid_told};
 ghost use Rattle.net_core.specs.Machine.{settings_of, world_of};

@@ -1,9 +1,9 @@
 // A core executes: the instruction, the commit, the new phase and what was sent.
 ghost use Rattle.std.specs.Prelude.{◌≡◌, ◌≢◌, ◌++◌, ◌<◌, [], None, OnOk, map};
 ghost use Rattle.std.specs.Option.{option_to_list};
-ghost use Rattle.tcc_program.specs.Program.{Program};
-ghost use Rattle.tcc_maps.specs.Nodes.{Exec};
-ghost use Rattle.tcc_rules.specs.State.{CoreState};
+ghost use Rattle.rules_program.specs.Program.{Program};
+ghost use Rattle.rules_maps.specs.Nodes.{Exec};
+ghost use Rattle.rules_tcc.specs.State.{CoreState};
 ghost use Rattle.core_node.specs.View.{core_of};
 ghost use Rattle.net_core.specs.Answers.{step_of, tid_told};
 ghost use Rattle.watch.specs.Happened.{phase_fact};

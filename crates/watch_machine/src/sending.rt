@@ -1,9 +1,9 @@
 // An event is taken, and what its node sent is told.
 ghost use Rattle.std.specs.Prelude.{◌≡◌, ◌+◌, ◌^◌, ◌++◌, ◌<◌, [], IfSome, IsTrue, OnOk, length, map, true};
-ghost use Rattle.tcc_maps.specs.Bridge.{node_of};
-ghost use Rattle.tcc_maps.specs.Nodes.{node_eq};
+ghost use Rattle.rules_maps.specs.Bridge.{node_of};
+ghost use Rattle.rules_maps.specs.Nodes.{node_eq};
 ghost use Rattle.tcc_msg.specs.Plain.{event_of, sends_of};
-ghost use Rattle.tcc_rules.specs.Step.{is_node};
+ghost use Rattle.rules_tcc.specs.Step.{is_node};
 ghost use Rattle.watch.specs.Plain.{fact_of};
 ghost use Rattle.watch_machine.specs.Rising.{Rises, each_told, place_of as plain_place_of};
 ghost use Rattle.watch_machine.specs.Telling.{Advances, HasRoomFor, last_facts, last_to, numbered_from};

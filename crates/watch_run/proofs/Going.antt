@@ -3,8 +3,8 @@ use Rattle.std.proofs.Common.{◌≡◌, ℕ, ◌+◌, ◌≤◌, List, [], ◌�
 use Rattle.std.proofs.Common.{Some, refl, ap, sym, ◌∙◌, arith}
 use Rattle.image_load.specs.Contents.{started}
 use Rattle.rv_code.specs.Machine.{program}
-use Rattle.tcc_maps.specs.Nodes.{Event}
-use Rattle.tcc_rules.specs.Step.{next_history, run_from}
+use Rattle.rules_maps.specs.Nodes.{Event}
+use Rattle.rules_tcc.specs.Step.{next_history, run_from}
 use Rattle.net_core.specs.Machine.{Machine, history_of, program_of, settings_of}
 use Rattle.watch_trace.proofs.Lemmas.{run-more}
 use Rattle.watch_run.specs.Going.{Took, Went}

@@ -3,14 +3,14 @@ use Rattle.std.proofs.Common.{◌≡◌, ◌↔◌, Bool, List, IsTrue, Some, ap
 use Rattle.image_load.specs.Contents.{Contents, started}
 use Rattle.image_load.specs.Start.{Start}
 use Rattle.rv_code.specs.Machine.{program}
-use Rattle.rv_serial.specs.Given.{IsSerial}
-use Rattle.rv_serial.specs.Suiting.{world_at_start}
-use Rattle.rv_serial.proofs.Lemmas.{runs_give_the_plain_machine}
+use Rattle.theorem_riscv.specs.Given.{IsSerial}
+use Rattle.theorem_riscv.specs.Suiting.{world_at_start}
+use Rattle.theorem_riscv.proofs.Lemmas.{runs_give_the_plain_machine}
 use Rattle.tcc_base.specs.Settings.{IsAllowed}
-use Rattle.tcc_maps.specs.Nodes.{Event}
-use Rattle.tcc_rules.specs.Seen.{IsDone}
-use Rattle.tcc_rules.specs.State.{World}
-use Rattle.tcc_rules.specs.Step.{History, run, run_from}
+use Rattle.rules_maps.specs.Nodes.{Event}
+use Rattle.rules_tcc.specs.Seen.{IsDone}
+use Rattle.rules_tcc.specs.State.{World}
+use Rattle.rules_tcc.specs.Step.{History, run, run_from}
 use Rattle.net_core.specs.Machine.{Machine, history_of, program_of, settings_of, start_of, world_of}
 use Rattle.net_core.specs.Reached.{first_history}
 use Rattle.watch_count.specs.Counts.{Counts, nothing_counted, run_counted}

@@ -3,14 +3,14 @@ use Rattle.std.proofs.Common.{◌≡◌, ℕ, suc, ◌-◌, List, [], ◌∷◌,
 use Rattle.std.specs.Prelude.{is_some, option_map, if◌then◌else◌}
 use Rattle.rand_pcg.specs.Lcg.{Lcg}
 use Rattle.rand_pcg.specs.Pcg.{pcg32}
-use Rattle.tcc_maps.specs.Nodes.{Event}
+use Rattle.rules_maps.specs.Nodes.{Event}
 use Rattle.tcc_msg.specs.Plain.{event_of}
 use Rattle.tcc_msg.specs.declared.event.Event.{Event as CodeEvent}
 use Rattle.net_core.specs.Machine.{Machine, start_of, world_of}
 use Rattle.tcc_pick.specs.Picking.{picks}
 use Rattle.tcc_pick.proofs.Lemmas.{chosen_at, no-words, picks-none, picks-one}
-use Rattle.tcc_rules.specs.Picked.{picked}
-use Rattle.tcc_rules.specs.State.{World}
+use Rattle.rules_tcc.specs.Picked.{picked}
+use Rattle.rules_tcc.specs.State.{World}
 use Rattle.tcc_pick.specs.Words.{words}
 use Rattle.rv_code.specs.Machine.{program}
 use Rattle.image_load.specs.Contents.{started}

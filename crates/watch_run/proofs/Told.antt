@@ -5,10 +5,10 @@ use Rattle.std.proofs.Common.{refl, ap, sym, ◌∙◌, subst, arith}
 use Rattle.std.proofs.lemmas.Bool.Decides.{nat_tests}
 use Rattle.image_load.specs.Contents.{started}
 use Rattle.rv_code.specs.Machine.{first_ram}
-use Rattle.tcc_maps.specs.Nodes.{Event, Exec, Evict, Deliver}
-use Rattle.tcc_maps.specs.Shape.{Shape}
-use Rattle.tcc_program.specs.Program.{Program}
-use Rattle.tcc_rules.specs.Step.{History, happens, is_node, names_nodes, next_history, recorded, step}
+use Rattle.rules_maps.specs.Nodes.{Event, Exec, Evict, Deliver}
+use Rattle.rules_maps.specs.Shape.{Shape}
+use Rattle.rules_program.specs.Program.{Program}
+use Rattle.rules_tcc.specs.Step.{History, happens, is_node, names_nodes, next_history, recorded, step}
 use Rattle.net_core.specs.Machine.{Machine, history_of, program_of, settings_of, start_of, world_of}
 use Rattle.watch.specs.Facts.{Fact}
 use Rattle.watch.specs.Happened.{actor, happened}

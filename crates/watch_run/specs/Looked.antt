@@ -2,10 +2,10 @@
 use Rattle.std.specs.Prelude.{ℕ, ◌≡◌, Bool, List, [], ◌∷◌, Option, Some, None, length}
 use Rattle.image_load.specs.Start.{Start}
 use Rattle.rv_code.specs.Machine.{program}
-use Rattle.tcc_maps.specs.Nodes.{Node, Event}
-use Rattle.tcc_maps.specs.Shape.{Shape}
-use Rattle.tcc_program.specs.Program.{Program}
-use Rattle.tcc_rules.specs.Step.{History, next_history}
+use Rattle.rules_maps.specs.Nodes.{Node, Event}
+use Rattle.rules_maps.specs.Shape.{Shape}
+use Rattle.rules_program.specs.Program.{Program}
+use Rattle.rules_tcc.specs.Step.{History, next_history}
 use Rattle.net_core.specs.Reached.{first_history}
 use Rattle.watch.specs.Facts.{Fact}
 use Rattle.watch.specs.Happened.{actor, happened}

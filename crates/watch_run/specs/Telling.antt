@@ -1,7 +1,7 @@
 -- A run that is told event by event: its lines, and what an event changed.
 use Rattle.std.specs.Prelude.{ℕ, ◌≡◌, Bool, true, false, List, ◌++◌, Option, Some, None}
-use Rattle.tcc_maps.specs.Nodes.{Event}
-use Rattle.tcc_rules.specs.Step.{is_node}
+use Rattle.rules_maps.specs.Nodes.{Event}
+use Rattle.rules_tcc.specs.Step.{is_node}
 use Rattle.net_core.specs.Machine.{Machine, history_of, program_of, settings_of, start_of, world_of}
 use Rattle.watch.specs.Happened.{actor}
 use Rattle.watch_changes.specs.Changes.{change_lines}

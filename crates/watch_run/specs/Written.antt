@@ -3,15 +3,15 @@ use Rattle.std.specs.Prelude.{ℕ, ◌≡◌, ◌<◌, ◌↔◌, ◌⊎◌, Boo
 use Rattle.std.specs.Io.KnownBytes.{Appends}
 use Rattle.image_load.specs.Start.{Start}
 use Rattle.rv_code.specs.Machine.{program}
-use Rattle.rv_serial.specs.Given.{IsSerial}
-use Rattle.rv_serial.specs.Suiting.{world_at_start}
-use Rattle.tcc_maps.specs.Nodes.{Event}
-use Rattle.tcc_maps.specs.Shape.{Shape}
-use Rattle.tcc_rules.specs.Seen.{IsDone}
-use Rattle.tcc_rules.specs.Step.{History, run}
+use Rattle.theorem_riscv.specs.Given.{IsSerial}
+use Rattle.theorem_riscv.specs.Suiting.{world_at_start}
+use Rattle.rules_maps.specs.Nodes.{Event}
+use Rattle.rules_maps.specs.Shape.{Shape}
+use Rattle.rules_tcc.specs.Seen.{IsDone}
+use Rattle.rules_tcc.specs.Step.{History, run}
 use Rattle.tcc_world.specs.Faults.{Rose}
 use Rattle.net_core.specs.Reached.{first_history}
-use Rattle.tcc_rules.specs.State.{World}
+use Rattle.rules_tcc.specs.State.{World}
 use Rattle.watch_trace.specs.Text.{head_text, tail_text}
 use Rattle.watch_run.specs.Shown.{shown_lines, shown_trace}
 use Rattle.watch_run.specs.declared.telling.Shown.{Shown}

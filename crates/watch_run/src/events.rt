@@ -3,11 +3,11 @@ ghost use Rattle.std.specs.Prelude.{◌≡◌, IfSome, List as Seq, None, [], dr
 ghost use Rattle.image_load.specs.Start.{Start};
 ghost use Rattle.rv_code.specs.Machine.{program};
 ghost use Rattle.tcc_base.specs.Settings.{IsAllowed};
-ghost use Rattle.tcc_maps.specs.Nodes.{Event as PlainEvent};
+ghost use Rattle.rules_maps.specs.Nodes.{Event as PlainEvent};
 ghost use Rattle.tcc_msg.specs.Plain.{event_of};
 ghost use Rattle.tcc_pick.specs.Words.{seeded, words};
-ghost use Rattle.tcc_rules.specs.Picked.{picked};
-ghost use Rattle.tcc_rules.specs.State.{World};
+ghost use Rattle.rules_tcc.specs.Picked.{picked};
+ghost use Rattle.rules_tcc.specs.State.{World};
 ghost use Rattle.net_core.specs.Machine.{start_of, world_of};
 ghost use Rattle.watch_run.specs.Going.{IsFirst};
 

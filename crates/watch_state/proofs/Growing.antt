@@ -5,8 +5,8 @@ use Rattle.std.proofs.lemmas.Bool.Decides.{nat_tests}
 use Rattle.std.proofs.lemmas.List.{append_assoc}
 use Rattle.std.specs.List.{flat_map}
 use Rattle.std.proofs.lemmas.List.Concat.{flat_map-append}
-use Rattle.tcc_maps.specs.Words.{any_below, those}
-use Rattle.tcc_rules.specs.Seen.{numbers}
+use Rattle.rules_maps.specs.Words.{any_below, those}
+use Rattle.rules_tcc.specs.Seen.{numbers}
 use Rattle.watch_state.specs.Cores.{owed_record}
 use Rattle.watch_state.specs.Records.{Record, OwedBy}
 use Rattle.watch_state.specs.Lines.{led_lines, number_words, numbers_or_none, record_line, record_lines}

@@ -6,8 +6,8 @@ use Rattle.std.specs.List.{flat_map}
 use Rattle.std.proofs.lemmas.List.{flat_map_more, take_all, take_more}
 use Rattle.std.proofs.lemmas.List.Concat.{flat_map-append}
 use Rattle.std.proofs.lemmas.Option.{get_or_from_slice_get, slice_get_within}
-use Rattle.tcc_maps.specs.Words.{those}
-use Rattle.tcc_rules.specs.Seen.{numbers}
+use Rattle.rules_maps.specs.Words.{those}
+use Rattle.rules_tcc.specs.Seen.{numbers}
 use Rattle.watch_state.specs.Lines.{led_lines, record_line}
 use Rattle.watch_state.specs.Records.{Record}
 use Rattle.watch_state.proofs.Growing.{piece-more}

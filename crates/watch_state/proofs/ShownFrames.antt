@@ -4,10 +4,10 @@ use Rattle.std.proofs.Common.{[], ◌∷◌, Option, Some, None, is_some, refl, 
 use Rattle.std.specs.Prelude.{get_or, unwrap_or}
 use Rattle.std.proofs.lemmas.Bool.{cases_Bool}
 use Rattle.std.proofs.lemmas.Bool.Decides.{nat_tests}
-use Rattle.tcc_maps.specs.Cache.{Cache, dirty_mask, dirty_tag, first_of_line}
-use Rattle.tcc_maps.specs.Masks.{has, mask_of, masked}
-use Rattle.tcc_maps.specs.Words.{eight, line_of, num, or_else, place_of, word_at}
-use Rattle.tcc_maps.proofs.Lemmas.{has-mask_of}
+use Rattle.rules_maps.specs.Cache.{Cache, dirty_mask, dirty_tag, first_of_line}
+use Rattle.rules_maps.specs.Masks.{has, mask_of, masked}
+use Rattle.rules_maps.specs.Words.{eight, line_of, num, or_else, place_of, word_at}
+use Rattle.rules_maps.proofs.Lemmas.{has-mask_of}
 use Rattle.spec_cache.specs.Look.{Views}
 use Rattle.spec_cache.specs.declared.frame.FrameView.{FrameView}
 use Rattle.watch_state.specs.Cores.{frame_of, held_record, way_record}

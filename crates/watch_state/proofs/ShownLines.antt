@@ -6,10 +6,10 @@ use Rattle.std.proofs.lemmas.Bool.{ne_eqb}
 use Rattle.std.proofs.lemmas.Bool.Decides.{nat_tests}
 use Rattle.image_load.specs.Start.{Start}
 use Rattle.rv_code.specs.Machine.{first_ram}
-use Rattle.tcc_maps.specs.Lines.{Lines}
-use Rattle.tcc_maps.specs.Masks.{has}
-use Rattle.tcc_maps.specs.Shape.{Shape, home}
-use Rattle.tcc_maps.specs.Words.{any_below, those}
+use Rattle.rules_maps.specs.Lines.{Lines}
+use Rattle.rules_maps.specs.Masks.{has}
+use Rattle.rules_maps.specs.Shape.{Shape, home}
+use Rattle.rules_maps.specs.Words.{any_below, those}
 use Rattle.dir_lines.specs.declared.core_set.CoreSet.{CoreSet}
 use Rattle.directory.specs.declared.directory.LineState.{LineState}
 use Rattle.watch_state.specs.Directories.{at_home, known_of, line_record, word_record}

@@ -1,9 +1,9 @@
 -- Of a core that has spilled nothing there is no record of a spilled word.
 use Rattle.std.proofs.Common.{◌≡◌, ℕ, [], refl}
 use Rattle.std.specs.List.{flat_map}
-use Rattle.tcc_maps.specs.Shape.{Shape}
-use Rattle.tcc_maps.specs.Spilled.{none_spilled}
-use Rattle.tcc_rules.specs.Seen.{numbers}
+use Rattle.rules_maps.specs.Shape.{Shape}
+use Rattle.rules_maps.specs.Spilled.{none_spilled}
+use Rattle.rules_tcc.specs.Seen.{numbers}
 use Rattle.watch_state.specs.Cores.{spilled_records, spilled_word}
 use Rattle.watch_state.proofs.Listed.{none-of}
 

@@ -1,14 +1,14 @@
 -- The records of a core, in their order. What is as in an untouched machine has none, but for the core itself and its checkpoint's pc.
 use Rattle.std.specs.Prelude.{ℕ, ◌+◌, ◌*◌, List, [], ◌∷◌, ◌++◌, Option, Some, None, is_some, unwrap_or, ◌==◌, if◌then◌else◌}
 use Rattle.std.specs.List.{flat_map}
-use Rattle.tcc_program.specs.Plain.{Outcome, Goes}
-use Rattle.tcc_program.specs.Registers.{register}
-use Rattle.tcc_maps.specs.Cache.{Cache, dirty_mask, dirty_tag, modified_mask}
-use Rattle.tcc_maps.specs.Masks.{mask_of}
-use Rattle.tcc_maps.specs.Shape.{Shape, lines}
-use Rattle.tcc_maps.specs.Words.{eight, those, word_at}
-use Rattle.tcc_rules.specs.Seen.{numbers}
-use Rattle.tcc_rules.specs.State.{Awaited, CoreState}
+use Rattle.rules_program.specs.Plain.{Outcome, Goes}
+use Rattle.rules_program.specs.Registers.{register}
+use Rattle.rules_maps.specs.Cache.{Cache, dirty_mask, dirty_tag, modified_mask}
+use Rattle.rules_maps.specs.Masks.{mask_of}
+use Rattle.rules_maps.specs.Shape.{Shape, lines}
+use Rattle.rules_maps.specs.Words.{eight, those, word_at}
+use Rattle.rules_tcc.specs.Seen.{numbers}
+use Rattle.rules_tcc.specs.State.{Awaited, CoreState}
 use Rattle.watch_state.specs.Records.{Frame, Record, CoreIs, Reserved, EndedBy, AwaitsLine, OwedBy, CommittedAt, Register, SavedPc}
 use Rattle.watch_state.specs.Records.{SavedRegister, Holds, Spilled}
 

@@ -1,12 +1,12 @@
 -- The records of a directory, in their order. What is as in an untouched machine has none, but for the directory itself.
 use Rattle.std.specs.Prelude.{ℕ, ◌+◌, Bool, not, ◌==◌, ◌||◌, List, [], ◌∷◌, ◌++◌, is_some, length, if◌then◌else◌}
 use Rattle.std.specs.List.{flat_map}
-use Rattle.tcc_maps.specs.Lines.{Lines}
-use Rattle.tcc_maps.specs.Serving.{Serving, is_skipped}
-use Rattle.tcc_maps.specs.Shape.{Shape, home, lines}
-use Rattle.tcc_maps.specs.Words.{any_below, those, word_at}
-use Rattle.tcc_rules.specs.Seen.{numbers}
-use Rattle.tcc_rules.specs.State.{DirState}
+use Rattle.rules_maps.specs.Lines.{Lines}
+use Rattle.rules_maps.specs.Serving.{Serving, is_skipped}
+use Rattle.rules_maps.specs.Shape.{Shape, home, lines}
+use Rattle.rules_maps.specs.Words.{any_below, those, word_at}
+use Rattle.rules_tcc.specs.Seen.{numbers}
+use Rattle.rules_tcc.specs.State.{DirState}
 use Rattle.watch_state.specs.Cores.{addr_of}
 use Rattle.watch_state.specs.Records.{Known, Record, DirectoryIs, Skipped, LineIs, HomeWord}
 

@@ -1,11 +1,11 @@
 -- The events of a part of a machine, in their order.
 use Rattle.std.specs.Prelude.{ℕ, List, map, length}
 use Rattle.std.specs.List.{flat_map}
-use Rattle.tcc_maps.specs.Nodes.{Node, Event, Evict, Deliver}
-use Rattle.tcc_maps.specs.Shape.{Shape}
-use Rattle.tcc_rules.specs.Seen.{numbers}
-use Rattle.tcc_rules.specs.State.{World}
-use Rattle.tcc_rules.specs.Useful.{nodes}
+use Rattle.rules_maps.specs.Nodes.{Node, Event, Evict, Deliver}
+use Rattle.rules_maps.specs.Shape.{Shape}
+use Rattle.rules_tcc.specs.Seen.{numbers}
+use Rattle.rules_tcc.specs.State.{World}
+use Rattle.rules_tcc.specs.Useful.{nodes}
 
 -- the evictions of the ways of a set, and of a core
 unfoldable pub set_evicts : Shape → (core set : ℕ) → List Event

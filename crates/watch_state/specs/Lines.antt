@@ -3,8 +3,8 @@
 use Rattle.std.specs.Prelude.{ℕ, Bool, List, [], ◌∷◌, ◌++◌, Option, Some, None, codes}
 use Rattle.std.specs.Fmt.{decimal}
 use Rattle.std.specs.List.{flat_map}
-use Rattle.tcc_program.specs.Plain.{Outcome, Goes, Ended, Halted, Trapped}
-use Rattle.tcc_maps.specs.Words.{num}
+use Rattle.rules_program.specs.Plain.{Outcome, Goes, Ended, Halted, Trapped}
+use Rattle.rules_maps.specs.Words.{num}
 use Rattle.schedule_text.specs.Grammar.{newline}
 use Rattle.report_text.specs.Lines.{hex}
 use Rattle.watch_trace.specs.Lines.{name_words}

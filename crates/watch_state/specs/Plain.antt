@@ -1,7 +1,7 @@
 -- The records of the code as the records that are defined.
 use Rattle.std.specs.Prelude.{option_map}
-use Rattle.tcc_maps.specs.Masks.{has}
-use Rattle.tcc_maps.specs.Words.{those}
+use Rattle.rules_maps.specs.Masks.{has}
+use Rattle.rules_maps.specs.Words.{those}
 use Rattle.commit_engine.specs.Engine.{phase_of}
 use Rattle.rv_plain.specs.Attempts.{outcome_of}
 use Rattle.spec_cache.specs.declared.frame.FrameView.{FrameView}

@@ -1,6 +1,6 @@
 -- What a core's attempt has come to, without what it has to do with directories: for a machine that has none.
 use Rattle.std.specs.Prelude.{ℕ, List, ◌∷◌, ◌++◌}
-use Rattle.tcc_rules.specs.State.{CoreState}
+use Rattle.rules_tcc.specs.State.{CoreState}
 use Rattle.watch_state.specs.Cores.{ended_record, reserved_record}
 use Rattle.watch_state.specs.Records.{Record, CoreIs}
 

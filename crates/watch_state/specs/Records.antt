@@ -1,8 +1,8 @@
 -- A record tells one part of a machine's state as it is now.
 use Rattle.std.specs.Prelude.{ℕ, Bool, List, Option}
-use Rattle.tcc_program.specs.Plain.{Outcome}
-use Rattle.tcc_maps.specs.Nodes.{Node, Msg}
-use Rattle.tcc_rules.specs.State.{Phase}
+use Rattle.rules_program.specs.Plain.{Outcome}
+use Rattle.rules_maps.specs.Nodes.{Node, Msg}
+use Rattle.rules_tcc.specs.State.{Phase}
 
 -- what a way holds: its line, masks of the line's words, the tag of the dirty ones or 0, and the words, of which the valid ones count
 pub record Frame : Type 0 where

@@ -1,7 +1,7 @@
 -- What the code's own parts show, as the values of records.
 use Rattle.std.specs.Prelude.{ℕ, Bool, not, ◌==◌, ◌||◌, List, [], ◌∷◌, is_some, option_map, if◌then◌else◌}
-use Rattle.tcc_maps.specs.Masks.{has, masked}
-use Rattle.tcc_maps.specs.Words.{any_below, those}
+use Rattle.rules_maps.specs.Masks.{has, masked}
+use Rattle.rules_maps.specs.Words.{any_below, those}
 use Rattle.dir_lines.specs.declared.core_set.CoreSet.{CoreSet}
 use Rattle.directory.specs.declared.directory.LineState.{LineState}
 use Rattle.spec_cache.specs.declared.frame.FrameView.{FrameView}

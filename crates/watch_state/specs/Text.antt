@@ -3,14 +3,14 @@ use Rattle.std.specs.Prelude.{ℕ, Bool, List, [], ◌∷◌, ◌++◌, Option, 
 use Rattle.std.specs.List.{flat_map}
 use Rattle.image_load.specs.Start.{Start}
 use Rattle.rv_code.specs.Machine.{first_ram, program}
-use Rattle.tcc_program.specs.Program.{Program}
-use Rattle.tcc_maps.specs.Nodes.{Node, Event, Msg}
-use Rattle.tcc_maps.specs.Shape.{Shape}
-use Rattle.tcc_rules.specs.Links.{in_flight}
-use Rattle.tcc_rules.specs.Seen.{numbers}
-use Rattle.tcc_rules.specs.State.{World}
-use Rattle.tcc_rules.specs.Step.{History, is_enabled}
-use Rattle.tcc_rules.specs.Useful.{nodes, execs, evicts, delivers, is_useful}
+use Rattle.rules_program.specs.Program.{Program}
+use Rattle.rules_maps.specs.Nodes.{Node, Event, Msg}
+use Rattle.rules_maps.specs.Shape.{Shape}
+use Rattle.rules_tcc.specs.Links.{in_flight}
+use Rattle.rules_tcc.specs.Seen.{numbers}
+use Rattle.rules_tcc.specs.State.{World}
+use Rattle.rules_tcc.specs.Step.{History, is_enabled}
+use Rattle.rules_tcc.specs.Useful.{nodes, execs, evicts, delivers, is_useful}
 use Rattle.schedule_text.specs.Grammar.{newline, config_line, event_line}
 use Rattle.report_text.specs.Lines.{end_line, events_line}
 use Rattle.watch_trace.specs.Shown.{shown_event_of}

@@ -1,9 +1,9 @@
 // What a core's attempt has come to, each record appended to a list. Where memory runs out, the list holds a part of it.
 ghost use Rattle.std.specs.Prelude.{◌≡◌, ◌<◌, ◌≤◌, ◌++◌, ◌==◌, ◌∷◌, [], OnOk, map, if◌then◌else◌};
 ghost use Rattle.std.specs.List.{flat_map};
-ghost use Rattle.tcc_maps.specs.Masks.{has};
-ghost use Rattle.tcc_maps.specs.Words.{those};
-ghost use Rattle.tcc_rules.specs.Seen.{numbers};
+ghost use Rattle.rules_maps.specs.Masks.{has};
+ghost use Rattle.rules_maps.specs.Words.{those};
+ghost use Rattle.rules_tcc.specs.Seen.{numbers};
 ghost use Rattle.commit_engine.specs.Engine.{after_of};
 ghost use Rattle.rv_plain.specs.Attempts.{outcome_of};
 ghost use Rattle.core_node.specs.View.{awaited_of, core_of};
@@ -101,7 +101,7 @@ fn add_committed(
     add_last(records, core, DirId(dir), after[dir as usize])
 }
 
-#[tactic(auto, unfolding(tcc_maps::specs::Words::those))]
+#[tactic(auto, unfolding(rules_maps::specs::Words::those))]
 fn add_all_committed(
     records: &mut List<Record>,
     core: CoreId,

@@ -3,9 +3,9 @@ ghost use Rattle.std.specs.Prelude.{◌≡◌, ◌+◌, ◌<◌, ◌≤◌, ◌+
 ghost use Rattle.std.specs.List.{All, flat_map};
 ghost use Rattle.image_load.specs.Contents.{started};
 ghost use Rattle.rv_code.specs.Machine.{first_ram};
-ghost use Rattle.tcc_maps.specs.Serving.{is_skipped};
-ghost use Rattle.tcc_maps.specs.Shape.{home, lines};
-ghost use Rattle.tcc_rules.specs.Seen.{numbers};
+ghost use Rattle.rules_maps.specs.Serving.{is_skipped};
+ghost use Rattle.rules_maps.specs.Shape.{home, lines};
+ghost use Rattle.rules_tcc.specs.Seen.{numbers};
 ghost use Rattle.dir_lines.specs.Home.{IsAtHome};
 ghost use Rattle.directory.specs.Data.{dir_of};
 ghost use Rattle.watch_state.specs.Directories.{at_home, directory_part, directory_records, line_record, serving_records, skipped_record};
@@ -93,7 +93,7 @@ fn add_if_skipped(
 }
 
 /// The TIDs that were skipped.
-#[tactic(auto, unfolding(tcc_maps::specs::Words::those))]
+#[tactic(auto, unfolding(rules_maps::specs::Words::those))]
 fn add_skips(records: &mut List<Record>, id: DirId, dir: &Directory) -> Result<(), NoMemory>
     ensures { (elsewhere : ℕ → ℕ) → let s = (dir_of elsewhere dir.now).serving in OnOk result (map record_of records.new
         ≡ map record_of records.old ++ flat_map (skipped_record id.0 s) (numbers (length s.skips))) }
@@ -135,7 +135,7 @@ fn add_line_at_home(
 }
 
 /// The lines that are at home at the directory of which something is known.
-#[tactic(auto, unfolding(tcc_maps::specs::Words::those))]
+#[tactic(auto, unfolding(rules_maps::specs::Words::those))]
 fn add_lines(
     records: &mut List<Record>,
     config: &Config,

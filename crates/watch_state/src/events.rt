@@ -1,8 +1,8 @@
 // The events that are enabled, a line for each appended to a text. Where memory runs out, the text holds a part of them.
 ghost use Rattle.std.specs.Prelude.{◌≡◌, ◌<◌, ◌++◌, [], codes, OnOk, string_bytes, if◌then◌else◌};
-ghost use Rattle.tcc_maps.specs.Bridge.{node_of};
+ghost use Rattle.rules_maps.specs.Bridge.{node_of};
 ghost use Rattle.tcc_msg.specs.Plain.{event_of};
-ghost use Rattle.tcc_rules.specs.Useful.{execs, evicts, delivers};
+ghost use Rattle.rules_tcc.specs.Useful.{execs, evicts, delivers};
 ghost use Rattle.schedule_text.specs.Grammar.{event_line};
 ghost use Rattle.watch_trace.specs.Shown.{shown_event_of};
 ghost use Rattle.net_core.specs.Machine.{program_of, settings_of, world_of};
@@ -24,7 +24,7 @@ fn push_enabled(text: &mut String, event: Event, is_useful: bool) -> Result<(), 
 }
 
 /// The line of an event, where it is enabled.
-#[tactic(auto, unfolding(crate::specs::Text::event_text, tcc_rules::specs::Step::is_enabled))]
+#[tactic(auto, unfolding(crate::specs::Text::event_text, rules_tcc::specs::Step::is_enabled))]
 fn push_if_enabled(text: &mut String, system: &System, event: Event) -> Result<(), AllocError>
     requires { system.now.unsent ≡ [] }
     ensures { OnOk result (string_bytes text.new ≡ string_bytes text.old
@@ -37,7 +37,7 @@ fn push_if_enabled(text: &mut String, system: &System, event: Event) -> Result<(
 }
 
 /// Each core's Exec.
-#[tactic(auto, unfolding(tcc_maps::specs::Words::those))]
+#[tactic(auto, unfolding(rules_maps::specs::Words::those))]
 fn push_execs(text: &mut String, system: &System) -> Result<(), AllocError>
     requires { system.now.unsent ≡ [] }
     ensures { let sh = settings_of system.now in OnOk result (string_bytes text.new ≡ string_bytes text.old
@@ -50,7 +50,7 @@ fn push_execs(text: &mut String, system: &System) -> Result<(), AllocError>
 }
 
 /// The evictions of one set.
-#[tactic(auto, unfolding(tcc_maps::specs::Words::those))]
+#[tactic(auto, unfolding(rules_maps::specs::Words::those))]
 fn push_set_evicts(
     text: &mut String,
     system: &System,
@@ -68,7 +68,7 @@ fn push_set_evicts(
 }
 
 /// The evictions of one core.
-#[tactic(auto, unfolding(tcc_maps::specs::Words::those, crate::specs::Text::events_text, crate::specs::Events::core_evicts))]
+#[tactic(auto, unfolding(rules_maps::specs::Words::those, crate::specs::Text::events_text, crate::specs::Events::core_evicts))]
 fn push_core_evicts(text: &mut String, system: &System, core: CoreId) -> Result<(), AllocError>
     requires { system.now.unsent ≡ [] }
     ensures { let sh = settings_of system.now in OnOk result (string_bytes text.new ≡ string_bytes text.old
@@ -81,7 +81,7 @@ fn push_core_evicts(text: &mut String, system: &System, core: CoreId) -> Result<
 }
 
 /// All evictions, by core, set and way.
-#[tactic(auto, unfolding(tcc_maps::specs::Words::those, crate::specs::Text::events_text), using(crate::proofs::Parts::parts))]
+#[tactic(auto, unfolding(rules_maps::specs::Words::those, crate::specs::Text::events_text), using(crate::proofs::Parts::parts))]
 fn push_evicts(text: &mut String, system: &System) -> Result<(), AllocError>
     requires { system.now.unsent ≡ [] }
     ensures { let sh = settings_of system.now in OnOk result (string_bytes text.new ≡ string_bytes text.old

@@ -1,8 +1,8 @@
 // What the ways of a cache hold, each record appended to a list. Where memory runs out, the list holds a part of it.
 ghost use Rattle.std.specs.Prelude.{◌≡◌, ◌<◌, ◌++◌, ◌==◌, ◌∷◌, [], OnOk, get_or, map, if◌then◌else◌};
 ghost use Rattle.std.specs.List.{All, flat_map};
-ghost use Rattle.tcc_maps.specs.Masks.{has, masked};
-ghost use Rattle.tcc_rules.specs.Seen.{numbers};
+ghost use Rattle.rules_maps.specs.Masks.{has, masked};
+ghost use Rattle.rules_tcc.specs.Seen.{numbers};
 ghost use Rattle.core_node.specs.View.{core_of};
 ghost use Rattle.watch_state.specs.Cores.{set_records, way_record};
 ghost use Rattle.watch_state.specs.Plain.{record_of};
@@ -40,7 +40,7 @@ fn valid_word(frame: &FrameView, k: u8) -> u32
 }
 
 /// The words, 0 where they aren't valid.
-#[tactic(auto, unfolding(tcc_maps::specs::Masks::masked, tcc_maps::specs::Words::eight))]
+#[tactic(auto, unfolding(rules_maps::specs::Masks::masked, rules_maps::specs::Words::eight))]
 fn valid_words(frame: &FrameView) -> [u32; 8]
     ensures { result ≡ masked frame.now.valid.0 frame.now.words }
 {
@@ -100,7 +100,7 @@ fn add_way(
 }
 
 /// What the ways of a set hold.
-#[tactic(auto, unfolding(crate::specs::Cores::set_records, tcc_maps::specs::Words::those))]
+#[tactic(auto, unfolding(crate::specs::Cores::set_records, rules_maps::specs::Words::those))]
 fn add_set(
     records: &mut List<Record>,
     id: CoreId,
@@ -120,7 +120,7 @@ fn add_set(
 }
 
 /// What all ways of a core hold.
-#[tactic(auto, unfolding(tcc_maps::specs::Words::those))]
+#[tactic(auto, unfolding(rules_maps::specs::Words::those))]
 pub(crate) fn add_ways(
     records: &mut List<Record>,
     id: CoreId,

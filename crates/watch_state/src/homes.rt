@@ -4,9 +4,9 @@ ghost use Rattle.std.specs.Prelude.{◌≡◌, ◌+◌, ◌*◌, ◌/◌, ◌^�
 ghost use Rattle.std.specs.List.{All, flat_map};
 ghost use Rattle.image_load.specs.Contents.{started};
 ghost use Rattle.rv_code.specs.Machine.{first_ram};
-ghost use Rattle.tcc_maps.specs.Shape.{home, lines};
-ghost use Rattle.tcc_maps.specs.Words.{line_of};
-ghost use Rattle.tcc_rules.specs.Seen.{numbers};
+ghost use Rattle.rules_maps.specs.Shape.{home, lines};
+ghost use Rattle.rules_maps.specs.Words.{line_of};
+ghost use Rattle.rules_tcc.specs.Seen.{numbers};
 ghost use Rattle.dir_lines.specs.Home.{IsAtHome};
 ghost use Rattle.directory.specs.Data.{dir_of};
 ghost use Rattle.watch_state.specs.Directories.{at_home, word_record, word_records};
@@ -52,7 +52,7 @@ fn add_word(
 }
 
 /// The words of a line that is at home at the directory.
-#[tactic(auto, unfolding(crate::specs::Directories::word_records, tcc_maps::specs::Words::those))]
+#[tactic(auto, unfolding(crate::specs::Directories::word_records, rules_maps::specs::Words::those))]
 fn add_words(
     records: &mut List<Record>,
     dir: &Directory,
@@ -93,7 +93,7 @@ fn add_words_at_home(
 }
 
 /// All words at home at the directory that aren't as they were loaded, by rising address.
-#[tactic(auto, unfolding(tcc_maps::specs::Words::those))]
+#[tactic(auto, unfolding(rules_maps::specs::Words::those))]
 pub(crate) fn add_home_words(
     records: &mut List<Record>,
     id: DirId,

@@ -1,8 +1,8 @@
 // The line of a record. Where memory runs out, the text holds a part of it.
 ghost use Rattle.std.specs.Prelude.{◌≡◌, ◌<◌, ◌≤◌, ◌++◌, OnOk, string_bytes, map, option_map};
-ghost use Rattle.tcc_maps.specs.Bridge.{node_of};
-ghost use Rattle.tcc_maps.specs.Masks.{has};
-ghost use Rattle.tcc_maps.specs.Words.{those};
+ghost use Rattle.rules_maps.specs.Bridge.{node_of};
+ghost use Rattle.rules_maps.specs.Masks.{has};
+ghost use Rattle.rules_maps.specs.Words.{those};
 ghost use Rattle.tcc_msg.specs.Plain.{msg_of};
 ghost use Rattle.commit_engine.specs.Engine.{phase_of};
 ghost use Rattle.rv_plain.specs.Attempts.{outcome_of};

@@ -2,8 +2,8 @@
 // holds a part of them.
 ghost use Rattle.std.specs.Prelude.{◌≡◌, [], ◌++◌, OnOk, string_bytes};
 ghost use Rattle.std.specs.List.{flat_map};
-ghost use Rattle.tcc_maps.specs.Bridge.{node_of};
-ghost use Rattle.tcc_rules.specs.Useful.{nodes};
+ghost use Rattle.rules_maps.specs.Bridge.{node_of};
+ghost use Rattle.rules_tcc.specs.Useful.{nodes};
 ghost use Rattle.net_core.specs.Machine.{settings_of, world_of};
 ghost use Rattle.watch_state.specs.Lines.{led_lines};
 ghost use Rattle.watch_state.specs.Text.{link_records, records_from};

@@ -2,8 +2,8 @@
 ghost use Rattle.std.specs.Prelude.{◌≡◌, ◌++◌, ◌<◌, ◌∷◌, [], OnOk, string_bytes, map};
 ghost use Rattle.std.specs.List.{All, flat_map};
 ghost use Rattle.rv_code.specs.Machine.{first_ram};
-ghost use Rattle.tcc_maps.specs.Shape.{lines};
-ghost use Rattle.tcc_rules.specs.Seen.{numbers};
+ghost use Rattle.rules_maps.specs.Shape.{lines};
+ghost use Rattle.rules_tcc.specs.Seen.{numbers};
 ghost use Rattle.net_core.specs.Machine.{settings_of, start_of, world_of};
 ghost use Rattle.watch_state.specs.Cores.{core_part, core_records};
 ghost use Rattle.watch_state.specs.Directories.{directory_part, directory_records};
@@ -137,7 +137,7 @@ fn push_vendor(text: &mut String, records: &mut List<Record>, next: Tid) -> Resu
     push_records(text, &records.items)
 }
 
-#[tactic(auto, unfolding(tcc_maps::specs::Words::those, crate::specs::Lines::record_lines))]
+#[tactic(auto, unfolding(rules_maps::specs::Words::those, crate::specs::Lines::record_lines))]
 fn push_cores(
     text: &mut String,
     records: &mut List<Record>,
@@ -152,7 +152,7 @@ fn push_cores(
     Ok(())
 }
 
-#[tactic(auto, unfolding(tcc_maps::specs::Words::those, crate::specs::Lines::record_lines))]
+#[tactic(auto, unfolding(rules_maps::specs::Words::those, crate::specs::Lines::record_lines))]
 fn push_directories(
     text: &mut String,
     records: &mut List<Record>,

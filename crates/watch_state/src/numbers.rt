@@ -1,7 +1,7 @@
 // Sets of cores and directories, each the bits of a number, and how they are written. Where memory runs out, the text holds a part of it.
 ghost use Rattle.std.specs.Prelude.{◌≡◌, ◌<◌, ◌≤◌, ◌++◌, OnOk, string_bytes};
-ghost use Rattle.tcc_maps.specs.Masks.{has};
-ghost use Rattle.tcc_maps.specs.Words.{any_below, those};
+ghost use Rattle.rules_maps.specs.Masks.{has};
+ghost use Rattle.rules_maps.specs.Words.{any_below, those};
 ghost use Rattle.watch_state.specs.Lines.{number_words, numbers_or_none};
 
 use commit_engine::DirSet;
@@ -34,7 +34,7 @@ pub fn only_below(bits: u64, count: u8) -> u64
 }
 
 /// Appends the numbers below this count that are in the set, each behind a space. After want of memory a part of them may stand there.
-#[tactic(auto, unfolding(tcc_maps::specs::Words::those))]
+#[tactic(auto, unfolding(rules_maps::specs::Words::those))]
 pub fn push_numbers(text: &mut String, bits: u64, count: u8) -> Result<(), AllocError>
     requires { count ≤ 64 }
     ensures { OnOk result (string_bytes text.new ≡ string_bytes text.old ++ number_words (those (has bits) count)) }

@@ -1,7 +1,7 @@
 // The registers of a core and of its checkpoint, each record appended to a list. Where memory runs out, the list holds a part of it.
 ghost use Rattle.std.specs.Prelude.{◌≡◌, ◌++◌, OnOk, map};
 ghost use Rattle.std.specs.List.{flat_map};
-ghost use Rattle.tcc_rules.specs.Seen.{numbers};
+ghost use Rattle.rules_tcc.specs.Seen.{numbers};
 ghost use Rattle.core_node.specs.View.{core_of};
 ghost use Rattle.watch_state.specs.Cores.{register_record, register_records, saved_record};
 ghost use Rattle.watch_state.specs.Plain.{record_of};
@@ -60,7 +60,7 @@ fn add_saved_register(
     )
 }
 
-#[tactic(auto, unfolding(tcc_maps::specs::Words::those))]
+#[tactic(auto, unfolding(rules_maps::specs::Words::those))]
 fn add_all_registers(records: &mut List<Record>, core: CoreId, regs: &Regs) -> Result<(), NoMemory>
     ensures { OnOk result (map record_of records.new
         ≡ map record_of records.old ++ flat_map (register_record core.0 regs.now) (numbers 32)) }
@@ -73,7 +73,7 @@ fn add_all_registers(records: &mut List<Record>, core: CoreId, regs: &Regs) -> R
     Ok(())
 }
 
-#[tactic(auto, unfolding(tcc_maps::specs::Words::those))]
+#[tactic(auto, unfolding(rules_maps::specs::Words::those))]
 fn add_all_saved(records: &mut List<Record>, core: CoreId, regs: &Regs) -> Result<(), NoMemory>
     ensures { OnOk result (map record_of records.new
         ≡ map record_of records.old ++ flat_map (saved_record core.0 regs.now) (numbers 32)) }

@@ -1,8 +1,8 @@
 // The words that a core has spilled, each record appended to a list. Where memory runs out, the list holds a part of it.
 ghost use Rattle.std.specs.Prelude.{◌≡◌, ◌+◌, ◌*◌, ◌/◌, ◌^◌, ◌<◌, ◌++◌, OnOk, map};
 ghost use Rattle.std.specs.List.{flat_map};
-ghost use Rattle.tcc_maps.specs.Shape.{lines};
-ghost use Rattle.tcc_rules.specs.Seen.{numbers};
+ghost use Rattle.rules_maps.specs.Shape.{lines};
+ghost use Rattle.rules_tcc.specs.Seen.{numbers};
 ghost use Rattle.overflow_buf.specs.Kept.{spilled};
 ghost use Rattle.watch_state.specs.Cores.{spilled_record, spilled_records, spilled_word};
 ghost use Rattle.watch_state.specs.Plain.{record_of};
@@ -43,7 +43,7 @@ fn add_word(
 }
 
 /// The spilled words of a line.
-#[tactic(auto, unfolding(crate::specs::Cores::spilled_records, tcc_maps::specs::Words::those))]
+#[tactic(auto, unfolding(crate::specs::Cores::spilled_records, rules_maps::specs::Words::those))]
 fn add_line(
     records: &mut List<Record>,
     core: CoreId,
@@ -63,7 +63,7 @@ fn add_line(
 }
 
 /// All spilled words, by rising address, of a core that has spilled some.
-#[tactic(auto, unfolding(tcc_maps::specs::Words::those))]
+#[tactic(auto, unfolding(rules_maps::specs::Words::those))]
 fn add_lines(
     records: &mut List<Record>,
     core: CoreId,

@@ -5,11 +5,11 @@ use Rattle.std.proofs.lemmas.Bool.Decides.{nat_tests}
 use Rattle.std.proofs.lemmas.List.{append-nil, drop_all}
 use Rattle.image_load.specs.Start.{Start}
 use Rattle.rv_code.specs.Machine.{program}
-use Rattle.tcc_program.specs.Program.{Program}
-use Rattle.tcc_maps.specs.Nodes.{Event}
-use Rattle.tcc_maps.specs.Shape.{Shape}
-use Rattle.tcc_rules.specs.State.{World}
-use Rattle.tcc_rules.specs.Step.{History, and_then, next_history, run_from}
+use Rattle.rules_program.specs.Program.{Program}
+use Rattle.rules_maps.specs.Nodes.{Event}
+use Rattle.rules_maps.specs.Shape.{Shape}
+use Rattle.rules_tcc.specs.State.{World}
+use Rattle.rules_tcc.specs.Step.{History, and_then, next_history, run_from}
 use Rattle.schedule_text.specs.Grammar.{joined}
 use Rattle.watch_trace.specs.Text.{event_text, if_enabled, event_texts, text_from, head_text, tail_text, trace_text}
 use Rattle.watch_trace.proofs.Lists.{joined-from}

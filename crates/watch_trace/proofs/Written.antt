@@ -2,7 +2,7 @@
 use Rattle.std.proofs.Common.{◌≡◌, ℕ, ◌++◌, codes, refl}
 use Rattle.tcc_base.specs.declared.names.NodeId.{NodeId}
 use Rattle.tcc_base.specs.declared.names.NodeId.TheVariants.{Core, Dir, Vendor}
-use Rattle.tcc_maps.specs.Bridge.{node_of}
+use Rattle.rules_maps.specs.Bridge.{node_of}
 use Rattle.schedule_text.specs.Grammar.{node_word}
 use Rattle.watch_trace.specs.Words.{field}
 use Rattle.watch_trace.specs.Lines.{name_words}

@@ -1,7 +1,7 @@
 -- The line of a fact. It begins with a space, which the line of an event doesn't.
 use Rattle.std.specs.Prelude.{ℕ, List, ◌++◌, codes}
 use Rattle.std.specs.Fmt.{decimal}
-use Rattle.tcc_maps.specs.Nodes.{Node}
+use Rattle.rules_maps.specs.Nodes.{Node}
 use Rattle.schedule_text.specs.Grammar.{newline, node_word}
 use Rattle.report_text.specs.Lines.{hex}
 use Rattle.watch.specs.Facts.{Fact, Did, Missed, Overflowed, Evicted, Took, Dropped, AskedOwner, Violated, GaveUp, Committed, CameTo}

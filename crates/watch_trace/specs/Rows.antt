@@ -1,13 +1,13 @@
 -- Lines of traces that a second implementation wrote, each with the fact that it shows, and a text of some events.
 use Rattle.std.specs.Prelude.{◌≡◌, ℕ, true, false, List, [], ◌∷◌, ◌++◌, Some, None, map, codes}
 use Rattle.tcc_base.specs.declared.access.Size.TheVariants.{Byte, Half, Word}
-use Rattle.tcc_program.specs.Ram.{flat}
-use Rattle.tcc_maps.specs.Nodes.{Core, TidReq, TidGrant, LoadReq, Fill, Skip, Probe, ProbeReply, Mark, Commit, Abort}
-use Rattle.tcc_maps.specs.Nodes.{WriteBack, Flush, DataReq, Inv, InvAck}
-use Rattle.tcc_rules.specs.State.{Running, AwaitTid, DoomedTid, Probing, Ready, Overflowing, Solo, Halted, start}
-use Rattle.tcc_rules.specs.Rows.{c0, d0, d1, v, two_cores, both_words, both_code, entries, stores_second, breaks_at_zero}
-use Rattle.tcc_rules.specs.Schedules.{doomed_attempt}
-use Rattle.tcc_rules.specs.Small.{small}
+use Rattle.rules_program.specs.Ram.{flat}
+use Rattle.rules_maps.specs.Nodes.{Core, TidReq, TidGrant, LoadReq, Fill, Skip, Probe, ProbeReply, Mark, Commit, Abort}
+use Rattle.rules_maps.specs.Nodes.{WriteBack, Flush, DataReq, Inv, InvAck}
+use Rattle.rules_tcc.specs.State.{Running, AwaitTid, DoomedTid, Probing, Ready, Overflowing, Solo, Halted, start}
+use Rattle.rules_tcc.specs.Rows.{c0, d0, d1, v, two_cores, both_words, both_code, entries, stores_second, breaks_at_zero}
+use Rattle.rules_tcc.specs.Schedules.{doomed_attempt}
+use Rattle.rules_tcc.specs.Small.{small}
 use Rattle.schedule_text.specs.Grammar.{newline}
 use Rattle.watch.specs.Facts.{Fact, Did, Missed, Overflowed, Evicted, Took, Dropped, AskedOwner, Violated, GaveUp, Committed, CameTo}
 use Rattle.watch.specs.Facts.{Serves, Sent}

@@ -1,7 +1,7 @@
 -- The nodes and events of the rules, as those that the lines of a schedule show.
 use Rattle.tcc_base.specs.declared.names.NodeId.{NodeId}
 use Rattle.tcc_base.specs.declared.names.NodeId.TheVariants as shown_node
-use Rattle.tcc_maps.specs.Nodes.{Node, Core, Dir, Vendor, Event, Exec, Evict, Deliver}
+use Rattle.rules_maps.specs.Nodes.{Node, Core, Dir, Vendor, Event, Exec, Evict, Deliver}
 use Rattle.tcc_msg.specs.declared.event.Event.{Event as ShownEvent}
 use Rattle.tcc_msg.specs.declared.event.Event.TheVariants as shown_event
 

@@ -5,11 +5,11 @@ use Rattle.std.specs.List.{flat_map}
 use Rattle.image_load.specs.Start.{Start}
 use Rattle.rv_code.specs.Machine.{program}
 use Rattle.tcc_base.specs.Settings.{Settings}
-use Rattle.tcc_program.specs.Program.{Program}
-use Rattle.tcc_maps.specs.Nodes.{Event}
-use Rattle.tcc_maps.specs.Shape.{Shape}
-use Rattle.tcc_rules.specs.State.{World}
-use Rattle.tcc_rules.specs.Step.{History, next_history}
+use Rattle.rules_program.specs.Program.{Program}
+use Rattle.rules_maps.specs.Nodes.{Event}
+use Rattle.rules_maps.specs.Shape.{Shape}
+use Rattle.rules_tcc.specs.State.{World}
+use Rattle.rules_tcc.specs.Step.{History, next_history}
 use Rattle.schedule_text.specs.Grammar.{newline, config_line, event_line, joined}
 use Rattle.report_text.specs.Lines.{end_line, events_line}
 use Rattle.watch.specs.Facts.{Fact}

@@ -1,6 +1,6 @@
 // What is in the lines of facts, each appended to a text. Where memory runs out, the text holds a part of it.
 ghost use Rattle.std.specs.Prelude.{◌≡◌, ◌++◌, OnOk, string_bytes};
-ghost use Rattle.tcc_maps.specs.Bridge.{node_of};
+ghost use Rattle.rules_maps.specs.Bridge.{node_of};
 ghost use Rattle.tcc_msg.specs.Plain.{msg_of};
 ghost use Rattle.commit_engine.specs.Engine.{phase_of};
 ghost use Rattle.watch.specs.Facts as plain;

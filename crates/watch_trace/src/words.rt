@@ -1,6 +1,6 @@
 // The words of messages, phases and instructions, each appended to a text. Where memory runs out, the text holds a part of them.
 ghost use Rattle.std.specs.Prelude.{◌≡◌, ◌++◌, ◌<◌, OnOk, string_bytes, codes};
-ghost use Rattle.tcc_maps.specs.Masks.{has};
+ghost use Rattle.rules_maps.specs.Masks.{has};
 ghost use Rattle.tcc_msg.specs.Plain.{msg_of};
 ghost use Rattle.commit_engine.specs.Engine.{phase_of};
 ghost use Rattle.watch.specs.Plain.{done_of};

@@ -1,5 +1,5 @@
 -- A directory's answer to words that come home, as the rules name it.
-use Rattle.tcc_maps.specs.Judge as maps
+use Rattle.rules_maps.specs.Judge as maps
 use Rattle.write_back.specs.declared.Take.{Take}
 use Rattle.write_back.specs.declared.Take.TheVariants.{Take as Taken, Drop, Wait}
 

@@ -2,7 +2,7 @@
 #![tactic(auto)]
 
 ghost use Rattle.std.specs.Prelude.{◌≡◌, ◌<◌, ◌↔◌, option_map};
-ghost use Rattle.tcc_maps.specs.Judge.{judge as verdict};
+ghost use Rattle.rules_maps.specs.Judge.{judge as verdict};
 ghost use Rattle.write_back.specs.Take.{verdict_of};
 
 use tcc_base::{CoreId, Tid};
@@ -18,7 +18,7 @@ pub enum Take {
     Wait,
 }
 
-#[tactic(auto, unfolding(tcc_maps::specs::Judge::judge))]
+#[tactic(auto, unfolding(rules_maps::specs::Judge::judge))]
 /// Judges words with this tag that came home from a core, for a line with this owner and this tag (the TID of its last commit, or 0).
 /// Words of a later commit wait; words of the last commit that its owner sends are taken; all others are dropped. This is how
 /// tags on write-backs make up for links that overtake one another (Chafi et al., "A Scalable, Non-blocking Approach to

@@ -1,15 +1,15 @@
 -- The lines of each row are computed by the definitions alone.
 use Rattle.std.proofs.Common.{refl}
 use Rattle.std.specs.Fmt.{char_count, digits, padded_integral}
-use Rattle.tcc_maps.specs.Masks.{has}
-use Rattle.tcc_rules.proofs.Lemmas.{computed}
-use Rattle.tcc_rules.specs.Needs.{need_at, needs_after, needs, entry}
-use Rattle.tcc_rules.specs.Told.{first_words}
-use Rattle.bus_rules.specs.Commit.{written_words, with_words, wrote_some, all_clean, bus_commit}
-use Rattle.bus_rules.specs.Exec.{line_words, line_at_hand, instruction, gone_alone, bus_exec}
-use Rattle.bus_rules.specs.State.{bus_start}
-use Rattle.bus_rules.specs.Step.{bus_names, bus_step, bus_next}
-use Rattle.bus_rules.specs.Take.{reads_some, packet_invalidated, packet_taken, bus_take}
+use Rattle.rules_maps.specs.Masks.{has}
+use Rattle.rules_tcc.proofs.Lemmas.{computed}
+use Rattle.rules_tcc.specs.Needs.{need_at, needs_after, needs, entry}
+use Rattle.rules_tcc.specs.Told.{first_words}
+use Rattle.rules_bus.specs.Commit.{written_words, with_words, wrote_some, all_clean, bus_commit}
+use Rattle.rules_bus.specs.Exec.{line_words, line_at_hand, instruction, gone_alone, bus_exec}
+use Rattle.rules_bus.specs.State.{bus_start}
+use Rattle.rules_bus.specs.Step.{bus_names, bus_step, bus_next}
+use Rattle.rules_bus.specs.Take.{reads_some, packet_invalidated, packet_taken, bus_take}
 use Rattle.bus_tcc.specs.Packets.{packet_lines}
 use Rattle.watch.specs.Instructions.{last_loaded, last_stored, done, addr_of, evicted}
 use Rattle.watch.specs.Messages.{commit_of, words_read}

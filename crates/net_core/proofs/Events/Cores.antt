@@ -7,25 +7,25 @@ use Rattle.std.proofs.lemmas.Bool.{lt-ltb}
 use Rattle.std.proofs.lemmas.Bool.Decides.{nat_tests}
 use Rattle.rv_code.specs.Machine.{first_ram}
 use Rattle.tcc_base.specs.Settings.{Settings}
-use Rattle.commit_list.specs.Rising.{HasNone}
+use Rattle.machine_commits.specs.Rising.{HasNone}
 use Rattle.tcc_base.specs.declared.access.Commit.{Commit}
 use Rattle.tcc_base.specs.declared.names.CoreId.{CoreId}
 use Rattle.tcc_base.specs.declared.names.NodeId.{NodeId}
 use Rattle.tcc_base.specs.declared.names.NodeId.TheVariants as code_node
-use Rattle.tcc_maps.specs.Bridge.{node_of}
-use Rattle.tcc_maps.specs.Nodes.{Node, Core, Dir, Vendor, Event, Exec, Evict, Deliver, Msg}
+use Rattle.rules_maps.specs.Bridge.{node_of}
+use Rattle.rules_maps.specs.Nodes.{Node, Core, Dir, Vendor, Event, Exec, Evict, Deliver, Msg}
 use Rattle.tcc_msg.specs.Plain.{sends_of}
 use Rattle.tcc_msg.specs.declared.outgoing.Outgoing.{Outgoing}
-use Rattle.tcc_bounds.specs.Messages.{InBounds}
-use Rattle.tcc_live.specs.Fits.{fits, goes_to_core, is_grant}
-use Rattle.tcc_rules.specs.Attempt.{Out}
-use Rattle.tcc_rules.specs.CoreExec.{core_exec}
-use Rattle.tcc_rules.specs.CoreEvict.{core_evict, evict_line}
-use Rattle.tcc_rules.specs.CoreDeliver.{core_deliver}
-use Rattle.tcc_rules.specs.Links.{in_flight, sending, taking}
-use Rattle.tcc_rules.specs.State.{CoreState, World}
-use Rattle.tcc_rules.specs.Step.{Stepped, and_noted, core_moves, core_takes, insert_commit, happens, if_in_flight, is_node}
-use Rattle.tcc_rules.specs.Step.{if_core_moves, names_nodes, step, if_core_takes}
+use Rattle.theorem_bounds.specs.Messages.{InBounds}
+use Rattle.theorem_live.specs.Fits.{fits, goes_to_core, is_grant}
+use Rattle.rules_tcc.specs.Attempt.{Out}
+use Rattle.rules_tcc.specs.CoreExec.{core_exec}
+use Rattle.rules_tcc.specs.CoreEvict.{core_evict, evict_line}
+use Rattle.rules_tcc.specs.CoreDeliver.{core_deliver}
+use Rattle.rules_tcc.specs.Links.{in_flight, sending, taking}
+use Rattle.rules_tcc.specs.State.{CoreState, World}
+use Rattle.rules_tcc.specs.Step.{Stepped, and_noted, core_moves, core_takes, insert_commit, happens, if_in_flight, is_node}
+use Rattle.rules_tcc.specs.Step.{if_core_moves, names_nodes, step, if_core_takes}
 use Rattle.core_node.specs.Answers.{IsBlocked}
 use Rattle.core_node.specs.declared.delivering.CoreError.{CoreError}
 use Rattle.core_node.specs.declared.delivering.CoreError.TheVariants.{Blocked, Memory}
@@ -34,10 +34,10 @@ use Rattle.core_node.specs.View.{IsKnown}
 use Rattle.core_node.specs.declared.exec.Executed.{Executed}
 use Rattle.core_node.specs.declared.exec.Executed.TheVariants as done
 use Rattle.commit_engine.specs.Sent.{followed}
-use Rattle.core_bank.specs.Acted.{Acted, ActedAs}
-use Rattle.core_bank.specs.Bank.{CoresData, cores_of}
-use Rattle.dir_bank.specs.Bank.{dirs_of}
-use Rattle.in_flight.specs.Flights.{Flights, net_of}
+use Rattle.machine_cores.specs.Acted.{Acted, ActedAs}
+use Rattle.machine_cores.specs.Bank.{CoresData, cores_of}
+use Rattle.machine_dirs.specs.Bank.{dirs_of}
+use Rattle.machine_links.specs.Flights.{Flights, net_of}
 use Rattle.net_core.specs.Answers.{Answers, Took, acts_in, refusal_of, step_of, tid_told}
 use Rattle.net_core.specs.Delivery.{AreMarked}
 use Rattle.net_core.specs.Inside.{machine_of}

@@ -7,25 +7,25 @@ use Rattle.image_load.specs.Contents.{started}
 use Rattle.rv_code.specs.Machine.{first_ram}
 use Rattle.tcc_base.specs.Put.{put}
 use Rattle.tcc_base.specs.Settings.{Settings}
-use Rattle.tcc_bounds.proofs.Lemmas.{fits_out}
-use Rattle.tcc_maps.specs.Bridge.{node_of}
-use Rattle.tcc_maps.specs.Nodes.{Node, Core, Dir, Vendor, Deliver, Msg, node_eq}
+use Rattle.theorem_bounds.proofs.Lemmas.{fits_out}
+use Rattle.rules_maps.specs.Bridge.{node_of}
+use Rattle.rules_maps.specs.Nodes.{Node, Core, Dir, Vendor, Deliver, Msg, node_eq}
 use Rattle.tcc_msg.specs.Plain.{sends_of}
-use Rattle.tcc_rules.specs.DirDeliver.{Answer, dir_deliver}
-use Rattle.tcc_rules.specs.DirDeliver as rules
-use Rattle.tcc_rules.specs.Links.{in_flight, sending, taking}
-use Rattle.tcc_rules.specs.Sends.{Sends}
-use Rattle.tcc_rules.specs.State.{DirState, World, Link}
-use Rattle.tcc_rules.specs.Step.{answered, dir_asks, dir_takes, happens, if_in_flight, names_nodes, step}
-use Rattle.core_bank.specs.Bank.{cores_of}
-use Rattle.dir_bank.specs.Acted.{Acted}
-use Rattle.dir_bank.specs.Bank.{dirs_of}
+use Rattle.rules_tcc.specs.DirDeliver.{Answer, dir_deliver}
+use Rattle.rules_tcc.specs.DirDeliver as rules
+use Rattle.rules_tcc.specs.Links.{in_flight, sending, taking}
+use Rattle.rules_tcc.specs.Sends.{Sends}
+use Rattle.rules_tcc.specs.State.{DirState, World, Link}
+use Rattle.rules_tcc.specs.Step.{answered, dir_asks, dir_takes, happens, if_in_flight, names_nodes, step}
+use Rattle.machine_cores.specs.Bank.{cores_of}
+use Rattle.machine_dirs.specs.Acted.{Acted}
+use Rattle.machine_dirs.specs.Bank.{dirs_of}
 use Rattle.directory.specs.Foreign.{is_foreign, HasSmallTids}
 use Rattle.directory.specs.Gives.{answer_of, is_taken}
 use Rattle.directory.specs.declared.handled.Handled.{Handled}
 use Rattle.directory.specs.declared.handled.Handled.TheVariants.{Handled as Done, Waits, Asked, Dropped}
-use Rattle.in_flight.specs.Flights.{Flights, net_of, is_ready}
-use Rattle.in_flight.specs.Places.{is_link}
+use Rattle.machine_links.specs.Flights.{Flights, net_of, is_ready}
+use Rattle.machine_links.specs.Places.{is_link}
 use Rattle.net_core.specs.Answers.{Took, step_of}
 use Rattle.net_core.specs.Delivery.{AreMarked, is_consumed, is_deliverable}
 use Rattle.net_core.specs.Machine.{Machine, settings_of, start_of, world_of}

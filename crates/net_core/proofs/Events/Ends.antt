@@ -3,11 +3,11 @@ use Rattle.std.proofs.Common.{◌≡◌, ℕ, true, [], Some, None, refl, ap, �
 use Rattle.tcc_base.specs.declared.names.CoreId.{CoreId}
 use Rattle.tcc_base.specs.declared.names.NodeId.{NodeId}
 use Rattle.tcc_base.specs.declared.names.NodeId.TheVariants as code_node
-use Rattle.tcc_live.specs.Fits.{fits}
-use Rattle.tcc_maps.specs.Bridge.{node_of}
-use Rattle.tcc_maps.specs.Nodes.{Node, Deliver, Msg}
-use Rattle.tcc_rules.specs.Links.{in_flight}
-use Rattle.in_flight.specs.Flights.{net_of}
+use Rattle.theorem_live.specs.Fits.{fits}
+use Rattle.rules_maps.specs.Bridge.{node_of}
+use Rattle.rules_maps.specs.Nodes.{Node, Deliver, Msg}
+use Rattle.rules_tcc.specs.Links.{in_flight}
+use Rattle.machine_links.specs.Flights.{net_of}
 use Rattle.net_core.specs.Answers.{step_of}
 use Rattle.net_core.specs.Machine.{Machine, settings_of}
 use Rattle.net_core.specs.Whole.{IsWhole}

@@ -5,24 +5,24 @@ use Rattle.std.specs.Prelude.{nat_lt, ◌==◌, ◌&&◌, slice_set, if◌then�
 use Rattle.std.proofs.lemmas.Bool.Decides.{nat_tests}
 use Rattle.image_load.specs.Contents.{started}
 use Rattle.rv_code.specs.Machine.{first_ram}
-use Rattle.rv_serial.specs.Given.{TidsOf, grants_of}
-use Rattle.rv_serial.specs.Suiting.{world_at_start}
-use Rattle.rv_serial.proofs.Lemmas.{committed_tids_were_granted_once}
+use Rattle.theorem_riscv.specs.Given.{TidsOf, grants_of}
+use Rattle.theorem_riscv.specs.Suiting.{world_at_start}
+use Rattle.theorem_riscv.proofs.Lemmas.{committed_tids_were_granted_once}
 use Rattle.tcc_base.specs.declared.access.Commit.{Commit}
-use Rattle.tcc_maps.specs.Bridge.{node_of}
-use Rattle.tcc_maps.specs.Nodes.{Node, Event, node_eq}
-use Rattle.tcc_maps.specs.Words.{num}
+use Rattle.rules_maps.specs.Bridge.{node_of}
+use Rattle.rules_maps.specs.Nodes.{Node, Event, node_eq}
+use Rattle.rules_maps.specs.Words.{num}
 use Rattle.tcc_msg.specs.Plain.{sends_of}
-use Rattle.tcc_rules.specs.Links.{sending, sent_all, taking}
-use Rattle.tcc_rules.specs.Sends.{Sends}
-use Rattle.tcc_rules.specs.State.{Link, World}
-use Rattle.tcc_rules.specs.Step.{History, Stepped, and_noted, insert_commit, next_history, recorded, run}
-use Rattle.tcc_serial.specs.Owners.{times}
-use Rattle.commit_list.specs.Rising.{HasNone}
-use Rattle.core_bank.specs.Bank.{cores_of}
-use Rattle.dir_bank.specs.Bank.{dirs_of}
-use Rattle.in_flight.specs.Flights.{net_of}
-use Rattle.in_flight.proofs.Lemmas.{node_eq-own}
+use Rattle.rules_tcc.specs.Links.{sending, sent_all, taking}
+use Rattle.rules_tcc.specs.Sends.{Sends}
+use Rattle.rules_tcc.specs.State.{Link, World}
+use Rattle.rules_tcc.specs.Step.{History, Stepped, and_noted, insert_commit, next_history, recorded, run}
+use Rattle.theorem_serial.specs.Owners.{times}
+use Rattle.machine_commits.specs.Rising.{HasNone}
+use Rattle.machine_cores.specs.Bank.{cores_of}
+use Rattle.machine_dirs.specs.Bank.{dirs_of}
+use Rattle.machine_links.specs.Flights.{net_of}
+use Rattle.machine_links.proofs.Lemmas.{node_eq-own}
 use Rattle.net_core.specs.Answers.{IsSent, Kept, Took, acts_in, step_of, tid_noted, tid_told}
 use Rattle.net_core.specs.Delivery.{AreMarked}
 use Rattle.net_core.specs.Machine.{Machine, history_of, program_of, settings_of, start_of, world_of}

@@ -4,11 +4,11 @@ use Rattle.std.proofs.Common.{arith}
 use Rattle.std.specs.Prelude.{slice_index_or, slice_set, ◌==◌, if◌then◌else◌}
 use Rattle.std.proofs.lemmas.Bool.Decides.{nat_tests}
 use Rattle.tcc_base.specs.Settings.{Settings}
-use Rattle.tcc_maps.specs.Nodes.{Node, Msg, node_eq}
-use Rattle.tcc_rules.specs.Links.{in_flight, taking}
-use Rattle.tcc_rules.specs.State.{DirState, Link}
-use Rattle.in_flight.specs.Flights.{Flights, net_of, is_ready, with_mark}
-use Rattle.in_flight.proofs.Lemmas.{with_mark-other}
+use Rattle.rules_maps.specs.Nodes.{Node, Msg, node_eq}
+use Rattle.rules_tcc.specs.Links.{in_flight, taking}
+use Rattle.rules_tcc.specs.State.{DirState, Link}
+use Rattle.machine_links.specs.Flights.{Flights, net_of, is_ready, with_mark}
+use Rattle.machine_links.proofs.Lemmas.{with_mark-other}
 use Rattle.net_core.specs.Delivery.{AreMarked}
 
 -- another message that is still there

@@ -5,20 +5,20 @@ use Rattle.std.proofs.lemmas.Bool.{ne_eqb}
 use Rattle.std.proofs.lemmas.Bool.Decides.{nat_tests}
 use Rattle.tcc_base.specs.Settings.{Settings}
 use Rattle.tcc_base.specs.Put.{put}
-use Rattle.tcc_maps.specs.Judge.{Judgement, judge, Current, Outdated, TooEarly}
-use Rattle.tcc_maps.specs.Lines.{has_mark, with_asked, with_mark, with_owner, with_sharer}
-use Rattle.tcc_maps.specs.Masks.{full}
-use Rattle.tcc_maps.specs.Nodes.{Core, Msg, TidReq, TidGrant, LoadReq, Fill, Skip, Probe, ProbeReply, Mark, Commit, Abort}
-use Rattle.tcc_maps.specs.Nodes.{WriteBack, Flush, DataReq, Inv, InvAck}
-use Rattle.tcc_maps.specs.Serving.{Serving, kept, skipped}
-use Rattle.tcc_maps.specs.Shape.{lines}
-use Rattle.tcc_maps.specs.Words.{count_below}
-use Rattle.tcc_maps.proofs.Lemmas.{advance-rises}
-use Rattle.tcc_rules.specs.DirDeliver.{Answer, Waits, Drops, Asks, Takes, abort, acknowledgement, ask_owner, came_home, dir_commit}
-use Rattle.tcc_rules.specs.DirDeliver.{dir_deliver, judged, load_request, load_unless_owned, mark, mark_taken, mark_unless_owned, moved_on}
-use Rattle.tcc_rules.specs.DirDeliver.{moved_on_if_settled, probe, skip, unless_keeps, write_back}
-use Rattle.tcc_rules.specs.Sends.{Sends, nothing, to}
-use Rattle.tcc_rules.specs.State.{DirState}
+use Rattle.rules_maps.specs.Judge.{Judgement, judge, Current, Outdated, TooEarly}
+use Rattle.rules_maps.specs.Lines.{has_mark, with_asked, with_mark, with_owner, with_sharer}
+use Rattle.rules_maps.specs.Masks.{full}
+use Rattle.rules_maps.specs.Nodes.{Core, Msg, TidReq, TidGrant, LoadReq, Fill, Skip, Probe, ProbeReply, Mark, Commit, Abort}
+use Rattle.rules_maps.specs.Nodes.{WriteBack, Flush, DataReq, Inv, InvAck}
+use Rattle.rules_maps.specs.Serving.{Serving, kept, skipped}
+use Rattle.rules_maps.specs.Shape.{lines}
+use Rattle.rules_maps.specs.Words.{count_below}
+use Rattle.rules_maps.proofs.Lemmas.{advance-rises}
+use Rattle.rules_tcc.specs.DirDeliver.{Answer, Waits, Drops, Asks, Takes, abort, acknowledgement, ask_owner, came_home, dir_commit}
+use Rattle.rules_tcc.specs.DirDeliver.{dir_deliver, judged, load_request, load_unless_owned, mark, mark_taken, mark_unless_owned, moved_on}
+use Rattle.rules_tcc.specs.DirDeliver.{moved_on_if_settled, probe, skip, unless_keeps, write_back}
+use Rattle.rules_tcc.specs.Sends.{Sends, nothing, to}
+use Rattle.rules_tcc.specs.State.{DirState}
 use Rattle.directory.specs.Gives.{acts, answer_of, is_taken}
 use Rattle.directory.specs.declared.handled.Handled.{Handled}
 use Rattle.directory.specs.declared.handled.Handled.TheVariants.{Handled as Done, Waits as Waited, Asked, Dropped}

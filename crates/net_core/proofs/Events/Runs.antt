@@ -5,10 +5,10 @@ use Rattle.std.specs.Prelude.{slice_get, is_some}
 use Rattle.std.proofs.lemmas.List.{map-append}
 use Rattle.image_load.specs.Contents.{started}
 use Rattle.rv_code.specs.Machine.{program}
-use Rattle.tcc_maps.specs.Nodes.{Event}
+use Rattle.rules_maps.specs.Nodes.{Event}
 use Rattle.tcc_msg.specs.Plain.{event_of, sends_of}
 use Rattle.tcc_msg.specs.declared.event.Event.{Event as CodeEvent}
-use Rattle.tcc_rules.specs.Step.{Stepped, and_then, next_history, recorded, run_from, step}
+use Rattle.rules_tcc.specs.Step.{Stepped, and_then, next_history, recorded, run_from, step}
 use Rattle.net_core.specs.Answers.{Answers, IsSent, Kept, Ran, StoppedAt, Took, acts_in, step_of, tid_noted}
 use Rattle.net_core.specs.Machine.{Machine, history_of, program_of, settings_of, world_of}
 use Rattle.net_core.specs.declared.taking.Step.{Step}

@@ -3,16 +3,16 @@ use Rattle.std.proofs.Common.{◌≡◌, ◌≢◌, ℕ, Bool, true, false, ◌|
 use Rattle.std.specs.Prelude.{nat_lt, nat_le, ◌==◌, if◌then◌else◌}
 use Rattle.std.proofs.lemmas.Bool.{eq-eqb, false≢true}
 use Rattle.tcc_base.specs.Settings.{Settings}
-use Rattle.tcc_maps.specs.Judge.{Judgement, judge, Current, Outdated, TooEarly}
-use Rattle.tcc_maps.specs.Lines.{has_mark}
-use Rattle.tcc_maps.specs.Masks.{full}
-use Rattle.tcc_maps.specs.Nodes.{Msg, TidReq, TidGrant, LoadReq, Fill, Skip, Probe, ProbeReply, Mark, Commit, Abort}
-use Rattle.tcc_maps.specs.Nodes.{WriteBack, Flush, DataReq, Inv, InvAck}
-use Rattle.tcc_maps.specs.Shape.{lines}
-use Rattle.tcc_maps.specs.Words.{count_below}
-use Rattle.tcc_rules.specs.DirDeliver.{Answer, abort, acknowledgement, ask_owner, dir_commit, dir_deliver, judged}
-use Rattle.tcc_rules.specs.DirDeliver.{load_unless_owned, load_request, mark, mark_unless_owned, probe, skip, write_back}
-use Rattle.tcc_rules.specs.State.{DirState}
+use Rattle.rules_maps.specs.Judge.{Judgement, judge, Current, Outdated, TooEarly}
+use Rattle.rules_maps.specs.Lines.{has_mark}
+use Rattle.rules_maps.specs.Masks.{full}
+use Rattle.rules_maps.specs.Nodes.{Msg, TidReq, TidGrant, LoadReq, Fill, Skip, Probe, ProbeReply, Mark, Commit, Abort}
+use Rattle.rules_maps.specs.Nodes.{WriteBack, Flush, DataReq, Inv, InvAck}
+use Rattle.rules_maps.specs.Shape.{lines}
+use Rattle.rules_maps.specs.Words.{count_below}
+use Rattle.rules_tcc.specs.DirDeliver.{Answer, abort, acknowledgement, ask_owner, dir_commit, dir_deliver, judged}
+use Rattle.rules_tcc.specs.DirDeliver.{load_unless_owned, load_request, mark, mark_unless_owned, probe, skip, write_back}
+use Rattle.rules_tcc.specs.State.{DirState}
 use Rattle.directory.specs.Gives.{is_taken}
 use Rattle.net_core.specs.Taking.{AtLine, SameBut, SameTaking, is_seen}
 

@@ -2,12 +2,12 @@
 use Rattle.std.proofs.Common.{◌≡◌, ℕ, Bool, true, false, List, Option, Some, None, refl}
 use Rattle.std.specs.Prelude.{if◌then◌else◌}
 use Rattle.tcc_base.specs.Settings.{Settings}
-use Rattle.tcc_maps.specs.Nodes.{Node, Core, Dir, Vendor, Msg, TidReq, TidGrant, LoadReq, Fill, Skip, Probe, ProbeReply, Mark, Commit}
-use Rattle.tcc_maps.specs.Nodes.{Abort, WriteBack, Flush, DataReq, Inv, InvAck}
-use Rattle.tcc_rules.specs.Attempt.{Out}
-use Rattle.tcc_rules.specs.CoreDeliver.{acknowledged, core_deliver, data_request, fill, fill_awaited, grant, grant_in_phase, if_violated}
-use Rattle.tcc_rules.specs.CoreDeliver.{ignored, invalidate, is_violated, probe_reply, reply_in_phase, violated_in_phase, words_invalidated}
-use Rattle.tcc_rules.specs.State.{Awaited, CoreState, Phase, Running, AwaitTid, DoomedTid, Probing, Ready, Overflowing, Solo, Halted}
+use Rattle.rules_maps.specs.Nodes.{Node, Core, Dir, Vendor, Msg, TidReq, TidGrant, LoadReq, Fill, Skip, Probe, ProbeReply, Mark, Commit}
+use Rattle.rules_maps.specs.Nodes.{Abort, WriteBack, Flush, DataReq, Inv, InvAck}
+use Rattle.rules_tcc.specs.Attempt.{Out}
+use Rattle.rules_tcc.specs.CoreDeliver.{acknowledged, core_deliver, data_request, fill, fill_awaited, grant, grant_in_phase, if_violated}
+use Rattle.rules_tcc.specs.CoreDeliver.{ignored, invalidate, is_violated, probe_reply, reply_in_phase, violated_in_phase, words_invalidated}
+use Rattle.rules_tcc.specs.State.{Awaited, CoreState, Phase, Running, AwaitTid, DoomedTid, Probing, Ready, Overflowing, Solo, Halted}
 use Rattle.net_core.proofs.Events.Cores.{Unnoted}
 
 either : (b : Bool) (o p : Out) → o.commit ≡ None → p.commit ≡ None → (if b then o else p).commit ≡ None

@@ -8,20 +8,21 @@ use Rattle.tcc_base.specs.declared.names.CoreId.{CoreId}
 use Rattle.tcc_base.specs.declared.names.NodeId.{NodeId}
 use Rattle.tcc_base.specs.declared.names.NodeId.TheVariants as code_node
 use Rattle.tcc_base.specs.declared.names.Tid.{Tid}
-use Rattle.tcc_live.specs.Fits.{fits, is_request}
-use Rattle.tcc_maps.specs.Bridge.{node_of}
-use Rattle.tcc_maps.specs.Nodes.{Core, Vendor, Deliver, Msg, TidReq, TidGrant, LoadReq, Fill, Skip, Probe, ProbeReply, Mark, Commit, Abort}
-use Rattle.tcc_maps.specs.Nodes.{WriteBack, Flush, DataReq, Inv, InvAck, node_eq}
+use Rattle.theorem_live.specs.Fits.{fits, is_request}
+use Rattle.rules_maps.specs.Bridge.{node_of}
+use Rattle.rules_maps.specs.Nodes.{Core, Vendor, Deliver, Msg, TidReq, TidGrant, LoadReq, Fill, Skip, Probe, ProbeReply, Mark, Commit}
+use Rattle.rules_maps.specs.Nodes.{Abort}
+use Rattle.rules_maps.specs.Nodes.{WriteBack, Flush, DataReq, Inv, InvAck, node_eq}
 use Rattle.tcc_msg.specs.Plain.{sends_of}
 use Rattle.tcc_msg.specs.declared.msg.Msg.{Msg as CodeMsg}
 use Rattle.tcc_msg.specs.declared.msg.Msg.TheVariants as code
-use Rattle.tcc_rules.specs.Links.{in_flight, sending, taking}
-use Rattle.tcc_rules.specs.Sends.{to}
-use Rattle.tcc_rules.specs.Step.{if_vendor_gives, happens, if_in_flight, names_nodes, step, vendor_gives}
-use Rattle.tcc_rules.specs.VendorDeliver.{Granted}
-use Rattle.core_bank.specs.Bank.{cores_of}
-use Rattle.dir_bank.specs.Bank.{dirs_of}
-use Rattle.in_flight.specs.Flights.{net_of, is_ready, with_mark}
+use Rattle.rules_tcc.specs.Links.{in_flight, sending, taking}
+use Rattle.rules_tcc.specs.Sends.{to}
+use Rattle.rules_tcc.specs.Step.{if_vendor_gives, happens, if_in_flight, names_nodes, step, vendor_gives}
+use Rattle.rules_tcc.specs.VendorDeliver.{Granted}
+use Rattle.machine_cores.specs.Bank.{cores_of}
+use Rattle.machine_dirs.specs.Bank.{dirs_of}
+use Rattle.machine_links.specs.Flights.{net_of, is_ready, with_mark}
 use Rattle.net_core.specs.Answers.{Took, step_of}
 use Rattle.net_core.specs.Delivery.{AreMarked}
 use Rattle.net_core.specs.Machine.{Machine, history_of, settings_of, start_of, world_of}

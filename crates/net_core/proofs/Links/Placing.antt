@@ -6,18 +6,18 @@ use Rattle.std.proofs.Math.Seq.{drop-cons}
 use Rattle.std.proofs.lemmas.Bool.Decides.{nat_tests}
 use Rattle.tcc_base.specs.Settings.{Settings}
 use Rattle.tcc_base.specs.declared.names.NodeId.{NodeId}
-use Rattle.tcc_maps.specs.Bridge.{node_of}
-use Rattle.tcc_maps.specs.Nodes.{Node, Core, Dir, Vendor, Msg as PlainMsg, node_eq}
+use Rattle.rules_maps.specs.Bridge.{node_of}
+use Rattle.rules_maps.specs.Nodes.{Node, Core, Dir, Vendor, Msg as PlainMsg, node_eq}
 use Rattle.tcc_msg.proofs.Lemmas.{sends_of-append}
 use Rattle.tcc_msg.specs.Plain.{msg_of, sends_of}
 use Rattle.tcc_msg.specs.declared.msg.Msg.{Msg}
-use Rattle.tcc_rules.proofs.Lemmas.{node_eq-eq}
-use Rattle.tcc_rules.specs.Links.{in_flight, sending, sent_all}
-use Rattle.tcc_rules.specs.State.{DirState, Link}
-use Rattle.dir_bank.specs.Bank.{DirsData, dirs_of}
-use Rattle.in_flight.proofs.Lemmas.{with_mark-own, with_mark-other}
-use Rattle.in_flight.specs.Flights.{Flights, net_of, is_ready, with_mark}
-use Rattle.in_flight.specs.Places.{is_link}
+use Rattle.rules_tcc.proofs.Lemmas.{node_eq-eq}
+use Rattle.rules_tcc.specs.Links.{in_flight, sending, sent_all}
+use Rattle.rules_tcc.specs.State.{DirState, Link}
+use Rattle.machine_dirs.specs.Bank.{DirsData, dirs_of}
+use Rattle.machine_links.proofs.Lemmas.{with_mark-own, with_mark-other}
+use Rattle.machine_links.specs.Flights.{Flights, net_of, is_ready, with_mark}
+use Rattle.machine_links.specs.Places.{is_link}
 use Rattle.net_core.specs.Delivery.{AllMayGo, AreMarked, MayGo, is_deliverable}
 
 pub node_eq-itself : (n : Node) → node_eq n n ≡ true

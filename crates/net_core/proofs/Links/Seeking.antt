@@ -5,12 +5,12 @@ use Rattle.std.specs.Prelude.{slice_get, slice_index_or, if◌then◌else◌}
 use Rattle.std.proofs.Math.ListN.{drop_of_length-le, get_or-append}
 use Rattle.std.proofs.Math.Seq.{get_or-append_right}
 use Rattle.tcc_base.specs.declared.names.NodeId.{NodeId}
-use Rattle.tcc_maps.specs.Bridge.{node_of}
-use Rattle.tcc_maps.specs.Nodes.{Node, Msg as PlainMsg, node_eq}
+use Rattle.rules_maps.specs.Bridge.{node_of}
+use Rattle.rules_maps.specs.Nodes.{Node, Msg as PlainMsg, node_eq}
 use Rattle.tcc_msg.specs.Plain.{msg_of, sends_of}
 use Rattle.tcc_msg.specs.declared.msg.Msg.{Msg}
-use Rattle.tcc_rules.specs.Links.{in_flight, sending, sent_all}
-use Rattle.tcc_rules.specs.State.{Link}
+use Rattle.rules_tcc.specs.Links.{in_flight, sending, sent_all}
+use Rattle.rules_tcc.specs.State.{Link}
 
 -- it is the first one
 pub sought-here : (xs : List (NodeId × Msg)) (i : ℕ) (n : Node) (x : NodeId × Msg) (left : ℕ) → drop i xs ≡ x ∷ drop (i + 1) xs

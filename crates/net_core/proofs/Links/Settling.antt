@@ -2,15 +2,15 @@
 use Rattle.std.proofs.Common.{◌≡◌, ℕ, List, [], refl, ap, sym, ◌∙◌, subst}
 use Rattle.rv_code.specs.Machine.{first_ram}
 use Rattle.tcc_base.specs.declared.names.NodeId.{NodeId}
-use Rattle.tcc_maps.specs.Bridge.{node_of}
-use Rattle.tcc_maps.specs.Nodes.{Node}
+use Rattle.rules_maps.specs.Bridge.{node_of}
+use Rattle.rules_maps.specs.Nodes.{Node}
 use Rattle.tcc_msg.specs.Plain.{sends_of}
 use Rattle.tcc_msg.specs.declared.msg.Msg.{Msg}
-use Rattle.tcc_rules.specs.Links.{sending}
-use Rattle.tcc_rules.specs.State.{Link, World}
-use Rattle.tcc_rules.specs.Step.{History}
-use Rattle.dir_bank.specs.Bank.{dirs_of}
-use Rattle.in_flight.specs.Flights.{Flights, net_of}
+use Rattle.rules_tcc.specs.Links.{sending}
+use Rattle.rules_tcc.specs.State.{Link, World}
+use Rattle.rules_tcc.specs.Step.{History}
+use Rattle.machine_dirs.specs.Bank.{dirs_of}
+use Rattle.machine_links.specs.Flights.{Flights, net_of}
 use Rattle.net_core.specs.Delivery.{AllMayGo, AreMarked}
 use Rattle.net_core.specs.Machine.{Machine, history_of, start_of, world_of}
 use Rattle.net_core.specs.Whole.{IsWhole}

@@ -5,21 +5,21 @@ use Rattle.std.proofs.lemmas.Bool.{le-ltb, lt-ltb}
 use Rattle.std.proofs.lemmas.Bool.Decides.{nat_tests}
 use Rattle.rv_code.specs.Machine.{first_ram}
 use Rattle.tcc_base.specs.Settings.{Settings}
-use Rattle.tcc_live.specs.Fits.{fits, goes_to_core, is_grant, is_request}
-use Rattle.tcc_maps.specs.Nodes.{Node, Core, Dir, Vendor, Exec, Evict, Deliver, Msg, TidReq, TidGrant, Fill, ProbeReply, DataReq, Inv}
-use Rattle.tcc_program.specs.Program.{Program}
-use Rattle.tcc_rules.specs.Attempt.{Out}
-use Rattle.tcc_rules.specs.CoreDeliver.{core_deliver, from_dir, from_vendor}
-use Rattle.tcc_rules.specs.CoreEvict.{core_evict}
-use Rattle.tcc_rules.specs.CoreExec.{core_exec}
-use Rattle.tcc_rules.specs.DirDeliver.{Answer, Waits, Drops, Asks, Takes, dir_deliver}
-use Rattle.tcc_rules.specs.Links.{in_flight}
-use Rattle.tcc_rules.specs.State.{CoreState, World}
-use Rattle.tcc_rules.specs.Step.{Stepped, answered, delivered, if_vendor_gives, happens, if_in_flight, if_core_moves, names_nodes, step}
-use Rattle.tcc_rules.specs.Step.{if_core_takes}
-use Rattle.tcc_rules.specs.VendorDeliver.{vendor_deliver}
-use Rattle.core_bank.specs.Bank.{cores_of}
-use Rattle.dir_bank.specs.Bank.{dirs_of}
+use Rattle.theorem_live.specs.Fits.{fits, goes_to_core, is_grant, is_request}
+use Rattle.rules_maps.specs.Nodes.{Node, Core, Dir, Vendor, Exec, Evict, Deliver, Msg, TidReq, TidGrant, Fill, ProbeReply, DataReq, Inv}
+use Rattle.rules_program.specs.Program.{Program}
+use Rattle.rules_tcc.specs.Attempt.{Out}
+use Rattle.rules_tcc.specs.CoreDeliver.{core_deliver, from_dir, from_vendor}
+use Rattle.rules_tcc.specs.CoreEvict.{core_evict}
+use Rattle.rules_tcc.specs.CoreExec.{core_exec}
+use Rattle.rules_tcc.specs.DirDeliver.{Answer, Waits, Drops, Asks, Takes, dir_deliver}
+use Rattle.rules_tcc.specs.Links.{in_flight}
+use Rattle.rules_tcc.specs.State.{CoreState, World}
+use Rattle.rules_tcc.specs.Step.{Stepped, answered, delivered, if_vendor_gives, happens, if_in_flight, if_core_moves, names_nodes, step}
+use Rattle.rules_tcc.specs.Step.{if_core_takes}
+use Rattle.rules_tcc.specs.VendorDeliver.{vendor_deliver}
+use Rattle.machine_cores.specs.Bank.{cores_of}
+use Rattle.machine_dirs.specs.Bank.{dirs_of}
 use Rattle.directory.specs.Gives.{is_taken}
 use Rattle.net_core.specs.Answers.{step_of}
 use Rattle.net_core.specs.Delivery.{is_deliverable}

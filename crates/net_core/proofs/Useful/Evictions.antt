@@ -4,12 +4,12 @@ use Rattle.std.proofs.Common.{refl, ap, sym, ◌∙◌, subst, arith}
 use Rattle.std.specs.Prelude.{slice_get, ◌↔◌, IsTrue}
 use borrow.Author.Count.{below_more}
 use Rattle.std.specs.List.{flat_map}
-use Rattle.tcc_maps.specs.Nodes.{Node, Event, Exec, Evict, Deliver}
-use Rattle.tcc_rules.specs.Laws.{IsIn}
-use Rattle.tcc_rules.specs.Useful.{is_useful}
-use Rattle.tcc_rules.proofs.Lemmas.{useful-holds}
-use Rattle.core_bank.specs.Uses.{exec_events}
-use Rattle.in_flight.specs.Flights.{Flights, nodes_of, ready_list, ready_on}
+use Rattle.rules_maps.specs.Nodes.{Node, Event, Exec, Evict, Deliver}
+use Rattle.rules_tcc.specs.Laws.{IsIn}
+use Rattle.rules_tcc.specs.Useful.{is_useful}
+use Rattle.rules_tcc.proofs.Lemmas.{useful-holds}
+use Rattle.machine_cores.specs.Uses.{exec_events}
+use Rattle.machine_links.specs.Flights.{Flights, nodes_of, ready_list, ready_on}
 use Rattle.net_core.specs.Machine.{Machine, program_of, settings_of, world_of}
 use Rattle.net_core.specs.Whole.{IsWhole}
 use Rattle.net_core.proofs.Useful.Listed.{evicts_of, execs_of, useful-parts}

@@ -6,23 +6,23 @@ use Rattle.std.specs.List.{filter, flat_map}
 use Rattle.std.proofs.lemmas.List.Elements.{filter-append}
 use Rattle.std.proofs.lemmas.List.{length-map, map-append}
 use Rattle.std.proofs.lemmas.Nat.{mul-le}
-use Rattle.tcc_bounds.proofs.Lemmas.{link_short}
-use Rattle.tcc_maps.specs.Nodes.{Node, Core, Dir, Vendor, Event, Exec, Evict, Deliver, Msg}
-use Rattle.tcc_maps.specs.Words.{those}
+use Rattle.theorem_bounds.proofs.Lemmas.{link_short}
+use Rattle.rules_maps.specs.Nodes.{Node, Core, Dir, Vendor, Event, Exec, Evict, Deliver, Msg}
+use Rattle.rules_maps.specs.Words.{those}
 use Rattle.tcc_msg.specs.Plain.{event_of}
 use Rattle.tcc_msg.specs.declared.event.Event.{Event as CodeEvent}
-use Rattle.tcc_rules.specs.CoreExec.{core_exec}
-use Rattle.tcc_rules.specs.Links.{in_flight}
-use Rattle.tcc_rules.specs.Seen.{numbers}
-use Rattle.tcc_rules.specs.Step.{is_enabled}
-use Rattle.tcc_rules.specs.Useful.{delivers, evicts, execs, is_of_use, is_useful, useful}
-use Rattle.core_bank.specs.Bank.{cores_of}
-use Rattle.core_bank.specs.Uses.{evict_events, exec_events}
-use Rattle.core_bank.proofs.Lemmas.{evicts-fit, get-left, get-right, numbers-length}
+use Rattle.rules_tcc.specs.CoreExec.{core_exec}
+use Rattle.rules_tcc.specs.Links.{in_flight}
+use Rattle.rules_tcc.specs.Seen.{numbers}
+use Rattle.rules_tcc.specs.Step.{is_enabled}
+use Rattle.rules_tcc.specs.Useful.{delivers, evicts, execs, is_of_use, is_useful, useful}
+use Rattle.machine_cores.specs.Bank.{cores_of}
+use Rattle.machine_cores.specs.Uses.{evict_events, exec_events}
+use Rattle.machine_cores.proofs.Lemmas.{evicts-fit, get-left, get-right, numbers-length}
 use Rattle.core_node.specs.Useful.{useful_evicts}
 use Rattle.core_node.proofs.Lemmas.{useful-evicts, useful-execs}
-use Rattle.in_flight.specs.Flights.{Flights, is_ready, net_of, nodes_of, ready_list, ready_on}
-use Rattle.in_flight.proofs.Lemmas.{Agrees, marked-flies, ready-delivers}
+use Rattle.machine_links.specs.Flights.{Flights, is_ready, net_of, nodes_of, ready_list, ready_on}
+use Rattle.machine_links.proofs.Lemmas.{Agrees, marked-flies, ready-delivers}
 use Rattle.net_core.specs.Answers.{step_of}
 use Rattle.net_core.specs.Delivery.{AreMarked}
 use Rattle.net_core.specs.Machine.{Machine, history_of, program_of, settings_of, world_of}

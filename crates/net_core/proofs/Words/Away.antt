@@ -10,16 +10,16 @@ use Rattle.std.proofs.lemmas.Bool.{ne_eqb}
 use Rattle.std.proofs.lemmas.Bool.Decides.{nat_tests}
 use Rattle.std.proofs.lemmas.Nat.{ones_le_self}
 use Rattle.std.proofs.lemmas.List.Concat.{flat_map-append}
-use Rattle.tcc_maps.specs.Cache.{Cache, IsCache, dirty_mask, is_dirty}
-use Rattle.tcc_maps.specs.Masks.{has, hit}
-use Rattle.tcc_maps.specs.Nodes.{Core, Dir, WriteBack}
-use Rattle.tcc_maps.specs.Shape.{Shape, home, lines, set_of}
-use Rattle.tcc_maps.specs.Words.{any_below, any_word, line_of, place_of, those, word_at}
-use Rattle.tcc_maps.proofs.Lemmas.{any_below-at, has-zero}
-use Rattle.tcc_rules.specs.Seen.{copies, copies_of, copies_on, copy_of, numbers}
-use Rattle.tcc_rules.specs.State.{CoreState, World}
-use Rattle.core_bank.specs.Bank.{cores_of}
-use Rattle.in_flight.specs.Flights.{net_of}
+use Rattle.rules_maps.specs.Cache.{Cache, IsCache, dirty_mask, is_dirty}
+use Rattle.rules_maps.specs.Masks.{has, hit}
+use Rattle.rules_maps.specs.Nodes.{Core, Dir, WriteBack}
+use Rattle.rules_maps.specs.Shape.{Shape, home, lines, set_of}
+use Rattle.rules_maps.specs.Words.{any_below, any_word, line_of, place_of, those, word_at}
+use Rattle.rules_maps.proofs.Lemmas.{any_below-at, has-zero}
+use Rattle.rules_tcc.specs.Seen.{copies, copies_of, copies_on, copy_of, numbers}
+use Rattle.rules_tcc.specs.State.{CoreState, World}
+use Rattle.machine_cores.specs.Bank.{cores_of}
+use Rattle.machine_links.specs.Flights.{net_of}
 use Rattle.net_core.specs.Machine.{Machine, settings_of, world_of}
 use Rattle.net_core.proofs.Words.Newest.{hit-dirty, own-word, unframed}
 use Rattle.net_core.proofs.Words.Seen.{own-copies}

@@ -8,14 +8,14 @@ use Rattle.std.proofs.Math.Seq.{take-suc}
 use Rattle.std.proofs.lemmas.List.{take_all}
 use Rattle.std.proofs.lemmas.List.Concat.{flat_map-append}
 use Rattle.std.proofs.lemmas.Bool.{eq-eqb}
-use Rattle.tcc_maps.specs.Cache.{Cache, IsCache, dirty_mask}
-use Rattle.tcc_maps.specs.Masks.{hit}
-use Rattle.tcc_maps.specs.Nodes.{Msg, WriteBack}
-use Rattle.tcc_maps.specs.Shape.{Shape}
-use Rattle.tcc_maps.specs.Words.{line_of, place_of, those, word_at}
-use Rattle.tcc_maps.proofs.Lemmas.{has-mask_of}
-use Rattle.tcc_rules.specs.Seen.{Copy, copies_on, copy_in, copy_of, newer, newest}
-use Rattle.tcc_rules.specs.State.{Link}
+use Rattle.rules_maps.specs.Cache.{Cache, IsCache, dirty_mask}
+use Rattle.rules_maps.specs.Masks.{hit}
+use Rattle.rules_maps.specs.Nodes.{Msg, WriteBack}
+use Rattle.rules_maps.specs.Shape.{Shape}
+use Rattle.rules_maps.specs.Words.{line_of, place_of, those, word_at}
+use Rattle.rules_maps.proofs.Lemmas.{has-mask_of}
+use Rattle.rules_tcc.specs.Seen.{Copy, copies_on, copy_in, copy_of, newer, newest}
+use Rattle.rules_tcc.specs.State.{Link}
 use Rattle.spec_cache.specs.Look.{Views}
 use Rattle.spec_cache.specs.declared.frame.FrameView.{FrameView}
 use Rattle.net_core.proofs.Prefixes.{took-more}

@@ -6,18 +6,18 @@ use Rattle.std.proofs.lemmas.List.Concat.{flat_map-append}
 use Rattle.image_load.specs.Contents.{Contents, started}
 use Rattle.image_load.specs.Start.{Start}
 use Rattle.rv_code.specs.Machine.{first_ram, program}
-use Rattle.rv_serial.specs.Suiting.{local_at_start, world_at_start}
-use Rattle.tcc_maps.specs.Cache.{Cache, IsCache}
-use Rattle.tcc_maps.specs.Nodes.{Core, Dir, Event}
-use Rattle.tcc_maps.specs.Shape.{Shape, home}
-use Rattle.tcc_maps.specs.Words.{eight, line_of, those, word_at}
-use Rattle.tcc_rules.specs.Seen.{Copy, copies, copies_of, copies_on, copy_in, home_copy, newest, numbers, seen}
-use Rattle.tcc_rules.specs.State.{DirState, World}
-use Rattle.tcc_rules.specs.Step.{History, run}
-use Rattle.tcc_serial.proofs.Lemmas.{runs_carry}
-use Rattle.core_bank.specs.Bank.{cores_of}
-use Rattle.dir_bank.specs.Bank.{DirsData, dirs_of}
-use Rattle.in_flight.specs.Flights.{net_of}
+use Rattle.theorem_riscv.specs.Suiting.{local_at_start, world_at_start}
+use Rattle.rules_maps.specs.Cache.{Cache, IsCache}
+use Rattle.rules_maps.specs.Nodes.{Core, Dir, Event}
+use Rattle.rules_maps.specs.Shape.{Shape, home}
+use Rattle.rules_maps.specs.Words.{eight, line_of, those, word_at}
+use Rattle.rules_tcc.specs.Seen.{Copy, copies, copies_of, copies_on, copy_in, home_copy, newest, numbers, seen}
+use Rattle.rules_tcc.specs.State.{DirState, World}
+use Rattle.rules_tcc.specs.Step.{History, run}
+use Rattle.theorem_serial.proofs.Lemmas.{runs_carry}
+use Rattle.machine_cores.specs.Bank.{cores_of}
+use Rattle.machine_dirs.specs.Bank.{DirsData, dirs_of}
+use Rattle.machine_links.specs.Flights.{net_of}
 use Rattle.net_core.specs.Machine.{Machine, history_of, settings_of, start_of, world_of}
 use Rattle.net_core.specs.Whole.{IsWhole}
 use Rattle.net_core.proofs.Words.Newest.{newest-append}

@@ -2,17 +2,17 @@
 use Rattle.std.proofs.Common.{◌≡◌, ℕ, zero, suc, ◌<◌, List, [], ◌∷◌, ◌++◌, Option, Some, None, refl, ap, sym, ◌∙◌, subst}
 use Rattle.std.specs.Prelude.{map, slice_get, IsSomeAnd}
 use Rattle.std.proofs.lemmas.List.Elements.{All-head, All-tail}
-use Rattle.tcc_maps.specs.Nodes.{Node, Event, Exec, Evict, Deliver}
-use Rattle.tcc_maps.specs.Shape.{Shape}
+use Rattle.rules_maps.specs.Nodes.{Node, Event, Exec, Evict, Deliver}
+use Rattle.rules_maps.specs.Shape.{Shape}
 use Rattle.tcc_msg.specs.Plain.{event_of}
-use Rattle.tcc_program.specs.Program.{Program}
-use Rattle.tcc_rules.proofs.Lemmas.{node_eq-eq}
-use Rattle.tcc_rules.proofs.LocalStep.{begins}
-use Rattle.tcc_rules.specs.Local.{Mail, Side, at_node, local}
-use Rattle.tcc_rules.specs.Merged.{Each, StoresItsMessage, StoresMessageOf}
-use Rattle.node_logs.specs.Filled.{filled, handled, entry_of}
-use Rattle.node_logs.specs.declared.logs.Logged.{Logged}
-use Rattle.logged_node.specs.Node.{AreStored, CameBefore}
+use Rattle.rules_program.specs.Program.{Program}
+use Rattle.rules_tcc.proofs.Lemmas.{node_eq-eq}
+use Rattle.rules_tcc.proofs.LocalStep.{begins}
+use Rattle.rules_tcc.specs.Local.{Mail, Side, at_node, local}
+use Rattle.rules_tcc.specs.Merged.{Each, StoresItsMessage, StoresMessageOf}
+use Rattle.rules_apart.specs.Filled.{filled, handled, entry_of}
+use Rattle.rules_apart.specs.declared.logs.Logged.{Logged}
+use Rattle.apart_node.specs.Node.{AreStored, CameBefore}
 
 -- the one list begins with the other
 abbrev pub Begins : (part whole : List Mail) → Type 0

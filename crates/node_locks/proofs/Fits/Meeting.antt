@@ -3,9 +3,9 @@ use Rattle.std.proofs.Common.{◌≡◌, ℕ, ◌+◌, ◌<◌, List, ◌++◌, 
 use Rattle.std.specs.Prelude.{slice_get}
 use Rattle.std.proofs.lemmas.Option.{slice_get_within}
 use Rattle.image_load.specs.Contents.{Contents}
-use Rattle.node_logs.specs.Fitting.{node_count}
-use Rattle.logged_node.specs.Linked.{IsLinkedTo}
-use Rattle.logged_node.specs.Node.{NodeData}
+use Rattle.rules_apart.specs.Fitting.{node_count}
+use Rattle.apart_node.specs.Linked.{IsLinkedTo}
+use Rattle.apart_node.specs.Node.{NodeData}
 use Rattle.node_locks.specs.Hearing.{AllAreNodes, AllHaveMet, HaveAllMet}
 use Rattle.node_locks.specs.Wiring.{AreNodes}
 use Rattle.node_locks.proofs.Peers.{core-peers}

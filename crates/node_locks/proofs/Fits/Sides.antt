@@ -3,11 +3,11 @@ use Rattle.std.proofs.Common.{◌≡◌, ◌+◌, ◌-◌, ◌<◌, true, false,
 use Rattle.std.specs.Prelude.{nat_lt}
 use Rattle.std.proofs.lemmas.Bool.Decides.{nat_tests}
 use Rattle.tcc_base.specs.Settings.{Settings}
-use Rattle.tcc_maps.specs.Nodes.{Node, Core, Dir, Vendor}
-use Rattle.tcc_rules.specs.Local.{AtVendor, Side, side_start}
-use Rattle.tcc_rules.specs.Step.{is_node}
-use Rattle.node_logs.specs.Fitting.{place, node_count}
-use Rattle.logged_node.specs.Node.{NodeData, IsNode, IsRun}
+use Rattle.rules_maps.specs.Nodes.{Node, Core, Dir, Vendor}
+use Rattle.rules_tcc.specs.Local.{AtVendor, Side, side_start}
+use Rattle.rules_tcc.specs.Step.{is_node}
+use Rattle.rules_apart.specs.Fitting.{place, node_count}
+use Rattle.apart_node.specs.Node.{NodeData, IsNode, IsRun}
 use Rattle.node_locks.specs.Places.{nth_node}
 
 -- a node of the machine is the one at its place

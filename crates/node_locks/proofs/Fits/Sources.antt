@@ -4,14 +4,14 @@ use Rattle.std.proofs.Common.{subst, arith}
 use Rattle.std.specs.Prelude.{slice_get, nat_lt}
 use Rattle.std.proofs.lemmas.Bool.Decides.{nat_tests}
 use Rattle.image_load.specs.Contents.{Contents}
-use Rattle.tcc_maps.specs.Bridge.{node_of}
-use Rattle.tcc_maps.specs.Nodes.{Node, Core, Dir, Vendor}
-use Rattle.tcc_rules.specs.Local.{Side}
-use Rattle.tcc_rules.specs.Step.{is_node}
-use Rattle.node_logs.specs.Fitting.{place}
-use Rattle.logged_node.specs.Node.{NodeData, IsNode, IsRun, got_from, sent_to, here}
-use Rattle.logged_node.specs.Peers.{seat}
-use Rattle.logged_node.specs.Ports.{port_to}
+use Rattle.rules_maps.specs.Bridge.{node_of}
+use Rattle.rules_maps.specs.Nodes.{Node, Core, Dir, Vendor}
+use Rattle.rules_tcc.specs.Local.{Side}
+use Rattle.rules_tcc.specs.Step.{is_node}
+use Rattle.rules_apart.specs.Fitting.{place}
+use Rattle.apart_node.specs.Node.{NodeData, IsNode, IsRun, got_from, sent_to, here}
+use Rattle.apart_node.specs.Peers.{seat}
+use Rattle.apart_node.specs.Ports.{port_to}
 use Rattle.node_locks.specs.Hearing.{HasHeard, HaveAllMet}
 use Rattle.node_locks.proofs.Fits.Filling.{Begins}
 use Rattle.node_locks.proofs.Fits.Sides.{at-place, place-within, side_of, side-run}

@@ -5,16 +5,16 @@ use Rattle.std.proofs.lemmas.List.{length-map}
 use Rattle.std.proofs.lemmas.Option.{slice_get-map, get_or_from_slice_get}
 use Rattle.image_load.specs.Contents.{Contents, started}
 use Rattle.rv_code.specs.Machine.{program}
-use Rattle.rv_serial.specs.Suiting.{world_at_start}
-use Rattle.tcc_maps.specs.Nodes.{Node}
+use Rattle.theorem_riscv.specs.Suiting.{world_at_start}
+use Rattle.rules_maps.specs.Nodes.{Node}
 use Rattle.tcc_msg.specs.Plain.{event_of}
-use Rattle.tcc_rules.specs.Local.{Mail, local, side_start, state_at}
-use Rattle.tcc_rules.specs.Merged.{Each, StoresItsMessage, Rises}
-use Rattle.tcc_rules.specs.Step.{is_node}
-use Rattle.node_logs.specs.Filled.{filled, bare, handled, entry_of}
-use Rattle.node_logs.specs.Fitting.{FitLogs, log_of, place}
-use Rattle.node_logs.specs.declared.logs.Logged.{Logged}
-use Rattle.logged_node.specs.Node.{NodeData, got_from, here, run_alone}
+use Rattle.rules_tcc.specs.Local.{Mail, local, side_start, state_at}
+use Rattle.rules_tcc.specs.Merged.{Each, StoresItsMessage, Rises}
+use Rattle.rules_tcc.specs.Step.{is_node}
+use Rattle.rules_apart.specs.Filled.{filled, bare, handled, entry_of}
+use Rattle.rules_apart.specs.Fitting.{FitLogs, log_of, place}
+use Rattle.rules_apart.specs.declared.logs.Logged.{Logged}
+use Rattle.apart_node.specs.Node.{NodeData, got_from, here, run_alone}
 use Rattle.node_locks.specs.Hearing.{HaveAllMet}
 use Rattle.node_locks.specs.Wiring.{logs_of}
 use Rattle.node_locks.proofs.Fits.Filling.{all-filled, all-stored}

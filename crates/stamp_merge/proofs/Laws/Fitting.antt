@@ -4,18 +4,18 @@ use Rattle.std.specs.Prelude.{◌&&◌}
 use Rattle.std.specs.List.{AllByRecursion}
 use Rattle.image_load.specs.Start.{Start}
 use Rattle.rv_code.specs.Machine.{program}
-use Rattle.rv_serial.specs.Suiting.{world_at_start}
-use Rattle.tcc_program.specs.Program.{Program}
-use Rattle.tcc_maps.specs.Nodes.{Node, Event, node_eq}
-use Rattle.tcc_maps.specs.Shape.{Shape}
+use Rattle.theorem_riscv.specs.Suiting.{world_at_start}
+use Rattle.rules_program.specs.Program.{Program}
+use Rattle.rules_maps.specs.Nodes.{Node, Event, node_eq}
+use Rattle.rules_maps.specs.Shape.{Shape}
 use Rattle.tcc_msg.specs.Plain.{event_of}
-use Rattle.tcc_rules.specs.Local.{Entry, Mail, Side, side_start, at_node, act, is_gone, side_after, state_at, local, local_step, side_then}
-use Rattle.tcc_rules.specs.Merged.{Each, Rises}
-use Rattle.tcc_rules.specs.Step.{names_nodes}
-use Rattle.tcc_rules.proofs.Lemmas.{node_eq-eq}
-use Rattle.node_logs.specs.Filled.{handled, entry_of, filled, bare}
-use Rattle.node_logs.specs.Fitting.{log_of, FitLogs}
-use Rattle.node_logs.specs.declared.logs.Logged.{Logged}
+use Rattle.rules_tcc.specs.Local.{Entry, Mail, Side, side_start, at_node, act, is_gone, side_after, state_at, local, local_step, side_then}
+use Rattle.rules_tcc.specs.Merged.{Each, Rises}
+use Rattle.rules_tcc.specs.Step.{names_nodes}
+use Rattle.rules_tcc.proofs.Lemmas.{node_eq-eq}
+use Rattle.rules_apart.specs.Filled.{handled, entry_of, filled, bare}
+use Rattle.rules_apart.specs.Fitting.{log_of, FitLogs}
+use Rattle.rules_apart.specs.declared.logs.Logged.{Logged}
 use Rattle.stamp_merge.specs.Merging.{AreLogs}
 use Rattle.stamp_merge.proofs.Sorting.Laid.{node}
 use Rattle.stamp_merge.proofs.Sorting.Lists.{all-from_each}

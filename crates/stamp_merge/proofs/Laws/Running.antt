@@ -5,18 +5,18 @@ use Rattle.std.specs.Prelude.{IsSomeAnd, IfSome}
 use Rattle.std.specs.List.{AllByRecursion, filter}
 use Rattle.image_load.specs.Start.{Start}
 use Rattle.rv_code.specs.Machine.{program, first_ram}
-use Rattle.rv_serial.specs.Suiting.{world_at_start, local_at_start, AfterRun}
-use Rattle.tcc_maps.specs.Nodes.{Node, node_eq}
-use Rattle.tcc_maps.specs.Shape.{Shape}
+use Rattle.theorem_riscv.specs.Suiting.{world_at_start, local_at_start, AfterRun}
+use Rattle.rules_maps.specs.Nodes.{Node, node_eq}
+use Rattle.rules_maps.specs.Shape.{Shape}
 use Rattle.tcc_msg.specs.Plain.{event_of}
 use Rattle.tcc_msg.specs.declared.event.Event.{Event}
-use Rattle.tcc_rules.specs.Local.{Entry, Side, at_node, state_at}
-use Rattle.tcc_rules.specs.Merged.{Each, Sorted, IsMerged, is_at, entry_before, events}
-use Rattle.tcc_rules.specs.Step.{History, run, is_node}
-use Rattle.tcc_rules.proofs.Merged.{merged-runs}
-use Rattle.node_logs.specs.Filled.{handled, entry_of, filled, bare}
-use Rattle.node_logs.specs.Fitting.{log_of, FitLogs, IsMergeOf}
-use Rattle.node_logs.specs.declared.logs.Logged.{Logged}
+use Rattle.rules_tcc.specs.Local.{Entry, Side, at_node, state_at}
+use Rattle.rules_tcc.specs.Merged.{Each, Sorted, IsMerged, is_at, entry_before, events}
+use Rattle.rules_tcc.specs.Step.{History, run, is_node}
+use Rattle.rules_tcc.proofs.Merged.{merged-runs}
+use Rattle.rules_apart.specs.Filled.{handled, entry_of, filled, bare}
+use Rattle.rules_apart.specs.Fitting.{log_of, FitLogs, IsMergeOf}
+use Rattle.rules_apart.specs.declared.logs.Logged.{Logged}
 use Rattle.stamp_merge.proofs.Laws.Fitting.{entry-event, entry-stamp, are_logs}
 use Rattle.stamp_merge.proofs.Sorting.Laid.{node}
 use Rattle.stamp_merge.proofs.Sorting.Lists.{each-from_all, filter-map}

@@ -6,20 +6,20 @@ use Rattle.std.proofs.lemmas.Bool.Decides.{nat_tests}
 use Rattle.tcc_base.specs.Settings.{Settings}
 use Rattle.tcc_base.specs.declared.names.NodeId.{NodeId}
 use Rattle.tcc_base.specs.declared.names.NodeId.TheVariants as named
-use Rattle.tcc_maps.specs.Bridge.{node_of}
-use Rattle.tcc_maps.specs.Nodes.{Node, Core, Dir, Vendor, node_eq}
-use Rattle.tcc_maps.specs.Shape.{Shape}
+use Rattle.rules_maps.specs.Bridge.{node_of}
+use Rattle.rules_maps.specs.Nodes.{Node, Core, Dir, Vendor, node_eq}
+use Rattle.rules_maps.specs.Shape.{Shape}
 use Rattle.tcc_msg.specs.Plain.{event_of}
 use Rattle.tcc_msg.specs.declared.event.Event.{Event}
 use Rattle.tcc_msg.specs.declared.event.Event.TheVariants as code
-use Rattle.tcc_rules.specs.Local.{Entry, at_node}
-use Rattle.tcc_rules.specs.Merged.{Each, Sorted, is_at, entry_before}
-use Rattle.tcc_rules.specs.Step.{is_node}
-use Rattle.tcc_rules.specs.Useful.{node_before}
-use Rattle.tcc_rules.proofs.Lemmas.{node_eq-eq}
-use Rattle.node_logs.specs.Filled.{bare}
-use Rattle.node_logs.specs.Fitting.{IsMergeOf}
-use Rattle.node_logs.specs.declared.logs.Logged.{Logged}
+use Rattle.rules_tcc.specs.Local.{Entry, at_node}
+use Rattle.rules_tcc.specs.Merged.{Each, Sorted, is_at, entry_before}
+use Rattle.rules_tcc.specs.Step.{is_node}
+use Rattle.rules_tcc.specs.Useful.{node_before}
+use Rattle.rules_tcc.proofs.Lemmas.{node_eq-eq}
+use Rattle.rules_apart.specs.Filled.{bare}
+use Rattle.rules_apart.specs.Fitting.{IsMergeOf}
+use Rattle.rules_apart.specs.declared.logs.Logged.{Logged}
 
 same-node : (n : Node) → node_eq n n ≡ true
 same-node (Core c) = grind (arith, nat_tests)

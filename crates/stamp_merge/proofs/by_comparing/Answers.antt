@@ -2,7 +2,7 @@ use Rattle.std.proofs.Common.{rules, ◌≡◌, ◌∙◌, map, ap, subst, List}
 use Rattle.std.specs.List.{flat_map}
 use Rattle.std.proofs.lemmas.Result.{IfOk-weaker}
 use Rattle.std.proofs.lemmas.List.Sorted.{IsNonDecreasingBy-from_sort_by_key, answers_always}
-use Rattle.node_logs.specs.declared.logs.Logged.{Logged}
+use Rattle.rules_apart.specs.declared.logs.Logged.{Logged}
 use Rattle.stamp_merge.specs.Merging.{AreByStamp}
 use Rattle.stamp_merge.proofs.by_comparing.Goals as goal
 

@@ -11,19 +11,19 @@ use Rattle.rv_code.specs.Machine.{program}
 use Rattle.tcc_base.specs.Settings.{IsAllowed}
 use Rattle.tcc_base.specs.declared.access.Commit.{Commit}
 use Rattle.tcc_base.specs.declared.names.Tid.{Tid}
-use Rattle.tcc_maps.specs.Nodes.{Core, Vendor, Event, Exec, Evict, Deliver}
-use Rattle.tcc_maps.specs.Words.{those}
+use Rattle.rules_maps.specs.Nodes.{Core, Vendor, Event, Exec, Evict, Deliver}
+use Rattle.rules_maps.specs.Words.{those}
 use Rattle.tcc_msg.specs.Plain.{event_of}
 use Rattle.tcc_msg.specs.declared.event.Event.{Event as CodeEvent}
-use Rattle.tcc_rules.specs.Laws.{ActsOnOne, StepsActOnOne}
-use Rattle.tcc_rules.specs.Links.{sent_all}
-use Rattle.tcc_rules.specs.State.{Link, World}
-use Rattle.tcc_rules.specs.Step.{History, Stepped, and_noted, insert_commit, next_history, step}
-use Rattle.tcc_serial.specs.Owners.{IsRising}
-use Rattle.phase_rules.specs.Laws.{Grows, InPhases, asks, at_start, executes, noted_by, place_of, put_in}
-use Rattle.phase_rules.specs.Phased.{has_halted, phased_from, phased_next}
-use Rattle.phase_rules.specs.Phases.{phase_of, phases_of, x27}
-use Rattle.phase_rules.proofs.Lemmas.{halts_stay, requests_stay}
+use Rattle.rules_tcc.specs.Laws.{ActsOnOne, StepsActOnOne}
+use Rattle.rules_tcc.specs.Links.{sent_all}
+use Rattle.rules_tcc.specs.State.{Link, World}
+use Rattle.rules_tcc.specs.Step.{History, Stepped, and_noted, insert_commit, next_history, step}
+use Rattle.theorem_serial.specs.Owners.{IsRising}
+use Rattle.theorem_phases.specs.Laws.{Grows, InPhases, asks, at_start, executes, noted_by, place_of, put_in}
+use Rattle.theorem_phases.specs.Phased.{has_halted, phased_from, phased_next}
+use Rattle.theorem_phases.specs.Phases.{phase_of, phases_of, x27}
+use Rattle.theorem_phases.proofs.Lemmas.{halts_stay, requests_stay}
 use Rattle.net_core.specs.Answers.{tid_noted, tid_told}
 use Rattle.net_core.specs.Machine.{Machine, history_of, program_of, settings_of, start_of, world_of}
 use Rattle.net_core.specs.declared.taking.Step.{Step}

@@ -2,9 +2,9 @@
 use Rattle.std.proofs.Common.{◌≡◌, ℕ, zero, suc, ◌+◌, ◌-◌, ◌<◌, ◌≤◌, Bool, true, false, cond, List, [], ◌∷◌, length, take, Some, None}
 use Rattle.std.proofs.Common.{refl, ap, sym, subst, arith, inl, inr}
 use Rattle.std.specs.Prelude.{filter, not, slice_get}
-use Rattle.tcc_maps.specs.Nodes.{Event}
-use Rattle.tcc_rules.specs.Laws.{IsIn, IsBeforeAll, IsOrdered}
-use Rattle.tcc_rules.specs.Useful.{event_before}
+use Rattle.rules_maps.specs.Nodes.{Event}
+use Rattle.rules_tcc.specs.Laws.{IsIn, IsBeforeAll, IsOrdered}
+use Rattle.rules_tcc.specs.Useful.{event_before}
 use Rattle.tcc_phase.proofs.Order.Ordered.{before-in, before-once, not-itself, filter-before}
 
 -- how many of the first n are left out

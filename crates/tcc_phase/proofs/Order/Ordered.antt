@@ -2,9 +2,9 @@
 use Rattle.std.proofs.Common.{◌≡◌, Bool, true, false, cond, ◌&&◌, ◌||◌, List, [], ◌∷◌, refl, ap, sym, ◌∙◌, subst, arith, inl, inr, ⊎_elim}
 use Rattle.std.specs.Prelude.{nat_lt, filter}
 use Rattle.std.proofs.lemmas.Bool.Decides.{nat_tests}
-use Rattle.tcc_maps.specs.Nodes.{Node, Core, Dir, Vendor, Event, Exec, Evict, Deliver, node_eq}
-use Rattle.tcc_rules.specs.Laws.{IsIn, IsBeforeAll, IsOrdered}
-use Rattle.tcc_rules.specs.Useful.{event_before, node_before}
+use Rattle.rules_maps.specs.Nodes.{Node, Core, Dir, Vendor, Event, Exec, Evict, Deliver, node_eq}
+use Rattle.rules_tcc.specs.Laws.{IsIn, IsBeforeAll, IsOrdered}
+use Rattle.rules_tcc.specs.Useful.{event_before, node_before}
 
 -- ---- of two events one stands before the other, not both
 

@@ -3,15 +3,15 @@ use Rattle.std.proofs.Common.{◌≡◌, ℕ, zero, suc, ◌+◌, Bool, true, fa
 use Rattle.std.proofs.Common.{is_some, append-nil, refl, ap, sym, ◌∙◌, subst, arith, ⊎_elim}
 use Rattle.std.specs.Prelude.{IsSome, slice_index_or, slice_set, if◌then◌else◌}
 use Rattle.std.proofs.lemmas.Bool.Decides.{nat_tests}
-use Rattle.tcc_maps.specs.Nodes.{Node, Core, Dir, Vendor, Msg, Event, Exec, Evict, Deliver, node_eq}
-use Rattle.tcc_maps.specs.Shape.{Shape}
-use Rattle.tcc_program.specs.Program.{Program}
-use Rattle.tcc_rules.specs.Laws.{ActsOnOne, Grows}
-use Rattle.tcc_rules.specs.Links.{in_flight, sent_all, taking}
-use Rattle.tcc_rules.specs.State.{Link, World}
-use Rattle.tcc_rules.specs.Step.{Stepped, if_vendor_gives, happens, if_in_flight, names_nodes, step, vendor_gives}
-use Rattle.tcc_rules.specs.VendorDeliver.{Granted, vendor_deliver}
-use Rattle.phase_rules.specs.Laws.{asks}
+use Rattle.rules_maps.specs.Nodes.{Node, Core, Dir, Vendor, Msg, Event, Exec, Evict, Deliver, node_eq}
+use Rattle.rules_maps.specs.Shape.{Shape}
+use Rattle.rules_program.specs.Program.{Program}
+use Rattle.rules_tcc.specs.Laws.{ActsOnOne, Grows}
+use Rattle.rules_tcc.specs.Links.{in_flight, sent_all, taking}
+use Rattle.rules_tcc.specs.State.{Link, World}
+use Rattle.rules_tcc.specs.Step.{Stepped, if_vendor_gives, happens, if_in_flight, names_nodes, step, vendor_gives}
+use Rattle.rules_tcc.specs.VendorDeliver.{Granted, vendor_deliver}
+use Rattle.theorem_phases.specs.Laws.{asks}
 use Rattle.tcc_phase.specs.Requests.{IsAsked}
 
 -- ---- one link

@@ -3,11 +3,11 @@ use Rattle.std.proofs.Common.{◌≡◌, ℕ, zero, suc, ◌<◌, Bool, true, fa
 use Rattle.std.specs.Prelude.{◌↔◌, IsTrue, get_or, not, nat_lt}
 use Rattle.std.proofs.lemmas.Bool.Decides.{nat_tests}
 use Rattle.image_load.specs.Start.{Start}
-use Rattle.tcc_maps.specs.Words.{any_below}
-use Rattle.tcc_rules.specs.State.{Halted, Phase, World}
-use Rattle.tcc_rules.specs.Step.{History}
-use Rattle.phase_rules.specs.Phased.{goes_before, has_halted, is_late}
-use Rattle.phase_rules.specs.Phases.{phase_of}
+use Rattle.rules_maps.specs.Words.{any_below}
+use Rattle.rules_tcc.specs.State.{Halted, Phase, World}
+use Rattle.rules_tcc.specs.Step.{History}
+use Rattle.theorem_phases.specs.Phased.{goes_before, has_halted, is_late}
+use Rattle.theorem_phases.specs.Phases.{phase_of}
 use Rattle.tcc_phase.specs.Requests.{either_below, is_behind, is_below}
 
 -- the same of all numbers below n

@@ -7,15 +7,15 @@ use Rattle.std.proofs.lemmas.List.{map-append}
 use Rattle.image_load.specs.Start.{Start}
 use Rattle.rv_code.specs.Machine.{program}
 use Rattle.tcc_base.specs.Settings.{Settings}
-use Rattle.tcc_maps.specs.Nodes.{Core, Dir, Vendor, Msg, Event, Exec, Evict, Deliver}
-use Rattle.tcc_maps.specs.Words.{those}
-use Rattle.tcc_program.specs.Program.{Program}
-use Rattle.tcc_rules.specs.Laws.{IsBeforeAll, IsIn, IsOrdered, UsefulHolds, UsefulOrdered}
-use Rattle.tcc_rules.specs.Links.{in_flight}
-use Rattle.tcc_rules.specs.State.{World}
-use Rattle.tcc_rules.specs.Step.{History, Stepped, happens, if_in_flight, is_enabled, names_nodes, step}
-use Rattle.tcc_rules.specs.Useful.{event_before, is_useful, useful}
-use Rattle.phase_rules.specs.Phased.{is_held, is_late}
+use Rattle.rules_maps.specs.Nodes.{Core, Dir, Vendor, Msg, Event, Exec, Evict, Deliver}
+use Rattle.rules_maps.specs.Words.{those}
+use Rattle.rules_program.specs.Program.{Program}
+use Rattle.rules_tcc.specs.Laws.{IsBeforeAll, IsIn, IsOrdered, UsefulHolds, UsefulOrdered}
+use Rattle.rules_tcc.specs.Links.{in_flight}
+use Rattle.rules_tcc.specs.State.{World}
+use Rattle.rules_tcc.specs.Step.{History, Stepped, happens, if_in_flight, is_enabled, names_nodes, step}
+use Rattle.rules_tcc.specs.Useful.{event_before, is_useful, useful}
+use Rattle.theorem_phases.specs.Phased.{is_held, is_late}
 use Rattle.tcc_phase.specs.Requests.{IsAsked, is_behind, is_waiting, request}
 use Rattle.tcc_phase.proofs.Requests.Asked.{asked-at}
 use Rattle.tcc_phase.proofs.Order.Ordered.{filter-in, filter-ordered, in-filter, same-events}

@@ -9,15 +9,15 @@ use Rattle.std.proofs.lemmas.List.Edits.{length-insert}
 use Rattle.std.proofs.lemmas.List.Sorted.{searched}
 use Rattle.std.proofs.lemmas.Bool.Decides.{nat_tests}
 use Rattle.tcc_base.specs.Settings.{Settings}
-use Rattle.tcc_maps.specs.Nodes.{Core, Vendor, Msg, Event, Exec, Evict, Deliver}
-use Rattle.tcc_maps.specs.Words.{those}
-use Rattle.tcc_program.specs.Program.{Program}
-use Rattle.tcc_rules.specs.Links.{in_flight}
-use Rattle.tcc_rules.specs.State.{Link, World}
-use Rattle.tcc_rules.specs.Step.{if_vendor_gives, happens, if_in_flight, names_nodes, step}
-use Rattle.tcc_rules.specs.VendorDeliver.{Granted, vendor_deliver}
-use Rattle.phase_rules.specs.Laws.{asks, executes}
-use Rattle.phase_rules.specs.Phased.{has_halted}
+use Rattle.rules_maps.specs.Nodes.{Core, Vendor, Msg, Event, Exec, Evict, Deliver}
+use Rattle.rules_maps.specs.Words.{those}
+use Rattle.rules_program.specs.Program.{Program}
+use Rattle.rules_tcc.specs.Links.{in_flight}
+use Rattle.rules_tcc.specs.State.{Link, World}
+use Rattle.rules_tcc.specs.Step.{if_vendor_gives, happens, if_in_flight, names_nodes, step}
+use Rattle.rules_tcc.specs.VendorDeliver.{Granted, vendor_deliver}
+use Rattle.theorem_phases.specs.Laws.{asks, executes}
+use Rattle.theorem_phases.specs.Phased.{has_halted}
 use Rattle.tcc_phase.specs.Requests.{HeldBefore, Limits, is_above, is_behind, is_waiting, request}
 use Rattle.tcc_phase.proofs.Requests.Behind.{any-same}
 use Rattle.tcc_phase.proofs.Requests.Those.{absent, between, stands, those-alike, those-insert, those-most, those-rise}

@@ -5,7 +5,7 @@ use Rattle.std.specs.Prelude.{get_or, insert, nat_lt}
 use Rattle.std.proofs.lemmas.Bool.Decides.{nat_tests}
 use Rattle.std.proofs.lemmas.List.{get_or_append_left, get_or_push, length_push}
 use Rattle.std.proofs.lemmas.List.Edits.{insert-append_left, insert_end}
-use Rattle.tcc_maps.specs.Words.{those}
+use Rattle.rules_maps.specs.Words.{those}
 
 pub those-first : (p : ℕ → Bool) → [] ≡ those p 0
 unfolding those

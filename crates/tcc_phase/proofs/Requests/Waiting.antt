@@ -2,10 +2,10 @@
 use Rattle.std.proofs.Common.{◌≡◌, ℕ, ◌<◌, ◌&&◌, false, List, [], Option, Some, None, refl, ap, sym}
 use Rattle.std.specs.Prelude.{is_some}
 use Rattle.tcc_base.specs.Settings.{Settings}
-use Rattle.tcc_maps.specs.Words.{those}
-use Rattle.tcc_program.specs.Program.{Program}
-use Rattle.tcc_rules.specs.State.{World}
-use Rattle.tcc_rules.specs.Step.{step}
+use Rattle.rules_maps.specs.Words.{those}
+use Rattle.rules_program.specs.Program.{Program}
+use Rattle.rules_tcc.specs.State.{World}
+use Rattle.rules_tcc.specs.Step.{step}
 use Rattle.tcc_phase.specs.Requests.{Limits, is_above, is_waiting, request}
 use Rattle.tcc_phase.proofs.Requests.Those.{those-alike, those-none}
 

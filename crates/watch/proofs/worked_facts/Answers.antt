@@ -1,10 +1,10 @@
 -- The facts of each schedule are computed by the definitions alone.
-use Rattle.tcc_rules.proofs.Lemmas.{computed}
-use Rattle.tcc_program.specs.Registers.{zeroed, register, written}
-use Rattle.tcc_rules.specs.Rows.{padded, both_words, both_code}
-use Rattle.tcc_rules.specs.Needs.{need_at, needs_after, needs, entry}
-use Rattle.tcc_rules.specs.Told.{first_words}
-use Rattle.tcc_rules.specs.Small.{at_pc, address, call_need, small, image_entry}
+use Rattle.rules_tcc.proofs.Lemmas.{computed}
+use Rattle.rules_program.specs.Registers.{zeroed, register, written}
+use Rattle.rules_tcc.specs.Rows.{padded, both_words, both_code}
+use Rattle.rules_tcc.specs.Needs.{need_at, needs_after, needs, entry}
+use Rattle.rules_tcc.specs.Told.{first_words}
+use Rattle.rules_tcc.specs.Small.{at_pc, address, call_need, small, image_entry}
 use Rattle.watch.specs.Instructions.{last_loaded, last_stored, done, addr_of, executed, evicted}
 use Rattle.watch.specs.Messages.{taken, commit_of, words_read}
 use Rattle.watch.specs.Happened.{numbered, sent_to, sent, happened}

@@ -1,13 +1,13 @@
 -- The lines of each row are computed by the definitions alone.
-use Rattle.tcc_rules.proofs.Lemmas.{computed}
-use Rattle.tcc_program.specs.Registers.{zeroed, register, written}
-use Rattle.tcc_rules.specs.Rows.{padded, both_words, both_code}
-use Rattle.tcc_rules.specs.Small.{at_pc, address, call_need, small, image_entry}
+use Rattle.rules_tcc.proofs.Lemmas.{computed}
+use Rattle.rules_program.specs.Registers.{zeroed, register, written}
+use Rattle.rules_tcc.specs.Rows.{padded, both_words, both_code}
+use Rattle.rules_tcc.specs.Small.{at_pc, address, call_need, small, image_entry}
 use Rattle.watch.specs.Instructions.{last_loaded, last_stored, done, addr_of, executed, evicted}
 use Rattle.watch.specs.Messages.{taken, commit_of, words_read}
 use Rattle.watch.specs.Happened.{numbered, sent_to, sent, happened}
 use Rattle.std.specs.Fmt.{char_count, digits, padded_integral}
-use Rattle.tcc_maps.specs.Masks.{has}
+use Rattle.rules_maps.specs.Masks.{has}
 use Rattle.schedule_text.specs.Grammar.{config_line, node_word, event_line}
 use Rattle.report_text.specs.Lines.{end_line, events_line}
 use Rattle.watch_trace.specs.Words.{field, value_words, fill_words, home_words, committed_words, keeps_words}

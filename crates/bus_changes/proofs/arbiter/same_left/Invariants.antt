@@ -1,7 +1,7 @@
 -- The cores so far are in both or in none.
 use Rattle.std.proofs.Common.{◌≡◌}
-use Rattle.tcc_maps.specs.Masks.{has}
-use Rattle.tcc_maps.specs.Words.{all_below}
+use Rattle.rules_maps.specs.Masks.{has}
+use Rattle.rules_maps.specs.Words.{all_below}
 use Rattle.bus_changes.specs.Changes.{same_flag}
 use Rattle.bus_changes.proofs.arbiter.same_left.Given as goal
 

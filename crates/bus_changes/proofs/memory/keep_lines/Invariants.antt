@@ -1,6 +1,6 @@
 -- The words of the lines so far are taken.
 use Rattle.std.proofs.Common.{◌≡◌, ◌-◌, ◌≤◌, length, take}
-use Rattle.tcc_maps.specs.Words.{line_of}
+use Rattle.rules_maps.specs.Words.{line_of}
 use Rattle.bus_tcc.specs.Machine.{bus_world_of, word_in}
 use Rattle.bus_changes.specs.Memory.{AreTaken, is_among}
 use Rattle.bus_changes.proofs.memory.keep_lines.Given as goal

@@ -3,8 +3,8 @@ use Rattle.std.proofs.Common.{◌≡◌, ◌≤◌, ◌^◌, ◌/◌, ◌∙◌,
 use Rattle.std.proofs.lemmas.Bool.Decides.{nat_tests}
 use Rattle.std.proofs.lemmas.Result.{IfOk-weaker}
 use Rattle.tcc_base.specs.Settings.{Settings}
-use Rattle.tcc_maps.specs.Shape.{lines}
-use Rattle.tcc_rules.specs.Seen.{numbers}
+use Rattle.rules_maps.specs.Shape.{lines}
+use Rattle.rules_tcc.specs.Seen.{numbers}
 use Rattle.bus_tcc.specs.Machine.{bus_settings_of, bus_world_of}
 use Rattle.bus_tcc.specs.Packets.{packet_line_of}
 use Rattle.bus_changes.specs.Following.{may_change}

@@ -1,5 +1,5 @@
 -- The next line is counted.
-use Rattle.tcc_maps.specs.Nodes.{Core}
+use Rattle.rules_maps.specs.Nodes.{Core}
 use Rattle.bus_count.proofs.Folds.{lines-all, lines-more}
 use Rattle.bus_count.proofs.counts.count_taken.Goals as goal
 

@@ -1,6 +1,6 @@
 -- What is counted, with the lines that are left, is what all lines come to.
 use Rattle.std.proofs.Common.{◌≡◌, drop}
-use Rattle.tcc_maps.specs.Nodes.{Core}
+use Rattle.rules_maps.specs.Nodes.{Core}
 use Rattle.bus_count.proofs.Folds.{of_lines}
 use Rattle.bus_count.proofs.counts.count_taken.Given as goal
 

@@ -1,7 +1,7 @@
 -- The records of the cores so far are written.
 use Rattle.std.proofs.Common.{◌≡◌, ◌++◌, string_bytes}
 use Rattle.std.specs.List.{flat_map}
-use Rattle.tcc_rules.specs.Seen.{numbers}
+use Rattle.rules_tcc.specs.Seen.{numbers}
 use Rattle.bus_tcc.specs.Machine.{bus_settings_of, bus_world_of}
 use Rattle.watch_state.specs.Lines.{record_lines}
 use Rattle.bus_state.specs.Parts.{bus_core_records}

@@ -1,7 +1,7 @@
 -- The lines of the sets so far are written.
 use Rattle.std.proofs.Common.{◌≡◌, ◌++◌, string_bytes}
 use Rattle.std.specs.List.{flat_map}
-use Rattle.tcc_rules.specs.Seen.{numbers}
+use Rattle.rules_tcc.specs.Seen.{numbers}
 use Rattle.bus_tcc.specs.Machine.{bus_program_of, bus_settings_of, bus_world_of}
 use Rattle.bus_state.specs.Text.{set_evicts, enabled_lines}
 use Rattle.bus_state.proofs.events.push_core_evicts.Given as goal

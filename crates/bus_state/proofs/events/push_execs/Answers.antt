@@ -2,9 +2,9 @@
 use Rattle.std.proofs.Common.{◌≡◌, ◌++◌, ap, arith, sym, ◌∙◌, string_bytes}
 use Rattle.std.proofs.lemmas.List.Folds.{flat_map-map}
 use Rattle.tcc_base.specs.Settings.{Settings}
-use Rattle.tcc_rules.specs.Seen.{numbers}
-use Rattle.bus_rules.specs.State.{Exec}
-use Rattle.bus_rules.specs.Useful.{bus_execs}
+use Rattle.rules_tcc.specs.Seen.{numbers}
+use Rattle.rules_bus.specs.State.{Exec}
+use Rattle.rules_bus.specs.Useful.{bus_execs}
 use Rattle.bus_tcc.specs.Machine.{bus_settings_of}
 use Rattle.watch_state.proofs.Lemmas.{piece-more}
 use Rattle.bus_state.specs.Text.{enabled_lines}

@@ -1,8 +1,8 @@
 -- The lines of the ways so far are written.
 use Rattle.std.proofs.Common.{◌≡◌, ◌++◌, string_bytes}
 use Rattle.std.specs.List.{flat_map}
-use Rattle.tcc_rules.specs.Seen.{numbers}
-use Rattle.bus_rules.specs.State.{Evict}
+use Rattle.rules_tcc.specs.Seen.{numbers}
+use Rattle.rules_bus.specs.State.{Evict}
 use Rattle.bus_state.proofs.Told.{text_of_event}
 use Rattle.bus_state.proofs.events.push_set_evicts.Given as goal
 

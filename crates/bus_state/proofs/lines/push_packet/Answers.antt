@@ -1,6 +1,6 @@
 -- The words that the packet hasn't are dashes, whatever stands there.
 use Rattle.std.proofs.Common.{◌++◌, ◌∙◌, ap, codes, string_bytes, sym}
-use Rattle.tcc_maps.specs.Masks.{masked}
+use Rattle.rules_maps.specs.Masks.{masked}
 use Rattle.schedule_text.specs.Grammar.{newline}
 use Rattle.watch_trace.specs.Words.{field, value_words}
 use Rattle.bus_trace.proofs.Lemmas.{values_masked}

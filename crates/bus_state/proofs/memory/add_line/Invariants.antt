@@ -2,8 +2,8 @@
 use Rattle.std.proofs.Common.{◌≡◌, ◌++◌, map}
 use Rattle.std.specs.List.{flat_map}
 use Rattle.rv_code.specs.Machine.{first_ram}
-use Rattle.tcc_maps.specs.Words.{word_at}
-use Rattle.tcc_rules.specs.Seen.{numbers}
+use Rattle.rules_maps.specs.Words.{word_at}
+use Rattle.rules_tcc.specs.Seen.{numbers}
 use Rattle.bus_tcc.specs.Machine.{bus_settings_of, bus_start_of, bus_world_of}
 use Rattle.bus_state.specs.Parts.{memory_record}
 use Rattle.bus_state.specs.Plain.{bus_record_of}

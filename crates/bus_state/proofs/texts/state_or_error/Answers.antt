@@ -5,7 +5,7 @@ use Rattle.rv_code.specs.Machine.{first_ram}
 use Rattle.tcc_base.specs.Settings.{Settings}
 use Rattle.schedule_text.specs.Grammar.{newline}
 use Rattle.report_text.specs.Lines.{end_line, events_line}
-use Rattle.bus_rules.specs.Useful.{bus_evicts, bus_execs, bus_takes}
+use Rattle.rules_bus.specs.Useful.{bus_evicts, bus_execs, bus_takes}
 use Rattle.bus_tcc.specs.Machine.{bus_history_of, bus_program_of, bus_settings_of, bus_start_of, bus_world_of}
 use Rattle.bus_trace.specs.Lines.{bus_config_line}
 use Rattle.watch_state.specs.Lines.{record_lines}

@@ -4,7 +4,7 @@ use Rattle.std.specs.Prelude.{IfOk}
 use Rattle.image_load.specs.Contents.{started}
 use Rattle.rv_code.specs.Machine.{program}
 use Rattle.core_node.specs.View.{core_of}
-use Rattle.tcc_rules.specs.Attempt.{is_solo}
+use Rattle.rules_tcc.specs.Attempt.{is_solo}
 use Rattle.bus_tcc.proofs.Endings.{ends-waiting}
 use Rattle.bus_tcc.proofs.ending.end.Goals as goal
 

@@ -1,5 +1,5 @@
 -- A core that waits goes alone.
-use Rattle.bus_rules.specs.Exec.{gone_alone}
+use Rattle.rules_bus.specs.Exec.{gone_alone}
 use Rattle.bus_tcc.proofs.executing.go_alone_if_waiting.Goals as goal
 
 pub returns-then-alone-clause-does : goal.returns-then-alone-clause-does

@@ -1,8 +1,8 @@
 -- How a core halted.
 use Rattle.std.proofs.Common.{ap, ◌∙◌}
 use Rattle.rv_plain.specs.Attempts.{outcome_of}
-use Rattle.tcc_rules.specs.State.{Halted}
-use Rattle.tcc_serial.specs.Commits.{end_after}
+use Rattle.rules_tcc.specs.State.{Halted}
+use Rattle.theorem_serial.specs.Commits.{end_after}
 use Rattle.core_node.specs.View.{core_of}
 use Rattle.bus_tcc.proofs.readers.end_of.Goals as goal
 

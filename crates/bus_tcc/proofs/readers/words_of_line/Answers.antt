@@ -1,7 +1,7 @@
 -- The words of a line.
 use Rattle.std.proofs.Common.{◌≡◌, ◌+◌, ◌*◌, ◌∷◌, [], ap, ◌∙◌, arith}
-use Rattle.tcc_maps.specs.Words.{eight}
-use Rattle.bus_rules.specs.Exec.{line_words}
+use Rattle.rules_maps.specs.Words.{eight}
+use Rattle.rules_bus.specs.Exec.{line_words}
 use Rattle.bus_tcc.specs.Machine.{word_in}
 use Rattle.bus_tcc.proofs.readers.words_of_line.Goals as goal
 

@@ -1,8 +1,8 @@
 -- The ways so far are counted.
 use Rattle.std.proofs.Common.{◌≡◌, length}
 use Rattle.std.specs.Prelude.{filter, is_some}
-use Rattle.tcc_rules.specs.CoreEvict.{core_evict}
-use Rattle.tcc_rules.specs.Seen.{numbers}
+use Rattle.rules_tcc.specs.CoreEvict.{core_evict}
+use Rattle.rules_tcc.specs.Seen.{numbers}
 use Rattle.core_node.specs.View.{core_of}
 use Rattle.bus_tcc.proofs.uses.loose_count.Given as goal
 

@@ -1,6 +1,6 @@
 -- By the core's phase.
 use Rattle.std.proofs.Common.{not, ◌∙◌, ◌&&◌, ◌||◌}
-use Rattle.tcc_rules.specs.State.{Running, AwaitTid, DoomedTid, Probing, Ready, Solo, Halted}
+use Rattle.rules_tcc.specs.State.{Running, AwaitTid, DoomedTid, Probing, Ready, Solo, Halted}
 use Rattle.bus_tcc.proofs.Using.{at-overflowing, at-phase}
 use Rattle.bus_tcc.proofs.uses.may_exec.Goals as goal
 

@@ -2,7 +2,7 @@
 use Rattle.std.proofs.Common.{◌≡◌, ◌∙◌, ◌/◌, ap}
 use Rattle.image_load.specs.Contents.{started}
 use Rattle.report_text.specs.Text.{bus_text}
-use Rattle.bus_serial.specs.Given.{bus_committed}
+use Rattle.theorem_bus.specs.Given.{bus_committed}
 use Rattle.bus_tcc.specs.Machine.{bus_history_of, bus_settings_of, bus_start_of, bus_world_of}
 use Rattle.bus_tool.specs.Report.{bus_run_text}
 use Rattle.bus_tool.proofs.reports.bus_report.Goals as goal

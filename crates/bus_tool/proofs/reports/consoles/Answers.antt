@@ -1,6 +1,6 @@
 -- What one core more printed.
 use Rattle.std.proofs.Common.{◌∙◌}
-use Rattle.tcc_program.specs.Cores.{printed}
+use Rattle.rules_program.specs.Cores.{printed}
 use Rattle.bus_tool.proofs.Shown.{one-more}
 use Rattle.bus_tool.proofs.reports.consoles.Goals as goal
 

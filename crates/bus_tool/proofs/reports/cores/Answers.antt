@@ -5,9 +5,9 @@ use Rattle.std.proofs.lemmas.List.FromFn.{get_or-map-range_with_len, length-map-
 use Rattle.std.specs.Prelude.{get_or}
 use Rattle.image_load.specs.Contents.{started}
 use Rattle.report_text.specs.Plain.{shown_core}
-use Rattle.bus_serial.specs.Given.{bus_committed}
+use Rattle.theorem_bus.specs.Given.{bus_committed}
 use Rattle.bus_tcc.specs.Machine.{bus_history_of, bus_settings_of, bus_start_of}
-use Rattle.tcc_program.specs.Cores.{printed}
+use Rattle.rules_program.specs.Cores.{printed}
 use Rattle.bus_tool.proofs.Shown.{one-more, shown-at}
 use Rattle.bus_tool.proofs.reports.cores.Goals as goal
 

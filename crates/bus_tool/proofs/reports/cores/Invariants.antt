@@ -2,7 +2,7 @@
 use Rattle.std.proofs.Common.{◌≡◌, map}
 use Rattle.std.specs.List.{range_with_len}
 use Rattle.report_text.specs.Plain.{shown_core}
-use Rattle.bus_serial.specs.Given.{bus_committed}
+use Rattle.theorem_bus.specs.Given.{bus_committed}
 use Rattle.bus_tcc.specs.Machine.{bus_history_of, bus_start_of}
 use Rattle.bus_tool.proofs.reports.cores.Given as goal
 

@@ -2,7 +2,7 @@
 use Rattle.std.proofs.Common.{◌≡◌, ◌<◌, ◌∙◌, length, ap, sym, arith, if◌then◌else◌}
 use Rattle.std.specs.Option.{option_map}
 use Rattle.rand_pcg.specs.Pcg.{pcg32}
-use Rattle.bus_rules.specs.Useful.{bus_chosen}
+use Rattle.rules_bus.specs.Useful.{bus_chosen}
 use Rattle.bus_tcc.specs.Chosen.{bus_useful_of}
 use Rattle.bus_tcc.specs.Machine.{bus_event_of}
 use Rattle.bus_tool.proofs.Chosen.{answered-so, chosen-none, is-one}

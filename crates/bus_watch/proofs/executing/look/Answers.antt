@@ -1,7 +1,7 @@
 -- The need of the instruction is that of the rules' program, and so is the word that it reads.
 use Rattle.std.proofs.Common.{ap, ◌∙◌}
 use Rattle.core_node.specs.View.{core_of}
-use Rattle.bus_rules.specs.Exec.{word_read}
+use Rattle.rules_bus.specs.Exec.{word_read}
 use Rattle.bus_watch.specs.Happened.{comes_from_memory}
 use Rattle.bus_watch.proofs.executing.look.Goals as goal
 

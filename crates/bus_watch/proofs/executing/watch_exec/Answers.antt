@@ -3,7 +3,7 @@ use Rattle.std.proofs.Common.{◌<◌, ◌++◌, map, ap, sym, ◌∙◌, subst}
 use Rattle.image_load.specs.Contents.{started}
 use Rattle.rv_code.specs.Machine.{program}
 use Rattle.core_node.specs.View.{core_of}
-use Rattle.bus_rules.specs.State.{Exec}
+use Rattle.rules_bus.specs.State.{Exec}
 use Rattle.bus_tcc.specs.Machine.{bus_program_of, bus_settings_of, bus_world_of}
 use Rattle.bus_watch.specs.Happened.{executed, holder}
 use Rattle.bus_watch.specs.Plain.{bus_fact_of}

@@ -1,6 +1,6 @@
 use Rattle.std.proofs.Common.{◌≡◌, ◌<◌, ℕ, true, false, length, length-set, sym, ap, ◌∙◌, arith}
 use Rattle.tcc_base.specs.Put.{put}
-use Rattle.tcc_maps.specs.Masks.{has}
+use Rattle.rules_maps.specs.Masks.{has}
 use Rattle.commit_engine.specs.Engine.{after_of}
 use Rattle.commit_engine.proofs.Noting.{note_none, note_in, note_out, after_of-set}
 use Rattle.commit_engine.proofs.commits.note_commit.Goals.{then-contains, else-contains}

@@ -1,6 +1,6 @@
 use Rattle.std.proofs.Common.{◌≡◌, length}
-use Rattle.tcc_maps.specs.Masks.{has}
-use Rattle.tcc_rules.specs.Commit.{with_last_commit}
+use Rattle.rules_maps.specs.Masks.{has}
+use Rattle.rules_tcc.specs.Commit.{with_last_commit}
 use Rattle.commit_engine.specs.Engine.{after_of, first_with}
 use Rattle.commit_engine.proofs.commits.note_commit.Given as goal
 

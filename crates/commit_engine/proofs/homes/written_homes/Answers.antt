@@ -1,7 +1,7 @@
 use Rattle.std.proofs.Common.{◌≡◌, ℕ, Bool, true, false, sym, ap, ◌∙◌}
 use Rattle.tcc_base.specs.Put.{put}
 use Rattle.tcc_base.specs.Settings.{Settings}
-use Rattle.tcc_maps.specs.Cache.{writes_at}
+use Rattle.rules_maps.specs.Cache.{writes_at}
 use Rattle.spec_cache.specs.Held.{maps}
 use Rattle.commit_engine.proofs.FirstWith.{first_none, first_in, first_out}
 use Rattle.commit_engine.proofs.homes.written_homes.Goals.{then-writes_at, else-writes_at}

@@ -1,6 +1,6 @@
 use Rattle.std.proofs.Common.{◌≡◌}
-use Rattle.tcc_maps.specs.Cache.{writes_at}
-use Rattle.tcc_maps.specs.Masks.{has}
+use Rattle.rules_maps.specs.Cache.{writes_at}
+use Rattle.rules_maps.specs.Masks.{has}
 use Rattle.spec_cache.specs.Held.{maps}
 use Rattle.commit_engine.specs.Engine.{first_with}
 use Rattle.commit_engine.proofs.homes.written_homes.Given as goal

@@ -1,5 +1,5 @@
 use Rattle.std.proofs.Common.{◌≡◌, refl, sym, ◌∙◌, true, false}
-use Rattle.tcc_maps.specs.Masks.{has}
+use Rattle.rules_maps.specs.Masks.{has}
 use Rattle.tcc_msg.specs.Plain.{msg_of}
 use Rattle.commit_engine.specs.Sent.{to_members}
 use Rattle.commit_engine.proofs.Lemmas.{sent_none, sent_more, sent_same, member_in, member_out}

@@ -1,6 +1,6 @@
 use Rattle.std.proofs.Common.{arith, refl, ℕ, Bool, ◌≡◌, ap, ◌∙◌, not, nat_lt, ◌&&◌, ◌||◌}
-use Rattle.tcc_maps.specs.Cache.{reads_at, writes_at}
-use Rattle.tcc_maps.specs.Masks.{has}
+use Rattle.rules_maps.specs.Cache.{reads_at, writes_at}
+use Rattle.rules_maps.specs.Masks.{has}
 use Rattle.spec_cache.specs.Held.{maps}
 use Rattle.commit_engine.specs.Engine.{first_with}
 use Rattle.commit_engine.proofs.FirstWith.{grants_are}

@@ -1,6 +1,6 @@
 use Rattle.std.proofs.Common.{map, take}
-use Rattle.tcc_maps.specs.Nodes.{Dir}
-use Rattle.tcc_rules.specs.Sends.{to}
+use Rattle.rules_maps.specs.Nodes.{Dir}
+use Rattle.rules_tcc.specs.Sends.{to}
 use Rattle.spec_cache.specs.Home.{mark_of}
 use Rattle.commit_engine.specs.Sent.{Sent, mark_at}
 use Rattle.commit_engine.proofs.sending.send_marks.Given as goal

@@ -1,5 +1,5 @@
 use Rattle.std.proofs.Common.{◌≡◌, nat_lt, arith}
-use Rattle.tcc_maps.specs.Masks.{has}
+use Rattle.rules_maps.specs.Masks.{has}
 use Rattle.commit_engine.proofs.Lemmas.{sent_as, skips_all}
 use Rattle.commit_engine.proofs.sending.send_skips.Goals as goal
 

@@ -2,7 +2,7 @@ use Rattle.std.proofs.Common.{◌≡◌, ℕ, Bool, true, false, map, not, nat_e
 use Rattle.std.proofs.lemmas.Bool.{ne_eqb}
 use Rattle.std.proofs.lemmas.List.{length-map}
 use Rattle.tcc_base.specs.Put.{put}
-use Rattle.tcc_rules.specs.Commit.{solo_writes_at}
+use Rattle.rules_tcc.specs.Commit.{solo_writes_at}
 use Rattle.spec_cache.specs.Held.{maps}
 use Rattle.spec_cache.specs.Home.{mark_of}
 use Rattle.overflow_buf.specs.Kept.{spilled as words_of}

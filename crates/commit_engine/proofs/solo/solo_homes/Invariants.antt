@@ -1,6 +1,6 @@
 use Rattle.std.proofs.Common.{◌≡◌}
-use Rattle.tcc_maps.specs.Masks.{has}
-use Rattle.tcc_rules.specs.Commit.{solo_writes_at}
+use Rattle.rules_maps.specs.Masks.{has}
+use Rattle.rules_tcc.specs.Commit.{solo_writes_at}
 use Rattle.spec_cache.specs.Held.{maps}
 use Rattle.overflow_buf.specs.Kept.{spilled as words_of}
 use Rattle.commit_engine.specs.Engine.{first_with}

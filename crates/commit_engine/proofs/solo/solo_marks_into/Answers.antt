@@ -1,5 +1,5 @@
 use Rattle.std.proofs.Common.{ℕ, arith, refl}
-use Rattle.tcc_rules.specs.Commit.{written_mask}
+use Rattle.rules_tcc.specs.Commit.{written_mask}
 use Rattle.spec_cache.specs.Held.{maps}
 use Rattle.overflow_buf.specs.Kept.{spilled as words_of}
 use Rattle.commit_engine.proofs.WrittenLines.{marks-in, marks-out, marks-whole}

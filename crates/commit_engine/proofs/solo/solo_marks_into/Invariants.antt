@@ -1,6 +1,6 @@
 use Rattle.std.proofs.Common.{◌≡◌, map, nat_lt, take}
 use Rattle.std.specs.List.{filter}
-use Rattle.tcc_rules.specs.Commit.{written_mask}
+use Rattle.rules_tcc.specs.Commit.{written_mask}
 use Rattle.spec_cache.specs.Held.{maps}
 use Rattle.spec_cache.specs.Home.{mark_of}
 use Rattle.overflow_buf.specs.Kept.{spilled as words_of}

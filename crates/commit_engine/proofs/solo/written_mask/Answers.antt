@@ -1,5 +1,5 @@
 use Rattle.std.proofs.Common.{◌≡◌, sym}
-use Rattle.tcc_maps.specs.Cache.{modified_mask}
+use Rattle.rules_maps.specs.Cache.{modified_mask}
 use Rattle.spec_cache.specs.Held.{maps}
 use Rattle.overflow_buf.specs.Kept.{spilled as words_of}
 use Rattle.commit_engine.proofs.SoloMasks.{masks_join, mask_absent}

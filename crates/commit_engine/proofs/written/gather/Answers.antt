@@ -2,8 +2,8 @@ use Rattle.std.proofs.Common.{◌≡◌, ℕ, ◌++◌, ◌<◌, ◌%◌, List, 
 use Rattle.std.proofs.Math.Nat.{mod-lt}
 use Rattle.tcc_base.specs.declared.names.LineAddr.{LineAddr}
 use Rattle.tcc_base.specs.declared.names.Mask.{Mask}
-use Rattle.tcc_maps.specs.Cache.{marks_by_home}
-use Rattle.tcc_maps.specs.Shape.{Shape}
+use Rattle.rules_maps.specs.Cache.{marks_by_home}
+use Rattle.rules_maps.specs.Shape.{Shape}
 use Rattle.spec_cache.specs.Held.{maps}
 use Rattle.spec_cache.specs.Home.{mark_of}
 use Rattle.overflow_buf.specs.Kept.{spilled as words_of}

@@ -1,9 +1,9 @@
 use Rattle.std.proofs.Common.{ap, sym, ◌∙◌}
-use Rattle.tcc_maps.specs.Spilled.{holds}
-use Rattle.tcc_maps.specs.Words.{line_of}
-use Rattle.tcc_rules.specs.Execute.{stored_in_buffer, stored_in_frame}
-use Rattle.tcc_rules.specs.Attempt.{finished, new_word}
-use Rattle.tcc_rules.specs.State.{CoreState}
+use Rattle.rules_maps.specs.Spilled.{holds}
+use Rattle.rules_maps.specs.Words.{line_of}
+use Rattle.rules_tcc.specs.Execute.{stored_in_buffer, stored_in_frame}
+use Rattle.rules_tcc.specs.Attempt.{finished, new_word}
+use Rattle.rules_tcc.specs.State.{CoreState}
 use Rattle.rv_exec.specs.Needs.{need_of}
 use Rattle.rv_plain.specs.Attempts.{alone}
 use Rattle.core_node.specs.AtHand.{changed, lined}

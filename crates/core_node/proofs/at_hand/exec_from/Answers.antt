@@ -4,9 +4,9 @@ use Rattle.rv_code.specs.Machine.{program}
 use Rattle.rv_code.specs.Served.{IsServed}
 use Rattle.rv_exec.specs.Needs.{need_of}
 use Rattle.rv_plain.specs.Attempts.{alone}
-use Rattle.tcc_maps.specs.Words.{line_of}
-use Rattle.tcc_rules.specs.CoreExec.{core_exec}
-use Rattle.tcc_rules.specs.Execute.{execute_need}
+use Rattle.rules_maps.specs.Words.{line_of}
+use Rattle.rules_tcc.specs.CoreExec.{core_exec}
+use Rattle.rules_tcc.specs.Execute.{execute_need}
 use Rattle.core_node.specs.AtHand.{Leaves, line_at, lined, need_fills}
 use Rattle.core_node.specs.Answers.{IsBlocked}
 use Rattle.core_node.specs.View.{awaited_of, core_of}

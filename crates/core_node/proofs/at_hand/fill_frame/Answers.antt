@@ -1,7 +1,7 @@
 use Rattle.std.proofs.Common.{ap, sym, ◌∙◌}
-use Rattle.tcc_maps.specs.CacheChange.{filled}
-use Rattle.tcc_rules.specs.Execute.{place}
-use Rattle.tcc_rules.specs.State.{CoreState}
+use Rattle.rules_maps.specs.CacheChange.{filled}
+use Rattle.rules_tcc.specs.Execute.{place}
+use Rattle.rules_tcc.specs.State.{CoreState}
 use Rattle.spec_cache.specs.Held.{maps}
 use Rattle.core_node.specs.AtHand.{lined}
 use Rattle.core_node.specs.View.{core_of}

@@ -1,5 +1,5 @@
 use Rattle.std.proofs.Common.{refl}
-use Rattle.tcc_maps.specs.CacheChange.{filled}
+use Rattle.rules_maps.specs.CacheChange.{filled}
 use Rattle.core_node.proofs.Cores.{whole_cache}
 use Rattle.core_node.proofs.at_hand.fill_held.Goals as goal
 

@@ -1,6 +1,6 @@
 use Rattle.std.proofs.Common.{◌≡◌, ◌+◌, ◌*◌, ◌∷◌, [], ap, ◌∙◌, arith}
 use Rattle.std.specs.Prelude.{get_or}
-use Rattle.tcc_maps.specs.Words.{eight}
+use Rattle.rules_maps.specs.Words.{eight}
 use Rattle.core_node.proofs.at_hand.line_at.Goals as goal
 
 pub returns : goal.returns

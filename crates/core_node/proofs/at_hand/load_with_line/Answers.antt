@@ -1,8 +1,8 @@
 use Rattle.std.proofs.Common.{is_some, refl, ap, ◌∙◌}
-use Rattle.tcc_maps.specs.Words.{line_of}
-use Rattle.tcc_rules.specs.Attempt.{finished}
-use Rattle.tcc_rules.specs.Execute.{with_read_mark}
-use Rattle.tcc_rules.specs.State.{CoreState}
+use Rattle.rules_maps.specs.Words.{line_of}
+use Rattle.rules_tcc.specs.Attempt.{finished}
+use Rattle.rules_tcc.specs.Execute.{with_read_mark}
+use Rattle.rules_tcc.specs.State.{CoreState}
 use Rattle.rv_exec.specs.Needs.{need_of}
 use Rattle.rv_plain.specs.Attempts.{alone}
 use Rattle.core_node.specs.AtHand.{lined}

@@ -1,5 +1,5 @@
 use Rattle.std.proofs.Common.{refl}
-use Rattle.tcc_maps.specs.CacheChange.{cleaned}
+use Rattle.rules_maps.specs.CacheChange.{cleaned}
 use Rattle.core_node.proofs.Cores.{whole_cache}
 use Rattle.core_node.proofs.bus.clean.Goals as goal
 

@@ -1,5 +1,5 @@
 use Rattle.std.proofs.Common.{refl}
-use Rattle.tcc_maps.specs.CacheChange.{read_cleared}
+use Rattle.rules_maps.specs.CacheChange.{read_cleared}
 use Rattle.core_node.proofs.Cores.{whole_cache}
 use Rattle.core_node.proofs.bus.go_alone.Goals as goal
 

@@ -1,5 +1,5 @@
 use Rattle.std.proofs.Common.{ap, sym, ◌∙◌}
-use Rattle.tcc_maps.specs.Spilled.{holds}
+use Rattle.rules_maps.specs.Spilled.{holds}
 use Rattle.rv_exec.specs.Needs.{need_of}
 use Rattle.rv_plain.specs.Attempts.{alone}
 use Rattle.overflow_buf.specs.Kept.{spilled}

@@ -1,11 +1,11 @@
 use Rattle.std.proofs.Common.{◌≡◌, ap, sym, ◌∙◌}
-use Rattle.tcc_maps.specs.Cache.{Cache}
-use Rattle.tcc_maps.specs.Shape.{Shape}
-use Rattle.tcc_maps.specs.Words.{line_of}
-use Rattle.tcc_rules.specs.State.{CoreState}
-use Rattle.tcc_rules.specs.Attempt.{moves, finished}
-use Rattle.tcc_rules.specs.Execute.{stored_in_frame}
-use Rattle.tcc_rules.specs.Sends.{flush_line}
+use Rattle.rules_maps.specs.Cache.{Cache}
+use Rattle.rules_maps.specs.Shape.{Shape}
+use Rattle.rules_maps.specs.Words.{line_of}
+use Rattle.rules_tcc.specs.State.{CoreState}
+use Rattle.rules_tcc.specs.Attempt.{moves, finished}
+use Rattle.rules_tcc.specs.Execute.{stored_in_frame}
+use Rattle.rules_tcc.specs.Sends.{flush_line}
 use Rattle.rv_exec.specs.Needs.{need_of}
 use Rattle.rv_plain.specs.Attempts.{alone}
 use Rattle.spec_cache.specs.Held.{maps}

@@ -1,9 +1,9 @@
 use Rattle.std.proofs.Common.{false, is_some, ap, ◌∙◌}
-use Rattle.tcc_maps.specs.Cache.{Cache, free_way}
-use Rattle.tcc_maps.specs.Shape.{Shape, set_of}
-use Rattle.tcc_maps.specs.Words.{line_of}
-use Rattle.tcc_rules.specs.State.{CoreState}
-use Rattle.tcc_rules.specs.Execute.{stored_in_frame, place}
+use Rattle.rules_maps.specs.Cache.{Cache, free_way}
+use Rattle.rules_maps.specs.Shape.{Shape, set_of}
+use Rattle.rules_maps.specs.Words.{line_of}
+use Rattle.rules_tcc.specs.State.{CoreState}
+use Rattle.rules_tcc.specs.Execute.{stored_in_frame, place}
 use Rattle.rv_exec.specs.Needs.{need_of}
 use Rattle.rv_plain.specs.Attempts.{alone}
 use Rattle.spec_cache.specs.Held.{maps}

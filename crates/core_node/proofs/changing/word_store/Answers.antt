@@ -1,7 +1,7 @@
 use Rattle.std.proofs.Common.{ℕ, true, ap, sym, ◌∙◌}
-use Rattle.tcc_maps.specs.CacheLook.{look_line, look_store}
-use Rattle.tcc_maps.specs.Shape.{Shape}
-use Rattle.tcc_maps.specs.Spilled.{holds}
+use Rattle.rules_maps.specs.CacheLook.{look_line, look_store}
+use Rattle.rules_maps.specs.Shape.{Shape}
+use Rattle.rules_maps.specs.Spilled.{holds}
 use Rattle.rv_exec.specs.Needs.{need_of}
 use Rattle.rv_plain.specs.Attempts.{alone}
 use Rattle.spec_cache.specs.Held.{maps}

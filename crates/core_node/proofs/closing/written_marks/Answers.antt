@@ -1,5 +1,5 @@
 use Rattle.std.proofs.Common.{◌≡◌, map, IfOk, subst, sym, ◌∙◌}
-use Rattle.tcc_maps.specs.Spilled.{none_spilled}
+use Rattle.rules_maps.specs.Spilled.{none_spilled}
 use Rattle.spec_cache.specs.Held.{maps}
 use Rattle.spec_cache.specs.Home.{mark_of}
 use Rattle.overflow_buf.specs.Kept.{spilled}

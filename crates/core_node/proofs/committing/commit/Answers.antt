@@ -1,7 +1,7 @@
 use Rattle.std.proofs.Common.{◌≡◌, ◌<◌, Some, refl, ap, ◌∙◌}
 use Rattle.tcc_base.specs.declared.access.Commit.{Commit as Noted}
-use Rattle.tcc_maps.specs.Cache.{writes_at}
-use Rattle.tcc_rules.specs.Commit.{with_last_commit, commit, committed_core, noted}
+use Rattle.rules_maps.specs.Cache.{writes_at}
+use Rattle.rules_tcc.specs.Commit.{with_last_commit, commit, committed_core, noted}
 use Rattle.spec_cache.specs.Held.{maps}
 use Rattle.commit_engine.specs.Engine.{after_of}
 use Rattle.core_node.specs.View.{core_of, IsCore}

@@ -1,6 +1,6 @@
 use Rattle.std.proofs.Common.{◌≡◌, None, ap, sym, ◌∙◌}
-use Rattle.tcc_maps.specs.CacheChange.{words_dropped}
-use Rattle.tcc_maps.specs.Spilled.{Spilled, none_spilled}
+use Rattle.rules_maps.specs.CacheChange.{words_dropped}
+use Rattle.rules_maps.specs.Spilled.{Spilled, none_spilled}
 use Rattle.spec_cache.specs.Held.{maps}
 use Rattle.overflow_buf.specs.Kept.{spilled}
 use Rattle.core_node.proofs.Dropped.{dropped_line, dropped_none}

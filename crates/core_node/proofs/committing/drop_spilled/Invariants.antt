@@ -1,5 +1,5 @@
 use Rattle.std.proofs.Common.{◌≡◌, length}
-use Rattle.tcc_maps.specs.CacheChange.{words_dropped}
+use Rattle.rules_maps.specs.CacheChange.{words_dropped}
 use Rattle.spec_cache.specs.Held.{maps}
 use Rattle.overflow_buf.specs.Kept.{spilled}
 use Rattle.core_node.proofs.committing.drop_spilled.Given as goal

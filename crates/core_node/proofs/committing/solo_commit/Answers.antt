@@ -1,6 +1,6 @@
 use Rattle.std.proofs.Common.{◌≡◌, ◌<◌, Some, refl, ap, ◌∙◌}
 use Rattle.tcc_base.specs.declared.access.Commit.{Commit as Noted}
-use Rattle.tcc_rules.specs.Commit.{with_last_commit, solo_writes_at, solo_commit, committed_core, noted}
+use Rattle.rules_tcc.specs.Commit.{with_last_commit, solo_writes_at, solo_commit, committed_core, noted}
 use Rattle.spec_cache.specs.Held.{maps}
 use Rattle.overflow_buf.specs.Kept.{spilled}
 use Rattle.commit_engine.specs.Engine.{after_of}

@@ -1,7 +1,7 @@
 use Rattle.std.proofs.Common.{sym, subst}
 use Rattle.tcc_msg.specs.Plain.{msg_of}
 use Rattle.tcc_msg.specs.declared.msg.Msg.{Msg}
-use Rattle.tcc_rules.specs.CoreDeliver.{from_dir, probe_reply}
+use Rattle.rules_tcc.specs.CoreDeliver.{from_dir, probe_reply}
 use Rattle.core_node.specs.Answers.{Happened}
 use Rattle.core_node.specs.View.{core_of}
 use Rattle.core_node.proofs.Steps.{happened_did, happened_silently, fill_silent}

@@ -1,5 +1,5 @@
 use Rattle.std.proofs.Common.{refl}
-use Rattle.tcc_rules.specs.CoreEvict.{core_evict}
+use Rattle.rules_tcc.specs.CoreEvict.{core_evict}
 use Rattle.core_node.specs.View.{core_of}
 use Rattle.core_node.proofs.Emptied.{evict_enabled}
 use Rattle.core_node.proofs.evicting.can_evict.Goals as goal

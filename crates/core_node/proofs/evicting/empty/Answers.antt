@@ -1,6 +1,6 @@
 use Rattle.std.proofs.Common.{◌≡◌, Some, None}
-use Rattle.tcc_maps.specs.Bridge.{tagged_of}
-use Rattle.tcc_maps.specs.Cache.{dirty_copy}
+use Rattle.rules_maps.specs.Bridge.{tagged_of}
+use Rattle.rules_maps.specs.Cache.{dirty_copy}
 use Rattle.spec_cache.specs.Held.{maps}
 use Rattle.core_node.proofs.Emptied.{no_back}
 use Rattle.core_node.proofs.Handed.{written_back_none, written_back_some}

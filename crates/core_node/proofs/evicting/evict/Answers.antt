@@ -1,6 +1,6 @@
 use Rattle.std.proofs.Common.{◌≡◌, true, is_some, ap, ◌∙◌, sym, subst, Option}
-use Rattle.tcc_rules.specs.Attempt.{Out}
-use Rattle.tcc_rules.specs.CoreEvict.{core_evict}
+use Rattle.rules_tcc.specs.Attempt.{Out}
+use Rattle.rules_tcc.specs.CoreEvict.{core_evict}
 use Rattle.core_node.specs.declared.state.Core.{Core}
 use Rattle.core_node.specs.Answers.{Happened}
 use Rattle.core_node.specs.View.{core_of}

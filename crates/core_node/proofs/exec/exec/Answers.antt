@@ -1,5 +1,5 @@
 use Rattle.std.proofs.Common.{ℕ, ◌<◌, ◌-◌, ◌^◌, ap, subst, sym}
-use Rattle.tcc_rules.specs.State.{CoreState}
+use Rattle.rules_tcc.specs.State.{CoreState}
 use Rattle.core_node.specs.View.{core_of}
 use Rattle.core_node.proofs.AtOnce.{quick_happened}
 use Rattle.core_node.proofs.exec.exec.Goals as goal

@@ -1,7 +1,7 @@
 use Rattle.std.proofs.Common.{◌≡◌, true, false, not, refl, ◌∙◌, sym}
 use Rattle.tcc_base.specs.Put.{put}
-use Rattle.tcc_maps.specs.Masks.{has}
-use Rattle.tcc_maps.specs.Words.{any_below}
+use Rattle.rules_maps.specs.Masks.{has}
+use Rattle.rules_maps.specs.Words.{any_below}
 use Rattle.spec_cache.specs.Held.{maps}
 use Rattle.core_node.specs.View.{core_of}
 use Rattle.core_node.proofs.Steps.{marks_sent}

@@ -1,6 +1,6 @@
 use Rattle.std.proofs.Common.{◌≡◌, refl}
-use Rattle.tcc_maps.specs.Masks.{has}
-use Rattle.tcc_rules.specs.CoreDeliver.{is_probed}
+use Rattle.rules_maps.specs.Masks.{has}
+use Rattle.rules_tcc.specs.CoreDeliver.{is_probed}
 use Rattle.spec_cache.specs.Held.{maps}
 use Rattle.core_node.specs.View.{core_of}
 use Rattle.core_node.proofs.Steps.{probed_is}

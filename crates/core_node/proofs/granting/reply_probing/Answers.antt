@@ -1,5 +1,5 @@
 use Rattle.std.proofs.Common.{◌≡◌, ◌&&◌, nat_eq, false, refl, ◌∙◌, sym}
-use Rattle.tcc_maps.specs.Masks.{has}
+use Rattle.rules_maps.specs.Masks.{has}
 use Rattle.core_node.specs.View.{core_of}
 use Rattle.core_node.proofs.Steps.{did_silently}
 use Rattle.core_node.proofs.granting.reply_probing.Goals as goal

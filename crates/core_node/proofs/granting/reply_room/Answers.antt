@@ -1,6 +1,6 @@
 use Rattle.std.proofs.Common.{ap, ◌∙◌, Option}
 use Rattle.tcc_base.specs.declared.names.Tid.{Tid}
-use Rattle.tcc_rules.specs.CoreDeliver.{reply_in_phase}
+use Rattle.rules_tcc.specs.CoreDeliver.{reply_in_phase}
 use Rattle.commit_engine.specs.Engine.{phase_of}
 use Rattle.commit_engine.specs.declared.phase.Phase.TheVariants as code
 use Rattle.core_node.specs.View.{core_of}

@@ -1,9 +1,9 @@
 use Rattle.std.proofs.Common.{ℕ, Option, is_some, ap, sym, ◌∙◌}
-use Rattle.tcc_maps.specs.Cache.{Cache}
-use Rattle.tcc_maps.specs.Shape.{Shape}
-use Rattle.tcc_maps.specs.CacheLook.{look_load}
-use Rattle.tcc_rules.specs.State.{CoreState}
-use Rattle.tcc_rules.specs.Execute.{with_read_mark}
+use Rattle.rules_maps.specs.Cache.{Cache}
+use Rattle.rules_maps.specs.Shape.{Shape}
+use Rattle.rules_maps.specs.CacheLook.{look_load}
+use Rattle.rules_tcc.specs.State.{CoreState}
+use Rattle.rules_tcc.specs.Execute.{with_read_mark}
 use Rattle.rv_exec.specs.Needs.{need_of}
 use Rattle.rv_plain.specs.Attempts.{alone}
 use Rattle.core_node.specs.View.{core_of}

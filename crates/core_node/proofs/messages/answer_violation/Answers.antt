@@ -1,5 +1,5 @@
 use Rattle.std.proofs.Common.{refl}
-use Rattle.tcc_rules.specs.CoreDeliver.{if_violated}
+use Rattle.rules_tcc.specs.CoreDeliver.{if_violated}
 use Rattle.core_node.proofs.Steps.{did_silently}
 use Rattle.core_node.proofs.messages.answer_violation.Goals as goal
 

@@ -1,7 +1,7 @@
 use Rattle.std.proofs.Common.{refl}
-use Rattle.tcc_maps.specs.CacheChange.{cleaned}
+use Rattle.rules_maps.specs.CacheChange.{cleaned}
 use Rattle.spec_cache.specs.Held.{maps}
-use Rattle.tcc_rules.specs.CoreDeliver.{data_request}
+use Rattle.rules_tcc.specs.CoreDeliver.{data_request}
 use Rattle.core_node.specs.View.{core_of}
 use Rattle.core_node.proofs.Cores.{whole_cache}
 use Rattle.core_node.proofs.Handed.{flushed_none, flushed_some}

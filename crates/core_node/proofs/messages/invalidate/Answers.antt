@@ -1,8 +1,8 @@
 use Rattle.std.proofs.Common.{◌≡◌, ◌&&◌, refl, ap, ◌∙◌}
 use Rattle.tcc_base.specs.Settings.{Settings}
-use Rattle.tcc_maps.specs.Shape.{home}
-use Rattle.tcc_maps.specs.CacheLook.{reads_masked}
-use Rattle.tcc_rules.specs.CoreDeliver.{invalidate, is_violated, may_be_above}
+use Rattle.rules_maps.specs.Shape.{home}
+use Rattle.rules_maps.specs.CacheLook.{reads_masked}
+use Rattle.rules_tcc.specs.CoreDeliver.{invalidate, is_violated, may_be_above}
 use Rattle.spec_cache.specs.Held.{maps}
 use Rattle.commit_engine.specs.Engine.{phase_of}
 use Rattle.core_node.specs.View.{core_of}

@@ -1,5 +1,5 @@
 use Rattle.std.proofs.Common.{refl}
-use Rattle.tcc_rules.specs.Execute.{request_line}
+use Rattle.rules_tcc.specs.Execute.{request_line}
 use Rattle.core_node.specs.View.{core_of}
 use Rattle.core_node.proofs.Asked.{sent_asked}
 use Rattle.core_node.proofs.missing.ask.Goals as goal

@@ -1,7 +1,7 @@
 use Rattle.std.proofs.Common.{refl}
 use Rattle.tcc_base.specs.declared.names.NodeId.TheVariants.{Vendor}
 use Rattle.tcc_msg.specs.declared.msg.Msg.TheVariants.{TidReq}
-use Rattle.tcc_rules.specs.Execute.{overflow}
+use Rattle.rules_tcc.specs.Execute.{overflow}
 use Rattle.commit_engine.proofs.Lemmas.{sent_one}
 use Rattle.core_node.specs.View.{core_of}
 use Rattle.core_node.proofs.missing.overflow.Goals as goal

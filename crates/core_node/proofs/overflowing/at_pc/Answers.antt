@@ -1,6 +1,6 @@
 use Rattle.std.proofs.Common.{ap, ◌∙◌, sym}
 use Rattle.image_load.specs.Contents.{started}
-use Rattle.tcc_program.specs.Program.{Need}
+use Rattle.rules_program.specs.Program.{Need}
 use Rattle.core_node.specs.AtHand.{need_overflows}
 use Rattle.core_node.specs.View.{core_of}
 use Rattle.core_node.proofs.overflowing.at_pc.Goals as goal

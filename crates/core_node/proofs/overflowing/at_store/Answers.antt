@@ -1,6 +1,6 @@
 use Rattle.std.proofs.Common.{true, refl, ap, ◌∙◌, sym}
 use Rattle.tcc_base.specs.Settings.{Settings}
-use Rattle.tcc_maps.specs.CacheLook.{look_store}
+use Rattle.rules_maps.specs.CacheLook.{look_store}
 use Rattle.spec_cache.specs.Held.{maps}
 use Rattle.spec_cache.specs.Look.{look_of}
 use Rattle.core_node.specs.AtHand.{store_overflows}

@@ -1,6 +1,6 @@
 use Rattle.std.proofs.Common.{refl, ap, ◌∙◌}
 use Rattle.tcc_base.specs.Settings.{Settings}
-use Rattle.tcc_maps.specs.CacheLook.{look_load}
+use Rattle.rules_maps.specs.CacheLook.{look_load}
 use Rattle.spec_cache.specs.Held.{maps}
 use Rattle.spec_cache.specs.Look.{look_of}
 use Rattle.core_node.specs.AtHand.{word_overflows}

@@ -3,7 +3,7 @@ use Rattle.image_load.specs.Contents.{started}
 use Rattle.rv_code.specs.Machine.{program}
 use Rattle.commit_engine.specs.Engine.{phase_of}
 use Rattle.commit_engine.specs.declared.phase.Phase.{Phase}
-use Rattle.tcc_rules.specs.CoreExec.{core_exec, exec_in_phase, unless_awaiting}
+use Rattle.rules_tcc.specs.CoreExec.{core_exec, exec_in_phase, unless_awaiting}
 use Rattle.core_node.specs.AtHand.{goes_alone}
 use Rattle.core_node.specs.View.{awaited_of, core_of}
 use Rattle.core_node.specs.declared.state.Awaited.{Awaited}

@@ -1,5 +1,5 @@
 use Rattle.std.proofs.Common.{◌≡◌, refl}
-use Rattle.tcc_program.specs.Program.{Nothing}
+use Rattle.rules_program.specs.Program.{Nothing}
 use Rattle.image_load.specs.Contents.{started}
 use Rattle.rv_exec.specs.Effects.{planned}
 use Rattle.rv_exec.specs.Needs.{need_of}

@@ -1,5 +1,5 @@
 use Rattle.std.proofs.Common.{ap}
-use Rattle.tcc_rules.specs.State.{CoreState, DoomedTid}
+use Rattle.rules_tcc.specs.State.{CoreState, DoomedTid}
 use Rattle.core_node.specs.View.{core_of}
 use Rattle.core_node.proofs.rolling.doom.Goals as goal
 

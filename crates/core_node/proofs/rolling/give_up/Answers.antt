@@ -1,5 +1,5 @@
 use Rattle.std.proofs.Common.{refl, ap}
-use Rattle.tcc_rules.specs.CoreDeliver.{violated_in_phase}
+use Rattle.rules_tcc.specs.CoreDeliver.{violated_in_phase}
 use Rattle.commit_engine.specs.Engine.{phase_of}
 use Rattle.commit_engine.specs.declared.phase.Phase.{Phase}
 use Rattle.core_node.specs.View.{core_of}

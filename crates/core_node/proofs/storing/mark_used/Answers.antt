@@ -1,7 +1,7 @@
 use Rattle.std.proofs.Common.{◌≡◌, Bool, refl, ap, ◌∙◌}
-use Rattle.tcc_maps.specs.Cache.{Cache}
-use Rattle.tcc_rules.specs.Execute.{with_read_mark}
-use Rattle.tcc_rules.specs.Attempt.{is_running}
+use Rattle.rules_maps.specs.Cache.{Cache}
+use Rattle.rules_tcc.specs.Execute.{with_read_mark}
+use Rattle.rules_tcc.specs.Attempt.{is_running}
 use Rattle.spec_cache.specs.Held.{maps}
 use Rattle.spec_cache.specs.Look.{loaded}
 use Rattle.commit_engine.specs.Engine.{phase_of}

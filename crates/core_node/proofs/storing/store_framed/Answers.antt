@@ -1,13 +1,13 @@
 use Rattle.std.proofs.Common.{refl, ap, ◌∙◌}
-use Rattle.tcc_maps.specs.CacheChange.{stored}
-use Rattle.tcc_maps.specs.Shape.{home}
-use Rattle.tcc_rules.specs.Execute.{stored_in_frame}
+use Rattle.rules_maps.specs.CacheChange.{stored}
+use Rattle.rules_maps.specs.Shape.{home}
+use Rattle.rules_tcc.specs.Execute.{stored_in_frame}
 use Rattle.spec_cache.specs.Held.{maps}
 use Rattle.core_node.specs.View.{core_of}
 use Rattle.core_node.proofs.Cores.{whole_cache}
 use Rattle.core_node.proofs.Handed.{flushed_none, flushed_some}
 use Rattle.core_node.proofs.storing.store_framed.Goals as goal
-use Rattle.tcc_maps.specs.Words.{line_of}
+use Rattle.rules_maps.specs.Words.{line_of}
 use Rattle.std.specs.Prelude.{ℕ}
 
 pub returns-in-Some-clause-does : goal.returns-in-Some-clause-does

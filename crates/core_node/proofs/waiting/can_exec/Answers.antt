@@ -1,7 +1,7 @@
 use Rattle.std.proofs.Common.{is_some, ap, ◌∙◌, sym}
 use Rattle.image_load.specs.Contents.{started}
 use Rattle.rv_code.specs.Machine.{program}
-use Rattle.tcc_rules.specs.CoreExec.{core_exec, exec_in_phase}
+use Rattle.rules_tcc.specs.CoreExec.{core_exec, exec_in_phase}
 use Rattle.commit_engine.specs.Engine.{phase_of}
 use Rattle.commit_engine.specs.declared.phase.Phase.{Phase}
 use Rattle.core_node.specs.View.{core_of}

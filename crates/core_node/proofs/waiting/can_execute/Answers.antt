@@ -1,7 +1,7 @@
 use Rattle.std.proofs.Common.{not, is_some, ap, ◌∙◌, sym, Option, ℕ}
 use Rattle.image_load.specs.Contents.{started}
 use Rattle.rv_code.specs.Machine.{program}
-use Rattle.tcc_rules.specs.CoreExec.{unless_awaiting}
+use Rattle.rules_tcc.specs.CoreExec.{unless_awaiting}
 use Rattle.core_node.specs.View.{awaited_of, core_of}
 use Rattle.core_node.specs.declared.state.Awaited.{Awaited}
 use Rattle.core_node.proofs.Enabled.{execute_or_room}

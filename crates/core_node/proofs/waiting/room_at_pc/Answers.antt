@@ -1,7 +1,7 @@
 use Rattle.std.proofs.Common.{ap, ◌∙◌, sym}
 use Rattle.image_load.specs.Contents.{started}
-use Rattle.tcc_program.specs.Program.{Need}
-use Rattle.tcc_rules.specs.Useful.{room_for_need}
+use Rattle.rules_program.specs.Program.{Need}
+use Rattle.rules_tcc.specs.Useful.{room_for_need}
 use Rattle.core_node.specs.View.{core_of}
 use Rattle.core_node.proofs.waiting.room_at_pc.Goals as goal
 

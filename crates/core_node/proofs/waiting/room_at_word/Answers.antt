@@ -1,7 +1,7 @@
 use Rattle.std.proofs.Common.{refl, ap, ◌∙◌}
 use Rattle.tcc_base.specs.Settings.{Settings}
-use Rattle.tcc_maps.specs.CacheLook.{look_load}
-use Rattle.tcc_rules.specs.Useful.{room_for_word}
+use Rattle.rules_maps.specs.CacheLook.{look_load}
+use Rattle.rules_tcc.specs.Useful.{room_for_word}
 use Rattle.spec_cache.specs.Held.{maps}
 use Rattle.spec_cache.specs.Look.{look_of}
 use Rattle.core_node.specs.View.{core_of}

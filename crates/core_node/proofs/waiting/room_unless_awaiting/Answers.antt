@@ -1,7 +1,7 @@
 use Rattle.std.proofs.Common.{ap, ◌∙◌, sym, Option}
 use Rattle.image_load.specs.Contents.{started}
 use Rattle.rv_code.specs.Machine.{program}
-use Rattle.tcc_rules.specs.Useful.{room_unless_awaiting}
+use Rattle.rules_tcc.specs.Useful.{room_unless_awaiting}
 use Rattle.core_node.specs.View.{awaited_of, core_of}
 use Rattle.core_node.specs.declared.state.Awaited.{Awaited}
 use Rattle.core_node.proofs.waiting.room_unless_awaiting.Goals as goal

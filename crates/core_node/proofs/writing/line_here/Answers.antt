@@ -1,5 +1,5 @@
 use Rattle.std.proofs.Common.{◌≡◌, ◌+◌, ◌*◌, ◌∷◌, [], ap, ◌∙◌, arith}
-use Rattle.tcc_maps.specs.Words.{eight}
+use Rattle.rules_maps.specs.Words.{eight}
 use Rattle.core_node.specs.AtHand.{line_told, word_told}
 use Rattle.core_node.specs.View.{core_of}
 use Rattle.core_node.proofs.writing.line_here.Goals as goal

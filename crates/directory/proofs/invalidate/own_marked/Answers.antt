@@ -1,7 +1,7 @@
 use Rattle.std.proofs.Common.{◌≡◌, ◌≤◌, length, slice_get, take, refl, ap, sym, ◌∙◌, arith}
-use Rattle.tcc_maps.specs.Words.{those}
-use Rattle.tcc_maps.specs.Shape.{lines}
-use Rattle.tcc_maps.specs.Lines.{has_mark}
+use Rattle.rules_maps.specs.Words.{those}
+use Rattle.rules_maps.specs.Shape.{lines}
+use Rattle.rules_maps.specs.Lines.{has_mark}
 use Rattle.dir_lines.specs.Kept.{kept}
 use Rattle.dir_lines.specs.Owned.{owned_line}
 use Rattle.dir_lines.proofs.Lemmas.{kept-at_home, listed-at_home, listed-count}

@@ -1,7 +1,7 @@
 -- Each line of the home in turn; the lines between two of them are at home elsewhere.
 use Rattle.std.proofs.Common.{◌≡◌, ℕ, ◌+◌, ◌%◌, ◌<◌, ◌≤◌, ap, refl, sym, subst, ◌∙◌, arith}
 use Rattle.std.proofs.Math.Nat.{add-mod_right, mod-eq_of_lt}
-use Rattle.tcc_maps.specs.Shape.{lines}
+use Rattle.rules_maps.specs.Shape.{lines}
 use Rattle.dir_lines.specs.Home.{Home, IsAtHome}
 use Rattle.image_load.specs.Contents.{started}
 use Rattle.directory.proofs.LoadedWords.{NoneBetween, loaded-all, loaded-here, loaded-past, none-after, none-before}

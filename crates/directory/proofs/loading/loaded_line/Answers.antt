@@ -1,5 +1,5 @@
 use Rattle.std.proofs.Common.{◌≡◌, ◌+◌, ◌*◌, ◌^◌, ◌<◌, [], ◌∷◌, ap, ◌∙◌, arith}
-use Rattle.tcc_maps.specs.Words.{eight}
+use Rattle.rules_maps.specs.Words.{eight}
 use Rattle.image_load.specs.Contents.{started}
 use Rattle.directory.proofs.LoadedWords.{all-eight}
 use Rattle.directory.proofs.loading.loaded_line.Goals as goal

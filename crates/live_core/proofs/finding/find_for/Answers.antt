@@ -1,7 +1,7 @@
 -- The first event that will do is found, and for a core that goes on there is one.
 use Rattle.std.proofs.Common.{◌≤◌, ◌∙◌, length, ap, sym, refl, arith}
 use Rattle.std.specs.Prelude.{slice_get}
-use Rattle.tcc_live.specs.Progress.{spares}
+use Rattle.theorem_live.specs.Progress.{spares}
 use Rattle.tcc_msg.specs.Plain.{event_of}
 use Rattle.net_core.specs.Machine.{program_of, settings_of, world_of}
 use Rattle.live_core.specs.Chosen.{useful_events}

@@ -1,5 +1,5 @@
 -- None of the events so far will do.
-use Rattle.tcc_live.specs.Progress.{spares}
+use Rattle.theorem_live.specs.Progress.{spares}
 use Rattle.live_core.specs.Chosen.{useful_events}
 use Rattle.live_core.proofs.Filtered.{NonePass}
 use Rattle.live_core.proofs.finding.find_for.Given as goal

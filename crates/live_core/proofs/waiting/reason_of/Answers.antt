@@ -4,11 +4,11 @@ use Rattle.tcc_base.specs.declared.names.DirId.{DirId}
 use Rattle.tcc_base.specs.declared.names.LineAddr.{LineAddr}
 use Rattle.tcc_base.specs.declared.names.Mask.{Mask}
 use Rattle.tcc_base.specs.declared.names.Tid.{Tid}
-use Rattle.tcc_maps.specs.Shape.{Shape}
+use Rattle.rules_maps.specs.Shape.{Shape}
 use Rattle.tcc_msg.specs.Plain.{msg_of}
 use Rattle.tcc_msg.specs.declared.msg.Msg.{Msg}
 use Rattle.tcc_msg.specs.declared.msg.Msg.TheVariants as code
-use Rattle.tcc_rules.specs.State.{DirState}
+use Rattle.rules_tcc.specs.State.{DirState}
 use Rattle.net_core.specs.Machine.{Machine, settings_of, world_of}
 use Rattle.live_core.specs.Reasons.{reason_of}
 use Rattle.live_core.proofs.waiting.reason_of.Goals as goal

@@ -4,14 +4,14 @@ use Rattle.std.specs.Option.{option_map}
 use Rattle.tcc_base.specs.declared.names.DirId.{DirId}
 use Rattle.tcc_base.specs.declared.names.NodeId.{NodeId}
 use Rattle.tcc_base.specs.declared.names.NodeId.TheVariants.{Core as CodeCore, Dir as CodeDir, Vendor as CodeVendor}
-use Rattle.tcc_bounds.specs.Messages.{InBounds}
-use Rattle.tcc_maps.specs.Bridge.{node_of}
-use Rattle.tcc_maps.specs.Nodes.{Dir, Msg}
-use Rattle.tcc_maps.specs.Shape.{Shape}
+use Rattle.theorem_bounds.specs.Messages.{InBounds}
+use Rattle.rules_maps.specs.Bridge.{node_of}
+use Rattle.rules_maps.specs.Nodes.{Dir, Msg}
+use Rattle.rules_maps.specs.Shape.{Shape}
 use Rattle.tcc_msg.specs.declared.event.Name.{Name}
 use Rattle.tcc_msg.specs.Plain.{msg_of}
-use Rattle.tcc_rules.specs.Links.{in_flight}
-use Rattle.tcc_rules.specs.State.{World}
+use Rattle.rules_tcc.specs.Links.{in_flight}
+use Rattle.rules_tcc.specs.State.{World}
 use Rattle.net_core.specs.Machine.{Machine, program_of, settings_of, world_of}
 use Rattle.live_core.specs.Plain.{plain_reason}
 use Rattle.live_core.specs.Reasons.{Reason}

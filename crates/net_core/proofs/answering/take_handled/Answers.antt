@@ -1,9 +1,9 @@
 -- A message that its directory has consumed is taken out.
 use Rattle.std.proofs.Common.{◌≡◌, ◌∙◌, Some, false, subst}
-use Rattle.tcc_maps.specs.Bridge.{node_of}
-use Rattle.tcc_rules.specs.Links.{in_flight}
-use Rattle.in_flight.specs.Flights.{is_ready, net_of}
-use Rattle.in_flight.proofs.Lemmas.{with_mark-other}
+use Rattle.rules_maps.specs.Bridge.{node_of}
+use Rattle.rules_tcc.specs.Links.{in_flight}
+use Rattle.machine_links.specs.Flights.{is_ready, net_of}
+use Rattle.machine_links.proofs.Lemmas.{with_mark-other}
 use Rattle.net_core.proofs.Events.Marks.{still-flies}
 use Rattle.net_core.proofs.answering.take_handled.Goals as goal
 

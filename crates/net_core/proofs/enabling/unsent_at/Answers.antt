@@ -1,7 +1,7 @@
 -- A message is sought among those that don't stand on their links.
 use Rattle.std.proofs.Common.{◌+◌, ◌<◌, ◌≤◌, length, drop, refl, sym, ap, ◌∙◌, arith}
 use Rattle.std.specs.Prelude.{slice_get}
-use Rattle.tcc_maps.specs.Bridge.{node_of}
+use Rattle.rules_maps.specs.Bridge.{node_of}
 use Rattle.tcc_msg.specs.Plain.{sends_of}
 use Rattle.net_core.proofs.Links.Seeking.{sought-here, sought-none, sought-other, sought-past}
 use Rattle.net_core.proofs.Links.Placing.{next-first}

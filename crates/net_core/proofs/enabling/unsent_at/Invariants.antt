@@ -1,7 +1,7 @@
 -- What is sought is among those from number i on.
 use Rattle.std.proofs.Common.{◌≡◌, drop}
 use Rattle.std.specs.Prelude.{slice_get}
-use Rattle.tcc_maps.specs.Bridge.{node_of}
+use Rattle.rules_maps.specs.Bridge.{node_of}
 use Rattle.tcc_msg.specs.Plain.{sends_of}
 use Rattle.net_core.proofs.enabling.unsent_at.Given as goal
 

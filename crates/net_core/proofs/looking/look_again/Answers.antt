@@ -1,7 +1,7 @@
 -- What is looked at again is marked as the directory says now.
 use Rattle.std.proofs.Common.{◌≡◌, Some, inl, subst}
-use Rattle.tcc_maps.specs.Nodes.{Core, Dir}
-use Rattle.tcc_rules.specs.Links.{in_flight}
+use Rattle.rules_maps.specs.Nodes.{Core, Dir}
+use Rattle.rules_tcc.specs.Links.{in_flight}
 use Rattle.net_core.proofs.looking.look_again.Goals as goal
 
 pub mark_about-requires-in-Line-clause-home : goal.mark_about-requires-in-Line-clause-home

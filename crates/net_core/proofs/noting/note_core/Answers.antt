@@ -2,7 +2,7 @@
 use Rattle.std.proofs.Common.{◌≡◌, ◌<◌, ap, subst, sym, ◌∙◌, arith}
 use Rattle.tcc_base.specs.Settings.{Keeps, Settings}
 use Rattle.tcc_base.specs.declared.config.Limit.TheVariants.{Sets}
-use Rattle.tcc_maps.specs.Shape.{lines}
+use Rattle.rules_maps.specs.Shape.{lines}
 use Rattle.core_node.specs.View.{core_of}
 use Rattle.net_core.proofs.Words.Away.{clean-frames, clean-line}
 use Rattle.net_core.proofs.noting.note_core.Goals as goal

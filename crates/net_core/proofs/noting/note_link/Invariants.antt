@@ -1,10 +1,10 @@
 -- The messages so far.
 use Rattle.std.proofs.Common.{◌≡◌, ℕ, [], take}
 use Rattle.std.specs.List.{flat_map}
-use Rattle.tcc_maps.specs.Nodes.{Core, Dir}
-use Rattle.tcc_maps.specs.Words.{line_of}
-use Rattle.tcc_rules.specs.State.{Link}
-use Rattle.in_flight.specs.Flights.{net_of}
+use Rattle.rules_maps.specs.Nodes.{Core, Dir}
+use Rattle.rules_maps.specs.Words.{line_of}
+use Rattle.rules_tcc.specs.State.{Link}
+use Rattle.machine_links.specs.Flights.{net_of}
 use Rattle.net_core.specs.Away.{Covers}
 use Rattle.net_core.proofs.Words.Newest.{copy_at, waiting_on}
 use Rattle.net_core.proofs.noting.note_link.Given as goal

@@ -1,6 +1,6 @@
 -- The ways so far.
 use Rattle.std.proofs.Common.{◌≡◌, ◌<◌, ℕ, Some}
-use Rattle.tcc_maps.specs.Cache.{Cache, dirty_mask}
+use Rattle.rules_maps.specs.Cache.{Cache, dirty_mask}
 use Rattle.core_node.specs.View.{core_of}
 use Rattle.net_core.specs.Away.{Covers}
 use Rattle.net_core.proofs.noting.note_set.Given as goal

@@ -1,9 +1,9 @@
 -- The frame's dirty words, or no frame and so no dirty word.
 use Rattle.std.proofs.Common.{◌∙◌, ap, sym, ℕ}
-use Rattle.tcc_maps.specs.Nodes.{WriteBack}
-use Rattle.tcc_maps.specs.Words.{word_at}
-use Rattle.tcc_rules.specs.Seen.{copy_in, copy_of, newest}
-use Rattle.core_bank.specs.Bank.{cores_of}
+use Rattle.rules_maps.specs.Nodes.{WriteBack}
+use Rattle.rules_maps.specs.Words.{word_at}
+use Rattle.rules_tcc.specs.Seen.{copy_in, copy_of, newest}
+use Rattle.machine_cores.specs.Bank.{cores_of}
 use Rattle.net_core.specs.Copies.{nth_copy}
 use Rattle.net_core.proofs.Words.Newest.{frame-at, unframed}
 use Rattle.net_core.proofs.Words.Places.{newest-empty, newest-none, placed-line}

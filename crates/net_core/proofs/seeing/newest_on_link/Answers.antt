@@ -1,10 +1,10 @@
 -- Each message in turn.
 use Rattle.std.proofs.Common.{◌≡◌, length, ap, sym, ◌∙◌, arith}
-use Rattle.tcc_maps.specs.Nodes.{Core, Dir}
-use Rattle.tcc_maps.specs.Words.{word_at}
+use Rattle.rules_maps.specs.Nodes.{Core, Dir}
+use Rattle.rules_maps.specs.Words.{word_at}
 use Rattle.tcc_msg.specs.Plain.{msg_of}
-use Rattle.tcc_rules.specs.Seen.{copy_of, newest}
-use Rattle.in_flight.specs.Flights.{net_of}
+use Rattle.rules_tcc.specs.Seen.{copy_of, newest}
+use Rattle.machine_links.specs.Flights.{net_of}
 use Rattle.net_core.specs.Copies.{nth_copy}
 use Rattle.net_core.proofs.Words.Newest.{newest-all, newest-more, waiting_on}
 use Rattle.net_core.proofs.Words.Places.{newest-none}

@@ -1,10 +1,10 @@
 -- The newest of the copies and those of the messages so far.
 use Rattle.std.proofs.Common.{take}
 use Rattle.std.specs.List.{flat_map}
-use Rattle.tcc_maps.specs.Nodes.{Core, Dir}
-use Rattle.tcc_maps.specs.Words.{word_at}
-use Rattle.tcc_rules.specs.State.{Link}
-use Rattle.in_flight.specs.Flights.{net_of}
+use Rattle.rules_maps.specs.Nodes.{Core, Dir}
+use Rattle.rules_maps.specs.Words.{word_at}
+use Rattle.rules_tcc.specs.State.{Link}
+use Rattle.machine_links.specs.Flights.{net_of}
 use Rattle.net_core.specs.Copies.{AreNewest}
 use Rattle.net_core.proofs.Words.Newest.{copy_at, waiting_on}
 use Rattle.net_core.proofs.seeing.newest_on_link.Given as goal

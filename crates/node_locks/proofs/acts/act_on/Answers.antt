@@ -1,7 +1,7 @@
 -- One act more.
 use Rattle.std.proofs.Common.{◌≡◌, ◌+◌, ◌-◌, suc, refl, ap, sym, subst, arith, rules}
-use Rattle.logged_node.specs.declared.node.Act.TheVariants.{Moved}
-use Rattle.logged_node.specs.Acts.{AnswersAct}
+use Rattle.apart_node.specs.declared.node.Act.TheVariants.{Moved}
+use Rattle.apart_node.specs.Acts.{AnswersAct}
 use Rattle.node_locks.specs.Turns.{MovedOn, after_words, nth_word}
 use Rattle.node_locks.proofs.Acting.{acted-next, drawn-more, moved-more}
 use Rattle.node_locks.proofs.Peers.{of-kept}

@@ -1,5 +1,5 @@
 use Rattle.std.specs.Prelude.{ℕ, ◌≡◌, ◌<◌, Some, slice_get}
-use Rattle.logged_node.specs.Node.{NodeData, IsNode}
+use Rattle.apart_node.specs.Node.{NodeData, IsNode}
 use Rattle.node_locks.proofs.closing.look_at.Given as goal
 
 -- the nodes so far are

@@ -1,5 +1,5 @@
 use Rattle.std.specs.Prelude.{ℕ, ◌≡◌, ◌<◌, Some, slice_get}
-use Rattle.logged_node.specs.Node.{NodeData}
+use Rattle.apart_node.specs.Node.{NodeData}
 use Rattle.node_locks.specs.Hearing.{HasMetAll}
 use Rattle.node_locks.proofs.closing.meet_all.Given as goal
 

@@ -1,8 +1,8 @@
 -- The nodes stand at their places.
 use Rattle.std.proofs.Common.{◌≡◌, ℕ, Some, sym, subst, rules}
 use Rattle.std.specs.Prelude.{length, slice_get}
-use Rattle.node_logs.specs.Fitting.{node_count}
-use Rattle.logged_node.specs.Node.{NodeData, here}
+use Rattle.rules_apart.specs.Fitting.{node_count}
+use Rattle.apart_node.specs.Node.{NodeData, here}
 use Rattle.node_locks.specs.Hearing.{AllAreNodes}
 use Rattle.node_locks.specs.Places.{nth_node}
 use Rattle.node_locks.specs.Wiring.{AreNodes}

@@ -1,8 +1,8 @@
 -- At first no node has a port.
 use Rattle.std.proofs.Common.{◌≡◌, List, [], subst, rules, sym}
 use Rattle.std.specs.Prelude.{replicate}
-use Rattle.logged_node.specs.Ports.{PortData}
-use Rattle.node_logs.specs.Fitting.{node_count}
+use Rattle.apart_node.specs.Ports.{PortData}
+use Rattle.rules_apart.specs.Fitting.{node_count}
 use Rattle.node_locks.specs.Joining.{AreJoinedTo}
 use Rattle.node_locks.proofs.Joining.{none-joined}
 use Rattle.node_locks.proofs.making.join_all.Goals as goal

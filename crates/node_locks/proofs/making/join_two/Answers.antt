@@ -2,9 +2,9 @@
 use Rattle.std.proofs.Common.{◌≡◌, ◌++◌, ◌∷◌, [], ◌+◌, ◌<◌, List, Some, subst, arith, rules, refl, ap, sym, ◌∙◌, length, true}
 use Rattle.std.specs.Prelude.{slice_get, slice_index_or, slice_set, nat_lt}
 use Rattle.std.proofs.lemmas.Bool.Decides.{nat_tests}
-use Rattle.tcc_maps.specs.Bridge.{node_of}
-use Rattle.logged_node.specs.Peers.{seat}
-use Rattle.logged_node.specs.Ports.{PortData, IsPortAt, IsUnused}
+use Rattle.rules_maps.specs.Bridge.{node_of}
+use Rattle.apart_node.specs.Peers.{seat}
+use Rattle.apart_node.specs.Ports.{PortData, IsPortAt, IsUnused}
 use Rattle.node_locks.specs.Joining.{AreJoined, AreJoinedTo}
 use Rattle.node_locks.specs.Places.{nth_node}
 use Rattle.node_locks.proofs.Lists.{get-some, get-set_other, length-set}

@@ -2,9 +2,9 @@
 use Rattle.std.proofs.Common.{◌≡◌, ◌++◌, ◌∷◌, ℕ, List, Some, subst, rules, refl, ap, sym, ◌∙◌, length}
 use Rattle.std.specs.Prelude.{All, reverse, slice_get}
 use Rattle.std.specs.Arc.{arc_value}
-use Rattle.tcc_maps.specs.Bridge.{node_of}
-use Rattle.logged_node.specs.Node.{NodeData}
-use Rattle.logged_node.specs.Ports.{ArePorts, IsUnused, PortData}
+use Rattle.rules_maps.specs.Bridge.{node_of}
+use Rattle.apart_node.specs.Node.{NodeData}
+use Rattle.apart_node.specs.Ports.{ArePorts, IsUnused, PortData}
 use Rattle.node_locks.specs.Joining.{AreJoinedTo}
 use Rattle.node_locks.specs.Places.{nth_node}
 use Rattle.node_locks.specs.Starting.{IsFresh}

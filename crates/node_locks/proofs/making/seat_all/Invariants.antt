@@ -1,6 +1,6 @@
 use Rattle.std.specs.Prelude.{ℕ, ◌≡◌, ◌+◌, ◌++◌, map, reverse, Some, slice_get, vec_len, vec_capacity}
 use Rattle.std.specs.Arc.{arc_value}
-use Rattle.logged_node.specs.Node.{NodeData}
+use Rattle.apart_node.specs.Node.{NodeData}
 use Rattle.node_locks.specs.Starting.{IsFresh}
 use Rattle.node_locks.proofs.making.seat_all.Given as goal
 

@@ -1,5 +1,5 @@
 use Rattle.std.specs.Prelude.{ℕ, ◌≡◌, ◌<◌, Some, slice_get}
-use Rattle.logged_node.specs.Node.{NodeData, here}
+use Rattle.apart_node.specs.Node.{NodeData, here}
 use Rattle.node_locks.specs.Places.{nth_node}
 use Rattle.node_locks.proofs.places.all_placed.Given as goal
 

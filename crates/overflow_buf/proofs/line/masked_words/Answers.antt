@@ -1,5 +1,5 @@
 use Rattle.std.proofs.Common.{◌<◌, arith, ◌∙◌, refl, lt-ltb}
-use Rattle.tcc_maps.specs.Masks.{masked}
+use Rattle.rules_maps.specs.Masks.{masked}
 use Rattle.overflow_buf.proofs.Eights.{eight_of}
 use Rattle.overflow_buf.proofs.line.masked_words.Goals as goal
 

@@ -1,5 +1,5 @@
 use Rattle.std.proofs.Common.{◌≡◌, ℕ, ◌<◌, nat_lt, cond, ◌&&◌, length, get_or}
-use Rattle.tcc_maps.specs.Masks.{has as has_word}
+use Rattle.rules_maps.specs.Masks.{has as has_word}
 use Rattle.overflow_buf.proofs.line.masked_words.Given as goal
 
 abbrev pub invariant-loop-k : goal.invariant-loop-k

@@ -3,7 +3,7 @@ use Rattle.std.proofs.lemmas.List.{take_more, get_or-take, length-take}
 use Rattle.std.proofs.lemmas.List.Elements.{All-nil, All-push, Contains-get_or}
 use Rattle.run_outcomes.proofs.Normal.{past, past-le, past-same, so-far-nothing, so-far-same, so-far-push}
 use Rattle.run_outcomes.proofs.Told.{told-nothing, told-again, told-same, told-push}
-use Rattle.tcc_program.specs.Ram.{flat}
+use Rattle.rules_program.specs.Ram.{flat}
 use Rattle.run_outcomes.proofs.changes.differing.Goals as goal
 use Rattle.run_outcomes.proofs.changes.differing.Goals.{then-value-word+in_ok-push, else-value-word}
 use Rattle.run_outcomes.proofs.changes.differing.Goals.{else-k-gt0-via-then-k-gt0+else-words-k, else-k-gt0-via-else-k-gt0}

@@ -2,7 +2,7 @@ use Rattle.std.proofs.Common.{take, length}
 use Rattle.run_outcomes.proofs.Normal.{AreSoFar}
 use Rattle.run_outcomes.specs.Changes.{AreInside}
 use Rattle.run_outcomes.specs.Left.{IsTold}
-use Rattle.tcc_program.specs.Ram.{flat}
+use Rattle.rules_program.specs.Ram.{flat}
 use Rattle.run_outcomes.proofs.changes.differing.Given as goal
 
 abbrev pub invariant-loop-k : goal.invariant-loop-k

@@ -1,5 +1,5 @@
 use Rattle.std.proofs.Common.{◌≡◌, ◌++◌, map, take}
-use Rattle.tcc_program.specs.Ram.{word_of}
+use Rattle.rules_program.specs.Ram.{word_of}
 use Rattle.run_outcomes.proofs.changes.touched.Given as goal
 
 abbrev pub invariant-loop-w : goal.invariant-loop-w

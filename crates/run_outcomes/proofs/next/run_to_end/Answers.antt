@@ -5,7 +5,7 @@ use Rattle.rv_plain.specs.Attempts.{attempt_of}
 use Rattle.rv_plain.specs.Buffered.{plain_view}
 use Rattle.rv_plain.specs.declared.attempt.Outcome.TheVariants.{Goes}
 use Rattle.run_outcomes.proofs.Viewed.{viewed-next}
-use Rattle.tcc_program.specs.Plain.{steps}
+use Rattle.rules_program.specs.Plain.{steps}
 use Rattle.run_outcomes.proofs.next.run_to_end.Goals as goal
 
 pub loop-k-init : goal.loop-k-init

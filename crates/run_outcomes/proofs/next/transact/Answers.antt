@@ -4,7 +4,7 @@ use Rattle.run_outcomes.specs.Changes.{changed_ram}
 use Rattle.rv_plain.specs.Attempts.{attempt_of}
 use Rattle.rv_plain.specs.Buffered.{plain_view}
 use Rattle.rv_plain.specs.declared.attempt.Outcome.TheVariants.{Goes}
-use Rattle.tcc_program.specs.Ram.{flat}
+use Rattle.rules_program.specs.Ram.{flat}
 use Rattle.run_outcomes.proofs.next.transact.Goals as goal
 
 pub leave-requires-clause-stores : goal.leave-requires-clause-stores

@@ -1,7 +1,7 @@
 use Rattle.std.proofs.Common.{◌<◌, ◌%◌, ◌≡◌, arith, subst}
 use Rattle.tcc_base.specs.Bytes.{bytes_of}
 use Rattle.tcc_base.specs.declared.access.Size.TheVariants.{Half, Word}
-use Rattle.tcc_program.specs.Ram.{unit_of}
+use Rattle.rules_program.specs.Ram.{unit_of}
 use Rattle.rv_plain.proofs.Splice.{spliced-byte, spliced-half, spliced-word}
 use Rattle.rv_plain.proofs.bytes.replace.Goals as goal
 use Rattle.rv_plain.proofs.bytes.replace.Goals.{in-Byte, in-Half, in-Word}

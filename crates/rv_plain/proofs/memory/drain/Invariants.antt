@@ -1,7 +1,7 @@
 use Rattle.std.proofs.Common.{◌≡◌, ℕ, length}
 use Rattle.rv_plain.specs.Buffered.{seen}
 use Rattle.rv_plain.specs.Store.{buffer_of, IsInside}
-use Rattle.tcc_program.specs.Ram.{flat}
+use Rattle.rules_program.specs.Ram.{flat}
 use Rattle.rv_plain.proofs.memory.drain.Given as goal
 
 abbrev pub invariant-loop-w : goal.invariant-loop-w

@@ -5,7 +5,7 @@ use Rattle.rv_plain.specs.Attempts.{attempt_of}
 use Rattle.rv_plain.specs.Buffered.{plain_view}
 use Rattle.rv_plain.specs.Endings.{IsFault}
 use Rattle.rv_code.specs.Machine.{program}
-use Rattle.tcc_program.specs.Plain.{steps}
+use Rattle.rules_program.specs.Plain.{steps}
 use Rattle.rv_plain.proofs.plain.transact.Goals as goal
 
 pub returns-in-Err-clause-fault : goal.returns-in-Err-clause-fault

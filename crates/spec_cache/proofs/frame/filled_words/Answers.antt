@@ -1,5 +1,5 @@
 use Rattle.std.proofs.Common.{ℕ, ◌<◌, ◌≡◌, Bool, true, false, cond, not, arith, ◌∙◌, refl, lt-ltb}
-use Rattle.tcc_maps.specs.Masks.{has}
+use Rattle.rules_maps.specs.Masks.{has}
 use Rattle.spec_cache.specs.Frame.{filled_up}
 use Rattle.spec_cache.proofs.Eights.{eight_of}
 use Rattle.spec_cache.proofs.frame.filled_words.Goals as goal

@@ -1,5 +1,5 @@
 use Rattle.std.proofs.Common.{◌≡◌, ℕ, ◌<◌, nat_lt, cond, ◌&&◌, not, length, get_or}
-use Rattle.tcc_maps.specs.Masks.{has as has_word}
+use Rattle.rules_maps.specs.Masks.{has as has_word}
 use Rattle.spec_cache.proofs.frame.filled_words.Given as goal
 
 abbrev pub invariant-loop-k : goal.invariant-loop-k

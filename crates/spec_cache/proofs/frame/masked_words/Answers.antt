@@ -1,5 +1,5 @@
 use Rattle.std.proofs.Common.{◌<◌, arith, ◌∙◌, refl, lt-ltb}
-use Rattle.tcc_maps.specs.Masks.{masked}
+use Rattle.rules_maps.specs.Masks.{masked}
 use Rattle.spec_cache.proofs.Eights.{eight_of}
 use Rattle.spec_cache.proofs.frame.masked_words.Goals as goal
 

@@ -1,7 +1,7 @@
 use Rattle.std.proofs.Common.{Some, ◌≡◌, ◌≤◌, ◌^◌, ◌==◌, ℕ, Bool, true, false, cond, refl, ap, arith}
 use Rattle.std.proofs.lemmas.Bool.Decides.{nat_tests}
 use Rattle.std.proofs.lemmas.Nat.{le_or_l}
-use Rattle.tcc_maps.specs.Masks.{join}
+use Rattle.rules_maps.specs.Masks.{join}
 use Rattle.spec_cache.specs.declared.frame.FrameView.{FrameView}
 use Rattle.spec_cache.specs.Frame.{stored_frame}
 use Rattle.spec_cache.specs.Tracked.{IsAlike}

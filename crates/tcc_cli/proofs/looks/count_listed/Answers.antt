@@ -3,7 +3,7 @@ use Rattle.std.proofs.Common.{◌≡◌, List, map}
 use Rattle.std.specs.Prelude.{None}
 use Rattle.std.specs.String.{string_bytes}
 use Rattle.image_load.specs.Contents.{started}
-use Rattle.tcc_maps.specs.Nodes.{Event}
+use Rattle.rules_maps.specs.Nodes.{Event}
 use Rattle.tcc_msg.specs.Plain.{event_of}
 use Rattle.tcc_cli.proofs.Watched.{counted-so, listed-so}
 use Rattle.tcc_cli.proofs.looks.count_listed.Goals as goal

@@ -3,7 +3,7 @@ use Rattle.std.proofs.Common.{◌≡◌, List, IfOk, None, map, subst, sym}
 use Rattle.std.specs.String.{string_bytes}
 use Rattle.image_load.specs.Contents.{started}
 use Rattle.net_core.specs.Machine.{history_of}
-use Rattle.tcc_maps.specs.Nodes.{Event}
+use Rattle.rules_maps.specs.Nodes.{Event}
 use Rattle.tcc_msg.specs.Plain.{event_of}
 use Rattle.tcc_words.specs.declared.command.View.{View}
 use Rattle.tcc_cli.proofs.Watched.{state-so}

@@ -1,7 +1,7 @@
 -- What the first so many cores printed.
 use Rattle.std.proofs.Common.{◌≡◌, map}
 use Rattle.std.specs.List.{range_with_len}
-use Rattle.tcc_program.specs.Cores.{printed}
+use Rattle.rules_program.specs.Cores.{printed}
 use Rattle.tcc_cli.proofs.reports.consoles.Given as goal
 
 abbrev pub invariant-loop-c : goal.invariant-loop-c

@@ -5,9 +5,9 @@ use Rattle.std.proofs.lemmas.List.FromFn.{get_or-map-range_with_len, length-map-
 use Rattle.std.specs.Prelude.{get_or}
 use Rattle.image_load.specs.Contents.{started}
 use Rattle.report_text.specs.Plain.{shown_core}
-use Rattle.rv_serial.specs.Given.{committed}
+use Rattle.theorem_riscv.specs.Given.{committed}
 use Rattle.net_core.specs.Machine.{history_of, settings_of, start_of}
-use Rattle.tcc_program.specs.Cores.{printed}
+use Rattle.rules_program.specs.Cores.{printed}
 use Rattle.tcc_cli.proofs.Shown.{shown-at, shown-more}
 use Rattle.tcc_cli.proofs.reports.cores.Goals as goal
 

@@ -2,7 +2,7 @@
 use Rattle.std.proofs.Common.{◌≡◌, map}
 use Rattle.std.specs.List.{range_with_len}
 use Rattle.report_text.specs.Plain.{shown_core}
-use Rattle.rv_serial.specs.Given.{committed}
+use Rattle.theorem_riscv.specs.Given.{committed}
 use Rattle.net_core.specs.Machine.{history_of, start_of}
 use Rattle.tcc_cli.proofs.reports.cores.Given as goal
 

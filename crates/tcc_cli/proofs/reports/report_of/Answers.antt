@@ -2,8 +2,8 @@
 use Rattle.std.proofs.Common.{◌≡◌, ◌∙◌, ◌/◌, ap, length}
 use Rattle.image_load.specs.Contents.{started}
 use Rattle.report_text.specs.Text.{report_text}
-use Rattle.rv_serial.specs.Given.{committed}
-use Rattle.tcc_rules.specs.Seen.{seen}
+use Rattle.theorem_riscv.specs.Given.{committed}
+use Rattle.rules_tcc.specs.Seen.{seen}
 use Rattle.net_core.specs.Machine.{history_of, settings_of, start_of, world_of}
 use Rattle.tcc_cli.specs.Runs.{run_text, shown}
 use Rattle.tcc_cli.proofs.Machines.{done-here, runs-to}

@@ -1,7 +1,7 @@
 -- The events that the machine took are the first of the file's schedule.
 use Rattle.std.proofs.Common.{◌≡◌, ◌∙◌, List, ap, map, subst, sym}
 use Rattle.image_load.specs.Contents.{started}
-use Rattle.tcc_maps.specs.Nodes.{Event}
+use Rattle.rules_maps.specs.Nodes.{Event}
 use Rattle.tcc_msg.specs.Plain.{event_of}
 use Rattle.tcc_cli.proofs.Watched.{all-stopped-by, all-told-by}
 use Rattle.tcc_cli.specs.Looks.{AreFirst}

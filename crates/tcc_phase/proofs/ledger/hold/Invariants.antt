@@ -1,7 +1,7 @@
 -- Those of the cores so far are listed.
 use Rattle.std.proofs.Common.{◌≡◌, ◌≤◌}
 use Rattle.std.specs.Prelude.{vec_capacity}
-use Rattle.tcc_maps.specs.Words.{those}
+use Rattle.rules_maps.specs.Words.{those}
 use Rattle.net_core.specs.Machine.{program_of, settings_of, world_of}
 use Rattle.tcc_phase.specs.Requests.{is_above}
 use Rattle.tcc_phase.proofs.ledger.hold.Given as goal

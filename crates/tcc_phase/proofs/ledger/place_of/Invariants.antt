@@ -1,6 +1,6 @@
 -- None from here on is smaller.
 use Rattle.std.proofs.Common.{◌≤◌, length}
-use Rattle.phase_rules.specs.Laws.{place_of}
+use Rattle.theorem_phases.specs.Laws.{place_of}
 use Rattle.tcc_phase.proofs.ledger.place_of.Given as goal
 
 abbrev pub invariant-loop-at : goal.invariant-loop-at

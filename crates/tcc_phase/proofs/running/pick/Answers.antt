@@ -3,7 +3,7 @@ use Rattle.std.proofs.Common.{◌≡◌, ◌<◌, ◌∙◌, length, ap, sym, ar
 use Rattle.std.specs.Option.{option_map}
 use Rattle.rand_pcg.specs.Pcg.{pcg32}
 use Rattle.tcc_msg.specs.Plain.{event_of}
-use Rattle.tcc_rules.specs.Picked.{chosen}
+use Rattle.rules_tcc.specs.Picked.{chosen}
 use Rattle.tcc_phase.specs.Phased.{useful_in}
 use Rattle.tcc_pick.proofs.Lemmas.{answered-so, chosen-none, is-one}
 use Rattle.tcc_phase.proofs.running.pick.Goals as goal

@@ -1,6 +1,6 @@
 -- One set more is there.
 use Rattle.std.proofs.Common.{◌≡◌, ◌∙◌, ◌++◌, [], ◌∷◌, ap, refl, sym, true}
-use Rattle.tcc_maps.specs.Words.{those}
+use Rattle.rules_maps.specs.Words.{those}
 use Rattle.watch_changes.proofs.ReachedSets.{every-more}
 use Rattle.watch_changes.proofs.reach.every_set.Goals as goal
 

@@ -2,7 +2,7 @@
 use Rattle.std.proofs.Common.{◌≡◌, ◌∙◌, ap, sym}
 use Rattle.std.proofs.lemmas.Result.{IfOk-weaker}
 use Rattle.std.specs.Option.{option_map}
-use Rattle.tcc_maps.specs.Words.{those}
+use Rattle.rules_maps.specs.Words.{those}
 use Rattle.core_node.specs.View.{core_of}
 use Rattle.watch_changes.specs.Plain.{more_of, reach_of}
 use Rattle.watch_changes.specs.Touched.{Every, Marked, NoMore, reaches}

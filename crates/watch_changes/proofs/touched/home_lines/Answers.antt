@@ -1,6 +1,6 @@
 -- By the kind of message.
 use Rattle.std.proofs.Common.{◌∙◌, sym}
-use Rattle.tcc_maps.specs.Shape.{lines}
+use Rattle.rules_maps.specs.Shape.{lines}
 use Rattle.watch_changes.proofs.Silent.{home-silent}
 use Rattle.watch_changes.proofs.touched.home_lines.Goals as goal
 

@@ -1,6 +1,6 @@
 -- By the kind of message.
 use Rattle.std.proofs.Common.{◌∙◌, inl, inr, sym}
-use Rattle.tcc_maps.specs.Shape.{lines}
+use Rattle.rules_maps.specs.Shape.{lines}
 use Rattle.directory.specs.Data.{dir_of}
 use Rattle.watch_changes.specs.Touched.{may_change}
 use Rattle.watch_changes.proofs.Silent.{known-silent}

@@ -1,6 +1,6 @@
 -- The line is in RAM, or isn't.
 use Rattle.std.proofs.Common.{◌++◌, [], ◌∷◌, ◌∙◌, ap, arith, sym}
-use Rattle.tcc_maps.specs.Shape.{lines}
+use Rattle.rules_maps.specs.Shape.{lines}
 use Rattle.watch_changes.specs.Plain.{line_numbers}
 use Rattle.watch_changes.proofs.Listing.{alone-inside, alone-outside}
 use Rattle.watch_changes.proofs.touched.line_alone.Goals as goal

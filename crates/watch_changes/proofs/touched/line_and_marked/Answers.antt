@@ -1,8 +1,8 @@
 -- The line is in RAM, or isn't.
 use Rattle.std.proofs.Common.{◌≡◌, ◌∙◌, ap, arith, sym}
 use Rattle.std.proofs.lemmas.Result.{IfOk-weaker}
-use Rattle.tcc_maps.specs.Lines.{has_mark}
-use Rattle.tcc_maps.specs.Shape.{lines}
+use Rattle.rules_maps.specs.Lines.{has_mark}
+use Rattle.rules_maps.specs.Shape.{lines}
 use Rattle.directory.specs.Data.{dir_of}
 use Rattle.watch_changes.specs.Plain.{line_numbers, with_line}
 use Rattle.watch_changes.proofs.Listing.{more-outside, with-those}

@@ -3,10 +3,10 @@ use Rattle.std.proofs.Common.{◌++◌, [], ◌∷◌, ◌∙◌, ap, arith, sym
 use Rattle.std.specs.Prelude.{slice_get}
 use Rattle.std.proofs.lemmas.List.{map-append, take_all}
 use Rattle.tcc_base.specs.Settings.{Settings}
-use Rattle.tcc_maps.specs.Lines.{has_mark}
-use Rattle.tcc_maps.specs.Shape.{lines}
-use Rattle.tcc_maps.specs.Words.{count_below, those}
-use Rattle.tcc_maps.proofs.Lemmas.{length-those}
+use Rattle.rules_maps.specs.Lines.{has_mark}
+use Rattle.rules_maps.specs.Shape.{lines}
+use Rattle.rules_maps.specs.Words.{count_below, those}
+use Rattle.rules_maps.proofs.Lemmas.{length-those}
 use Rattle.directory.specs.Data.{dir_of}
 use Rattle.watch_changes.specs.Plain.{line_numbers}
 use Rattle.watch_changes.proofs.Listing.{found-more, found-past}

@@ -1,8 +1,8 @@
 -- The first k marked lines were found.
 use Rattle.std.proofs.Common.{◌≡◌, ℕ, take}
-use Rattle.tcc_maps.specs.Lines.{has_mark}
-use Rattle.tcc_maps.specs.Shape.{lines}
-use Rattle.tcc_maps.specs.Words.{those}
+use Rattle.rules_maps.specs.Lines.{has_mark}
+use Rattle.rules_maps.specs.Shape.{lines}
+use Rattle.rules_maps.specs.Words.{those}
 use Rattle.directory.specs.Data.{dir_of}
 use Rattle.watch_changes.specs.Plain.{line_numbers}
 use Rattle.watch_changes.proofs.touched.marked.Given as goal

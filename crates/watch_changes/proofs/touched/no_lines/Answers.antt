@@ -1,5 +1,5 @@
 use Rattle.std.proofs.Common.{ap, sym, ◌∙◌}
-use Rattle.tcc_maps.specs.Shape.{lines}
+use Rattle.rules_maps.specs.Shape.{lines}
 use Rattle.watch_changes.specs.Plain.{line_numbers}
 use Rattle.watch_changes.proofs.Listing.{those-none}
 use Rattle.watch_changes.proofs.touched.no_lines.Goals as goal

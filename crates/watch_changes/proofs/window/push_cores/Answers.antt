@@ -1,5 +1,5 @@
 use Rattle.std.specs.String.{string_bytes}
-use Rattle.tcc_maps.specs.Nodes.{Core}
+use Rattle.rules_maps.specs.Nodes.{Core}
 use Rattle.watch_state.proofs.Lemmas.{piece-more}
 use Rattle.watch_changes.specs.Changes.{all_lines}
 use Rattle.watch_changes.specs.Plain.{records_now}

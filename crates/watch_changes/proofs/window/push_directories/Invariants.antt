@@ -2,8 +2,8 @@
 use Rattle.std.proofs.Common.{◌≡◌, ◌++◌}
 use Rattle.std.specs.List.{flat_map}
 use Rattle.std.specs.String.{string_bytes}
-use Rattle.tcc_maps.specs.Nodes.{Dir}
-use Rattle.tcc_rules.specs.Seen.{numbers}
+use Rattle.rules_maps.specs.Nodes.{Dir}
+use Rattle.rules_tcc.specs.Seen.{numbers}
 use Rattle.watch_changes.specs.Changes.{all_lines}
 use Rattle.watch_changes.specs.Plain.{records_now}
 use Rattle.watch_changes.proofs.window.push_directories.Given as goal

@@ -2,7 +2,7 @@
 use Rattle.std.proofs.Common.{ap, ◌∙◌}
 use Rattle.std.specs.Prelude.{bit_and}
 use Rattle.core_node.specs.View.{core_of}
-use Rattle.tcc_maps.specs.Words.{word_at}
+use Rattle.rules_maps.specs.Words.{word_at}
 use Rattle.watch.specs.Messages.{words_read}
 use Rattle.watch_core.proofs.Masks.{meet-mask, unread-mask}
 use Rattle.watch_core.proofs.reading.words_read.Goals as goal

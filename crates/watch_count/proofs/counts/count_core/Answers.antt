@@ -2,7 +2,7 @@
 use Rattle.std.proofs.Common.{◌≤◌, ◌^◌, map, subst, sym, rules}
 use Rattle.std.proofs.lemmas.List.{length-map}
 use Rattle.std.proofs.lemmas.List.Elements.{All-set}
-use Rattle.tcc_maps.specs.Bridge.{node_of}
+use Rattle.rules_maps.specs.Bridge.{node_of}
 use Rattle.watch.specs.Plain.{fact_of}
 use Rattle.watch_count.specs.KeptCores.{nothing_kept, numbers_after}
 use Rattle.watch_count.specs.Sizes.{core_size}

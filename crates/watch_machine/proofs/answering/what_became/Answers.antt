@@ -1,5 +1,5 @@
 -- A Probe and a Commit that don't wait are taken.
-use Rattle.tcc_rules.specs.DirDeliver.{dir_deliver}
+use Rattle.rules_tcc.specs.DirDeliver.{dir_deliver}
 use Rattle.net_core.specs.Machine.{settings_of, world_of}
 use Rattle.watch_machine.proofs.Small.{commit-taken, probe-taken}
 use Rattle.watch_machine.proofs.answering.what_became.Goals as goal

@@ -1,7 +1,7 @@
 -- What was seen before the delivery and what is told behind it are all that it did.
 use Rattle.std.proofs.Common.{◌<◌, ◌++◌, map, ap, sym, ◌∙◌, subst}
-use Rattle.tcc_maps.specs.Bridge.{node_of}
-use Rattle.tcc_maps.specs.Nodes.{Core, Deliver}
+use Rattle.rules_maps.specs.Bridge.{node_of}
+use Rattle.rules_maps.specs.Nodes.{Core, Deliver}
 use Rattle.tcc_msg.specs.Plain.{msg_of}
 use Rattle.core_node.specs.View.{IsKnown, core_of}
 use Rattle.net_core.specs.Machine.{settings_of, world_of}

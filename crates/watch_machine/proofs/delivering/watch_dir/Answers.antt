@@ -1,7 +1,7 @@
 -- What becomes of the message, and what is told behind its delivery, are all that it did.
 use Rattle.std.proofs.Common.{◌<◌, ◌++◌, map, sym, ◌∙◌, subst}
-use Rattle.tcc_maps.specs.Bridge.{node_of}
-use Rattle.tcc_maps.specs.Nodes.{Core, Dir, Deliver}
+use Rattle.rules_maps.specs.Bridge.{node_of}
+use Rattle.rules_maps.specs.Nodes.{Core, Dir, Deliver}
 use Rattle.tcc_msg.specs.Plain.{msg_of}
 use Rattle.net_core.specs.Answers.{tid_told}
 use Rattle.net_core.specs.Machine.{settings_of, world_of}

@@ -1,7 +1,7 @@
 -- The request is taken, and a commit is told behind it.
 use Rattle.std.proofs.Common.{◌++◌, ◌∷◌, append-nil, map, ap, sym, ◌∙◌}
-use Rattle.tcc_maps.specs.Bridge.{node_of}
-use Rattle.tcc_maps.specs.Nodes.{Core, Vendor, Deliver}
+use Rattle.rules_maps.specs.Bridge.{node_of}
+use Rattle.rules_maps.specs.Nodes.{Core, Vendor, Deliver}
 use Rattle.tcc_msg.specs.Plain.{msg_of}
 use Rattle.net_core.specs.Answers.{tid_told}
 use Rattle.watch.specs.Facts.{Took}

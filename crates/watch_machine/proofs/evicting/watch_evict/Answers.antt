@@ -1,6 +1,6 @@
 -- What stood in the way before, and what is told behind the eviction, are all that it did.
 use Rattle.std.proofs.Common.{◌<◌, ◌++◌, map, ap, sym, ◌∙◌, subst}
-use Rattle.tcc_maps.specs.Nodes.{Evict}
+use Rattle.rules_maps.specs.Nodes.{Evict}
 use Rattle.net_core.specs.Answers.{tid_told}
 use Rattle.net_core.specs.Machine.{world_of}
 use Rattle.watch.specs.Happened.{phase_fact}

@@ -2,7 +2,7 @@
 use Rattle.std.proofs.Common.{◌<◌, ◌++◌, map, ap, sym, ◌∙◌, subst}
 use Rattle.image_load.specs.Contents.{started}
 use Rattle.rv_code.specs.Machine.{program}
-use Rattle.tcc_maps.specs.Nodes.{Exec}
+use Rattle.rules_maps.specs.Nodes.{Exec}
 use Rattle.net_core.specs.Machine.{settings_of, world_of}
 use Rattle.watch.specs.Instructions.{executed}
 use Rattle.watch.specs.Plain.{fact_of}

@@ -1,6 +1,6 @@
 -- The next message goes to the node, or doesn't.
 use Rattle.std.proofs.Common.{◌≡◌, ◌+◌, ap, arith, drop, length, suc}
-use Rattle.tcc_maps.specs.Bridge.{node_of}
+use Rattle.rules_maps.specs.Bridge.{node_of}
 use Rattle.tcc_msg.specs.Plain.{sends_of}
 use Rattle.watch_machine.proofs.Numbering.{next-goes, next-stays, none-left}
 use Rattle.watch_machine.proofs.sending.count_to.Goals as goal

@@ -1,6 +1,6 @@
 -- The messages so far, with those that are left, are all.
 use Rattle.std.proofs.Common.{◌≡◌, ◌+◌, ◌≤◌, drop, length}
-use Rattle.tcc_maps.specs.Bridge.{node_of}
+use Rattle.rules_maps.specs.Bridge.{node_of}
 use Rattle.tcc_msg.specs.Plain.{sends_of}
 use Rattle.watch_machine.proofs.sending.count_to.Given as goal
 

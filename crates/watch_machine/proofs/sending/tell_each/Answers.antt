@@ -1,7 +1,7 @@
 -- The next one is told.
 use Rattle.std.proofs.Common.{◌-◌, ap, map, ◌∙◌}
 use Rattle.std.proofs.lemmas.List.{map-append}
-use Rattle.tcc_maps.specs.Bridge.{node_of}
+use Rattle.rules_maps.specs.Bridge.{node_of}
 use Rattle.watch.specs.Plain.{fact_of}
 use Rattle.watch_machine.proofs.Rising.{each-done, each-more}
 use Rattle.watch_machine.proofs.sending.tell_each.Goals as goal

@@ -1,6 +1,6 @@
 -- What is told, with what is left, is all.
 use Rattle.std.proofs.Common.{◌≡◌, ◌++◌, drop, map}
-use Rattle.tcc_maps.specs.Bridge.{node_of}
+use Rattle.rules_maps.specs.Bridge.{node_of}
 use Rattle.watch.specs.Plain.{fact_of}
 use Rattle.watch_machine.specs.Rising.{each_told}
 use Rattle.watch_machine.proofs.sending.tell_each.Given as goal

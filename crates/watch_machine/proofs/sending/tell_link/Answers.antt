@@ -1,6 +1,6 @@
 -- Where nothing was sent there nothing is told.
 use Rattle.std.proofs.Common.{◌≡◌, ◌++◌, append-nil, ap, length, map, sym, ◌∙◌}
-use Rattle.tcc_maps.specs.Bridge.{node_of}
+use Rattle.rules_maps.specs.Bridge.{node_of}
 use Rattle.tcc_msg.specs.Plain.{sends_of}
 use Rattle.watch.specs.Plain.{fact_of}
 use Rattle.watch_machine.proofs.Numbering.{none-to}

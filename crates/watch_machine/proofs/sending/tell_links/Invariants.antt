@@ -1,8 +1,8 @@
 -- What went to the nodes so far is told.
 use Rattle.std.proofs.Common.{◌≡◌, ◌++◌, map, take}
 use Rattle.std.specs.List.{flat_map}
-use Rattle.tcc_maps.specs.Bridge.{node_of}
-use Rattle.tcc_rules.specs.Useful.{nodes}
+use Rattle.rules_maps.specs.Bridge.{node_of}
+use Rattle.rules_tcc.specs.Useful.{nodes}
 use Rattle.net_core.specs.Machine.{settings_of}
 use Rattle.watch.specs.Plain.{fact_of}
 use Rattle.watch_machine.specs.Telling.{last_to}

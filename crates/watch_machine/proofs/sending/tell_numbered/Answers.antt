@@ -1,7 +1,7 @@
 -- The next message goes to the node and is told, or doesn't.
 use Rattle.std.proofs.Common.{◌≡◌, ◌+◌, ap, arith, drop, length, map, suc, ◌∙◌}
 use Rattle.std.proofs.lemmas.List.{map-append}
-use Rattle.tcc_maps.specs.Bridge.{node_of}
+use Rattle.rules_maps.specs.Bridge.{node_of}
 use Rattle.tcc_msg.specs.Plain.{sends_of}
 use Rattle.watch.specs.Plain.{fact_of}
 use Rattle.watch_machine.proofs.Numbering.{all-told, next-goes, next-stays, none-left, told-more, told-same}

@@ -1,7 +1,7 @@
 -- Where the messages rise each in its turn is all by node.
 use Rattle.std.proofs.Common.{◌≡◌, ◌++◌, refl, ap, map, subst, ◌∙◌}
 use Rattle.std.proofs.lemmas.Result.{on_ok_weaker}
-use Rattle.tcc_maps.specs.Bridge.{node_of}
+use Rattle.rules_maps.specs.Bridge.{node_of}
 use Rattle.net_core.specs.Machine.{settings_of}
 use Rattle.watch.specs.Plain.{fact_of}
 use Rattle.watch_machine.specs.Rising.{Rises, each_told}

@@ -1,6 +1,6 @@
 -- What isn't in flight isn't delivered, and nothing goes between two nodes that are no cores.
 use Rattle.std.proofs.Common.{refl, sym}
-use Rattle.tcc_maps.specs.Bridge.{node_of}
+use Rattle.rules_maps.specs.Bridge.{node_of}
 use Rattle.net_core.specs.Answers.{Kept}
 use Rattle.net_core.specs.Machine.{Machine}
 use Rattle.net_core.proofs.Lemmas.{absent-refused}

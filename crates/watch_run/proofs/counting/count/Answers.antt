@@ -1,7 +1,7 @@
 -- From the machine at its start to the end of the run.
 use Rattle.std.proofs.Common.{◌∙◌, ◌≤◌, List, ap, length, subst, sym, arith}
 use Rattle.tcc_base.specs.Settings.{IsAllowed}
-use Rattle.tcc_maps.specs.Nodes.{Event}
+use Rattle.rules_maps.specs.Nodes.{Event}
 use Rattle.watch_count.specs.Counts.{nothing_counted}
 use Rattle.net_core.specs.Machine.{history_of}
 use Rattle.watch_run.specs.Going.{Went}

@@ -3,7 +3,7 @@ use Rattle.std.proofs.Common.{◌≡◌, ◌∙◌, ◌≤◌, List, ap, length,
 use Rattle.std.proofs.lemmas.Result.{IfErr-weaker, IfOk-weaker}
 use Rattle.std.specs.String.{string_bytes}
 use Rattle.tcc_base.specs.Settings.{IsAllowed}
-use Rattle.tcc_maps.specs.Nodes.{Event}
+use Rattle.rules_maps.specs.Nodes.{Event}
 use Rattle.net_core.specs.Machine.{settings_of}
 use Rattle.watch_trace.specs.Text.{head_text}
 use Rattle.watch_run.proofs.Leading.{StartsAt, coming-first}

@@ -1,9 +1,9 @@
 -- The core, its reservation, its end, the line that it awaits, the directories that owe it a reply, and where it committed.
 use Rattle.std.proofs.Common.{[], ◌∷◌, ◌++◌, map}
 use Rattle.std.specs.List.{flat_map}
-use Rattle.tcc_maps.specs.Masks.{has}
-use Rattle.tcc_maps.specs.Words.{those}
-use Rattle.tcc_rules.specs.Seen.{numbers}
+use Rattle.rules_maps.specs.Masks.{has}
+use Rattle.rules_maps.specs.Words.{those}
+use Rattle.rules_tcc.specs.Seen.{numbers}
 use Rattle.commit_engine.specs.Engine.{after_of, phase_of}
 use Rattle.rv_plain.specs.Attempts.{outcome_of}
 use Rattle.core_node.specs.View.{awaited_of, core_of}

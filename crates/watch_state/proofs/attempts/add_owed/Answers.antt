@@ -1,7 +1,7 @@
 -- Some directories owe the core a reply, or none.
 use Rattle.std.proofs.Common.{◌≡◌, [], ◌∷◌, ap, sym, ◌∙◌, rules}
-use Rattle.tcc_maps.specs.Masks.{has}
-use Rattle.tcc_maps.specs.Words.{those}
+use Rattle.rules_maps.specs.Masks.{has}
+use Rattle.rules_maps.specs.Words.{those}
 use Rattle.watch_state.specs.Cores.{owed_record}
 use Rattle.watch_state.specs.Records.{OwedBy}
 use Rattle.watch_state.proofs.Growing.{none-owed, some-owed}

@@ -2,8 +2,8 @@
 use Rattle.std.proofs.Common.{map}
 use Rattle.std.specs.List.{flat_map}
 use Rattle.std.proofs.lemmas.Result.{on_ok_weaker}
-use Rattle.tcc_maps.specs.Shape.{lines}
-use Rattle.tcc_rules.specs.Seen.{numbers}
+use Rattle.rules_maps.specs.Shape.{lines}
+use Rattle.rules_tcc.specs.Seen.{numbers}
 use Rattle.core_node.specs.View.{core_of}
 use Rattle.watch_state.specs.Cores.{cached_records, set_records, spilled_records}
 use Rattle.watch_state.specs.Plain.{record_of}

@@ -1,8 +1,8 @@
 -- The attempt, the registers, the cache, and what was spilled.
 use Rattle.std.proofs.Common.{◌++◌, map}
 use Rattle.std.specs.List.{flat_map}
-use Rattle.tcc_maps.specs.Shape.{lines}
-use Rattle.tcc_rules.specs.Seen.{numbers}
+use Rattle.rules_maps.specs.Shape.{lines}
+use Rattle.rules_tcc.specs.Seen.{numbers}
 use Rattle.core_node.specs.View.{core_of}
 use Rattle.watch_state.specs.Cores.{attempt_records, cached_records, core_records, register_records, set_records, spilled_records}
 use Rattle.watch_state.specs.Plain.{record_of}

@@ -3,8 +3,8 @@ use Rattle.std.proofs.Common.{◌++◌, map}
 use Rattle.std.specs.List.{flat_map}
 use Rattle.image_load.specs.Contents.{started}
 use Rattle.rv_code.specs.Machine.{first_ram}
-use Rattle.tcc_maps.specs.Shape.{lines}
-use Rattle.tcc_rules.specs.Seen.{numbers}
+use Rattle.rules_maps.specs.Shape.{lines}
+use Rattle.rules_tcc.specs.Seen.{numbers}
 use Rattle.directory.specs.Data.{dir_of}
 use Rattle.watch_state.specs.Directories.{at_home, directory_part, directory_records, line_record, serving_records, word_records}
 use Rattle.watch_state.specs.Plain.{record_of}

@@ -1,6 +1,6 @@
 -- The line is at home here, or elsewhere.
 use Rattle.std.proofs.Common.{◌≢◌, ◌++◌, ap, map, sym, ◌∙◌, rules}
-use Rattle.tcc_maps.specs.Shape.{home}
+use Rattle.rules_maps.specs.Shape.{home}
 use Rattle.directory.specs.Data.{dir_of}
 use Rattle.watch_state.specs.Directories.{line_record}
 use Rattle.watch_state.specs.Plain.{record_of}

@@ -1,7 +1,7 @@
 -- The directory, and behind it the TIDs.
 use Rattle.std.proofs.Common.{[], ◌∷◌, length, map}
 use Rattle.std.specs.List.{flat_map}
-use Rattle.tcc_rules.specs.Seen.{numbers}
+use Rattle.rules_tcc.specs.Seen.{numbers}
 use Rattle.directory.specs.Data.{dir_of}
 use Rattle.watch_state.specs.Directories.{serving_records, skipped_record}
 use Rattle.watch_state.specs.Plain.{record_of}

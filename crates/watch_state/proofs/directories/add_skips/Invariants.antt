@@ -1,7 +1,7 @@
 -- The records of the TIDs so far are there.
 use Rattle.std.proofs.Common.{◌≡◌, ◌++◌, ℕ, map}
 use Rattle.std.specs.List.{flat_map}
-use Rattle.tcc_rules.specs.Seen.{numbers}
+use Rattle.rules_tcc.specs.Seen.{numbers}
 use Rattle.directory.specs.Data.{dir_of}
 use Rattle.watch_state.specs.Directories.{skipped_record}
 use Rattle.watch_state.specs.Plain.{record_of}

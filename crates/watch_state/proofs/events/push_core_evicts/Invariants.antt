@@ -1,7 +1,7 @@
 -- The lines of the sets so far are written.
 use Rattle.std.proofs.Common.{◌≡◌, ◌++◌, string_bytes}
 use Rattle.std.specs.List.{flat_map}
-use Rattle.tcc_rules.specs.Seen.{numbers}
+use Rattle.rules_tcc.specs.Seen.{numbers}
 use Rattle.net_core.specs.Machine.{program_of, settings_of, world_of}
 use Rattle.watch_state.specs.Events.{set_evicts}
 use Rattle.watch_state.specs.Text.{events_text}

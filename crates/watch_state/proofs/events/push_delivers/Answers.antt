@@ -4,8 +4,8 @@ use Rattle.std.specs.Prelude.{slice_get}
 use Rattle.std.specs.List.{flat_map}
 use Rattle.std.proofs.lemmas.List.{take_all}
 use Rattle.tcc_base.specs.Settings.{Settings}
-use Rattle.tcc_maps.specs.Bridge.{node_of}
-use Rattle.tcc_rules.specs.Useful.{nodes}
+use Rattle.rules_maps.specs.Bridge.{node_of}
+use Rattle.rules_tcc.specs.Useful.{nodes}
 use Rattle.net_core.specs.Machine.{program_of, settings_of, world_of}
 use Rattle.watch_state.specs.Events.{delivers_from}
 use Rattle.watch_state.specs.Text.{events_text}

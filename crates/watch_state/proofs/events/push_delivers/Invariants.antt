@@ -1,7 +1,7 @@
 -- The deliveries from the nodes so far are written.
 use Rattle.std.proofs.Common.{◌≡◌, ◌++◌, string_bytes, take}
 use Rattle.std.specs.List.{flat_map}
-use Rattle.tcc_rules.specs.Useful.{nodes}
+use Rattle.rules_tcc.specs.Useful.{nodes}
 use Rattle.net_core.specs.Machine.{program_of, settings_of, world_of}
 use Rattle.watch_state.specs.Events.{delivers_from}
 use Rattle.watch_state.specs.Text.{events_text}

@@ -1,8 +1,8 @@
 -- Each destination in turn.
 use Rattle.std.proofs.Common.{string_bytes, ap, sym, ◌∙◌, arith}
 use Rattle.std.specs.Prelude.{slice_get}
-use Rattle.tcc_maps.specs.Bridge.{node_of}
-use Rattle.tcc_rules.specs.Useful.{nodes}
+use Rattle.rules_maps.specs.Bridge.{node_of}
+use Rattle.rules_tcc.specs.Useful.{nodes}
 use Rattle.net_core.specs.Machine.{settings_of, world_of}
 use Rattle.watch_state.specs.Events.{link_delivers}
 use Rattle.watch_state.specs.Text.{events_text}

@@ -2,10 +2,10 @@
 use Rattle.std.proofs.Common.{◌≡◌, ◌++◌, ap, arith, sym, ◌∙◌, string_bytes}
 use Rattle.std.proofs.lemmas.List.Folds.{flat_map-map}
 use Rattle.tcc_base.specs.Settings.{Settings}
-use Rattle.tcc_maps.specs.Nodes.{Exec}
-use Rattle.tcc_rules.specs.Seen.{numbers}
+use Rattle.rules_maps.specs.Nodes.{Exec}
+use Rattle.rules_tcc.specs.Seen.{numbers}
 use Rattle.net_core.specs.Machine.{settings_of}
-use Rattle.tcc_rules.specs.Useful.{execs}
+use Rattle.rules_tcc.specs.Useful.{execs}
 use Rattle.watch_state.specs.Text.{events_text}
 use Rattle.watch_state.proofs.Flying.{text_of_event}
 use Rattle.watch_state.proofs.Growing.{piece-more}

@@ -1,8 +1,8 @@
 -- The lines of the cores so far are written.
 use Rattle.std.proofs.Common.{◌≡◌, ◌++◌, string_bytes}
 use Rattle.std.specs.List.{flat_map}
-use Rattle.tcc_maps.specs.Nodes.{Exec}
-use Rattle.tcc_rules.specs.Seen.{numbers}
+use Rattle.rules_maps.specs.Nodes.{Exec}
+use Rattle.rules_tcc.specs.Seen.{numbers}
 use Rattle.watch_state.proofs.Flying.{text_of_event}
 use Rattle.watch_state.proofs.events.push_execs.Given as goal
 

@@ -1,6 +1,6 @@
 -- Each message in flight in turn.
 use Rattle.std.proofs.Common.{string_bytes, ap, sym, ◌∙◌, ◌++◌, arith}
-use Rattle.tcc_maps.specs.Bridge.{node_of}
+use Rattle.rules_maps.specs.Bridge.{node_of}
 use Rattle.net_core.specs.Machine.{world_of}
 use Rattle.watch_state.proofs.Flying.{deliver_text, delivers-written, flying_on}
 use Rattle.watch_state.proofs.Listed.{none-past, text-listed, text-whole}

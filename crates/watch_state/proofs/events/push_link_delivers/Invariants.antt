@@ -1,7 +1,7 @@
 -- The deliveries of the messages so far are written.
 use Rattle.std.proofs.Common.{◌≡◌, ◌++◌, string_bytes, take}
 use Rattle.std.specs.List.{flat_map}
-use Rattle.tcc_maps.specs.Bridge.{node_of}
+use Rattle.rules_maps.specs.Bridge.{node_of}
 use Rattle.net_core.specs.Machine.{world_of}
 use Rattle.watch_state.proofs.Flying.{deliver_text, flying_on}
 use Rattle.watch_state.proofs.events.push_link_delivers.Given as goal

@@ -2,8 +2,8 @@
 use Rattle.std.proofs.Common.{◌≡◌, ◌++◌, ap, arith, sym, ◌∙◌, string_bytes}
 use Rattle.std.proofs.lemmas.List.Folds.{flat_map-map}
 use Rattle.tcc_base.specs.Settings.{Settings}
-use Rattle.tcc_maps.specs.Nodes.{Evict}
-use Rattle.tcc_rules.specs.Seen.{numbers}
+use Rattle.rules_maps.specs.Nodes.{Evict}
+use Rattle.rules_tcc.specs.Seen.{numbers}
 use Rattle.net_core.specs.Machine.{settings_of}
 use Rattle.watch_state.specs.Events.{set_evicts}
 use Rattle.watch_state.specs.Text.{events_text}

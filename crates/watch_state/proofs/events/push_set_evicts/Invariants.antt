@@ -1,8 +1,8 @@
 -- The lines of the ways so far are written.
 use Rattle.std.proofs.Common.{◌≡◌, ◌++◌, string_bytes}
 use Rattle.std.specs.List.{flat_map}
-use Rattle.tcc_maps.specs.Nodes.{Evict}
-use Rattle.tcc_rules.specs.Seen.{numbers}
+use Rattle.rules_maps.specs.Nodes.{Evict}
+use Rattle.rules_tcc.specs.Seen.{numbers}
 use Rattle.watch_state.proofs.Flying.{text_of_event}
 use Rattle.watch_state.proofs.events.push_set_evicts.Given as goal
 

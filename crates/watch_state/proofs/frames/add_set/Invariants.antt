@@ -1,7 +1,7 @@
 -- The records of the ways so far are there.
 use Rattle.std.proofs.Common.{◌≡◌, ◌++◌, map}
 use Rattle.std.specs.List.{flat_map}
-use Rattle.tcc_rules.specs.Seen.{numbers}
+use Rattle.rules_tcc.specs.Seen.{numbers}
 use Rattle.core_node.specs.View.{core_of}
 use Rattle.watch_state.specs.Cores.{way_record}
 use Rattle.watch_state.specs.Plain.{record_of}

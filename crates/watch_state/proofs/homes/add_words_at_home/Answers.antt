@@ -3,7 +3,7 @@ use Rattle.std.proofs.Common.{◌++◌, ap, map, sym, ◌∙◌, rules}
 use Rattle.image_load.specs.Contents.{started}
 use Rattle.rv_code.specs.Machine.{first_ram}
 use Rattle.tcc_base.specs.Settings.{Settings}
-use Rattle.tcc_maps.specs.Shape.{home}
+use Rattle.rules_maps.specs.Shape.{home}
 use Rattle.directory.specs.Data.{dir_of}
 use Rattle.watch_state.specs.Directories.{word_records}
 use Rattle.watch_state.specs.Plain.{record_of}

@@ -1,6 +1,6 @@
 -- Each message in flight in turn.
 use Rattle.std.proofs.Common.{string_bytes, ap, sym, ◌∙◌, ◌++◌, arith}
-use Rattle.tcc_maps.specs.Bridge.{node_of}
+use Rattle.rules_maps.specs.Bridge.{node_of}
 use Rattle.tcc_msg.specs.Plain.{msg_of}
 use Rattle.net_core.specs.Machine.{world_of}
 use Rattle.watch_state.proofs.Flying.{flight-written, flight_lines, flights-written, flying_on}

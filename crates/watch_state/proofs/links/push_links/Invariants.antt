@@ -1,7 +1,7 @@
 -- The records of the links from the nodes so far are written.
 use Rattle.std.proofs.Common.{◌≡◌, ◌++◌, string_bytes, take}
 use Rattle.std.specs.List.{flat_map}
-use Rattle.tcc_rules.specs.Useful.{nodes}
+use Rattle.rules_tcc.specs.Useful.{nodes}
 use Rattle.net_core.specs.Machine.{settings_of, world_of}
 use Rattle.watch_state.specs.Lines.{led_lines}
 use Rattle.watch_state.specs.Text.{records_from}

@@ -1,8 +1,8 @@
 -- The records of the links to the nodes so far are written.
 use Rattle.std.proofs.Common.{◌≡◌, ◌++◌, string_bytes, take}
 use Rattle.std.specs.List.{flat_map}
-use Rattle.tcc_maps.specs.Bridge.{node_of}
-use Rattle.tcc_rules.specs.Useful.{nodes}
+use Rattle.rules_maps.specs.Bridge.{node_of}
+use Rattle.rules_tcc.specs.Useful.{nodes}
 use Rattle.net_core.specs.Machine.{settings_of, world_of}
 use Rattle.watch_state.specs.Lines.{led_lines}
 use Rattle.watch_state.specs.Text.{link_records}

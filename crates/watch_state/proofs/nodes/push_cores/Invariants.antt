@@ -1,7 +1,7 @@
 -- The records of the cores so far are written.
 use Rattle.std.proofs.Common.{◌≡◌, ◌++◌, string_bytes}
 use Rattle.std.specs.List.{flat_map}
-use Rattle.tcc_rules.specs.Seen.{numbers}
+use Rattle.rules_tcc.specs.Seen.{numbers}
 use Rattle.net_core.specs.Machine.{settings_of, world_of}
 use Rattle.watch_state.specs.Cores.{core_records}
 use Rattle.watch_state.specs.Lines.{record_lines}

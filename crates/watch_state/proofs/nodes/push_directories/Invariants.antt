@@ -2,7 +2,7 @@
 use Rattle.std.proofs.Common.{◌≡◌, ◌++◌, string_bytes}
 use Rattle.std.specs.List.{flat_map}
 use Rattle.rv_code.specs.Machine.{first_ram}
-use Rattle.tcc_rules.specs.Seen.{numbers}
+use Rattle.rules_tcc.specs.Seen.{numbers}
 use Rattle.net_core.specs.Machine.{settings_of, start_of, world_of}
 use Rattle.watch_state.specs.Directories.{directory_records}
 use Rattle.watch_state.specs.Lines.{record_lines}

@@ -1,6 +1,6 @@
 -- What is taken away is what is taken away from the numbers below the bound.
 use Rattle.std.proofs.Common.{◌&&◌, not, ◌∙◌}
-use Rattle.tcc_maps.specs.Masks.{has}
+use Rattle.rules_maps.specs.Masks.{has}
 use Rattle.watch_state.proofs.Growing.{within-alone}
 use Rattle.watch_state.proofs.numbers.only_below.Goals as goal
 

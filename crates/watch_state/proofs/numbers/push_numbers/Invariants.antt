@@ -1,7 +1,7 @@
 -- The numbers so far are written.
 use Rattle.std.proofs.Common.{◌≡◌, ◌++◌, string_bytes}
-use Rattle.tcc_maps.specs.Masks.{has}
-use Rattle.tcc_maps.specs.Words.{those}
+use Rattle.rules_maps.specs.Masks.{has}
+use Rattle.rules_maps.specs.Words.{those}
 use Rattle.watch_state.specs.Lines.{number_words}
 use Rattle.watch_state.proofs.numbers.push_numbers.Given as goal
 

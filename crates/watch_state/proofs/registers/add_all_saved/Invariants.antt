@@ -1,7 +1,7 @@
 -- The records of the registers so far are there.
 use Rattle.std.proofs.Common.{◌≡◌, ◌++◌, map}
 use Rattle.std.specs.List.{flat_map}
-use Rattle.tcc_rules.specs.Seen.{numbers}
+use Rattle.rules_tcc.specs.Seen.{numbers}
 use Rattle.watch_state.specs.Cores.{saved_record}
 use Rattle.watch_state.specs.Plain.{record_of}
 use Rattle.watch_state.proofs.registers.add_all_saved.Given as goal

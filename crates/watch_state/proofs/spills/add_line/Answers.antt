@@ -1,5 +1,5 @@
 use Rattle.std.proofs.Common.{map}
-use Rattle.tcc_maps.specs.Words.{word_at}
+use Rattle.rules_maps.specs.Words.{word_at}
 use Rattle.overflow_buf.specs.Kept.{spilled}
 use Rattle.watch_state.specs.Cores.{spilled_word}
 use Rattle.watch_state.specs.Plain.{record_of}

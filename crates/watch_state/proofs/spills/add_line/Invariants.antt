@@ -1,8 +1,8 @@
 -- The records of the words so far are there.
 use Rattle.std.proofs.Common.{◌≡◌, ◌++◌, map}
 use Rattle.std.specs.List.{flat_map}
-use Rattle.tcc_maps.specs.Words.{word_at}
-use Rattle.tcc_rules.specs.Seen.{numbers}
+use Rattle.rules_maps.specs.Words.{word_at}
+use Rattle.rules_tcc.specs.Seen.{numbers}
 use Rattle.overflow_buf.specs.Kept.{spilled}
 use Rattle.watch_state.specs.Cores.{spilled_word}
 use Rattle.watch_state.specs.Plain.{record_of}

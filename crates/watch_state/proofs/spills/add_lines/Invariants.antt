@@ -1,7 +1,7 @@
 -- The records of the memory's lines so far are there.
 use Rattle.std.proofs.Common.{◌≡◌, ◌++◌, map}
 use Rattle.std.specs.List.{flat_map}
-use Rattle.tcc_rules.specs.Seen.{numbers}
+use Rattle.rules_tcc.specs.Seen.{numbers}
 use Rattle.overflow_buf.specs.Kept.{spilled}
 use Rattle.watch_state.specs.Cores.{spilled_records}
 use Rattle.watch_state.specs.Plain.{record_of}

@@ -1,6 +1,6 @@
 -- Nothing is spilled.
 use Rattle.std.proofs.Common.{rules}
-use Rattle.tcc_maps.specs.Shape.{lines}
+use Rattle.rules_maps.specs.Shape.{lines}
 use Rattle.watch_state.proofs.Spilling.{none-spilled}
 use Rattle.watch_state.proofs.spills.add_spills.Goals as goal
 

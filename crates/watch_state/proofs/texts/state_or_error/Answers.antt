@@ -4,7 +4,7 @@ use Rattle.std.specs.List.{flat_map}
 use Rattle.image_load.specs.Contents.{started}
 use Rattle.rv_code.specs.Machine.{first_ram}
 use Rattle.tcc_base.specs.Settings.{Settings}
-use Rattle.tcc_rules.specs.Useful.{delivers, evicts, execs, nodes}
+use Rattle.rules_tcc.specs.Useful.{delivers, evicts, execs, nodes}
 use Rattle.schedule_text.specs.Grammar.{config_line, newline}
 use Rattle.report_text.specs.Lines.{end_line, events_line}
 use Rattle.net_core.specs.Machine.{history_of, program_of, settings_of, start_of, world_of}

@@ -2,7 +2,7 @@
 use Rattle.std.proofs.Common.{◌++◌, ◌∙◌, ap, [], append_assoc, length, map, string_bytes}
 use Rattle.std.specs.Prelude.{get_or}
 use Rattle.rv_code.specs.Machine.{first_ram}
-use Rattle.tcc_rules.specs.Seen.{numbers}
+use Rattle.rules_tcc.specs.Seen.{numbers}
 use Rattle.bus_tcc.specs.Machine.{bus_settings_of, bus_start_of, bus_world_of}
 use Rattle.watch_state.specs.Plain.{record_of}
 use Rattle.watch_changes.specs.Changes.{all_lines}

@@ -1,7 +1,7 @@
 -- Whether all cores have halted.
 use Rattle.std.proofs.Common.{◌≡◌, ap, sym, ◌∙◌}
-use Rattle.tcc_rules.specs.State.{Halted}
-use Rattle.core_bank.specs.Bank.{cores_of}
+use Rattle.rules_tcc.specs.State.{Halted}
+use Rattle.machine_cores.specs.Bank.{cores_of}
 use Rattle.bus_tcc.proofs.Banks.{among, come-to, one-more, state-here}
 use Rattle.bus_tcc.proofs.bank.BusBank.all_halted.Goals as goal
 

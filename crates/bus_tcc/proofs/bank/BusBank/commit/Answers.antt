@@ -1,7 +1,7 @@
 -- A core commits.
 use Rattle.std.proofs.Common.{◌≡◌, ◌<◌, None, ap, sym, subst, arith}
 use Rattle.core_node.specs.View.{core_of}
-use Rattle.tcc_maps.specs.Shape.{lines}
+use Rattle.rules_maps.specs.Shape.{lines}
 use Rattle.bus_tcc.proofs.Banks.{acted-unchanged, acted-whole, here, own-config, state-here}
 use Rattle.bus_tcc.proofs.BankCommits.{bank-can, bank-commits, bank-may, bank-wrote}
 use Rattle.bus_tcc.proofs.bank.BusBank.commit.Goals as goal

@@ -1,7 +1,7 @@
 -- A core empties a way.
 use Rattle.std.proofs.Common.{subst}
 use Rattle.core_node.specs.Answers.{IsBlocked}
-use Rattle.tcc_rules.specs.CoreEvict.{core_evict}
+use Rattle.rules_tcc.specs.CoreEvict.{core_evict}
 use Rattle.bus_tcc.proofs.Banks.{acted-does, acted-unchanged, acted-whole, here, same-rule}
 use Rattle.bus_tcc.proofs.bank.BusBank.evict.Goals as goal
 

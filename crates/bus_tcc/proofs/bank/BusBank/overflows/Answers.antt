@@ -2,10 +2,10 @@
 use Rattle.std.proofs.Common.{◌∙◌, ap, sym}
 use Rattle.image_load.specs.Contents.{started}
 use Rattle.rv_code.specs.Machine.{program}
-use Rattle.core_bank.specs.Bank.{cores_of}
+use Rattle.machine_cores.specs.Bank.{cores_of}
 use Rattle.core_node.specs.AtHand.{goes_alone}
 use Rattle.core_node.specs.View.{core_of}
-use Rattle.tcc_rules.specs.CoreExec.{core_exec}
+use Rattle.rules_tcc.specs.CoreExec.{core_exec}
 use Rattle.bus_tcc.proofs.bank.BusBank.overflows.Goals as goal
 
 pub overflows-requires : goal.overflows-requires

@@ -1,7 +1,7 @@
 -- A core takes a packet.
 use Rattle.std.proofs.Common.{ap, ◌∙◌}
 use Rattle.tcc_base.specs.Put.{put}
-use Rattle.core_bank.specs.Bank.{cores_of}
+use Rattle.machine_cores.specs.Bank.{cores_of}
 use Rattle.bus_tcc.specs.Taking.{took}
 use Rattle.bus_tcc.proofs.Banks.{acted-whole, cores-acted, here, state-here}
 use Rattle.bus_tcc.proofs.bank.BusBank.take.Goals as goal

@@ -1,6 +1,6 @@
 -- No packet is left to nobody.
 use Rattle.std.proofs.Common.{length, ap}
-use Rattle.tcc_rules.specs.Seen.{numbers}
+use Rattle.rules_tcc.specs.Seen.{numbers}
 use Rattle.bus_tcc.specs.Left.{is_left}
 use Rattle.bus_tcc.specs.Machine.{bus_of}
 use Rattle.bus_tcc.proofs.Numbers.{none-pass}

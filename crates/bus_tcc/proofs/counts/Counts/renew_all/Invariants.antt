@@ -1,7 +1,7 @@
 -- The cores so far are counted.
 use Rattle.image_load.specs.Contents.{started}
 use Rattle.rv_code.specs.Machine.{program}
-use Rattle.core_bank.specs.Bank.{cores_of}
+use Rattle.machine_cores.specs.Bank.{cores_of}
 use Rattle.bus_tcc.proofs.Counting.{AreCountedTo}
 use Rattle.bus_tcc.proofs.counts.Counts.renew_all.Given as goal
 

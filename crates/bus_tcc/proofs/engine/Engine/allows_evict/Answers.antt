@@ -1,7 +1,7 @@
 -- By the core's cache.
 use Rattle.std.proofs.Common.{ap, sym, ◌∙◌, is_some, subst, ◌<◌}
-use Rattle.tcc_rules.specs.CoreEvict.{core_evict}
-use Rattle.core_bank.specs.Bank.{cores_of}
+use Rattle.rules_tcc.specs.CoreEvict.{core_evict}
+use Rattle.machine_cores.specs.Bank.{cores_of}
 use Rattle.bus_tcc.specs.Machine.{bus_settings_of}
 use Rattle.bus_tcc.proofs.Enabling.{evict-enabled}
 use Rattle.bus_tcc.proofs.Events.{bank_in, no-evict}

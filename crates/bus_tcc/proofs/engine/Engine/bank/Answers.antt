@@ -1,6 +1,6 @@
 -- The cores.
 use Rattle.std.proofs.Common.{ap}
-use Rattle.core_bank.specs.Bank.{cores_of}
+use Rattle.machine_cores.specs.Bank.{cores_of}
 use Rattle.bus_tcc.specs.Machine.{bus_world_of}
 use Rattle.bus_tcc.proofs.Events.{bank_in}
 use Rattle.bus_tcc.proofs.engine.Engine.bank.Goals as goal

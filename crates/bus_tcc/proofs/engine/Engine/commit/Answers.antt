@@ -1,6 +1,6 @@
 -- A core that waits for the bus commits.
 use Rattle.std.proofs.Common.{◌≡◌, true, false, sym, subst, Err}
-use Rattle.bus_rules.specs.State.{Exec}
+use Rattle.rules_bus.specs.State.{Exec}
 use Rattle.bus_tcc.specs.Answers.{Answers}
 use Rattle.bus_tcc.specs.Inside.{machine_of}
 use Rattle.bus_tcc.specs.Machine.{bus_of, is_free}

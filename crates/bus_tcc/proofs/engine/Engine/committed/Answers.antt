@@ -1,6 +1,6 @@
 -- What the last commit left.
 use Rattle.std.proofs.Common.{ap, ◌∙◌}
-use Rattle.core_bank.specs.Bank.{cores_of}
+use Rattle.machine_cores.specs.Bank.{cores_of}
 use Rattle.core_node.specs.View.{core_of}
 use Rattle.bus_tcc.specs.Machine.{bus_world_of}
 use Rattle.bus_tcc.proofs.Events.{bank_in}

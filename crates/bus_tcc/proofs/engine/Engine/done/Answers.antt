@@ -1,7 +1,7 @@
 -- Whether the machine is done.
 use Rattle.std.proofs.Common.{◌≡◌, ap, sym, ◌∙◌, subst, not, false, true}
 use Rattle.std.specs.Prelude.{IsTrue}
-use Rattle.bus_rules.specs.Useful.{BusIsDone}
+use Rattle.rules_bus.specs.Useful.{BusIsDone}
 use Rattle.bus_tcc.specs.Machine.{BusMachine, bus_settings_of, bus_world_of}
 use Rattle.bus_tcc.proofs.engine.Engine.done.Goals as goal
 

@@ -1,7 +1,7 @@
 -- How a core halted.
 use Rattle.std.proofs.Common.{ap, ◌∙◌}
-use Rattle.core_bank.specs.Bank.{cores_of}
-use Rattle.tcc_serial.specs.Commits.{end_after}
+use Rattle.machine_cores.specs.Bank.{cores_of}
+use Rattle.theorem_serial.specs.Commits.{end_after}
 use Rattle.bus_tcc.specs.Machine.{bus_world_of}
 use Rattle.bus_tcc.proofs.Events.{bank_in}
 use Rattle.bus_tcc.proofs.engine.Engine.ended.Goals as goal

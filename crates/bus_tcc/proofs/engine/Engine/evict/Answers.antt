@@ -1,6 +1,6 @@
 -- A core empties a way.
 use Rattle.std.proofs.Common.{◌∙◌, ap, refl, sym, subst, Err}
-use Rattle.bus_rules.specs.State.{Evict}
+use Rattle.rules_bus.specs.State.{Evict}
 use Rattle.bus_tcc.specs.Answers.{Answers, Took}
 use Rattle.bus_tcc.specs.Inside.{machine_of}
 use Rattle.bus_tcc.specs.Machine.{bus_settings_of}

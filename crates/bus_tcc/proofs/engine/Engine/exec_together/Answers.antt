@@ -2,8 +2,8 @@
 use Rattle.std.proofs.Common.{◌≡◌, true, false, refl, ap, sym, ◌∙◌}
 use Rattle.commit_engine.specs.Engine.{phase_of}
 use Rattle.commit_engine.specs.declared.phase.Phase.TheVariants as code
-use Rattle.tcc_rules.specs.Attempt.{is_solo}
-use Rattle.tcc_rules.specs.State.{Running, AwaitTid, DoomedTid, Probing, Ready, Solo, Halted}
+use Rattle.rules_tcc.specs.Attempt.{is_solo}
+use Rattle.rules_tcc.specs.State.{Running, AwaitTid, DoomedTid, Probing, Ready, Solo, Halted}
 use Rattle.core_node.specs.View.{core_of}
 use Rattle.bus_tcc.specs.Inside.{machine_of}
 use Rattle.bus_tcc.proofs.ByPhase.{at-phase, overflowing-rests, resting-answers, running-step, runs-executes}

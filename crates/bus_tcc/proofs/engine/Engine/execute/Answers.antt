@@ -1,8 +1,8 @@
 -- A core executes.
 use Rattle.std.proofs.Common.{Bool, true, false, refl, sym, subst, Err}
-use Rattle.bus_rules.specs.Exec.{instruction}
-use Rattle.bus_rules.specs.State.{Exec}
-use Rattle.core_bank.specs.Bank.{cores_of}
+use Rattle.rules_bus.specs.Exec.{instruction}
+use Rattle.rules_bus.specs.State.{Exec}
+use Rattle.machine_cores.specs.Bank.{cores_of}
 use Rattle.core_node.specs.Answers.{IsBlocked}
 use Rattle.bus_tcc.specs.Answers.{Answers, Took}
 use Rattle.bus_tcc.specs.Bank.{ExecutedAt}

@@ -1,8 +1,8 @@
 -- Whether a core can't take the bus.
 use Rattle.std.proofs.Common.{◌&&◌, not, ◌∙◌, ap}
-use Rattle.core_bank.specs.Bank.{cores_of}
+use Rattle.machine_cores.specs.Bank.{cores_of}
 use Rattle.core_node.specs.AtHand.{goes_alone}
-use Rattle.tcc_rules.specs.CoreExec.{core_exec}
+use Rattle.rules_tcc.specs.CoreExec.{core_exec}
 use Rattle.bus_tcc.specs.Machine.{bus_of, bus_program_of, bus_settings_of, bus_world_of, is_free}
 use Rattle.bus_tcc.proofs.Events.{bank_in}
 use Rattle.bus_tcc.proofs.engine.Engine.is_barred.Goals as goal

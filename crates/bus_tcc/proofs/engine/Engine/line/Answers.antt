@@ -1,6 +1,6 @@
 -- A line of memory.
 use Rattle.std.proofs.Common.{ap, ◌∙◌}
-use Rattle.bus_rules.specs.Exec.{line_words}
+use Rattle.rules_bus.specs.Exec.{line_words}
 use Rattle.bus_tcc.specs.Machine.{bus_world_of, word_in}
 use Rattle.bus_tcc.proofs.engine.Engine.line.Goals as goal
 

@@ -1,15 +1,15 @@
 -- A core commits.
 use Rattle.std.proofs.Common.{◌+◌, ◌<◌, not, ◌&&◌, refl, ap, sym, ◌∙◌, subst, Err, length, arith}
 use Rattle.std.specs.Prelude.{◌==◌, if◌then◌else◌}
-use Rattle.tcc_maps.specs.Words.{any_below}
-use Rattle.bus_rules.specs.Commit.{with_words}
-use Rattle.bus_rules.specs.State.{Exec, Packet, Free}
-use Rattle.core_bank.specs.Bank.{cores_of}
+use Rattle.rules_maps.specs.Words.{any_below}
+use Rattle.rules_bus.specs.Commit.{with_words}
+use Rattle.rules_bus.specs.State.{Exec, Packet, Free}
+use Rattle.machine_cores.specs.Bank.{cores_of}
 use Rattle.core_node.specs.AtHand.{words_in}
-use Rattle.tcc_rules.specs.Step.{insert_commit}
-use Rattle.commit_list.specs.Rising.{HasNone}
+use Rattle.rules_tcc.specs.Step.{insert_commit}
+use Rattle.machine_commits.specs.Rising.{HasNone}
 use Rattle.bus_tcc.specs.Answers.{Answers, Took}
-use Rattle.tcc_rules.specs.State.{CoreState}
+use Rattle.rules_tcc.specs.State.{CoreState}
 use Rattle.bus_tcc.specs.Ending.{at_commit}
 use Rattle.bus_tcc.specs.Inside.{machine_of}
 use Rattle.bus_tcc.specs.Left.{all_but}

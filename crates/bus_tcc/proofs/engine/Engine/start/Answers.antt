@@ -1,7 +1,7 @@
 -- The first machine.
 use Rattle.std.proofs.Common.{refl, ap, ◌∙◌}
 use Rattle.image_load.specs.Contents.{started}
-use Rattle.core_bank.specs.Bank.{first_core}
+use Rattle.machine_cores.specs.Bank.{first_core}
 use Rattle.bus_tcc.specs.Machine.{BusMachine}
 use Rattle.bus_tcc.specs.declared.bus.Bus.TheVariants.{Free}
 use Rattle.bus_tcc.proofs.Starting.{IsFirst, first-history, first-whole}

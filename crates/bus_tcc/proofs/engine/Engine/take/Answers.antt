@@ -1,6 +1,6 @@
 -- A core takes the packet.
 use Rattle.std.proofs.Common.{◌≡◌, ◌<◌, None, refl, ap, sym, ◌∙◌, subst}
-use Rattle.bus_rules.specs.State.{Take}
+use Rattle.rules_bus.specs.State.{Take}
 use Rattle.bus_tcc.specs.Answers.{Kept, Took, bus_step_of}
 use Rattle.bus_tcc.specs.Inside.{machine_of}
 use Rattle.bus_tcc.specs.Left.{without_core}

@@ -1,5 +1,5 @@
 use Rattle.std.proofs.Common.{ℕ, ◌&&◌, Bool, bit_and, ap, ◌∙◌}
-use Rattle.tcc_maps.specs.Masks.{has}
+use Rattle.rules_maps.specs.Masks.{has}
 use Rattle.commit_engine.proofs.Bits.{empty_below, has-and}
 use Rattle.commit_engine.proofs.dir_set.DirSet.is_empty_below.Goals as goal
 

@@ -1,5 +1,5 @@
 use Rattle.std.proofs.Common.{sym, ◌∙◌}
-use Rattle.tcc_rules.specs.Commit.{commit}
+use Rattle.rules_tcc.specs.Commit.{commit}
 use Rattle.core_node.proofs.node.CoreNode.commit.Goals as goal
 
 pub unreachable-requires : goal.unreachable-requires

@@ -1,5 +1,5 @@
 use Rattle.std.proofs.Common.{◌≡◌, ℕ, refl, ap, ◌∙◌}
-use Rattle.tcc_rules.specs.State.{core_start}
+use Rattle.rules_tcc.specs.State.{core_start}
 use Rattle.rv_code.specs.Machine.{start_local}
 use Rattle.core_node.specs.View.{core_of}
 use Rattle.core_node.proofs.node.CoreNode.start.Goals as goal

@@ -1,6 +1,6 @@
 use Rattle.std.proofs.Common.{true, false, Some, ◌==◌, if◌then◌else◌, ◌∙◌, ap}
-use Rattle.tcc_maps.specs.Words.{put}
-use Rattle.tcc_maps.specs.Masks.{has}
+use Rattle.rules_maps.specs.Words.{put}
+use Rattle.rules_maps.specs.Masks.{has}
 use Rattle.dir_lines.specs.Record.{lines_of}
 use Rattle.dir_lines.proofs.Changes.{lines_of-owned}
 use Rattle.dir_lines.proofs.lines.Lines.own.Goals as goal

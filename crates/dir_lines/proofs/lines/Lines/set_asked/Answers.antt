@@ -1,5 +1,5 @@
 use Rattle.std.proofs.Common.{◌∙◌, ap}
-use Rattle.tcc_maps.specs.Words.{put}
+use Rattle.rules_maps.specs.Words.{put}
 use Rattle.dir_lines.specs.Record.{lines_of}
 use Rattle.dir_lines.proofs.Changes.{lines_of-with_asked}
 use Rattle.dir_lines.proofs.lines.Lines.set_asked.Goals as goal

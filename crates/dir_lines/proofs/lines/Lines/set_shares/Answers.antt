@@ -1,6 +1,6 @@
 use Rattle.std.proofs.Common.{◌==◌, if◌then◌else◌, ◌∙◌, ap}
-use Rattle.tcc_maps.specs.Words.{put}
-use Rattle.tcc_maps.specs.Masks.{has}
+use Rattle.rules_maps.specs.Words.{put}
+use Rattle.rules_maps.specs.Masks.{has}
 use Rattle.dir_lines.specs.Record.{lines_of}
 use Rattle.dir_lines.proofs.Changes.{lines_of-with_sharer}
 use Rattle.dir_lines.proofs.lines.Lines.set_shares.Goals as goal

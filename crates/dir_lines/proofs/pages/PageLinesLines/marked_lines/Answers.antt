@@ -1,11 +1,11 @@
 use Rattle.std.proofs.Common.{rules, ◌≡◌, ◌<◌, ◌≤◌, length, ap, ◌∙◌, arith}
 use Rattle.dir_lines.specs.Record.{lines_of}
-use Rattle.tcc_maps.specs.Shape.{lines}
-use Rattle.tcc_maps.specs.Lines.{has_mark}
+use Rattle.rules_maps.specs.Shape.{lines}
+use Rattle.rules_maps.specs.Lines.{has_mark}
 use Rattle.dir_lines.specs.Pages.{pages_at}
 use Rattle.dir_lines.specs.PagesInside.{pages_of}
-use Rattle.tcc_maps.specs.Words.{count_below}
-use Rattle.tcc_maps.proofs.Lemmas.{length-those}
+use Rattle.rules_maps.specs.Words.{count_below}
+use Rattle.rules_maps.proofs.Lemmas.{length-those}
 use Rattle.dir_lines.proofs.Counting.{count_below-small}
 use Rattle.dir_lines.proofs.PagesKeep.{marked-at_home}
 use Rattle.dir_lines.proofs.pages.PageLinesLines.marked_lines.Goals as goal

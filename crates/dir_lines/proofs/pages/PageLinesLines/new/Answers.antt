@@ -1,8 +1,8 @@
 use Rattle.std.proofs.Common.{◌≡◌, length, ap, ◌∙◌, arith}
 use Rattle.dir_lines.specs.Home.{Home}
 use Rattle.dir_lines.specs.Record.{lines_of}
-use Rattle.tcc_maps.specs.Shape.{lines}
-use Rattle.tcc_maps.specs.Lines.{has_mark}
+use Rattle.rules_maps.specs.Shape.{lines}
+use Rattle.rules_maps.specs.Lines.{has_mark}
 use Rattle.dir_lines.specs.Pages.{pages_at}
 use Rattle.std.proofs.lemmas.List.{length-replicate}
 use Rattle.dir_lines.specs.Record.{blank}

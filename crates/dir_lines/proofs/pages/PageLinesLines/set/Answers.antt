@@ -1,9 +1,9 @@
 use Rattle.std.proofs.Common.{◌≡◌, ◌/◌, ◌<◌, ◌≤◌, length, vec_capacity, sym, subst, ap, ◌∙◌, arith}
 use Rattle.dir_lines.specs.Home.{IsAtHome, home_lines}
 use Rattle.dir_lines.specs.Record.{lines_of}
-use Rattle.tcc_maps.specs.Words.{put}
-use Rattle.tcc_maps.specs.Shape.{lines}
-use Rattle.tcc_maps.specs.Lines.{has_mark}
+use Rattle.rules_maps.specs.Words.{put}
+use Rattle.rules_maps.specs.Shape.{lines}
+use Rattle.rules_maps.specs.Lines.{has_mark}
 use Rattle.dir_lines.specs.Pages.{pages_at}
 use Rattle.dir_lines.specs.PagesInside.{pages_of}
 use Rattle.dir_lines.proofs.PagesAt.{IsWhole, stands}

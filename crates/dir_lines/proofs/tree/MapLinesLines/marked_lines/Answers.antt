@@ -1,8 +1,8 @@
 use Rattle.std.proofs.Common.{rules, ◌≡◌, ◌<◌, ◌≤◌, length, ap, ◌∙◌, arith}
-use Rattle.tcc_maps.specs.Words.{count_below}
-use Rattle.tcc_maps.specs.Shape.{lines}
-use Rattle.tcc_maps.specs.Lines.{has_mark}
-use Rattle.tcc_maps.proofs.Lemmas.{length-those}
+use Rattle.rules_maps.specs.Words.{count_below}
+use Rattle.rules_maps.specs.Shape.{lines}
+use Rattle.rules_maps.specs.Lines.{has_mark}
+use Rattle.rules_maps.proofs.Lemmas.{length-those}
 use Rattle.dir_lines.specs.Record.{lines_of}
 use Rattle.dir_lines.specs.Filed.{filed_at}
 use Rattle.dir_lines.specs.FiledInside.{filed_of}

@@ -1,6 +1,6 @@
 use Rattle.std.proofs.Common.{◌≡◌, ◌/◌, ◌∙◌, arith}
-use Rattle.tcc_maps.specs.Shape.{lines}
-use Rattle.tcc_maps.specs.Lines.{has_mark}
+use Rattle.rules_maps.specs.Shape.{lines}
+use Rattle.rules_maps.specs.Lines.{has_mark}
 use Rattle.dir_lines.specs.Home.{Home}
 use Rattle.dir_lines.specs.Record.{lines_of}
 use Rattle.dir_lines.specs.Filed.{filed_at}

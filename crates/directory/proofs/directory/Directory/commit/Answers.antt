@@ -1,9 +1,9 @@
 use Rattle.std.proofs.Common.{◌≡◌, ap, sym, subst, ◌∙◌, arith}
 use borrow.Author.Tests.{eq-eqb, ne_eqb}
-use Rattle.tcc_maps.specs.Words.{count_below}
-use Rattle.tcc_maps.specs.Shape.{lines}
-use Rattle.tcc_maps.specs.Lines.{has_mark}
-use Rattle.tcc_rules.specs.DirDeliver.{dir_commit}
+use Rattle.rules_maps.specs.Words.{count_below}
+use Rattle.rules_maps.specs.Shape.{lines}
+use Rattle.rules_maps.specs.Lines.{has_mark}
+use Rattle.rules_tcc.specs.DirDeliver.{dir_commit}
 use Rattle.dir_lines.specs.Kept.{kept}
 use Rattle.directory.specs.declared.handled.Handled.TheVariants.{Handled as Done}
 use Rattle.directory.specs.Data.{dir_of}

@@ -1,5 +1,5 @@
 use Rattle.std.proofs.Common.{ap, ◌∙◌}
-use Rattle.tcc_maps.specs.Serving.{is_skipped}
+use Rattle.rules_maps.specs.Serving.{is_skipped}
 use Rattle.directory.specs.Data.{dir_of}
 use Rattle.directory.proofs.directory.Directory.is_skipped.Goals as goal
 

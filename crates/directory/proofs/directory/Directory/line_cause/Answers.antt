@@ -1,6 +1,6 @@
 use Rattle.std.proofs.Common.{◌≡◌, true, false, refl, ap, ◌∙◌, arith}
 use borrow.Author.Tests.{lt-ltb, le-ltb}
-use Rattle.tcc_maps.specs.Lines.{has_mark}
+use Rattle.rules_maps.specs.Lines.{has_mark}
 use Rattle.dir_lines.specs.Kept.{kept}
 use Rattle.directory.specs.Data.{dir_of}
 use Rattle.directory.proofs.directory.Directory.line_cause.Goals as goal

@@ -1,6 +1,6 @@
 -- The words of the line in the array.
 use Rattle.std.proofs.Common.{ap, ◌∙◌}
-use Rattle.tcc_maps.specs.Words.{eight, word_at}
+use Rattle.rules_maps.specs.Words.{eight, word_at}
 use Rattle.dir_lines.specs.Words.{words_at}
 use Rattle.directory.specs.Data.{dir_of}
 use Rattle.directory.proofs.directory.Directory.line_words.Goals as goal

@@ -1,6 +1,6 @@
 use Rattle.std.proofs.Common.{◌≡◌, None, option_map, ap, sym, ◌∙◌, arith}
 use borrow.Author.Tests.{lt-ltb, le-ltb}
-use Rattle.tcc_rules.specs.DirDeliver.{ask_owner, load_unless_owned, load_request}
+use Rattle.rules_tcc.specs.DirDeliver.{ask_owner, load_unless_owned, load_request}
 use Rattle.dir_lines.specs.Kept.{kept}
 use Rattle.directory.specs.Data.{dir_of}
 use Rattle.directory.proofs.RuleCases.{le-true, le-false, load-early, load-marked, load-other}

@@ -1,7 +1,7 @@
 use Rattle.std.proofs.Common.{◌≡◌, ◌==◌, None, if◌then◌else◌, ap, sym, ◌∙◌, arith}
 use borrow.Author.Tests.{lt-ltb, le-ltb}
-use Rattle.tcc_maps.specs.Masks.{full}
-use Rattle.tcc_rules.specs.DirDeliver.{ask_owner, mark_unless_owned, mark}
+use Rattle.rules_maps.specs.Masks.{full}
+use Rattle.rules_tcc.specs.DirDeliver.{ask_owner, mark_unless_owned, mark}
 use Rattle.dir_lines.specs.Kept.{kept}
 use Rattle.directory.specs.Data.{dir_of}
 use Rattle.directory.specs.DataInside.{data_of}

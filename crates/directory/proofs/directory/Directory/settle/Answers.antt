@@ -1,8 +1,8 @@
 use Rattle.std.proofs.Common.{ap, sym, ◌∙◌, ◌≡◌, ◌==◌, true, false, arith}
 use borrow.Author.Tests.{eq-eqb, ne_eqb}
-use Rattle.tcc_maps.specs.Serving.{advance}
-use Rattle.tcc_maps.specs.Lines.{unmarked}
-use Rattle.tcc_rules.specs.DirDeliver.{moved_on_if_settled, moved_on}
+use Rattle.rules_maps.specs.Serving.{advance}
+use Rattle.rules_maps.specs.Lines.{unmarked}
+use Rattle.rules_tcc.specs.DirDeliver.{moved_on_if_settled, moved_on}
 use Rattle.dir_lines.specs.Kept.{kept}
 use Rattle.dir_lines.specs.Words.{words_at}
 use Rattle.directory.specs.Data.{dir_of}

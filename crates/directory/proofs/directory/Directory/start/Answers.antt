@@ -1,4 +1,4 @@
-use Rattle.tcc_rules.specs.State.{dir_start}
+use Rattle.rules_tcc.specs.State.{dir_start}
 use Rattle.directory.specs.Data.{dir_of}
 use Rattle.directory.proofs.directory.Directory.start.Goals as goal
 

@@ -1,5 +1,5 @@
 use Rattle.std.proofs.Common.{ap}
-use Rattle.tcc_rules.specs.DirDeliver.{dir_deliver, skip, abort, probe, load_request, mark, dir_commit, acknowledgement, write_back}
+use Rattle.rules_tcc.specs.DirDeliver.{dir_deliver, skip, abort, probe, load_request, mark, dir_commit, acknowledgement, write_back}
 use Rattle.tcc_msg.specs.Plain.{msg_of}
 use Rattle.directory.specs.Data.{dir_of}
 use Rattle.directory.proofs.Giving.{gives-by, gives-ok}

@@ -1,8 +1,8 @@
 use Rattle.std.proofs.Common.{◌≡◌, ap, sym, ◌∙◌, None, false}
-use Rattle.tcc_maps.specs.Judge.{judge}
-use Rattle.tcc_maps.specs.Lines.{with_asked}
-use Rattle.tcc_rules.specs.DirDeliver as rules
-use Rattle.tcc_rules.specs.Sends.{nothing}
+use Rattle.rules_maps.specs.Judge.{judge}
+use Rattle.rules_maps.specs.Lines.{with_asked}
+use Rattle.rules_tcc.specs.DirDeliver as rules
+use Rattle.rules_tcc.specs.Sends.{nothing}
 use Rattle.dir_lines.specs.Kept.{kept}
 use Rattle.directory.specs.Data.{dir_of}
 use Rattle.directory.specs.DataInside.{data_of}

@@ -1,5 +1,5 @@
 use Rattle.std.proofs.Common.{◌≡◌, false, not, ◌&&◌, ap, sym, ◌∙◌}
-use Rattle.tcc_rules.specs.DirDeliver.{dir_deliver}
+use Rattle.rules_tcc.specs.DirDeliver.{dir_deliver}
 use Rattle.tcc_msg.specs.Plain.{msg_of}
 use Rattle.directory.specs.Data.{dir_of}
 use Rattle.directory.specs.Foreign.{is_foreign}

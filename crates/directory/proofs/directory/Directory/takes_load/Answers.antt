@@ -1,11 +1,11 @@
 use Rattle.std.proofs.Common.{◌≡◌, ◌==◌, None, if◌then◌else◌, not, option_map, ap, sym, ◌∙◌, arith}
 use borrow.Author.Tests.{lt-ltb, le-ltb, eq-eqb, ne_eqb}
-use Rattle.tcc_maps.specs.Words.{count_below}
-use Rattle.tcc_maps.specs.Masks.{full}
-use Rattle.tcc_maps.specs.Shape.{lines}
-use Rattle.tcc_maps.specs.Lines.{has_mark}
-use Rattle.tcc_maps.specs.Judge.{judge}
-use Rattle.tcc_rules.specs.DirDeliver.{load_unless_owned, mark_unless_owned}
+use Rattle.rules_maps.specs.Words.{count_below}
+use Rattle.rules_maps.specs.Masks.{full}
+use Rattle.rules_maps.specs.Shape.{lines}
+use Rattle.rules_maps.specs.Lines.{has_mark}
+use Rattle.rules_maps.specs.Judge.{judge}
+use Rattle.rules_tcc.specs.DirDeliver.{load_unless_owned, mark_unless_owned}
 use Rattle.dir_lines.specs.Kept.{kept}
 use Rattle.directory.specs.Data.{dir_of}
 use Rattle.directory.specs.Gives.{is_taken}

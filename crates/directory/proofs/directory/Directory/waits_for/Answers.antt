@@ -1,7 +1,7 @@
 use Rattle.std.proofs.Common.{ℕ, Option, None, sym, subst}
-use Rattle.tcc_rules.specs.DirDeliver.{dir_deliver}
-use Rattle.tcc_maps.specs.Shape.{Shape}
-use Rattle.tcc_rules.specs.State.{DirState}
+use Rattle.rules_tcc.specs.DirDeliver.{dir_deliver}
+use Rattle.rules_maps.specs.Shape.{Shape}
+use Rattle.rules_tcc.specs.State.{DirState}
 use Rattle.directory.specs.declared.waits.Cause.{Cause}
 use Rattle.tcc_msg.specs.declared.msg.Msg.{Msg}
 use Rattle.tcc_msg.specs.Plain.{msg_of}

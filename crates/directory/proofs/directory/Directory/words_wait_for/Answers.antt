@@ -1,5 +1,5 @@
 use Rattle.std.proofs.Common.{sym, subst, ◌∙◌}
-use Rattle.tcc_maps.specs.Lines.{has_mark}
+use Rattle.rules_maps.specs.Lines.{has_mark}
 use Rattle.directory.specs.Data.{dir_of}
 use Rattle.directory.specs.Stays.{Stays}
 use Rattle.directory.proofs.Staying.{home-stays, line-stays, line-holds}

@@ -3,9 +3,9 @@ use Rattle.std.proofs.Common.{◌≡◌, ◌<◌, ℕ, [], false, ap, length, su
 use Rattle.std.specs.Prelude.{get_or}
 use Rattle.tcc_base.specs.Settings.{Keeps}
 use Rattle.tcc_base.specs.declared.config.Limit.TheVariants.{Ram}
-use Rattle.tcc_maps.specs.Shape.{lines}
-use Rattle.tcc_maps.specs.Words.{line_of, word_at}
-use Rattle.tcc_rules.specs.Seen.{copies, seen}
+use Rattle.rules_maps.specs.Shape.{lines}
+use Rattle.rules_maps.specs.Words.{line_of, word_at}
+use Rattle.rules_tcc.specs.Seen.{copies, seen}
 use Rattle.net_core.specs.Away.{CoversCopies, is_noted}
 use Rattle.net_core.specs.Inside.{machine_of}
 use Rattle.net_core.specs.Machine.{Machine, settings_of, world_of}

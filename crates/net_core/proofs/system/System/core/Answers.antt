@@ -1,6 +1,6 @@
 -- The cores of the world are those of the bank.
 use Rattle.std.proofs.Common.{◌∙◌, ap}
-use Rattle.core_bank.specs.Bank.{cores_of}
+use Rattle.machine_cores.specs.Bank.{cores_of}
 use Rattle.net_core.specs.Machine.{Machine, world_of}
 use Rattle.net_core.proofs.system.System.core.Goals as goal
 

@@ -1,7 +1,7 @@
 -- A message is delivered by its destination.
 use Rattle.std.proofs.Common.{◌≡◌, ◌∙◌, ap, refl, subst, sym, None}
-use Rattle.tcc_maps.specs.Bridge.{node_of}
-use Rattle.tcc_maps.specs.Nodes.{Deliver}
+use Rattle.rules_maps.specs.Bridge.{node_of}
+use Rattle.rules_maps.specs.Nodes.{Deliver}
 use Rattle.net_core.specs.Answers.{step_of}
 use Rattle.net_core.specs.Inside.{machine_of}
 use Rattle.net_core.proofs.Events.Ends.{absent, has-core}

@@ -1,19 +1,19 @@
 -- A core takes a message.
 use Rattle.std.proofs.Common.{◌≡◌, ◌∙◌, ◌<◌, ap, refl, sym, subst, Err, Some, Option, ℕ, [], false}
-use Rattle.tcc_maps.specs.Bridge.{node_of}
+use Rattle.rules_maps.specs.Bridge.{node_of}
 use Rattle.rv_code.specs.Machine.{first_ram}
 use Rattle.tcc_base.specs.declared.names.CoreId.{CoreId}
 use Rattle.tcc_base.specs.declared.names.NodeId.{NodeId}
-use Rattle.tcc_maps.specs.Nodes.{Core, Deliver, Event, Node, Msg}
+use Rattle.rules_maps.specs.Nodes.{Core, Deliver, Event, Node, Msg}
 use Rattle.tcc_msg.specs.declared.msg.Msg.{Msg as CodeMsg}
 use Rattle.tcc_msg.specs.Plain.{msg_of}
-use Rattle.tcc_rules.specs.Attempt.{Out}
-use Rattle.tcc_rules.specs.CoreDeliver.{core_deliver}
-use Rattle.tcc_rules.specs.Links.{in_flight, taking}
-use Rattle.tcc_rules.specs.Step.{if_core_takes}
-use Rattle.core_bank.specs.Bank.{cores_of}
-use Rattle.in_flight.specs.Flights.{is_ready, net_of, with_mark}
-use Rattle.dir_bank.specs.Bank.{dirs_of}
+use Rattle.rules_tcc.specs.Attempt.{Out}
+use Rattle.rules_tcc.specs.CoreDeliver.{core_deliver}
+use Rattle.rules_tcc.specs.Links.{in_flight, taking}
+use Rattle.rules_tcc.specs.Step.{if_core_takes}
+use Rattle.machine_cores.specs.Bank.{cores_of}
+use Rattle.machine_links.specs.Flights.{is_ready, net_of, with_mark}
+use Rattle.machine_dirs.specs.Bank.{dirs_of}
 use Rattle.net_core.specs.Answers.{Answers, Took, step_of}
 use Rattle.net_core.specs.Delivery.{AreMarked}
 use Rattle.net_core.specs.Whole.{IsWhole}

@@ -3,15 +3,15 @@ use Rattle.std.proofs.Common.{◌≡◌, ◌≢◌, ◌∙◌, ◌+◌, ◌<◌,
 use Rattle.std.proofs.lemmas.Bool.{cases_Bool}
 use Rattle.std.specs.Prelude.{if◌then◌else◌}
 use Rattle.tcc_base.specs.declared.names.NodeId.TheVariants as code_node
-use Rattle.tcc_maps.specs.Bridge.{node_of}
-use Rattle.tcc_maps.specs.Nodes.{Core, Dir, Deliver, Msg}
+use Rattle.rules_maps.specs.Bridge.{node_of}
+use Rattle.rules_maps.specs.Nodes.{Core, Dir, Deliver, Msg}
 use Rattle.tcc_msg.specs.Plain.{msg_of, sends_of}
-use Rattle.tcc_rules.specs.DirDeliver.{dir_deliver}
-use Rattle.tcc_rules.specs.Links.{in_flight, taking}
-use Rattle.dir_bank.specs.Acted.{Acted}
+use Rattle.rules_tcc.specs.DirDeliver.{dir_deliver}
+use Rattle.rules_tcc.specs.Links.{in_flight, taking}
+use Rattle.machine_dirs.specs.Acted.{Acted}
 use Rattle.directory.specs.Foreign.{is_foreign}
 use Rattle.directory.specs.Gives.{is_taken}
-use Rattle.in_flight.specs.Flights.{is_ready, net_of}
+use Rattle.machine_links.specs.Flights.{is_ready, net_of}
 use Rattle.net_core.specs.Answers.{Kept, Took, step_of}
 use Rattle.net_core.specs.Delivery.{is_consumed}
 use Rattle.net_core.specs.Inside.{machine_of}

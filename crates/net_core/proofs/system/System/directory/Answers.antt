@@ -3,7 +3,7 @@ use Rattle.std.proofs.Common.{◌≡◌, ◌∙◌, ap, subst, sym}
 use Rattle.directory.specs.Data.{dir_of}
 use Rattle.rv_code.specs.Machine.{first_ram}
 use Rattle.tcc_base.specs.Settings.{Settings}
-use Rattle.dir_bank.specs.Bank.{dirs_of}
+use Rattle.machine_dirs.specs.Bank.{dirs_of}
 use Rattle.net_core.specs.Inside.{machine_of}
 use Rattle.net_core.specs.Machine.{Machine, settings_of, start_of, world_of}
 use Rattle.net_core.proofs.system.System.directory.Goals as goal

@@ -3,11 +3,11 @@ use Rattle.std.proofs.Common.{rules, None, ◌≡◌, ◌<◌, ◌≤◌, ℕ, S
 use Rattle.std.specs.Prelude.{false, is_some, nat_lt}
 use Rattle.std.proofs.lemmas.Bool.Decides.{nat_tests}
 use Rattle.std.proofs.lemmas.Bool.{le-ltb}
-use Rattle.tcc_maps.specs.Bridge.{node_of}
+use Rattle.rules_maps.specs.Bridge.{node_of}
 use Rattle.tcc_msg.specs.Plain.{event_of, msg_of}
-use Rattle.tcc_maps.specs.Nodes.{Evict}
-use Rattle.tcc_rules.specs.Links.{in_flight}
-use Rattle.dir_bank.specs.Bank.{dirs_of}
+use Rattle.rules_maps.specs.Nodes.{Evict}
+use Rattle.rules_tcc.specs.Links.{in_flight}
+use Rattle.machine_dirs.specs.Bank.{dirs_of}
 use Rattle.net_core.specs.Answers.{step_of}
 use Rattle.net_core.specs.Delivery.{AllMayGo, MayGo, is_deliverable}
 use Rattle.net_core.specs.Inside.{machine_of}

@@ -1,7 +1,7 @@
 -- The cores of the world are those of the bank.
 use Rattle.std.proofs.Common.{◌∙◌, ap}
-use Rattle.tcc_serial.specs.Commits.{end_after}
-use Rattle.core_bank.specs.Bank.{cores_of}
+use Rattle.theorem_serial.specs.Commits.{end_after}
+use Rattle.machine_cores.specs.Bank.{cores_of}
 use Rattle.net_core.specs.Machine.{Machine, world_of}
 use Rattle.net_core.proofs.system.System.ended.Goals as goal
 

@@ -1,7 +1,7 @@
 -- A core empties a way.
 use Rattle.std.proofs.Common.{◌∙◌, ap, refl, sym, subst, Err}
 use Rattle.std.specs.Prelude.{◌<◌}
-use Rattle.tcc_maps.specs.Nodes.{Evict}
+use Rattle.rules_maps.specs.Nodes.{Evict}
 use Rattle.net_core.specs.Answers.{Answers, Took}
 use Rattle.net_core.specs.Inside.{machine_of}
 use Rattle.net_core.specs.Machine.{settings_of}

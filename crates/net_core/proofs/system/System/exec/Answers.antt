@@ -1,11 +1,11 @@
 -- A core executes.
 use Rattle.std.proofs.Common.{◌≡◌, ◌∙◌, ◌≤◌, ◌<◌, ap, refl, sym, subst, arith, Err, ℕ, Option}
 use Rattle.tcc_base.specs.Settings.{Settings}
-use Rattle.tcc_maps.specs.Nodes.{Exec}
-use Rattle.tcc_rules.specs.Attempt.{Out}
-use Rattle.tcc_rules.specs.CoreExec.{core_exec}
-use Rattle.commit_list.specs.Rising.{Commits}
-use Rattle.core_bank.specs.Bank.{cores_of}
+use Rattle.rules_maps.specs.Nodes.{Exec}
+use Rattle.rules_tcc.specs.Attempt.{Out}
+use Rattle.rules_tcc.specs.CoreExec.{core_exec}
+use Rattle.machine_commits.specs.Rising.{Commits}
+use Rattle.machine_cores.specs.Bank.{cores_of}
 use Rattle.core_node.specs.declared.exec.Executed.{Executed}
 use Rattle.core_node.specs.Executing.{TellsOfEvent}
 use Rattle.net_core.specs.Answers.{Answers, Took}

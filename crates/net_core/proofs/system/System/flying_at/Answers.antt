@@ -1,10 +1,10 @@
 -- The messages on the links are those of the machine.
 use Rattle.std.proofs.Common.{◌≡◌, length, is_some, ap, subst, Some, ◌∙◌}
 use Rattle.std.specs.Prelude.{IfSome, slice_get}
-use Rattle.tcc_maps.specs.Bridge.{node_of}
-use Rattle.tcc_maps.specs.Words.{those}
+use Rattle.rules_maps.specs.Bridge.{node_of}
+use Rattle.rules_maps.specs.Words.{those}
 use Rattle.tcc_msg.specs.Plain.{msg_of}
-use Rattle.tcc_rules.specs.Links.{in_flight}
+use Rattle.rules_tcc.specs.Links.{in_flight}
 use Rattle.net_core.proofs.Links.Settling.{settled-links}
 use Rattle.net_core.proofs.system.System.flying_at.Goals as goal
 

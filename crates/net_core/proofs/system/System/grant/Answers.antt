@@ -1,13 +1,13 @@
 -- The vendor gives a TID.
 use Rattle.std.proofs.Common.{◌≡◌, ◌≢◌, ◌<◌, ◌∙◌, ◌+◌, ◌++◌, ◌∷◌, [], false, ap, refl, sym, subst, Some, None}
-use Rattle.tcc_maps.specs.Bridge.{node_of}
-use Rattle.tcc_maps.specs.Nodes.{Core, Vendor, Deliver}
+use Rattle.rules_maps.specs.Bridge.{node_of}
+use Rattle.rules_maps.specs.Nodes.{Core, Vendor, Deliver}
 use Rattle.tcc_msg.specs.Plain.{msg_of}
 use Rattle.tcc_msg.specs.declared.msg.Msg.TheVariants as code
 use Rattle.tcc_msg.specs.declared.outgoing.Outgoing.{Outgoing}
-use Rattle.tcc_rules.specs.Links.{in_flight, taking}
+use Rattle.rules_tcc.specs.Links.{in_flight, taking}
 use Rattle.tcc_base.specs.declared.names.NodeId.TheVariants as code_node
-use Rattle.in_flight.specs.Flights.{is_ready, net_of, with_mark}
+use Rattle.machine_links.specs.Flights.{is_ready, net_of, with_mark}
 use Rattle.net_core.specs.Answers.{Kept, Took, step_of}
 use Rattle.net_core.specs.Inside.{machine_of}
 use Rattle.net_core.specs.declared.system.System.TheInside.{Inside}

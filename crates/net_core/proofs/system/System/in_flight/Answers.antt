@@ -1,10 +1,10 @@
 -- A message in flight, on its link or not yet.
 use Rattle.std.proofs.Common.{◌<◌, ◌≤◌, ◌-◌, drop, sym, ap, ◌∙◌, subst}
 use Rattle.std.specs.Prelude.{slice_get}
-use Rattle.tcc_maps.specs.Bridge.{node_of}
+use Rattle.rules_maps.specs.Bridge.{node_of}
 use Rattle.tcc_msg.specs.Plain.{sends_of}
-use Rattle.tcc_rules.specs.Links.{in_flight}
-use Rattle.in_flight.specs.Flights.{net_of}
+use Rattle.rules_tcc.specs.Links.{in_flight}
+use Rattle.machine_links.specs.Flights.{net_of}
 use Rattle.net_core.specs.Machine.{world_of}
 use Rattle.net_core.proofs.Links.Seeking.{flies-elsewhere, flies-placed, flies-unsent}
 use Rattle.net_core.proofs.system.System.in_flight.Goals as goal

@@ -2,7 +2,7 @@
 use Rattle.std.proofs.Common.{◌≡◌, ◌∙◌, ap, true, inl, inr}
 use Rattle.tcc_msg.specs.Plain.{event_of}
 use Rattle.tcc_msg.specs.declared.event.Event.{Event}
-use Rattle.tcc_rules.specs.Useful.{is_of_use}
+use Rattle.rules_tcc.specs.Useful.{is_of_use}
 use Rattle.net_core.specs.Machine.{program_of, settings_of, world_of}
 use Rattle.net_core.proofs.Useful.Listed.{of-use}
 use Rattle.net_core.proofs.system.System.is_useful.Goals as goal

@@ -2,9 +2,9 @@
 use Rattle.std.proofs.Common.{◌≡◌, ◌∙◌, ap}
 use Rattle.rv_code.specs.Machine.{first_ram}
 use Rattle.tcc_base.specs.Settings.{Settings}
-use Rattle.tcc_maps.specs.Shape.{home}
-use Rattle.tcc_rules.specs.State.{DirState}
-use Rattle.dir_bank.specs.Bank.{dirs_of}
+use Rattle.rules_maps.specs.Shape.{home}
+use Rattle.rules_tcc.specs.State.{DirState}
+use Rattle.machine_dirs.specs.Bank.{dirs_of}
 use Rattle.net_core.specs.Inside.{machine_of}
 use Rattle.net_core.specs.Machine.{Machine, settings_of, start_of, world_of}
 use Rattle.net_core.proofs.system.System.line_state.Goals as goal

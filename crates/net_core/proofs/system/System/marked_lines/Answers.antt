@@ -2,10 +2,10 @@
 use Rattle.std.proofs.Common.{◌∙◌, ap}
 use Rattle.rv_code.specs.Machine.{first_ram}
 use Rattle.tcc_base.specs.Settings.{Settings}
-use Rattle.tcc_maps.specs.Lines.{has_mark}
-use Rattle.tcc_maps.specs.Shape.{lines}
-use Rattle.tcc_maps.specs.Words.{count_below}
-use Rattle.dir_bank.specs.Bank.{dirs_of}
+use Rattle.rules_maps.specs.Lines.{has_mark}
+use Rattle.rules_maps.specs.Shape.{lines}
+use Rattle.rules_maps.specs.Words.{count_below}
+use Rattle.machine_dirs.specs.Bank.{dirs_of}
 use Rattle.net_core.specs.Inside.{machine_of}
 use Rattle.net_core.specs.Machine.{Machine, settings_of, start_of, world_of}
 use Rattle.net_core.proofs.system.System.marked_lines.Goals as goal

@@ -2,10 +2,10 @@
 use Rattle.std.proofs.Common.{◌≡◌, ◌<◌, ap, subst, sym, ◌∙◌, arith}
 use Rattle.std.proofs.Math.Nat.{mod-lt}
 use Rattle.tcc_base.specs.Settings.{Settings}
-use Rattle.tcc_maps.specs.Cache.{IsCache}
-use Rattle.tcc_maps.specs.Shape.{home, lines}
-use Rattle.tcc_maps.specs.Words.{line_of}
-use Rattle.tcc_rules.specs.State.{CoreState}
+use Rattle.rules_maps.specs.Cache.{IsCache}
+use Rattle.rules_maps.specs.Shape.{home, lines}
+use Rattle.rules_maps.specs.Words.{line_of}
+use Rattle.rules_tcc.specs.State.{CoreState}
 use Rattle.core_node.specs.View.{core_of}
 use Rattle.net_core.specs.Inside.{machine_of}
 use Rattle.net_core.specs.Machine.{Machine, settings_of}

@@ -1,9 +1,9 @@
 -- The directories so far.
 use Rattle.std.proofs.Common.{◌≡◌, ◌<◌, ℕ, []}
-use Rattle.tcc_maps.specs.Nodes.{Core, Dir}
-use Rattle.tcc_maps.specs.Words.{line_of}
-use Rattle.tcc_rules.specs.Seen.{copies_on}
-use Rattle.in_flight.specs.Flights.{net_of}
+use Rattle.rules_maps.specs.Nodes.{Core, Dir}
+use Rattle.rules_maps.specs.Words.{line_of}
+use Rattle.rules_tcc.specs.Seen.{copies_on}
+use Rattle.machine_links.specs.Flights.{net_of}
 use Rattle.net_core.specs.Away.{Covers}
 use Rattle.net_core.proofs.system.System.note_copies.Given as goal
 

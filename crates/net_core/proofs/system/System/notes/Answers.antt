@@ -1,7 +1,7 @@
 -- All cores were gone through.
 use Rattle.std.proofs.Common.{◌≡◌, ap, refl, ◌∙◌, arith}
 use Rattle.tcc_base.specs.Settings.{Settings}
-use Rattle.tcc_maps.specs.Words.{line_of}
+use Rattle.rules_maps.specs.Words.{line_of}
 use Rattle.net_core.specs.Machine.{settings_of, world_of}
 use Rattle.net_core.proofs.Words.Away.{all-covered}
 use Rattle.net_core.proofs.system.System.notes.Goals as goal

@@ -1,8 +1,8 @@
 -- The cores so far.
 use Rattle.std.proofs.Common.{◌≡◌, ◌<◌, ℕ, []}
-use Rattle.tcc_maps.specs.Shape.{lines}
-use Rattle.tcc_maps.specs.Words.{line_of}
-use Rattle.tcc_rules.specs.Seen.{copies_of}
+use Rattle.rules_maps.specs.Shape.{lines}
+use Rattle.rules_maps.specs.Words.{line_of}
+use Rattle.rules_tcc.specs.Seen.{copies_of}
 use Rattle.net_core.specs.Away.{Covers}
 use Rattle.net_core.specs.Machine.{settings_of, world_of}
 use Rattle.net_core.proofs.system.System.notes.Given as goal

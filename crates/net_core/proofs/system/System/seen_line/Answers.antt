@@ -2,9 +2,9 @@
 use Rattle.std.proofs.Common.{◌≡◌, ap, sym, ◌∙◌, arith}
 use Rattle.std.specs.Prelude.{get_or}
 use Rattle.tcc_base.specs.Settings.{Settings}
-use Rattle.tcc_maps.specs.Shape.{home}
-use Rattle.tcc_maps.specs.Words.{word_at}
-use Rattle.tcc_rules.specs.Seen.{Copy, seen}
+use Rattle.rules_maps.specs.Shape.{home}
+use Rattle.rules_maps.specs.Words.{word_at}
+use Rattle.rules_tcc.specs.Seen.{Copy, seen}
 use Rattle.net_core.specs.Copies.{nth_copy}
 use Rattle.net_core.specs.Inside.{machine_of}
 use Rattle.net_core.specs.Machine.{settings_of, world_of}

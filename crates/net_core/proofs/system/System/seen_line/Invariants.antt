@@ -1,6 +1,6 @@
 -- At each place the newest of the home's copy and those of the cores so far.
 use Rattle.std.proofs.Common.{◌≡◌, ◌<◌, ℕ}
-use Rattle.tcc_maps.specs.Words.{word_at}
+use Rattle.rules_maps.specs.Words.{word_at}
 use Rattle.net_core.specs.Copies.{nth_copy}
 use Rattle.net_core.proofs.Words.Seen.{best_of}
 use Rattle.net_core.proofs.system.System.seen_line.Given as goal

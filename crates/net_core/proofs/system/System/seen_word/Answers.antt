@@ -1,8 +1,8 @@
 -- One of the words of its line.
 use Rattle.std.proofs.Common.{ap, ◌∙◌}
 use Rattle.std.specs.Prelude.{get_or}
-use Rattle.tcc_maps.specs.Words.{place_of}
-use Rattle.tcc_rules.specs.Seen.{seen}
+use Rattle.rules_maps.specs.Words.{place_of}
+use Rattle.rules_tcc.specs.Seen.{seen}
 use Rattle.net_core.specs.Machine.{settings_of, world_of}
 use Rattle.net_core.proofs.Words.Places.{word-of}
 use Rattle.net_core.proofs.system.System.seen_word.Goals as goal

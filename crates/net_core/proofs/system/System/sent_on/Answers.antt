@@ -1,6 +1,6 @@
 -- The links are those of the machine.
 use Rattle.std.proofs.Common.{length, ap, ◌∙◌}
-use Rattle.tcc_maps.specs.Bridge.{node_of}
+use Rattle.rules_maps.specs.Bridge.{node_of}
 use Rattle.net_core.proofs.Links.Settling.{settled-links}
 use Rattle.net_core.proofs.system.System.sent_on.Goals as goal
 

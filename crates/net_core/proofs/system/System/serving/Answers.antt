@@ -1,7 +1,7 @@
 -- The directories of the world are those of the bank.
 use Rattle.std.proofs.Common.{◌∙◌, ap}
 use Rattle.rv_code.specs.Machine.{first_ram}
-use Rattle.dir_bank.specs.Bank.{dirs_of}
+use Rattle.machine_dirs.specs.Bank.{dirs_of}
 use Rattle.net_core.specs.Inside.{machine_of}
 use Rattle.net_core.specs.Machine.{Machine, start_of, world_of}
 use Rattle.net_core.proofs.system.System.serving.Goals as goal

@@ -3,7 +3,7 @@ use Rattle.std.proofs.Common.{refl, ap, ◌∙◌, subst}
 use Rattle.image_load.specs.Contents.{started}
 use Rattle.tcc_base.specs.Settings.{IsAllowed}
 use Rattle.tcc_base.specs.declared.names.NodeId.TheVariants.{Vendor}
-use Rattle.core_bank.specs.Bank.{first_core}
+use Rattle.machine_cores.specs.Bank.{first_core}
 use Rattle.net_core.specs.Machine.{Machine}
 use Rattle.net_core.proofs.Starting.{IsFirst, first-history, first-whole}
 use Rattle.net_core.proofs.system.System.start.Goals as goal

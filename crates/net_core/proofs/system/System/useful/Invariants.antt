@@ -1,7 +1,7 @@
 -- The events so far are the first of them.
 use Rattle.std.proofs.Common.{◌≡◌, map, take}
 use Rattle.tcc_msg.specs.Plain.{event_of}
-use Rattle.tcc_rules.specs.Useful.{useful}
+use Rattle.rules_tcc.specs.Useful.{useful}
 use Rattle.net_core.specs.Machine.{program_of, settings_of, world_of}
 use Rattle.net_core.proofs.system.System.useful.Given as goal
 

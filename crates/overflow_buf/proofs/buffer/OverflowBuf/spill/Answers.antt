@@ -1,5 +1,5 @@
 use Rattle.std.proofs.Common.{◌∙◌, Option, ap, Some, cond, get_or}
-use Rattle.tcc_maps.specs.Masks.{has}
+use Rattle.rules_maps.specs.Masks.{has}
 use Rattle.overflow_buf.specs.declared.line.SpilledLine.{SpilledLine}
 use Rattle.overflow_buf.specs.Kept.{word_in}
 use Rattle.overflow_buf.proofs.Lines.{spilled-kept, spill-none}

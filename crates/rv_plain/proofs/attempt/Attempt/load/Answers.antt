@@ -1,6 +1,6 @@
 use Rattle.std.proofs.Common.{refl}
 use Rattle.rv_plain.specs.Attempts.{attempt_of}
-use Rattle.tcc_program.specs.Ram.{loaded, word_of}
+use Rattle.rules_program.specs.Ram.{loaded, word_of}
 use Rattle.rv_plain.proofs.attempt.Attempt.load.Goals as goal
 
 pub returns-clause-does : goal.returns-clause-does

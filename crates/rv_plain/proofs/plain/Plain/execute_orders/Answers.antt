@@ -1,7 +1,7 @@
 use Rattle.std.proofs.Common.{refl, ◌∙◌}
 use Rattle.rv_plain.proofs.Serials.{executed-next, none-next, not_rising, tid_before-next}
 use Rattle.rv_plain.proofs.plain.Plain.execute_orders.Goals as goal
-use Rattle.tcc_program.specs.Plain.{serial}
+use Rattle.rules_program.specs.Plain.{serial}
 
 pub loop-i-init : goal.loop-i-init
 unfolding serial

@@ -5,7 +5,7 @@ use Rattle.rv_plain.proofs.Starts.{cores-more, plain_of-started}
 use Rattle.rv_plain.specs.Cores.{core_of, no_state}
 use Rattle.rv_code.specs.Machine.{first_ram}
 use Rattle.rv_plain.specs.Machine.{start_core}
-use Rattle.tcc_program.specs.Ram.{flat}
+use Rattle.rules_program.specs.Ram.{flat}
 use Rattle.rv_plain.proofs.plain.Plain.start.Goals as goal
 
 pub returns-clause-started : goal.returns-clause-started

@@ -1,5 +1,5 @@
 use Rattle.std.proofs.Common.{◌≡◌, ◌+◌, ◌^◌, ◌<◌, ◌≤◌, length}
-use Rattle.tcc_maps.specs.Serving.{serve_from}
+use Rattle.rules_maps.specs.Serving.{serve_from}
 use Rattle.skip_vector.proofs.ring.RingSkipsSkips.advance.Given as goal
 
 abbrev pub invariant-loop-self : goal.invariant-loop-self

@@ -1,5 +1,5 @@
 use Rattle.std.proofs.Common.{ap}
-use Rattle.tcc_maps.specs.Serving.{first_serving}
+use Rattle.rules_maps.specs.Serving.{first_serving}
 use Rattle.skip_vector.proofs.ring.RingSkipsSkips.new.Goals as goal
 
 pub returns : goal.returns

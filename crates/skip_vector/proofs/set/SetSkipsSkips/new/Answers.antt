@@ -1,5 +1,5 @@
 use Rattle.std.proofs.Common.{ap, subst, sym, lit≤}
-use Rattle.tcc_maps.specs.Serving.{first_serving}
+use Rattle.rules_maps.specs.Serving.{first_serving}
 use Rattle.skip_vector.specs.Window.{window, Rises}
 use Rattle.skip_vector.proofs.set.SetSkipsSkips.new.Goals as goal
 

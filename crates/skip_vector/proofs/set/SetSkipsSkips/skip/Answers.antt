@@ -1,5 +1,5 @@
 use Rattle.std.proofs.Common.{◌≡◌, ◌+◌, ◌^◌, ◌≤◌, length, ap, arith}
-use Rattle.tcc_maps.specs.Serving.{advance}
+use Rattle.rules_maps.specs.Serving.{advance}
 use Rattle.skip_vector.specs.Window.{window}
 use Rattle.skip_vector.proofs.Flags.{advance-bound}
 use Rattle.skip_vector.proofs.Windows.{window-bound}

@@ -1,6 +1,6 @@
 use Rattle.std.proofs.Common.{◌≡◌, ◌<◌, ◌∙◌, ◌+◌, ◌*◌, ℕ, Bool, get_or, None, sym, ap, refl, arith}
 use Rattle.tcc_base.specs.Settings.{Settings}
-use Rattle.tcc_maps.specs.Words.{count_below}
+use Rattle.rules_maps.specs.Words.{count_below}
 use Rattle.spec_cache.specs.PerSet.{count_set}
 use Rattle.spec_cache.specs.Useful.{useful_in, wants_of}
 use Rattle.spec_cache.proofs.Counted.{count_below-zero}

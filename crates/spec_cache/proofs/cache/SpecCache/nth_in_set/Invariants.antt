@@ -1,5 +1,5 @@
 use Rattle.std.proofs.Common.{◌≡◌, ◌+◌, ◌*◌, get_or, None}
-use Rattle.tcc_maps.specs.Words.{count_below}
+use Rattle.rules_maps.specs.Words.{count_below}
 use Rattle.spec_cache.specs.Useful.{useful_in, wants_of}
 use Rattle.spec_cache.proofs.cache.SpecCache.nth_in_set.Given as goal
 

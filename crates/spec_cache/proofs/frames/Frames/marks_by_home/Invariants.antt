@@ -1,6 +1,6 @@
 use Rattle.std.proofs.Common.{◌≡◌, ◌≤◌, map, take, length, vec_len}
 use Rattle.std.specs.Vec.{vec_capacity}
-use Rattle.tcc_maps.specs.Cache.{modified_mask}
+use Rattle.rules_maps.specs.Cache.{modified_mask}
 use Rattle.spec_cache.specs.Held.{maps}
 use Rattle.spec_cache.specs.Home.{mark_of}
 use Rattle.spec_cache.proofs.frames.Frames.marks_by_home.Given as goal

@@ -1,5 +1,5 @@
 use Rattle.std.proofs.Common.{◌∙◌, ap, arith}
-use Rattle.tcc_maps.specs.Cache.{dirty_copy}
+use Rattle.rules_maps.specs.Cache.{dirty_copy}
 use Rattle.spec_cache.specs.Frame.{stored_frame}
 use Rattle.spec_cache.specs.Held.{maps}
 use Rattle.spec_cache.proofs.Calls.{fits_stored, stored_maps}

@@ -1,5 +1,5 @@
 use Rattle.std.proofs.Common.{◌≡◌, ◌∙◌, ap, sym, refl, arith, None}
-use Rattle.tcc_maps.specs.Cache.{dirty_copy}
+use Rattle.rules_maps.specs.Cache.{dirty_copy}
 use Rattle.spec_cache.specs.declared.frame.FrameView.{FrameView}
 use Rattle.spec_cache.specs.Frame.{stored_frame, dirty_part}
 use Rattle.spec_cache.specs.Held.{maps}

@@ -1,6 +1,6 @@
 use Rattle.std.proofs.Common.{◌≡◌, ◌<◌, ◌/◌, ◌∙◌, ap, true, None, length, get_or, sym, refl, arith}
 use Rattle.std.proofs.lemmas.List.{get_or_read}
-use Rattle.tcc_maps.specs.Words.{num}
+use Rattle.rules_maps.specs.Words.{num}
 use Rattle.spec_cache.specs.Home.{reads_in}
 use Rattle.spec_cache.specs.Useful.{writes_in, dirty_way}
 use Rattle.spec_cache.specs.Held.{Held}

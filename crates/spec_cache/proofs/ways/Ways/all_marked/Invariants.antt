@@ -1,6 +1,6 @@
 use Rattle.std.proofs.Common.{◌≡◌, true}
-use Rattle.tcc_maps.specs.Words.{all_below}
-use Rattle.tcc_maps.specs.Cache.{way_marked}
+use Rattle.rules_maps.specs.Words.{all_below}
+use Rattle.rules_maps.specs.Cache.{way_marked}
 use Rattle.spec_cache.specs.Held.{maps}
 use Rattle.spec_cache.proofs.ways.Ways.all_marked.Given as goal
 

@@ -1,5 +1,5 @@
 use Rattle.std.proofs.Common.{◌≡◌, not, is_some, None}
-use Rattle.tcc_maps.specs.Words.{lowest}
+use Rattle.rules_maps.specs.Words.{lowest}
 use Rattle.spec_cache.specs.Held.{maps}
 use Rattle.spec_cache.proofs.ways.Ways.free_way.Given as goal
 

@@ -1,7 +1,7 @@
 -- Those that wait are those above the least phase whose requests are in flight.
 use Rattle.std.proofs.Common.{◌≡◌, ℕ, List, ◌∙◌, subst}
 use Rattle.std.specs.Prelude.{get_or}
-use Rattle.tcc_maps.specs.Words.{those}
+use Rattle.rules_maps.specs.Words.{those}
 use Rattle.net_core.specs.Machine.{program_of, settings_of, world_of}
 use Rattle.tcc_phase.specs.Requests.{Limits, is_above, is_behind, is_below}
 use Rattle.tcc_phase.proofs.Requests.Waiting.{none-of, waiting-above, waiting-none}

@@ -2,13 +2,13 @@
 use Rattle.std.proofs.Common.{◌≡◌, ℕ, false, length, ◌≤◌, refl, ap, sym, ◌∙◌, subst}
 use Rattle.std.specs.Prelude.{vec_capacity}
 use Rattle.tcc_base.specs.declared.names.CoreId.{CoreId}
-use Rattle.tcc_maps.specs.Words.{those}
+use Rattle.rules_maps.specs.Words.{those}
 use Rattle.tcc_msg.specs.Plain.{event_of}
 use Rattle.tcc_msg.specs.declared.event.Event.{Event}
 use Rattle.tcc_msg.specs.declared.event.Event.TheVariants.{Exec, Evict, Deliver}
 use Rattle.net_core.specs.Machine.{program_of, settings_of, world_of}
 use Rattle.net_core.specs.declared.taking.Step.TheVariants.{Moved}
-use Rattle.phase_rules.specs.Laws.{executes}
+use Rattle.theorem_phases.specs.Laws.{executes}
 use Rattle.tcc_phase.specs.Ledger.{Notes, StillHolds}
 use Rattle.tcc_phase.specs.Requests.{Limits, is_waiting}
 use Rattle.tcc_phase.specs.declared.ledger.Ledger.{Ledger}

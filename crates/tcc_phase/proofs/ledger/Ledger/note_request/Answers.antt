@@ -1,7 +1,7 @@
 -- The core is listed where it waits: it is looked for among those that wait.
 use Rattle.std.proofs.Common.{◌≡◌, Some, None, length, ap, sym, ◌∙◌, subst, arith}
-use Rattle.tcc_maps.specs.Nodes.{Exec}
-use Rattle.tcc_maps.specs.Words.{those}
+use Rattle.rules_maps.specs.Nodes.{Exec}
+use Rattle.rules_maps.specs.Words.{those}
 use Rattle.net_core.specs.Machine.{program_of, settings_of, world_of}
 use Rattle.tcc_phase.specs.Requests.{Limits, is_above, is_waiting}
 use Rattle.tcc_phase.proofs.Requests.Staying.{IsListed, itself, looked-up, not-before, room, unless-executed}

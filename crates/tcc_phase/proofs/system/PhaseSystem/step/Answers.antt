@@ -3,7 +3,7 @@ use Rattle.std.proofs.Common.{◌≡◌, map, Some, None, ap, sym, ◌∙◌, su
 use Rattle.std.specs.Prelude.{◌↔◌, Err, IsErrOf, if◌then◌else◌, is_some}
 use Rattle.tcc_base.specs.Settings.{IsAllowed}
 use Rattle.tcc_msg.specs.Plain.{event_of}
-use Rattle.tcc_serial.specs.Owners.{IsRising}
+use Rattle.theorem_serial.specs.Owners.{IsRising}
 use Rattle.net_core.specs.Answers.{step_of}
 use Rattle.net_core.specs.Machine.{Machine, history_of, settings_of, start_of}
 use Rattle.net_core.specs.declared.taking.Step.{Step}

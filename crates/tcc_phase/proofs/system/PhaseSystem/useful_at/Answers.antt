@@ -3,8 +3,8 @@ use Rattle.std.proofs.Common.{◌≡◌, length, Option, None, ap, sym, ◌∙�
 use Rattle.std.specs.Prelude.{option_map, slice_get}
 use Rattle.std.proofs.lemmas.Option.{slice_get_past}
 use Rattle.tcc_msg.specs.Plain.{event_of}
-use Rattle.tcc_maps.specs.Nodes.{Event}
-use Rattle.tcc_rules.specs.Useful.{useful}
+use Rattle.rules_maps.specs.Nodes.{Event}
+use Rattle.rules_tcc.specs.Useful.{useful}
 use Rattle.net_core.specs.Machine.{Machine, program_of, settings_of, world_of}
 use Rattle.tcc_phase.specs.Choosing.{IsPassed, held_in}
 use Rattle.tcc_phase.specs.Phased.{PhaseMachine, useful_in}

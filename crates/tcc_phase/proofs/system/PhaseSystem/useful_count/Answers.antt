@@ -1,7 +1,7 @@
 -- All but those that are held back.
 use Rattle.std.proofs.Common.{◌≡◌, ◌+◌, length, ap, sym, ◌∙◌, arith}
 use Rattle.net_core.specs.Machine.{Machine, program_of, settings_of, world_of}
-use Rattle.tcc_rules.specs.Useful.{useful}
+use Rattle.rules_tcc.specs.Useful.{useful}
 use Rattle.tcc_phase.specs.Phased.{useful_in}
 use Rattle.tcc_phase.proofs.Rows.{all-is, useful-many}
 use Rattle.tcc_phase.proofs.system.PhaseSystem.useful_count.Goals as goal

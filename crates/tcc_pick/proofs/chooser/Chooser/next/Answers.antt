@@ -2,10 +2,10 @@
 use Rattle.std.proofs.Common.{◌≡◌, ◌<◌, ◌∙◌, List, length, ap, sym, arith, if◌then◌else◌}
 use Rattle.std.specs.Option.{option_map}
 use Rattle.rand_pcg.specs.Pcg.{pcg32}
-use Rattle.tcc_maps.specs.Nodes.{Event}
+use Rattle.rules_maps.specs.Nodes.{Event}
 use Rattle.tcc_msg.specs.Plain.{event_of}
-use Rattle.tcc_rules.specs.Picked.{chosen}
-use Rattle.tcc_rules.specs.Useful.{useful}
+use Rattle.rules_tcc.specs.Picked.{chosen}
+use Rattle.rules_tcc.specs.Useful.{useful}
 use Rattle.net_core.specs.Machine.{Machine, program_of, settings_of, world_of}
 use Rattle.tcc_pick.proofs.Chosen.{answered-so, chosen-none, is-one}
 use Rattle.tcc_pick.proofs.chooser.Chooser.next.Goals as goal

@@ -1,6 +1,6 @@
 -- The calls are those of the worker's turns, up to its end.
 use Rattle.std.proofs.Common.{◌≡◌, ◌+◌, ◌-◌, ◌*◌, ◌<◌, ◌≤◌, ◌∙◌, false, min, ap, refl, sym, subst, arith, rules}
-use Rattle.logged_node.specs.declared.node.Act.TheVariants.{Memory}
+use Rattle.apart_node.specs.declared.node.Act.TheVariants.{Memory}
 use Rattle.node_locks.specs.Turns.{moved_in}
 use Rattle.tcc_workers.specs.Calls.{is_want, most_next}
 use Rattle.tcc_workers.proofs.Turning.{Turning, turning-start, turning-spent, turning-wants, turning-moved, turning-idle}

@@ -4,7 +4,7 @@ use Rattle.std.proofs.lemmas.Bool.Decides.{nat_tests}
 use Rattle.std.specs.List.{All}
 use Rattle.tcc_base.specs.Settings.{Settings}
 use Rattle.tcc_base.specs.declared.names.LineAddr.{LineAddr}
-use Rattle.tcc_maps.specs.Shape.{lines}
+use Rattle.rules_maps.specs.Shape.{lines}
 use Rattle.net_core.specs.Machine.{settings_of}
 use Rattle.watch_changes.proofs.Listing.{lines-inside}
 use Rattle.watch_changes.proofs.ReachedSets.{no-sets-inside}

@@ -2,9 +2,9 @@
 use Rattle.std.proofs.Common.{◌≡◌, ◌∙◌, None, Some, ap, sym}
 use Rattle.std.proofs.lemmas.Result.{IfOk-weaker}
 use Rattle.std.specs.Prelude.{option_map}
-use Rattle.tcc_maps.specs.Bridge.{node_of}
+use Rattle.rules_maps.specs.Bridge.{node_of}
 use Rattle.tcc_msg.specs.Plain.{msg_of}
-use Rattle.tcc_rules.specs.Links.{in_flight}
+use Rattle.rules_tcc.specs.Links.{in_flight}
 use Rattle.net_core.specs.Machine.{settings_of, world_of}
 use Rattle.watch_changes.specs.Plain.{part_of, reach_of}
 use Rattle.watch_changes.specs.Touched.{no_frame, reach_of_msg, reached_by, touched, touched_at}

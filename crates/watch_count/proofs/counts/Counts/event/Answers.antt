@@ -1,6 +1,6 @@
 -- The next fact is counted.
 use Rattle.std.proofs.Common.{ap, map}
-use Rattle.tcc_maps.specs.Bridge.{node_of}
+use Rattle.rules_maps.specs.Bridge.{node_of}
 use Rattle.watch.specs.Plain.{fact_of}
 use Rattle.watch_count.specs.Counts.{all_counted, event_counted}
 use Rattle.watch_count.proofs.Views.{facts-more, facts-all}

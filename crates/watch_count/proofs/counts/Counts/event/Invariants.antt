@@ -1,6 +1,6 @@
 -- What is counted, with the facts that are left, is all that is to be counted.
 use Rattle.std.proofs.Common.{◌≡◌, map, drop}
-use Rattle.tcc_maps.specs.Bridge.{node_of}
+use Rattle.rules_maps.specs.Bridge.{node_of}
 use Rattle.watch.specs.Plain.{fact_of}
 use Rattle.watch_count.specs.Counts.{all_counted, event_begun}
 use Rattle.watch_count.proofs.counts.Counts.event.Given as goal

@@ -1,5 +1,0 @@
-use Rattle.bus_serial.proofs.Serial.Given.{bus_runs_give_the_plain_machine, bus_tids_count}
-use Rattle.bus_serial.proofs.bus_runs_give_the_plain_machine.Goals as goal
-
-pub returns : goal.returns
-returns c = record { given = bus_runs_give_the_plain_machine; tids = bus_tids_count }

@@ -1,8 +1,0 @@
--- The cores so far are at rest.
-use Rattle.std.proofs.Common.{ℕ, ◌<◌}
-use Rattle.core_bank.specs.Bank.{cores_of}
-use Rattle.core_bank.specs.Rest.{IsAtRest}
-use Rattle.core_bank.proofs.bank.CoreBank.all_rest.Given as goal
-
-abbrev pub invariant-loop-core : goal.invariant-loop-core
-invariant-loop-core l = (c : ℕ) → c < l.core-index → IsAtRest l.fn.self.code.settings (cores_of l.fn.self c)

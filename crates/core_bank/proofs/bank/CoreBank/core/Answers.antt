@@ -1,7 +1,0 @@
--- A core of the bank.
-use Rattle.core_bank.proofs.Banks.{here, state-here}
-use Rattle.core_bank.proofs.bank.CoreBank.core.Goals as goal
-
-pub returns-clause-state : goal.returns-clause-state
-returns-clause-state c =
-    state-here _ _ _ _ (here _ c.self.inside _ _ _ c.self-inside.view_is c.self.invariant c.self.view_is c.requires c.index.ensures)

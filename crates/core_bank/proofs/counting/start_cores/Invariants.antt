@@ -1,6 +1,0 @@
--- The cores so far are those that begin.
-use Rattle.core_bank.proofs.Starts.{AreFirst}
-use Rattle.core_bank.proofs.counting.start_cores.Given as goal
-
-abbrev pub invariant-loop-c : goal.invariant-loop-c
-invariant-loop-c l = AreFirst l.fn.code l.c l.cores

@@ -1,7 +1,0 @@
--- The first so many of those listed have been looked at.
-use Rattle.in_flight.specs.Subject.{subject_of}
-use Rattle.dir_bank.proofs.MarkedAbout.{MarkedAbout}
-use Rattle.dir_bank.proofs.bank.DirBank.mark_about.Given as goal
-
-abbrev pub invariant-loop-i : goal.invariant-loop-i
-invariant-loop-i l = MarkedAbout l.directory l.fn.dir.0 (subject_of l.fn.on) l.i l.initial.flights l.flights

@@ -1,7 +1,0 @@
--- The first so many directories have been made.
-use Rattle.image_load.specs.Contents.{started}
-use Rattle.dir_bank.proofs.Starts.{Begun}
-use Rattle.dir_bank.proofs.bank.start_dirs.Given as goal
-
-abbrev pub invariant-loop-d : goal.invariant-loop-d
-invariant-loop-d l = Begun (started l.loaded) l.config l.d l.dirs

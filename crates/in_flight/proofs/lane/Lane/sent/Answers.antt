@@ -1,7 +1,0 @@
--- As many as were sent are laid out.
-use Rattle.std.proofs.Common.{sym, ap, ◌∙◌, length}
-use Rattle.in_flight.proofs.Laid.{length-laid}
-use Rattle.in_flight.proofs.lane.Lane.sent.Goals as goal
-
-pub returns : goal.returns
-returns c = sym (length-laid _ c.self.inside.sent) ∙ ap length c.self.view_is

@@ -1,3 +1,0 @@
--- What other crates may cite: new ports in their places, a log over more messages, and stamps that rise.
-pub use Rattle.logged_node.proofs.Porting.Placed.{placed-between}
-pub use Rattle.logged_node.proofs.Running.Stored.{Includes, came-more, get-behind, log-filled_more, stored-more}

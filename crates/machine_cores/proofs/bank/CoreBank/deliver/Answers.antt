@@ -1,0 +1,47 @@
+-- A core takes a message.
+use Rattle.std.proofs.Common.{sym, subst}
+use Rattle.tcc_base.specs.Settings.{IsAllowed}
+use Rattle.core_node.specs.Answers.{IsBlocked}
+use Rattle.rules_maps.specs.Bridge.{node_of}
+use Rattle.tcc_msg.specs.Plain.{msg_of}
+use Rattle.rules_tcc.specs.CoreDeliver.{core_deliver}
+use Rattle.machine_cores.proofs.Banks.{acted-config, acted-does, acted-whole, here, same-rule}
+use Rattle.machine_cores.proofs.bank.CoreBank.deliver.Goals as goal
+
+pub recount-requires-clause-allowed : goal.recount-requires-clause-allowed
+recount-requires-clause-allowed c =
+    let h = here _ c.self.inside _ c.args.core.0 _ c.self-inside.view_is c.self.invariant c.self.view_is c.requires.exists
+    c.index_mut.ensures.value in
+    subst IsAllowed (sym (acted-config _ _ _ _ _ _ h c.deliver-done.ensures.stays c.index.ensures)) h.whole.allowed
+
+pub recount-requires-clause-same : goal.recount-requires-clause-same
+recount-requires-clause-same c =
+    let h = here _ c.self.inside _ c.args.core.0 _ c.self-inside.view_is c.self.invariant c.self.view_is c.requires.exists
+    c.index_mut.ensures.value in
+    sym (acted-config _ _ _ _ _ _ h c.deliver-done.ensures.stays c.index.ensures)
+
+pub invariant_of-self : goal.invariant_of-self
+invariant_of-self c =
+    let h = here _ c.self.inside _ c.args.core.0 _ c.self-inside.view_is c.self.invariant c.self.view_is c.requires.exists
+    c.index_mut.ensures.value in
+    acted-whole _ _ _ _ _ _ _ _ (record {
+      before = h;
+      stays = c.deliver-done.ensures.stays;
+      after = c.index.ensures;
+      execs = c.recount.ensures.execs;
+      evicts = c.recount.ensures.evicts;
+    })
+
+pub returns-clause-does : goal.returns-clause-does
+returns-clause-does c =
+    let h = here _ c.self.inside _ c.args.core.0 _ c.self-inside.view_is c.self.invariant c.self.view_is c.requires.exists
+    c.index_mut.ensures.value in
+    let same = same-rule (λ s x. core_deliver s x (node_of c.args.src) (msg_of c.args.msg.now)) _ _ _ _ h in
+    acted-does c.deliver-done.result _ _ _ _ _ _ _ c.recount.new.execs c.recount.new.evicts _ _ h same c.deliver-done.ensures.does
+
+pub returns-clause-blocked : goal.returns-clause-blocked
+returns-clause-blocked c =
+    let h = here _ c.self.inside _ c.args.core.0 _ c.self-inside.view_is c.self.invariant c.self.view_is c.requires.exists
+    c.index_mut.ensures.value in
+    let same = same-rule (λ s x. core_deliver s x (node_of c.args.src) (msg_of c.args.msg.now)) _ _ _ _ h in
+    subst (IsBlocked c.deliver-done.result) same c.deliver-done.ensures.blocked

@@ -1,0 +1,174 @@
+-- A link over its fields: what its readers give, and what each change of the fields does to the list of what was sent.
+use Rattle.std.proofs.Common.{◌≡◌, ℕ, suc, zero, ◌+◌, ◌-◌, ◌<◌, ◌≤◌, Bool, ⊎_elim, List, [], ◌∷◌, ◌++◌, length, get_or, set, take, map}
+use Rattle.std.proofs.Common.{Option, Some, None, IsSome, refl, ap, sym, subst, ◌∙◌, add-one, arith}
+use Rattle.std.specs.Prelude.{option_to_list, option_map, slice_get}
+use Rattle.std.specs.List.{remove, count_by}
+use Rattle.std.proofs.lemmas.Bool.{cases_lt, false≢true}
+use Rattle.std.proofs.lemmas.List.{get_or_past, get_or_read, set-get_or, length-set, length-map}
+use Rattle.std.proofs.lemmas.Option.{slice_get-map, slice_get_read, slice_get_past}
+use Rattle.std.proofs.lemmas.List.Edits.{length-remove}
+use Rattle.machine_links.specs.declared.lane.Held.{Held}
+use Rattle.machine_links.specs.declared.lane.Waiting.{Waiting}
+use Rattle.machine_links.specs.Lane.{Lane, is_marked, is_waiting, numbers_of, marked_as}
+use Rattle.machine_links.specs.Laid.{laid, held_at, Rises}
+use Rattle.machine_links.proofs.Laid.{length-laid, get-laid, laid-push, laid-front, laid-set}
+use Rattle.machine_links.proofs.Finding.{rises-get, rises-remove, rises-set, rises-push, rises-front, held-high, held-get, held-remove_own}
+use Rattle.machine_links.proofs.Finding.{held-remove_other, held-set_own, held-set_other, held-push_own, held-push_other, last-seq}
+use Rattle.machine_links.proofs.Numbers.{few-marked, waiting-laid}
+
+-- the link's fields with the list of what was sent on it
+pub record Kept (n : ℕ) (ws : List Waiting) (l : Lane) : Type 0 where
+  pub rising : Rises 0 n ws
+  pub few : length ws < 4294967296
+  pub view : laid (held_at ws) n ≡ l
+
+pub get-lane : (n : ℕ) (ws : List Waiting) (l : Lane) (k : ℕ) → Kept n ws l → get_or l k None ≡ held_at ws k
+get-lane n ws l k kept =
+    ap (λ m. get_or m k None) (sym kept.view)
+    ∙ ⊎_elim (λ lt. get-laid (held_at ws) n k None lt)
+    (λ le. get_or_past (laid (held_at ws) n) k None (omega (arith, length-laid (held_at ws) n)) ∙ sym (held-high 0 n ws k kept.rising le))
+    (cases_lt k n)
+
+-- a message that was found, and one that wasn't
+pub record At (ws : List Waiting) (k i : ℕ) : Type 0 where
+  pub within : i < length ws
+  pub own : (d : Waiting) → (get_or ws i d).seq ≡ k
+
+pub found-held : (n : ℕ) (ws : List Waiting) (l : Lane) (k i : ℕ) (d : Waiting) → Kept n ws l → At ws k i
+    → get_or l k None ≡ Some (get_or ws i d).held
+found-held n ws l k i d kept at =
+    get-lane n ws l k kept ∙ (ap (held_at ws) (sym (at.own d)) ∙ held-get 0 n ws i d kept.rising at.within)
+
+pub found-read : (n : ℕ) (ws : List Waiting) (l : Lane) (k i : ℕ) (x : Waiting) → Kept n ws l → At ws k i → x ≡ get_or ws i x
+    → Some x.held ≡ get_or l k None
+found-read n ws l k i x kept at e = ap (λ y. Some y.held) e ∙ sym (found-held n ws l k i x kept at)
+
+pub missing-held : (n : ℕ) (ws : List Waiting) (l : Lane) (k : ℕ) → Kept n ws l → held_at ws k ≡ None → get_or l k None ≡ None
+missing-held n ws l k kept e = get-lane n ws l k kept ∙ e
+
+pub missing-set : (n : ℕ) (ws : List Waiting) (l : Lane) (k : ℕ) → Kept n ws l → held_at ws k ≡ None → l ≡ set l k None
+missing-set n ws l k kept e = sym (set-get_or l k None) ∙ ap (λ o. set l k o) (missing-held n ws l k kept e)
+
+below : (n : ℕ) (ws : List Waiting) (l : Lane) (k i : ℕ) (d : Waiting) → Kept n ws l → At ws k i → k < n
+below n ws l k i d kept at = let a = (rises-get 0 n ws i d kept.rising at.within).1 in let b : (get_or ws i d).seq ≡ k =
+    at.own d in omega arith
+
+-- taken out
+pub taken : (n : ℕ) (ws vs : List Waiting) (l : Lane) (k i : ℕ) (d : Waiting) → Kept n ws l → At ws k i → vs ≡ remove ws i
+    → Kept n vs (set l k None)
+taken n ws vs l k i d kept at e = subst (λ us. Kept n us (set l k None)) (sym e) (record {
+  rising = rises-remove 0 n ws i kept.rising at.within;
+  few = omega (arith, kept.few, length-remove ws i at.within);
+  view = laid-set (held_at ws) (held_at (remove ws i)) n k None (below n ws l k i d kept at)
+      (ap (held_at (remove ws i)) (sym (at.own d)) ∙ held-remove_own 0 n ws i d kept.rising at.within)
+      (λ q ne. held-remove_other ws i d q at.within (λ f. ne (f ∙ at.own d)))
+      ∙ ap (λ m. set m k None) kept.view;
+})
+
+-- marked
+pub marked : (n : ℕ) (ws vs : List Waiting) (l : Lane) (k i : ℕ) (b : Bool) (d : Waiting) → Kept n ws l → At ws k i
+    → vs ≡ set ws i (record (get_or ws i d) { held = record (get_or ws i d).held { ready = b } })
+    → Kept n vs (set l k (marked_as b (get_or l k None)))
+unfolding marked_as
+marked n ws vs l k i b d kept at e = subst (λ us. Kept n us (set l k (marked_as b (get_or l k None)))) (sym e) (record {
+  rising = rises-set 0 n ws i d v refl at.within kept.rising;
+  few = omega (arith, kept.few, length-set ws i v);
+  view = laid-set (held_at ws) (held_at (set ws i v)) n k (marked_as b (get_or l k None)) (below n ws l k i d kept at)
+      (ap (held_at (set ws i v)) (sym (at.own d))
+      ∙ (held-set_own 0 n ws i d v kept.rising at.within refl ∙ ap (marked_as b) (sym (found-held n ws l k i d kept at))))
+      (λ q ne. held-set_other ws i d v q at.within refl (λ f. ne (f ∙ at.own d)))
+      ∙ ap (λ m. set m k (marked_as b (get_or l k None))) kept.view;
+})
+  where
+    v : Waiting
+    v = record (get_or ws i d) { held = record (get_or ws i d).held { ready = b } }
+
+pub few-kept : (n : ℕ) (ws : List Waiting) (l : Lane) → Kept n ws l → count_by is_marked l < 4294967296
+few-kept n ws l kept = subst (λ m. count_by is_marked m < 4294967296) kept.view (omega (arith, few-marked n ws kept.rising, kept.few))
+
+-- sent
+pub pushed : (n : ℕ) (ws vs : List Waiting) (l : Lane) (h : Held) → Kept n ws l → length ws < 4294967295
+    → vs ≡ ws ++ record { seq = n; held = h } ∷ [] → Kept (n + 1) vs (l ++ Some h ∷ [])
+pushed n ws vs l h kept few e = rw add-one (subst (λ us. Kept (suc n) us (l ++ Some h ∷ [])) (sym e) (record {
+  rising = rises-push 0 n ws w refl kept.rising;
+  few = omega (arith, few, count ws);
+  view = laid-push (held_at ws) (held_at (ws ++ w ∷ [])) n (λ k lt. held-push_other ws w k (λ f. omega arith))
+      ∙ ((λ i. kept.view i ++ held-push_own 0 n ws w refl kept.rising i ∷ []));
+}))
+  where
+    w : Waiting
+    w = record { seq = n; held = h }
+
+    count : (us : List Waiting) → length (us ++ w ∷ []) ≡ length us + 1
+    count [] = omega arith
+    count (u ∷ us) = omega (arith, count us)
+
+-- taken back
+pub backed : (n : ℕ) (ws vs : List Waiting) (w : Waiting) (l : Lane) → Kept n ws l → IsSome (get_or l (length l - 1) None)
+    → ws ≡ vs ++ w ∷ []
+    → (0 < n) × Kept (n - 1) vs (take (length l - 1) l)
+backed n ws vs w l kept last e = by n refl
+  where
+    size : length l ≡ n
+    size = ap length (sym kept.view) ∙ length-laid (held_at ws) n
+
+    seen : IsSome (held_at ws (length l - 1))
+    seen = subst (λ o. IsSome o) (get-lane n ws l (length l - 1) kept) last
+
+    count : (us : List Waiting) → length us ≤ length (us ++ w ∷ [])
+    count [] = omega arith
+    count (u ∷ us) = omega (arith, count us)
+
+    none : n ≡ 0 → held_at ws (length l - 1) ≡ None
+    none z = held-high 0 n ws (length l - 1) kept.rising (omega arith)
+
+    by : (m : ℕ) → n ≡ m → (0 < n) × Kept (n - 1) vs (take (length l - 1) l)
+    by zero z = absurd (false≢true (subst (λ o. IsSome o) (none z) seen))
+    by (suc m) z =
+        let one : n - 1 ≡ m = omega arith in
+        let two : length l - 1 ≡ m = omega (arith, size) in
+        let r : Rises 0 (suc m) (vs ++ w ∷ []) = subst (λ k. Rises 0 k (vs ++ w ∷ [])) z (subst (λ us. Rises 0 n us) e kept.rising) in
+        let some : IsSome (held_at (vs ++ w ∷ []) m) =
+        subst (λ us. IsSome (held_at us m)) e (subst (λ k. IsSome (held_at ws k)) two seen) in
+        let own : w.seq ≡ m = last-seq 0 m vs w r some in
+        let view : laid (held_at (vs ++ w ∷ [])) (suc m) ≡ l =
+        subst (λ k. laid (held_at (vs ++ w ∷ [])) k ≡ l) z (subst (λ us. laid (held_at us) n ≡ l) e kept.view) in (
+          omega arith,
+          rw (one, two) (record {
+            rising = subst (λ k. Rises 0 k vs) own (rises-front 0 (suc m) vs w r).0;
+            few = omega (arith, kept.few, count vs, ap length e);
+            view = laid-front (held_at (vs ++ w ∷ [])) (held_at vs) m (λ k lt. sym (held-push_other vs w k (λ f. omega (arith, f, own))))
+                ∙ ap (take m) view;
+          }),
+        )
+
+pub backed-pop : (n : ℕ) (ws vs : List Waiting) (r : Option Waiting) (l : Lane) → Kept n ws l → IsSome (get_or l (length l - 1) None)
+    → ws ≡ vs ++ option_to_list r
+    → (0 < length ws → IsSome r) → (0 < n) × Kept (n - 1) vs (take (length l - 1) l)
+unfolding held_at
+backed-pop n ws vs (Some w) l kept last e some = backed n ws vs w l kept last e
+backed-pop n ws vs None l kept last e some =
+    absurd (false≢true (some (full ws (subst (λ o. IsSome o) (get-lane n ws l (length l - 1) kept) last))))
+  where
+    full : (us : List Waiting) → IsSome (held_at us (length l - 1)) → 0 < length us
+    full [] h = absurd (false≢true h)
+    full (u ∷ us) h = omega arith
+
+-- listed by place
+pub listed : (n : ℕ) (ws : List Waiting) (l : Lane) (i : ℕ) (x : Waiting) → Kept n ws l → i < length ws → x ≡ get_or ws i x
+    → Some x.seq ≡ slice_get (numbers_of is_waiting l) i
+listed n ws l i x kept h e =
+    let a : numbers_of is_waiting l ≡ map (λ w. w.seq) ws = ap (numbers_of is_waiting) (sym kept.view) ∙ waiting-laid n ws kept.rising in
+    sym (ap (λ ks. slice_get ks i) a
+    ∙ (slice_get-map (λ w. w.seq) ws i ∙ ap (option_map (λ w. w.seq)) (slice_get_read ws (length ws) i x refl h e)))
+
+pub unlisted : (n : ℕ) (ws : List Waiting) (l : Lane) (i : ℕ) → Kept n ws l → length ws ≤ i → None ≡ slice_get (numbers_of is_waiting l) i
+unlisted n ws l i kept h =
+    let a : numbers_of is_waiting l ≡ map (λ w. w.seq) ws = ap (numbers_of is_waiting) (sym kept.view) ∙ waiting-laid n ws kept.rising in
+    sym (ap (λ ks. slice_get ks i) a ∙ slice_get_past (map (λ w. w.seq) ws) i (omega (arith, length-map ws (λ w. w.seq))))
+
+pub listed-own : (n : ℕ) (ws : List Waiting) (l : Lane) (i : ℕ) (x : Waiting) → Kept n ws l → i < length ws → x ≡ get_or ws i x
+    → get_or l x.seq None ≡ Some x.held
+listed-own n ws l i x kept h e =
+    found-held n ws l x.seq i x kept (record { within = h; own = λ d. ap (λ w. w.seq) (sym (get_or_read ws i x h e d)) })
+    ∙ ap (λ w. Some w.held) (sym e)

@@ -1,6 +1,0 @@
--- The directory stays the home of the same lines.
-use Rattle.std.proofs.Common.{◌≡◌}
-use Rattle.machine_rows.proofs.directories.all_acknowledge.Given as goal
-
-abbrev pub invariant-loop-core : goal.invariant-loop-core
-invariant-loop-core l = l.dir.lines.place ≡ l.fn.dir.lines.place

@@ -1,6 +1,0 @@
--- The directory stays the home of the same lines.
-use Rattle.std.proofs.Common.{◌≡◌}
-use Rattle.machine_rows.proofs.directories.wrong.Given as goal
-
-abbrev pub invariant-loop-k : goal.invariant-loop-k
-invariant-loop-k l = l.dir.lines.place ≡ l.fn.dir.lines.place

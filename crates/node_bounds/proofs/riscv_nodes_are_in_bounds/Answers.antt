@@ -1,6 +1,0 @@
-use Rattle.node_bounds.proofs.Starts.{riscv_nodes_start}
-use Rattle.node_bounds.proofs.Stays.{riscv_nodes_stay}
-use Rattle.node_bounds.proofs.riscv_nodes_are_in_bounds.Goals as goal
-
-pub returns : goal.returns
-returns c = record { starts = riscv_nodes_start; stays = riscv_nodes_stay }

@@ -1,3 +1,0 @@
--- What other crates may cite: what is told of a report doesn't hang on its commits, and a table that is done tells every end.
-pub use Rattle.outcomes_text.proofs.Alike.{told-commits}
-pub use Rattle.outcomes_text.proofs.Ends.{tables-tell-every-end}

@@ -1,9 +1,0 @@
--- What is written, with the lines of the cores that are left, is the text of all.
-use Rattle.std.proofs.Common.{◌≡◌, ◌++◌, map, string_bytes, drop}
-use Rattle.outcomes_text.specs.Told.{core_shown, ends_text}
-use Rattle.outcomes_text.proofs.told.push_ends.Given as goal
-
-abbrev pub invariant-loop-number : goal.invariant-loop-number
-invariant-loop-number l =
-    string_bytes l.text ++ ends_text l.number (map core_shown (drop l.number l.cores))
-    ≡ string_bytes l.fn.text ++ ends_text 0 (map core_shown l.cores)

@@ -1,5 +1,0 @@
-use Rattle.phase_rules.proofs.Running.Chosen.{a_schedule_picked_by_phases_runs}
-use Rattle.phase_rules.proofs.a_schedule_picked_by_phases_runs.Goals as goal
-
-pub returns : goal.returns
-returns c = record { runs = a_schedule_picked_by_phases_runs }

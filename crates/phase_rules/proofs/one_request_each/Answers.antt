@@ -1,5 +1,0 @@
-use Rattle.phase_rules.proofs.Events.Asking.{one_request_each}
-use Rattle.phase_rules.proofs.one_request_each.Goals as goal
-
-pub returns : goal.returns
-returns c = record { one = one_request_each }

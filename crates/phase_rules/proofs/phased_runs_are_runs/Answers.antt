@@ -1,5 +1,0 @@
-use Rattle.phase_rules.proofs.Running.Runs.{phased_runs_are_runs}
-use Rattle.phase_rules.proofs.phased_runs_are_runs.Goals as goal
-
-pub returns : goal.returns
-returns c = record { runs = phased_runs_are_runs }

@@ -1,5 +1,0 @@
-use Rattle.phase_rules.proofs.Running.NeverFall.{phases_never_fall}
-use Rattle.phase_rules.proofs.phases_never_fall.Goals as goal
-
-pub returns : goal.returns
-returns c = record { fall = phases_never_fall }

@@ -1,5 +1,0 @@
-use Rattle.rv_serial.proofs.ImageRun.{images_are_laid, image_counts}
-use Rattle.rv_serial.proofs.a_riscv_image_runs.Goals as goal
-
-pub returns : goal.returns
-returns c = record { laid = images_are_laid; counts = image_counts }

@@ -1,5 +1,0 @@
-use Rattle.rv_serial.proofs.Given.{committed_tids_were_granted_once}
-use Rattle.rv_serial.proofs.committed_tids_were_granted_once.Goals as goal
-
-pub returns : goal.returns
-returns c = record { tids = committed_tids_were_granted_once }

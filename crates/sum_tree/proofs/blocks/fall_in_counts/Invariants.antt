@@ -1,9 +1,0 @@
-use Rattle.std.proofs.Common.{◌-◌, length}
-use Rattle.sum_tree.proofs.Falling.{Falling}
-use Rattle.sum_tree.proofs.blocks.fall_in_counts.Given as goal
-
-abbrev pub invariant-loop-left : goal.invariant-loop-left
-invariant-loop-left l = Falling l.counts l.from l.k l.at l.left
-
-abbrev pub decreases-loop-left : goal.decreases-loop-left
-decreases-loop-left l = length l.counts - l.at

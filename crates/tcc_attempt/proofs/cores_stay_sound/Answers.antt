@@ -1,5 +1,0 @@
-use Rattle.tcc_attempt.proofs.SoundDeliver.{cores-sound}
-use Rattle.tcc_attempt.proofs.cores_stay_sound.Goals as goal
-
-pub returns : goal.returns
-returns c = cores-sound

@@ -1,6 +1,0 @@
--- What other crates may cite: the laws, what keeps an attempt counted, and what a machine's code needs of them.
-pub use Rattle.tcc_bounds.proofs.After.{bounded_after, riscv_bounded_after, granted_most, link_short}
-pub use Rattle.tcc_bounds.proofs.Bounded.{kept_in_frames, runs_are_bounded}
-pub use Rattle.tcc_bounds.proofs.Counted.{finishes, marked_read, none, rolled, weak}
-pub use Rattle.tcc_bounds.proofs.Ends.{Between, fits_out, fits_back}
-pub use Rattle.tcc_bounds.proofs.Riscv.{riscv_runs_are_bounded}

@@ -1,4 +1,0 @@
--- What other crates may cite: the laws, and that a core executes or waits for room in a set where some frame can be emptied.
-pub use Rattle.tcc_live.proofs.FitSteps.{links_fit}
-pub use Rattle.tcc_live.proofs.Room.{Emptied, Wants, WantsSome, emptied, exec-or}
-pub use Rattle.tcc_live.proofs.Stuck.{no_state_is_stuck, each_core_goes_on, picked_ends_done}

@@ -1,8 +1,0 @@
-use Rattle.tcc_maps.proofs.Judge.{judge-waits, judge-takes}
-use Rattle.tcc_maps.proofs.judgement_is_exact.Goals as goal
-
-pub returns-clause-waits : goal.returns-clause-waits
-returns-clause-waits c = judge-waits
-
-pub returns-clause-takes : goal.returns-clause-takes
-returns-clause-takes c = judge-takes

@@ -1,3 +1,0 @@
--- What the proofs of other crates cite of this one.
-pub use Rattle.tcc_program.proofs.Cores.{consoles_are_printed, serial_takes_its_cores}
-pub use Rattle.tcc_program.proofs.Serials.{serial-append, serial-snoc, last_tid-snoc}

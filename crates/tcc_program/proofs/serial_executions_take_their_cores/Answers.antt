@@ -1,5 +1,0 @@
-use Rattle.tcc_program.proofs.Cores.{serial_takes_its_cores}
-use Rattle.tcc_program.proofs.serial_executions_take_their_cores.Goals as goal
-
-pub returns : goal.returns
-returns c = serial_takes_its_cores

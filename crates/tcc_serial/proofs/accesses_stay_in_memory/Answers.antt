@@ -1,6 +1,0 @@
-use Rattle.tcc_serial.proofs.Run.FactsOfRuns.{runs_stay_in_memory}
-use Rattle.tcc_serial.proofs.Memory.MemorySends.{accesses_at_homes, marks_at_homes, written_in_memory}
-use Rattle.tcc_serial.proofs.accesses_stay_in_memory.Goals as goal
-
-pub returns : goal.returns
-returns c = record { inside = runs_stay_in_memory; used = accesses_at_homes; marked = marks_at_homes; written = written_in_memory }

@@ -1,5 +1,0 @@
-use Rattle.tcc_serial.proofs.OneCore.SoundAttempts.{attempts_sound}
-use Rattle.tcc_serial.proofs.attempts_are_sound_or_doomed.Goals as goal
-
-pub returns : goal.returns
-returns c = record { sound = attempts_sound }

@@ -1,5 +1,0 @@
-use Rattle.tcc_serial.proofs.OneCore.CoreAlone.{one_core}
-use Rattle.tcc_serial.proofs.each_core_is_consistent.Goals as goal
-
-pub returns : goal.returns
-returns c = record { consistent = one_core }

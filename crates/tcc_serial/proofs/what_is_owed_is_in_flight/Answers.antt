@@ -1,5 +1,0 @@
-use Rattle.tcc_serial.proofs.Run.Always.{owed_in_flight}
-use Rattle.tcc_serial.proofs.what_is_owed_is_in_flight.Goals as goal
-
-pub returns : goal.returns
-returns c = record { owed = owed_in_flight }

@@ -1,6 +1,0 @@
--- What came first was taken.
-use Rattle.tcc_threads.proofs.Onward.{Going}
-use Rattle.tcc_threads.proofs.going.go_on.Given as goal
-
-abbrev pub invariant-loop : goal.invariant-loop
-invariant-loop l = Going l.fn.refined l.refined l.steps l.counter

@@ -1,6 +1,0 @@
--- From the law that no state is stuck.
-use Rattle.tcc_threads.proofs.Joining.{open-runs}
-use Rattle.tcc_threads.proofs.laws.open_joined_runs_take_all_events.Goals as goal
-
-pub returns : goal.returns
-returns c = open-runs c.riscv_machines_are_never_stuck.ensures.done

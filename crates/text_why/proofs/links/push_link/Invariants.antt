@@ -1,0 +1,14 @@
+-- The lines of the messages so far are written.
+use Rattle.std.proofs.Common.{◌≡◌, ◌++◌, string_bytes, take}
+use Rattle.std.specs.List.{flat_map}
+use Rattle.rules_maps.specs.Bridge.{node_of}
+use Rattle.net_core.specs.Machine.{settings_of, world_of}
+use Rattle.text_why.proofs.Flying.{flying_on, line_of}
+use Rattle.text_why.proofs.links.push_link.Given as goal
+
+abbrev pub invariant-loop-i : goal.invariant-loop-i
+invariant-loop-i l =
+    string_bytes l.text
+    ≡ string_bytes l.fn.text
+    ++ flat_map (line_of (settings_of l.system) (world_of l.system) (node_of l.src) (node_of l.dst))
+    (take l.i (flying_on (world_of l.system) (node_of l.src) (node_of l.dst)))

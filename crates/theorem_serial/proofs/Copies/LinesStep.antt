@@ -1,0 +1,344 @@
+-- Every event keeps the copies of each line in memory, each kind of event by itself.
+use Rattle.theorem_serial.proofs.Names.{ℕ, ◌%◌, ◌≡◌, ◌<◌, ◌≤◌, ◌⊎◌, ◌==◌, Bool, true, false, not, cond, List, Option, Some, None, arith}
+use Rattle.theorem_serial.proofs.Names.{refl}
+use Rattle.theorem_serial.proofs.Names.{ap, sym, ◌∙◌, inl, inr, cases_lt, nat_tests, Noted, num, Core, Dir, Msg, Inv, Shape, home, lines}
+use Rattle.theorem_serial.proofs.Names.{in_flight, Out, History, Commits, InvsAway, live, among, passes, Grant, Pair, pair, after_move}
+use Rattle.theorem_serial.proofs.Names.{Ways}
+use Rattle.theorem_serial.proofs.Names.{wrote_line, ◌+◌, ◌&&◌, nat_lt, [], Contains, subst, cases_eq, has_mark, DirState, Sends, dir_takes}
+use Rattle.theorem_serial.proofs.Names.{dir_asks, CopyOf, after_answer, out_taken, is_applied, names_line, IfSome, Program, Vendor, Event}
+use Rattle.theorem_serial.proofs.Names.{core_exec, core_evict, from_dir, grant, Answer, Waits, Drops, Asks, Takes, dir_deliver, core_moves}
+use Rattle.theorem_serial.proofs.Names.{core_takes, and_noted, step, grant_taken, back_taken, after_grant, after_other_grant, is_this}
+use Rattle.theorem_serial.proofs.Copies.AnswerCopies.{Answered, none-passes, still-similar, dropped-similar, came-similar}
+use Rattle.theorem_serial.proofs.Copies.CopyRules.{BackStep, Kept, Invalidates, InMemory, copies-exec, copies-evict, copies-grant}
+use Rattle.theorem_serial.proofs.Copies.CopyRules.{copies-back}
+use Rattle.theorem_serial.proofs.Copies.CoreCopies.{Conserves}
+use Rattle.theorem_serial.proofs.Copies.DirCopies.{similar-copies, taken-copies}
+use Rattle.theorem_serial.proofs.Copies.LinesKept.{Before, CopiesAt, KeptLines, moved-lines}
+use Rattle.theorem_serial.proofs.Copies.PairCopies.{line_copies, LineCopies, copies-moved, copies-lost}
+use Rattle.theorem_serial.proofs.Copies.TagsKept.{inv-tag, tag-below, stored-home, stored-in, TakenCommit, taken-commit, Invalidating}
+use Rattle.theorem_serial.proofs.Copies.WroteLines.{on-its-way, wrote-listed, no-writer}
+use Rattle.theorem_serial.proofs.Counts.Links.{live-takes}
+use Rattle.theorem_serial.proofs.Counts.StepCases.{same, differ, pairs_dir, pairs_asks, pairs_grant, pairs_back, pairs_vendor, OfAnswer}
+use Rattle.theorem_serial.proofs.Counts.StepCases.{step_cases}
+use Rattle.theorem_serial.proofs.Marks.CoreAfter.{AfterStep, Stays as AfterStays, after-exec, after-evict, after-grant, after-back}
+use Rattle.theorem_serial.proofs.Marks.DirRecords.{Stays, Records, Still, Came, Settles, Dropped, RecordsBy, dir-records}
+use Rattle.theorem_serial.proofs.Marks.OwesByCommit.{CountsMarked}
+use Rattle.theorem_serial.proofs.Serving.CommitOwners.{CommitsNoted, noted-exec, noted-evict, noted-grant, noted-back}
+use Rattle.theorem_serial.proofs.Serving.CommitSteps.{commits_served}
+use Rattle.theorem_serial.proofs.Serving.KeptSteps.{core_of_back}
+use Rattle.theorem_serial.proofs.Tids.Commits.{positive-committed}
+use Rattle.theorem_serial.proofs.Tids.CoreTids.{KeepsPart, part-exec, part-evict}
+use Rattle.theorem_serial.proofs.Tids.TidSteps.{live-some}
+use Rattle.theorem_serial.proofs.Ways.CoreSkips.{Tells, tells-exec, tells-evict}
+use Rattle.theorem_serial.proofs.Ways.ToldSteps.{speaks}
+
+-- Every message that is taken keeps the copies of each line in memory.
+
+-- a pair in which nothing is different that the copies go by
+pub kept-copies : (base : ℕ) (cs : List Noted) (c l : ℕ) (v w : Pair) → w.core ≡ v.core → w.dir ≡ v.dir → w.out ≡ v.out
+    → LineCopies base cs c l v → LineCopies base cs c l w
+kept-copies base cs c l v w e f g = similar-copies base cs c l v w (record {
+  cache = rw e refl;
+  tag = rw f refl;
+  owned = rw (f, g) refl;
+  copies = λ t i. rw g refl;
+  wrong = λ t m. rw g (omega arith);
+  commits = λ t i. rw g refl;
+})
+
+-- no Commit of a TID above the served one is in flight
+pub none-later : (sh : Shape) (gs : List Grant) (ys : Ways) (h : History) (c d t : ℕ) → Before sh gs ys h → c < sh.cores → d < sh.dirs
+    → (h.world.dirs d).serving.serving < t → live (Commits t) (h.world.net (Core c) (Dir d)) ≡ 0
+none-later sh gs ys h c d t b cl dl l = go (cases_lt 0 (live (Commits t) (h.world.net (Core c) (Dir d))))
+  where
+    go : (0 < live (Commits t) (h.world.net (Core c) (Dir d))) ⊎ (live (Commits t) (h.world.net (Core c) (Dir d)) ≤ 0)
+        → live (Commits t) (h.world.net (Core c) (Dir d)) ≡ 0
+    go (inl x) = absurd (let y = commits_served sh h.world b.told.all.kept b.told.all.committing c d t cl dl (omega (arith, x)) in
+        omega (arith, y, l))
+    go (inr x) = omega (arith, x)
+
+pub cond-none : (b : Bool) (x : ℕ) → x ≡ 0 → cond b x 0 ≡ 0
+cond-none a x e = grind (arith, nat_tests)
+
+-- a core to which an invalidation of the line is in flight has no copy that counts
+none-counted : (sh : Shape) (gs : List Grant) (ys : Ways) (h : History) (c d k l m u t : ℕ) → Before sh gs ys h → c < sh.cores → d < sh.dirs
+    → l < lines sh → home sh l ≡ d → in_flight h.world.net (Dir d) (Core c) k ≡ Some (Inv l m u) → (h.world.dirs d).lines.tag l ≤ t
+    → line_copies l t (pair h.world c d) ≡ 0
+unfolding pair
+none-counted sh gs ys h c d k l m u t b cl dl ll e i le = go (cases_lt ((h.world.dirs d).lines.tag l) t)
+  where
+    x : Invalidating sh h c d l
+    x = inv-tag sh gs h c d k l m u b.told.all (on-its-way sh gs ys h b.told) b.tags cl dl ll e i
+
+    mine : (o : Option ℕ) → (h.world.dirs d).lines.owner l ≡ o → num (is_this o c) ≡ 0
+    mine None q = refl
+    mine (Some o) q = which (o == c) refl
+      where
+        which : (y : Bool) → (o == c) ≡ y → num y ≡ 0
+        which false r = refl
+        which true r = absurd (let z : o ≡ c = grind (arith, nat_tests) in let w = b.owners d l c (q ∙ ap (λ n. Some n) z) in
+            omega (arith, x.sent, (b.told.all.spared c d).own dl (rw x.tag at w)))
+
+    go : ((h.world.dirs d).lines.tag l < t) ⊎ (t ≤ (h.world.dirs d).lines.tag l) → line_copies l t (pair h.world c d) ≡ 0
+    go (inl y) = (b.lines c d l cl dl ll e).above t y ∙ cond-none (wrote_line sh.base h.commits c t l)
+        (live (Commits t) (h.world.net (Core c) (Dir d))) (none-later sh gs ys h c d t b cl dl (omega (arith, y, x.tag)))
+    go (inr y) = let z : t ≡ (h.world.dirs d).lines.tag l = omega (arith, le, y) in
+        rw z ((b.lines c d l cl dl ll e).owned ∙ mine ((h.world.dirs d).lines.owner l) refl)
+
+-- an invalidation comes from the line's home
+inv-home : (sh : Shape) (gs : List Grant) (ys : Ways) (h : History) (c e k l m u : ℕ) → Before sh gs ys h
+    → in_flight h.world.net (Dir e) (Core c) k ≡ Some (Inv l m u) → home sh l ≡ e
+unfolding pair passes
+inv-home sh gs ys h c e k l m u b i = go (home sh l == e) refl
+  where
+    go : (y : Bool) → (home sh l == e) ≡ y → home sh l ≡ e
+    go true q = grind (arith, nat_tests)
+    go false q =
+        absurd (let n : num (not ((l % sh.dirs) == e)) ≡ 1 = rw q refl in
+        omega (
+          arith,
+          n,
+          live-some (InvsAway sh.dirs e) (h.world.net (Dir e) (Core c)) k (Inv l m u) i,
+          (b.told.all.kept.told.owed.at_home c e).invs,
+        ))
+
+-- a core takes a message of directory e; v is the pair, with the message or without
+pub back-copies : (sh : Shape) (gs : List Grant) (ys : Ways) (h : History) (c e d k l : ℕ) (m : Msg) (v : Pair) (o : Out)
+    → Before sh gs ys h → c < sh.cores → d < sh.dirs → l < lines sh → home sh l ≡ d → in_flight h.world.net (Dir e) (Core c) k ≡ Some m
+    → v.core ≡ (pair h.world c d).core → v.dir ≡ (pair h.world c d).dir → v.out ≡ (pair h.world c d).out → o.commit ≡ None
+    → ((t : ℕ) → among (Commits t) (o.sends (Dir d)) ≡ 0) → BackStep sh l (h.world.cores c) m o
+    → LineCopies sh.base h.commits c l (after_move v o d)
+unfolding pair line_copies
+back-copies sh gs ys h c e d k l m v o b cl dl ll q i vc vd vo n z (Kept x) =
+    copies-moved sh h.commits c d l v o q n z (rw vc x)
+    (kept-copies sh.base h.commits c l (pair h.world c d) v vc vd vo (b.lines c d l cl dl ll q))
+back-copies sh gs ys h c e d k l m v o b cl dl ll q i vc vd vo n z (Invalidates x u r a f) =
+    let j : in_flight h.world.net (Dir e) (Core c) k ≡ Some (Inv l x u) = i ∙ ap (λ y. Some y) r in
+    let w : d ≡ e = sym q ∙ inv-home sh gs ys h c e k l x u b j in
+    let p : in_flight h.world.net (Dir d) (Core c) k ≡ Some (Inv l x u) = rw w j in
+    copies-lost sh h.commits c d l v o q z (λ t. rw vc (f t))
+    (λ t g. rw (vc, vo) (none-counted sh gs ys h c d k l x u t b cl dl ll q p (rw vd at g)))
+    (kept-copies sh.base h.commits c l (pair h.world c d) v vc vd vo (b.lines c d l cl dl ll q))
+
+-- Every answer of a directory keeps the copies of each line in memory.
+
+-- a line that the commit whose Commit is taken stored, and one that it didn't
+
+-- the commit stored just the lines that are marked
+pub marked-line : (sh : Shape) (h : History) (c d l : ℕ) → l < lines sh → home sh l ≡ d → (t : TakenCommit sh h.commits h.world c d)
+    → names_line sh.base t.settled.commit.stores l ≡ has_mark (h.world.dirs d).lines l
+marked-line sh h c d l ll e t = stored-in sh d l t.settled.commit ll e ∙ ap (nat_lt 0) (sym (t.settled.marks l))
+
+-- of the core that committed; no other core has a commit with this TID
+pub writer-line : (sh : Shape) (h : History) (c d l : ℕ) → l < lines sh → home sh l ≡ d → TakenCommit sh h.commits h.world c d
+    → wrote_line sh.base h.commits c (h.world.dirs d).serving.serving l ≡ has_mark (h.world.dirs d).lines l
+writer-line sh h c d l ll e t =
+    let n = t.settled.commit in
+    let x = wrote-listed sh.base h.commits n l (t.settled.noted)
+    (λ y k o. t.only y k (sym (t.settled.tid) ∙ tids y (y.core.0 == n.core.0) (y.tid.0 == n.tid.0) refl o)) in
+    subst (λ p. wrote_line sh.base h.commits c p l ≡ has_mark (h.world.dirs d).lines l) (t.settled.tid)
+    (subst (λ p. wrote_line sh.base h.commits p n.tid.0 l ≡ has_mark (h.world.dirs d).lines l) (t.core)
+    (x.line ∙ marked-line sh h c d l ll e t))
+  where
+    tids : (y : Noted) (a b : Bool) → (y.tid.0 == t.settled.commit.tid.0) ≡ b → (a && b) ≡ true → t.settled.commit.tid.0 ≡ y.tid.0
+    tids y true true q o = grind (arith, nat_tests)
+    tids y true false q o = absurd (cc)
+    tids y false b q o = absurd (cc)
+
+pub other-writer : (sh : Shape) (h : History) (c j d l : ℕ) → (j ≡ c → ⊥) → TakenCommit sh h.commits h.world c d
+    → wrote_line sh.base h.commits j (h.world.dirs d).serving.serving l ≡ false
+other-writer sh h c j d l n t = no-writer sh.base h.commits j (h.world.dirs d).serving.serving l
+    (λ x k. go x k (x.core.0 == j) (x.tid.0 == (h.world.dirs d).serving.serving) refl refl)
+  where
+    go : (x : Noted) → Contains h.commits x → (a b : Bool) → (x.core.0 == j) ≡ a → (x.tid.0 == (h.world.dirs d).serving.serving) ≡ b
+        → (a && b) ≡ false
+    go x k true true q r =
+        absurd (let y : (h.world.dirs d).serving.serving ≡ x.tid.0 = grind (arith, nat_tests) in
+        let z : x.core.0 ≡ t.settled.commit.core.0 = ap (λ u. u.core.0) (t.only x k y) in
+        let w : x.core.0 ≡ j = grind (arith, nat_tests) in n (sym w ∙ z ∙ t.core))
+    go x k true false q r = refl
+    go x k false b q r = refl
+
+-- just one Commit of it is in flight
+one-commit : (sh : Shape) (gs : List Grant) (ys : Ways) (h : History) (c d l : ℕ) → Before sh gs ys h → d < sh.dirs → l < lines sh
+    → home sh l ≡ d → (t : TakenCommit sh h.commits h.world c d) → names_line sh.base t.settled.commit.stores l ≡ true
+    → live (Commits (h.world.dirs d).serving.serving) (h.world.net (Core c) (Dir d)) ≡ 1
+one-commit sh gs ys h c d l b dl ll e t s =
+    let n = t.settled.commit in
+    let x : live (Commits n.tid.0) (h.world.net (Core n.core.0) (Dir d)) + num (is_applied (h.world.dirs d) n.tid.0) ≡ 1 =
+    on-its-way sh gs ys h b.told n d (t.settled.noted) dl (stored-home sh d l n ll e s) in
+    let y : live (Commits (h.world.dirs d).serving.serving) (h.world.net (Core c) (Dir d)) + num
+    (is_applied (h.world.dirs d) (h.world.dirs d).serving.serving) ≡ 1 = rw (t.settled.tid, t.core) at x in
+    omega (arith, y, t.sent)
+
+pub commit-passes : (sh : Shape) (s : DirState) (m : Msg) (x : ℕ) → CountsMarked sh s m → passes (Commits x) m ≡ (s.serving.serving == x)
+unfolding passes
+commit-passes sh s m x q = rw q refl
+
+-- the directory's answer as core j sees it; mine: the message was j's
+answer-lines : (sh : Shape) (gs : List Grant) (ys : Ways) (h : History) (c d k j l : ℕ) (mine : Bool) (m : Msg) (s : DirState) (w : Pair)
+    → Before sh gs ys h → in_flight h.world.net (Core c) (Dir d) k ≡ Some m → (j == c) ≡ mine → j < sh.cores → d < sh.dirs → l < lines sh
+    → home sh l ≡ d → Answered mine m s (pair h.world j d) w → Records sh (h.world.dirs d) c m s → LineCopies sh.base h.commits j l w
+unfolding pair
+answer-lines sh gs ys h c d k j l mine m s w b i z jl dl ll e a (Still y n q) =
+    similar-copies sh.base h.commits j l (pair h.world j d) w
+    (still-similar sh.base h.commits j l mine m s (pair h.world j d) w a (y.tags l) (y.owners l) (λ t g. q l t)
+    (λ t g. none-passes mine (Commits t) m (n t))) (b.lines j d l jl dl ll e)
+answer-lines sh gs ys h c d k j l mine m s w b i z jl dl ll e a (Came x p o g f n) =
+    similar-copies sh.base h.commits j l (pair h.world j d) w
+    (came-similar sh.base h.commits j c l x mine m s (pair h.world j d) w z a p o (g l) (f l) n) (b.lines j d l jl dl ll e)
+answer-lines sh gs ys h c d k j l mine m s w b i z jl dl ll e a (Settles q g f n) = go (has_mark (h.world.dirs d).lines l) refl
+  where
+    u : ℕ
+    u = (h.world.dirs d).serving.serving
+
+    t : TakenCommit sh h.commits h.world c d
+    t = taken-commit sh gs h c d k m b.told.all dl i q
+
+    -- only the Commit of the served TID is consumed, of a commit that didn't store this line
+    quiet : has_mark (h.world.dirs d).lines l ≡ false → (x : ℕ) → wrote_line sh.base h.commits j x l ≡ true
+        → num (mine && passes (Commits x) m) ≡ 0
+    quiet r x y = which (j == c) (u == x) refl refl z
+      where
+        which : (p v : Bool) → (j == c) ≡ p → (u == x) ≡ v → p ≡ mine → num (mine && passes (Commits x) m) ≡ 0
+        which false v e0 e1 e2 = rw (sym e2) refl
+        which true false e0 e1 e2 = none-passes mine (Commits x) m (commit-passes sh (h.world.dirs d) m x q ∙ e1)
+        which true true e0 e1 e2 = absurd (let v : j ≡ c = grind (arith, nat_tests) in let y' : u ≡ x = grind (arith, nat_tests) in
+            let o : wrote_line sh.base h.commits c u l ≡ true = rw (v, sym y') at y in let p = writer-line sh h c d l ll e t in cc)
+
+    writer : has_mark (h.world.dirs d).lines l ≡ true → (j ≡ c) ⊎ (j ≡ c → ⊥)
+        → cond (wrote_line sh.base h.commits j u l) (live (Commits u) (h.world.net (Core j) (Dir d))) 0 ≡ num (c == j)
+    writer r (inl x) =
+        let y : wrote_line sh.base h.commits j u l ≡ true = rw x (writer-line sh h c d l ll e t ∙ r) in
+        let n : live (Commits u) (h.world.net (Core j) (Dir d)) ≡ 1 =
+        rw x (one-commit sh gs ys h c d l b dl ll e t (marked-line sh h c d l ll e t ∙ r)) in
+        let p : (c == j) ≡ true = grind (arith, nat_tests) in
+        rw (y, p) n
+    writer r (inr x) = let y : (c == j) ≡ false = grind (arith, nat_tests) in rw (other-writer sh h c j d l x t, y) refl
+
+    go : (r : Bool) → has_mark (h.world.dirs d).lines l ≡ r → LineCopies sh.base h.commits j l w
+    go false r =
+        similar-copies sh.base h.commits j l (pair h.world j d) w
+        (still-similar sh.base h.commits j l mine m s (pair h.world j d) w a (g l ∙ rw r refl) (f l ∙ rw r refl) (λ x o. n l x) (quiet r))
+        (b.lines j d l jl dl ll e)
+    go true r = taken-copies sh.base h.commits c u j l (pair h.world j d) w (record {
+      cache = a.cache;
+      tag = ap (λ x. x.lines.tag l) (a.dir) ∙ g l ∙ rw r refl;
+      old = tag-below sh h c d l (on-its-way sh gs ys h b.told) b.tags dl ll e
+          (rw (sym (t.settled.tid)) (positive-committed sh gs h.world h.commits t.settled.commit b.told.all.owners (t.settled.noted)))
+          (λ x o y. ap (λ n. n.core.0) (t.only x o (sym y)) ∙ t.core) (t.sent);
+      owner = ap (λ x. x.lines.owner l) (a.dir) ∙ f l ∙ rw r refl;
+      copies = λ x. (let y = none-passes mine (CopyOf l x) m (n l x) in omega (arith, y, a.lives (CopyOf l x)));
+      writer = writer r (cases_eq j c);
+      before = λ x o. none-later sh gs ys h j d x b jl dl o;
+      after = λ x o. (let y = none-later sh gs ys h j d x b jl dl o in omega (arith, y, a.lives (Commits x)));
+    }) (b.lines j d l jl dl ll e)
+
+-- with the world's frames
+pub dir-lines : (sh : Shape) (gs : List Grant) (ys : Ways) (h : History) (c d k : ℕ) (m : Msg) (s : DirState) (sends : Sends)
+    → Before sh gs ys h → in_flight h.world.net (Core c) (Dir d) k ≡ Some m → Records sh (h.world.dirs d) c m s
+    → KeptLines sh h.commits (dir_takes h.world c d k s sends)
+unfolding pair
+dir-lines sh gs ys h c d k m s sends b i r = pairs_dir (CopiesAt sh h.commits) h.world c d k s sends
+    (λ l cl dl ll e. answer-lines sh gs ys h c d k c l true m s (after_answer (out_taken (pair h.world c d) k) s (sends (Core c))) b i
+    (same c) cl dl ll e (record { cache = refl; dir = refl; lives = λ q. live-takes q (h.world.net (Core c) (Dir d)) k m i }) r)
+    (λ j n l jl dl ll e. answer-lines sh gs ys h c d k j l false m s (after_answer (pair h.world j d) s (sends (Core j))) b i
+    (differ j c n) jl dl ll e (record { cache = refl; dir = refl; lives = λ q. omega arith }) r)
+    b.lines
+
+pub drop-lines : (sh : Shape) (gs : List Grant) (ys : Ways) (h : History) (c d k : ℕ) (m : Msg) → Before sh gs ys h
+    → in_flight h.world.net (Core c) (Dir d) k ≡ Some m → Dropped (h.world.dirs d) c m
+    → KeptLines sh h.commits (dir_takes h.world c d k (h.world.dirs d) (λ dst. []))
+unfolding pair
+drop-lines sh gs ys h c d k m b i u = pairs_dir (CopiesAt sh h.commits) h.world c d k (h.world.dirs d) (λ dst. [])
+    (λ l cl dl ll e. similar-copies sh.base h.commits c l (pair h.world c d)
+    (after_answer (out_taken (pair h.world c d) k) (h.world.dirs d) [])
+    (dropped-similar sh.base h.commits c l true m (pair h.world c d)
+    (after_answer (out_taken (pair h.world c d) k) (h.world.dirs d) [])
+    (record { cache = refl; dir = refl; lives = λ q. live-takes q (h.world.net (Core c) (Dir d)) k m i }) (u.commit)
+    (λ t x y. u.late l t y) (λ x y. u.other l y) (b.lines c d l cl dl ll e)) (b.lines c d l cl dl ll e))
+    (λ j n l jl dl ll e. similar-copies sh.base h.commits j l (pair h.world j d) (after_answer (pair h.world j d) (h.world.dirs d) [])
+    (dropped-similar sh.base h.commits j l false m (pair h.world j d) (after_answer (pair h.world j d) (h.world.dirs d) [])
+    (record { cache = refl; dir = refl; lives = λ q. omega arith }) (u.commit) (λ t x y. u.late l t y) (λ x y. absurd (cc))
+    (b.lines j d l jl dl ll e)) (b.lines j d l jl dl ll e))
+    b.lines
+
+pub asks-lines : (sh : Shape) (gs : List Grant) (ys : Ways) (h : History) (d : ℕ) (s : DirState) (sends : Sends) → Before sh gs ys h
+    → Stays (h.world.dirs d) s → KeptLines sh h.commits (dir_asks h.world d s sends)
+unfolding pair
+asks-lines sh gs ys h d s sends b u = pairs_asks (CopiesAt sh h.commits) h.world d s sends
+    (λ j l jl dl ll e. similar-copies sh.base h.commits j l (pair h.world j d) (after_answer (pair h.world j d) s (sends (Core j)))
+    (record {
+      cache = refl;
+      tag = u.tags l;
+      owned = rw (u.owners l) refl;
+      copies = λ t i. refl;
+      wrong = λ t m. omega arith;
+      commits = λ t i. refl;
+    }) (b.lines j d l jl dl ll e))
+    b.lines
+
+-- nothing is committed
+none-sent : (o : Out) → CommitsNoted o → o.commit ≡ None → (d t : ℕ) → among (Commits t) (o.sends (Dir d)) ≡ 0
+none-sent o n e d t = let z : among (Commits t) (o.sends (Dir d)) ≤ 0 = rw e at (n d t) in omega (arith, z)
+
+pub step-lines : (sh : Shape) (p : Program) (gs : List Grant) (ys : Ways) (h : History) (e : Event) → Before sh gs ys h
+    → IfSome (step sh p h.world e) (λ o. KeptLines sh (and_noted o.noted h.commits) o.world)
+unfolding pair
+step-lines sh p gs ys h e b = step_cases sh p h.world e (λ g o. KeptLines sh (and_noted o.noted h.commits) o.world)
+    (λ c l. moved c (core_exec sh p c (h.world.cores c)) (λ x m. copies-exec sh x p c (h.world.cores c) m (b.told.all.cores c))
+    (λ d t i. part-exec sh p c d t (h.world.cores c) i) (tells-exec sh p c (h.world.cores c) (b.told.all.cores c))
+    (noted-exec sh p c (h.world.cores c)) (after-exec sh p c (h.world.cores c) (b.told.all.cores c)))
+    (λ c x y l. moved c (core_evict sh x y (h.world.cores c)) (λ k m. copies-evict sh k x y (h.world.cores c))
+    (λ d t i. part-evict sh x y d t (h.world.cores c)) (tells-evict sh x y (h.world.cores c)) (noted-evict sh x y (h.world.cores c))
+    (after-evict sh c x y (h.world.cores c)))
+    (λ c k u i. granted c k u)
+    (λ c d k m i. taken c d k m (core_of_back sh h.world c d k m b.told.all.kept.told.tids i) i (from_dir sh d (h.world.cores c) m)
+    (λ l. copies-back sh l d (h.world.cores c) m (b.told.all.cores c).words.cache) (noted-back sh d (h.world.cores c) m)
+    (after-back sh d (h.world.cores c) m))
+    (λ c d k m i. answered c d k m i (dir_deliver sh (h.world.dirs d) c m) (dir-records sh (h.world.dirs d) c m))
+    (λ c k i. pairs_vendor (CopiesAt sh h.commits) h.world c k
+    (λ d l cl dl ll q. kept-copies sh.base h.commits c l (pair h.world c d) (after_grant (pair h.world c d) k) refl refl refl
+    (b.lines c d l cl dl ll q))
+    (λ j d n l jl dl ll q. kept-copies sh.base h.commits j l (pair h.world j d) (after_other_grant (pair h.world j d)) refl refl
+    refl (b.lines j d l jl dl ll q)))
+  where
+    moved : (c : ℕ) (x : Option Out) → ((l : ℕ) → InMemory sh l → IfSome x (Conserves sh l (h.world.cores c)))
+        → ((d t : ℕ) → d < sh.dirs → IfSome x (λ o. KeepsPart sh d t 0 (h.world.cores c) o)) → IfSome x (λ o. Tells sh (h.world.cores c) o)
+        → IfSome x (λ o. CommitsNoted o) → IfSome x (λ o. AfterStep sh c (h.world.cores c) o)
+        → IfSome x (λ o. KeptLines sh (and_noted o.commit h.commits) (core_moves h.world c o))
+    moved c None k q t n a = tt
+    moved c (Some o) k q t n a = moved-lines sh gs ys h c o b (record { copies = k; speaks = speaks sh h.world c o q t n; after = a })
+
+    granted : (c k u : ℕ)
+        → KeptLines sh (and_noted (grant sh u (h.world.cores c)).commit h.commits)
+        (core_takes h.world Vendor c k (grant sh u (h.world.cores c)))
+    granted c k u =
+        let o : Out = grant sh u (h.world.cores c) in
+        let a = after-grant sh u (h.world.cores c) in
+        subst (λ n. KeptLines sh (and_noted n h.commits) (core_takes h.world Vendor c k o)) (sym a.commit)
+        (pairs_grant (CopiesAt sh h.commits) h.world c k o
+        (λ d l cl dl ll q. copies-moved sh h.commits c d l (grant_taken (pair h.world c d) k) o q (a.commit)
+        (none-sent o (noted-grant sh u (h.world.cores c)) (a.commit) d) (copies-grant sh l u (h.world.cores c))
+        (kept-copies sh.base h.commits c l (pair h.world c d) (grant_taken (pair h.world c d) k) refl refl refl
+        (b.lines c d l cl dl ll q))) b.lines)
+
+    taken : (c d k : ℕ) (m : Msg) → c < sh.cores → in_flight h.world.net (Dir d) (Core c) k ≡ Some m → (x : Option Out)
+        → ((l : ℕ) → IfSome x (BackStep sh l (h.world.cores c) m)) → IfSome x (λ o. CommitsNoted o)
+        → IfSome x (λ o. AfterStays (h.world.cores c) o)
+        → IfSome x (λ o. KeptLines sh (and_noted o.commit h.commits) (core_takes h.world (Dir d) c k o))
+    taken c d k m cl i None f n a = tt
+    taken c d k m cl i (Some o) f n a = subst (λ x. KeptLines sh (and_noted x h.commits) (core_takes h.world (Dir d) c k o)) (sym a.commit)
+        (pairs_back (CopiesAt sh h.commits) h.world d c k o
+        (λ l cl dl ll q. back-copies sh gs ys h c d d k l m (back_taken (pair h.world c d) k) o b cl dl ll q i refl refl refl (a.commit)
+        (none-sent o n (a.commit) d) (f l))
+        (λ x r l cl dl ll q. back-copies sh gs ys h c d x k l m (pair h.world c x) o b cl dl ll q i refl refl refl (a.commit)
+        (none-sent o n (a.commit) x) (f l))
+        b.lines)
+
+    answered : (c d k : ℕ) (m : Msg) → in_flight h.world.net (Core c) (Dir d) k ≡ Some m → (a : Answer)
+        → RecordsBy sh (h.world.dirs d) c m a → OfAnswer h.world c d k (λ v. KeptLines sh h.commits v) a
+    answered c d k m i Waits u = tt
+    answered c d k m i Drops u = drop-lines sh gs ys h c d k m b i u
+    answered c d k m i (Asks s sends) u = asks-lines sh gs ys h d s sends b u
+    answered c d k m i (Takes s sends) u = dir-lines sh gs ys h c d k m s sends b i u

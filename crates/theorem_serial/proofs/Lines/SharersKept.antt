@@ -1,0 +1,458 @@
+-- Every event keeps that a core which holds a line in memory is one of its sharers, or its Commit of the line is in flight.
+use Rattle.theorem_serial.proofs.Names.{ℕ, ◌≡◌, ◌≤◌, ◌⊎◌, ◌&&◌, ◌||◌, Bool, true, false, nat_lt, List, arith, refl, ap, sym, ◌∙◌, inl, inr}
+use Rattle.theorem_serial.proofs.Names.{nat_tests, Noted, keeps_unmodified, is_fresh, holds_line, CommitsLine, SharerOf, FillOf, GoneOf}
+use Rattle.theorem_serial.proofs.Names.{live}
+use Rattle.theorem_serial.proofs.Names.{Pair, ◌+◌, ◌<◌, ◌==◌, [], ◌∷◌, Some, None, subst, cases_lt, num, has_mark, Core, Dir, Msg, Shape}
+use Rattle.theorem_serial.proofs.Names.{home}
+use Rattle.theorem_serial.proofs.Names.{lines, DirState, Link, Sends, in_flight, History, Kind, AckOf, Commits, among, passes, Grant, pair}
+use Rattle.theorem_serial.proofs.Names.{Ways, wrote_line, Option, IfSome, Out, and_noted, insert_commit, KeptLoading, LoadOf, CommitsAbove}
+use Rattle.theorem_serial.proofs.Names.{due}
+use Rattle.theorem_serial.proofs.Names.{after_move, share, is_applied, stores_at, names_line, is_some, line_of, CoreState, Phase, Running}
+use Rattle.theorem_serial.proofs.Names.{World, core_moves, dir_takes, KeptSharers, OneCore, acting, after_answer, out_taken, has_tid, ◌%◌}
+use Rattle.theorem_serial.proofs.Names.{not}
+use Rattle.theorem_serial.proofs.Names.{is_awaited, KeptHomes, LoadingOf, InvOf, LinesAway}
+use Rattle.theorem_serial.proofs.Copies.LinesKept.{Before, new-of}
+use Rattle.theorem_serial.proofs.Copies.LinesStep.{writer-line, commit-passes}
+use Rattle.theorem_serial.proofs.Copies.PairCopies.{NewCommit}
+use Rattle.theorem_serial.proofs.Copies.TagsKept.{taken-commit, stored-home}
+use Rattle.theorem_serial.proofs.Copies.WroteLines.{applied-or, is_of, wrote-new, wrote-other, commit-sent, wrote-unknown}
+use Rattle.theorem_serial.proofs.Counts.Links.{live-sends, total-le, live-takes}
+use Rattle.theorem_serial.proofs.Counts.StepCases.{same, differ, either, moves-own, moves-other, pairs_dir}
+use Rattle.theorem_serial.proofs.Lines.CoreHolds.{Holds, ReadsValid}
+use Rattle.theorem_serial.proofs.Lines.CoreHoldsTakes.{HoldsTaken, Gone}
+use Rattle.theorem_serial.proofs.Lines.DirSharers.{Shares}
+use Rattle.theorem_serial.proofs.Marks.CoreAfter.{AfterStep}
+use Rattle.theorem_serial.proofs.Marks.DirRecords.{Records, Still, Came, Settles}
+use Rattle.theorem_serial.proofs.Marks.NamedKept.{lines-live}
+use Rattle.theorem_serial.proofs.Marks.ReadsKept.{KeptReads}
+use Rattle.theorem_serial.proofs.OneCore.CoreReads.{ValidOrPassed}
+use Rattle.theorem_serial.proofs.Serving.CommitSteps.{of-above}
+use Rattle.theorem_serial.proofs.Tids.TidSteps.{live-some}
+use Rattle.theorem_serial.proofs.Ways.CoreSkips.{TellsCommit}
+use Rattle.theorem_serial.proofs.Ways.ToldSteps.{Speaks}
+
+-- What each kind of event does, between a core and the line's home, to that a core which holds a line is one of its sharers.
+
+-- a core holds a line by a word that it keeps, or by a Fill that it will take
+pub holds-cases : (l : ℕ) (v : Pair) → holds_line l v ≡ true → (keeps_unmodified v.core.cache l ≡ true)
+    ⊎ ((is_fresh v.core.awaited ≡ true) × (1 ≤ live (FillOf l) v.back))
+unfolding holds_line
+holds-cases l v q = go (keeps_unmodified v.core.cache l) (is_fresh v.core.awaited) (nat_lt 0 (live (FillOf l) v.back)) refl q
+  where
+    go : (a b c : Bool) → nat_lt 0 (live (FillOf l) v.back) ≡ c → (a || (b && c)) ≡ true
+        → (a ≡ true) ⊎ ((b ≡ true) × (1 ≤ live (FillOf l) v.back))
+    go true b c r q = inl refl
+    go false true true r q = inr (refl, grind (arith, nat_tests))
+    go false true false r q = absurd (cc)
+    go false false c r q = absurd (cc)
+
+pub holds-kept : (l : ℕ) (v : Pair) → keeps_unmodified v.core.cache l ≡ true → holds_line l v ≡ true
+unfolding holds_line
+holds-kept l v q = rw q refl
+
+pub holds-fill : (l : ℕ) (v : Pair) → is_fresh v.core.awaited ≡ true → 1 ≤ live (FillOf l) v.back → holds_line l v ≡ true
+unfolding holds_line
+holds-fill l v q i = grind (arith, nat_tests)
+
+-- a core's event: what it holds it held before, or it has committed the line and has acknowledged nothing of it
+pub sharer-moved : (base : ℕ) (cs ds : List Noted) (c l : ℕ) (v w : Pair) → w.dir ≡ v.dir
+    → (holds_line l w ≡ true → (holds_line l v ≡ true) ⊎ (CommitsLine base ds c l w × (live (GoneOf l) v.out ≡ 0)))
+    → (CommitsLine base cs c l v → CommitsLine base ds c l w) → (holds_line l w ≡ true → live (GoneOf l) w.out ≡ live (GoneOf l) v.out)
+    → SharerOf base cs c l v → SharerOf base ds c l w
+sharer-moved base cs ds c l v w e f g u h = record { shares = λ q. shares (f q); stays = λ q. stays q (f q) }
+  where
+    shares : (holds_line l v ≡ true) ⊎ (CommitsLine base ds c l w × (live (GoneOf l) v.out ≡ 0))
+        → (w.dir.lines.sharers l c ≡ true) ⊎ CommitsLine base ds c l w
+    shares (inl x) = elim (h.shares x) [ inl x ↦ inl (rw e x) | inr x ↦ inr (g x) ]
+    shares (inr x) = inr (x.0)
+
+    stays : holds_line l w ≡ true → (holds_line l v ≡ true) ⊎ (CommitsLine base ds c l w × (live (GoneOf l) v.out ≡ 0))
+        → live (GoneOf l) w.out ≡ 0
+    stays q a = grind (arith, nat_tests)
+
+-- a directory's answer, as a core sees it
+pub record SharerStep (base : ℕ) (cs : List Noted) (c l : ℕ) (v w : Pair) : Type 0 where
+  pub core : w.core ≡ v.core
+  pub kept : v.dir.lines.sharers l c ≡ true → (w.dir.lines.sharers l c ≡ true) ⊎ (1 ≤ live (GoneOf l) v.out)
+  pub commits : CommitsLine base cs c l v → (w.dir.lines.sharers l c ≡ true) ⊎ CommitsLine base cs c l w
+  pub filled : (live (FillOf l) w.back ≤ live (FillOf l) v.back) ⊎ ((w.dir.lines.sharers l c ≡ true) × (live (GoneOf l) v.out ≡ 0))
+  pub gone : live (GoneOf l) w.out ≤ live (GoneOf l) v.out
+
+pub sharer-answered : (base : ℕ) (cs : List Noted) (c l : ℕ) (v w : Pair) → SharerStep base cs c l v w → SharerOf base cs c l v
+    → SharerOf base cs c l w
+sharer-answered base cs c l v w s h = record { shares = λ q. shares (held q); stays = λ q. stays (held q) }
+  where
+    -- it held the line before, or it is filled now
+    held : holds_line l w ≡ true → (holds_line l v ≡ true) ⊎ ((w.dir.lines.sharers l c ≡ true) × (live (GoneOf l) v.out ≡ 0))
+    held q = go (holds-cases l w q) (s.filled)
+      where
+        go : (keeps_unmodified w.core.cache l ≡ true) ⊎ ((is_fresh w.core.awaited ≡ true) × (1 ≤ live (FillOf l) w.back))
+            → (live (FillOf l) w.back ≤ live (FillOf l) v.back) ⊎ ((w.dir.lines.sharers l c ≡ true) × (live (GoneOf l) v.out ≡ 0))
+            → (holds_line l v ≡ true) ⊎ ((w.dir.lines.sharers l c ≡ true) × (live (GoneOf l) v.out ≡ 0))
+        go (inl x) y = inl (holds-kept l v (ap (λ r. keeps_unmodified r.cache l) (sym (s.core)) ∙ x))
+        go (inr x) (inl y) = inl (holds-fill l v (ap (λ r. is_fresh r.awaited) (sym (s.core)) ∙ x.0) (omega (arith, x.1, y)))
+        go (inr x) (inr y) = inr y
+
+    carried : holds_line l v ≡ true → (v.dir.lines.sharers l c ≡ true) ⊎ CommitsLine base cs c l v
+        → (w.dir.lines.sharers l c ≡ true) ⊎ CommitsLine base cs c l w
+    carried q (inl x) = elim (s.kept x) [ inl y ↦ inl y | inr y ↦ absurd (omega (arith, y, h.stays q)) ]
+    carried q (inr x) = s.commits x
+
+    shares : (holds_line l v ≡ true) ⊎ ((w.dir.lines.sharers l c ≡ true) × (live (GoneOf l) v.out ≡ 0))
+        → (w.dir.lines.sharers l c ≡ true) ⊎ CommitsLine base cs c l w
+    shares (inl x) = carried x (h.shares x)
+    shares (inr x) = inl (x.0)
+
+    stays : (holds_line l v ≡ true) ⊎ ((w.dir.lines.sharers l c ≡ true) × (live (GoneOf l) v.out ≡ 0)) → live (GoneOf l) w.out ≡ 0
+    stays a = grind (arith, nat_tests)
+
+-- Every answer of a directory keeps that a core which holds a line is one of its sharers, or its Commit of the line is in flight.
+pub gone-ack : (l : ℕ) (m : Msg) → num (passes (GoneOf l) m) ≤ num (passes (AckOf l) m)
+unfolding passes
+gone-ack l m = grind (arith, nat_tests)
+
+pub gone-acks : (l : ℕ) (k : Link) → live (GoneOf l) k ≤ live (AckOf l) k
+unfolding live
+gone-acks l [] = omega arith
+gone-acks l (None ∷ k) = gone-acks l k
+gone-acks l (Some m ∷ k) = omega (arith, gone-ack l m, gone-acks l k)
+
+-- the directory is s now, and has sent these messages; the message was consumed where it came from this core
+pub record Seen (mine : Bool) (j : ℕ) (m : Msg) (s : DirState) (sends : Sends) (v w : Pair) : Type 0 where
+  pub core : w.core ≡ v.core
+  pub dir : w.dir ≡ s
+  pub lives : (k : Kind) → live k w.out + num (mine && passes k m) ≡ live k v.out
+  pub back : (k : Kind) → live k w.back ≡ live k v.back + among k (sends (Core j))
+
+-- a Commit that the directory takes is of the lines that are marked
+takes-commits : (sh : Shape) (gs : List Grant) (ys : Ways) (h : History) (c d k j l : ℕ) (mine : Bool) (m : Msg) (s : DirState)
+    (sends : Sends) (w : Pair) → Before sh gs ys h → in_flight h.world.net (Core c) (Dir d) k ≡ Some m → (j == c) ≡ mine → d < sh.dirs
+    → l < lines sh → home sh l ≡ d → Seen mine j m s sends (pair h.world j d) w → Records sh (h.world.dirs d) c m s
+    → Shares sh (h.world.dirs d) c m s sends
+    → CommitsLine sh.base h.commits j l (pair h.world j d) → (w.dir.lines.sharers l j ≡ true) ⊎ CommitsLine sh.base h.commits j l w
+takes-commits sh gs ys h c d k j l mine m s sends w b i z dl ll e a r f x = go r
+  where
+    same : num (mine && passes (Commits x.tid) m) ≡ 0 → (w.dir.lines.sharers l j ≡ true) ⊎ CommitsLine sh.base h.commits j l w
+    same n = inr (record { tid = x.tid; sent = omega (arith, x.sent, n, a.lives (Commits x.tid)); line = x.line })
+
+    none : (y : Bool) → passes (Commits x.tid) m ≡ false → num (y && passes (Commits x.tid) m) ≡ 0
+    none a n = grind (arith, nat_tests)
+
+    go : Records sh (h.world.dirs d) c m s → (w.dir.lines.sharers l j ≡ true) ⊎ CommitsLine sh.base h.commits j l w
+    go (Still y n q) = same (none mine (n x.tid))
+    go (Came y p o g q n) = same (none mine (n x.tid))
+    go (Settles q g o n) = cases (j == c) ((h.world.dirs d).serving.serving == x.tid) refl refl
+      where
+        cases : (p v : Bool) → (j == c) ≡ p → ((h.world.dirs d).serving.serving == x.tid) ≡ v
+            → (w.dir.lines.sharers l j ≡ true) ⊎ CommitsLine sh.base h.commits j l w
+        cases false v e0 e1 = same (rw (sym z ∙ e0) refl)
+        cases true false e0 e1 = same (none mine (commit-passes sh (h.world.dirs d) m x.tid q ∙ e1))
+        cases true true e0 e1 =
+            let y : j ≡ c = grind (arith, nat_tests) in
+            let t : (h.world.dirs d).serving.serving ≡ x.tid = grind (arith, nat_tests) in
+            let n' : wrote_line sh.base h.commits c (h.world.dirs d).serving.serving l ≡ true =
+            subst (λ p. wrote_line sh.base h.commits c p l ≡ true) (sym t)
+            (subst (λ p. wrote_line sh.base h.commits p x.tid l ≡ true) y x.line) in
+            let o' : has_mark (h.world.dirs d).lines l ≡ true =
+            sym (writer-line sh h c d l ll e (taken-commit sh gs h c d k m b.told.all dl i q)) ∙ n' in
+            inl (ap (λ u. u.lines.sharers l j) (a.dir) ∙ ap (λ u. s.lines.sharers l u) y ∙ f.taken l q o')
+
+pub answer-sharers : (sh : Shape) (gs : List Grant) (ys : Ways) (h : History) (c d k j l : ℕ) (mine : Bool) (m : Msg) (s : DirState)
+    (sends : Sends) (w : Pair) → Before sh gs ys h → in_flight h.world.net (Core c) (Dir d) k ≡ Some m → (j == c) ≡ mine → j < sh.cores
+    → d < sh.dirs → l < lines sh → home sh l ≡ d → Seen mine j m s sends (pair h.world j d) w → Records sh (h.world.dirs d) c m s
+    → Shares sh (h.world.dirs d) c m s sends
+    → SharerOf sh.base h.commits j l (pair h.world j d) → SharerOf sh.base h.commits j l w
+unfolding pair
+answer-sharers sh gs ys h c d k j l mine m s sends w b i z jl dl ll e a r f =
+    sharer-answered sh.base h.commits j l (pair h.world j d) w (record {
+      core = a.core;
+      kept = λ q. kept (f.kept l j q);
+      commits = takes-commits sh gs ys h c d k j l mine m s sends w b i z dl ll e a r f;
+      filled = filled (cases_lt 0 (among (FillOf l) (sends (Core j))));
+      gone = omega (arith, a.lives (GoneOf l));
+    })
+  where
+    kept : (s.lines.sharers l j ≡ true) ⊎ ((j ≡ c) × (passes (GoneOf l) m ≡ true))
+        → (w.dir.lines.sharers l j ≡ true) ⊎ (1 ≤ live (GoneOf l) (h.world.net (Core j) (Dir d)))
+    kept (inl q) = inl (ap (λ u. u.lines.sharers l j) (a.dir) ∙ q)
+    kept (inr q) = let y : mine ≡ true = sym z ∙ (let p = q.0 in grind (arith, nat_tests)) in
+        let n : num (mine && passes (GoneOf l) m) ≡ 1 = rw (y, q.1) refl in inr (omega (arith, n, a.lives (GoneOf l)))
+
+    filled : (0 < among (FillOf l) (sends (Core j))) ⊎ (among (FillOf l) (sends (Core j)) ≤ 0)
+        → (live (FillOf l) w.back ≤ live (FillOf l) (h.world.net (Dir d) (Core j)))
+        ⊎ ((w.dir.lines.sharers l j ≡ true) × (live (GoneOf l) (h.world.net (Core j) (Dir d)) ≡ 0))
+    filled (inr q) = inl (omega (arith, q, a.back (FillOf l)))
+    filled (inl q) = let x = f.filled l j (omega (arith, q)) in let n : num (has_mark (h.world.dirs d).lines l) ≡ 0 = ap num (x.1) in
+        inr (
+          ap (λ u. u.lines.sharers l j) (a.dir) ∙ x.0,
+          omega (arith, n, (b.told.all.named j d l jl dl).one, gone-acks l (h.world.net (Core j) (Dir d))),
+        )
+
+-- Every event of a core keeps that a core which holds a line is one of its sharers, or its Commit of the line is in flight.
+above-sent : (s t : ℕ) (ms : List Msg) → s < t → among (Commits t) ms ≤ among (CommitsAbove s) ms
+unfolding among
+above-sent s t [] l = omega arith
+above-sent s t (m ∷ ms) l = omega (arith, of-above s t m l, above-sent s t ms l)
+
+-- what a core's rule does that counts here
+pub record Sharing (sh : Shape) (w : History) (c d l : ℕ) (o : Out) : Type 0 where
+  pub holds : Holds sh l (w.world.cores c) o
+  pub speaks : Speaks sh w.world c o
+  pub after : AfterStep sh c (w.world.cores c) o
+  pub quiet : among (GoneOf l) (o.sends (Dir d)) ≡ 0
+  pub reached : among (CommitsAbove (w.world.dirs d).serving.serving) (o.sends (Dir d)) ≡ 0
+  pub unapplied : (n : Noted) → o.commit ≡ Some n → stores_at sh d n.stores ≡ true → is_applied (w.world.dirs d) n.tid.0 ≡ false
+
+-- a directory that isn't owed anything has none acknowledged
+unowed : (sh : Shape) (gs : List Grant) (ys : Ways) (h : History) (c d l : ℕ) → Before sh gs ys h → c < sh.cores → (h.world.dirs d).owed ≡ 0
+    → live (GoneOf l) (h.world.net (Core c) (Dir d)) ≡ 0
+unfolding share due pair
+unowed sh gs ys h c d l b cl z =
+    omega (
+      arith,
+      z,
+      gone-acks l (h.world.net (Core c) (Dir d)),
+      (lines-live l 0 (h.world.net (Core c) (Dir d))).2,
+      b.told.all.kept.told.owed.owed d,
+      total-le (share due h.world d) sh.cores c cl,
+    )
+
+served-owed : (s : DirState) (t : ℕ) → t ≤ s.serving.serving → is_applied s t ≡ false → s.owed ≡ 0
+served-owed s t l e = go (nat_lt t s.serving.serving) (t == s.serving.serving) (nat_lt 0 s.owed) refl refl refl (applied-or s t)
+  where
+    go : (a b c : Bool) → nat_lt t s.serving.serving ≡ a → (t == s.serving.serving) ≡ b → nat_lt 0 s.owed ≡ c
+        → num (is_applied s t) ≡ num a + num (b && c) → s.owed ≡ 0
+    go a b d p q r x = grind (arith, nat_tests)
+
+pub own-sharers : (sh : Shape) (gs : List Grant) (ys : Ways) (h : History) (c d l : ℕ) (o : Out) → Before sh gs ys h
+    → KeptLoading sh h.world → c < sh.cores → d < sh.dirs → l < lines sh → home sh l ≡ d → Sharing sh h c d l o
+    → SharerOf sh.base h.commits c l (pair h.world c d)
+    → SharerOf sh.base (and_noted o.commit h.commits) c l (after_move (pair h.world c d) o d)
+unfolding pair
+own-sharers sh gs ys h c d l o b ld cl dl ll e s k = sharer-moved sh.base h.commits (and_noted o.commit h.commits) c l v w refl
+    (λ q. held (holds-cases l w q)) more (λ q. omega (arith, s.quiet, live-sends (GoneOf l) v.out (o.sends (Dir d)))) k
+  where
+    v : Pair
+    v = pair h.world c d
+
+    w : Pair
+    w = after_move v o d
+
+    new : (n : Noted) → o.commit ≡ Some n → n.core.0 ≡ c → NewCommit sh.base h.commits c d l v o n
+    new n q r = new-of sh gs ys h c d l o n b cl dl ll e q r (s.speaks)
+
+    stored : (n : Noted) → o.commit ≡ Some n → names_line sh.base n.stores l ≡ true → AfterStep sh c (h.world.cores c) o
+        → CommitsLine sh.base (and_noted o.commit h.commits) c l w × (live (GoneOf l) v.out ≡ 0)
+    stored n q i (inl x) = absurd (let y = sym (x.commit) ∙ q in cc)
+    stored n q i (inr x) =
+        let y : NewCommit sh.base h.commits c d l v o n = new n q core in (
+          subst (λ a. CommitsLine sh.base (and_noted a h.commits) c l w) (sym q)
+              (record {
+                tid = n.tid.0;
+                sent = omega (arith, y.sent i, live-sends (Commits n.tid.0) v.out (o.sends (Dir d)));
+                line = (wrote-new sh.base n h.commits c n.tid.0 l core refl (y.fresh)).line ∙ i;
+              }),
+          unowed sh gs ys h c d l b cl (served-owed (h.world.dirs d) n.tid.0 below (s.unapplied n q (stored-home sh d l n ll e i))),
+        )
+      where
+        tells : (a : Option Noted) → a ≡ Some n → IfSome a (TellsCommit sh (h.world.cores c) o) → TellsCommit sh (h.world.cores c) o n
+        tells a f g = rw f at g
+
+        core : n.core.0 ≡ c
+        core =
+            let same : Some x.noted ≡ Some n → n.core.0 ≡ c = λ z. let p : x.noted ≡ n = cc in rw p at (x.core) in
+            same (sym (x.commit) ∙ q)
+
+        below : n.tid.0 ≤ (h.world.dirs d).serving.serving
+        below = go (cases_lt (h.world.dirs d).serving.serving n.tid.0)
+          where
+            go : ((h.world.dirs d).serving.serving < n.tid.0) ⊎ (n.tid.0 ≤ (h.world.dirs d).serving.serving)
+                → n.tid.0 ≤ (h.world.dirs d).serving.serving
+            go (inr z) = z
+            go (inl z) =
+                absurd (omega (
+                  arith,
+                  s.reached,
+                  above-sent (h.world.dirs d).serving.serving n.tid.0 (o.sends (Dir d)) z,
+                  commit-sent sh gs ys h c d o n b.told cl (tells o.commit q (s.speaks.tells.commits)) dl
+                      (stored-home sh d l n ll e i),
+                ))
+
+    held : (keeps_unmodified w.core.cache l ≡ true) ⊎ ((is_fresh w.core.awaited ≡ true) × (1 ≤ live (FillOf l) w.back))
+        → (holds_line l v ≡ true) ⊎ (CommitsLine sh.base (and_noted o.commit h.commits) c l w × (live (GoneOf l) v.out ≡ 0))
+    held (inl q) = elim (s.holds.kept q) [ inl x ↦ inl (holds-kept l v x) | inr x ↦ inr (stored x.commit (x.noted) (x.line) (s.after)) ]
+    held (inr q) = fresh (s.holds.fresh (q.0))
+      where
+        fresh : (is_fresh v.core.awaited ≡ true) ⊎ (v.core.awaited ≡ None)
+            → (holds_line l v ≡ true) ⊎ (CommitsLine sh.base (and_noted o.commit h.commits) c l w × (live (GoneOf l) v.out ≡ 0))
+        fresh (inl x) = inl (holds-fill l v x (q.1))
+        fresh (inr x) = absurd (let y : live (LoadOf l) v.out + live (FillOf l) v.back ≡ 0 = rw x at (ld c d l) in omega (arith, y, q.1))
+
+    more : CommitsLine sh.base h.commits c l v → CommitsLine sh.base (and_noted o.commit h.commits) c l w
+    more x = go (s.after)
+      where
+        sent : 1 ≤ live (Commits x.tid) w.out
+        sent = omega (arith, x.sent, live-sends (Commits x.tid) v.out (o.sends (Dir d)))
+
+        line : (n : Noted) → o.commit ≡ Some n → n.core.0 ≡ c → (a : Bool) → is_of c x.tid n ≡ a
+            → wrote_line sh.base (insert_commit n h.commits) c x.tid l ≡ true
+        line n q r false z = (wrote-other sh.base n h.commits c x.tid l z).line ∙ x.line
+        line n q r true z =
+            absurd (let t : n.tid.0 ≡ x.tid = tids (n.core.0 == c) (n.tid.0 == x.tid) refl z in
+            let y = wrote-unknown sh.base h.commits c x.tid l (rw t at ((new n q r).fresh)) in let u = x.line in cc)
+          where
+            tids : (a b : Bool) → (n.tid.0 == x.tid) ≡ b → (a && b) ≡ true → n.tid.0 ≡ x.tid
+            tids true true p f = grind (arith, nat_tests)
+            tids true false p f = absurd (cc)
+            tids false b p f = absurd (cc)
+
+        go : AfterStep sh c (h.world.cores c) o → CommitsLine sh.base (and_noted o.commit h.commits) c l w
+        go (inl y) = subst (λ a. CommitsLine sh.base (and_noted a h.commits) c l w) (sym (y.commit))
+            (record { tid = x.tid; sent = sent; line = x.line })
+        go (inr y) = subst (λ a. CommitsLine sh.base (and_noted a h.commits) c l w) (sym (y.commit))
+            (record { tid = x.tid; sent = sent; line = line y.noted (y.commit) (y.core) (is_of c x.tid y.noted) refl })
+
+-- the words that a core which executes has marked read are valid
+pub reads-valid : (sh : Shape) (w : World) (c : ℕ) → OneCore sh (w.cores c) → KeptReads sh w → 1 ≤ sh.dirs → acting (w.cores c).phase ≡ true
+    → ReadsValid (w.cores c).cache
+unfolding has_tid
+reads-valid sh w c h k n q x r = go (w.cores c).phase refl
+  where
+    s : CoreState
+    s = w.cores c
+
+    valid : s.phase ≡ Running → ValidOrPassed (s.cache.value x) s.phase (w.dirs (home sh (line_of x))).serving.serving
+        → is_some (s.cache.value x) ≡ true
+    valid e a = grind (arith, nat_tests)
+
+    go : (p : Phase) → s.phase ≡ p → is_some (s.cache.value x) ≡ true
+    go m e = grind (arith, nat_tests)
+
+abbrev pub SharersAt : Shape → List Noted → (core dir : ℕ) → Pair → Type 0
+SharersAt sh cs c d v = (l : ℕ) → c < sh.cores → d < sh.dirs → l < lines sh → home sh l ≡ d → SharerOf sh.base cs c l v
+
+pub dir-sharers : (sh : Shape) (gs : List Grant) (ys : Ways) (h : History) (c d k : ℕ) (m : Msg) (s : DirState) (sends : Sends)
+    → Before sh gs ys h → KeptSharers sh h.world h.commits → in_flight h.world.net (Core c) (Dir d) k ≡ Some m
+    → Records sh (h.world.dirs d) c m s → Shares sh (h.world.dirs d) c m s sends → (j e : ℕ)
+    → SharersAt sh h.commits j e (pair (dir_takes h.world c d k s sends) j e)
+unfolding pair
+dir-sharers sh gs ys h c d k m s sends b t i r f = pairs_dir (SharersAt sh h.commits) h.world c d k s sends
+    (λ l cl dl ll e. answer-sharers sh gs ys h c d k c l true m s sends (after_answer (out_taken (pair h.world c d) k) s (sends (Core c))) b
+    i (same c) cl dl ll e (record {
+      core = refl;
+      dir = refl;
+      lives = λ q. live-takes q (h.world.net (Core c) (Dir d)) k m i;
+      back = λ q. live-sends q (h.world.net (Dir d) (Core c)) (sends (Core c));
+    }) r f (t c d l cl dl ll e))
+    (λ j n l jl dl ll e. answer-sharers sh gs ys h c d k j l false m s sends (after_answer (pair h.world j d) s (sends (Core j))) b i
+    (differ j c n) jl dl ll e
+    (record {
+      core = refl;
+      dir = refl;
+      lives = λ q. omega arith;
+      back = λ q. live-sends q (h.world.net (Dir d) (Core j)) (sends (Core j));
+    }) r f (t j d l jl dl ll e))
+    (λ j e l jl el ll q. t j e l jl el ll q)
+
+-- another core's: what it wrote stays
+other-sharers : (base : ℕ) (a : Option Noted) (cs : List Noted) (j l : ℕ) (v : Pair) → ((n : Noted) → a ≡ Some n → (n.core.0 == j) ≡ false)
+    → SharerOf base cs j l v → SharerOf base (and_noted a cs) j l v
+other-sharers base a cs j l v f h = go a refl
+  where
+    go : (x : Option Noted) → a ≡ x → SharerOf base (and_noted x cs) j l v
+    go None e = h
+    go (Some n) e = record { shares = λ q. more (h.shares q); stays = h.stays }
+      where
+        more : (v.dir.lines.sharers l j ≡ true) ⊎ CommitsLine base cs j l v
+            → (v.dir.lines.sharers l j ≡ true) ⊎ CommitsLine base (insert_commit n cs) j l v
+        more (inl x) = inl x
+        more (inr x) =
+            inr (record { tid = x.tid; sent = x.sent; line = (wrote-other base n cs j x.tid l (let y = f n e in rw y refl)).line ∙ x.line })
+
+-- a core executes or evicts
+pub moved-sharers : (sh : Shape) (gs : List Grant) (ys : Ways) (h : History) (c : ℕ) (o : Out) → Before sh gs ys h → KeptLoading sh h.world
+    → KeptSharers sh h.world h.commits → AfterStep sh c (h.world.cores c) o
+    → ((d l : ℕ) → d < sh.dirs → l < lines sh → home sh l ≡ d → Sharing sh h c d l o)
+    → KeptSharers sh (core_moves h.world c o) (and_noted o.commit h.commits)
+moved-sharers sh gs ys h c o b ld t a f j d = either j c
+    (λ q. subst (λ i. SharersAt sh (and_noted o.commit h.commits) i d (pair (core_moves h.world c o) i d)) (sym q)
+    (subst (SharersAt sh (and_noted o.commit h.commits) c d) (sym (moves-own h.world c o d))
+    (λ l cl dl ll e. own-sharers sh gs ys h c d l o b ld cl dl ll e (f d l dl ll e) (t c d l cl dl ll e))))
+    (λ n. subst (SharersAt sh (and_noted o.commit h.commits) j d) (sym (moves-other h.world c o j d n))
+    (λ l jl dl ll e. other-sharers sh.base o.commit h.commits j l (pair h.world j d) (λ x q. unlike x q n a) (t j d l jl dl ll e)))
+  where
+    unlike : (x : Noted) → o.commit ≡ Some x → (j ≡ c → ⊥) → AfterStep sh c (h.world.cores c) o → (x.core.0 == j) ≡ false
+    unlike x q n a = grind (arith, nat_tests)
+
+-- A message that a core takes keeps that a core which holds a line is one of its sharers, or its Commit of the line is in flight.
+fill-away : (n e l : ℕ) (m : Msg) → passes (FillOf l) m ≡ true → passes (LinesAway n e) m ≡ not ((l % n) == e)
+unfolding passes
+fill-away n e l a q = grind (arith, nat_tests)
+
+-- a Fill comes from the line's home
+fill-home : (sh : Shape) (w : World) (c e k l : ℕ) (m : Msg) → KeptHomes sh w → in_flight w.net (Dir e) (Core c) k ≡ Some m
+    → passes (FillOf l) m ≡ true → home sh l ≡ e
+unfolding pair
+fill-home sh w c e k l m h i q = go (home sh l == e) refl
+  where
+    go : (y : Bool) → (home sh l == e) ≡ y → home sh l ≡ e
+    go true p = grind (arith, nat_tests)
+    go false p = absurd (let n : num (passes (LinesAway sh.dirs e) m) ≡ 1 = ap num (fill-away sh.dirs e l m q) ∙ rw p refl in
+        omega (arith, n, live-some (LinesAway sh.dirs e) (w.net (Dir e) (Core c)) k m i, (h c e l).back))
+
+-- v is the core's pair, with the message or without
+pub back-sharers : (sh : Shape) (w : World) (cs : List Noted) (c e d k l : ℕ) (m : Msg) (v : Pair) (o : Out) → KeptHomes sh w
+    → home sh l ≡ d → in_flight w.net (Dir e) (Core c) k ≡ Some m
+    → v.core ≡ (pair w c d).core → v.dir ≡ (pair w c d).dir → v.out ≡ (pair w c d).out
+    → live (FillOf l) v.back ≤ live (FillOf l) (pair w c d).back → HoldsTaken sh l (w.cores c) m o
+    → (passes (InvOf l) m ≡ false → among (GoneOf l) (o.sends (Dir d)) ≡ 0) → LoadingOf sh d l (after_move v o d)
+    → SharerOf sh.base cs c l (pair w c d) → SharerOf sh.base cs c l (after_move v o d)
+unfolding pair
+back-sharers sh w cs c e d k l m v o h q i vc vd vo vb f g ld t =
+    sharer-moved sh.base cs cs c l u x vd (λ r. inl (held (holds-cases l x r))) more (λ r. gone r (passes (InvOf l) m) refl) t
+  where
+    u : Pair
+    u = pair w c d
+
+    x : Pair
+    x = after_move v o d
+
+    held : (keeps_unmodified o.core.cache l ≡ true) ⊎ ((is_fresh o.core.awaited ≡ true) × (1 ≤ live (FillOf l) v.back))
+        → holds_line l u ≡ true
+    held (inr r) = holds-fill l u (f.holds.fresh (r.0)) (omega (arith, r.1, vb))
+    held (inl r) = kept (f.holds.kept r)
+      where
+        kept : (keeps_unmodified (w.cores c).cache l ≡ true) ⊎ ((passes (FillOf l) m ≡ true) × (is_fresh (w.cores c).awaited ≡ true))
+            → holds_line l u ≡ true
+        kept (inl y) = holds-kept l u y
+        kept (inr y) =
+            let z : e ≡ d = sym (fill-home sh w c e k l m h i (y.0)) ∙ q in
+            let n : num (passes (FillOf l) m) ≡ 1 = ap num (y.0) in
+            let p : 1 ≤ live (FillOf l) (w.net (Dir d) (Core c)) =
+            rw (sym z) (omega (arith, n, live-some (FillOf l) (w.net (Dir e) (Core c)) k m i)) in
+            holds-fill l u (y.1) p
+
+    more : CommitsLine sh.base cs c l u → CommitsLine sh.base cs c l x
+    more y = record {
+      tid = y.tid;
+      sent = let z : live (Commits y.tid) v.out ≡ live (Commits y.tid) u.out = rw vo refl in
+          omega (arith, y.sent, z, live-sends (Commits y.tid) v.out (o.sends (Dir d)));
+      line = y.line;
+    }
+
+    same : among (GoneOf l) (o.sends (Dir d)) ≡ 0 → live (GoneOf l) x.out ≡ live (GoneOf l) u.out
+    same z = let y : live (GoneOf l) v.out ≡ live (GoneOf l) u.out = rw vo refl in
+        omega (arith, z, y, live-sends (GoneOf l) v.out (o.sends (Dir d)))
+
+    -- a core that says that it keeps no word holds none
+    none : Gone l o.core → (keeps_unmodified o.core.cache l ≡ true) ⊎ ((is_fresh o.core.awaited ≡ true) × (1 ≤ live (FillOf l) v.back)) → ⊥
+    none y (inl r) = let z = y.kept in absurd (cc)
+    none y (inr r) = awaited (is_awaited o.core.awaited l) refl
+      where
+        awaited : (b : Bool) → is_awaited o.core.awaited l ≡ b → ⊥
+        awaited true p = let z = y.stale p in let a = r.0 in absurd (cc)
+        awaited false p = let z : live (LoadOf l) x.out + live (FillOf l) v.back ≡ 0 = rw p at ld in absurd (omega (arith, z, r.1))
+
+    gone : holds_line l x ≡ true → (b : Bool) → passes (InvOf l) m ≡ b → live (GoneOf l) x.out ≡ live (GoneOf l) u.out
+    gone r false p = same (g p)
+    gone r true p = elim (f.gone p) [ inl y ↦ same (rw q at y) | inr y ↦ absurd (none y (holds-cases l x r)) ]

@@ -1,0 +1,192 @@
+-- Every event keeps that a core notes of each directory the greatest TID of its commits that stored there.
+use Rattle.theorem_serial.proofs.Names.{ℕ, max, cond, ◌≡◌, ◌<◌, ◌≤◌, ◌==◌, ◌&&◌, Bool, true, false, List, [], ◌∷◌, Contains, Option, Some}
+use Rattle.theorem_serial.proofs.Names.{None}
+use Rattle.theorem_serial.proofs.Names.{IfSome, nat_lt, if◌then◌else◌, arith, refl, ap, sym, subst, ◌∙◌, inl, inr, nat_tests, Noted}
+use Rattle.theorem_serial.proofs.Names.{Program}
+use Rattle.theorem_serial.proofs.Names.{Local, Core, Dir, Vendor, Event, Msg, Shape, DirState, World, Link, start, core_start, in_flight}
+use Rattle.theorem_serial.proofs.Names.{Sends}
+use Rattle.theorem_serial.proofs.Names.{Out, core_exec, core_evict, from_dir, grant, Answer, Waits, Drops, Asks, Takes, dir_deliver}
+use Rattle.theorem_serial.proofs.Names.{core_moves}
+use Rattle.theorem_serial.proofs.Names.{core_takes, dir_takes, step, and_noted, insert_commit, AfterOf, KeptAfter, KeptLoading}
+use Rattle.theorem_serial.proofs.Names.{stored_there}
+use Rattle.theorem_serial.proofs.Names.{LoadOf, LoadNot, live, KeptCores, Grant, AreGranted, holder, KeptOwners, LastGranted, Pair, pair}
+use Rattle.theorem_serial.proofs.Names.{after_move, stores_at, last_of}
+use Rattle.theorem_serial.proofs.Marks.CoreAfter.{no-load, Stays, Notes_commit, AfterStep, after-exec, after-evict, after-grant, after-back}
+use Rattle.theorem_serial.proofs.Tids.CoreOwners.{KeepsHolder, noted_tid, none, holder-exec, holder-evict}
+use Rattle.theorem_serial.proofs.Counts.Links.{live-sends, live-takes}
+use Rattle.theorem_serial.proofs.Serving.OwnerSteps.{holder-moved}
+use Rattle.theorem_serial.proofs.Counts.StepCases.{either, moves-own, moves-other, pairs_move, pairs_grant, pairs_back, pairs_dir}
+use Rattle.theorem_serial.proofs.Counts.StepCases.{pairs_asks}
+use Rattle.theorem_serial.proofs.Counts.StepCases.{pairs_vendor, OfAnswer, step_cases}
+
+-- the last commit, with one more
+max-swap : (a b l : ℕ) → max a (max b l) ≡ max b (max a l)
+max-swap a b l = omega arith
+
+pub last-insert : (p : Noted → Bool) (n : Noted) (cs : List Noted)
+    → last_of p (insert_commit n cs) ≡ max (cond (p n) n.tid.0 0) (last_of p cs)
+unfolding last_of insert_commit
+last-insert p n [] = refl
+last-insert p n (m ∷ cs) = go (nat_lt n.tid.0 m.tid.0) (last-insert p n cs)
+  where
+    go : (b : Bool) → last_of p (insert_commit n cs) ≡ max (cond (p n) n.tid.0 0) (last_of p cs)
+        → last_of p (if b then n ∷ m ∷ cs else m ∷ insert_commit n cs) ≡ max (cond (p n) n.tid.0 0)
+        (max (cond (p m) m.tid.0 0) (last_of p cs))
+    go a e = grind (arith, nat_tests)
+
+-- all commits of a core are below its TID
+last-below : (sh : Shape) (gs : List Grant) (c d t : ℕ) (cs : List Noted) → AreGranted gs cs
+    → ((u : ℕ) → Contains gs (record { tid = u; core = c }) → u ≤ t) → last_of (stored_there sh c d) cs ≤ t
+unfolding AreGranted last_of stored_there
+last-below sh gs c d t [] a f = omega arith
+last-below sh gs c d t (m ∷ cs) a f = go (m.core.0 == c) refl (stores_at sh d m.stores) (last-below sh gs c d t cs (a.1) f)
+  where
+    go : (b : Bool) → (m.core.0 == c) ≡ b → (y : Bool) → last_of (stored_there sh c d) cs ≤ t
+        → max (cond (b && y) m.tid.0 0) (last_of (stored_there sh c d) cs) ≤ t
+    go true q true l = let e : m.core.0 ≡ c = grind (arith, nat_tests) in let x = f m.tid.0 (rw (sym e) (a.0)) in omega arith
+    go true q false l = omega arith
+    go false q y l = omega arith
+
+-- no request for a line, so none that carries something else
+no-live : (k : Link) → ((l : ℕ) → live (LoadOf l) k ≡ 0) → (x : ℕ) → live (LoadNot x) k ≡ 0
+unfolding live
+no-live [] h x = refl
+no-live (None ∷ k) h x = no-live k h x
+no-live (Some m ∷ k) h x = omega (arith, no-load x m (λ l. omega (arith, h l)), no-live k (λ l. omega (arith, h l)) x)
+
+-- a core that commits nothing
+stays-after : (sh : Shape) (cs : List Noted) (c d : ℕ) (v : Pair) (o : Out) → Stays v.core o → AfterOf sh cs c d v
+    → AfterOf sh cs c d (after_move v o d)
+stays-after sh cs c d v o y h = record {
+  last = ap (λ f. f d) y.after ∙ h.last;
+  carried = rw (y.after) (omega (arith, h.carried, y.carries d, live-sends (LoadNot (v.core.last_commit d)) v.out (o.sends (Dir d))));
+}
+
+-- a core that commits, whose commits so far have smaller TIDs
+commits-after : (sh : Shape) (cs : List Noted) (c d : ℕ) (v : Pair) (o : Out) (y : Notes_commit sh c v.core o)
+    → last_of (stored_there sh c d) cs ≤ y.noted.tid.0 → ((l : ℕ) → live (LoadOf l) v.out ≡ 0) → AfterOf sh cs c d v
+    → AfterOf sh (insert_commit y.noted cs) c d (after_move v o d)
+unfolding stored_there
+commits-after sh cs c d v o y b n h = record {
+  last = y.after d ∙ (go (stores_at sh d y.noted.stores) refl ∙ sym (last-insert (stored_there sh c d) y.noted cs));
+  carried =
+      omega (
+        arith,
+        no-live v.out n (o.core.last_commit d),
+        y.quiet d (o.core.last_commit d),
+        live-sends (LoadNot (o.core.last_commit d)) v.out (o.sends (Dir d)),
+      );
+}
+  where
+    own : (y.noted.core.0 == c) ≡ true
+    own = let e = y.core in grind (arith, nat_tests)
+
+    at-most : (x l : ℕ) → l ≤ x → x ≡ max x l
+    at-most x l i = omega arith
+
+    none-else : (l : ℕ) → l ≡ max 0 l
+    none-else l = omega arith
+
+    go : (x : Bool) → stores_at sh d y.noted.stores ≡ x
+        → (if x then y.noted.tid.0 else v.core.last_commit d) ≡ max
+        (cond ((y.noted.core.0 == c) && stores_at sh d y.noted.stores) y.noted.tid.0 0) (last_of (stored_there sh c d) cs)
+    go a q = grind (arith, nat_tests)
+
+-- another core's commit
+other-after : (sh : Shape) (cs : List Noted) (n : Noted) (j d : ℕ) (v : Pair) → (n.core.0 == j) ≡ false → AfterOf sh cs j d v
+    → AfterOf sh (insert_commit n cs) j d v
+unfolding stored_there
+other-after sh cs n j d v e h =
+    let none-else : (l : ℕ) → max 0 l ≡ l = λ l. omega arith in
+    record {
+      last = h.last ∙ sym (last-insert (stored_there sh j d) n cs ∙ rw e (none-else (last_of (stored_there sh j d) cs)));
+      carried = h.carried;
+    }
+
+pub step-after : (sh : Shape) (p : Program) (gs : List Grant) (w : World) (cs : List Noted) (e : Event) → KeptOwners sh gs w cs
+    → KeptCores sh w → LastGranted gs w → KeptLoading sh w → KeptAfter sh w cs
+    → IfSome (step sh p w e) (λ o. KeptAfter sh o.world (and_noted o.noted cs))
+unfolding pair
+step-after sh p gs w cs e y k g ld h = step_cases sh p w e (λ x o. KeptAfter sh o.world (and_noted o.noted cs))
+    (λ c l. moved c l (core_exec sh p c (w.cores c)) (after-exec sh p c (w.cores c) (k c)) (holder-exec sh p c (w.cores c)))
+    (λ c a b l. moved c l (core_evict sh a b (w.cores c)) (after-evict sh c a b (w.cores c)) (holder-evict sh a b c (w.cores c)))
+    (λ c i u q. granted c i u)
+    (λ c d i m q. taken c d i m q (from_dir sh d (w.cores c) m) (after-back sh d (w.cores c) m))
+    (λ c d i m q. answered c d i m q (dir_deliver sh (w.dirs d) c m))
+    (λ c i q. pairs_vendor P w c i (λ d cl dl. record { last = (h c d cl dl).last; carried = (h c d cl dl).carried })
+    (λ j d n cl dl. record { last = (h j d cl dl).last; carried = (h j d cl dl).carried }))
+  where
+    P : ℕ → ℕ → Pair → Type 0
+    P c d v = c < sh.cores → d < sh.dirs → AfterOf sh cs c d v
+
+    -- no load request is in flight from a core that awaits nothing
+    idle : (c d : ℕ) → (w.cores c).awaited ≡ None → (l : ℕ) → live (LoadOf l) (w.net (Core c) (Dir d)) ≡ 0
+    idle c d n l = let x = ld c d l in omega (arith, rw n at x)
+
+    lower : (c t : ℕ) → 1 ≤ holder t (pair w c 0) → (d : ℕ) → last_of (stored_there sh c d) cs ≤ t
+    lower c t x d = last-below sh gs c d t cs (y.granted) (λ u q. g c 0 t u x q)
+
+    commits : (c : ℕ) (o : Out) (q : Notes_commit sh c (w.cores c) o) → 1 ≤ holder q.noted.tid.0 (pair w c 0)
+        → KeptAfter sh (core_moves w c o) (insert_commit q.noted cs)
+    commits c o q x j d cl dl = either j c
+        (λ i. rw i (subst (AfterOf sh (insert_commit q.noted cs) c d) (sym (moves-own w c o d))
+        (commits-after sh cs c d (pair w c d) o q (lower c q.noted.tid.0 x d) (idle c d q.idle) (h c d (rw (sym i) cl) dl))))
+        (λ n. subst (AfterOf sh (insert_commit q.noted cs) j d) (sym (moves-other w c o j d n))
+        (other-after sh cs q.noted j d (pair w j d) (away j n) (h j d cl dl)))
+      where
+        away : (j : ℕ) → (j ≡ c → ⊥) → (q.noted.core.0 == j) ≡ false
+        away j n = grind (arith, nat_tests)
+
+    noted-one : (n : Noted) → noted_tid n.tid.0 (Some n) ≡ 1
+    noted-one n = let z : (n.tid.0 == n.tid.0) ≡ true = grind (arith, nat_tests) in rw z refl
+
+    moved : (c : ℕ) → c < sh.cores → (x : Option Out) → IfSome x (λ o. AfterStep sh c (w.cores c) o)
+        → IfSome x (λ o. KeepsHolder c none (w.cores c) o) → IfSome x (λ o. KeptAfter sh (core_moves w c o) (and_noted o.commit cs))
+    moved c l None a b = tt
+    moved c l (Some o) (inl a) b = subst (λ n. KeptAfter sh (core_moves w c o) (and_noted n cs)) (sym a.commit)
+        (pairs_move P w c o (λ d cl dl. stays-after sh cs c d (pair w c d) o a (h c d cl dl)) h)
+    moved c l (Some o) (inr a) b = subst (λ n. KeptAfter sh (core_moves w c o) (and_noted n cs)) (sym a.commit)
+        (commits c o a (let x = holder-moved (pair w c 0) o 0 a.noted.tid.0 c b in
+        let z : noted_tid a.noted.tid.0 o.commit ≡ 1 = ap (noted_tid a.noted.tid.0) a.commit ∙ noted-one a.noted in
+        omega (arith, x, z)))
+
+    granted : (c i u : ℕ) → KeptAfter sh (core_takes w Vendor c i (grant sh u (w.cores c))) (and_noted (grant sh u (w.cores c)).commit cs)
+    granted c i u = let a = after-grant sh u (w.cores c) in
+        subst (λ n. KeptAfter sh (core_takes w Vendor c i (grant sh u (w.cores c))) (and_noted n cs)) (sym a.commit)
+        (pairs_grant P w c i (grant sh u (w.cores c))
+        (λ d cl dl. let z = stays-after sh cs c d (pair w c d) (grant sh u (w.cores c)) a (h c d cl dl) in
+        record { last = z.last; carried = z.carried }) h)
+
+    taken : (c d i : ℕ) (m : Msg) → in_flight w.net (Dir d) (Core c) i ≡ Some m → (x : Option Out) → IfSome x (λ o. Stays (w.cores c) o)
+        → IfSome x (λ o. KeptAfter sh (core_takes w (Dir d) c i o) (and_noted o.commit cs))
+    taken c d i m q None a = tt
+    taken c d i m q (Some o) a = subst (λ n. KeptAfter sh (core_takes w (Dir d) c i o) (and_noted n cs)) (sym a.commit)
+        (pairs_back P w d c i o
+        (λ cl dl. let z = stays-after sh cs c d (pair w c d) o a (h c d cl dl) in record { last = z.last; carried = z.carried })
+        (λ b n cl dl. let z = stays-after sh cs c b (pair w c b) o a (h c b cl dl) in record { last = z.last; carried = z.carried }) h)
+
+    takes : (c d i : ℕ) (m : Msg) (s : DirState) (sends : Sends) → in_flight w.net (Core c) (Dir d) i ≡ Some m
+        → KeptAfter sh (dir_takes w c d i s sends) cs
+    takes c d i m s sends q = pairs_dir P w c d i s sends
+        (λ cl dl. record {
+          last = (h c d cl dl).last;
+          carried = omega (
+            arith,
+            (h c d cl dl).carried,
+            live-takes (LoadNot ((w.cores c).last_commit d))
+                (w.net (Core c) (Dir d)) i m q,
+          );
+        })
+        (λ j n cl dl. record { last = (h j d cl dl).last; carried = (h j d cl dl).carried }) h
+
+    answered : (c d i : ℕ) (m : Msg) → in_flight w.net (Core c) (Dir d) i ≡ Some m → (a : Answer)
+        → OfAnswer w c d i (λ v. KeptAfter sh v cs) a
+    answered c d i m q Waits = tt
+    answered c d i m q Drops = takes c d i m (w.dirs d) (λ dst. []) q
+    answered c d i m q (Asks s sends) =
+        pairs_asks P w d s sends (λ j cl dl. record { last = (h j d cl dl).last; carried = (h j d cl dl).carried }) h
+    answered c d i m q (Takes s sends) = takes c d i m s sends q
+
+pub start-after : (sh : Shape) (entries : ℕ → Local) (ram : ℕ → ℕ) → KeptAfter sh (start entries ram) []
+unfolding start core_start pair live last_of
+start-after sh entries ram c d a b = record { last = refl; carried = refl }

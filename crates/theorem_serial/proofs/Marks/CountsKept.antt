@@ -1,0 +1,390 @@
+-- Every event keeps that a Commit counts its Marks, and that none is in flight while acknowledgements are owed.
+use Rattle.theorem_serial.proofs.Names.{after_other_grant, awaits_replies, after_answer, count_below, CountsMarks, grant_taken, dir_deliver}
+use Rattle.theorem_serial.proofs.Names.{ap}
+use Rattle.theorem_serial.proofs.Names.{KeptCounted, after_grant, EmptyMarks, after_move, core_evict, core_moves, core_takes, KeptOwners}
+use Rattle.theorem_serial.proofs.Names.{false}
+use Rattle.theorem_serial.proofs.Names.{back_taken, may_commit, nat_tests, writes_at, sum_below, marked_by, CountedOf, AnyCommit, dir_start}
+use Rattle.theorem_serial.proofs.Names.{[]}
+use Rattle.theorem_serial.proofs.Names.{in_flight, core_exec, dir_takes, KeptMarks, KeptCores, cases_lt, has_mark, DirState, sent_all}
+use Rattle.theorem_serial.proofs.Names.{Resolves}
+use Rattle.theorem_serial.proofs.Names.{CommitOf, marks_of, Contains, KeptTids, cases_eq, from_dir, dir_asks, KeptTold, MarksOf, handled}
+use Rattle.theorem_serial.proofs.Names.{arith}
+use Rattle.theorem_serial.proofs.Names.{Program, nat_lt, MarkOf, passes, nat_le, Option, IfSome, TidReq, Commit, Answer, Shape, lines}
+use Rattle.theorem_serial.proofs.Names.{among, ℕ}
+use Rattle.theorem_serial.proofs.Names.{Grant, opens, World, share, subst, Noted, Local, Event, Phase, start, Sends, grant, Waits, Drops}
+use Rattle.theorem_serial.proofs.Names.{Takes}
+use Rattle.theorem_serial.proofs.Names.{true, List, ◌++◌, ◌==◌, ◌&&◌, refl, Skip, Link, live, Pair, Kind, pair, part, Some, None, Core}
+use Rattle.theorem_serial.proofs.Names.{Asks}
+use Rattle.theorem_serial.proofs.Names.{step, Acks, Kept, skip, ◌+◌, ◌≡◌, ◌<◌, ◌≤◌, ◌∙◌, ◌⊎◌, inl, inr, num, Dir, Msg, Out, set}
+use Rattle.theorem_serial.proofs.Serving.CoreCommits.{granted-free}
+use Rattle.theorem_serial.proofs.Counts.Links.{live-sends, total-same, total-plus, total-le, live-fewer, live-takes}
+use Rattle.theorem_serial.proofs.Counts.StepCases.{dir-own, dir-other, asks-own, pairs_move, pairs_grant, pairs_back, pairs_dir, pairs_asks}
+use Rattle.theorem_serial.proofs.Counts.StepCases.{pairs_vendor, OfAnswer, step_cases}
+use Rattle.theorem_serial.proofs.Marks.CoreCounts.{Counts, CountsAll, total-num, few-any, counts-exec, counts-evict, counts-back}
+use Rattle.theorem_serial.proofs.Marks.CoreMarking.{Marking, marking-exec, marking-evict}
+use Rattle.theorem_serial.proofs.Marks.CoreMarkingTakes.{marking-back, granting}
+use Rattle.theorem_serial.proofs.Marks.DirMarks.{Marked, Stays, MarkedBy, dir-marked}
+use Rattle.theorem_serial.proofs.Marks.MarksKept.{holds, open-untold, taken-less, empty-one, skip-unmarked, only-there, no-request}
+use Rattle.theorem_serial.proofs.Marks.MarksKept.{no-empty}
+use Rattle.theorem_serial.proofs.Marks.MarksKept.{taken-back as back-marks, kinds}
+use Rattle.theorem_serial.proofs.Marks.OwesByCommit.{CountsMarked, OwesBy, dir-owes}
+use Rattle.theorem_serial.proofs.Serving.DirDue.{Due, DueBy, dir-due, still-due}
+use Rattle.theorem_serial.proofs.Serving.KeptSteps.{core_of_back, core_of_out, once_at, marks_home, acks_owed}
+use Rattle.theorem_serial.proofs.Tids.Commits.{granted-once}
+use Rattle.theorem_serial.proofs.Tids.TidSteps.{granted_waits, live-some}
+
+-- How each kind of event keeps that a Commit counts its Marks, between a core and a directory.
+one-resolve : (t n : ℕ) (m : Msg) → num (passes (CommitOf t n) m) ≤ num (passes (Resolves t) m)
+unfolding passes
+one-resolve t n m = grind (arith, nat_tests)
+
+-- a Commit is a word on its TID
+pub is-word : (t n : ℕ) (k : Link) → live (CommitOf t n) k ≤ live (Resolves t) k
+is-word t n k = live-fewer (CommitOf t n) (Resolves t) (one-resolve t n) k
+
+-- the same Marks are counted
+pub same-counts : (sh : Shape) (n t : ℕ) (v w : Pair) → ((l : ℕ) → marks_of t l w ≡ marks_of t l v) → CountsMarks sh n t v
+    → CountsMarks sh n t w
+same-counts sh n t v w f h = record {
+  each = λ l. omega (arith, f l, h.each l);
+  sum = total-same (λ l. marks_of t l w) (λ l. marks_of t l v) (lines sh) (λ l x. f l) ∙ h.sum;
+}
+
+pub none-sent : (t l d : ℕ) (v : Pair) (o : Out) → among (MarkOf t l) (o.sends (Dir d)) ≡ 0
+    → marks_of t l (after_move v o d) ≡ marks_of t l v
+unfolding marks_of
+none-sent t l d v o z = omega (arith, z, live-sends (MarkOf t l) v.out (o.sends (Dir d)))
+
+all-sent : (sh : Shape) (t l d : ℕ) (v : Pair) (o : Out) → marks_of t l v ≡ marked_by sh v.core d l
+    → marks_of t l (after_move v o d) ≡ among (MarkOf t l) (o.sends (Dir d)) + marked_by sh v.core d l
+unfolding marks_of
+all-sent sh t l d v o z = omega (arith, z, live-sends (MarkOf t l) v.out (o.sends (Dir d)))
+
+-- a core moves
+pub counted-moved : (sh : Shape) (gs : List Grant) (c d t : ℕ) (v : Pair) (o : Out) → c < sh.cores → ((u l : ℕ) → Marking sh d u l v.core o)
+    → CountsAll sh d t v.core o → ((l : ℕ) → MarksOf sh gs c d t l v)
+    → (d < sh.dirs → opens v.core.phase (writes_at sh v.core.cache d) t ≡ true → live (Resolves t) v.out ≡ 0)
+    → (d < sh.dirs → opens v.core.phase (writes_at sh v.core.cache d) v.dir.serving.serving ≡ true → v.dir.owed ≡ 0)
+    → CountedOf sh d t v → CountedOf sh d t (after_move v o d)
+counted-moved sh gs c d t v o cl y k m free unowed h = record {
+  counted = λ n dl x. counted n dl x (cases_lt 0 (among (CommitOf t n) (o.sends (Dir d))));
+  settled =
+      λ l dl x. omega (
+        arith,
+        h.settled l dl x,
+        live-sends (MarkOf v.dir.serving.serving l) v.out (o.sends (Dir d)),
+        quiet l dl x (cases_lt 0 (among (MarkOf v.dir.serving.serving l) (o.sends (Dir d)))),
+      );
+}
+  where
+    quiet : (l : ℕ) → d < sh.dirs → 1 ≤ v.dir.owed → (0 < among (MarkOf v.dir.serving.serving l) (o.sends (Dir d)))
+        ⊎ (among (MarkOf v.dir.serving.serving l) (o.sends (Dir d)) ≤ 0) → among (MarkOf v.dir.serving.serving l) (o.sends (Dir d)) ≡ 0
+    quiet l dl x a = grind (arith, nat_tests)
+
+    told : (n l : ℕ) → d < sh.dirs → 1 ≤ live (CommitOf t n) v.out → (0 < among (MarkOf t l) (o.sends (Dir d)))
+        ⊎ (among (MarkOf t l) (o.sends (Dir d)) ≤ 0) → among (MarkOf t l) (o.sends (Dir d)) ≡ 0
+    told n l dl x a = grind (arith, nat_tests, is-word)
+
+    sums : (n : ℕ) → d < sh.dirs → Counts sh d t n v.core o → CountsMarks sh n t (after_move v o d)
+    sums n dl a = record {
+      each = λ l. omega (arith, all-sent sh t l d v o ((m l).held cl dl (a.held)), a.each l);
+      sum = total-same (λ l. marks_of t l (after_move v o d)) (λ l. among (MarkOf t l) (o.sends (Dir d)) + marked_by sh v.core d l)
+          (lines sh) (λ l x. all-sent sh t l d v o ((m l).held cl dl (a.held))) ∙ a.sum;
+    }
+
+    counted : (n : ℕ) → d < sh.dirs → 1 ≤ live (CommitOf t n) (v.out ++ sent_all (o.sends (Dir d)))
+        → (0 < among (CommitOf t n) (o.sends (Dir d))) ⊎ (among (CommitOf t n) (o.sends (Dir d)) ≤ 0)
+        → CountsMarks sh n t (after_move v o d)
+    counted n dl x (inl z) = sums n dl (k n (omega (arith, z)))
+    counted n dl x (inr z) =
+        let b : 1 ≤ live (CommitOf t n) v.out = omega (arith, x, z, live-sends (CommitOf t n) v.out (o.sends (Dir d))) in
+        same-counts sh n t v (after_move v o d)
+        (λ l. none-sent t l d v o (told n l dl b (cases_lt 0 (among (MarkOf t l) (o.sends (Dir d)))))) (h.counted n dl b)
+
+-- a directory answers: of a TID whose Commit is in flight the Marks stay, in flight or handled
+pub marks-stay : (sh : Shape) (d t l : ℕ) (v : Pair) (m : Msg) (s : DirState) (ms : List Msg) (k : Link) → Marked v.dir m s
+    → (live (MarkOf t l) k + num (passes (MarkOf t l) m) ≡ live (MarkOf t l) v.out)
+    → (m ≡ Skip v.dir.serving.serving → has_mark v.dir.lines l ≡ false)
+    → passes EmptyMarks m ≡ false → s.serving.serving ≤ t → marks_of t l v ≤ 1
+    → marks_of t l (after_answer (record v { out = k }) s ms) ≡ marks_of t l v
+unfolding marks_of
+marks-stay sh d t l v m s ms k y eqn skip nonempty ahead one = holds v.dir s m t l (live (MarkOf t l) v.out) (live (MarkOf t l) k)
+    (live (MarkOf t l) v.out + num (v.dir.serving.serving == t && has_mark v.dir.lines l)) y eqn skip nonempty one (λ x. ahead) refl
+
+-- where a Commit counts the marked lines, none of its Marks is in flight
+pub none-away : (sh : Shape) (l : ℕ) (v : Pair) → CountsMarks sh (count_below (has_mark v.dir.lines) (lines sh)) v.dir.serving.serving v
+    → live (MarkOf v.dir.serving.serving l) v.out ≡ 0
+unfolding marks_of
+none-away sh l v h = go (cases_lt l (lines sh))
+  where
+    u : ℕ
+    u = v.dir.serving.serving
+
+    self : (u == u) ≡ true
+    self = grind (arith, nat_tests)
+
+    split : (x : ℕ) → x < lines sh → live (MarkOf u x) v.out + num (u == u && has_mark v.dir.lines x) ≡ live (MarkOf u x) v.out + num
+        (has_mark v.dir.lines x)
+    split x z = rw self refl
+
+    sum : sum_below (λ x. live (MarkOf u x) v.out) (lines sh) ≡ 0
+    sum =
+        let a = total-plus (λ x. live (MarkOf u x) v.out) (λ x. num (has_mark v.dir.lines x))
+        (λ x. live (MarkOf u x) v.out + num (u == u && has_mark v.dir.lines x)) (lines sh) split in
+        omega (arith, a, h.sum, total-num (has_mark v.dir.lines) (lines sh))
+
+    go : (l < lines sh) ⊎ (lines sh ≤ l) → live (MarkOf u l) v.out ≡ 0
+    go (inl z) = omega (arith, sum, total-le (λ x. live (MarkOf u x) v.out) (lines sh) l z)
+    go (inr z) = let b : num (nat_lt l (lines sh)) ≡ 0 = grind (arith, nat_tests) in omega (arith, b, h.each l)
+
+-- a TID that a core has open isn't owed anything for
+pub open-unowed : (sh : Shape) (w : World) (c d : ℕ) → KeptTids sh w → c < sh.cores → d < sh.dirs
+    → opens (w.cores c).phase (writes_at sh (w.cores c).cache d) (w.dirs d).serving.serving ≡ true → (w.dirs d).owed ≡ 0
+unfolding share part pair handled
+open-unowed sh w c d k l x h = go (cases_lt 0 (w.dirs d).owed)
+  where
+    t : ℕ
+    t = (w.dirs d).serving.serving
+
+    go : (0 < (w.dirs d).owed) ⊎ ((w.dirs d).owed ≤ 0) → (w.dirs d).owed ≡ 0
+    go (inr q) = omega (arith, q)
+    go (inl q) =
+        let n : num (opens (w.cores c).phase (writes_at sh (w.cores c).cache d) t) ≡ 1 = ap num h in
+        let b : num ((t == t) && nat_lt 0 (w.dirs d).owed) ≡ 1 = grind (arith, nat_tests) in
+        absurd (omega (arith, n, b, k.resolved d t x, total-le (share (part sh d t) w d) sh.cores c l))
+
+-- a TID of which a word is in flight isn't passed
+pub told-ahead : (sh : Shape) (w : World) (c d t : ℕ) → KeptTids sh w → c < sh.cores → d < sh.dirs → 1 ≤ live (Resolves t) (pair w c d).out
+    → (pair w c d).dir.serving.serving ≤ t
+unfolding share part pair handled
+told-ahead sh w c d t k l x h = go (cases_lt t (w.dirs d).serving.serving)
+  where
+    go : (t < (w.dirs d).serving.serving) ⊎ ((w.dirs d).serving.serving ≤ t) → (w.dirs d).serving.serving ≤ t
+    go (inr q) = q
+    go (inl q) =
+        let b : num (nat_lt t (w.dirs d).serving.serving) ≡ 1 = grind (arith, nat_tests) in
+        absurd (omega (arith, h, b, k.resolved d t x, total-le (share (part sh d t) w d) sh.cores c l))
+
+below-one : (sh : Shape) (n t l : ℕ) (v : Pair) → CountsMarks sh n t v → marks_of t l v ≤ 1
+below-one sh n t l v h = grind (arith, nat_tests)
+
+-- what a directory's answer does to a pair
+pub counted-answered : (sh : Shape) (gs : List Grant) (j d t : ℕ) (v : Pair) (m : Msg) (s : DirState) (ms : List Msg) (k : Link)
+    → Marked v.dir m s
+    → ((x : Kind) → live x k ≤ live x v.out)
+    → ((l : ℕ) → (Contains gs (record { tid = t; core = j })) ⊎ (1 ≤ num (nat_le v.next t))
+    → live (MarkOf t l) k + num (passes (MarkOf t l) m) ≡ live (MarkOf t l) v.out)
+    → ((l : ℕ) → m ≡ Skip v.dir.serving.serving → has_mark v.dir.lines l ≡ false)
+    → passes EmptyMarks m ≡ false
+    → (d < sh.dirs → 1 ≤ live (Resolves t) k → s.serving.serving ≤ t)
+    → ((s.serving.serving ≡ v.dir.serving.serving) ⊎ (s.owed ≡ 0))
+    → ((1 ≤ s.owed → 1 ≤ v.dir.owed) ⊎ ((l : ℕ) → d < sh.dirs → live (MarkOf v.dir.serving.serving l) v.out ≡ 0))
+    → MarksOf sh gs j d t 0 v → CountedOf sh d t v → CountedOf sh d t (after_answer (record v { out = k }) s ms)
+counted-answered sh gs j d t v m s ms k y less eqn skip nonempty ahead serves owes g h =
+    record { counted = counted; settled = λ l dl x. settled l dl x serves owes }
+  where
+    counted : (n : ℕ) → d < sh.dirs → 1 ≤ live (CommitOf t n) k → CountsMarks sh n t (after_answer (record v { out = k }) s ms)
+    counted n dl x =
+        let a : 1 ≤ live (Resolves t) k = omega (arith, x, is-word t n k) in
+        let b : CountsMarks sh n t v = h.counted n dl (omega (arith, x, less (CommitOf t n))) in
+        let c : Contains gs (record { tid = t; core = j }) = g.owner (omega (arith, a, less (Resolves t))) in
+        same-counts sh n t v (after_answer (record v { out = k }) s ms)
+        (λ l. marks-stay sh d t l v m s ms k y (eqn l (inl c)) (skip l) nonempty (ahead dl a) (below-one sh n t l v b)) b
+
+    settled : (l : ℕ) → d < sh.dirs → 1 ≤ s.owed → (s.serving.serving ≡ v.dir.serving.serving) ⊎ (s.owed ≡ 0)
+        → (1 ≤ s.owed → 1 ≤ v.dir.owed) ⊎ ((l : ℕ) → d < sh.dirs → live (MarkOf v.dir.serving.serving l) v.out ≡ 0)
+        → live (MarkOf s.serving.serving l) k ≡ 0
+    settled l dl x a r = grind (arith, nat_tests)
+
+none-granted : (t l d k : ℕ) (v : Pair) (o : Out) → among (MarkOf t l) (o.sends (Dir d)) ≡ 0
+    → marks_of t l (after_move (grant_taken v k) o d) ≡ marks_of t l v
+unfolding marks_of
+none-granted t l d k v o z = omega (arith, z, live-sends (MarkOf t l) v.out (o.sends (Dir d)))
+
+-- a grant sends none of these
+pub counted-granted : (sh : Shape) (d t k : ℕ) (v : Pair) (o : Out) → ((u l : ℕ) → among (MarkOf u l) (o.sends (Dir d)) ≡ 0)
+    → among AnyCommit (o.sends (Dir d)) ≡ 0 → CountedOf sh d t v → CountedOf sh d t (after_move (grant_taken v k) o d)
+counted-granted sh d t k v o f z h = record {
+  counted = λ n dl x. same-counts sh n t v (after_move (grant_taken v k) o d) (λ l. none-granted t l d k v o (f t l))
+      (h.counted n dl (omega (arith, x, z, few-any t n (o.sends (Dir d)), live-sends (CommitOf t n) v.out (o.sends (Dir d)))));
+  settled =
+      λ l dl x. omega (
+        arith,
+        h.settled l dl x,
+        f v.dir.serving.serving l,
+        live-sends (MarkOf v.dir.serving.serving l) v.out
+            (o.sends (Dir d)),
+      );
+}
+
+pub is-commit : (u n : ℕ) → num (passes (CommitOf u n) (Commit u n)) ≡ 1
+unfolding passes
+is-commit u n = grind (arith, nat_tests)
+
+-- a directory that takes a Commit has all its Marks
+none-left : (sh : Shape) (gs : List Grant) (w : World) (cs : List Noted) (c j d k : ℕ) (m : Msg) → KeptOwners sh gs w cs → KeptMarks sh gs w
+    → KeptCounted sh w → c < sh.cores → in_flight w.net (Core c) (Dir d) k ≡ Some m → CountsMarked sh (w.dirs d) m → (l : ℕ) → d < sh.dirs
+    → live (MarkOf (w.dirs d).serving.serving l) (w.net (Core j) (Dir d)) ≡ 0
+unfolding pair
+none-left sh gs w cs c j d k m y a h cl i q l dl = go (cases_eq j c)
+  where
+    u : ℕ
+    u = (w.dirs d).serving.serving
+
+    n : ℕ
+    n = count_below (has_mark (w.dirs d).lines) (lines sh)
+
+    sent : 1 ≤ live (CommitOf u n) (w.net (Core c) (Dir d))
+    sent = omega (arith, live-some (CommitOf u n) (w.net (Core c) (Dir d)) k (Commit u n) (i ∙ ap (λ x. Some x) q), is-commit u n)
+
+    own : live (MarkOf u l) (w.net (Core c) (Dir d)) ≡ 0
+    own = none-away sh l (pair w c d) ((h c d u cl).counted n dl sent)
+
+    other : (j ≡ c → ⊥) → (0 < live (MarkOf u l) (w.net (Core j) (Dir d))) ⊎ (live (MarkOf u l) (w.net (Core j) (Dir d)) ≤ 0)
+        → live (MarkOf u l) (w.net (Core j) (Dir d)) ≡ 0
+    other e (inr z) = omega (arith, z)
+    other e (inl z) =
+        absurd (e (granted-once 1 gs u j c (y.numbered) ((a j d u l).owner (omega (arith, z, (kinds u l (w.net (Core j) (Dir d))).0)))
+        ((a c d u l).owner (omega (arith, sent, is-word u n (w.net (Core c) (Dir d)))))))
+
+    go : (j ≡ c) ⊎ (j ≡ c → ⊥) → live (MarkOf u l) (w.net (Core j) (Dir d)) ≡ 0
+    go (inl e) = rw e own
+    go (inr e) = other e (cases_lt 0 (live (MarkOf u l) (w.net (Core j) (Dir d))))
+
+dir-counted : (sh : Shape) (gs : List Grant) (w : World) (cs : List Noted) (c d k ack : ℕ) (m : Msg) (s : DirState) (sends : Sends)
+    → KeptTold sh w → KeptOwners sh gs w cs → KeptMarks sh gs w → KeptCounted sh w → KeptTold sh (dir_takes w c d k s sends) → c < sh.cores
+    → in_flight w.net (Core c) (Dir d) k ≡ Some m → Marked (w.dirs d) m s → Due sh d (w.dirs d) ack s sends
+    → (s.owed ≤ (w.dirs d).owed) ⊎ CountsMarked sh (w.dirs d) m → KeptCounted sh (dir_takes w c d k s sends)
+unfolding pair
+dir-counted sh gs w cs c d k ack m s sends b y a h z cl i u p o =
+    pairs_dir (λ j e v. (t : ℕ) → j < sh.cores → CountedOf sh e t v) w c d k s sends
+    (λ t x. counted-answered sh gs c d t (pair w c d) m s (sends (Core c)) (set (w.net (Core c) (Dir d)) k None) u
+    (λ q. taken-less k q (w.net (Core c) (Dir d)) m i) (λ l q. live-takes (MarkOf t l) (w.net (Core c) (Dir d)) k m i) skip nonempty
+    (λ dl. subst (λ v. 1 ≤ live (Resolves t) v.out → v.dir.serving.serving ≤ t) (dir-own w c d k s sends)
+    (told-ahead sh new c d t (z.tids) x dl)) (serves p.served) (owes c o) (a c d t 0) (h c d t x))
+    (λ j n t x. counted-answered sh gs j d t (pair w j d) m s (sends (Core j)) (w.net (Core j) (Dir d)) u (λ q. omega arith)
+    (λ l. only-there sh gs w cs c j d k t l m y a i n) skip nonempty
+    (λ dl. subst (λ v. 1 ≤ live (Resolves t) v.out → v.dir.serving.serving ≤ t) (dir-other w c d k s sends j n)
+    (told-ahead sh new j d t (z.tids) x dl)) (serves p.served) (owes j o) (a j d t 0) (h j d t x))
+    h
+  where
+    new : World
+    new = dir_takes w c d k s sends
+
+    skip : (l : ℕ) → m ≡ Skip (w.dirs d).serving.serving → has_mark (w.dirs d).lines l ≡ false
+    skip l = skip-unmarked sh gs w c d k m l b a i
+
+    nonempty : passes EmptyMarks m ≡ false
+    nonempty = empty-one (w.net (Core c) (Dir d)) k m i ((a c d 0 0).words)
+
+    serves : {B : Type 0} → ((s.serving.serving ≡ (w.dirs d).serving.serving) × B) ⊎ (s.owed ≡ 0)
+        → (s.serving.serving ≡ (w.dirs d).serving.serving) ⊎ (s.owed ≡ 0)
+    serves (inl q) = inl (q.0)
+    serves (inr q) = inr q
+
+    owes : (j : ℕ) → (s.owed ≤ (w.dirs d).owed) ⊎ CountsMarked sh (w.dirs d) m
+        → (1 ≤ s.owed → 1 ≤ (w.dirs d).owed)
+        ⊎ ((l : ℕ) → d < sh.dirs → live (MarkOf (w.dirs d).serving.serving l) (w.net (Core j) (Dir d)) ≡ 0)
+    owes j (inl q) = inl (λ x. omega (arith, q, x))
+    owes j (inr q) = inr (none-left sh gs w cs c j d k m y a h cl i q)
+
+asks-counted : (sh : Shape) (gs : List Grant) (w : World) (d : ℕ) (s : DirState) (sends : Sends) → KeptMarks sh gs w → KeptCounted sh w
+    → KeptTold sh (dir_asks w d s sends) → (s.serving.serving ≡ (w.dirs d).serving.serving)
+    × ((l : ℕ) → s.lines.mark l ≡ (w.dirs d).lines.mark l) → s.owed ≤ (w.dirs d).owed → KeptCounted sh (dir_asks w d s sends)
+unfolding pair
+asks-counted sh gs w d s sends a h z u o = pairs_asks (λ j e v. (t : ℕ) → j < sh.cores → CountedOf sh e t v) w d s sends
+    (λ j t x. counted-answered sh gs j d t (pair w j d) TidReq s (sends (Core j)) (w.net (Core j) (Dir d))
+    (Stays (u.0) (u.1) (λ b e q. let f = no-request b e in absurd (cc))) (λ q. omega arith)
+    (λ l q. rw (no-request t l) (omega arith)) (λ l e. absurd (cc)) no-empty
+    (λ dl. subst (λ v. 1 ≤ live (Resolves t) v.out → v.dir.serving.serving ≤ t) (asks-own w d s sends j)
+    (told-ahead sh new j d t (z.tids) x dl)) (inl (u.0)) (inl (λ q. omega (arith, q, o))) (a j d t 0) (h j d t x))
+    h
+  where
+    new : World
+    new = dir_asks w d s sends
+
+waits-not : (q : Phase) → may_commit q ≡ true → awaits_replies q ≡ false
+waits-not a e = grind (arith, nat_tests)
+
+taken-back : (sh : Shape) (d t k : ℕ) (v : Pair) → CountedOf sh d t v → CountedOf sh d t (back_taken v k)
+unfolding marks_of
+taken-back sh d t k v h = record {
+  counted = λ n dl x. record { each = (h.counted n dl x).each; sum = (h.counted n dl x).sum };
+  settled = h.settled;
+}
+
+given : (sh : Shape) (d t k : ℕ) (v : Pair) → CountedOf sh d t v → CountedOf sh d t (after_grant v k)
+unfolding marks_of
+given sh d t k v h = record {
+  counted = λ n dl x. record { each = (h.counted n dl x).each; sum = (h.counted n dl x).sum };
+  settled = h.settled;
+}
+
+passed : (sh : Shape) (d t : ℕ) (v : Pair) → CountedOf sh d t v → CountedOf sh d t (after_other_grant v)
+unfolding marks_of
+passed sh d t v h = record {
+  counted = λ n dl x. record { each = (h.counted n dl x).each; sum = (h.counted n dl x).sum };
+  settled = h.settled;
+}
+
+pub start-counted : (sh : Shape) (entries : ℕ → Local) (ram : ℕ → ℕ) → KeptCounted sh (start entries ram)
+unfolding start dir_start pair live
+start-counted sh entries ram c d t cl = record { counted = λ n dl x. absurd (omega (arith, x)); settled = λ l dl x. refl }
+
+pub step-counted : (sh : Shape) (p : Program) (gs : List Grant) (w : World) (cs : List Noted) (e : Event) → Kept sh w
+    → KeptOwners sh gs w cs → KeptCores sh w → KeptMarks sh gs w → KeptCounted sh w
+    → IfSome (step sh p w e) (λ o. KeptTold sh o.world → KeptCounted sh o.world)
+unfolding pair
+step-counted sh p gs w cs e z y x a h = step_cases sh p w e (λ g o. KeptTold sh o.world → KeptCounted sh o.world)
+    (λ c l. moved c l (core_exec sh p c (w.cores c)) (λ d t l. marking-exec sh p c d t l (w.cores c))
+    (λ d t. counts-exec sh p c d t (w.cores c) (λ q. (x c).owing d (waits-not (w.cores c).phase q))))
+    (λ c r b l. moved c l (core_evict sh r b (w.cores c)) (λ d t l. marking-evict sh r b d t l (w.cores c))
+    (λ d t. counts-evict sh r b d t (w.cores c)))
+    (λ c k u i n. pairs_grant P w c k (grant sh u (w.cores c))
+    (λ d t cl. counted-granted sh d t k (pair w c d) (grant sh u (w.cores c))
+    (λ b l. (granting sh u d b l (w.cores c) (granted_waits (pair w c d) k u i (z.told.tids.requests c d))).marks)
+    (granted-free sh u d (w.cores c)) (h c d t cl)) h)
+    (λ c d k m i. taken c d k (core_of_back sh w c d k m z.told.tids i) (from_dir sh d (w.cores c) m)
+    (λ b t l. marking-back sh d b t l (w.cores c) m) (λ b t. counts-back sh d b t (w.cores c) m))
+    (λ c d k m i. answered c d k m i (core_of_out sh w c d k m z.told.tids i) (dir_deliver sh (w.dirs d) c m) (dir-marked sh (w.dirs d) c m)
+    (dir-owes sh (w.dirs d) c m)
+    (dir-due sh d (w.dirs d) c m (once_at sh w c d k m z.told i) ((z.told.owed.at_home c d).marked) (marks_home sh w c d k m z.told.owed i)
+    (acks_owed sh w c d k m z.told.owed (core_of_out sh w c d k m z.told.tids i) i)))
+    (λ c k i n. pairs_vendor P w c k (λ d t cl. given sh d t k (pair w c d) (h c d t cl))
+    (λ j d q t cl. passed sh d t (pair w j d) (h j d t cl)))
+  where
+    P : ℕ → ℕ → Pair → Type 0
+    P c d v = (t : ℕ) → c < sh.cores → CountedOf sh d t v
+
+    own : (c d t : ℕ) (o : Out) → c < sh.cores → ((d t l : ℕ) → Marking sh d t l (w.cores c) o) → CountsAll sh d t (w.cores c) o
+        → CountedOf sh d t (after_move (pair w c d) o d)
+    own c d t o cl u k = counted-moved sh gs c d t (pair w c d) o cl (λ b l. u d b l) k (λ l. a c d t l)
+        (λ dl r. open-untold sh w c d t z.told.tids cl dl r) (λ dl r. open-unowed sh w c d z.told.tids cl dl r) (h c d t cl)
+
+    moved : (c : ℕ) → c < sh.cores → (q : Option Out) → ((d t l : ℕ) → IfSome q (λ o. Marking sh d t l (w.cores c) o))
+        → ((d t : ℕ) → IfSome q (λ o. CountsAll sh d t (w.cores c) o))
+        → IfSome q (λ o. KeptTold sh (core_moves w c o) → KeptCounted sh (core_moves w c o))
+    moved c cl None u k = tt
+    moved c cl (Some o) u k = λ n. pairs_move P w c o (λ d t l. own c d t o cl u (k d t)) h
+
+    back : (c d k t : ℕ) (o : Out) → c < sh.cores → ((d t l : ℕ) → Marking sh d t l (w.cores c) o) → CountsAll sh d t (w.cores c) o
+        → CountedOf sh d t (after_move (back_taken (pair w c d) k) o d)
+    back c d k t o cl u q = counted-moved sh gs c d t (back_taken (pair w c d) k) o cl (λ b l. u d b l) q
+        (λ l. back-marks sh gs w c d k t l (a c d t l)) (λ dl r. open-untold sh w c d t z.told.tids cl dl r)
+        (λ dl r. open-unowed sh w c d z.told.tids cl dl r) (taken-back sh d t k (pair w c d) (h c d t cl))
+
+    taken : (c d k : ℕ) → c < sh.cores → (q : Option Out) → ((b t l : ℕ) → IfSome q (λ o. Marking sh b t l (w.cores c) o))
+        → ((b t : ℕ) → IfSome q (λ o. CountsAll sh b t (w.cores c) o))
+        → IfSome q (λ o. KeptTold sh (core_takes w (Dir d) c k o) → KeptCounted sh (core_takes w (Dir d) c k o))
+    taken c d k cl None u f = tt
+    taken c d k cl (Some o) u f = λ n. pairs_back P w d c k o (λ t l. back c d k t o cl u (f d t)) (λ b r t l. own c b t o cl u (f b t)) h
+
+    answered : (c d k : ℕ) (m : Msg) → in_flight w.net (Core c) (Dir d) k ≡ Some m → c < sh.cores → (b : Answer) → MarkedBy (w.dirs d) m b
+        → OwesBy sh (w.dirs d) m b → DueBy sh d (w.dirs d) (num (passes Acks m)) b
+        → OfAnswer w c d k (λ v. KeptTold sh v → KeptCounted sh v) b
+    answered c d k m i cl Waits u o p = tt
+    answered c d k m i cl Drops u o p = λ n. dir-counted sh gs w cs c d k 0 m (w.dirs d) (λ dst. []) z.told y a h n cl i
+        (Stays refl (λ l. refl) u) (still-due sh d (w.dirs d) ((z.told.owed.at_home c d).marked)) (inl (omega arith))
+    answered c d k m i cl (Asks s sends) u o p = λ n. asks-counted sh gs w d s sends a h n u o
+    answered c d k m i cl (Takes s sends) u o p =
+        λ n. dir-counted sh gs w cs c d k (num (passes Acks m)) m s sends z.told y a h n cl i u p o

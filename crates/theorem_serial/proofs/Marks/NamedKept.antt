@@ -1,0 +1,467 @@
+-- Every event keeps that invalidations in flight name marked lines with their masks, once each.
+use Rattle.theorem_serial.proofs.Names.{Contains-append_cases, flat_map-append, SparesCommitter, is_invalidated, if◌then◌else◌}
+use Rattle.theorem_serial.proofs.Names.{invalidations}
+use Rattle.theorem_serial.proofs.Names.{data_request, after_answer, probe_reply, dir_deliver, KeptCounted, grant_taken, ProbeReply}
+use Rattle.theorem_serial.proofs.Names.{invalidate}
+use Rattle.theorem_serial.proofs.Names.{core_evict, core_moves, core_takes, after_move, back_taken, append-nil, granted_by, home_words}
+use Rattle.theorem_serial.proofs.Names.{nat_tests, CoreState, in_flight, core_exec, dir_takes, KeptNamed, out_taken, flat_map, cases_eq}
+use Rattle.theorem_serial.proofs.Names.{has_mark, DirState, from_dir, InvsAway, Resolves, cases_lt, KeptTold, Contains, dir_asks, DataReq}
+use Rattle.theorem_serial.proofs.Names.{invs_to, InvMask, Program, NamedOf, handled, IfSome, nat_lt, InvAck, Answer, passes, Option, MarkOf}
+use Rattle.theorem_serial.proofs.Names.{false, arith, those, Lines, Shape, lines, Waits, Drops, Takes, InvOf, AckOf, among, subst, Local}
+use Rattle.theorem_serial.proofs.Names.{Event}
+use Rattle.theorem_serial.proofs.Names.{World, start, Sends, grant, share, Grant, zero, Bool, true, List, ◌==◌, ◌&&◌, Some, None, refl}
+use Rattle.theorem_serial.proofs.Names.{Core}
+use Rattle.theorem_serial.proofs.Names.{Fill, Mark, home, Link, fill, Asks, Invs, Acks, live, step, Pair, pair, Kept, ◌++◌, suc, ◌+◌, ◌≡◌}
+use Rattle.theorem_serial.proofs.Names.{◌≤◌}
+use Rattle.theorem_serial.proofs.Names.{◌∷◌, ◌⊎◌, inl, inr, num, Dir, Msg, Inv, Out, ◌<◌, set, sym, ◌∙◌, due, Any, [], to, ap, ℕ}
+use Rattle.theorem_serial.proofs.Counts.DirOutcome.{Outcome, Waiting, Spent, AsksOwner, TakesProbe, TakesLoad, TakesCommit, outcome}
+use Rattle.theorem_serial.proofs.Counts.DirOutcome.{none-to}
+use Rattle.theorem_serial.proofs.Counts.DirOutcome.{among-none}
+use Rattle.theorem_serial.proofs.Counts.Links.{among-append, among-flat_map_none, live-sends, live-takes, total-le, live-fewer, none-taken}
+use Rattle.theorem_serial.proofs.Counts.Links.{among-fewer}
+use Rattle.theorem_serial.proofs.Counts.StepCases.{same, dir-own, dir-other, pairs_move, pairs_grant, pairs_back, pairs_dir, pairs_asks}
+use Rattle.theorem_serial.proofs.Counts.StepCases.{pairs_vendor, OfAnswer, step_cases, asks-own}
+use Rattle.theorem_serial.proofs.Marks.DirMarks.{Marked, Stays, Clears, Skipped, Marks as IsMarked, MarkedBy, dir-marked}
+use Rattle.theorem_serial.proofs.Marks.MarksKept.{taken-less, is-mark}
+use Rattle.theorem_serial.proofs.Marks.OwesByCommit.{CountsMarked, OwesBy, dir-owes}
+use Rattle.theorem_serial.proofs.OneCore.CoreSteps.{fill-steady, data-steady, Invalidated, invalidate-cases, reply-cases}
+use Rattle.theorem_serial.proofs.Serving.CoreDue.{Clean, clean-hurt, clean-replied, clean-steady, CleanOut, clean-exec, clean-evict}
+use Rattle.theorem_serial.proofs.Serving.CoreDue.{clean-grant}
+use Rattle.theorem_serial.proofs.Serving.DirDue.{Due, DueBy, dir-due, still-due, none-quiet}
+use Rattle.theorem_serial.proofs.Serving.DirInvs.{Quiet}
+use Rattle.theorem_serial.proofs.Serving.KeptSteps.{core_of_out, once_at, marks_home, acks_owed, BackDue, back-due}
+use Rattle.theorem_serial.proofs.Tids.Commits.{only-one}
+use Rattle.theorem_serial.proofs.Tids.DirTids.{unserved}
+use Rattle.theorem_serial.proofs.Tids.TidSteps.{live-some}
+
+-- What nodes send of invalidations and acknowledgements, line by line.
+
+-- kinds, line by line
+line-kinds : (l m : ℕ) (x : Msg) → (num (passes (InvOf l) x) ≤ num (passes Invs x)) × (num (passes (InvMask l m) x) ≤ num (passes Invs x))
+    × (num (passes (AckOf l) x) ≤ num (passes Acks x))
+unfolding passes
+line-kinds l m x = (grind (arith, nat_tests), grind (arith, nat_tests), grind (arith, nat_tests))
+
+pub lines-live : (l m : ℕ) (k : Link) → (live (InvOf l) k ≤ live Invs k) × (live (InvMask l m) k ≤ live Invs k)
+    × (live (AckOf l) k ≤ live Acks k)
+lines-live l m k = (
+  live-fewer (InvOf l) Invs (λ x. (line-kinds l m x).0) k,
+  live-fewer (InvMask l m) Invs (λ x. (line-kinds l m x).1) k,
+  live-fewer (AckOf l) Acks (λ x. (line-kinds l m x).2) k,
+)
+
+pub lines-among : (l m : ℕ) (k : List Msg) → (among (InvOf l) k ≤ among Invs k) × (among (InvMask l m) k ≤ among Invs k)
+    × (among (AckOf l) k ≤ among Acks k)
+lines-among l m k = (
+  among-fewer (InvOf l) Invs (λ x. (line-kinds l m x).0) k,
+  among-fewer (InvMask l m) Invs (λ x. (line-kinds l m x).1) k,
+  among-fewer (AckOf l) Acks (λ x. (line-kinds l m x).2) k,
+)
+
+-- a core acknowledges the line of an invalidation, to the directory that it came from
+acks-of : (sh : Shape) (k l d : ℕ) (s : CoreState) (o : Out) → Invalidated sh k s o
+    → among (AckOf l) (o.sends (Dir d)) ≤ num ((d == home sh k) && (k == l))
+unfolding among passes
+acks-of sh k l d s o i =
+    rw (i.dirs d) (omega (
+      arith,
+      among-append (AckOf l) (i.sends (Dir d)) (to (Dir (home sh k)) (InvAck k i.kept ∷ []) (Dir d)),
+      (clean-hurt sh s o.core i.sends d i.hurt).acks,
+      (lines-among l 0 (i.sends (Dir d))).2,
+      one (d == home sh k),
+    ))
+  where
+    one : (b : Bool) → among (AckOf l) (if b then InvAck k i.kept ∷ [] else []) ≤ num (b && (k == l))
+    one true = omega arith
+    one false = omega arith
+
+at-home : (sh : Shape) (e k m u : ℕ) → passes (InvsAway sh.dirs e) (Inv k m u) ≡ false → home sh k ≡ e
+unfolding passes
+at-home sh e k m u h = grind (arith, nat_tests)
+
+none-of : (l d : ℕ) (sh : Shape) (ms : List Msg) (n : ℕ) → Clean sh d ms → among (AckOf l) ms ≤ n
+none-of l d sh ms n c = omega (arith, c.acks, (lines-among l 0 ms).2)
+
+pub acks-line : (sh : Shape) (e d l : ℕ) (s : CoreState) (m : Msg) → passes (InvsAway sh.dirs e) m ≡ false
+    → IfSome (from_dir sh e s m) (λ o. among (AckOf l) (o.sends (Dir d)) ≤ num ((d == e) && passes (InvOf l) m))
+unfolding passes
+acks-line sh e d l s (ProbeReply u v) h =
+    none-of l d sh ((probe_reply sh e u s).sends (Dir d)) _ (clean-replied sh e u s (probe_reply sh e u s) (reply-cases sh e u s) d)
+acks-line sh e d l s (Fill k ws) h = none-of l d sh ((fill k ws s).sends (Dir d)) _ (clean-steady sh s (fill k ws s) (fill-steady k ws s) d)
+acks-line sh e d l s (DataReq k) h =
+    none-of l d sh ((data_request sh k s).sends (Dir d)) _ (clean-steady sh s (data_request sh k s) (data-steady sh k s) d)
+acks-line sh e d l s (Inv k m u) h = let q : home sh k ≡ e = at-home sh e k m u h in
+    rw (← q) (acks-of sh k l d s (invalidate sh k m u s) (invalidate-cases sh k m u s))
+acks-line sh e d l s _ h = tt
+
+-- a directory invalidates marked lines, once each and with their masks, where it takes a Commit, and else none
+one-inv : (p : ℕ → Bool) (f : ℕ → ℕ) (u l n : ℕ) → among (InvOf l) (flat_map (λ k. Inv k (f k) u ∷ []) (those p n)) ≤ num (p l)
+unfolding among passes those
+one-inv p f u l n = exact n (one n)
+  where
+    exact : (n : ℕ) → among (InvOf l) (flat_map (λ k. Inv k (f k) u ∷ []) (those p n)) ≡ num (nat_lt l n && p l)
+        → among (InvOf l) (flat_map (λ k. Inv k (f k) u ∷ []) (those p n)) ≤ num (p l)
+    exact n e = let z : num (nat_lt l n && p l) ≤ num (p l) = grind (arith, nat_tests) in omega (arith, e, z)
+
+    one : (n : ℕ) → among (InvOf l) (flat_map (λ k. Inv k (f k) u ∷ []) (those p n)) ≡ num (nat_lt l n && p l)
+    one zero = grind (arith, nat_tests)
+    one (suc n) = rw (flat_map-append, among-append, one n) (go (p n) refl)
+      where
+        go : (b : Bool) → p n ≡ b
+            → num (nat_lt l n && p l) + among (InvOf l) (flat_map (λ k. Inv k (f k) u ∷ []) (if b then n ∷ [] else [])) ≡ num
+            (nat_lt l (suc n) && p l)
+        go b q = grind (arith, nat_tests)
+
+own-mask : (f : ℕ → ℕ) (u l k : ℕ) → num (passes (InvMask l (f l)) (Inv k (f k) u)) ≡ 0
+unfolding passes
+own-mask f u l k = elim (cases_eq k l) [ inl e ↦ rw e (grind (arith, nat_tests)) | inr n ↦ grind (arith, nat_tests) ]
+
+-- what is sent to core j
+abbrev pub Names : Lines → List Msg → Type 0
+Names ls ms = (l : ℕ) → (among (InvOf l) ms ≤ num (has_mark ls l)) × (among (InvMask l (ls.mark l)) ms ≡ 0)
+
+names-invs : (sh : Shape) (ls : Lines) (c u j : ℕ) → Names ls (invalidations sh ls c u (Core j))
+unfolding invalidations invs_to among is_invalidated
+names-invs sh ls c u j l =
+    let marked : num (is_invalidated sh ls c j l) ≤ num (has_mark ls l) = grind arith in (
+      omega (arith, one-inv (is_invalidated sh ls c j) ls.mark u l (lines sh), marked),
+      among-flat_map_none (InvMask l (ls.mark l))
+          (λ k. Inv k (ls.mark k) u ∷ []) (λ k. omega (arith, own-mask ls.mark u l k)) (those (is_invalidated sh ls c j) (lines sh)),
+    )
+
+abbrev pub NamesBy : DirState → Msg → Answer → Type 0
+NamesBy s m (Asks new sends) = Quiet sends
+NamesBy s m (Takes new sends) = Quiet sends ⊎ ((passes (Resolves s.serving.serving) m ≡ true) × ((j : ℕ) → Names s.lines (sends (Core j))))
+NamesBy s m _ = Unit {0}
+
+pub dir-names : (sh : Shape) (s : DirState) (c : ℕ) (m : Msg) → NamesBy s m (dir_deliver sh s c m)
+unfolding passes
+dir-names sh s c m = go (outcome sh s c m)
+  where
+    go : {m : Msg} {a : Answer} → Outcome sh s c m a → NamesBy s m a
+    go (Waiting m) = tt
+    go (Spent m i) = tt
+    go (AsksOwner m l o w e) = λ j. none-to Invs o j (DataReq l) refl
+    go (TakesProbe t h) = inl (λ j. none-to Invs c j (ProbeReply t s.serving.serving) refl)
+    go (TakesLoad l k h e o) = inl (λ j. none-to Invs c j (Fill l (home_words s l)) refl)
+    go (TakesCommit b e) = inr (same s.serving.serving, names-invs sh s.lines c s.serving.serving)
+    go _ = inl (λ j. among-none Invs)
+
+-- a core moves: so many acknowledgements as invalidations that it took
+named-moved : (l d got : ℕ) (v : Pair) (o : Out) (k : Link) → among (AckOf l) (o.sends (Dir d)) ≤ got
+    → live (InvOf l) k + got ≤ live (InvOf l) v.back
+    → live (InvMask l (v.dir.lines.mark l)) k ≤ live (InvMask l (v.dir.lines.mark l)) v.back → NamedOf l v
+    → NamedOf l (after_move (record v { back = k }) o d)
+named-moved l d got v o k a b m h = record {
+  one = omega (arith, a, b, h.one, live-sends (AckOf l) v.out (o.sends (Dir d)));
+  mask = omega (arith, m, h.mask);
+}
+
+named-clean : (l d : ℕ) (sh : Shape) (v : Pair) (o : Out) → Clean sh d (o.sends (Dir d)) → NamedOf l v → NamedOf l (after_move v o d)
+named-clean l d sh v o c h = named-moved l d 0 v o v.back (omega (arith, c.acks, (lines-among l 0 (o.sends (Dir d))).2)) (omega arith)
+    (omega arith) h
+
+named-granted : (l d k : ℕ) (sh : Shape) (v : Pair) (o : Out) → Clean sh d (o.sends (Dir d)) → NamedOf l v
+    → NamedOf l (after_move (grant_taken v k) o d)
+named-granted l d k sh v o c h = named-clean l d sh (grant_taken v k) o c (record { one = h.one; mask = h.mask })
+
+-- a directory answers
+
+-- nothing is in flight any more
+named-none : (l : ℕ) (v : Pair) → live Invs v.back ≡ 0 → live Acks v.out ≡ 0 → NamedOf l v
+named-none l v a b = let r = lines-live l (v.dir.lines.mark l) v.back in let s = lines-live l 0 v.out in record {
+  one = omega (arith, r.0, s.2, a, b);
+  mask = omega (arith, r.1, a);
+}
+
+has-same : (a b : ℕ) → a ≡ b → num (nat_lt 0 a) ≡ num (nat_lt 0 b)
+has-same a b e = rw e refl
+
+-- the marks stay, and no invalidation goes out
+named-quiet : (l : ℕ) (v : Pair) (s : DirState) (ms : List Msg) (k : Link) → s.lines.mark l ≡ v.dir.lines.mark l → among Invs ms ≡ 0
+    → live (AckOf l) k ≤ live (AckOf l) v.out → NamedOf l v → NamedOf l (after_answer (record v { out = k }) s ms)
+named-quiet l v s ms k e q a h = record {
+  one =
+      omega (arith, h.one, a, q, (lines-among l 0 ms).0, live-sends (InvOf l) v.back ms, has-same (s.lines.mark l) (v.dir.lines.mark l) e);
+  mask = rw e (omega (arith, h.mask, q, (lines-among l (v.dir.lines.mark l) ms).1, live-sends (InvMask l (v.dir.lines.mark l)) v.back ms));
+}
+
+-- the marks stay, and the first invalidations go out
+named-first : (l : ℕ) (v : Pair) (s : DirState) (ms : List Msg) (k : Link) → s.lines.mark l ≡ v.dir.lines.mark l → Names v.dir.lines ms
+    → live Invs v.back ≡ 0 → live Acks k ≡ 0 → NamedOf l (after_answer (record v { out = k }) s ms)
+named-first l v s ms k e n a b = record {
+  one =
+      omega (
+        arith,
+        a,
+        b,
+        (n l).0,
+        (lines-live l 0 v.back).0,
+        (lines-live l 0 k).2,
+        live-sends (InvOf l) v.back ms,
+        has-same (s.lines.mark l) (v.dir.lines.mark l) e,
+      );
+  mask =
+      rw e (omega (arith, a, (n l).1, (lines-live l (v.dir.lines.mark l) v.back).1, live-sends (InvMask l (v.dir.lines.mark l)) v.back ms));
+}
+
+-- a directory that is owed nothing has nothing in flight
+none-due : (sh : Shape) (w : World) (j d : ℕ) → KeptTold sh w → j < sh.cores → (pair w j d).dir.owed ≡ 0
+    → live Invs (pair w j d).back + live Acks (pair w j d).out ≡ 0
+unfolding share due pair
+none-due sh w j d k l z = omega (arith, z, k.owed.owed d, total-le (share due w d) sh.cores j l)
+
+no-commit-mark : (sh : Shape) (s : DirState) (l k t : ℕ) → CountsMarked sh s (Mark l k t) → ⊥
+no-commit-mark sh s l k t e = cc
+
+-- while something is owed the marks stay
+pub marks-same : (sh : Shape) (w : World) (c d k : ℕ) (m : Msg) (s : DirState) → KeptCounted sh w → c < sh.cores → d < sh.dirs
+    → in_flight w.net (Core c) (Dir d) k ≡ Some m → 1 ≤ s.owed → (s.serving.serving ≡ (w.dirs d).serving.serving)
+    → (s.owed ≤ (w.dirs d).owed) ⊎ CountsMarked sh (w.dirs d) m → Marked (w.dirs d) m s → (l : ℕ) → s.lines.mark l ≡ (w.dirs d).lines.mark l
+unfolding pair
+marks-same sh w c d k m s h cl dl i x e o (Stays f g p) l = g l
+marks-same sh w c d k m s h cl dl i x e o (Clears f g p) l = absurd (omega (arith, f, e))
+marks-same sh w c d k m s h cl dl i x e o (Skipped f g) l = g l
+marks-same sh w c d k m s h cl dl i x e (inl o) (IsMarked a b q g f) l =
+    absurd (omega (
+      arith,
+      (h c d 0 cl).settled a dl (omega (arith, x, o)),
+      live-some (MarkOf (w.dirs d).serving.serving a)
+          (w.net (Core c) (Dir d)) k (Mark a b (w.dirs d).serving.serving) (i ∙ ap (λ y. Some y) q),
+      is-mark (w.dirs d).serving.serving a b,
+    ))
+marks-same sh w c d k m s h cl dl i x e (inr o) (IsMarked a b q g f) l =
+    absurd (no-commit-mark sh (w.dirs d) a b (w.dirs d).serving.serving (sym q ∙ o))
+
+dir-named : (sh : Shape) (w : World) (c d k ack : ℕ) (m : Msg) (s : DirState) (sends : Sends) → KeptTold sh w → KeptCounted sh w
+    → KeptNamed sh w → KeptTold sh (dir_takes w c d k s sends) → c < sh.cores → in_flight w.net (Core c) (Dir d) k ≡ Some m
+    → Marked (w.dirs d) m s → Due sh d (w.dirs d) ack s sends → (s.owed ≤ (w.dirs d).owed) ⊎ CountsMarked sh (w.dirs d) m
+    → (((j : ℕ) → among Invs (sends (Core j)) ≡ 0)
+    ⊎ ((passes (Resolves (w.dirs d).serving.serving) m ≡ true) × ((j : ℕ) → Names (w.dirs d).lines (sends (Core j)))))
+    → KeptNamed sh (dir_takes w c d k s sends)
+unfolding pair
+dir-named sh w c d k ack m s sends b g h z cl i u p o n =
+    λ j e l. pairs_dir (λ j e v. (l : ℕ) → j < sh.cores → e < sh.dirs → NamedOf l v) w c d k s sends
+    (λ l jl dl. pairs c l jl dl (set (w.net (Core c) (Dir d)) k None) (taken-less k (AckOf l) (w.net (Core c) (Dir d)) m i)
+    (taken-less k Acks (w.net (Core c) (Dir d)) m i)
+    (subst (λ v. v.dir.owed ≡ 0 → live Invs v.back + live Acks v.out ≡ 0) (dir-own w c d k s sends) (none-due sh new c d z jl)))
+    (λ j q l jl dl. pairs j l jl dl (w.net (Core j) (Dir d)) (omega arith) (omega arith)
+    (subst (λ v. v.dir.owed ≡ 0 → live Invs v.back + live Acks v.out ≡ 0) (dir-other w c d k s sends j q) (none-due sh new j d z jl)))
+    (λ j e l. h j e l) j e l
+  where
+    new : World
+    new = dir_takes w c d k s sends
+
+    pairs : (j l : ℕ) → j < sh.cores → d < sh.dirs → (q : Link) → live (AckOf l) q ≤ live (AckOf l) (w.net (Core j) (Dir d))
+        → live Acks q ≤ live Acks (w.net (Core j) (Dir d))
+        → (s.owed ≡ 0 → live Invs (after_answer (record (pair w j d) { out = q }) s (sends (Core j))).back + live Acks q ≡ 0)
+        → NamedOf l (after_answer (record (pair w j d) { out = q }) s (sends (Core j)))
+    pairs j l jl dl q a f e = go (cases_lt 0 s.owed)
+      where
+        first : (s.serving.serving ≡ (w.dirs d).serving.serving) → 1 ≤ s.owed
+            → (((j : ℕ) → among Invs (sends (Core j)) ≡ 0)
+            ⊎ ((passes (Resolves (w.dirs d).serving.serving) m ≡ true) × ((j : ℕ) → Names (w.dirs d).lines (sends (Core j)))))
+            → NamedOf l (after_answer (record (pair w j d) { out = q }) s (sends (Core j)))
+        first r x (inl y) = named-quiet l (pair w j d) s (sends (Core j)) q (marks-same sh w c d k m s g cl dl i x r o u l) (y j) a
+            (h j d l jl dl)
+        first r x (inr y) =
+            let t = none-due sh w j d b jl (unserved (w.dirs d) m (once_at sh w c d k m b i) (y.0)) in
+            named-first l (pair w j d) s (sends (Core j)) q (marks-same sh w c d k m s g cl dl i x r o u l) (y.1 j) (omega (arith, t))
+            (omega (arith, t, f))
+
+        serves : {B : Type 0} → 1 ≤ s.owed → ((s.serving.serving ≡ (w.dirs d).serving.serving) × B) ⊎ (s.owed ≡ 0)
+            → NamedOf l (after_answer (record (pair w j d) { out = q }) s (sends (Core j)))
+        serves x (inl y) = first (y.0) x n
+        serves x (inr y) = absurd (omega (arith, x, y))
+
+        go : (0 < s.owed) ⊎ (s.owed ≤ 0) → NamedOf l (after_answer (record (pair w j d) { out = q }) s (sends (Core j)))
+        go (inl x) = serves (omega (arith, x)) p.served
+        go (inr x) = let t = e (omega (arith, x)) in named-none l (after_answer (record (pair w j d) { out = q }) s (sends (Core j)))
+            (omega (arith, t)) (omega (arith, t))
+
+near-back : (k e d c l : ℕ) (sh : Shape) (w : World) (m : Msg) (o : Out) → in_flight w.net (Dir e) (Core c) k ≡ Some m
+    → among (AckOf l) (o.sends (Dir e)) ≤ num ((e == e) && passes (InvOf l) m) → NamedOf l (pair w c e)
+    → NamedOf l (after_move (back_taken (pair w c e) k) o e)
+unfolding pair
+near-back k e d c l sh w m o i a h = named-moved l e (num (passes (InvOf l) m)) (pair w c e) o (set (w.net (Dir e) (Core c)) k None)
+    (rw (same e) at a) (omega (arith, live-takes (InvOf l) (w.net (Dir e) (Core c)) k m i))
+    (taken-less k (InvMask l ((w.dirs e).lines.mark l)) (w.net (Dir e) (Core c)) m i) h
+
+away-back : (e d c l : ℕ) (w : World) (m : Msg) (o : Out) → (d ≡ e → ⊥)
+    → among (AckOf l) (o.sends (Dir d)) ≤ num ((d == e) && passes (InvOf l) m) → NamedOf l (pair w c d)
+    → NamedOf l (after_move (pair w c d) o d)
+unfolding pair
+away-back e d c l w m o n a h = let b : (d == e) ≡ false = grind (arith, nat_tests) in
+    named-moved l d 0 (pair w c d) o (w.net (Dir d) (Core c)) (rw b at a) (omega arith) (omega arith) h
+
+pub passed-away : (sh : Shape) (w : World) (c e k : ℕ) (m : Msg) → KeptTold sh w → in_flight w.net (Dir e) (Core c) k ≡ Some m
+    → passes (InvsAway sh.dirs e) m ≡ false
+unfolding pair
+passed-away sh w c e k m z i = none-taken (InvsAway sh.dirs e) (w.net (Dir e) (Core c)) k m i ((z.owed.at_home c e).invs)
+
+pub step-named : (sh : Shape) (p : Program) (w : World) (e : Event) → Kept sh w → KeptCounted sh w → KeptNamed sh w
+    → IfSome (step sh p w e) (λ o. KeptTold sh o.world → KeptNamed sh o.world)
+unfolding pair
+step-named sh p w e z g h = step_cases sh p w e (λ x o. KeptTold sh o.world → KeptNamed sh o.world)
+    (λ c l. moved c (core_exec sh p c (w.cores c)) (clean-exec sh p c (w.cores c)))
+    (λ c a b l. moved c (core_evict sh a b (w.cores c)) (clean-evict sh a b (w.cores c)))
+    (λ c k u i n. pairs_grant P w c k (grant sh u (w.cores c))
+    (λ d l x y. named-granted l d k sh (pair w c d) (grant sh u (w.cores c)) (clean-grant sh u (w.cores c) d) (h c d l x y)) h)
+    (λ c d k m i. taken c d k m i (from_dir sh d (w.cores c) m)
+    (λ b l. acks-line sh d b l (w.cores c) m (passed-away sh w c d k m z.told i)))
+    (λ c d k m i. answered c d k m i (core_of_out sh w c d k m z.told.tids i) (dir_deliver sh (w.dirs d) c m) (dir-marked sh (w.dirs d) c m)
+    (dir-owes sh (w.dirs d) c m)
+    (dir-due sh d (w.dirs d) c m (once_at sh w c d k m z.told i) ((z.told.owed.at_home c d).marked) (marks_home sh w c d k m z.told.owed i)
+    (acks_owed sh w c d k m z.told.owed (core_of_out sh w c d k m z.told.tids i) i)) (dir-names sh (w.dirs d) c m))
+    (λ c k i n. pairs_vendor P w c k (λ d l x y. record { one = (h c d l x y).one; mask = (h c d l x y).mask })
+    (λ j d q l x y. record { one = (h j d l x y).one; mask = (h j d l x y).mask }))
+  where
+    P : ℕ → ℕ → Pair → Type 0
+    P c d v = (l : ℕ) → c < sh.cores → d < sh.dirs → NamedOf l v
+
+    moved : (c : ℕ) (q : Option Out) → IfSome q (λ o. CleanOut sh o)
+        → IfSome q (λ o. KeptTold sh (core_moves w c o) → KeptNamed sh (core_moves w c o))
+    moved c None u = tt
+    moved c (Some o) u = λ n. pairs_move P w c o (λ d l x y. named-clean l d sh (pair w c d) o (u d) (h c d l x y)) h
+
+    taken : (c d k : ℕ) (m : Msg) → in_flight w.net (Dir d) (Core c) k ≡ Some m → (q : Option Out)
+        → ((b l : ℕ) → IfSome q (λ o. among (AckOf l) (o.sends (Dir b)) ≤ num ((b == d) && passes (InvOf l) m)))
+        → IfSome q (λ o. KeptTold sh (core_takes w (Dir d) c k o) → KeptNamed sh (core_takes w (Dir d) c k o))
+    taken c d k m i None u = tt
+    taken c d k m i (Some o) u = λ n. pairs_back P w d c k o (λ l x y. near-back k d d c l sh w m o i (u d l) (h c d l x y))
+        (λ b r l x y. away-back d b c l w m o r (u b l) (h c b l x y)) h
+
+    answered : (c d k : ℕ) (m : Msg) → in_flight w.net (Core c) (Dir d) k ≡ Some m → c < sh.cores → (b : Answer) → MarkedBy (w.dirs d) m b
+        → OwesBy sh (w.dirs d) m b → DueBy sh d (w.dirs d) (num (passes Acks m)) b → NamesBy (w.dirs d) m b
+        → OfAnswer w c d k (λ v. KeptTold sh v → KeptNamed sh v) b
+    answered c d k m i cl Waits u o p n = tt
+    answered c d k m i cl Drops u o p n = λ t. dir-named sh w c d k 0 m (w.dirs d) (λ dst. []) z.told g h t cl i (Stays refl (λ l. refl) u)
+        (still-due sh d (w.dirs d) ((z.told.owed.at_home c d).marked)) (inl (omega arith)) (inl none-quiet)
+    answered c d k m i cl (Asks s sends) u o p n =
+        λ t. pairs_asks P w d s sends
+        (λ j l x y. named-quiet l (pair w j d) s (sends (Core j)) (w.net (Core j) (Dir d)) (u.1 l) (n j) (omega arith) (h j d l x y)) h
+    answered c d k m i cl (Takes s sends) u o p n = λ t. dir-named sh w c d k (num (passes Acks m)) m s sends z.told g h t cl i u p o n
+
+pub start-named : (sh : Shape) (entries : ℕ → Local) (ram : ℕ → ℕ) → KeptNamed sh (start entries ram)
+unfolding start pair live
+start-named sh entries ram c d l x y = record { one = omega arith; mask = refl }
+
+-- Every event keeps that no acknowledgement is in flight from the core that the served TID was granted to.
+abbrev pub UnackedOf : Shape → List Grant → (core dir : ℕ) → Pair → Type 0
+UnackedOf sh gs c d v = d < sh.dirs → Contains gs (record { tid = v.dir.serving.serving; core = c }) → live Acks v.out ≡ 0
+
+abbrev pub KeptUnacked : Shape → List Grant → World → Type 0
+KeptUnacked sh gs w = (c d : ℕ) → UnackedOf sh gs c d (pair w c d)
+
+acks-any : (m : Msg) → num (passes Acks m) ≤ num (passes Any m)
+unfolding passes
+acks-any m = grind (arith, nat_tests)
+
+-- where nothing is owed, no acknowledgement is in flight
+no-acks : (sh : Shape) (w : World) (j d : ℕ) → KeptTold sh w → (pair w j d).dir.owed ≡ 0 → live Acks (pair w j d).out ≡ 0
+unfolding share due pair
+no-acks sh w j d k z = go (cases_lt j sh.cores)
+  where
+    go : (j < sh.cores) ⊎ (sh.cores ≤ j) → live Acks (w.net (Core j) (Dir d)) ≡ 0
+    go (inl l) = omega (arith, k.owed.owed d, total-le (share due w d) sh.cores j l)
+    go (inr l) = omega (arith, (k.tids.inside j d).out l, live-fewer Acks Any acks-any (w.net (Core j) (Dir d)))
+
+-- a directory whose TID isn't granted yet is owed nothing
+next-unacked : (sh : Shape) (w : World) (j d : ℕ) → KeptTold sh w → d < sh.dirs → (w.dirs d).serving.serving ≡ w.next
+    → live Acks (pair w j d).out ≡ 0
+unfolding handled pair
+next-unacked sh w j d k l e = go (cases_eq (w.dirs d).owed 0)
+  where
+    go : ((w.dirs d).owed ≡ 0) ⊎ ((w.dirs d).owed ≡ 0 → ⊥) → live Acks (w.net (Core j) (Dir d)) ≡ 0
+    go (inl z) = no-acks sh w j d k z
+    go (inr n) = let r = k.tids.resolved d (w.dirs d).serving.serving l in absurd (grind (arith, nat_tests))
+
+-- a directory's answer: it serves the same TID, and no acknowledgement comes with it, or it is owed nothing
+unacked-answered : (sh : Shape) (gs : List Grant) (c d : ℕ) (v q : Pair) {B : Type 0}
+    → ((q.dir.serving.serving ≡ v.dir.serving.serving) × B) ⊎ (q.dir.owed ≡ 0) → live Acks q.out ≤ live Acks v.out
+    → (q.dir.owed ≡ 0 → live Acks q.out ≡ 0) → UnackedOf sh gs c d v → UnackedOf sh gs c d q
+unacked-answered sh gs c d v q (inl e) f z h l g = omega (arith, f, h l (rw (e.0) at g))
+unacked-answered sh gs c d v q (inr e) f z h l g = z e
+
+dir-unacked : (sh : Shape) (gs : List Grant) (w : World) (c e k ack : ℕ) (m : Msg) (s : DirState) (sends : Sends) → KeptUnacked sh gs w
+    → KeptTold sh (dir_takes w c e k s sends) → in_flight w.net (Core c) (Dir e) k ≡ Some m → Due sh e (w.dirs e) ack s sends
+    → KeptUnacked sh gs (dir_takes w c e k s sends)
+unfolding pair
+dir-unacked sh gs w c e k ack m s sends h z i u = pairs_dir (UnackedOf sh gs) w c e k s sends
+    (unacked-answered sh gs c e (pair w c e) (after_answer (out_taken (pair w c e) k) s (sends (Core c))) (u.served)
+    (omega (arith, live-takes Acks (w.net (Core c) (Dir e)) k m i))
+    (subst (λ q. q.dir.owed ≡ 0 → live Acks q.out ≡ 0) (dir-own w c e k s sends) (no-acks sh (dir_takes w c e k s sends) c e z))
+    (h c e))
+    (λ j n. unacked-answered sh gs j e (pair w j e) (after_answer (pair w j e) s (sends (Core j))) (u.served) (omega arith)
+    (subst (λ q. q.dir.owed ≡ 0 → live Acks q.out ≡ 0) (dir-other w c e k s sends j n)
+    (no-acks sh (dir_takes w c e k s sends) j e z)) (h j e)) h
+
+pub step-unacked : (sh : Shape) (p : Program) (gs : List Grant) (w : World) (e : Event) → Kept sh w → SparesCommitter sh gs w
+    → KeptUnacked sh gs w → IfSome (step sh p w e) (λ o. KeptTold sh o.world → KeptUnacked sh (gs ++ granted_by w e) o.world)
+unfolding pair
+step-unacked sh p gs w e z y h = step_cases sh p w e (λ g o. KeptTold sh o.world → KeptUnacked sh (gs ++ g) o.world)
+    (λ c l. moved c (core_exec sh p c (w.cores c)) (clean-exec sh p c (w.cores c)))
+    (λ c a b l. moved c (core_evict sh a b (w.cores c)) (clean-evict sh a b (w.cores c)))
+    (λ c k u i n. rw append-nil
+    (pairs_grant P w c k (grant sh u (w.cores c))
+    (λ d l g. omega (
+      arith,
+      h c d l g,
+      (clean-grant sh u (w.cores c) d).acks,
+      live-sends Acks (w.net (Core c) (Dir d)) ((grant sh u (w.cores c)).sends (Dir d)),
+    )) h))
+    (λ c d k m i. taken c d k m i (from_dir sh d (w.cores c) m) (back-due sh d (w.cores c) m (passed-away sh w c d k m z.told i)))
+    (λ c d k m i. answered c d k m i (dir_deliver sh (w.dirs d) c m)
+    (dir-due sh d (w.dirs d) c m (once_at sh w c d k m z.told i) ((z.told.owed.at_home c d).marked) (marks_home sh w c d k m z.told.owed i)
+    (acks_owed sh w c d k m z.told.owed (core_of_out sh w c d k m z.told.tids i) i)))
+    (λ c k i n. pairs_vendor (UnackedOf sh (gs ++ record { tid = w.next; core = c } ∷ [])) w c k
+    (λ d l g. more c c d l (Contains-append_cases gs (one c) (record { tid = (w.dirs d).serving.serving; core = c }) g))
+    (λ j d q l g. more c j d l (Contains-append_cases gs (one c) (record { tid = (w.dirs d).serving.serving; core = j }) g)))
+  where
+    P : ℕ → ℕ → Pair → Type 0
+    P = UnackedOf sh gs
+
+    one : ℕ → List Grant
+    one c = record { tid = w.next; core = c } ∷ []
+
+    more : (c j d : ℕ) → d < sh.dirs → Contains gs (record { tid = (w.dirs d).serving.serving; core = j })
+        ⊎ Contains (one c) (record { tid = (w.dirs d).serving.serving; core = j }) → live Acks (w.net (Core j) (Dir d)) ≡ 0
+    more c j d l a = grind (arith, nat_tests, next-unacked, only-one)
+
+    moved : (c : ℕ) (x : Option Out) → IfSome x (λ o. CleanOut sh o)
+        → IfSome x (λ o. KeptTold sh (core_moves w c o) → KeptUnacked sh (gs ++ []) (core_moves w c o))
+    moved c None a = tt
+    moved c (Some o) a =
+        λ n. rw append-nil (pairs_move P w c o
+        (λ d l g. omega (arith, h c d l g, (a d).acks, live-sends Acks (w.net (Core c) (Dir d)) (o.sends (Dir d)))) h)
+
+    taken : (c d k : ℕ) (m : Msg) → in_flight w.net (Dir d) (Core c) k ≡ Some m → (x : Option Out) → IfSome x (λ o. BackDue sh d m o)
+        → IfSome x (λ o. KeptTold sh (core_takes w (Dir d) c k o) → KeptUnacked sh (gs ++ []) (core_takes w (Dir d) c k o))
+    taken c d k m i None a = tt
+    taken c d k m i (Some o) a = λ n. rw append-nil (pairs_back P w d c k o
+        (λ l g. omega (
+          arith,
+          h c d l g,
+          (y c d).own l g,
+          a.here,
+          live-takes Invs (w.net (Dir d) (Core c)) k m i,
+          live-sends Acks (w.net (Core c) (Dir d)) (o.sends (Dir d)),
+        ))
+        (λ b q l g. omega (arith, h c b l g, a.away b q, live-sends Acks (w.net (Core c) (Dir b)) (o.sends (Dir b)))) h)
+
+    answered : (c d k : ℕ) (m : Msg) → in_flight w.net (Core c) (Dir d) k ≡ Some m → (a : Answer)
+        → DueBy sh d (w.dirs d) (num (passes Acks m)) a → OfAnswer w c d k (λ v. KeptTold sh v → KeptUnacked sh (gs ++ []) v) a
+    answered c d k m i Waits u = tt
+    answered c d k m i Drops u =
+        λ n. rw append-nil (dir-unacked sh gs w c d k 0 m (w.dirs d) (λ dst. []) h n i
+        (still-due sh d (w.dirs d) ((z.told.owed.at_home c d).marked)))
+    answered c d k m i (Asks s sends) u =
+        λ n. rw append-nil (pairs_asks P w d s sends
+        (λ j. unacked-answered sh gs j d (pair w j d) (after_answer (pair w j d) s (sends (Core j))) (u.served) (omega arith)
+        (subst (λ q. q.dir.owed ≡ 0 → live Acks q.out ≡ 0) (asks-own w d s sends j) (no-acks sh (dir_asks w d s sends) j d n))
+        (h j d)) h)
+    answered c d k m i (Takes s sends) u = λ n. rw append-nil (dir-unacked sh gs w c d k (num (passes Acks m)) m s sends h n i u)
+
+pub start-unacked : (sh : Shape) (entries : ℕ → Local) (ram : ℕ → ℕ) → KeptUnacked sh [] (start entries ram)
+unfolding start pair live
+start-unacked sh entries ram c d l g = refl

@@ -1,0 +1,135 @@
+-- Every event keeps that a word which is marked read is valid, or its home has passed the core's TID.
+use Rattle.theorem_serial.proofs.Names.{ℕ, ◌≡◌, ◌<◌, ◌≤◌, ◌==◌, not, true, List, [], Contains, Option, Some, None, IfSome, is_some, arith}
+use Rattle.theorem_serial.proofs.Names.{◌⊎◌}
+use Rattle.theorem_serial.proofs.Names.{inl, inr, cases_eq, nat_tests, Noted, Program, Local, num, Core, Dir, Msg, Inv, Event, Shape, home}
+use Rattle.theorem_serial.proofs.Names.{empty_cache, CoreState, World, start, core_start, in_flight, Out, core_exec, core_evict, from_dir}
+use Rattle.theorem_serial.proofs.Names.{grant, Answer, Waits, Drops, Asks, Takes, dir_deliver, core_moves, core_takes, step, Invs, InvsNot}
+use Rattle.theorem_serial.proofs.Names.{passes, Kept, KeptTold, KeptCores, Grant, KeptOwners, LastGranted, SparesCommitter, holder, Pair}
+use Rattle.theorem_serial.proofs.Names.{pair}
+use Rattle.theorem_serial.proofs.Names.{IsBound, has_tid, IsPassed, ReadWords, sym, ◌∙◌}
+use Rattle.theorem_serial.proofs.Counts.StepCases.{pairs_move, pairs_grant, pairs_back, pairs_dir, pairs_asks, pairs_vendor, OfAnswer}
+use Rattle.theorem_serial.proofs.Counts.StepCases.{step_cases}
+use Rattle.theorem_serial.proofs.Marks.NamedKept.{passed-away}
+use Rattle.theorem_serial.proofs.OneCore.CoreReads.{Reading, ValidOrPassed, ReadOf, read-kept, reading-exec, reading-evict}
+use Rattle.theorem_serial.proofs.OneCore.CoreReadsTakes.{PassesTid, Admits, reading-grant, reads-back}
+use Rattle.theorem_serial.proofs.Serving.DirProbes.{RisesBy, dir-rises}
+use Rattle.theorem_serial.proofs.Tids.TidSteps.{live-some}
+
+abbrev pub KeptReads : Shape → World → Type 0
+KeptReads sh w = (c d : ℕ) → d < sh.dirs → ReadOf sh d (w.dirs d).serving.serving (w.cores c)
+
+-- a core's TID counts as held by it
+has-holder : (t : ℕ) (v : Pair) → has_tid v.core.phase t ≡ true → 1 ≤ holder t v
+unfolding holder
+has-holder t v e = rw e (omega arith)
+
+-- an invalidation carries the served TID
+served-inv : (sh : Shape) (w : World) (c e k l m u : ℕ) → KeptTold sh w → in_flight w.net (Dir e) (Core c) k ≡ Some (Inv l m u)
+    → u ≡ (w.dirs e).serving.serving
+unfolding pair passes
+served-inv sh w c e k l m u z i = go (cases_eq u (w.dirs e).serving.serving)
+  where
+    go : (u ≡ (w.dirs e).serving.serving) ⊎ (u ≡ (w.dirs e).serving.serving → ⊥) → u ≡ (w.dirs e).serving.serving
+    go (inl q) = q
+    go (inr n) =
+        let b : num (not (u == (w.dirs e).serving.serving)) ≡ 1 = grind (arith, nat_tests) in
+        absurd (omega (
+          arith,
+          b,
+          (z.owed.at_home c e).served,
+          live-some (InvsNot (w.dirs e).serving.serving) (w.net (Dir e) (Core c)) k
+              (Inv l m u) i,
+        ))
+
+inv-home : (sh : Shape) (w : World) (c e k l m u : ℕ) → KeptTold sh w → in_flight w.net (Dir e) (Core c) k ≡ Some (Inv l m u)
+    → home sh l ≡ e
+unfolding passes
+inv-home sh w c e k l m u z i = let a = passed-away sh w c e k (Inv l m u) z i in grind (arith, nat_tests)
+
+-- and this isn't the TID of the core that it goes to
+not-own : (sh : Shape) (gs : List Grant) (w : World) (cs : List Noted) (c e k l m u : ℕ) → e < sh.dirs → KeptOwners sh gs w cs
+    → SparesCommitter sh gs w → in_flight w.net (Dir e) (Core c) k ≡ Some (Inv l m u)
+    → has_tid (w.cores c).phase (w.dirs e).serving.serving ≡ true → ⊥
+unfolding pair passes
+not-own sh gs w cs c e k l m u b y s i h =
+    let g : Contains gs (record { tid = (w.dirs e).serving.serving; core = c }) =
+    y.held c e (w.dirs e).serving.serving (has-holder (w.dirs e).serving.serving (pair w c e) h) in
+    omega (arith, (s c e).own b g, live-some Invs (w.net (Dir e) (Core c)) k (Inv l m u) i)
+
+-- so the directory has passed the TID of a core that is ahead of it
+inv-passes : (sh : Shape) (gs : List Grant) (w : World) (cs : List Noted) (c e k l m u d : ℕ) → d < sh.dirs → KeptTold sh w
+    → KeptOwners sh gs w cs → SparesCommitter sh gs w → in_flight w.net (Dir e) (Core c) k ≡ Some (Inv l m u)
+    → PassesTid sh (w.cores c) d (w.dirs d).serving.serving l u
+inv-passes sh gs w cs c e k l m u d b z y s i a t h n = rw q (go (cases_eq t u))
+  where
+    q : d ≡ e
+    q = let x = inv-home sh w c e k l m u z i in cc
+
+    x : u ≡ (w.dirs e).serving.serving
+    x = served-inv sh w c e k l m u z i
+
+    go : (t ≡ u) ⊎ (t ≡ u → ⊥) → t < (w.dirs e).serving.serving
+    go (inl r) = absurd (not-own sh gs w cs c e k l m u (rw (sym q) b) y s i (rw (r ∙ x) at h))
+    go (inr r) = omega (arith, x)
+
+admitted : (sh : Shape) (gs : List Grant) (w : World) (cs : List Noted) (c e k : ℕ) (m : Msg) (d : ℕ) → d < sh.dirs → KeptTold sh w
+    → KeptOwners sh gs w cs → SparesCommitter sh gs w → in_flight w.net (Dir e) (Core c) k ≡ Some m
+    → Admits sh (w.cores c) d (w.dirs d).serving.serving m
+admitted sh gs w cs c e k (Inv l m u) d b z y s i = inv-passes sh gs w cs c e k l m u d b z y s i
+admitted sh gs w cs c e k _ d b z y s i = tt
+
+-- what a directory serves only rises
+read-rises : (sh : Shape) (d a b : ℕ) (s : CoreState) → a ≤ b → ReadOf sh d a s → ReadOf sh d b s
+read-rises sh d a b s l h x e y = elim (h x e y) [ inl z ↦ inl z | inr z ↦ inr (z.0, z.1, omega (arith, z.2)) ]
+
+pub step-reads : (sh : Shape) (p : Program) (gs : List Grant) (w : World) (cs : List Noted) (e : Event) → Kept sh w → KeptOwners sh gs w cs
+    → KeptCores sh w → SparesCommitter sh gs w → KeptReads sh w → IfSome (step sh p w e) (λ o. KeptReads sh o.world)
+unfolding pair
+step-reads sh p gs w cs e z y ks s h = step_cases sh p w e (λ g o. KeptReads sh o.world)
+    (λ c l. moved c (core_exec sh p c (w.cores c)) (reading-exec sh p c (w.cores c)))
+    (λ c a b l. moved c (core_evict sh a b (w.cores c)) (reading-evict sh a b (w.cores c)))
+    (λ c k u i. pairs_grant P w c k (grant sh u (w.cores c))
+    (λ d b. read-kept sh d _ (w.cores c) (grant sh u (w.cores c)).core (reading-grant sh u (w.cores c)) (h c d b)) h)
+    (λ c d k m i. taken c d k (from_dir sh d (w.cores c) m)
+    (λ a b. reads-back sh d a (w.dirs a).serving.serving (w.cores c) m (ks c) (admitted sh gs w cs c d k m a b z.told y s i)
+    (h c a b)))
+    (λ c d k m i. answered c d k (dir_deliver sh (w.dirs d) c m) (dir-rises sh (w.dirs d) c m))
+    (λ c k i. pairs_vendor P w c k (λ d. h c d) (λ j d n. h j d))
+  where
+    P : ℕ → ℕ → Pair → Type 0
+    P c d v = d < sh.dirs → ReadOf sh d v.dir.serving.serving v.core
+
+    moved : (c : ℕ) (x : Option Out) → IfSome x (λ o. Reading (w.cores c) o.core) → IfSome x (λ o. KeptReads sh (core_moves w c o))
+    moved c None a = tt
+    moved c (Some o) a = pairs_move P w c o (λ d b. read-kept sh d _ (w.cores c) o.core a (h c d b)) h
+
+    taken : (c d k : ℕ) (x : Option Out) → ((a : ℕ) → a < sh.dirs → IfSome x (λ o. ReadOf sh a (w.dirs a).serving.serving o.core))
+        → IfSome x (λ o. KeptReads sh (core_takes w (Dir d) c k o))
+    taken c d k None f = tt
+    taken c d k (Some o) f = pairs_back P w d c k o (f d) (λ a n. f a) h
+
+    answered : (c d k : ℕ) (a : Answer) → RisesBy (w.dirs d) a → OfAnswer w c d k (λ v. KeptReads sh v) a
+    answered c d k Waits u = tt
+    answered c d k Drops u = pairs_dir P w c d k (w.dirs d) (λ dst. []) (h c d) (λ j n. h j d) h
+    answered c d k (Asks r sends) u = pairs_asks P w d r sends (λ j b. read-rises sh d _ _ (w.cores j) u.rises (h j d b)) h
+    answered c d k (Takes r sends) u = pairs_dir P w c d k r sends (λ b. read-rises sh d _ _ (w.cores c) u.rises (h c d b))
+        (λ j n b. read-rises sh d _ _ (w.cores j) u.rises (h j d b)) h
+
+pub start-reads : (sh : Shape) (entries : ℕ → Local) (ram : ℕ → ℕ) → KeptReads sh (start entries ram)
+unfolding start core_start empty_cache
+start-reads sh entries ram c d b x e y = absurd (cc)
+
+-- a core's TID is its bound, as it is the last that was granted to it
+pub read-words : (sh : Shape) (gs : List Grant) (w : World) (cs : List Noted) → KeptOwners sh gs w cs → LastGranted gs w → KeptReads sh w
+    → ReadWords sh w
+unfolding pair
+read-words sh gs w cs y last k c d x b l a e q r = go b q (k c d a x e r)
+  where
+    v : Pair
+    v = pair w c d
+
+    go : (b : Option ℕ) → IsBound b v → ValidOrPassed ((w.cores c).cache.value x) (w.cores c).phase (w.dirs d).serving.serving
+        → (is_some ((w.cores c).cache.value x) ≡ true) ⊎ IsPassed b (w.dirs d).serving.serving
+    go b q (inl z) = inl z
+    go None q (inr z) = absurd (omega (arith, q z.0, has-holder z.0 v (z.1)))
+    go (Some t) q (inr z) = inr (omega (arith, z.2, last c d z.0 t (has-holder z.0 v (z.1)) (y.held c d t q)))

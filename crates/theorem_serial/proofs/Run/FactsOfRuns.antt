@@ -1,0 +1,290 @@
+-- The facts of the list that are proved of every run, from what is carried together along it.
+use Rattle.theorem_serial.proofs.Names.{ℕ, ◌+◌, ◌≡◌, ◌<◌, ◌≤◌, ◌==◌, ◌&&◌, Bool, true, false, not, List, Contains, Option, Some, None}
+use Rattle.theorem_serial.proofs.Names.{IfSome}
+use Rattle.theorem_serial.proofs.Names.{nat_le, arith, refl, nat_tests, Local, Program, Event, num, Shape, home, Cache, IsCache, has_mark}
+use Rattle.theorem_serial.proofs.Names.{CoreState, Halted, World, start, History, run, IsApart, PhaseFits, Grants, Marks, MarkOf, Probes}
+use Rattle.theorem_serial.proofs.Names.{Replies, live, Carried, RunsCarry, first_state, KeptAll, marks_of, marked_by, has_marked}
+use Rattle.theorem_serial.proofs.Names.{stores_line}
+use Rattle.theorem_serial.proofs.Names.{OneCore, Empty, Grant, grants_from, times, holder, pair, share, CommitsStand, MarksWait}
+use Rattle.theorem_serial.proofs.Names.{MarkedByServed}
+use Rattle.theorem_serial.proofs.Names.{MarksOfCommits, Ways, first_ways, ways_from, UntoldWhereOpen, UntoldIsLive, AllWaysFit, GivenUpOnce}
+use Rattle.theorem_serial.proofs.Names.{LiveIsOpen, CommittedWhereStored, SmallerAreGivenUp, WorkIsReached, ◌||◌, is_some, sym, ◌∙◌, inl}
+use Rattle.theorem_serial.proofs.Names.{inr}
+use Rattle.theorem_serial.proofs.Names.{cases_lt, lines, Awaited, is_awaited, AttemptInMemory, LoadsInMemory, CopiesInMemory}
+use Rattle.theorem_serial.proofs.Names.{CarriedInMemory}
+use Rattle.theorem_serial.proofs.Names.{RunsStayInMemory, Uses, MarksFit, AttemptFits, Views, no_views, views_from, attempts-fit, ReadFits}
+use Rattle.theorem_serial.proofs.Names.{CarriedViews, RunsCarryViews}
+use Rattle.theorem_serial.proofs.Copies.CopyFacts.{above-from, owned-from}
+use Rattle.theorem_serial.proofs.Copies.WroteLines.{on-its-way}
+use Rattle.theorem_serial.proofs.Counts.Links.{total-le}
+use Rattle.theorem_serial.proofs.Marks.MaskLaws.{marked_by_served, marks_of_commits}
+use Rattle.theorem_serial.proofs.Marks.ReadsKept.{read-words}
+use Rattle.theorem_serial.proofs.Memory.InMemoryKept.{KeptInMemory, run-memory}
+use Rattle.theorem_serial.proofs.Run.AllInvariants.{one_probe_from}
+use Rattle.theorem_serial.proofs.Run.Always.{passed, owed_from, served_from}
+use Rattle.theorem_serial.proofs.Run.CarriedTogether.{KeptCopies, run-copies, KeptMore}
+use Rattle.theorem_serial.proofs.Serving.CommitSteps.{commits_served}
+use Rattle.theorem_serial.proofs.Ways.WayFacts.{told_from, smaller_are_given_up, work_is_reached, untold_where_open, untold_is_live}
+use Rattle.theorem_serial.proofs.Ways.WayFacts.{all_ways_fit, given_up_once, live_is_open, committed_where_stored}
+
+-- one core
+apart : (sh : Shape) (c : Cache) → IsCache sh c → IsApart c
+apart sh c k = record { modified = k.modified; dirty = k.dirty; either = k.either }
+
+phase-fits : (sh : Shape) (s : CoreState) → OneCore sh s → PhaseFits s
+phase-fits sh s k = record { spilled = k.words.spilled_alone; unread = k.words.unread_alone; rested = k.rested }
+
+halted : (sh : Shape) (s : CoreState) → OneCore sh s → s.phase ≡ Halted → Empty s × ((x : ℕ) → s.spilled x ≡ None)
+halted sh s k e = (k.rested (rw e refl), k.words.spilled_alone (rw e refl))
+
+-- TIDs
+holder-same : (w : World) (c d e t : ℕ) → holder t (pair w c d) ≡ holder t (pair w c e)
+unfolding pair holder
+holder-same w c d e t = refl
+
+live-granted : (sh : Shape) (gs : List Grant) (h : History) → KeptAll sh gs h → (c d t : ℕ) → c < sh.cores → 1 ≤ holder t (pair h.world c d)
+    → Contains gs (record { tid = t; core = c }) × (times t h.commits ≡ 0)
+unfolding share
+live-granted sh gs h k c d t l x =
+    let y : 1 ≤ holder t (pair h.world c 0) = rw (holder-same h.world c 0 d t) x in
+    (k.owners.held c d t x, omega (arith, y, k.owners.once t, total-le (share (holder t) h.world 0) sh.cores c l))
+
+-- Marks
+none-coming : (n g x : ℕ) → (1 ≤ n + g → x ≡ 0) → 1 ≤ x → g ≡ 0
+none-coming n a x f l = grind (arith, nat_tests)
+
+marked-came : (n s g : ℕ) (m : ℕ) (b : Bool) → b ≡ true → (1 ≤ num (nat_le n s) + g → m + num (s == s && b) ≡ 0) → (s < n) × (g ≡ 0)
+marked-came n s g m b e f = (go (nat_le n s) refl, none-coming (num (nat_le n s)) g (m + num (s == s && b)) f (omega (arith, one)))
+  where
+    one : num (s == s && b) ≡ 1
+    one = rw e (grind (arith, nat_tests))
+
+    go : (x : Bool) → nat_le n s ≡ x → s < n
+    go a q = grind (arith, nat_tests)
+
+marked-line : (sh : Shape) (gs : List Grant) (h : History) → KeptAll sh gs h → (c d l : ℕ) → c < sh.cores → d < sh.dirs
+    → has_mark (h.world.dirs d).lines l ≡ true → (home sh l ≡ d) × ((h.world.dirs d).serving.serving < h.world.next)
+    × (live (Grants (h.world.dirs d).serving.serving) (pair h.world c d).grants ≡ 0)
+unfolding pair marks_of
+marked-line sh gs h k c d l cl dl e =
+    let f = (k.marks c d (h.world.dirs d).serving.serving l).fresh in
+    let r =
+    marked-came h.world.next (h.world.dirs d).serving.serving (live (Grants (h.world.dirs d).serving.serving) (pair h.world c d).grants)
+    (live (MarkOf (h.world.dirs d).serving.serving l) (pair h.world c d).out) (has_mark (h.world.dirs d).lines l) e f in
+    ((k.kept.told.owed.at_home c d).marked l e, r.0, r.1)
+
+none-marked : (a b c : Bool) → (a && b) ≡ false → num (a && (b && c)) ≡ 0
+none-marked a b c h = grind (arith, nat_tests)
+
+marks-wait : (sh : Shape) (gs : List Grant) (h : History) → KeptAll sh gs h → (c d t l : ℕ) → c < sh.cores → d < sh.dirs
+    → MarksWait sh t l d (pair h.world c d)
+unfolding marked_by
+marks-wait sh gs h k c d t l cl dl = record {
+  fresh = (k.marks c d t l).fresh;
+  unsent =
+      λ y z. omega (
+        arith,
+        (k.marks c d t l).held cl dl y,
+        none-marked (has_marked (pair h.world c d).core.phase)
+            (not ((pair h.world c d).core.owing d)) (stores_line sh (pair h.world c d).core.cache d l) z,
+      );
+}
+
+-- the owner of a Mark is known by any of its lines
+mark-owner : (sh : Shape) (gs : List Grant) (h : History) → KeptAll sh gs h → (c d t : ℕ) → 1 ≤ live (Marks t) (pair h.world c d).out
+    → Contains gs (record { tid = t; core = c })
+mark-owner sh gs h k c d t x = (k.marks c d t 0).owner (omega (arith, x))
+
+probes-taken : (sh : Shape) (gs : List Grant) (h : History) → KeptMore sh gs h → (c d t : ℕ)
+    → 1 ≤ live (Probes t) (pair h.world c d).out + live (Replies t) (pair h.world c d).back → Contains gs (record { tid = t; core = c })
+    × (live (Grants t) (pair h.world c d).grants ≡ 0)
+probes-taken sh gs h m c d t x = (
+  m.probed c d t x,
+  none-coming (num (nat_le (pair h.world c d).next t)) (live (Grants t) (pair h.world c d).grants)
+      (live (Probes t) (pair h.world c d).out + live (Replies t) (pair h.world c d).back) ((m.all.probing c d t).fresh) x,
+)
+
+-- what is proved by itself of every run
+pub record ProvedAlone (sh : Shape) (ys : Ways) (h : History) : Type 0 where
+  pub untold : UntoldWhereOpen sh ys h
+  pub is_live : UntoldIsLive sh ys h
+  pub fit : AllWaysFit sh ys h
+  pub once : GivenUpOnce sh ys h
+  pub is_open : LiveIsOpen sh ys h
+  pub committed : CommittedWhereStored sh ys h
+  pub smaller : SmallerAreGivenUp sh ys h
+  pub reached : WorkIsReached sh ys h
+  pub served : MarkedByServed sh h.world
+  pub marks : MarksOfCommits sh h.commits h.world
+  pub stand : CommitsStand sh h.world h.commits
+
+carried : (sh : Shape) (gs : List Grant) (ys : Ways) (h : History) → KeptCopies sh gs ys h → ProvedAlone sh ys h → Carried sh gs ys h
+unfolding pair
+carried sh gs ys h x t = let m = x.more in let k = m.all in record {
+  frames_stand_in_their_sets = λ c. (k.cores c).words.cache;
+  modified_and_dirty_words_are_valid_and_apart = λ c. apart sh (h.world.cores c).cache ((k.cores c).words.cache);
+  tid_and_owing_fit_the_phase = m.owing;
+  awaited_line_has_a_frame = λ c a q. (k.cores c).awaited a q;
+  marks_fit_the_phase = λ c. phase-fits sh (h.world.cores c) (k.cores c);
+  no_attempt_after_the_halt = λ c e. halted sh (h.world.cores c) (k.cores c) e;
+  stored_words_are_those_named = λ c x. (k.cores c).words.named x;
+  spilled_line_is_clean_in_its_frame = λ c x y e s. (k.cores c).words.clean x y e s;
+  granted_tids_are_those_below_next = (k.owners.numbered, k.owners.next);
+  each_tid_is_resolved_in_one_way = (k.kept.told.tids.resolved, t.untold, t.fit);
+  commits_are_of_granted_tids = (k.owners.rising, k.owners.granted);
+  one_tid_request_or_grant = k.kept.told.tids.requests;
+  live_tid_is_granted_to_its_core = live-granted sh gs h k;
+  live_tid_is_the_last_granted_to_its_core = k.last;
+  open_tid_is_live = t.is_live;
+  live_tid_is_open_where_it_must_be = t.is_open;
+  committed_tid_is_given_up_where_it_stored_nothing = t.committed;
+  serving_never_passes_an_unresolved_tid = λ d t x l. passed sh h.world d t (k.kept.told.tids.resolved d t x) l;
+  kept_skips_are_given_up_and_ahead = λ d u l p q. (t.fit d u l p).kept q;
+  given_up_tid_is_still_to_be_told_or_kept_or_passed = t.once;
+  commit_message_is_in_flight_while_committing = λ c d u cl l p q. (t.fit d u l p).commits c cl q;
+  commit_is_on_its_way_or_applied = t.stand;
+  settled_tid_is_passed_or_owed = λ d u l p q. (t.fit d u l p).settled q;
+  owed_only_where_settled = λ d u l p e o. (t.fit d u l p).owed e o;
+  marks_sent_are_the_lines_stored = (λ c d u l cl dl q. (k.marks c d u l).held cl dl q, k.masks, k.stored);
+  commit_counts_the_lines = t.marks;
+  smaller_tid_is_given_up_where_a_larger_one_worked = (t.smaller, t.reached);
+  committing_tid_is_served = commits_served sh h.world k.kept k.committing;
+  owed_counts_invs_and_acks = owed_from sh h.world k.kept.told.owed;
+  no_inv_to_the_core_that_committed = (k.spared, m.unacked);
+  one_probe_or_reply_per_owing_directory = one_probe_from sh h.world k.probing;
+  probes_are_of_tids_already_taken = probes-taken sh gs h m;
+  replying_directory_has_reached_the_tid = λ c d. (k.kept.probes c d).replies;
+  directory_that_replied_serves_the_tid = served_from sh h.world k.kept;
+  skipped_tid_sent_no_mark = λ c d t l x y. (k.marks c d t l).skipped x y;
+  marked_line_was_marked_by_the_served_tid = (marked-line sh gs h k, t.served);
+  marks_go_out_with_the_reply = marks-wait sh gs h k;
+  marks_sent_are_in_flight_or_handled = (mark-owner sh gs h k, k.counted);
+  inv_and_ack_name_a_marked_line = k.named;
+  line_marked_in_part_has_no_owner = k.whole;
+  marks_name_different_lines = λ c d u l cl dl. (m.one_mark c d u l cl dl, (k.kept.told.owed.at_home c d).marks, (k.marks c d u l).words);
+  records_and_messages_are_at_home = m.homes;
+  owner_is_the_core_of_the_tag = m.line_owners;
+  after_is_the_last_commit_there = m.after;
+  one_load_request_or_fill = m.loading;
+  line_tag_is_the_last_settled_writer = x.tags;
+  copy_above_the_tag_is_of_a_commit_in_flight = above-from sh h.commits h.world x.lines;
+  owned_line_has_one_copy_with_its_tag = owned-from sh h.commits h.world x.lines;
+  asked_line_gets_its_words = (k.asked, x.gets);
+  holder_is_a_sharer = x.sharers;
+  read_mark_is_valid_or_passed = read-words sh gs h.world h.commits k.owners k.last m.reads;
+}
+
+proved-alone : (sh : Shape) (p : Program) (entries : ℕ → Local) (ram : ℕ → ℕ) (es : List Event)
+    → IfSome (run sh p (start entries ram) es) (λ h. ProvedAlone sh (ways_from sh p es first_ways (first_state entries ram)) h)
+proved-alone sh p entries ram es = go (run sh p (start entries ram) es) (untold_where_open sh p entries ram es)
+    (untold_is_live sh p entries ram es) (all_ways_fit sh p entries ram es) (given_up_once sh p entries ram es)
+    (live_is_open sh p entries ram es) (committed_where_stored sh p entries ram es) (smaller_are_given_up sh p entries ram es)
+    (work_is_reached sh p entries ram es) (marked_by_served sh p entries ram es) (marks_of_commits sh p entries ram es)
+    (told_from (λ sh ys h. CommitsStand sh h.world h.commits) on-its-way sh p entries ram es)
+  where
+    ys : Ways
+    ys = ways_from sh p es first_ways (first_state entries ram)
+
+    go : (x : Option History) → IfSome x (λ h. UntoldWhereOpen sh ys h) → IfSome x (λ h. UntoldIsLive sh ys h)
+        → IfSome x (λ h. AllWaysFit sh ys h) → IfSome x (λ h. GivenUpOnce sh ys h) → IfSome x (λ h. LiveIsOpen sh ys h)
+        → IfSome x (λ h. CommittedWhereStored sh ys h) → IfSome x (λ h. SmallerAreGivenUp sh ys h) → IfSome x (λ h. WorkIsReached sh ys h)
+        → IfSome x (λ h. MarkedByServed sh h.world) → IfSome x (λ h. MarksOfCommits sh h.commits h.world)
+        → IfSome x (λ h. CommitsStand sh h.world h.commits) → IfSome x (λ h. ProvedAlone sh ys h)
+    go None a b c d f i j l m n q = tt
+    go (Some h) a b c d f i j l m n q = record {
+      untold = a;
+      is_live = b;
+      fit = c;
+      once = d;
+      is_open = f;
+      committed = i;
+      smaller = j;
+      reached = l;
+      served = m;
+      marks = n;
+      stand = q;
+    }
+
+pub runs_carry : RunsCarry
+runs_carry sh p entries ram es = go (run sh p (start entries ram) es) (run-copies sh p entries ram es) (proved-alone sh p entries ram es)
+  where
+    gs : List Grant
+    gs = grants_from sh p es (first_state entries ram)
+
+    ys : Ways
+    ys = ways_from sh p es first_ways (first_state entries ram)
+
+    go : (x : Option History) → IfSome x (λ h. KeptCopies sh gs ys h) → IfSome x (λ h. ProvedAlone sh ys h)
+        → IfSome x (λ h. Carried sh gs ys h)
+    go None k t = tt
+    go (Some h) k t = carried sh gs ys h k t
+
+-- The facts of the list that are proved of every run of a program whose accesses lie in memory.
+attempt-memory : (sh : Shape) (gs : List Grant) (ys : Ways) (h : History) → Carried sh gs ys h → KeptInMemory sh h → (c : ℕ)
+    → AttemptInMemory sh (h.world.cores c)
+attempt-memory sh gs ys h k m c = record {
+  accesses = (m.cores c).accesses;
+  spilled =
+      λ x e. (m.cores c).accesses.stored x
+      (sym (k.stored_words_are_those_named c x) ∙ either ((h.world.cores c).cache.modified x) (is_some ((h.world.cores c).spilled x)) e);
+  awaited = λ a e. (m.cores c).frames a.line ((k.awaited_line_has_a_frame c a e).1);
+}
+  where
+    either : (a b : Bool) → b ≡ true → (a || b) ≡ true
+    either a b e = grind (arith, nat_tests)
+
+loads-memory : (sh : Shape) (gs : List Grant) (ys : Ways) (h : History) → Carried sh gs ys h → KeptInMemory sh h → LoadsInMemory sh h.world
+unfolding pair
+loads-memory sh gs ys h k m c d l i = go (h.world.cores c).awaited refl (omega (arith, i, k.one_load_request_or_fill c d l))
+  where
+    line : (a : Awaited) → (h.world.cores c).awaited ≡ Some a → (b e : Bool) → (a.line == l) ≡ b → 1 ≤ num (b && e) → l < lines sh
+    line a q b e r n = grind (arith, nat_tests, attempt-memory)
+
+    go : (a : Option Awaited) → (h.world.cores c).awaited ≡ a → 1 ≤ num (is_awaited a l && (home sh l == d)) → l < lines sh
+    go None q n = absurd (omega arith)
+    go (Some a) q n = line a q (a.line == l) (home sh l == d) refl n
+
+copies-memory : (sh : Shape) (h : History) → KeptInMemory sh h → CopiesInMemory sh h.world
+copies-memory sh h m c d l t i = elim (cases_lt l (lines sh)) [ inl q ↦ q | inr q ↦ absurd (omega (arith, i, m.copies c d l t q)) ]
+
+pub carried-memory : (sh : Shape) (gs : List Grant) (ys : Ways) (h : History) → Carried sh gs ys h → KeptInMemory sh h
+    → CarriedInMemory sh h
+carried-memory sh gs ys h k m = record {
+  frames_are_of_lines_in_memory = λ c l e. (m.cores c).frames l e;
+  attempts_stay_in_memory = attempt-memory sh gs ys h k m;
+  loads_in_flight_are_of_lines_in_memory = loads-memory sh gs ys h k m;
+  copies_in_flight_are_of_lines_in_memory = copies-memory sh h m;
+  commits_stay_in_memory = m.commits;
+}
+
+pub runs_stay_in_memory : RunsStayInMemory
+runs_stay_in_memory sh p entries ram es i = go (run sh p (start entries ram) es) (runs_carry sh p entries ram es)
+    (run-memory sh p entries ram es i)
+  where
+    gs : List Grant
+    gs = grants_from sh p es (first_state entries ram)
+
+    ys : Ways
+    ys = ways_from sh p es first_ways (first_state entries ram)
+
+    go : (x : Option History) → IfSome x (λ h. Carried sh gs ys h) → IfSome x (λ h. KeptInMemory sh h)
+        → IfSome x (λ h. CarriedInMemory sh h)
+    go None k m = tt
+    go (Some h) k m = carried-memory sh gs ys h k m
+
+-- The facts of the list that are proved of every run of a program that fits: what theorem_attempt says of each core's attempt and its view.
+read-fits : (sh : Shape) (s : CoreState) (us : Uses) → MarksFit sh s us → ReadFits s us
+read-fits sh s us k = record { stand = k.stand; used = λ a x e. k.used x e }
+
+pub runs_carry_views : RunsCarryViews
+runs_carry_views sh p entries ram es f = go (run sh p (start entries ram) es) (attempts-fit sh p entries ram es f)
+  where
+    vs : Views
+    vs = views_from sh p es no_views (first_state entries ram)
+
+    go : (x : Option History) → IfSome x (λ h. (c : ℕ) → AttemptFits sh p (h.world.cores c) (vs c)) → IfSome x (λ h. CarriedViews sh p vs h)
+    go None k = tt
+    go (Some h) k = record {
+      attempt_follows_from_its_view = λ c. (k c).follows;
+      read_marks_are_the_view = λ c. read-fits sh (h.world.cores c) (vs c) (k c).marks;
+    }

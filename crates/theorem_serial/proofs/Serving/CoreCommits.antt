@@ -1,0 +1,85 @@
+-- A core sends a Commit only to directories that have reached its TID.
+use Rattle.theorem_serial.proofs.Names.{ℕ, ◌≡◌, ◌<◌, ◌≤◌, true, false, List, IfSome, nat_lt, arith, refl, nat_tests, Program, num, Dir, Msg}
+use Rattle.theorem_serial.proofs.Names.{Shape, Cache, writes_at, CoreState, Ready, Link, Out, commit, commit_sends, solo_sends, core_exec}
+use Rattle.theorem_serial.proofs.Names.{core_evict, grant, from_dir, CommitsAbove, AnyCommit, among, live, passes, Reached, cases_lt}
+use Rattle.theorem_serial.proofs.Names.{inl, inr, solo_commit, ◌⊎◌}
+use Rattle.theorem_serial.proofs.Counts.Links.{among-fewer, live-fewer}
+use Rattle.theorem_serial.proofs.OneCore.Said.{quiet, Empties, Flushes, Silent, Tells_alone, say}
+use Rattle.theorem_serial.proofs.OneCore.Outcomes.{Commits_now, Did, each-exec, out, each-evict, emptied, Ends_alone, Given_none, Granted}
+use Rattle.theorem_serial.proofs.OneCore.Outcomes.{Hands_out, Heard, each-back, each-grant, granted, granted_said, heard, heard-quiet, said}
+
+-- no Commit of a TID above x
+abbrev pub Served : (dir x : ℕ) → Out → Type 0
+Served d x o = among (CommitsAbove x) (o.sends (Dir d)) ≡ 0
+
+above-any : (x : ℕ) (m : Msg) → num (passes (CommitsAbove x) m) ≤ num (passes AnyCommit m)
+unfolding passes
+above-any x m = grind (arith, nat_tests)
+
+few-above : (x : ℕ) (ms : List Msg) → among (CommitsAbove x) ms ≤ among AnyCommit ms
+few-above x ms = among-fewer (CommitsAbove x) AnyCommit (above-any x) ms
+
+served-free : (d x : ℕ) (o : Out) → among AnyCommit (o.sends (Dir d)) ≡ 0 → Served d x o
+served-free d x o h = omega (arith, few-above x (o.sends (Dir d)))
+
+served-commit : (sh : Shape) (c : Cache) (t d x : ℕ) → (d < sh.dirs → writes_at sh c d ≡ true → t ≤ x)
+    → among (CommitsAbove x) (commit_sends sh c t (Dir d)) ≡ 0
+unfolding commit_sends among passes
+served-commit sh c t d x h = grind (arith, nat_tests)
+
+served-solo : (sh : Shape) (s : CoreState) (t d x : ℕ) → (d < sh.dirs → t ≤ x)
+    → among (CommitsAbove x) (say sh s (Tells_alone t) (Dir d)) ≡ 0
+unfolding passes solo_sends among
+served-solo sh s t d x h = go (cases_lt d sh.dirs)
+  where
+    go : (d < sh.dirs) ⊎ (sh.dirs ≤ d) → among (CommitsAbove x) (say sh s (Tells_alone t) (Dir d)) ≡ 0
+    go (inl l) = quiet sh s (CommitsAbove x) (Tells_alone t) (λ y. let i = h l in let z : nat_lt x t ≡ false = grind (arith, nat_tests) in
+        rw z refl) d
+    go (inr l) = let z : nat_lt d sh.dirs ≡ false = grind (arith, nat_tests) in rw z refl
+
+pub served-exec : (sh : Shape) (p : Program) (c d x : ℕ) (s : CoreState) → Reached sh d x s
+    → IfSome (core_exec sh p c s) (λ o. Served d x o)
+unfolding commit solo_commit passes
+served-exec sh p c d x s r = each-exec sh p c s (λ o. Served d x o) go
+  where
+    ready : (u : ℕ) → s.phase ≡ Ready u → d < sh.dirs → writes_at sh s.cache d ≡ true → u ≤ x
+    ready u e l w = rw e at (r.reached l (rw e (rw w refl)) (r.replied l (rw e refl)))
+
+    go : (y : Did sh p c s) → Served d x (out y)
+    go (Ends_alone t l o f q i) = served-solo sh s t d x (λ l. rw q at (r.reached l (rw q refl) (r.replied l (rw q refl))))
+    go (Commits_now u e) = served-commit sh s.cache u d x (ready u e)
+    go y = served-free d x (out y) (quiet sh s AnyCommit (said y) (λ z. refl) d)
+
+pub served-evict : (sh : Shape) (y z d x : ℕ) (s : CoreState) → IfSome (core_evict sh y z s) (λ o. Served d x o)
+unfolding passes
+served-evict sh y z d x s =
+    each-evict sh y z s (λ o. Served d x o)
+    (λ k q u i. served-free d x (emptied sh y z k s) (quiet sh s AnyCommit (Empties k) (λ z. refl) d))
+
+-- no other event sends a Commit
+pub granted-free : (sh : Shape) (u d : ℕ) (s : CoreState) → among AnyCommit ((grant sh u s).sends (Dir d)) ≡ 0
+unfolding passes
+granted-free sh u d s = each-grant sh u s (λ o. among AnyCommit (o.sends (Dir d)) ≡ 0) go
+  where
+    go : (y : Granted sh u s) → among AnyCommit ((granted y).sends (Dir d)) ≡ 0
+    go (Given_none e) = quiet sh s AnyCommit Silent (λ z. refl) d
+    go y = quiet sh s AnyCommit (granted_said y) (λ z. refl) d
+
+pub heard-free : {sh : Shape} {e : ℕ} {s : CoreState} (y : Heard sh e s) (d : ℕ) → among AnyCommit ((heard y).sends (Dir d)) ≡ 0
+unfolding passes
+heard-free {sh} {e} {s} (Hands_out l) d = quiet sh s AnyCommit (Flushes l) (λ z. refl) d
+heard-free y d = heard-quiet AnyCommit y (λ z. refl) (λ b. refl) d
+
+pub served-grant : (sh : Shape) (u d x : ℕ) (s : CoreState) → Served d x (grant sh u s)
+served-grant sh u d x s = served-free d x (grant sh u s) (granted-free sh u d s)
+
+pub served-back : (sh : Shape) (e d x : ℕ) (s : CoreState) (m : Msg) → IfSome (from_dir sh e s m) (λ o. Served d x o)
+served-back sh e d x s m = each-back sh e s (λ m o. Served d x o) (λ y. served-free d x (heard y) (heard-free y d)) m
+
+-- fewer Commits are above a larger TID
+above-fewer : (a b : ℕ) (m : Msg) → a ≤ b → num (passes (CommitsAbove b) m) ≤ num (passes (CommitsAbove a) m)
+unfolding passes
+above-fewer a b m l = grind (arith, nat_tests)
+
+pub fewer-above : (a b : ℕ) (l : Link) → a ≤ b → live (CommitsAbove b) l ≤ live (CommitsAbove a) l
+fewer-above a b l h = live-fewer (CommitsAbove b) (CommitsAbove a) (λ m. above-fewer a b m h) l

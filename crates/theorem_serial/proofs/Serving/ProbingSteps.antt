@@ -1,0 +1,415 @@
+-- Every event keeps that one probe or reply is in flight for each directory that owes one, and of whose TID it is.
+use Rattle.theorem_serial.proofs.Names.{Contains-append_left, after_other_grant, slice_index_or, if◌then◌else◌, data_request, after_answer}
+use Rattle.theorem_serial.proofs.Names.{probe_reply, dir_deliver, Overflowing, all_replied, grant_taken, after_grant, append-nil}
+use Rattle.theorem_serial.proofs.Names.{ProbeReply}
+use Rattle.theorem_serial.proofs.Names.{core_evict, invalidate, core_moves, core_takes, granted_by, KeptOwners, after_move, back_taken}
+use Rattle.theorem_serial.proofs.Names.{nat_tests, CoreState, in_flight, core_exec, marks_for, dir_takes, out_taken, KeptCores, Contains}
+use Rattle.theorem_serial.proofs.Names.{cases_eq, TidGrant, sent_all, from_dir, DirState, Program, DataReq, ignored, Replies, Probing}
+use Rattle.theorem_serial.proofs.Names.{has_tid}
+use Rattle.theorem_serial.proofs.Names.{OneCore, Option, IfSome, Vendor, Answer, Grants, Probes, passes, holder, nat_le, arith, Noted}
+use Rattle.theorem_serial.proofs.Names.{Local}
+use Rattle.theorem_serial.proofs.Names.{Event, Shape, World, start, grant, Waits, Drops, Takes, among, Grant, false, subst, Phase, Ready}
+use Rattle.theorem_serial.proofs.Names.{Sends}
+use Rattle.theorem_serial.proofs.Names.{◌==◌, List, ◌++◌, Some, None, refl, Core, Fill, fill, Asks, step, live, Kept, Pair, pair, Bool}
+use Rattle.theorem_serial.proofs.Names.{true}
+use Rattle.theorem_serial.proofs.Names.{Solo, ◌+◌, ◌≡◌, ◌≤◌, ◌∷◌, sym, ◌⊎◌, inl, inr, num, Dir, Msg, Inv, Out, ◌∙◌, put, [], ap, ℕ}
+use Rattle.theorem_serial.specs.Probing.{ProbingOf, KeptProbing}
+use Rattle.theorem_serial.proofs.Counts.Links.{live-sends, live-takes}
+use Rattle.theorem_serial.proofs.Counts.StepCases.{pairs_move, pairs_grant, pairs_back, pairs_dir, pairs_asks, pairs_vendor, OfAnswer}
+use Rattle.theorem_serial.proofs.Counts.StepCases.{step_cases}
+use Rattle.theorem_serial.proofs.OneCore.CoreSteps.{fill-steady, data-steady, invalidate-cases, Replied, Ignored, Probed, Left_alone}
+use Rattle.theorem_serial.proofs.OneCore.CoreSteps.{reply-cases}
+use Rattle.theorem_serial.proofs.Serving.DirProbing.{RepliesBy, dir-replies, none-replied, Replying}
+use Rattle.theorem_serial.proofs.Serving.KeptSteps.{core_of_grant}
+use Rattle.theorem_serial.proofs.Serving.OwnerSteps.{grant-alone}
+use Rattle.theorem_serial.proofs.Tids.CoreProbing.{Unprobed, unprobed-steady, unprobed-exec, unprobed-evict, unprobed-hurt, granted}
+use Rattle.theorem_serial.proofs.Tids.CoreProbing.{none-marks}
+use Rattle.theorem_serial.proofs.Tids.CoreProbing.{none-to, Granted}
+use Rattle.theorem_serial.proofs.Tids.TidSteps.{granted_waits, live-some, is_mine, not_mine}
+
+-- Every event keeps that a probe or reply in flight is of a TID that was granted to its core.
+
+-- of this core's probes and replies
+abbrev pub ProbedOf : List Grant → (core : ℕ) → Pair → Type 0
+ProbedOf gs c v = (t : ℕ) → 1 ≤ live (Probes t) v.out + live (Replies t) v.back → Contains gs (record { tid = t; core = c })
+
+abbrev pub KeptProbed : List Grant → World → Type 0
+KeptProbed gs w = (c d : ℕ) → ProbedOf gs c (pair w c d)
+
+-- no message of a directory makes a core probe
+abbrev Quiet : Out → Type 0
+Quiet o = (d t : ℕ) → among (Probes t) (o.sends (Dir d)) ≡ 0
+
+nothing-probed : (s : CoreState) (o : Out) → o ≡ ignored s → Quiet o
+unfolding among
+nothing-probed s o e d t = rw e refl
+
+nothing-sent : (t : ℕ) → among (Probes t) [] ≡ 0
+unfolding among
+nothing-sent t = refl
+
+reply-quiet : (sh : Shape) (e u : ℕ) (s : CoreState) (o : Out) → Replied sh e u s o → Quiet o
+reply-quiet sh e u s o (Ignored q f) d t = nothing-probed s o q d t
+reply-quiet sh e u s o (Probed ph ow ph' ow' ca se cm) d t = rw se (none-to t e d (marks_for sh s.cache u e) (none-marks sh s.cache u e t))
+reply-quiet sh e u s o (Left_alone ph ow ph' ow' ca se cm) d t = rw se (nothing-sent t)
+
+back-quiet : (sh : Shape) (e : ℕ) (s : CoreState) (m : Msg) → IfSome (from_dir sh e s m) (λ o. Quiet o)
+back-quiet sh e s (ProbeReply u v) = reply-quiet sh e u s (probe_reply sh e u s) (reply-cases sh e u s)
+back-quiet sh e s (Fill l ws) = (unprobed-steady s (fill l ws s) (fill-steady l ws s)).sent
+back-quiet sh e s (DataReq l) = (unprobed-steady s (data_request sh l s) (data-steady sh l s)).sent
+back-quiet sh e s (Inv l m u) = (unprobed-hurt sh l s (invalidate sh l m u s) (invalidate-cases sh l m u s)).sent
+back-quiet sh e s _ = tt
+
+-- a grant that is taken was on its way to this core
+taken-granted : (sh : Shape) (gs : List Grant) (w : World) (cs : List Noted) (c k u : ℕ) → KeptOwners sh gs w cs
+    → in_flight w.net Vendor (Core c) k ≡ Some (TidGrant u) → Contains gs (record { tid = u; core = c })
+unfolding holder pair passes
+taken-granted sh gs w cs c k u y i =
+    y.held c 0 u (let n : num (u == u) ≡ 1 = grind (arith, nat_tests) in
+    omega (arith, n, live-some (Grants u) (w.net Vendor (Core c)) k (TidGrant u) i))
+
+pub step-probed : (sh : Shape) (p : Program) (gs : List Grant) (w : World) (cs : List Noted) (e : Event) → Kept sh w → KeptOwners sh gs w cs
+    → KeptProbed gs w → IfSome (step sh p w e) (λ o. KeptProbed (gs ++ granted_by w e) o.world)
+unfolding pair
+step-probed sh p gs w cs e z y h = step_cases sh p w e (λ g o. KeptProbed (gs ++ g) o.world)
+    (λ c l. moved c (core_exec sh p c (w.cores c)) (unprobed-exec sh p c (w.cores c)))
+    (λ c a b l. moved c (core_evict sh a b (w.cores c)) (unprobed-evict sh a b (w.cores c)))
+    (λ c k u i. rw append-nil (pairs_grant P w c k (grant sh u (w.cores c)) (λ d t x. mine c d k u t i x (cases_eq u t)) h))
+    (λ c d k m i. taken c d k m i (from_dir sh d (w.cores c) m) (back-quiet sh d (w.cores c) m))
+    (λ c d k m i. answered c d k m i (dir_deliver sh (w.dirs d) c m) (dir-replies sh (w.dirs d) c m))
+    (λ c k i. pairs_vendor (λ j d v. ProbedOf (gs ++ record { tid = w.next; core = c } ∷ []) j v) w c k (λ d t x. more c c t (h c d t x))
+    (λ j d n t x. more c j t (h j d t x)))
+  where
+    P : ℕ → ℕ → Pair → Type 0
+    P c d v = ProbedOf gs c v
+
+    more : (c j t : ℕ) → Contains gs (record { tid = t; core = j })
+        → Contains (gs ++ record { tid = w.next; core = c } ∷ []) (record { tid = t; core = j })
+    more c j t q = Contains-append_left gs (record { tid = w.next; core = c } ∷ []) (record { tid = t; core = j }) q
+
+    mine : (c d k u t : ℕ) → in_flight w.net Vendor (Core c) k ≡ Some (TidGrant u)
+        → 1 ≤ live (Probes t) (w.net (Core c) (Dir d) ++ sent_all ((grant sh u (w.cores c)).sends (Dir d))) + live (Replies t)
+        (w.net (Dir d) (Core c)) → (u ≡ t) ⊎ (u ≡ t → ⊥) → Contains gs (record { tid = t; core = c })
+    mine c d k u t i x (inl q) = rw (sym q) (taken-granted sh gs w cs c k u y i)
+    mine c d k u t i x (inr q) =
+        h c d t (omega (
+          arith,
+          x,
+          live-sends (Probes t) (w.net (Core c) (Dir d)) ((grant sh u (w.cores c)).sends (Dir d)),
+          (granted sh u (w.cores c) (granted_waits (pair w c d) k u i (z.told.tids.requests c d))).sent d t q,
+        ))
+
+    moved : (c : ℕ) (x : Option Out) → IfSome x (λ o. Unprobed (w.cores c) o) → IfSome x (λ o. KeptProbed (gs ++ []) (core_moves w c o))
+    moved c None a = tt
+    moved c (Some o) a =
+        rw append-nil (pairs_move P w c o
+        (λ d t x. h c d t (omega (arith, x, a.sent d t, live-sends (Probes t) (w.net (Core c) (Dir d)) (o.sends (Dir d))))) h)
+
+    taken : (c d k : ℕ) (m : Msg) → in_flight w.net (Dir d) (Core c) k ≡ Some m → (x : Option Out) → IfSome x (λ o. Quiet o)
+        → IfSome x (λ o. KeptProbed (gs ++ []) (core_takes w (Dir d) c k o))
+    taken c d k m i None a = tt
+    taken c d k m i (Some o) a = rw append-nil (pairs_back P w d c k o
+        (λ t x. h c d t (omega (
+          arith,
+          x,
+          a d t,
+          live-sends (Probes t) (w.net (Core c) (Dir d)) (o.sends (Dir d)),
+          live-takes (Replies t) (w.net (Dir d) (Core c)) k m i,
+        )))
+        (λ b n t x. h c b t (omega (arith, x, a b t, live-sends (Probes t) (w.net (Core c) (Dir b)) (o.sends (Dir b))))) h)
+
+    answered : (c d k : ℕ) (m : Msg) → in_flight w.net (Core c) (Dir d) k ≡ Some m → (a : Answer) → RepliesBy m c a
+        → OfAnswer w c d k (λ v. KeptProbed (gs ++ []) v) a
+    answered c d k m i Waits u = tt
+    answered c d k m i Drops u = rw append-nil (pairs_dir P w c d k (w.dirs d) (λ dst. [])
+        (λ t x. h c d t (omega (
+          arith,
+          x,
+          none-replied t,
+          live-takes (Probes t) (w.net (Core c) (Dir d)) k m i,
+          live-sends (Replies t) (w.net (Dir d) (Core c)) [],
+        )))
+        (λ j n t x. h j d t (omega (arith, x, none-replied t, live-sends (Replies t) (w.net (Dir d) (Core j)) []))) h)
+    answered c d k m i (Asks s sends) u =
+        rw append-nil (pairs_asks P w d s sends
+        (λ j t x. h j d t (omega (arith, x, u j t, live-sends (Replies t) (w.net (Dir d) (Core j)) (sends (Core j))))) h)
+    answered c d k m i (Takes s sends) u = rw append-nil (pairs_dir P w c d k s sends
+        (λ t x. h c d t (omega (
+          arith,
+          x,
+          u.own t,
+          live-takes (Probes t) (w.net (Core c) (Dir d)) k m i,
+          live-sends (Replies t) (w.net (Dir d) (Core c)) (sends (Core c)),
+        )))
+        (λ j n t x. h j d t (omega (arith, x, u.others j t n, live-sends (Replies t) (w.net (Dir d) (Core j)) (sends (Core j))))) h)
+
+pub start-probed : (entries : ℕ → Local) (ram : ℕ → ℕ) → KeptProbed [] (start entries ram)
+unfolding start pair live
+start-probed entries ram c d t x = absurd (omega (arith, x))
+
+-- Every event keeps that one probe or reply is in flight for each directory that owes one, and so does every run.
+probing-moved : (v : Pair) (o : Out) (d t : ℕ) → Unprobed v.core o → ProbingOf d t v → ProbingOf d t (after_move v o d)
+probing-moved v o d t y h = record {
+  fresh = λ l. omega (arith, h.fresh l, live-sends (Probes t) v.out (o.sends (Dir d)), y.sent d t);
+  held = λ k. let x = y.kept d t k in let q : num (o.core.owing d) ≡ num (v.core.owing d) = ap num (x.1) in
+      omega (arith, h.held (x.0), live-sends (Probes t) v.out (o.sends (Dir d)), y.sent d t);
+}
+
+-- a core takes its grant, which is the only one of its TID
+probing-granted : (v : Pair) (o : Out) (d t k u : ℕ) → slice_index_or v.grants k None ≡ Some (TidGrant u)
+    → num (nat_le v.next u) + live (Grants u) v.grants ≤ 1 → Granted u o → ProbingOf d u v → ProbingOf d t v
+    → ProbingOf d t (after_move (grant_taken v k) o d)
+probing-granted v o d t k u i one y hu h = go (cases_eq u t)
+  where
+    mine : 1 ≤ live (Grants u) v.grants
+    mine = omega (arith, live-takes (Grants u) v.grants k (TidGrant u) i, is_mine u)
+
+    here : ProbingOf d u (after_move (grant_taken v k) o d)
+    here = record {
+      fresh = λ l. absurd (omega (arith, live-takes (Grants u) v.grants k (TidGrant u) i, is_mine u));
+      held = λ x. omega (arith, hu.fresh (omega (arith, mine)), (y.kept d u x).1, live-sends (Probes u) v.out (o.sends (Dir d)));
+    }
+
+    go : (u ≡ t) ⊎ (u ≡ t → ⊥) → ProbingOf d t (after_move (grant_taken v k) o d)
+    go (inl e) = subst (λ x. ProbingOf d x (after_move (grant_taken v k) o d)) e here
+    go (inr n) = record {
+      fresh =
+          λ l. omega (
+            arith,
+            h.fresh (omega (arith, live-takes (Grants t) v.grants k (TidGrant u) i, not_mine u t n)),
+            live-sends (Probes t) v.out (o.sends (Dir d)),
+            y.sent d t n,
+          );
+      held = λ x. absurd (n ((y.kept d t x).0));
+    }
+
+-- a core takes a reply
+has-one : (b : Bool) (x y : Phase) (u t : ℕ) → has_tid x t ≡ (u == t) → has_tid y t ≡ (u == t) → has_tid (if b then x else y) t ≡ true
+    → u ≡ t
+has-one a x y u t e f h = grind (arith, nat_tests)
+
+-- no directory owes a reply to a core that has the TID without waiting
+abbrev Idle : (dir tid : ℕ) → CoreState → Type 0
+Idle d t s = has_tid s.phase t ≡ true → ((s.phase ≡ Probing t) ⊎ (s.phase ≡ Overflowing (Some t))) ⊎ (s.owing d ≡ false)
+
+-- one reply less is in flight, and the core's TID is u only where it counts
+probing-taken : (v : Pair) (o : Out) (e k u x t : ℕ) → slice_index_or v.back k None ≡ Some (ProbeReply u x)
+    → ((d t : ℕ) → among (Probes t) (o.sends (Dir d)) ≡ 0)
+    → (has_tid o.core.phase t ≡ true → (has_tid v.core.phase t ≡ true) × (num (v.core.owing e) ≡ num (o.core.owing e) + num (u == t)))
+    → ProbingOf e t v → ProbingOf e t (after_move (back_taken v k) o e)
+unfolding passes
+probing-taken v o e k u x t i n f h = record {
+  fresh = λ l. omega (
+    arith,
+    h.fresh l,
+    live-takes (Replies t) v.back k (ProbeReply u x) i,
+    live-sends (Probes t) v.out (o.sends (Dir e)),
+    n e t,
+  );
+  held = λ y. let z = f y in
+      omega (
+        arith,
+        h.held (z.0),
+        z.1,
+        live-takes (Replies t) v.back k (ProbeReply u x) i,
+        live-sends (Probes t) v.out (o.sends (Dir e)),
+        n e t,
+      );
+}
+
+-- elsewhere the replies owed stay
+probing-away : (v : Pair) (o : Out) (d t : ℕ) → ((d t : ℕ) → among (Probes t) (o.sends (Dir d)) ≡ 0)
+    → (has_tid o.core.phase t ≡ true → (has_tid v.core.phase t ≡ true) × (o.core.owing d ≡ v.core.owing d))
+    → ProbingOf d t v → ProbingOf d t (after_move v o d)
+probing-away v o d t n f h = record {
+  fresh = λ l. omega (arith, h.fresh l, live-sends (Probes t) v.out (o.sends (Dir d)), n d t);
+  held = λ y. let z = f y in let q : num (o.core.owing d) ≡ num (v.core.owing d) = ap num (z.1) in
+      omega (arith, h.held (z.0), live-sends (Probes t) v.out (o.sends (Dir d)), n d t);
+}
+
+-- what a reply does to the replies owed
+record Counts (e u : ℕ) (s : CoreState) (o : Out) : Type 0 where
+  sent : (d t : ℕ) → among (Probes t) (o.sends (Dir d)) ≡ 0
+  here : (t : ℕ) → has_tid o.core.phase t ≡ true
+      → (has_tid s.phase t ≡ true) × ((num (s.owing e) ≡ num (o.core.owing e) + num (u == t)) ⊎ ((u ≡ t) × (s.owing e ≡ false)))
+  away : (d t : ℕ) → (d ≡ e → ⊥) → has_tid o.core.phase t ≡ true → (has_tid s.phase t ≡ true) × (o.core.owing d ≡ s.owing d)
+
+put-here : (f : ℕ → Bool) (e : ℕ) → num (put f e false e) ≡ 0
+put-here f e = let b : (e == e) ≡ true = grind (arith, nat_tests) in rw b refl
+
+put-away : (f : ℕ → Bool) (e d : ℕ) → (d ≡ e → ⊥) → put f e false d ≡ f d
+put-away f e d n = let b : (d == e) ≡ false = grind (arith, nat_tests) in rw b refl
+
+one-less : (s : CoreState) (o : Out) (e u : ℕ) (x y : Phase) (b : Bool) → o.core.phase ≡ (if b then x else y)
+    → o.core.owing ≡ put s.owing e false → s.owing e ≡ true → ((t : ℕ) → has_tid x t ≡ (u == t)) → ((t : ℕ) → has_tid y t ≡ (u == t))
+    → ((t : ℕ) → has_tid s.phase t ≡ (u == t)) → ((d t : ℕ) → among (Probes t) (o.sends (Dir d)) ≡ 0) → Counts e u s o
+one-less s o e u x y b p w f hx hy hs n = record {
+  sent = n;
+  here = λ t k. let q : u ≡ t = has-one b x y u t (hx t) (hy t) (rw p at k) in let r : (u == t) ≡ true = grind (arith, nat_tests) in
+      (hs t ∙ r, inl (rw (f, w) (omega (arith, put-here s.owing e, ap num r))));
+  away = λ d t m k. let q : u ≡ t = has-one b x y u t (hx t) (hy t) (rw p at k) in let r : (u == t) ≡ true = grind (arith, nat_tests) in
+      (hs t ∙ r, ap (λ g. g d) w ∙ put-away s.owing e d m);
+}
+
+counts : (sh : Shape) (e u : ℕ) (s : CoreState) (o : Out) → ((t : ℕ) → Idle e t s) → Replied sh e u s o → Counts e u s o
+unfolding has_tid among
+counts sh e u s o idle (Ignored q n) = rw q (record {
+  sent = λ d t. refl;
+  here = λ t k. (k, still t k (cases_eq u t) (idle t k));
+  away = λ d t m k. (k, refl);
+})
+  where
+    still : (t : ℕ) → has_tid s.phase t ≡ true → (u ≡ t) ⊎ (u ≡ t → ⊥) → ((s.phase ≡ Probing t) ⊎ (s.phase ≡ Overflowing (Some t)))
+        ⊎ (s.owing e ≡ false) → (num (s.owing e) ≡ num (s.owing e) + num (u == t)) ⊎ ((u ≡ t) × (s.owing e ≡ false))
+    still t k (inr m) z = let b : (u == t) ≡ false = grind (arith, nat_tests) in inl (rw b (omega arith))
+    still t k (inl i) (inr z) = inr (i, z)
+    still t k (inl i) (inl z) = inr (i, n (subst (λ y. (s.phase ≡ Probing y) ⊎ (s.phase ≡ Overflowing (Some y))) (sym i) z))
+counts sh e u s o idle (Probed g f ph ow ca se cm) = one-less s o e u (Ready u) (Probing u) (all_replied sh (put s.owing e false)) ph ow f
+    (λ t. refl) (λ t. refl) (λ t. rw g refl) (λ d t. rw se (none-to t e d (marks_for sh s.cache u e) (none-marks sh s.cache u e t)))
+counts sh e u s o idle (Left_alone g f ph ow mo se cm) =
+    one-less s o e u (Solo u) (Overflowing (Some u)) (all_replied sh (put s.owing e false)) ph ow f (λ t. refl) (λ t. refl) (λ t. rw g refl)
+    (λ d t. rw se refl)
+
+probing-replied : (v : Pair) (o : Out) (e k u x t : ℕ) → slice_index_or v.back k None ≡ Some (ProbeReply u x) → Counts e u v.core o
+    → ProbingOf e t v → ProbingOf e t (after_move (back_taken v k) o e)
+unfolding passes
+probing-replied v o e k u x t i y h = probing-taken v o e k u x t i (y.sent) (λ z. let w = y.here t z in (w.0, here (w.0) (w.1))) h
+  where
+    some : (u ≡ t) → 1 ≤ live (Replies t) v.back
+    some q = let r : num (u == t) ≡ 1 = let b : (u == t) ≡ true = grind (arith, nat_tests) in rw b refl in
+        omega (arith, live-takes (Replies t) v.back k (ProbeReply u x) i)
+
+    here : has_tid v.core.phase t ≡ true → (num (v.core.owing e) ≡ num (o.core.owing e) + num (u == t))
+        ⊎ ((u ≡ t) × (v.core.owing e ≡ false)) → num (v.core.owing e) ≡ num (o.core.owing e) + num (u == t)
+    here z (inl q) = q
+    here z (inr q) = let n : num (v.core.owing e) ≡ 0 = ap num (q.1) in absurd (omega (arith, h.held z, some (q.0), n))
+
+-- a core that has a TID and waits for no reply is owed none
+idle_of : (sh : Shape) (s : CoreState) (e t : ℕ) → OneCore sh s → Idle e t s
+unfolding has_tid
+idle_of sh s e t h k = go s.phase refl k
+  where
+    same : (u : ℕ) → (u == t) ≡ true → u ≡ t
+    same u q = grind (arith, nat_tests)
+
+    go : (q : Phase) → s.phase ≡ q → has_tid q t ≡ true → ((s.phase ≡ Probing t) ⊎ (s.phase ≡ Overflowing (Some t))) ⊎ (s.owing e ≡ false)
+    go (Probing u) g x = inl (inl (g ∙ ap Probing (same u x)))
+    go (Overflowing (Some u)) g x = inl (inr (g ∙ ap (λ y. Overflowing (Some y)) (same u x)))
+    go (Ready u) g x = inr (h.owing e (rw g refl))
+    go (Solo u) g x = inr (h.owing e (rw g refl))
+    go _ g x = absurd (cc)
+
+-- a directory answers
+probing-answered : (v : Pair) (s : DirState) (ms : List Msg) (d t : ℕ) → among (Replies t) ms ≡ 0 → ProbingOf d t v
+    → ProbingOf d t (after_answer v s ms)
+probing-answered v s ms d t n h = record {
+  fresh = λ l. omega (arith, h.fresh l, live-sends (Replies t) v.back ms);
+  held = λ k. omega (arith, h.held k, live-sends (Replies t) v.back ms);
+}
+
+probing-exchanged : (v : Pair) (s : DirState) (ms : List Msg) (d t k : ℕ) (m : Msg) → slice_index_or v.out k None ≡ Some m
+    → among (Replies t) ms ≡ num (passes (Probes t) m) → ProbingOf d t v → ProbingOf d t (after_answer (out_taken v k) s ms)
+probing-exchanged v s ms d t k m i n h = record {
+  fresh = λ l. omega (arith, h.fresh l, live-sends (Replies t) v.back ms, live-takes (Probes t) v.out k m i);
+  held = λ x. omega (arith, h.held x, live-sends (Replies t) v.back ms, live-takes (Probes t) v.out k m i);
+}
+
+-- the vendor grants
+probing-given : (v : Pair) (k d t : ℕ) → ProbingOf d t v → ProbingOf d t (after_grant v k)
+unfolding passes among
+probing-given v k d t h = record {
+  fresh = λ l. h.fresh (let b : num (nat_le v.next t) ≡ num (nat_le (v.next + 1) t) + num (v.next == t) = grind (arith, nat_tests) in
+      omega (arith, live-sends (Grants t) v.grants (TidGrant v.next ∷ [])));
+  held = h.held;
+}
+
+probing-next : (v : Pair) (d t : ℕ) → ProbingOf d t v → ProbingOf d t (after_other_grant v)
+probing-next v d t h = record {
+  fresh = λ l. h.fresh (let b : num (nat_le (v.next + 1) t) ≤ num (nat_le v.next t) = grind (arith, nat_tests) in omega arith);
+  held = h.held;
+}
+
+no-reply_fill : (l : ℕ) (ws : List ℕ) (t : ℕ) → passes (Replies t) (Fill l ws) ≡ false
+unfolding passes
+no-reply_fill l ws t = refl
+
+no-reply_data : (l t : ℕ) → passes (Replies t) (DataReq l) ≡ false
+unfolding passes
+no-reply_data l t = refl
+
+no-reply_inv : (l m u t : ℕ) → passes (Replies t) (Inv l m u) ≡ false
+unfolding passes
+no-reply_inv l m u t = refl
+
+-- a message that is no reply is taken
+dropped : (v : Pair) (e k : ℕ) (m : Msg) (t : ℕ) → slice_index_or v.back k None ≡ Some m → passes (Replies t) m ≡ false → ProbingOf e t v
+    → ProbingOf e t (back_taken v k)
+dropped v e k m t i f h = let n : num (passes (Replies t) m) ≡ 0 = ap num f in record {
+  fresh = λ l. omega (arith, h.fresh l, live-takes (Replies t) v.back k m i);
+  held = λ x. omega (arith, h.held x, live-takes (Replies t) v.back k m i);
+}
+
+pub step-probing : (sh : Shape) (p : Program) (gs : List Grant) (w : World) (cs : List Noted) (e : Event) → Kept sh w
+    → KeptOwners sh gs w cs → KeptCores sh w → KeptProbing w → IfSome (step sh p w e) (λ o. KeptProbing o.world)
+unfolding pair
+step-probing sh p gs w cs e z y x h = step_cases sh p w e (λ g o. KeptProbing o.world)
+    (λ c l. moved c (core_exec sh p c (w.cores c)) (unprobed-exec sh p c (w.cores c)))
+    (λ c a b l. moved c (core_evict sh a b (w.cores c)) (unprobed-evict sh a b (w.cores c)))
+    (λ c k u i. pairs_grant P w c k (grant sh u (w.cores c))
+    (λ d t. probing-granted (pair w c d) (grant sh u (w.cores c)) d t k u i
+    (grant-alone sh gs w cs c u y (core_of_grant sh w c k (TidGrant u) z.told.tids i))
+    (granted sh u (w.cores c) (granted_waits (pair w c d) k u i (z.told.tids.requests c d))) (h c d u) (h c d t)) h)
+    (λ c d k m i. taken c d k m i)
+    (λ c d k m i. answered c d k m i (dir_deliver sh (w.dirs d) c m) (dir-replies sh (w.dirs d) c m))
+    (λ c k i. pairs_vendor P w c k (λ d t. probing-given (pair w c d) k d t (h c d t)) (λ j d n t. probing-next (pair w j d) d t (h j d t)))
+  where
+    P : ℕ → ℕ → Pair → Type 0
+    P c d v = (t : ℕ) → ProbingOf d t v
+
+    moved : (c : ℕ) (q : Option Out) → IfSome q (λ o. Unprobed (w.cores c) o) → IfSome q (λ o. KeptProbing (core_moves w c o))
+    moved c None u = tt
+    moved c (Some o) u = pairs_move P w c o (λ d t. probing-moved (pair w c d) o d t u (h c d t)) h
+
+    quiet : (c e k : ℕ) (m : Msg) (o : Out) → in_flight w.net (Dir e) (Core c) k ≡ Some m → ((t : ℕ) → passes (Replies t) m ≡ false)
+        → Unprobed (w.cores c) o → KeptProbing (core_takes w (Dir e) c k o)
+    quiet c e k m o i f u =
+        pairs_back P w e c k o (λ t. probing-moved (back_taken (pair w c e) k) o e t u (dropped (pair w c e) e k m t i (f t) (h c e t)))
+        (λ d n t. probing-moved (pair w c d) o d t u (h c d t)) h
+
+    reply : (c e k u v : ℕ) → in_flight w.net (Dir e) (Core c) k ≡ Some (ProbeReply u v)
+        → KeptProbing (core_takes w (Dir e) c k (probe_reply sh e u (w.cores c)))
+    reply c e k u v i =
+        let a = counts sh e u (w.cores c) (probe_reply sh e u (w.cores c)) (λ t. idle_of sh (w.cores c) e t (x c))
+        (reply-cases sh e u (w.cores c)) in
+        pairs_back P w e c k (probe_reply sh e u (w.cores c))
+        (λ t. probing-replied (pair w c e) (probe_reply sh e u (w.cores c)) e k u v t i a (h c e t))
+        (λ d n t. probing-away (pair w c d) (probe_reply sh e u (w.cores c)) d t (a.sent) (λ q. a.away d t n q) (h c d t)) h
+
+    taken : (c d k : ℕ) (m : Msg) → in_flight w.net (Dir d) (Core c) k ≡ Some m
+        → IfSome (from_dir sh d (w.cores c) m) (λ o. KeptProbing (core_takes w (Dir d) c k o))
+    taken c d k (ProbeReply u v) i = reply c d k u v i
+    taken c d k (Fill l ws) i =
+        quiet c d k (Fill l ws) _ i (no-reply_fill l ws)
+        (unprobed-steady (w.cores c) (fill l ws (w.cores c)) (fill-steady l ws (w.cores c)))
+    taken c d k (DataReq l) i =
+        quiet c d k (DataReq l) _ i (no-reply_data l)
+        (unprobed-steady (w.cores c) (data_request sh l (w.cores c)) (data-steady sh l (w.cores c)))
+    taken c d k (Inv l m u) i =
+        quiet c d k (Inv l m u) _ i (no-reply_inv l m u)
+        (unprobed-hurt sh l (w.cores c) (invalidate sh l m u (w.cores c)) (invalidate-cases sh l m u (w.cores c)))
+    taken c d k _ i = tt
+
+    dir : (c d k : ℕ) (m : Msg) (s : DirState) (sends : Sends) → in_flight w.net (Core c) (Dir d) k ≡ Some m → Replying m c sends
+        → KeptProbing (dir_takes w c d k s sends)
+    dir c d k m s sends i u =
+        pairs_dir P w c d k s sends (λ t. probing-exchanged (pair w c d) s (sends (Core c)) d t k m i (u.own t) (h c d t))
+        (λ j n t. probing-answered (pair w j d) s (sends (Core j)) d t (u.others j t n) (h j d t)) h
+
+    answered : (c d k : ℕ) (m : Msg) → in_flight w.net (Core c) (Dir d) k ≡ Some m → (a : Answer) → RepliesBy m c a
+        → OfAnswer w c d k (λ v. KeptProbing v) a
+    answered c d k m i Waits u = tt
+    answered c d k m i Drops u =
+        dir c d k m (w.dirs d) (λ dst. []) i (record { own = λ t. none-replied t ∙ sym (u t); others = λ j t n. none-replied t })
+    answered c d k m i (Asks s sends) u =
+        pairs_asks P w d s sends (λ j t. probing-answered (pair w j d) s (sends (Core j)) d t (u j t) (h j d t)) h
+    answered c d k m i (Takes s sends) u = dir c d k m s sends i u

@@ -1,0 +1,274 @@
+-- Each kind of event keeps the invariants.
+use Rattle.theorem_serial.proofs.Names.{after_other_grant, slice_index_or, first_serving, waits_for_tid, vendor_start, vendor_gives}
+use Rattle.theorem_serial.proofs.Names.{after_answer, first-skips, grant_taken, after_grant, core_start, core_moves, core_takes, after_move}
+use Rattle.theorem_serial.proofs.Names.{back_taken, ResolvedAt, nat_tests, dir_start, in_flight, sum_below, dir_takes, out_taken, RequestOf}
+use Rattle.theorem_serial.proofs.Names.{cases_lt, cases_eq, no_lines, TidGrant, DirState, dir_asks, AnyGrant, Resolves, InsideOf, KeptTids}
+use Rattle.theorem_serial.proofs.Names.{AsksTid, handled, nat_le, Vendor, TidReq, Grants, passes, false, arith, subst, Local, Shape, World}
+use Rattle.theorem_serial.proofs.Names.{start, Sends, grant, among, share, opens, Bool, true, List, ◌==◌, Some, None, refl, Core, Link}
+use Rattle.theorem_serial.proofs.Names.{Kind}
+use Rattle.theorem_serial.proofs.Names.{live, Pair, pair, part, ◌+◌, ◌≡◌, ◌<◌, ◌≤◌, ◌∷◌, sym, ◌⊎◌, inl, inr, num, Dir, Msg, Out, Any, [], ℕ}
+use Rattle.theorem_serial.proofs.Counts.Links.{live-sends, live-takes, total-le, total-zero}
+use Rattle.theorem_serial.proofs.Counts.StepCases.{sum_back_away, pairs_vendor, sum_dir_away, pairs_grant, pairs_move, pairs_back}
+use Rattle.theorem_serial.proofs.Counts.StepCases.{pairs_asks}
+use Rattle.theorem_serial.proofs.Counts.StepCases.{sum_vendor, pairs_dir, sum_grant, sum_move, sum_back, sum_asks, sum_dir, differ, given}
+use Rattle.theorem_serial.proofs.Counts.StepCases.{same}
+use Rattle.theorem_serial.proofs.Tids.CoreRequests.{KeepsRequests, requests-grant}
+use Rattle.theorem_serial.proofs.Tids.CoreTids.{KeepsPart, part-grant}
+
+-- a message in flight is counted
+pub live-some : (k : Kind) (l : Link) (i : ℕ) (m : Msg) → slice_index_or l i None ≡ Some m → num (passes k m) ≤ live k l
+live-some k l i m e = omega (arith, live-takes k l i m e)
+
+pub any-one : (l : Link) (i : ℕ) (m : Msg) → slice_index_or l i None ≡ Some m → 1 ≤ live Any l
+unfolding passes
+any-one l i m e = live-some Any l i m e
+
+-- a grant is one of its TID, and of no other
+pub is_mine : (u : ℕ) → num (passes (Grants u) (TidGrant u)) ≡ 1
+unfolding passes
+is_mine u = grind (arith, nat_tests)
+
+pub not_mine : (u t : ℕ) → (u ≡ t → ⊥) → num (passes (Grants t) (TidGrant u)) ≡ 0
+unfolding passes
+not_mine u t n = let b : (u == t) ≡ false = grind (arith, nat_tests) in rw b refl
+
+-- a core that a message comes from or goes to is one of the machine
+pub inside_from : (sh : Shape) (c n : ℕ) → (sh.cores ≤ c → n ≡ 0) → 1 ≤ n → c < sh.cores
+inside_from sh c n h l = elim (cases_lt c sh.cores) [ inl x ↦ x | inr x ↦ absurd (omega (arith, h x)) ]
+
+-- for a core of the machine only the owners matter
+within : (sh : Shape) (c : ℕ) (v : Pair) → c < sh.cores → ((l o : ℕ) → v.dir.lines.owner l ≡ Some o → o < sh.cores) → InsideOf sh c v
+within sh c v l h = record {
+  out = λ x. absurd (omega arith);
+  back = λ x. absurd (omega arith);
+  asks = λ x. absurd (omega arith);
+  grants = λ x. absurd (omega arith);
+  owners = h;
+}
+
+request-moved : (v : Pair) (o : Out) (d : ℕ) → KeepsRequests 0 v.core o → RequestOf v → RequestOf (after_move v o d)
+request-moved v o d k r = omega (arith, live-sends AsksTid v.asks (o.sends Vendor))
+
+part-moved : (sh : Shape) (d t : ℕ) (v : Pair) (o : Out) → KeepsPart sh d t 0 v.core o
+    → part sh d t (after_move v o d) + 0 ≡ part sh d t v + 0
+unfolding part
+part-moved sh d t v o k = omega (arith, live-sends (Resolves t) v.out (o.sends (Dir d)))
+
+-- a core moves
+pub move-kept : (sh : Shape) (w : World) (c : ℕ) (o : Out) → KeptTids sh w → c < sh.cores → KeepsRequests 0 (w.cores c) o
+    → ((d t : ℕ) → d < sh.dirs → KeepsPart sh d t 0 (w.cores c) o) → KeptTids sh (core_moves w c o)
+unfolding pair core_moves
+move-kept sh w c o k l r p = record {
+  inside = pairs_move (λ c d v. InsideOf sh c v) w c o (λ d. within sh c _ l ((k.inside c d).owners)) k.inside;
+  requests = pairs_move (λ c d v. RequestOf v) w c o (λ d. request-moved (pair w c d) o d r (k.requests c d)) k.requests;
+  resolved = λ d t h. let e = sum_move (part sh d t) sh.cores w c o d 0 0 l (part-moved sh d t (pair w c d) o (p d t h)) in
+      omega (arith, k.resolved d t h);
+}
+
+-- a core takes a grant
+request-granted : (v : Pair) (k u : ℕ) (o : Out) (d : ℕ) → slice_index_or v.grants k None ≡ Some (TidGrant u) → KeepsRequests 1 v.core o
+    → RequestOf v → RequestOf (after_move (grant_taken v k) o d)
+unfolding passes
+request-granted v k u o d e r q = omega (arith, live-sends AsksTid v.asks (o.sends Vendor), live-takes AnyGrant v.grants k (TidGrant u) e)
+
+part-granted : (sh : Shape) (d t k u : ℕ) (v : Pair) (o : Out) → slice_index_or v.grants k None ≡ Some (TidGrant u)
+    → KeepsPart sh d t (num (u == t)) v.core o → part sh d t (after_move (grant_taken v k) o d) + 0 ≡ part sh d t v + 0
+unfolding part passes
+part-granted sh d t k u v o e q =
+    omega (arith, live-sends (Resolves t) v.out (o.sends (Dir d)), live-takes (Grants t) v.grants k (TidGrant u) e)
+
+pub granted_waits : (v : Pair) (k u : ℕ) → slice_index_or v.grants k None ≡ Some (TidGrant u) → RequestOf v
+    → waits_for_tid v.core.phase ≡ true
+unfolding passes
+granted_waits v k u e r = go (waits_for_tid v.core.phase) refl (live-some AnyGrant v.grants k (TidGrant u) e)
+  where
+    go : (b : Bool) → waits_for_tid v.core.phase ≡ b → 1 ≤ live AnyGrant v.grants → waits_for_tid v.core.phase ≡ true
+    go a q l = grind (arith, nat_tests)
+
+pub grant-kept : (sh : Shape) (w : World) (c k u : ℕ) → KeptTids sh w → in_flight w.net Vendor (Core c) k ≡ Some (TidGrant u)
+    → KeptTids sh (core_takes w Vendor c k (grant sh u (w.cores c)))
+unfolding pair core_takes
+grant-kept sh w c k u h e =
+    let l : c < sh.cores = inside_from sh c (live Any (w.net Vendor (Core c))) ((h.inside c 0).grants)
+    (any-one (w.net Vendor (Core c)) k (TidGrant u) e) in
+    let wt : waits_for_tid (w.cores c).phase ≡ true = granted_waits (pair w c 0) k u e (h.requests c 0) in
+    let o : Out = grant sh u (w.cores c) in
+    record {
+      inside = pairs_grant (λ c d v. InsideOf sh c v) w c k o (λ d. within sh c _ l ((h.inside c d).owners)) h.inside;
+      requests = pairs_grant (λ c d v. RequestOf v) w c k o
+          (λ d. request-granted (pair w c d) k u o d e (requests-grant sh u (w.cores c) wt) (h.requests c d)) h.requests;
+      resolved = λ d t x. let e =
+          sum_grant (part sh d t) sh.cores w c k o d 0 0 l (part-granted sh d t k u (pair w c d) o e (part-grant sh u d t (w.cores c) x wt))
+          in omega (arith, h.resolved d t x);
+    }
+
+-- a core takes a message of a directory
+pub back-kept : (sh : Shape) (w : World) (e c k : ℕ) (m : Msg) (o : Out) → KeptTids sh w → in_flight w.net (Dir e) (Core c) k ≡ Some m
+    → KeepsRequests 0 (w.cores c) o → ((d t : ℕ) → d < sh.dirs → KeepsPart sh d t 0 (w.cores c) o)
+    → KeptTids sh (core_takes w (Dir e) c k o)
+unfolding pair core_takes part
+back-kept sh w e c k m o h i r p =
+    let l : c < sh.cores = inside_from sh c (live Any (w.net (Dir e) (Core c))) ((h.inside c e).back)
+    (any-one (w.net (Dir e) (Core c)) k m i) in
+    record {
+      inside = pairs_back (λ c d v. InsideOf sh c v) w e c k o (within sh c _ l ((h.inside c e).owners))
+          (λ d n. within sh c _ l ((h.inside c d).owners)) h.inside;
+      requests = pairs_back (λ c d v. RequestOf v) w e c k o (request-moved (back_taken (pair w c e) k) o e r (h.requests c e))
+          (λ d n. request-moved (pair w c d) o d r (h.requests c d)) h.requests;
+      resolved = λ d t x. resolved l d t x (cases_eq d e);
+    }
+  where
+    resolved : c < sh.cores → (d t : ℕ) → d < sh.dirs → (d ≡ e) ⊎ (d ≡ e → ⊥) → ResolvedAt sh (core_takes w (Dir e) c k o) d t
+    resolved l d t x (inr n) = let q = sum_back_away (part sh d t) sh.cores w e c k o d 0 0 n l (part-moved sh d t (pair w c d) o (p d t x))
+        in omega (arith, h.resolved d t x)
+    resolved l d t x (inl n) = subst (λ e. ResolvedAt sh (core_takes w (Dir e) c k o) d t) n (here l d t x)
+      where
+        here : c < sh.cores → (d t : ℕ) → d < sh.dirs → ResolvedAt sh (core_takes w (Dir d) c k o) d t
+        here l d t x = let q = sum_back (part sh d t) sh.cores w c k o d 0 0 l (part-moved sh d t (back_taken (pair w c d) k) o (p d t x))
+            in omega (arith, h.resolved d t x)
+
+-- a directory takes a message of a core
+part-answered : (sh : Shape) (d t k : ℕ) (m : Msg) (v : Pair) (s : DirState) (ms : List Msg) → slice_index_or v.out k None ≡ Some m
+    → part sh d t (after_answer (out_taken v k) s ms) + num (passes (Resolves t) m) ≡ part sh d t v + 0 + 0
+unfolding part
+part-answered sh d t k m v s ms e = omega (arith, live-takes (Resolves t) v.out k m e)
+
+pub once-there : (sh : Shape) (w : World) (c d k t : ℕ) (m : Msg) → c < sh.cores → in_flight w.net (Core c) (Dir d) k ≡ Some m
+    → ResolvedAt sh w d t → num (passes (Resolves t) m) + handled (w.dirs d).serving (w.dirs d).owed t ≤ 1
+unfolding part pair share
+once-there sh w c d k t m l e r =
+    omega (arith, r, total-le (share (part sh d t) w d) sh.cores c l, live-some (Resolves t) (w.net (Core c) (Dir d)) k m e)
+
+inside-answered : (sh : Shape) (j : ℕ) (v : Pair) (s : DirState) (ms : List Msg) → (sh.cores ≤ j → among Any ms ≡ 0)
+    → ((l o : ℕ) → s.lines.owner l ≡ Some o → o < sh.cores) → InsideOf sh j v → InsideOf sh j (after_answer v s ms)
+inside-answered sh j v s ms q h i = record {
+  out = i.out;
+  back = λ x. omega (arith, live-sends Any v.back ms, i.back x, q x);
+  asks = i.asks;
+  grants = i.grants;
+  owners = h;
+}
+
+part-still : (sh : Shape) (d t : ℕ) (v : Pair) (s : DirState) (ms : List Msg) → part sh d t (after_answer v s ms) ≡ part sh d t v + 0
+unfolding part
+part-still sh d t v s ms = omega arith
+
+part-same : (sh : Shape) (d t : ℕ) (v : Pair) (s : DirState) (ms : List Msg) → part sh d t (after_answer v s ms) ≡ part sh d t v
+unfolding part
+part-same sh d t v s ms = refl
+
+part-next : (sh : Shape) (d t : ℕ) (v : Pair) → part sh d t (after_other_grant v) ≡ part sh d t v
+unfolding part
+part-next sh d t v = refl
+
+part-given : (sh : Shape) (d t : ℕ) (v : Pair) (k : ℕ) → part sh d t (after_grant v k) + 0 ≡ part sh d t v + num (v.next == t)
+unfolding part passes among
+part-given sh d t v k = omega (arith, live-sends (Grants t) v.grants (TidGrant v.next ∷ []))
+
+request-given : (v : Pair) (k : ℕ) → slice_index_or v.asks k None ≡ Some TidReq → RequestOf v → RequestOf (after_grant v k)
+unfolding passes among
+request-given v k e r = omega (arith, live-sends AnyGrant v.grants (TidGrant v.next ∷ []), live-takes AsksTid v.asks k TidReq e)
+
+inside-next : (sh : Shape) (j : ℕ) (v : Pair) → InsideOf sh j v → InsideOf sh j (after_other_grant v)
+inside-next sh j v i = record { out = i.out; back = i.back; asks = i.asks; grants = i.grants; owners = i.owners }
+
+start-handled : (t : ℕ) → num (nat_le 1 t) + handled first_serving 0 t ≡ 1
+unfolding handled first_serving
+start-handled t = let f = first-skips t in grind (arith, nat_tests)
+
+part-start : (sh : Shape) (entries : ℕ → Local) (ram : ℕ → ℕ) (d t j : ℕ) → share (part sh d t) (start entries ram) d j ≡ 0
+unfolding share part pair start core_start live opens
+part-start sh entries ram d t j = refl
+
+pub no_sends : among Any [] ≡ 0
+unfolding among
+no_sends = refl
+
+pub dir-kept : (sh : Shape) (w : World) (c e k : ℕ) (m : Msg) (s : DirState) (sends : Sends) → KeptTids sh w
+    → in_flight w.net (Core c) (Dir e) k ≡ Some m
+    → ((j : ℕ) → sh.cores ≤ j → among Any (sends (Core j)) ≡ 0) → ((l o : ℕ) → s.lines.owner l ≡ Some o → o < sh.cores)
+    → ((t : ℕ) → e < sh.dirs → handled s.serving s.owed t ≡ handled (w.dirs e).serving (w.dirs e).owed t + num (passes (Resolves t) m))
+    → KeptTids sh (dir_takes w c e k s sends)
+unfolding pair dir_takes
+dir-kept sh w c e k m s sends h i q ow hd =
+    let l : c < sh.cores = inside_from sh c (live Any (w.net (Core c) (Dir e))) ((h.inside c e).out)
+    (any-one (w.net (Core c) (Dir e)) k m i) in
+    record {
+      inside = pairs_dir (λ c d v. InsideOf sh c v) w c e k s sends (within sh c _ l ow)
+          (λ j n. inside-answered sh j (pair w j e) s (sends (Core j)) (q j) ow (h.inside j e)) h.inside;
+      requests = pairs_dir (λ c d v. RequestOf v) w c e k s sends (h.requests c e) (λ j n. h.requests j e) h.requests;
+      resolved = λ d t x. resolved l d t x (cases_eq d e);
+    }
+  where
+    here : c < sh.cores → (d t : ℕ) → d < sh.dirs → in_flight w.net (Core c) (Dir d) k ≡ Some m
+        → handled s.serving s.owed t ≡ handled (w.dirs d).serving (w.dirs d).owed t + num (passes (Resolves t) m)
+        → ResolvedAt sh (dir_takes w c d k s sends) d t
+    here l d t x i hd =
+        let z : sum_below (λ j. 0) sh.cores ≡ 0 = total-zero (λ j. 0) sh.cores (λ j y. refl) in
+        let p = sum_dir (part sh d t) (λ j. 0) sh.cores w c k s sends d (num (passes (Resolves t) m)) 0 l
+        (part-answered sh d t k m (pair w c d) s (sends (Core c)) i) (λ j n. part-still sh d t (pair w j d) s (sends (Core j))) in
+        rw (same d) (omega (arith, h.resolved d t x))
+
+    resolved : c < sh.cores → (d t : ℕ) → d < sh.dirs → (d ≡ e) ⊎ (d ≡ e → ⊥) → ResolvedAt sh (dir_takes w c e k s sends) d t
+    resolved l d t x (inr n) = let p = sum_dir_away (part sh d t) sh.cores w c e k s sends d n in
+        rw (differ d e n) (omega (arith, h.resolved d t x))
+    resolved l d t x (inl n) = subst (λ y. ResolvedAt sh (dir_takes w c y k s sends) d t) n
+        (here l d t x (rw (sym n) at i)
+        (subst (λ y. handled s.serving s.owed t ≡ handled (w.dirs y).serving (w.dirs y).owed t + num (passes (Resolves t) m)) (sym n)
+        (hd t (rw n at x))))
+
+-- a directory asks an owner
+pub asks-kept : (sh : Shape) (w : World) (e : ℕ) (s : DirState) (sends : Sends) → KeptTids sh w
+    → ((j : ℕ) → sh.cores ≤ j → among Any (sends (Core j)) ≡ 0) → ((l o : ℕ) → s.lines.owner l ≡ Some o → o < sh.cores)
+    → ((t : ℕ) → e < sh.dirs → handled s.serving s.owed t ≡ handled (w.dirs e).serving (w.dirs e).owed t)
+    → KeptTids sh (dir_asks w e s sends)
+unfolding pair dir_asks
+asks-kept sh w e s sends h q ow hd = record {
+  inside = pairs_asks (λ c d v. InsideOf sh c v) w e s sends
+      (λ j. inside-answered sh j (pair w j e) s (sends (Core j)) (q j) ow (h.inside j e)) h.inside;
+  requests = pairs_asks (λ c d v. RequestOf v) w e s sends (λ j. h.requests j e) h.requests;
+  resolved = λ d t x. resolved d t x (cases_eq d e);
+}
+  where
+    resolved : (d t : ℕ) → d < sh.dirs → (d ≡ e) ⊎ (d ≡ e → ⊥) → ResolvedAt sh (dir_asks w e s sends) d t
+    resolved d t x (inr n) = let p = sum_asks (part sh d t) (λ j. 0) sh.cores w e s sends d
+        (λ j. part-same sh d t (pair w j d) s (sends (Core j))) in rw (differ d e n) (omega (arith, h.resolved d t x))
+    resolved d t x (inl n) =
+        let p = sum_asks (part sh d t) (λ j. 0) sh.cores w e s sends d (λ j. part-same sh d t (pair w j d) s (sends (Core j))) in
+        let y : handled s.serving s.owed t ≡ handled (w.dirs d).serving (w.dirs d).owed t =
+        subst (λ y. handled s.serving s.owed t ≡ handled (w.dirs y).serving (w.dirs y).owed t) (sym n) (hd t (rw n at x)) in
+        let b : (d == e) ≡ true = rw n (same e) in
+        rw b (omega (arith, h.resolved d t x))
+
+-- the vendor grants a TID
+pub vendor-kept : (sh : Shape) (w : World) (c k : ℕ) → KeptTids sh w → in_flight w.net (Core c) Vendor k ≡ Some TidReq
+    → KeptTids sh (vendor_gives w c k (given w c))
+unfolding pair vendor_gives
+vendor-kept sh w c k h i =
+    let l : c < sh.cores = inside_from sh c (live Any (w.net (Core c) Vendor)) ((h.inside c 0).asks)
+    (any-one (w.net (Core c) Vendor) k TidReq i) in
+    record {
+      inside = pairs_vendor (λ c d v. InsideOf sh c v) w c k (λ d. within sh c _ l ((h.inside c d).owners))
+          (λ j d n. inside-next sh j (pair w j d) (h.inside j d));
+      requests = pairs_vendor (λ c d v. RequestOf v) w c k (λ d. request-given (pair w c d) k i (h.requests c d)) (λ j d n. h.requests j d);
+      resolved = λ d t x.
+          let p = sum_vendor (part sh d t) sh.cores w c k d 0 (num (w.next == t)) l (part-given sh d t (pair w c d) k)
+          (λ j n. part-next sh d t (pair w j d)) in
+          let b : num (nat_le w.next t) ≡ num (nat_le (w.next + 1) t) + num (w.next == t) = grind (arith, nat_tests) in
+          omega (arith, h.resolved d t x);
+    }
+
+pub start-kept : (sh : Shape) (entries : ℕ → Local) (ram : ℕ → ℕ) → KeptTids sh (start entries ram)
+unfolding start core_start dir_start vendor_start pair live waits_for_tid no_lines
+start-kept sh entries ram = record {
+  inside = λ c d. record { out = λ x. refl; back = λ x. refl; asks = λ x. refl; grants = λ x. refl; owners = λ l o e. absurd (cc) };
+  requests = λ c d. refl;
+  resolved = λ d t x. resolved d t;
+}
+  where
+    resolved : (d t : ℕ) → ResolvedAt sh (start entries ram) d t
+    resolved d t = omega (
+      arith,
+      total-zero (share (part sh d t) (start entries ram) d) sh.cores (λ j l. part-start sh entries ram d t j),
+      start-handled t,
+    )

@@ -1,0 +1,237 @@
+-- Every event keeps that each TID is where its way puts it.
+use Rattle.theorem_serial.proofs.Names.{ℕ, ◌+◌, ◌≡◌, ◌<◌, true, List, [], ◌==◌, Option, Some, None, IfSome, nat_le, slice_index_or, arith}
+use Rattle.theorem_serial.proofs.Names.{refl}
+use Rattle.theorem_serial.proofs.Names.{sym, subst, ◌⊎◌, inl, inr, cases_eq, nat_tests, Program, Local, num, Core, Dir, Vendor, Msg, TidReq}
+use Rattle.theorem_serial.proofs.Names.{TidGrant, Event, Shape, DirState, World, start, core_start, vendor_start, in_flight, Sends, nothing}
+use Rattle.theorem_serial.proofs.Names.{Out, core_exec, core_evict, from_dir, grant, Answer, Waits, Drops, Asks, Takes, dir_deliver}
+use Rattle.theorem_serial.proofs.Names.{sum_below}
+use Rattle.theorem_serial.proofs.Names.{core_moves, core_takes, dir_takes, dir_asks, vendor_gives, step, Skips, Aborts, Commits, live}
+use Rattle.theorem_serial.proofs.Names.{among}
+use Rattle.theorem_serial.proofs.Names.{passes, Pair, pair, after_move, grant_taken, back_taken, after_answer, out_taken, after_grant}
+use Rattle.theorem_serial.proofs.Names.{after_other_grant, share, opens, ResolvedAt, Kept, KeptTold, Way, Untold, Skipped, Aborted}
+use Rattle.theorem_serial.proofs.Names.{Committed}
+use Rattle.theorem_serial.proofs.Names.{Ways, told_by, ways_after, sent_by, first_ways, part_in, kept_in, WayAt, KeptWays}
+use Rattle.theorem_serial.proofs.Counts.Links.{live-sends, live-takes, total-zero}
+use Rattle.theorem_serial.proofs.Counts.StepCases.{same, differ, given, sum_move, sum_grant, sum_back, sum_back_away, sum_dir, sum_dir_away}
+use Rattle.theorem_serial.proofs.Counts.StepCases.{sum_asks, sum_vendor, OfAnswer, sent_cases}
+use Rattle.theorem_serial.proofs.Serving.KeptSteps.{core_of_grant, core_of_back, core_of_out, core_of_ask, once_at}
+use Rattle.theorem_serial.proofs.Tids.CoreTids.{KeepsPart, part-exec, part-evict, part-grant, part-back}
+use Rattle.theorem_serial.proofs.Tids.TidSteps.{granted_waits}
+use Rattle.theorem_serial.proofs.Ways.DirWays.{Heard, HeardBy, heard-still, dir-heard}
+use Rattle.theorem_serial.proofs.Ways.WayParts.{parts_in, resolved-split, gained, lost, told-moved, told-nothing}
+
+-- a core's step
+part-moved : (sh : Shape) (d t : ℕ) (v : Pair) (o : Out) → KeepsPart sh d t 0 v.core o → (z : Way)
+    → part_in z sh d t (after_move v o d) + lost (o.sends (Dir d)) t z ≡ part_in z sh d t v + gained (o.sends (Dir d)) t z
+unfolding part_in
+part-moved sh d t v o k a = grind (arith, nat_tests, live-sends)
+
+part-granted : (sh : Shape) (d t k u : ℕ) (v : Pair) (o : Out) → slice_index_or v.grants k None ≡ Some (TidGrant u)
+    → KeepsPart sh d t (num (u == t)) v.core o → (z : Way)
+    → part_in z sh d t (after_move (grant_taken v k) o d) + lost (o.sends (Dir d)) t z ≡ part_in z sh d t v + gained (o.sends (Dir d)) t z
+unfolding part_in passes
+part-granted sh d t k u v o e q a = grind (arith, nat_tests, live-takes, v.grants, live-sends)
+
+way-moved : (sh : Shape) (w : World) (c d t : ℕ) (o : Out) (y : Way) → c < sh.cores → KeepsPart sh d t 0 (w.cores c) o → ResolvedAt sh w d t
+    → WayAt sh w d t y → WayAt sh (core_moves w c o) d t (told_by (o.sends (Dir d)) t y)
+unfolding core_moves pair
+way-moved sh w c d t o y l k r h = told-moved sh w (core_moves w c o) d t (o.sends (Dir d)) y refl refl
+    (λ z. sum_move (part_in z sh d t) sh.cores w c o d (lost (o.sends (Dir d)) t z) (gained (o.sends (Dir d)) t z) l
+    (part-moved sh d t (pair w c d) o k z)) r h
+
+way-granted : (sh : Shape) (w : World) (c k u d t : ℕ) (o : Out) (y : Way) → c < sh.cores
+    → in_flight w.net Vendor (Core c) k ≡ Some (TidGrant u) → KeepsPart sh d t (num (u == t)) (w.cores c) o → ResolvedAt sh w d t
+    → WayAt sh w d t y → WayAt sh (core_takes w Vendor c k o) d t (told_by (o.sends (Dir d)) t y)
+unfolding core_takes pair
+way-granted sh w c k u d t o y l i q r h = told-moved sh w (core_takes w Vendor c k o) d t (o.sends (Dir d)) y refl refl
+    (λ z. sum_grant (part_in z sh d t) sh.cores w c k o d (lost (o.sends (Dir d)) t z) (gained (o.sends (Dir d)) t z) l
+    (part-granted sh d t k u (pair w c d) o i q z)) r h
+
+part-taken : (sh : Shape) (d t k : ℕ) (v : Pair) (z : Way) → part_in z sh d t (back_taken v k) ≡ part_in z sh d t v
+unfolding part_in
+part-taken sh d t k v a = grind (arith, nat_tests)
+
+way-back : (sh : Shape) (w : World) (e c k d t : ℕ) (o : Out) (y : Way) → c < sh.cores → KeepsPart sh d t 0 (w.cores c) o
+    → ResolvedAt sh w d t → WayAt sh w d t y → WayAt sh (core_takes w (Dir e) c k o) d t (told_by (o.sends (Dir d)) t y)
+unfolding core_takes pair
+way-back sh w e c k d t o y l q r h = told-moved sh w (core_takes w (Dir e) c k o) d t (o.sends (Dir d)) y refl refl
+    (λ z. sum z (cases_eq d e)) r h
+  where
+    sum : (z : Way) → (d ≡ e) ⊎ (d ≡ e → ⊥) → parts_in z sh (core_takes w (Dir e) c k o) d t + lost (o.sends (Dir d)) t z
+        ≡ parts_in z sh w d t + gained (o.sends (Dir d)) t z
+    sum z (inr n) = sum_back_away (part_in z sh d t) sh.cores w e c k o d (lost (o.sends (Dir d)) t z) (gained (o.sends (Dir d)) t z) n l
+        (part-moved sh d t (pair w c d) o q z)
+    sum z (inl n) =
+        subst (λ e. parts_in z sh (core_takes w (Dir e) c k o) d t + lost (o.sends (Dir d)) t z ≡ parts_in z sh w d t + gained
+        (o.sends (Dir d)) t z) n
+        (sum_back (part_in z sh d t) sh.cores w c k o d (lost (o.sends (Dir d)) t z) (gained (o.sends (Dir d)) t z) l
+        (rw (part-taken sh d t k (pair w c d) z) at (part-moved sh d t (back_taken (pair w c d) k) o q z)))
+
+-- a directory's answer
+
+-- what it took from the link
+abbrev took : Msg → (tid : ℕ) → Way → ℕ
+took m t Untold = 0
+took m t Skipped = num (passes (Skips t) m)
+took m t Aborted = num (passes (Aborts t) m)
+took m t Committed = num (passes (Commits t) m)
+
+part-answered : (sh : Shape) (d t k : ℕ) (m : Msg) (v : Pair) (s : DirState) (ms : List Msg) → slice_index_or v.out k None ≡ Some m
+    → (z : Way) → part_in z sh d t (after_answer (out_taken v k) s ms) + took m t z ≡ part_in z sh d t v + 0 + 0
+unfolding part_in
+part-answered sh d t k m v s ms e a = grind (arith, nat_tests, live-takes)
+
+part-still : (sh : Shape) (d t : ℕ) (v : Pair) (s : DirState) (ms : List Msg) (z : Way)
+    → part_in z sh d t (after_answer v s ms) ≡ part_in z sh d t v
+unfolding part_in
+part-still sh d t v s ms a = grind (arith, nat_tests)
+
+-- what was on its way is kept now
+way-heard : (sh : Shape) (w v : World) (d t : ℕ) (m : Msg) (y : Way) → v.next ≡ w.next
+    → ((z : Way) → parts_in z sh v d t + took m t z ≡ parts_in z sh w d t) → Heard (w.dirs d) m t (v.dirs d) → ResolvedAt sh w d t
+    → ResolvedAt sh v d t → WayAt sh w d t y → WayAt sh v d t y
+unfolding kept_in
+way-heard sh w v d t m y n q u r z h = go y h
+  where
+    e : num (nat_le v.next t) ≡ num (nat_le w.next t)
+    e = rw n refl
+
+    go : (y : Way) → WayAt sh w d t y → WayAt sh v d t y
+    go Untold h = omega (arith, h, q Untold, e)
+    go Skipped h =
+        omega (arith, h, q Untold, q Skipped, q Aborted, q Committed, u.owed, resolved-split sh w d t r, resolved-split sh v d t z, e)
+    go Aborted h =
+        omega (arith, h, q Untold, q Skipped, q Aborted, q Committed, u.owed, resolved-split sh w d t r, resolved-split sh v d t z, e)
+    go Committed h =
+        omega (arith, h, q Untold, q Skipped, q Aborted, q Committed, u.keeps, resolved-split sh w d t r, resolved-split sh v d t z, e)
+
+way-dir : (sh : Shape) (w : World) (c e k : ℕ) (m : Msg) (s : DirState) (sends : Sends) (d t : ℕ) (y : Way) → c < sh.cores
+    → in_flight w.net (Core c) (Dir e) k ≡ Some m → Heard (w.dirs e) m t s → ResolvedAt sh w d t
+    → ResolvedAt sh (dir_takes w c e k s sends) d t → WayAt sh w d t y → WayAt sh (dir_takes w c e k s sends) d t y
+unfolding pair dir_takes
+way-dir sh w c e k m s sends d t y l i u r z h = go (cases_eq d e)
+  where
+    here : in_flight w.net (Core c) (Dir d) k ≡ Some m → Heard (w.dirs d) m t s → ResolvedAt sh (dir_takes w c d k s sends) d t
+        → WayAt sh (dir_takes w c d k s sends) d t y
+    here i u z = way-heard sh w (dir_takes w c d k s sends) d t m y refl sum (rw (same d) u) r z h
+      where
+        none : sum_below (λ j. 0) sh.cores ≡ 0
+        none = total-zero (λ j. 0) sh.cores (λ j y. refl)
+
+        sum : (x : Way) → parts_in x sh (dir_takes w c d k s sends) d t + took m t x ≡ parts_in x sh w d t
+        sum x =
+            omega (
+              arith,
+              none,
+              sum_dir (part_in x sh d t) (λ j. 0) sh.cores w c k s sends d (took m t x) 0 l
+                  (part-answered sh d t k m (pair w c d) s (sends (Core c)) i x)
+                  (λ j n. omega (arith, part-still sh d t (pair w j d) s (sends (Core j)) x)),
+            )
+
+    away : (d ≡ e → ⊥) → (x : Way) → WayAt sh w d t x → WayAt sh (dir_takes w c e k s sends) d t x
+    away n x q = let p = sum_dir_away (part_in x sh d t) sh.cores w c e k s sends d n in rw (differ d e n) (omega (arith, q))
+
+    go : (d ≡ e) ⊎ (d ≡ e → ⊥) → WayAt sh (dir_takes w c e k s sends) d t y
+    go (inr n) = away n y h
+    go (inl n) =
+        subst (λ x. WayAt sh (dir_takes w c x k s sends) d t y) n
+        (here (rw (sym n) at i) (rw (sym n) at u) (subst (λ x. ResolvedAt sh (dir_takes w c x k s sends) d t) (sym n) z))
+
+kept-same : (n : ℕ) (s new : DirState) (t : ℕ) (y : Way) → new.serving ≡ s.serving → new.owed ≡ s.owed → kept_in y n new t ≡ kept_in y n s t
+unfolding kept_in
+kept-same n s new t a e f = grind (arith, nat_tests)
+
+way-asks : (sh : Shape) (w : World) (e : ℕ) (s : DirState) (sends : Sends) (d t : ℕ) (y : Way) → s.serving ≡ (w.dirs e).serving
+    → s.owed ≡ (w.dirs e).owed → WayAt sh w d t y → WayAt sh (dir_asks w e s sends) d t y
+unfolding pair dir_asks
+way-asks sh w e s sends d t y f g h = go (cases_eq d e)
+  where
+    sum : parts_in y sh (dir_asks w e s sends) d t ≡ parts_in y sh w d t
+    sum = sum_asks (part_in y sh d t) (λ j. 0) sh.cores w e s sends d (λ j. part-still sh d t (pair w j d) s (sends (Core j)) y)
+
+    go : (d ≡ e) ⊎ (d ≡ e → ⊥) → WayAt sh (dir_asks w e s sends) d t y
+    go (inr n) = rw (differ d e n) (omega (arith, sum, h))
+    go (inl n) =
+        let b : (d == e) ≡ true = rw n (same e) in
+        let q : kept_in y w.next s t ≡ kept_in y w.next (w.dirs d) t = kept-same w.next (w.dirs d) s t y (rw n f) (rw n g) in
+        rw b (omega (arith, sum, h, q))
+
+-- the vendor grants a TID
+part-next : (sh : Shape) (d t : ℕ) (v : Pair) (z : Way) → part_in z sh d t (after_other_grant v) ≡ part_in z sh d t v
+unfolding part_in
+part-next sh d t v a = grind (arith, nat_tests)
+
+-- what is on its way now, and was not granted before
+abbrev given_to : (next tid : ℕ) → Way → ℕ
+given_to n t Untold = num (n == t)
+given_to n t _ = 0
+
+part-given : (sh : Shape) (d t k : ℕ) (v : Pair) (z : Way)
+    → part_in z sh d t (after_grant v k) + 0 ≡ part_in z sh d t v + given_to v.next t z
+unfolding part_in passes among
+part-given sh d t k v a = grind (arith, nat_tests, live-sends, v.grants, v.next)
+
+way-vendor : (sh : Shape) (w : World) (c k d t : ℕ) (y : Way) → c < sh.cores → WayAt sh w d t y
+    → WayAt sh (vendor_gives w c k (given w c)) d t y
+unfolding pair vendor_gives kept_in
+way-vendor sh w c k d t y l h = go y h
+  where
+    sum : (z : Way) → parts_in z sh (vendor_gives w c k (given w c)) d t + 0 ≡ parts_in z sh w d t + given_to w.next t z
+    sum z = sum_vendor (part_in z sh d t) sh.cores w c k d 0 (given_to w.next t z) l (part-given sh d t k (pair w c d) z)
+        (λ j n. part-next sh d t (pair w j d) z)
+
+    go : (z : Way) → WayAt sh w d t z → WayAt sh (vendor_gives w c k (given w c)) d t z
+    go Untold q = let b : num (nat_le w.next t) ≡ num (nat_le (w.next + 1) t) + num (w.next == t) = grind (arith, nat_tests) in
+        omega (arith, q, sum Untold)
+    go m q = omega (arith, q, sum m)
+
+-- every event
+pub step-ways : (sh : Shape) (p : Program) (ys : Ways) (w : World) (e : Event) → Kept sh w → KeptWays sh ys w
+    → IfSome (step sh p w e) (λ o. KeptTold sh o.world → KeptWays sh (ways_after (sent_by sh p w e) ys) o.world)
+unfolding pair
+step-ways sh p ys w e z h = sent_cases sh p w e (λ x g o. KeptTold sh o.world → KeptWays sh (ways_after x ys) o.world)
+    (λ c l. moved c l (core_exec sh p c (w.cores c)) (λ d t x. part-exec sh p c d t (w.cores c) x))
+    (λ c a b l. moved c l (core_evict sh a b (w.cores c)) (λ d t x. part-evict sh a b d t (w.cores c)))
+    (λ c k u i n d t x y. way-granted sh w c k u d t (grant sh u (w.cores c)) (ys d t) (core_of_grant sh w c k (TidGrant u) z.told.tids i) i
+    (part-grant sh u d t (w.cores c) x (granted_waits (pair w c d) k u i (z.told.tids.requests c d))) (z.told.tids.resolved d t x)
+    (h d t x y))
+    (λ c d k m i. taken c d k (core_of_back sh w c d k m z.told.tids i) (from_dir sh d (w.cores c) m)
+    (λ b t x. part-back sh d b t (w.cores c) m x))
+    (λ c d k m i. answered c d k m i (dir_deliver sh (w.dirs d) c m) (λ t. dir-heard sh (w.dirs d) c m t (once_at sh w c d k m z.told i)))
+    (λ c k i n d t x y. rw (told-nothing t (ys d t))
+    (way-vendor sh w c k d t (ys d t) (core_of_ask sh w c k TidReq z.told.tids i) (h d t x y)))
+  where
+    moved : (c : ℕ) → c < sh.cores → (a : Option Out) → ((d t : ℕ) → d < sh.dirs → IfSome a (λ o. KeepsPart sh d t 0 (w.cores c) o))
+        → IfSome a (λ o. KeptTold sh (core_moves w c o) → KeptWays sh (ways_after o.sends ys) (core_moves w c o))
+    moved c l None q = tt
+    moved c l (Some o) q = λ n d t x y. way-moved sh w c d t o (ys d t) l (q d t x) (z.told.tids.resolved d t x) (h d t x y)
+
+    taken : (c e k : ℕ) → c < sh.cores → (a : Option Out) → ((d t : ℕ) → d < sh.dirs → IfSome a (λ o. KeepsPart sh d t 0 (w.cores c) o))
+        → IfSome a (λ o. KeptTold sh (core_takes w (Dir e) c k o) → KeptWays sh (ways_after o.sends ys) (core_takes w (Dir e) c k o))
+    taken c e k l None q = tt
+    taken c e k l (Some o) q = λ n d t x y. way-back sh w e c k d t o (ys d t) l (q d t x) (z.told.tids.resolved d t x) (h d t x y)
+
+    dir : (c d k : ℕ) (m : Msg) (s : DirState) (sends : Sends) → in_flight w.net (Core c) (Dir d) k ≡ Some m
+        → ((t : ℕ) → Heard (w.dirs d) m t s) → KeptTold sh (dir_takes w c d k s sends)
+        → KeptWays sh (ways_after nothing ys) (dir_takes w c d k s sends)
+    dir c e k m s sends i u n d t x y =
+        rw (told-nothing t (ys d t))
+        (way-dir sh w c e k m s sends d t (ys d t) (core_of_out sh w c e k m z.told.tids i) i (u t) (z.told.tids.resolved d t x)
+        (n.tids.resolved d t x) (h d t x y))
+
+    answered : (c d k : ℕ) (m : Msg) → in_flight w.net (Core c) (Dir d) k ≡ Some m → (a : Answer) → ((t : ℕ) → HeardBy (w.dirs d) m t a)
+        → OfAnswer w c d k (λ v. KeptTold sh v → KeptWays sh (ways_after nothing ys) v) a
+    answered c d k m i Waits u = tt
+    answered c d k m i Drops u = dir c d k m (w.dirs d) (λ dst. []) i (λ t. heard-still (w.dirs d) m t)
+    answered c e k m i (Asks s sends) u =
+        λ n d t x y. rw (told-nothing t (ys d t)) (way-asks sh w e s sends d t (ys d t) ((u t).0) ((u t).1) (h d t x y))
+    answered c d k m i (Takes s sends) u = dir c d k m s sends i u
+
+share-start : (sh : Shape) (entries : ℕ → Local) (ram : ℕ → ℕ) (d t j : ℕ) → share (part_in Untold sh d t) (start entries ram) d j ≡ 0
+unfolding share part_in pair start core_start live opens
+share-start sh entries ram d t j = refl
+
+pub start-ways : (sh : Shape) (entries : ℕ → Local) (ram : ℕ → ℕ) → KeptWays sh first_ways (start entries ram)
+unfolding start vendor_start kept_in
+start-ways sh entries ram d t x y = let z = total-zero (share (part_in Untold sh d t) (start entries ram) d) sh.cores
+    (λ j l. share-start sh entries ram d t j) in let b : num (nat_le 1 t) ≡ 1 = grind (arith, nat_tests) in omega (arith, z, b)

@@ -1,0 +1,25 @@
+-- That every event keeps the values of home words and of the copies on their way home.
+use Rattle.std.specs.Prelude.{ℕ, List, ◌++◌, IfSome}
+use Rattle.rules_program.specs.Plain.{Plain}
+use Rattle.rules_program.specs.Program.{Local, Program}
+use Rattle.rules_maps.specs.Nodes.{Event}
+use Rattle.rules_maps.specs.Shape.{Shape}
+use Rattle.rules_tcc.specs.Step.{History, next_history}
+use Rattle.theorem_attempt.specs.Follows.{Uses}
+use Rattle.theorem_serial.specs.Theorem.{Suits}
+use Rattle.theorem_serial.specs.Invariants.{Carried, Invariants}
+use Rattle.theorem_serial.specs.Owners.{Grant, granted_by}
+use Rattle.theorem_serial.specs.Values.{HomeWords, CopiesAbove}
+use Rattle.theorem_serial.specs.Ways.{Ways, ways_after, sent_by}
+
+-- home words and copies have their values
+abbrev pub HomesHold : Shape → (ram : ℕ → ℕ) → History → Type 0
+HomesHold sh ram g = HomeWords sh ram g.world g.commits × CopiesAbove sh ram g.world g.commits
+
+-- An event of a state that has the invariants of the list keeps home words current, and the copies of commits in flight.
+abbrev pub EventsKeepHomes : Type 0
+EventsKeepHomes =
+    (sh : Shape) (p : Program) (entries : ℕ → Local) (ram : ℕ → ℕ) (gs : List Grant) (ys : Ways) (views : ℕ → Uses) (m : Plain)
+    (h : History) (e : Event) → Suits sh p ram → Invariants sh p entries ram gs ys views m h
+    → IfSome (next_history sh p h e)
+    (λ g. Carried sh (gs ++ granted_by h.world e) (ways_after (sent_by sh p h.world e) ys) g → HomesHold sh ram g)

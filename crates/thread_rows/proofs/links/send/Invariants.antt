@@ -1,5 +1,0 @@
-use Rattle.std.proofs.Common.{◌≡◌}
-use Rattle.thread_rows.proofs.links.send.Given as goal
-
-abbrev pub invariant-loop-stamp : goal.invariant-loop-stamp
-invariant-loop-stamp g l = (l.outlet.link ≡ l.fn.outlet.link) × (l.outlet.ends ≡ l.fn.outlet.ends)

@@ -1,6 +1,0 @@
-use Rattle.std.specs.Prelude.{ℕ, ◌≡◌, ◌≤◌}
-use Rattle.thread_rows.proofs.locks.work.Given as goal
-
--- a turn counts one at most
-abbrev pub invariant-loop-k : goal.invariant-loop-k
-invariant-loop-k g l = (l.ticket.moved ≤ l.k) × (l.ticket.parts ≡ l.fn.ticket.parts)

@@ -1,8 +1,0 @@
--- A link of the machine carries the probe.
-use Rattle.std.proofs.Common.{refl, arith}
-use Rattle.tcc_live.specs.Fits.{fits}
-use Rattle.thread_rows.proofs.members.ask_turn.Goals as goal
-
-pub tell-requires : goal.tell-requires
-unfolding fits
-tell-requires c = rw (c.requires.settings, c.requires.node) (record { fits = refl; line = tt; tid = (omega arith, omega arith) })
