@@ -35,7 +35,7 @@ use Rattle.directory.specs.Data.{DirData, dir_of}
 use Rattle.directory.specs.Gives.{Gives, acts, answer_of, is_taken}
 use Rattle.directory.specs.declared.handled.Handled.{Handled}
 use Rattle.directory.specs.declared.handled.Handled.TheVariants.{Handled as Done, Waits, Asked, Dropped}
-use Rattle.apart_member.specs.Acting.{ActsAs, TakesAs, IsFrom, IsFromCore, consumes, happens_at}
+use Rattle.apart_member.specs.Acting.{ActsAs, TakesAs, IsFrom, consumes, happens_at}
 
 -- ---- a core
 
@@ -149,15 +149,6 @@ answer-some s rules.Drops = refl
 answer-some s (rules.Asks t sends) = refl
 answer-some s (rules.Takes t sends) = refl
 
-pub dir-did : (k : Contents) (s : Settings) (old new : DirState) (c : ℕ) (e : Event) (x : Option Msg) (m : Msg)
-    (sent : List (NodeId × CodeMsg)) (consumed : Bool) → k.settings ≡ s → IsFrom c e → x ≡ Some m
-    → is_some (happens_at k (AtDir old) e x) ≡ true
-    → TakesAs old (dir_deliver s old c m) new (sends_of sent) consumed → ActsAs k (AtDir old) (AtDir new) e x sent consumed
-dir-did k s old new c e x m sent consumed same is told enabled h =
-    let rule : happens_at k (AtDir old) e x ≡ answer_acted old (dir_deliver s old c m) =
-    from-core k old c e x m is told ∙ ap (λ y. answer_acted old (dir_deliver y old c m)) same in
-    rule ∙ h (sym (answer-some old (dir_deliver s old c m)) ∙ ap is_some (sym rule) ∙ enabled)
-
 -- it exists
 pub from-there : (s : Settings) (e : Event) (c : ℕ) → IsFrom c e → names_nodes s e ≡ true → c < s.cores
 unfolding names_nodes
@@ -168,28 +159,6 @@ from-there s (Deliver src dst k) c is n = within (is_node s src) (is_node s dst)
     within false b e h = absurd (cc)
 from-there s (Exec b) c is n = absurd is
 from-there s (Evict b x y) c is n = absurd is
-
--- what a directory and the vendor take is a message from a core
-pub dir-from_core : (k : Contents) (s : DirState) (e : Event) (x : Option Msg) → is_some (happens_at k (AtDir s) e x) ≡ true
-    → IsFromCore e x
-dir-from_core k s (Deliver (Core c) dst n) (Some m) h = tt
-dir-from_core k s (Deliver (Core c) dst n) None h = absurd (cc)
-dir-from_core k s (Deliver (Dir d) dst n) (Some m) h = absurd (cc)
-dir-from_core k s (Deliver (Dir d) dst n) None h = absurd (cc)
-dir-from_core k s (Deliver Vendor dst n) (Some m) h = absurd (cc)
-dir-from_core k s (Deliver Vendor dst n) None h = absurd (cc)
-dir-from_core k s (Exec b) x h = absurd (cc)
-dir-from_core k s (Evict b v w) x h = absurd (cc)
-
-pub vendor-from_core : (k : Contents) (t : ℕ) (e : Event) (x : Option Msg) → is_some (happens_at k (AtVendor t) e x) ≡ true → IsFromCore e x
-vendor-from_core k t (Deliver (Core c) dst n) (Some m) h = tt
-vendor-from_core k t (Deliver (Core c) dst n) None h = absurd (cc)
-vendor-from_core k t (Deliver (Dir d) dst n) (Some m) h = absurd (cc)
-vendor-from_core k t (Deliver (Dir d) dst n) None h = absurd (cc)
-vendor-from_core k t (Deliver Vendor dst n) (Some m) h = absurd (cc)
-vendor-from_core k t (Deliver Vendor dst n) None h = absurd (cc)
-vendor-from_core k t (Exec b) x h = absurd (cc)
-vendor-from_core k t (Evict b v w) x h = absurd (cc)
 
 -- ---- the vendor
 
@@ -208,17 +177,3 @@ granted : (t c : ℕ) (m : Msg) → is_some (grant_acted (vendor_deliver t c m))
     ≡ Some (record { state = AtVendor (t + 1); sends = to (Core c) (TidGrant t ∷ []); consumes = true })
 granted t c TidReq h = refl
 granted t c m h = absurd (cc)
-
-at-vendor : (k : Contents) (t c : ℕ) (e : Event) (x : Option Msg) (m : Msg) → IsFrom c e → x ≡ Some m
-    → happens_at k (AtVendor t) e x ≡ grant_acted (vendor_deliver t c m)
-at-vendor k t c (Deliver src dst n) x m is told = λ i. takes k.settings (AtVendor t) (is i) (told i)
-at-vendor k t c (Exec b) x m is told = absurd is
-at-vendor k t c (Evict b v w) x m is told = absurd is
-
-pub vendor-did : (k : Contents) (t next c : ℕ) (e : Event) (x : Option Msg) (m : Msg) (sent : List (NodeId × CodeMsg)) → IsFrom c e
-    → x ≡ Some m → is_some (happens_at k (AtVendor t) e x) ≡ true → next ≡ t + 1 → sends_of sent ≡ to (Core c) (TidGrant t ∷ [])
-    → ActsAs k (AtVendor t) (AtVendor next) e x sent true
-vendor-did k t next c e x m sent is told enabled n s =
-    let rule = at-vendor k t c e x m is told in
-    rule ∙ granted t c m (ap is_some (sym rule) ∙ enabled)
-    ∙ (λ i. Some (record { state = AtVendor ((sym n) i); sends = (sym s) i; consumes = true }))

@@ -41,9 +41,6 @@ vendor-starts k t e = ap AtVendor e
 pub core-there : (s : Settings) (c : ℕ) → c < s.cores → is_node s (Core c) ≡ true
 core-there s c l = lt-ltb c s.cores l
 
-pub dir-there : (s : Settings) (d : ℕ) → d < s.dirs → is_node s (Dir d) ≡ true
-dir-there s d l = lt-ltb d s.dirs l
-
 -- a member at its start is whole
 pub starts-whole : (k : Contents) (p : MemberKind) → IsAllowed k.settings → is_node k.settings (node_of (node_at p)) ≡ true
     → IsPlaced k.settings p → IsAtStart k p → IsMember (record { code = k; node = node_at p; done = 0; kind = p })

@@ -33,11 +33,6 @@ goes-on xs from k at left count is h f =
     let rest = sum_by-drop_more (λ x. x) xs at 0 within in
     record { before = omega (arith, b, one, h, is); below = omega (arith, l, rest, h, is) }
 
-pub falls-here : (xs : List ℕ) (from k at left count : ℕ) → count ≡ get_or xs at 0 → left < count → Falling xs from k at left
-    → FallsFrom xs from k at left
-falls-here xs from k at left count is h f =
-    record { before = f.before; within = omega (arith, h, is); exists = is-place xs from k at left f }
-
 -- what falls in a block is below all that is counted from it on
 pub in-block : (xs ys : List ℕ) (from k block into : ℕ) → AreBlocks xs ys → FallsFrom ys from k block into
     → into < sum (drop (16 * block) xs)

@@ -1,11 +1,11 @@
 -- The lists of records that are kept where a window begins, core by core, and the lines that tell them.
 use Rattle.std.proofs.Common.{◌≡◌, ℕ, zero, suc, ◌+◌, ◌<◌, Bool, true, false, List, [], ◌∷◌, ◌++◌, length, map}
-use Rattle.std.proofs.Common.{append-nil, append_assoc, nat_lt, refl, ap, sym, ◌∙◌, arith}
+use Rattle.std.proofs.Common.{append-nil, nat_lt, refl, ap, sym, ◌∙◌, arith}
 use Rattle.std.specs.Prelude.{get_or}
 use Rattle.std.specs.List.{flat_map}
 use Rattle.std.proofs.lemmas.Bool.Decides.{nat_tests}
 use Rattle.std.proofs.Math.Seq.{get_or-append_seam}
-use Rattle.std.proofs.lemmas.List.{get_or-map, get_or_append_left, length-append, length-map, map-append}
+use Rattle.std.proofs.lemmas.List.{get_or-map, get_or_append_left, length-append, length-map}
 use Rattle.std.proofs.lemmas.List.Concat.{flat_map-append}
 use Rattle.rules_maps.specs.Words.{those}
 use Rattle.rules_tcc.specs.Seen.{numbers}
@@ -19,26 +19,9 @@ pub record Begun (records : ℕ → List plain.Record) (n : ℕ) (lists : List (
   pub kept : map (map record_of) lists ≡ map records (numbers n)
   pub told : now ≡ before ++ flat_map (λ k. all_lines (records k)) (numbers n)
 
-numbers-next : (n : ℕ) → numbers (n + 1) ≡ numbers n ++ n ∷ []
-unfolding those
-numbers-next n = let e : n + 1 ≡ suc n = omega arith in ap numbers e
-
 pub begun-none : (records : ℕ → List plain.Record) (text : List ℕ) → Begun records 0 [] text text
 unfolding those
 begun-none records text = record { kept = refl; told = sym (append-nil text) }
-
-pub begun-more : (records : ℕ → List plain.Record) (n : ℕ) (lists more : List (List Record)) (fresh : List Record)
-    (before now new : List ℕ) → Begun records n lists before now → map record_of fresh ≡ records n
-    → new ≡ now ++ all_lines (map record_of fresh) → more ≡ lists ++ fresh ∷ [] → Begun records (n + 1) more before new
-begun-more records n lists more fresh before now new b f t m = record {
-  kept = ap (map (map record_of)) m ∙ map-append (map record_of) lists (fresh ∷ []) ∙ (λ i. b.kept i ++ f i ∷ [])
-      ∙ sym (map-append records (numbers n) (n ∷ [])) ∙ ap (map records) (sym (numbers-next n));
-  told = let lines : ℕ → List ℕ = λ k. all_lines (records k) in
-      t ∙ (λ i. b.told i ++ all_lines (f i)) ∙ append_assoc before (flat_map lines (numbers n)) (lines n)
-      ∙ ap (λ ys. before ++ (flat_map lines (numbers n) ++ ys)) (sym (append-nil (lines n)))
-      ∙ ap (λ ys. before ++ ys) (sym (flat_map-append lines (numbers n) (n ∷ [])))
-      ∙ ap (λ ks. before ++ flat_map lines ks) (sym (numbers-next n));
-}
 
 -- ---- all cores
 

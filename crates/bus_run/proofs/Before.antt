@@ -7,7 +7,7 @@ use Rattle.rules_bus.specs.Step.{bus_next}
 use Rattle.bus_tcc.specs.Machine.{BusMachine, bus_history_of, bus_program_of, bus_settings_of, bus_start_of}
 use Rattle.bus_changes.specs.Text.{bus_shown_from, bus_with_records, if_bus_taken}
 use Rattle.bus_run.specs.Going.{GoneOn, Moves, coming}
-use Rattle.bus_run.specs.Laws.{gone-more, gone-none}
+use Rattle.bus_run.specs.Laws.{gone-more}
 use Rattle.bus_run.specs.Shown.{lines_coming}
 use Rattle.bus_run.specs.declared.running.BusRun.{BusRun}
 use Rattle.bus_run.proofs.Going.{gone-end, gone-one}
@@ -17,13 +17,6 @@ pub record Skipping (first now : BusRun) (number : ℕ) : Type 0 where
   pub gone : GoneOn first now
   pub left : now.left ≤ first.left
   pub lines : (j : ℕ) → lines_coming (j + number) first ≡ lines_coming j now
-
-pub skipping-none : (r : BusRun) → Skipping r r 0
-skipping-none r = record {
-  gone = gone-none r;
-  left = omega arith;
-  lines = λ j. let none : j + 0 ≡ j = omega arith in ap (λ k. lines_coming k r) none;
-}
 
 -- the lines of a machine by these events
 abbrev lines_at : (from : ℕ) → BusMachine → List BusEvent → List ℕ
@@ -65,10 +58,3 @@ skipping-ends first now next number from s (same, left, none, still) fewer =
       ap (λ k. lines_coming k first) rest ∙ s.lines (suc (from - number - 1)) ∙ ap (lines_at (suc (from - number - 1)) now.system) none
           ∙ lines-none (from - number - 1) now.system,
     )
-
--- all were taken
-pub skipping-all : (first now : BusRun) (number from : ℕ) → Skipping first now number → number ≡ from
-    → GoneOn first now × (now.left ≤ first.left) × (lines_coming from first ≡ lines_coming 0 now)
-skipping-all first now number from s e =
-    let none : 0 + number ≡ from = omega (arith, e) in
-    (s.gone, s.left, ap (λ k. lines_coming k first) (sym none) ∙ s.lines 0)

@@ -88,9 +88,3 @@ gone-end old new (same, left, none, still) =
       events = omega (arith, events, long, longer);
       words = omega (arith, events, left);
     }
-
-pub led-end : (states : Bool) (old new : BusRun) → Moves old new None → Led states old new []
-led-end states old new (same, left, none, still) = record {
-  gone = gone-end old new (same, left, none, still);
-  texts_are = ap (texts states old.system) none ∙ ap (λ m. texts states m []) (sym same) ∙ ap (texts states new.system) (sym still);
-}

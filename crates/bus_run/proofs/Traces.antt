@@ -132,12 +132,6 @@ stopped-broken run_of states c seed steps from first r held k o Memory s h =
 stopped-broken run_of states c seed steps from first r held k o Output s (h, rose) =
     (inl (begun-part states c seed steps from first r (run_of h.at) held k h.texts o.before o.after s h.led h.part), rose)
 
--- nothing was written
-pub nothing-broken : (states : Bool) (c : Contents) (seed steps from : ℕ) (x : Option (List ℕ)) (f g : ℕ)
-    → IsBusTraceBroken states (started c) seed steps from
-    (record { before = x; after = x; faults_before = f; faults_after = g }) Memory
-nothing-broken states c seed steps from x f g = (0, none-appended x (bus_lines_by states (started c) seed steps from))
-
 -- ---- all events came
 
 -- all texts of the run

@@ -1,5 +1,5 @@
 -- The counts of cores, of which one is counted anew.
-use Rattle.std.proofs.Common.{◌≡◌, ◌≢◌, ℕ, ◌+◌, ◌<◌, ◌≤◌, true, false, List, length, refl, ap, sym, ◌∙◌, subst, arith, inl, inr}
+use Rattle.std.proofs.Common.{◌≡◌, ◌≢◌, ℕ, ◌<◌, ◌≤◌, true, false, List, length, refl, ap, sym, ◌∙◌, subst, arith, inl, inr}
 use Rattle.std.specs.Prelude.{get_or, slice_set}
 use Rattle.std.proofs.lemmas.Bool.{cases_eq}
 use Rattle.std.proofs.lemmas.Grind.{get_or-set_at}
@@ -55,16 +55,6 @@ pub record AreCountedTo (sh : Shape) (p : Program) (cores : ℕ → CoreState) (
 pub none-counted : (sh : Shape) (p : Program) (cores : ℕ → CoreState) (k : Counts) → HavePlaces sh k → AreCountedTo sh p cores 0 k
 none-counted sh p cores k h = record { places = h; each = λ c l. absurd (omega (arith, l)) }
 
-pub one-more_counted : (sh : Shape) (p : Program) (cores : ℕ → CoreState) (n : ℕ) (old new : Counts) → n < sh.cores
-    → IsRenewed sh p n (cores n) old new → AreCountedTo sh p cores n old → AreCountedTo sh p cores (n + 1) new
-one-more_counted sh p cores n old new l r h = record {
-  places = places-stay sh p n (cores n) old new h.places r;
-  each = λ c k. elim (cases_eq c n) [
-    | inl e ↦ subst (λ i. IsCounted sh p new i (cores i)) (sym e) (own-counted sh p n (cores n) old new h.places l r)
-    | inr m ↦ other-counted sh p n (cores n) old new c (cores c) r m (h.each c (omega (arith, k, m)))
-  ];
-}
-
 pub all-counted : (sh : Shape) (p : Program) (cores : ℕ → CoreState) (n : ℕ) (k : Counts) → sh.cores ≤ n → AreCountedTo sh p cores n k
     → AreCounted sh p cores k
 all-counted sh p cores n k l h = record { places = h.places; each = λ c i. h.each c (omega (arith, i, l)) }
@@ -79,11 +69,6 @@ one-counted sh p cores c old new l r h = record {
     | inr m ↦ other-counted sh p c (cores c) old new j (cores j) r m (h.each j i m)
   ];
 }
-
--- there is no such core
-pub all-others : (sh : Shape) (p : Program) (cores : ℕ → CoreState) (c : ℕ) (k : Counts) → sh.cores ≤ c → AreCountedBut sh p c cores k
-    → AreCounted sh p cores k
-all-others sh p cores c k l h = record { places = h.places; each = λ j i. h.each j i (λ e. omega (arith, i, l, e)) }
 
 -- one core has changed
 pub others-counted : (sh : Shape) (p : Program) (cores after : ℕ → CoreState) (c : ℕ) (k : Counts)

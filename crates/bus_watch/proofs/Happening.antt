@@ -1,21 +1,19 @@
 -- What an event did, from what was told of it and behind it.
-use Rattle.std.proofs.Common.{◌≡◌, ℕ, suc, ◌-◌, List, [], ◌∷◌, ◌++◌, length, map, Option, Some, None, refl, ap, sym, ◌∙◌, subst, arith}
-use Rattle.std.specs.Prelude.{option_map, slice_get, Err}
+use Rattle.std.proofs.Common.{◌≡◌, suc, ◌-◌, List, [], ◌∷◌, ◌++◌, length, map, Option, Some, None, refl, ap, sym, ◌∙◌, arith}
+use Rattle.std.specs.Prelude.{option_map, slice_get}
 use Rattle.tcc_base.specs.declared.access.Commit.{Commit}
 use Rattle.rules_bus.specs.Commit.{BusStepped}
 use Rattle.rules_bus.specs.State.{BusEvent}
 use Rattle.rules_bus.specs.Step.{BusHistory, and_noted, bus_next, recorded}
-use Rattle.bus_tcc.specs.Answers.{Answers, Took, bus_step_of, tid_noted, tid_told}
+use Rattle.bus_tcc.specs.Answers.{Took, bus_step_of, tid_noted, tid_told}
 use Rattle.bus_tcc.specs.Machine.{BusMachine, bus_history_of, bus_program_of, bus_settings_of, bus_world_of}
-use Rattle.bus_tcc.specs.declared.event.BusError.{BusError}
-use Rattle.bus_tcc.specs.declared.event.BusError.TheVariants.{Refused, Memory}
 use Rattle.bus_tcc.specs.declared.event.BusStep.{BusStep}
 use Rattle.watch.specs.Happened.{commit_fact, phase_fact}
 use Rattle.bus_watch.specs.Facts.{BusFact, Common}
 use Rattle.bus_watch.specs.Happened.{acted, bus_happened, core_of, facts_of, holder, holder_fact, sent}
 use Rattle.bus_watch.specs.Plain.{bus_fact_of}
 use Rattle.bus_watch.specs.Telling.{behind_told, commit_told, last_commit, sent_told}
-use Rattle.bus_watch.specs.Watched.{BusTookAndTold, BusWatched}
+use Rattle.bus_watch.specs.Watched.{BusTookAndTold}
 use Rattle.bus_watch.specs.declared.fact.BusFact.{BusFact as CodeFact}
 
 -- ---- the rules' step
@@ -109,9 +107,3 @@ told-all m n e told facts a f = record {
   events = a.events;
   code = a.code;
 }
-
--- an error of the step is handed on
-pub handed-on : (m n : BusMachine) (e : BusEvent) (facts : List CodeFact) (error : BusError) → Answers m n e (Err error)
-    → BusWatched m n e facts (Err error)
-handed-on m n e facts Refused a = a
-handed-on m n e facts Memory a = a.1

@@ -3,7 +3,6 @@ use Rattle.std.proofs.Common.{◌≡◌, ℕ, None, refl}
 use Rattle.rules_program.specs.Program.{unreserved, Program, Need, Nothing, Loads, Stores, Changes, Prints, Ends, Halts, Traps}
 use Rattle.rules_program.specs.Plain.{Ended, Halted, Trapped}
 use Rattle.rules_maps.specs.Cache.{Cache}
-use Rattle.rules_maps.specs.Spilled.{Spilled}
 use Rattle.rules_tcc.specs.State.{CoreState}
 use Rattle.rules_tcc.specs.Attempt.{one_more_instruction, finished}
 use Rattle.core_node.specs.Executing.{noted, given, concluded, GoesOn}
@@ -32,18 +31,6 @@ finished_cache p (Prints byte) x c s = refl
 finished_cache p Ends x c s = refl
 finished_cache p (Halts code) x c s = refl
 finished_cache p (Traps code) x c s = refl
-
-pub finished_spilled : (p : Program) (n : Need) (x : ℕ) (b : Spilled) (s : CoreState)
-    → record (finished p n x s) { spilled = b } ≡ finished p n x (record s { spilled = b })
-unfolding finished one_more_instruction
-finished_spilled p Nothing x b s = refl
-finished_spilled p (Loads addr size) x b s = refl
-finished_spilled p (Stores addr size value) x b s = refl
-finished_spilled p (Changes addr changed) x b s = refl
-finished_spilled p (Prints byte) x b s = refl
-finished_spilled p Ends x b s = refl
-finished_spilled p (Halts code) x b s = refl
-finished_spilled p (Traps code) x b s = refl
 
 -- and leaves the cache, what is spilled and the phase
 pub cache-finished : (p : Program) (n : Need) (x : ℕ) (s : CoreState) → (finished p n x s).cache ≡ s.cache

@@ -1,5 +1,5 @@
 -- Steps that send nothing, and one more message behind those of a step.
-use Rattle.std.proofs.Common.{◌≡◌, ◌≤◌, ℕ, ◌+◌, Bool, true, false, ◌&&◌, ◌||◌, if◌then◌else◌, nat_lt, nat_eq, Option, Some, None, map, List}
+use Rattle.std.proofs.Common.{◌≡◌, ℕ, ◌+◌, Bool, true, false, ◌&&◌, ◌||◌, if◌then◌else◌, nat_lt, nat_eq, Option, Some, None, map, List}
 use Rattle.std.proofs.Common.{[], ◌∷◌, ◌++◌, vec_capacity, refl, subst, sym, ap, ◌∙◌, arith}
 use Rattle.tcc_base.specs.declared.names.NodeId.TheVariants.{Dir as CodeDir}
 use Rattle.tcc_base.specs.declared.names.DirId.{DirId}
@@ -26,10 +26,6 @@ use Rattle.core_node.specs.Answers.{HappenedAs}
 -- nothing is sent
 pub did_silently : (s : CoreState) (n : ℕ) (out : Outgoing) (c : Core) → core_of c ≡ s → Did (moves s (λ dst. [])) n out c out
 did_silently s n out c e = record { core = e; sent = sent_as out out (λ dst. []) (λ dst. []) 0 n (sent_nothing out) refl (omega arith) }
-
--- the same step, where more messages would fit
-pub did_within : (o : Out) (m n : ℕ) (before out : Outgoing) (c : Core) → Did o m before c out → m ≤ n → Did o n before c out
-did_within o m n before out c d h = record { core = d.core; sent = sent_as before out o.sends o.sends m n d.sent refl h }
 
 pub happened_did : (o : Out) (n : ℕ) (first before out : Outgoing) (c : Core) → before.list.items ≡ first.list.items
     → Did o n before c out → HappenedAs o first c out

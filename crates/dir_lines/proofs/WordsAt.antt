@@ -5,20 +5,10 @@ use Rattle.std.proofs.Math.Nat.{mod-add-div'}
 use borrow.Author.Tests.{eqb-true, eqb-false}
 use Rattle.rules_maps.specs.Words.{eight, word_at, line_of, place_of}
 use Rattle.rules_maps.specs.Masks.{has, hit}
-use Rattle.rules_maps.specs.Shape.{lines}
-use Rattle.dir_lines.specs.Home.{Home, IsAtHome, home_lines}
+use Rattle.dir_lines.specs.Home.{Home, IsAtHome}
 use Rattle.dir_lines.specs.Pages.{is_at_home}
 use Rattle.dir_lines.specs.Words.{Words, words_at, first_place, with_words, IsWritten}
-use Rattle.dir_lines.proofs.Counting.{place-bound}
 use Rattle.dir_lines.proofs.PagesAt.{is_at_home-true, is_at_home-only}
-
--- a line's words lie in the array
-pub first-within : (p : Words) (l : ℕ) → p.place.dir < p.place.shape.dirs → length p.words ≡ 8 * home_lines p.place → IsAtHome p.place l
-    → first_place p.place l + 8 ≤ length p.words
-first-within p l here count at =
-    let b : l / p.place.shape.dirs < home_lines p.place =
-    place-bound (lines p.place.shape) p.place.shape.dirs p.place.dir l here at.0 at.1 in
-    omega arith
 
 pub words_at-own : (e : ℕ → ℕ) (p : Words) (w : ℕ) → IsAtHome p.place (line_of w)
     → words_at e p w ≡ get_or p.words (first_place p.place (line_of w) + place_of w) 0

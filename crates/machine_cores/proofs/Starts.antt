@@ -39,9 +39,6 @@ pub record AreFirst (k : Contents) (n : ℕ) (cs : List Core) : Type 0 where
   pub count : length cs ≡ n
   pub each : (j : ℕ) (x : Core) → slice_get cs j ≡ Some x → IsFirst k j x
 
-pub no-cores : (k : Contents) → AreFirst k 0 []
-no-cores k = record { count = refl; each = λ j x q. absurd (cc) }
-
 pub one-more_core : (k : Contents) (n : ℕ) (cs : List Core) (x : Core) → AreFirst k n cs → IsFirst k n x → AreFirst k (n + 1) (cs ++ x ∷ [])
 one-more_core k n cs x h f = record { count = length-append cs (x ∷ []) ∙ ap (λ m. m + 1) h.count; each = each }
   where

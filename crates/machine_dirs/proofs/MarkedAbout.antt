@@ -1,6 +1,6 @@
 -- The messages to one directory that are listed together looked at again, one after another.
-use Rattle.std.proofs.Common.{◌≡◌, ◌⊎◌, ⊎_elim, ℕ, zero, suc, ◌+◌, ◌<◌, Bool, false, ◌&&◌, List, [], ◌∷◌, length, Some}
-use Rattle.std.proofs.Common.{refl, sym, ◌∙◌, subst, arith, inl, inr}
+use Rattle.std.proofs.Common.{◌≡◌, ◌⊎◌, ℕ, zero, suc, ◌<◌, Bool, false, ◌&&◌, List, [], ◌∷◌, length, Some}
+use Rattle.std.proofs.Common.{sym, ◌∙◌, arith, inl, inr}
 use Rattle.std.specs.Prelude.{◌==◌, slice_get}
 use Rattle.std.proofs.lemmas.Bool.{cases_eq, ne_eqb}
 use Rattle.std.proofs.lemmas.Bool.Decides.{nat_tests}
@@ -31,17 +31,6 @@ pub record MarkedAbout (x : DirData) (d : ℕ) (on : Subject) (n : ℕ) (old new
       → IsRight x e c d k m new ⊎ (is_ready new (Core c) (Dir d) k ≡ is_ready old (Core c) (Dir d) k)
   pub others : (t u : Node) (k : ℕ) → node_eq u (Dir d) ≡ false → is_ready new t u k ≡ is_ready old t u k
 
-pub about-none : (x : DirData) (d : ℕ) (on : Subject) (f : Flights) → MarkedAbout x d on 0 f f
-about-none x d on f = record {
-  cores = refl;
-  dirs = refl;
-  index = refl;
-  net = refl;
-  its = λ e i c k m h. absurd (omega (arith, h));
-  here = λ e c k m fly. inr refl;
-  others = λ t u k h. refl;
-}
-
 -- one more was looked at, which is the next one listed
 pub record LookedAt (x : DirData) (d : ℕ) (on : Subject) (n : ℕ) (old new : Flights) : Type 0 where
   pub cores : new.cores ≡ old.cores
@@ -53,35 +42,6 @@ pub record LookedAt (x : DirData) (d : ℕ) (on : Subject) (n : ℕ) (old new : 
   pub here : (e : ℕ → ℕ) (c k : ℕ) (m : Msg) → in_flight (net_of old) (Core c) (Dir d) k ≡ Some m
       → IsRight x e c d k m new ⊎ (is_ready new (Core c) (Dir d) k ≡ is_ready old (Core c) (Dir d) k)
   pub others : (t u : Node) (k : ℕ) → node_eq u (Dir d) ≡ false → is_ready new t u k ≡ is_ready old t u k
-
-pub about-step : (x : DirData) (d : ℕ) (on : Subject) (n : ℕ) (old mid new : Flights) → MarkedAbout x d on n old mid
-    → LookedAt x d on n mid new → MarkedAbout x d on (n + 1) old new
-about-step x d on n old mid new w l = record {
-  cores = l.cores ∙ w.cores;
-  dirs = l.dirs ∙ w.dirs;
-  index = l.index ∙ w.index;
-  net = l.net ∙ w.net;
-  its = λ e i c k m h at fly. elim (cases_eq i n) [
-    | inl q ↦ l.its e c k m
-        (subst (λ z. slice_get (bucket z (key on)) n ≡ Some (entry on c d k)) (sym w.index)
-        (subst (λ j. slice_get (bucket old.index (key on)) j ≡ Some (entry on c d k)) q at))
-        (flies c k m fly)
-    | inr a ↦ stays e c k m fly (w.its e i c k m (omega (arith, h, a)) at fly)
-  ];
-  here = λ e c k m fly. elim (l.here e c k m (flies c k m fly)) [
-    | inl now ↦ inl now
-    | inr same ↦ ⊎_elim (λ right. inl (same ∙ right)) (λ old. inr (same ∙ old)) (w.here e c k m fly)
-  ];
-  others = λ t u k h. l.others t u k h ∙ w.others t u k h;
-}
-  where
-    flies : (c k : ℕ) (m : Msg) → in_flight (net_of old) (Core c) (Dir d) k ≡ Some m → in_flight (net_of mid) (Core c) (Dir d) k ≡ Some m
-    flies c k m fly = subst (λ z. in_flight z (Core c) (Dir d) k ≡ Some m) (sym w.net) fly
-
-    -- what is right stays right
-    stays : (e : ℕ → ℕ) (c k : ℕ) (m : Msg) → in_flight (net_of old) (Core c) (Dir d) k ≡ Some m → IsRight x e c d k m mid
-        → IsRight x e c d k m new
-    stays e c k m fly right = ⊎_elim (λ now. now) (λ same. same ∙ right) (l.here e c k m (flies c k m fly))
 
 got-within : (b : List Entry) (i : ℕ) (f : Entry) → slice_get b i ≡ Some f → i < length b
 got-within [] i f q = absurd (cc)

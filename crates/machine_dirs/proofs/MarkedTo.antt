@@ -28,9 +28,6 @@ pub record MarkedTo (x : DirData) (s d i : ℕ) (old new : Flights) : Type 0 whe
       → is_ready new (Core s) (Dir d) k ≡ is_taken (dir_deliver x.lines.place.shape (dir_of e x) s m)
   pub others : (t u : Node) (k : ℕ) → (node_eq t (Core s) && node_eq u (Dir d)) ≡ false → is_ready new t u k ≡ is_ready old t u k
 
-pub marked-none : (x : DirData) (s d : ℕ) (f : Flights) → MarkedTo x s d 0 f f
-marked-none x s d f = record { cores = refl; dirs = refl; net = refl; here = λ e j k m h. absurd (omega arith); others = λ t u k h. refl }
-
 -- no number stands there
 pub marked-skip : (x : DirData) (s d i : ℕ) (old mid : Flights) → MarkedTo x s d i old mid → slice_get (waiting_of mid s d) i ≡ None
     → MarkedTo x s d (i + 1) old mid

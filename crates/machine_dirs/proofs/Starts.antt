@@ -8,7 +8,6 @@ use Rattle.tcc_base.specs.Settings.{Settings}
 use Rattle.rules_tcc.specs.State.{dir_start}
 use Rattle.directory.specs.Data.{DirData, dir_of}
 use Rattle.machine_dirs.specs.Bank.{dir_or, dirs_of}
-use Rattle.machine_dirs.specs.BankInside.{AreDirs}
 
 -- the first n of them
 pub record Begun (s : Start) (sh : Settings) (n : ℕ) (ds : List DirData) : Type 0 where
@@ -34,9 +33,6 @@ begun-push s sh n ds y b at new = record {
       (subst (λ j. y.lines.place ≡ record { shape = sh; dir = j }) (sym b.count ∙ sym r.0) at)) (get-push ds y k x e);
   state = λ k x e. ⊎_elim (b.state k x) (λ r. subst (λ z. dir_of (first_ram s) z ≡ dir_start (first_ram s)) r.1 new) (get-push ds y k x e);
 }
-
-pub begun-dirs : (s : Start) (sh : Settings) (ds : List DirData) → Begun s sh sh.dirs ds → AreDirs sh ds
-begun-dirs s sh ds b = record { count = b.count; each = b.place }
 
 pub begun-start : (s : Start) (sh : Settings) (n : ℕ) (ds : List DirData) → Begun s sh n ds
     → dirs_of (first_ram s) (record { settings = sh; dirs = ds }) ≡ (λ d. dir_start (first_ram s))

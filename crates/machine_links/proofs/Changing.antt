@@ -1,7 +1,7 @@
 -- A link over its fields: what its readers give, and what each change of the fields does to the list of what was sent.
 use Rattle.std.proofs.Common.{◌≡◌, ℕ, suc, zero, ◌+◌, ◌-◌, ◌<◌, ◌≤◌, Bool, ⊎_elim, List, [], ◌∷◌, ◌++◌, length, get_or, set, take, map}
-use Rattle.std.proofs.Common.{Option, Some, None, IsSome, refl, ap, sym, subst, ◌∙◌, add-one, arith}
-use Rattle.std.specs.Prelude.{option_to_list, option_map, slice_get}
+use Rattle.std.proofs.Common.{Some, None, IsSome, refl, ap, sym, subst, ◌∙◌, add-one, arith}
+use Rattle.std.specs.Prelude.{option_map, slice_get}
 use Rattle.std.specs.List.{remove, count_by}
 use Rattle.std.proofs.lemmas.Bool.{cases_lt, false≢true}
 use Rattle.std.proofs.lemmas.List.{get_or_past, get_or_read, set-get_or, length-set, length-map}
@@ -141,18 +141,6 @@ backed n ws vs w l kept last e = by n refl
                 ∙ ap (take m) view;
           }),
         )
-
-pub backed-pop : (n : ℕ) (ws vs : List Waiting) (r : Option Waiting) (l : Lane) → Kept n ws l → IsSome (get_or l (length l - 1) None)
-    → ws ≡ vs ++ option_to_list r
-    → (0 < length ws → IsSome r) → (0 < n) × Kept (n - 1) vs (take (length l - 1) l)
-unfolding held_at
-backed-pop n ws vs (Some w) l kept last e some = backed n ws vs w l kept last e
-backed-pop n ws vs None l kept last e some =
-    absurd (false≢true (some (full ws (subst (λ o. IsSome o) (get-lane n ws l (length l - 1) kept) last))))
-  where
-    full : (us : List Waiting) → IsSome (held_at us (length l - 1)) → 0 < length us
-    full [] h = absurd (false≢true h)
-    full (u ∷ us) h = omega arith
 
 -- listed by place
 pub listed : (n : ℕ) (ws : List Waiting) (l : Lane) (i : ℕ) (x : Waiting) → Kept n ws l → i < length ws → x ≡ get_or ws i x

@@ -1,7 +1,6 @@
 -- A message put on its lane.
-use Rattle.std.proofs.Common.{◌≡◌, ℕ, ◌+◌, ◌*◌, ◌<◌, true, false, List, [], ◌∷◌, ◌++◌, length, get_or, Option, Some}
-use Rattle.std.proofs.Common.{None, refl, arith}
-use Rattle.std.proofs.lemmas.List.{length-set}
+use Rattle.std.proofs.Common.{◌≡◌, ℕ, ◌+◌, ◌*◌, ◌<◌, true, List, [], ◌∷◌, length, Some}
+use Rattle.std.proofs.Common.{refl, arith}
 use Rattle.tcc_base.specs.declared.names.NodeId.{NodeId}
 use Rattle.rules_maps.specs.Nodes.{Node}
 use Rattle.rules_maps.specs.Bridge.{node_of}
@@ -10,10 +9,6 @@ use Rattle.machine_links.specs.Lane.{Lane}
 use Rattle.machine_links.specs.Places.{is_link, place}
 use Rattle.machine_links.specs.Flights.{and_sent, with_sent}
 use Rattle.machine_links.proofs.Placing.{placed, place-some}
-
-length-and_sent : (o : Option ℕ) (m : Msg) (ls : List Lane) → length (and_sent o m ls) ≡ length ls
-length-and_sent None m ls = refl
-length-and_sent (Some i) m ls = length-set ls i (get_or ls i [] ++ Some (record { msg = m; ready = false }) ∷ [])
 
 -- the place of a link stands within the lanes
 pub sent-place : (cs ds : ℕ) (s d : Node) (ls : List Lane) → length ls ≡ (cs + ds + 1) * (cs + ds + 1) → is_link cs ds s d ≡ true

@@ -13,10 +13,6 @@ use Rattle.overflow_buf.specs.declared.line.SpilledLine.{SpilledLine}
 use Rattle.overflow_buf.specs.Kept.{Entries, kept_at, word_in, spilled, IsSpilled, IsLine, IsBuffer, merged}
 use Rattle.overflow_buf.proofs.Eights.{length-eight, get_or-eight}
 
-pub kept_at-empty : (l : ℕ) → kept_at [] l ≡ None
-unfolding kept_at
-kept_at-empty l = refl
-
 pub IsBuffer-empty : IsBuffer []
 unfolding IsLine kept_at
 IsBuffer-empty l = tt

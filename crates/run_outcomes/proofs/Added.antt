@@ -162,9 +162,3 @@ added-led l old new ways noted k c limit longest n after left (New number) found
 
     state-last : (ss : List Snapshot) (s' : Snapshot) → state_at (ss ++ s' ∷ []) (length ss) ≡ s'
     state-last ss s' = grind (arith, common_steps)
-
-pub first-led : (l : Contents) (states : List Snapshot) (ways : List Way) → length ways ≡ 1 → length states ≡ 1 → AreLed l states ways
-first-led l states ways w s = record {
-  counted = w ∙ sym s;
-  led = λ k positive below. absurd (omega (arith, positive, below, s));
-}

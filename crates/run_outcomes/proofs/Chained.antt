@@ -108,15 +108,6 @@ chained-more keys key old new older h is first newest =
           ];
     }
 
--- the same chains, whatever room they have
-pub chained-same : (keys : List ℕ) (old new : Chains) → AreChained keys old → new.older ≡ old.older
-    → ((q : ℕ) → get nat_eq new.newest q ≡ get nat_eq old.newest q) → AreChained keys new
-chained-same keys old new h older newest = record {
-  counted = ap length older ∙ h.counted;
-  newest = λ q. newest q ∙ h.newest q;
-  older = λ k lt. ap (λ xs. slice_index xs k) older ∙ h.older k lt;
-}
-
 -- a number that stands for itself has no older one
 pub older-none : (keys : List ℕ) (c : Chains) (k : ℕ) → AreChained keys c → k < length keys → k ≤ slice_index c.older k
     → None ≡ last_with keys (slice_index keys k) k

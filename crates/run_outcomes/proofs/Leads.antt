@@ -65,10 +65,6 @@ begun-stores : (local : Local) (ram : ℕ → ℕ) → (begun local ram).stores 
 unfolding begun
 begun-stores local ram = refl
 
-begun-ram : (local : Local) (ram : ℕ → ℕ) → (begun local ram).ram ≡ ram
-unfolding begun
-begun-ram local ram = refl
-
 pub run-keeps : (l : Contents) (local : Local) (ram : ℕ → ℕ) (n : ℕ) (end : Attempt)
     → steps l.settings.base (program (started l)) n (begun local ram) ≡ Some end
     → Keeps l.settings l.settings.base (begun local ram) end
@@ -80,10 +76,6 @@ run-keeps l local ram n end h =
 view-stores : (m : Store) (a : CodeAttempt) (o : CodeOutcome) → (plain_view (attempt_of a m o)).stores ≡ a.stores
 unfolding plain_view attempt_of
 view-stores m a o = refl
-
-view-ram : (m : Store) (a : CodeAttempt) (o : CodeOutcome) → (plain_view (attempt_of a m o)).ram ≡ sees m
-unfolding plain_view attempt_of
-view-ram m a o = refl
 
 pub stores-in-ram : (l : Contents) (local : Local) (ram : ℕ → ℕ) (n : ℕ) (m : Store) (a : CodeAttempt) (o : CodeOutcome)
     → steps l.settings.base (program (started l)) n (begun local ram) ≡ Some (plain_view (attempt_of a m o))

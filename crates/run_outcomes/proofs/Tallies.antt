@@ -68,8 +68,3 @@ first-same P Q n (Some first) to from h = (
   to first h.0 h.1,
   λ k lt q. let below : k < n = omega (arith, lt, h.0) in h.2 k lt (from k below q),
 )
-
--- an example: of the numbers 0, 1 and 2 one is 1
-pub one-is-one : HowMany (λ (k : ℕ). k ≡ 1) 3 1
-unfolding HowMany
-one-is-one = inr (λ e. omega (arith, e), inl (refl, (0, inr (λ e. omega (arith, e), refl), refl)))

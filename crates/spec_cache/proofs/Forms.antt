@@ -1,10 +1,10 @@
 -- What both forms of the frames show: their ways are in order at the start, after a change, and a search finds a line.
-use Rattle.std.proofs.Common.{ℕ, suc, zero, ◌+◌, ◌*◌, ◌/◌, ◌%◌, ◌<◌, ◌≤◌, ◌≡◌, ◌≢◌, Bool, true, false, not, cond, ◌⊎◌, inl, inr, List, []}
-use Rattle.std.proofs.Common.{◌∷◌, ◌++◌, length, get_or, set, take, drop, map, replicate, Option, Some, None, is_some, refl, sym, ◌∙◌, ap}
-use Rattle.std.proofs.Common.{subst, arith, length-drop}
-use Rattle.std.specs.Option.{option_map, MatchOption}
+use Rattle.std.proofs.Common.{ℕ, suc, zero, ◌+◌, ◌*◌, ◌/◌, ◌%◌, ◌<◌, ◌≤◌, ◌≡◌, true, false, cond, inl, inr, List}
+use Rattle.std.proofs.Common.{◌++◌, length, get_or, set, take, drop, replicate, Option, Some, None, refl, sym, ◌∙◌, ap}
+use Rattle.std.proofs.Common.{arith}
+use Rattle.std.specs.Option.{MatchOption}
 use Rattle.std.proofs.lemmas.Bool.{cases_Bool}
-use Rattle.std.proofs.lemmas.List.{length-map, length-replicate, take-append-le, take_all}
+use Rattle.std.proofs.lemmas.List.{length-replicate, take-append-le, take_all}
 use Rattle.tcc_base.specs.Settings.{Settings, IsAllowed}
 use Rattle.rules_maps.specs.Words.{line_of}
 use Rattle.rules_maps.specs.Cache.{empty_cache}
@@ -119,10 +119,3 @@ absent_all fs n l past none = frame_of-absent fs l (λ j. elim (cases_Bool (hold
   | inr f ↦ f
   | inl t ↦ (let r = holds_line-true (get_or fs j None) l t in let b : j < length fs = some_within fs j r.0 r.1 in none j (omega arith))
 ])
-
--- all ways, changed in a slice and written back
-pub changed_back : (c : Change) (now old items : List (Option FrameView)) (n : ℕ) → now ≡ all_changed c old → old ≡ items → n ≡ length items
-    → take n (now ++ drop (length now) items) ≡ all_changed c items
-changed_back c now old items n e q l =
-    let s : length now ≡ length items = rw (e, q) (length-map items (option_map (changed_frame c))) in
-    written_back now items n s l ∙ (rw (e, q) refl)

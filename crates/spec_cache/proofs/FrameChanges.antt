@@ -30,12 +30,6 @@ pub dirty_in-invalidated : (m : ℕ) (f : FrameView) (k : ℕ) →
 unfolding dirty_in invalidated_frame modified_in
 dirty_in-invalidated m f k = rw (has-minus, has-minus) (minus_some (has f.dirty.0 k) (has m k && not (has f.modified.0 k)) f.tag.0)
 
-or_some : {A : Type 0} (a b : Bool) (x : A) → cond (a || b) (Some x) None ≡ cond b (Some x) (cond a (Some x) None)
-or_some true true x = refl
-or_some true false x = refl
-or_some false true x = refl
-or_some false false x = refl
-
 flip_some : (a b c : Bool) → (a || (b && not c)) ≡ cond b (a || not c) a
 flip_some true true true = refl
 flip_some true true false = refl

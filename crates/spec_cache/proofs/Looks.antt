@@ -52,10 +52,6 @@ module _ (h : Held) (t y : ℕ) (way : y < h.config.ways) where
   unfolding maps frame_at
   at_way = rw (lt-ltb y h.config.ways way) refl
 
-  pub frame_at_way : frame_at h t y ≡ get_or h.frames (t * h.config.ways + y) None
-  unfolding frame_at
-  frame_at_way = rw (lt-ltb y h.config.ways way) refl
-
   module _ (s : IsHeld h) where
     pub way_marked-at : (o : Option FrameView) → o ≡ get_or h.frames (t * h.config.ways + y) None
         → way_marked (maps h) ((maps h).at t y) ≡ marked_in o

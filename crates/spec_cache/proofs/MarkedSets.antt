@@ -23,7 +23,6 @@ use Rattle.spec_cache.specs.Home.{Collects}
 use Rattle.spec_cache.specs.MarkedSets.{has_marked, marked_set}
 use Rattle.spec_cache.proofs.Looks.{way_marked-at}
 use Rattle.spec_cache.proofs.Marked.{Rises, rising_same}
-use Rattle.spec_cache.proofs.NotedWays.{place_in}
 
 -- ---- numbers that were sorted, and of which each was kept once
 
@@ -55,15 +54,6 @@ found-marked n fs i x e = go (marked_in (get_or fs i None)) e
     go : (b : Bool) → (if b then Some (i / n) else None) ≡ Some x → (b ≡ true) × (i / n ≡ x)
     go true q = (refl, (let z : i / n ≡ x = cc in z))
     go false q = absurd (let z : None ≡ Some x = q in cc)
-
--- where all marked frames stand at noted places, their sets are found there
-pub each_marked_set : (n : ℕ) (fs : List (Option FrameView)) (ps : List ℕ) →
-    ((i : ℕ) → marked_in (get_or fs i None) ≡ true → Contains ps i) →
-    (m : ℕ) → length ps ≤ m → (xs : List ℕ) → ((j x : ℕ) → j < m → marked_set n fs (get_or ps j 0) ≡ Some x → Contains xs x) →
-    (i x : ℕ) → marked_set n fs i ≡ Some x → Contains xs x
-each_marked_set n fs ps marked m whole xs each i x e =
-    let p = place_in ps i (marked i (found-marked n fs i x e).0) in
-    each p.0 x (let h : p.0 < length ps = p.1 in omega arith) (ap (marked_set n fs) p.2 ∙ e)
 
 -- ---- sets
 

@@ -11,7 +11,7 @@ use Rattle.spec_cache.specs.declared.frame.Change.{Change}
 use Rattle.spec_cache.specs.declared.frame.Change.TheVariants.{RollBack, ClearRead, Commit}
 use Rattle.spec_cache.specs.Frame.{marked_in, rolled_back_frame, read_cleared_frame, committed_frame, committed_modified}
 use Rattle.spec_cache.specs.Change.{changed_frame, all_changed}
-use Rattle.spec_cache.specs.Home.{reads_in, written_in, written_found}
+use Rattle.spec_cache.specs.Home.{written_in, written_found}
 use Rattle.spec_cache.proofs.MapsAll.{all_of}
 
 -- ---- the place of a noted one
@@ -32,12 +32,6 @@ marked_by true true (inr e) = e
 marked_by true false e = refl
 marked_by false b e = refl
 
-reads_marked : (dirs d : ℕ) (o : Option FrameView) → reads_in dirs d o ≡ true → marked_in o ≡ true
-unfolding reads_in marked_in
-reads_marked dirs d None e = e
-reads_marked dirs d (Some f) e =
-    marked_by (nat_eq f.read.0 0) (nat_eq f.modified.0 0) (inl (and_parts (nat_eq d (f.line.0 % dirs)) (not (nat_eq f.read.0 0)) e).1)
-
 written_marked : (dirs d x : ℕ) (o : Option FrameView) → written_in dirs d o ≡ Some x → marked_in o ≡ true
 unfolding written_in marked_in
 written_marked dirs d x None e = absurd (let z : None ≡ Some x = e in cc)
@@ -49,15 +43,6 @@ written_marked dirs d x (Some f) e = elim (cases_Bool (nat_eq d (f.line.0 % dirs
 
 module _ (dirs d : ℕ) (fs : List (Option FrameView)) (ps : List ℕ) (marked : (i : ℕ) → marked_in (get_or fs i None) ≡ true → Contains ps i)
     (n : ℕ) (whole : length ps ≤ n) where
-  pub none_read : ((j : ℕ) → j < n → reads_in dirs d (get_or fs (get_or ps j 0) None) ≡ false) → (i : ℕ)
-      → reads_in dirs d (get_or fs i None) ≡ false
-  none_read none i = elim (cases_Bool (reads_in dirs d (get_or fs i None))) [
-    | inr f ↦ f
-    | inl t ↦ (let p = place_in ps i (marked i (reads_marked dirs d (get_or fs i None) t)) in
-        let e : reads_in dirs d (get_or fs i None) ≡ false = subst (λ (x : ℕ). reads_in dirs d (get_or fs x None) ≡ false) p.2
-        (none p.0 (let h : p.0 < length ps = p.1 in omega arith)) in e)
-  ]
-
   pub each_written : (xs : List ℕ) → ((j x : ℕ) → j < n → written_found dirs d fs (get_or ps j 0) ≡ Some x → Contains xs x) → (i x : ℕ)
       → written_found dirs d fs i ≡ Some x → Contains xs x
   each_written xs each i x e =

@@ -68,10 +68,6 @@ module _ (h : Held) (s : IsHeld h) (q : Wants) where
   pub first_set : count_below in_way (0 * h.config.ways) ≡ 0
   first_set = let e : 0 * h.config.ways ≡ 0 = omega arith in ap (count_below in_way) e ∙ count_below-zero in_way
 
-  pub more_sets : (t n m : ℕ) → n ≡ count_below in_way (t * h.config.ways) → m ≡ count_set (useful_in q t) h t
-      → n + m ≡ count_below in_way ((t + 1) * h.config.ways)
-  more_sets t n m e f = let c = next_set t in omega (arith, c, e, f)
-
   pub fewer_left : (t k left m : ℕ) → count_below in_way (t * h.config.ways) + left ≡ k → m ≡ count_set (useful_in q t) h t → m ≤ left
       → count_below in_way ((t + 1) * h.config.ways) + (left - m) ≡ k
   fewer_left t k left m e f b = let c = next_set t in omega (arith, c, e, f, b)

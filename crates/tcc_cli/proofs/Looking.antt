@@ -1,14 +1,14 @@
 -- What is told of a run that is looked at, from the start that the command's files give.
-use Rattle.std.proofs.Common.{◌≡◌, ℕ, Bool, List, [], ◌∷◌, length, get_or, Option, Result, Ok, Err, IfOk, IfErr}
+use Rattle.std.proofs.Common.{◌≡◌, ℕ, Bool, List, [], ◌∷◌, length, get_or, Result, Ok, Err, IfOk, IfErr}
 use Rattle.std.proofs.Common.{inl, inr, refl, sym, ap, subst, ◌∙◌, arith}
 use Rattle.image_load.specs.Start.{Start}
 use Rattle.tcc_base.specs.Settings.{Settings}
 use Rattle.tcc_cli.specs.Around.{FilesAround, IsUntouched}
-use Rattle.tcc_cli.specs.Comes.{AreLookedAt, Comes, IsFaultyLine}
+use Rattle.tcc_cli.specs.Comes.{AreLookedAt, IsFaultyLine}
 use Rattle.tcc_cli.specs.Commands.{files_of, head_of, machine_of, start_from}
-use Rattle.tcc_cli.specs.Failing.{IsStopped, Tells}
-use Rattle.tcc_cli.specs.Lines.{IsSilent, Written}
-use Rattle.tcc_cli.specs.Looks.{IsTraceStopped, IsTraceTold, LookedAt, most_of, seed_of, view_text}
+use Rattle.tcc_cli.specs.Failing.{Tells}
+use Rattle.tcc_cli.specs.Lines.{Written}
+use Rattle.tcc_cli.specs.Looks.{IsTraceStopped, IsTraceTold}
 use Rattle.tcc_cli.specs.declared.refusal.Refusal.{Refusal}
 use Rattle.tcc_cli.specs.declared.refusal.Refusal.TheVariants as why
 use Rattle.tcc_words.specs.declared.command.Command.{Command}
@@ -19,17 +19,6 @@ use Rattle.tcc_words.specs.declared.command.Source.TheVariants.{Schedule}
 use Rattle.tcc_words.specs.declared.command.View.{View}
 use Rattle.tcc_words.specs.declared.command.View.TheVariants.{Trace}
 use Rattle.watch_run.specs.declared.telling.Shown.{Shown}
-
--- what stops before its text is made has written nothing
-pub stopped-tells : (c : Command) (files : List (List ℕ)) (f : FilesAround) (o : Written) (r : Refusal) → IsStopped c files f r → IsSilent o
-    → Tells c files f o (Err r)
-stopped-tells c files f o why.Words h silent = absurd h
-stopped-tells c files f o (why.Value field) h silent = absurd h
-stopped-tells c files f o (why.Image bad) h silent = absurd h
-stopped-tells c files f o (why.Schedule line) h silent = (h, silent)
-stopped-tells c files f o (why.Store name) h silent = (h, silent)
-stopped-tells c files f o why.Output h silent = absurd h
-stopped-tells c files f o why.Memory h silent = inl (h, silent)
 
 -- a command that looks at a run, and what its machine starts from
 pub record Looks (c : Command) (files : List (List ℕ)) (s : Start) (settings : Settings) (machine : Machine) (images : List (List ℕ))
@@ -48,15 +37,6 @@ by-command P Q c files s settings machine images source view l make p =
     let config : settings ≡ machine.config = l.config ∙ ap (λ d. (machine_of d).config) l.is in
     subst Q (sym l.is) (make (subst (λ t. P (start_from (Look machine images source view) files) t) config
     (subst (λ q. P q settings) from p)))
-
-pub looked-comes : (c : Command) (files : List (List ℕ)) (s : Start) (settings : Settings) (machine : Machine) (images : List (List ℕ))
-    (source : Source) (view : View) (tells : Bool) (told : List ℕ → Option (List ℕ)) (done : Bool) (text : List ℕ)
-    → Looks c files s settings machine images source view
-    → LookedAt s (AreLookedAt source (most_of view) s settings files) (view_text view (seed_of source) s) done text
-    → Comes c files tells told done text
-looked-comes c files s settings machine images source view tells told done text l h =
-    by-command (λ q t. LookedAt q (AreLookedAt source (most_of view) q t files) (view_text view (seed_of source) q) done text)
-    (λ d. Comes d files tells told done text) c files s settings machine images source view l (λ x. x) h
 
 -- what is shown from this event on, with records or without
 abbrev pub shown_by : (from : ℕ) → (states : Bool) → Shown

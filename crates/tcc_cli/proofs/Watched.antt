@@ -123,19 +123,6 @@ state-so s code events h done text (Ok f) runs told = record {
 }
 state-so s code events h done text (Err e) runs told = tt
 
--- what is told of these events is told of those, where these are those
-pub looked-by : {A E : Type 0} (s : Start) (These Those : List Event → Type 0) (text_of_run : Bool → List Event → History → List ℕ)
-    (done : A → Bool) (text : A → List ℕ) (x : Result A E) → ((es : List Event) → These es → Those es)
-    → IfOk x (λ f. LookedAt s These text_of_run (done f) (text f)) → IfOk x (λ f. LookedAt s Those text_of_run (done f) (text f))
-looked-by s These Those text_of_run done text (Ok f) are l = record {
-  events = l.events;
-  ends = l.ends;
-  are = are l.events l.are;
-  runs = l.runs;
-  text_is = l.text_is;
-}
-looked-by s These Those text_of_run done text (Err e) are l = tt
-
 told-by : (s : Start) (These Those : List Event → Type 0) (shown : Shown) (o : Written) (done : Bool)
     → ((es : List Event) → These es → Those es)
     → IsTraceTold s These shown o done → IsTraceTold s Those shown o done

@@ -15,7 +15,6 @@ use Rattle.rules_tcc.specs.Step.{History}
 use Rattle.theorem_phases.specs.Laws.{at_start}
 use Rattle.theorem_phases.specs.Phased.{after_event, phased_next, phased_picked, phased_useful, pick}
 use Rattle.net_core.specs.Machine.{history_of}
-use Rattle.net_core.specs.Reached.{first_history}
 use Rattle.tcc_pick.specs.Words.{words}
 use Rattle.tcc_phase.specs.Answers.{next_of}
 use Rattle.tcc_phase.specs.Phased.{PhaseMachine, useful_in}
@@ -47,18 +46,6 @@ pub record Going (c : Contents) (p : PhaseMachine) (f g : Lcg) (all i : ℕ) : T
       ≡ map event_of p.refined.taken ++ phased_picked (started c) (words (all - i) g) (history_of p.refined.machine)
   pub events : p.refined.machine.events ≡ i
   pub count : length p.refined.taken ≡ i
-
-pub going-first : (c : Contents) (p : PhaseMachine) (f g : Lcg) (all : ℕ) → p.refined.machine.cores.code ≡ c
-    → history_of p.refined.machine ≡ first_history (started c) → p.refined.taken ≡ [] → p.refined.machine.events ≡ 0 → g ≡ f
-    → Going c p f g all 0
-going-first c p f g all code first none events words-same = record {
-  code = code;
-  rest = (λ i. phased_picked (started c) (words all (sym words-same i)) (sym first i))
-      ∙ ap (λ k. phased_picked (started c) (words k g) (history_of p.refined.machine)) (omega arith)
-      ∙ ap (λ es. map event_of es ++ phased_picked (started c) (words (all - 0) g) (history_of p.refined.machine)) (sym none);
-  events = events;
-  count = ap length none;
-}
 
 -- nothing but where messages stand has changed
 pub going-same : {c : Contents} {p : PhaseMachine} {f g : Lcg} {all i : ℕ} (q : PhaseMachine) → Going c p f g all i

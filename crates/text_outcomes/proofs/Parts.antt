@@ -77,15 +77,6 @@ pub stuck-some : (s : Stuck) → 0 < length (stuck_text (Some s))
 unfolding stuck_text stuck_line
 stuck-some s = omega arith
 
--- the last lines are some where one of their two parts is
-pub tail-some-endless : (t : Table) → 0 < length (endless_text t.endless) → 0 < length (tail_text t)
-unfolding tail_text
-tail-some-endless t some = longer (endless_text t.endless) (stuck_text t.stuck) some
-
-pub tail-some-stuck : (t : Table) → 0 < length (stuck_text t.stuck) → 0 < length (tail_text t)
-unfolding tail_text
-tail-some-stuck t some = longer-end (endless_text t.endless) (stuck_text t.stuck) some
-
 pub on-err : {T E P : Type 0} (r : Result T E) → P → OnErr r P
 on-err (Ok v) p = tt
 on-err (Err e) p = p

@@ -70,10 +70,6 @@ free-hex w n =
     ∙ (λ i. free-zeros (w - length (digits 16 false n) - 0 - 0) i && free-append (digits 16 false n) [] i)
     ∙ ap (λ b. b && true) (free-digits 16 n)
 
-free-field : (name : List ℕ) (n : ℕ) → free name ≡ true → free (field name n) ≡ true
-unfolding field
-free-field name n e = simp (free-append, free-decimal, e)
-
 -- ---- parts of words
 
 free-value : (mask : ℕ) (words : List ℕ) (k : ℕ) → free (value_word mask words k) ≡ true

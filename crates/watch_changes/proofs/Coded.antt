@@ -113,14 +113,3 @@ holds-alike c x y d z w f g e = go (c == d) (x == z) (y == w) (alike (frame_numb
     go true true false a h = absurd (cc)
     go true false r a h = absurd (cc)
     go false q r a h = absurd (cc)
-
-pub holds-apart : (c x y d z w : ℕ) (f g : Frame) → (c == d && (x == z && y == w)) ≡ false
-    → false ≡ same (Holds c x y f) (Holds d z w g)
-unfolding same alike
-holds-apart c x y d z w f g e = go (c == d) (x == z) (y == w) (alike (frame_numbers f) (frame_numbers g)) e
-  where
-    go : (p q r a : Bool) → (p && (q && r)) ≡ false → false ≡ (p && (q && (r && a)))
-    go true true true a h = absurd (cc)
-    go true true false a h = refl
-    go true false r a h = refl
-    go false q r a h = refl

@@ -35,13 +35,6 @@ pub record Lie (k l : List ℕ) (rs : List Record) : Type 0 where
 pub up-to-self : (k : List ℕ) → IsUpTo k k
 up-to-self k = lower-self k
 
-pub up-to-lower : (k l m : List ℕ) → IsUpTo k l → lower l m ≡ true → lower k m ≡ true
-up-to-lower k l m u h = go (lower k l) refl
-  where
-    go : (b : Bool) → lower k l ≡ b → lower k m ≡ true
-    go true e = lower-then k l m e h
-    go false e = ap (λ j. lower j m) (lower-neither k l e u) ∙ h
-
 pub lower-up-to : (k l m : List ℕ) → lower k l ≡ true → IsUpTo l m → lower k m ≡ true
 lower-up-to k l m h u = go (lower l m) refl
   where

@@ -3,7 +3,7 @@ use Rattle.std.proofs.Common.{◌≡◌, ℕ, ◌+◌, ◌-◌, ◌<◌, ◌≤�
 use Rattle.std.proofs.Common.{Some, refl, ap, sym, ◌∙◌, append_assoc, append-nil, arith}
 use Rattle.std.specs.Prelude.{slice_get}
 use Rattle.std.specs.List.{flat_map}
-use Rattle.std.proofs.lemmas.List.{drop_all, drop_more, flat_map_more, take_all, take_more}
+use Rattle.std.proofs.lemmas.List.{drop_all, drop_more, flat_map_more, take_more}
 use Rattle.std.proofs.lemmas.Option.{get_or_from_slice_get, slice_get_within}
 use Rattle.tcc_base.specs.declared.names.NodeId.{NodeId}
 use Rattle.rules_maps.specs.Bridge.{node_of}
@@ -83,7 +83,3 @@ node-told f ns k n old now new at h e =
     let more : take (k + 1) ns ≡ take k ns ++ n ∷ [] =
     take_more ns k n (slice_get_within ns k n at) ∙ ap (λ y. take k ns ++ y ∷ []) (get_or_from_slice_get ns k n n at) in
     e ∙ ap (λ t. t ++ f n) h ∙ flat_map_more f old (take k ns) n ∙ ap (λ ys. old ++ flat_map f ys) (sym more)
-
-pub nodes-told : (f : Node → List Fact) (ns : List Node) (k : ℕ) (old now : List Fact) → length ns ≤ k
-    → now ≡ old ++ flat_map f (take k ns) → now ≡ old ++ flat_map f ns
-nodes-told f ns k old now l h = h ∙ ap (λ ys. old ++ flat_map f ys) (take_all k ns l)

@@ -130,9 +130,6 @@ lines-then rs ss old now new h e =
     e ∙ ap (λ t. t ++ record_lines ss) h ∙ append_assoc old (record_lines rs) (record_lines ss)
     ∙ ap (λ t. old ++ t) (sym (lines-append rs ss))
 
-pub line-alone : (r : Record) → record_lines (r ∷ []) ≡ record_line r
-line-alone r = lines-cons r [] ∙ ap (λ t. record_line r ++ t) lines-none ∙ append-nil (record_line r)
-
 -- sets with the same numbers below a bound
 those-alike : (p q : ℕ → Bool) (n : ℕ) → ((k : ℕ) → k < n → p k ≡ q k) → those p n ≡ those q n
 unfolding those

@@ -16,17 +16,17 @@ use Rattle.rules_apart.specs.Filled.{filled}
 use Rattle.rules_apart.specs.declared.logs.Logged.{Logged}
 use Rattle.apart_member.specs.Acting.{acted_by}
 use Rattle.apart_member.specs.Data.{MemberData, state_of}
-use Rattle.apart_node.specs.Acts.{Flushes, Loses, Performs}
+use Rattle.apart_node.specs.Acts.{Loses, Performs}
 use Rattle.apart_node.specs.Choice.{stamp_after}
 use Rattle.apart_node.specs.Deeds.{IsFor, IsPossible, IsWaiting, mail_in}
-use Rattle.apart_node.specs.Moves.{Both, Room, SameSent, Stands}
+use Rattle.apart_node.specs.Moves.{Both, Room, SameSent}
 use Rattle.apart_node.specs.Node.{CameBefore, IsNode, IsRun, NodeData, got_from, here, last_stamp, run_alone}
 use Rattle.apart_node.specs.Ports.{PortData, RoomData, handed_to, port_to, sent_at}
 use Rattle.apart_node.specs.declared.choosing.Deed.{Deed}
 use Rattle.apart_node.specs.declared.room.Waiting.{Waiting}
 use Rattle.apart_node.proofs.Keeping.Gathering.{run-same}
 use Rattle.apart_node.proofs.Keeping.Handling.{Handles, handles-for, loses-ahead, loses-fresh, loses-got}
-use Rattle.apart_node.proofs.Porting.SeveralMoves.{links-refl, links-then, room-refl, room-then}
+use Rattle.apart_node.proofs.Porting.SeveralMoves.{links-refl, room-refl}
 use Rattle.apart_node.proofs.Porting.Posted.{node_eq-refl}
 use Rattle.apart_node.proofs.Running.Local.{after, run-push}
 use Rattle.apart_node.proofs.Running.Stamps.{last-push, rises-push}
@@ -94,27 +94,6 @@ module _ (mid new : NodeData) (e : Event) (m : Option Mail) (p : Performs mid e 
     settings = p.room.settings ∙ (w.settings ∙ ap (λ c. c.settings) (sym p.code));
     own = p.room.own ∙ (w.own ∙ sym p.node);
   }
-
--- what the event sent goes onto the links
-pub performs-flush : (mid a b : NodeData) (e : Event) (m : Option Mail) → Performs mid e m a → Flushes a b → Performs mid e m b
-performs-flush mid a b e m p f = record {
-  did = p.did;
-  acts = p.acts;
-  state = ap state_of f.member ∙ p.state;
-  code = ap (λ x. x.code) f.member ∙ p.code;
-  node = ap (λ x. x.node) f.member ∙ p.node;
-  done = ap (λ x. x.done) f.member ∙ p.done;
-  entry = p.entry;
-  event = p.event;
-  stamp = p.stamp;
-  log = f.log ∙ p.log;
-  sent = λ dst. ap (λ l. handed_to b.room (last_stamp l) dst) f.log ∙ (f.sent dst ∙ p.sent dst);
-  room = room-then (Loses p.did.consumes e) (λ n. Stands) (Loses p.did.consumes e) mid.room a.room b.room (λ n. loses-stands n) p.room
-      f.room;
-}
-  where
-    loses-stands : (n : Node) (x y z : PortData) → Loses p.did.consumes e n x y → Stands y z → Loses p.did.consumes e n x z
-    loses-stands n x y z l s = record { links = links-then x y z l.links s.links; got = s.got ∙ l.got; pool = s.pool ∙ l.pool }
 
 -- ---- the parts of an event
 

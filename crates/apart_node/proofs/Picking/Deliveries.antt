@@ -1,9 +1,8 @@
 -- The messages that wait at all ports, one port after another.
-use Rattle.std.proofs.Common.{◌≡◌, ℕ, zero, suc, ◌+◌, ◌≤◌, List, [], ◌∷◌, ◌++◌, length, take, Some, length-append, refl}
+use Rattle.std.proofs.Common.{◌≡◌, ℕ, zero, suc, ◌+◌, List, [], ◌∷◌, ◌++◌, length, take, Some, length-append, refl}
 use Rattle.std.proofs.Common.{ap, ◌∙◌, arith}
 use Rattle.std.specs.Prelude.{slice_get}
 use Rattle.std.specs.List.{flat_map}
-use Rattle.std.proofs.lemmas.List.{take_all}
 use Rattle.std.proofs.lemmas.Option.{same_Some}
 use Rattle.apart_node.proofs.Running.Stored.{get-behind}
 
@@ -14,9 +13,6 @@ flat-more f [] i x h = absurd (cc)
 flat-more f (y ∷ xs) zero x h = let e : y ≡ x = same_Some y x h in rw e (omega (arith, length-append (f x) []))
 flat-more f (y ∷ xs) (suc i) x h =
     omega (arith, flat-more f xs i x h, length-append (f y) (flat_map f (take (suc i) xs)), length-append (f y) (flat_map f (take i xs)))
-
-pub flat-all : {A B : Type 0} (f : A → List B) (xs : List A) (i : ℕ) → length xs ≤ i → flat_map f (take i xs) ≡ flat_map f xs
-flat-all f xs i h = ap (flat_map f) (take_all i xs h)
 
 pub get-after : {A : Type 0} (xs ys : List A) (k r : ℕ) → k ≡ length xs + r → slice_get (xs ++ ys) k ≡ slice_get ys r
 get-after [] ys k r e = ap (slice_get ys) (omega (arith, e))

@@ -28,13 +28,6 @@ each-set P ps i p q e h r l = λ k. elim (cases_eq k i) [
   | inr n ↦ rw (get-set_other ps i k q n) (both-refl P (slice_get ps k) r)
 ]
 
--- one more element has changed
-pub each-then_set : (P : PortData → PortData → Type 0) (a b : List PortData) (i : ℕ) (p q : PortData)
-    → ((p q r : PortData) → P p q → P q r → P p r)
-    → ((r : PortData) → P r r) → AtEach P a b → slice_get b i ≡ Some p → P p q → i < length b → AtEach P a (slice_set b i q)
-each-then_set P a b i p q t r h e x l = λ k.
-    both-then P P P (slice_get a k) (slice_get b k) (slice_get (slice_set b i q) k) t (h k) (each-set P b i p q e x r l k)
-
 pub each-then : (P : PortData → PortData → Type 0) (a b c : List PortData) → ((p q r : PortData) → P p q → P q r → P p r) → AtEach P a b
     → AtEach P b c → AtEach P a c
 each-then P a b c t h g = λ k. both-then P P P (slice_get a k) (slice_get b k) (slice_get c k) t (h k) (g k)

@@ -1,15 +1,14 @@
 -- A room whose first message goes onto its link, whose links bring messages, and whose pools lose one.
-use Rattle.std.proofs.Common.{◌≡◌, ℕ, ◌<◌, ◌≤◌, ◌+◌, Bool, true, false, List, ◌∷◌, ◌++◌, length, map, drop, get_or, length-drop}
+use Rattle.std.proofs.Common.{◌≡◌, ℕ, ◌<◌, ◌+◌, Bool, true, false, List, ◌∷◌, ◌++◌, length, map, drop, get_or, length-drop}
 use Rattle.std.proofs.Common.{append_assoc, Option, Some, None, refl, ap, sym, ◌∙◌, inl, inr, arith}
 use Rattle.std.specs.Prelude.{slice_get, slice_set, option_and_then}
 use Rattle.std.proofs.lemmas.Bool.{cases_eq}
 use Rattle.std.proofs.lemmas.List.{drop_more, map-append, set-get_or}
 use Rattle.std.proofs.lemmas.List.Elements.{All-head, All-tail}
 use Rattle.std.proofs.lemmas.Option.{get_or_from_slice_get, same_Some, slice_get_within}
-use Rattle.tcc_base.specs.Settings.{IsAllowed, Settings}
 use Rattle.tcc_base.specs.declared.names.NodeId.{NodeId}
 use Rattle.rules_maps.specs.Bridge.{node_of}
-use Rattle.rules_maps.specs.Nodes.{Node, Core, Dir, Vendor, Deliver, node_eq}
+use Rattle.rules_maps.specs.Nodes.{Node, Deliver, node_eq}
 use Rattle.tcc_msg.specs.Plain.{msg_of, sends_of}
 use Rattle.tcc_msg.specs.declared.msg.Msg.{Msg}
 use Rattle.rules_tcc.specs.Local as rules
@@ -22,7 +21,7 @@ use Rattle.apart_node.specs.Acts.{Loses}
 use Rattle.apart_node.specs.Deeds.{IsLetter, IsWaiting}
 use Rattle.apart_node.specs.Linked.{IsLinkedTo}
 use Rattle.apart_node.specs.Moves.{AtEach, Both, Grows, Room, SameLinks, Stands, Takes}
-use Rattle.apart_node.specs.Peers.{peer_count, seat}
+use Rattle.apart_node.specs.Peers.{seat}
 use Rattle.apart_node.specs.Ports.{AreCarried, IsPortAt, IsRoom, PortData, RoomData, all_but, got_at, handed_to, port_to, sent_at}
 use Rattle.apart_node.specs.Ports.{taken_from}
 use Rattle.apart_node.specs.declared.port.Letter.{Letter}
@@ -104,14 +103,6 @@ module _ (r : RoomData) (ports : List PortData) (t : AtEach Takes r.ports ports)
 
 pub port-here : (r : RoomData) (k : ℕ) (p : PortData) → IsRoom r → slice_get r.ports k ≡ Some p → IsPortAt r.settings (node_of r.own) k p
 port-here r k p h e = h.ports.each k p e
-
-few-peers : (s : Settings) (n : Node) → IsAllowed s → peer_count s n ≤ 65
-few-peers s (Core c) a = omega (arith, a.1.1)
-few-peers s (Dir d) a = omega (arith, a.0.1)
-few-peers s Vendor a = omega (arith, a.0.1)
-
-pub few-ports : (r : RoomData) → IsRoom r → length r.ports ≤ 65
-few-ports r h = rw h.ports.count (few-peers r.settings (node_of r.own) h.allowed)
 
 -- ---- a message is taken out of a pool
 

@@ -34,9 +34,6 @@ numbered-one k m = refl
 pub stands-refl : (p : PortData) → Stands p p
 stands-refl p = record { links = links-refl p; got = refl; pool = refl }
 
-pub stands-then : (p q r : PortData) → Stands p q → Stands q r → Stands p r
-stands-then p q r a b = record { links = links-then p q r a.links b.links; got = b.got ∙ a.got; pool = b.pool ∙ a.pool }
-
 pub stands-grows : (p q : PortData) → Stands p q → Grows p q
 unfolding numbered
 stands-grows p q a = record {

@@ -49,10 +49,6 @@ entry-stamp : (t : ℕ) (e : Event) (m : Option Mail) → (entry_of t e m).stamp
 entry-stamp t e None = refl
 entry-stamp t e (Some m) = refl
 
-entry-msg : (t : ℕ) (e : Event) (m : Option Mail) → (entry_of t e m).msg ≡ option_map (λ x. x.msg) m
-entry-msg t e None = refl
-entry-msg t e (Some m) = refl
-
 entry-does : (sh : Shape) (p : Program) (n : Node) (t : ℕ) (e : Event) (m : Option Mail) (s : Side) (a : Acted)
     → node_eq (at_node e) n ≡ true
     → names_nodes sh e ≡ true → is_gone s.gone e ≡ false → act sh p s.state e (option_map (λ x. x.msg) m) ≡ Some a

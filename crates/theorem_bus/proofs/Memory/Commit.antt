@@ -162,11 +162,3 @@ others-keep sh n c i ram s k l q v e = go (written_words s v) refl (wrote_some s
         grind (arith, nat_tests))
     go (Some u) x false y b z e = absurd (let w = written-some sh n s v k (ap is_some x) in cc)
     go (Some u) x true y false z e = absurd (let w = any_below-at (others sh c) sh.cores i l here in cc)
-
--- and the packet isn't for the core itself
-pub own-none : (sh : Shape) (c : ℕ) (s : CoreState) (v : ℕ) → pending (packet sh c s) c v ≡ false
-own-none sh c s v = go (wrote_some sh s && any_below (others sh c) sh.cores)
-  where
-    go : (a : Bool) → pending (if a then Packet (written_words s) (others sh c) else Free) c v ≡ false
-    go false = refl
-    go true = let q : others sh c c ≡ false = grind (arith, nat_tests) in rw q refl

@@ -28,10 +28,6 @@ abbrev commit_in : Option Out → Option Noted
 commit_in None = None
 commit_in (Some o) = o.commit
 
-quiet-fetch : (sh : Shape) (l : ℕ) (s : CoreState) → commit_in (miss sh l s) ≡ None
-unfolding miss full_set request_line overflow
-quiet-fetch sh l s = grind (arith, nat_tests)
-
 quiet-load : (sh : Shape) (p : Program) (n : Need) (w : ℕ) (s : CoreState) → commit_in (load sh p n w s) ≡ None
 unfolding load miss full_set request_line overflow
 quiet-load sh p n w s = grind (arith, nat_tests)

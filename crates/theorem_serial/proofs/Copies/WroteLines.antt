@@ -22,10 +22,6 @@ use Rattle.theorem_serial.proofs.Ways.ToldSteps.{Speaks, told-committed}
 abbrev pub is_of : (core tid : ℕ) → Noted → Bool
 is_of c t n = (n.core.0 == c) && (n.tid.0 == t)
 
--- with one more commit
-or-swap : (a b c : Bool) → (a || (b || c)) ≡ (b || (a || c))
-or-swap a b c = grind (arith, nat_tests)
-
 wrote-insert : (base : ℕ) (n : Noted) (cs : List Noted) (c t w : ℕ)
     → wrote base (insert_commit n cs) c t w ≡ (((n.core.0 == c) && ((n.tid.0 == t) && stores_word base n.stores w)) || wrote base cs c t w)
 unfolding wrote insert_commit

@@ -19,10 +19,6 @@ use Rattle.theorem_serial.proofs.Counts.StepCases.{either, moves-own, moves-othe
 use Rattle.theorem_serial.proofs.Counts.StepCases.{pairs_asks}
 use Rattle.theorem_serial.proofs.Counts.StepCases.{pairs_vendor, OfAnswer, step_cases}
 
--- the last commit, with one more
-max-swap : (a b l : ℕ) → max a (max b l) ≡ max b (max a l)
-max-swap a b l = omega arith
-
 pub last-insert : (p : Noted → Bool) (n : Noted) (cs : List Noted)
     → last_of p (insert_commit n cs) ≡ max (cond (p n) n.tid.0 0) (last_of p cs)
 unfolding last_of insert_commit

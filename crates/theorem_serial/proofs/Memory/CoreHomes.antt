@@ -6,7 +6,6 @@ use Rattle.theorem_serial.proofs.Names.{count_below, any_word, word_at, Dir, Msg
 use Rattle.theorem_serial.proofs.Names.{Shape}
 use Rattle.theorem_serial.proofs.Names.{home, lines, Cache, keeps, is_dirty, dirty_mask, dirty_copy, dirty_words, dirty_tag, is_modified}
 use Rattle.theorem_serial.proofs.Names.{modified_mask, written_lines, Spilled, holds, spilled_mask, spilled_words, CoreState, Sends}
-use Rattle.theorem_serial.proofs.Names.{nothing}
 use Rattle.theorem_serial.proofs.Names.{to, flush_of, flush_line, write_back_line, marks_for, commit, solo_commit, solo_sends}
 use Rattle.theorem_serial.proofs.Names.{solo_marks_or_skip, solo_write_backs, solo_writes_at, is_written, written_mask, core_exec}
 use Rattle.theorem_serial.proofs.Names.{core_evict}
@@ -33,9 +32,6 @@ HomelyOut sh sends = (d : ℕ) → Homely sh d (sends (Dir d))
 pub homely-none : (sh : Shape) (d : ℕ) → Homely sh d []
 unfolding among
 homely-none sh d = record { away = refl; words = refl }
-
-homely-nothing : (sh : Shape) → HomelyOut sh nothing
-homely-nothing sh d = homely-none sh d
 
 homely-append : (sh : Shape) (d : ℕ) (a b : List Msg) → Homely sh d a → Homely sh d b → Homely sh d (a ++ b)
 homely-append sh d a b x y =

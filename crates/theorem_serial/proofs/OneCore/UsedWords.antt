@@ -229,18 +229,6 @@ loads_word-append base (s ∷ a) b w = let r : loads_word base (a ++ b) w ≡ (l
     go true = refl
     go false = refl
 
-into_first : (a b x : Bool) → ((a || b) || x) ≡ true → ((a || (x || false)) || b) ≡ true
-into_first a b x h = grind (arith, nat_tests)
-
-into_second : (a b x y : Bool) → (x ≡ true → y ≡ true) → ((a || b) || x) ≡ true → (a || (b || (y || false))) ≡ true
-into_second a b x y f h = grind (arith, nat_tests)
-
-into_both : (a b x : Bool) → ((a || b) || x) ≡ true → ((a || (x || false)) || (b || (x || false))) ≡ true
-into_both a b x h = grind (arith, nat_tests)
-
-into_none : (a : Bool) → (a || false) ≡ true → a ≡ true
-into_none a h = grind (arith, nat_tests)
-
 second : (x y : Bool) → (x && y) ≡ true → y ≡ true
 second a y h = grind (arith, nat_tests)
 

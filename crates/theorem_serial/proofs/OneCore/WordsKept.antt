@@ -69,9 +69,6 @@ or-true a b = grind (arith, nat_tests)
 or-false : (a : Bool) → a ≡ (a || false)
 or-false a = grind (arith, nat_tests)
 
-some-or : (a b : Bool) → (a || true) ≡ (b || true)
-some-or a b = grind (arith, nat_tests)
-
 pub words-stored : (sh : Shape) (solo : Bool) (c : Cache) (w x : ℕ) (also : Bool) (sp : Spilled) (ss : List Stored) (s : Stored)
     → c.held (line_of w) ≡ true → holds sp (line_of w) ≡ false → (solo ≡ true → also ≡ false) → word_of sh.base s.addr ≡ w
     → Words sh solo c sp ss → Words sh solo (stored w x also c) sp (ss ++ s ∷ [])

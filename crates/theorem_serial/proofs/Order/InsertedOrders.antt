@@ -140,9 +140,6 @@ AgainIf base os here there one other = IfSome one (λ done. ((c : ℕ) → order
 left_true : (x y : Bool) → x ≡ true → (x || y) ≡ true
 left_true x y h = rw h refl
 
-right_true : (x y : Bool) → y ≡ true → (x || y) ≡ true
-right_true a y h = grind (arith, nat_tests)
-
 left_of : (x y : Bool) → y ≡ false → (x || y) ≡ true → x ≡ true
 left_of a y q h = grind (arith, nat_tests)
 

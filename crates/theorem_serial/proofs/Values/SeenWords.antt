@@ -1,5 +1,5 @@
 -- What is seen of a word is its value after all commits: its copy with the greatest tag is of the commit whose Commit is in flight, if any.
-use Rattle.theorem_serial.proofs.Names.{ℕ, zero, suc, ◌≡◌, ◌<◌, ◌≤◌, Bool, true, false, not, cond, max, ◌==◌, ◌&&◌, ◌||◌, List, [], ◌∷◌}
+use Rattle.theorem_serial.proofs.Names.{ℕ, zero, suc, ◌≡◌, ◌<◌, ◌≤◌, Bool, true, false, cond, max, ◌==◌, ◌&&◌, ◌||◌, List, [], ◌∷◌}
 use Rattle.theorem_serial.proofs.Names.{length}
 use Rattle.theorem_serial.proofs.Names.{Contains, Option, Some, None, slice_index_or, is_some, if◌then◌else◌, arith, refl, sym, ap, ◌∙◌}
 use Rattle.theorem_serial.proofs.Names.{◌⊎◌}
@@ -113,10 +113,6 @@ pub mask-wrote : (base : ℕ) (ns : List Noted) (c t x : ℕ) → has (wrote_mas
 unfolding wrote_mask
 mask-wrote base ns c t x = has-mask_of (λ k. wrote base ns c t (word_at (line_of x) k)) (place_of x) (omega arith)
     ∙ ap (wrote base ns c t) (at-place x)
-
-out-of-mask : (k m n x : ℕ) (c : Bool) → has n (place_of x) ≡ false → (d : Bool) → (m == n) ≡ d
-    → num (((k == line_of x) && has m (place_of x)) && c) ≤ num (((k == line_of x) && c) && not d)
-out-of-mask k m n x c h a q = grind (arith, nat_tests)
 
 outside : (x t n : ℕ) → has n (place_of x) ≡ false → (m : Msg) → num (passes (CopyWord x t) m) ≤ num (passes (CopyMask (line_of x) t n) m)
 unfolding passes hit
