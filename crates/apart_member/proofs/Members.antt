@@ -1,14 +1,14 @@
 -- Members after an event.
 use Rattle.std.proofs.Common.{◌≡◌, ℕ, zero, suc, ◌+◌, ◌<◌, Bool, true, false, List, [], ◌∷◌, ◌++◌, length, Option}
 use Rattle.std.proofs.Common.{if◌then◌else◌, refl, ap, sym, ◌∙◌, subst, arith}
-use Rattle.std.specs.Prelude.{IfSome, OnErr, Result, Ok, Err, slice_index_or}
+use Rattle.std.specs.Prelude.{IfSome, slice_index_or}
 use Rattle.std.specs.List.{All}
-use Rattle.std.proofs.lemmas.Bool.{eq-eqb}
 use Rattle.image_load.specs.Contents.{Contents, started}
 use Rattle.rv_code.specs.Machine.{first_ram}
 use Rattle.tcc_base.specs.declared.names.NodeId.{NodeId}
+use Rattle.base_lemmas.proofs.Lemmas.{node_eq-refl}
 use Rattle.rules_maps.specs.Bridge.{node_of}
-use Rattle.rules_maps.specs.Nodes.{Node, Core, Dir, Vendor as TheVendor, Event, Msg, node_eq}
+use Rattle.rules_maps.specs.Nodes.{Node, Core, Event, Msg, node_eq}
 use Rattle.rules_maps.specs.Shape.{Shape}
 use Rattle.tcc_msg.specs.Plain.{msg_of, sends_of}
 use Rattle.tcc_msg.specs.declared.msg.Msg.{Msg as CodeMsg}
@@ -67,11 +67,6 @@ acts-same m c k n e x sent consumed same h =
 pub placed-same : (m : MemberData) (c : Contents) (k : MemberKind) → c ≡ m.code → IsPlaced c.settings k → IsPlaced m.code.settings k
 placed-same m c k e h = subst (λ d. IsPlaced d.settings k) e h
 
--- what holds after an error
-pub on-err : {A E : Type 0} (r : Result A E) (P : Type 0) → P → OnErr r P
-on-err (Ok a) P h = tt
-on-err (Err e) P h = h
-
 -- the state is as before
 pub stays-whole : (m : MemberData) (k : MemberKind) → IsMember m → IsPlaced m.code.settings k → node_at k ≡ node_at m.kind
     → state_of (member_with m k m.done) ≡ state_of m → IsMember (member_with m k m.done)
@@ -113,11 +108,6 @@ acts-whole m k e x sent consumed w a few placed node rule =
 
 -- ---- what it sends
 
-node-same : (n : Node) → node_eq n n ≡ true
-node-same (Core c) = eq-eqb c c refl
-node-same (Dir d) = eq-eqb d d refl
-node-same TheVendor = refl
-
 rest : {X : Type 0} (P : X → Type 0) (x : X) (xs : List X) → All P (x ∷ xs) → All P xs
 rest P x xs h = λ k d l. h (suc k) d (omega (arith, l))
 
@@ -136,7 +126,7 @@ each-sent P [] h = λ k d l. absurd (omega (arith, l))
 each-sent P (e ∷ xs) h = with-first (λ m. P (node_of m.0) (msg_of m.1)) e xs own (each-sent P xs others)
   where
     own : P (node_of e.0) (msg_of e.1)
-    own = subst (λ b. All (P (node_of e.0)) ((if b then msg_of e.1 ∷ [] else []) ++ sends_of xs (node_of e.0))) (node-same (node_of e.0))
+    own = subst (λ b. All (P (node_of e.0)) ((if b then msg_of e.1 ∷ [] else []) ++ sends_of xs (node_of e.0))) (node_eq-refl (node_of e.0))
         (h (node_of e.0)) 0 (msg_of e.1) (omega arith)
 
     past : (n : Node) (b : Bool) → All (P n) ((if b then msg_of e.1 ∷ [] else []) ++ sends_of xs n) → All (P n) (sends_of xs n)

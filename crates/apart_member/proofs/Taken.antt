@@ -1,8 +1,7 @@
 -- What a member takes of what its links bring.
-use Rattle.std.proofs.Common.{◌≡◌, ℕ, ◌<◌, ◌^◌, Bool, true, false, not, ◌&&◌, Option, Some, is_some, refl, ap, sym, ◌∙◌, subst, arith}
+use Rattle.std.proofs.Common.{◌≡◌, ℕ, ◌<◌, ◌^◌, Bool, true, false, not, ◌&&◌, Option, Some, is_some, refl, ap, sym, ◌∙◌, subst}
 use Rattle.std.proofs.Common.{◌⊎◌, inl, inr}
-use Rattle.std.specs.Prelude.{nat_lt, ◌==◌, IfSome}
-use Rattle.std.proofs.lemmas.Bool.Decides.{nat_tests}
+use Rattle.std.specs.Prelude.{nat_lt, IfSome}
 use Rattle.dir_lines.specs.Home.{Home}
 use Rattle.tcc_base.specs.Settings.{Settings}
 use Rattle.theorem_bounds.specs.Messages.{line_named, tid_named}
@@ -32,6 +31,7 @@ use Rattle.tcc_base.specs.declared.names.CoreId.{CoreId}
 use Rattle.tcc_base.specs.declared.names.DirId.{DirId}
 use Rattle.tcc_base.specs.declared.names.NodeId.{NodeId}
 use Rattle.tcc_base.specs.declared.names.NodeId.TheVariants as code_node
+use Rattle.base_lemmas.proofs.Lemmas.{and-right, at_home}
 use Rattle.rules_maps.specs.Bridge.{node_of}
 use Rattle.apart_member.specs.Data.{MemberData, kind_state, node_at, state_of}
 use Rattle.apart_member.specs.DataInside.{IsMember}
@@ -39,10 +39,6 @@ use Rattle.apart_member.specs.Placed.{IsPlaced}
 use Rattle.apart_member.specs.declared.kind.MemberKind.{MemberKind}
 use Rattle.apart_member.specs.declared.kind.MemberKind.TheVariants as kind
 use Rattle.apart_member.proofs.Events.{acted-some, answer-some}
-
-last : (a b : Bool) → (a && b) ≡ true → b ≡ true
-last true b e = e
-last false b e = absurd (cc)
 
 -- ---- a core
 
@@ -63,9 +59,10 @@ pub core-takes : (s : Settings) (c : CoreState) (src : Node) (id : ℕ) (x : Msg
 unfolding fits core_deliver
 core-takes s c (Dir d) id x k =
     acted-some true (from_dir s d c x)
-    ∙ dir-says s d c x (last (nat_lt d s.dirs) (goes_to_core x) (last (nat_lt id s.cores) (nat_lt d s.dirs && goes_to_core x) k.fits))
+    ∙ dir-says s d c x (and-right (nat_lt d s.dirs) (goes_to_core x)
+    (and-right (nat_lt id s.cores) (nat_lt d s.dirs && goes_to_core x) k.fits))
 core-takes s c Vendor id x k =
-    acted-some true (from_vendor s c x) ∙ vendor-says s c x (last (nat_lt id s.cores) (is_grant x) k.fits)
+    acted-some true (from_vendor s c x) ∙ vendor-says s c x (and-right (nat_lt id s.cores) (is_grant x) k.fits)
 core-takes s c (Core d) id x k = absurd (let f = k.fits in cc)
 
 -- ---- the vendor
@@ -78,9 +75,6 @@ vendor-takes s t src x k =
     (λ i. is_some (takes s (AtVendor t) (from.1 i) (Some (from.2 i))))
 
 -- ---- a directory
-
-at_home : (s : Settings) (l d : ℕ) → l < lines s → home s l ≡ d → (nat_lt l (lines s) && (home s l == d)) ≡ true
-at_home s l d a b = grind (arith, nat_tests)
 
 not-foreign : (s : Settings) (d : ℕ) (x : Msg) → goes_to_dir x ≡ true → IfSome (line_named x) (λ l. (l < lines s) × (home s l ≡ d))
     → is_foreign (record { shape = s; dir = d }) x ≡ false

@@ -1,13 +1,13 @@
 -- What never waits is taken in whatever state the node is.
-use Rattle.std.proofs.Common.{◌≡◌, ℕ, Bool, true, false, Some, is_some, refl, sym, ◌∙◌, subst, if◌then◌else◌}
-use Rattle.std.specs.Prelude.{nat_lt, ◌==◌}
+use Rattle.std.proofs.Common.{◌≡◌, ℕ, true, Some, is_some, sym, ◌∙◌, subst}
 use Rattle.tcc_base.specs.Settings.{Settings}
 use Rattle.rules_maps.specs.Nodes.{Node, Core, Dir, Vendor, Msg, Skip, Abort, InvAck}
 use Rattle.rules_maps.specs.Bridge.{node_of}
-use Rattle.rules_tcc.specs.DirDeliver.{Answer, abort, acknowledgement, dir_deliver, skip}
+use Rattle.rules_tcc.specs.DirDeliver.{dir_deliver}
 use Rattle.rules_tcc.specs.Local.{AtCore, AtDir, AtVendor, NodeState, takes}
 use Rattle.rules_tcc.specs.State.{DirState}
 use Rattle.directory.specs.Gives.{is_taken}
+use Rattle.directory.proofs.Lemmas.{skip-taken, abort-taken, acknowledgement-taken}
 use Rattle.image_load.specs.Contents.{started}
 use Rattle.rv_code.specs.Machine.{first_ram}
 use Rattle.theorem_apart.proofs.Lemmas.{to_dir_from_core}
@@ -20,27 +20,11 @@ use Rattle.apart_member.specs.declared.kind.MemberKind.TheVariants as kind
 use Rattle.apart_member.proofs.Events.{answer-some}
 use Rattle.apart_member.proofs.Taken.{core-takes, vendor-takes}
 
-if-always : (b : Bool) (x y : Answer) → is_taken x ≡ true → is_taken y ≡ true → is_taken (if b then x else y) ≡ true
-if-always true x y e f = e
-if-always false x y e f = f
-
-skip-taken : (t : ℕ) (s : DirState) → is_taken (skip t s) ≡ true
-unfolding skip
-skip-taken t s = if-always (nat_lt t s.serving.serving) _ _ refl refl
-
-abort-taken : (t : ℕ) (s : DirState) → is_taken (abort t s) ≡ true
-unfolding abort
-abort-taken t s = if-always (nat_lt t s.serving.serving) _ _ refl (if-always (s.serving.serving == t) _ _ refl refl)
-
-told-taken : (c l : ℕ) (keeps : Bool) (s : DirState) → is_taken (acknowledgement c l keeps s) ≡ true
-unfolding acknowledgement
-told-taken c l keeps s = if-always (s.owed == 0) _ _ refl refl
-
 dir-always : (sh : Settings) (s : DirState) (d c : ℕ) (x : Msg) → never_waits (Dir d) x ≡ true → is_taken (dir_deliver sh s c x) ≡ true
 unfolding dir_deliver
 dir-always sh s d c (Skip t) e = skip-taken t s
 dir-always sh s d c (Abort t) e = abort-taken t s
-dir-always sh s d c (InvAck l keeps) e = told-taken c l keeps s
+dir-always sh s d c (InvAck l keeps) e = acknowledgement-taken c l keeps s
 dir-always sh s d c x e = absurd (cc)
 
 -- a message that never waits

@@ -10,11 +10,13 @@ use Rattle.rules_apart.specs.Filled.{bare}
 use Rattle.rules_apart.specs.Fitting.{IsMergeOf, log_of, node_count, place}
 use Rattle.rules_apart.specs.declared.logs.Logged.{Logged}
 use Rattle.tcc_base.specs.Settings.{Settings}
+use Rattle.base_lemmas.proofs.Lemmas.{lt-from as below}
 use Rattle.rules_maps.specs.Nodes.{Core, Dir, Node, Vendor, node_eq}
 use Rattle.tcc_msg.specs.declared.event.Event.{Event}
 use Rattle.rules_tcc.specs.Local.{Entry, at_node}
 use Rattle.rules_tcc.specs.Merged.{Each, IsMerged, is_at}
 use Rattle.rules_tcc.specs.Step.{is_node}
+use Rattle.node_locks.proofs.Lemmas.{place-within}
 
 -- ---- sums over the numbers below n
 
@@ -83,14 +85,6 @@ at_place : Settings → ℕ → List Entry → ℕ
 at_place s i [] = 0
 at_place s i (e ∷ es) = same (entry_place s e) i + at_place s i es
 
-below : (a b : ℕ) → nat_lt a b ≡ true → a < b
-below a b e = grind (arith, nat_tests)
-
-place-below : (s : Settings) (n : Node) → is_node s n ≡ true → place s n < node_count s
-place-below s (Core c) e = let l = below c s.cores e in omega (arith, l)
-place-below s (Dir d) e = let l = below d s.dirs e in omega (arith, l)
-place-below s Vendor e = omega arith
-
 -- each stands at one place
 all-places : (s : Settings) (es : List Entry) → Each (λ e. is_node s (at_node e.event) ≡ true) es
     → added (λ i. at_place s i es) (node_count s) ≡ length es
@@ -98,7 +92,7 @@ unfolding at_place
 all-places s [] a = added-none (λ i. 0) (node_count s) (λ i. refl)
 all-places s (e ∷ es) (h, a) =
     let both = added-both (same (entry_place s e)) (λ i. at_place s i es) (node_count s) in
-    let one = added-one (node_count s) (entry_place s e) (place-below s (at_node e.event) h) in
+    let one = added-one (node_count s) (entry_place s e) (place-within s (at_node e.event) h) in
     let rest = all-places s es a in
     omega (arith, both, one, rest)
 

@@ -9,11 +9,10 @@ use Rattle.rules_maps.specs.Nodes.{Event}
 use Rattle.tcc_msg.specs.Plain.{event_of}
 use Rattle.tcc_msg.specs.declared.event.Event.{Event as CodeEvent}
 use Rattle.tcc_pick.specs.Picking.{TookAll}
-use Rattle.tcc_pick.proofs.Lemmas.{Same, Takes, chosen-at, chosen-none, took-more, took-none, took-same}
+use Rattle.tcc_pick.proofs.Lemmas.{Same, Takes, chosen-at, chosen-none, took-more, took-none, took-same, leads-to}
 use Rattle.tcc_refine.specs.Refined.{Refined}
-use Rattle.rules_tcc.specs.Picked.{after_step, chosen, pick, picked}
-use Rattle.rules_tcc.specs.State.{World}
-use Rattle.rules_tcc.specs.Step.{History, Stepped, next_history, recorded, step}
+use Rattle.rules_tcc.specs.Picked.{chosen, pick, picked}
+use Rattle.rules_tcc.specs.Step.{next_history, step}
 use Rattle.rules_tcc.specs.Useful.{useful}
 use Rattle.apart_run.specs.Going.{goes_on}
 
@@ -47,16 +46,6 @@ goes-first k m = refl
 goes-none : (k : ℕ) (m : Machine) → first_of m ≡ None → goes_on (suc k) m ≡ []
 goes-none k m e = goes-first k m
     ∙ ap (pick (settings_of m) (program_of m) (world_of m) (picked (settings_of m) (program_of m) (replicate k 0))) e
-
--- the event leads there
-leads-to : (h : History) (o : Option Stepped) (g : History) (rest : World → List Event) → recorded h o ≡ Some g
-    → after_step rest o ≡ rest g.world
-leads-to h None g rest e = absurd (cc)
-leads-to h (Some s) g rest e = ap rest (ap (of s.world) e)
-  where
-    of : World → Option History → World
-    of w None = w
-    of w (Some g) = g.world
 
 goes-one : (k : ℕ) (m n : Machine) (e : Event) → first_of m ≡ Some e
     → next_history (settings_of m) (program_of m) (history_of m) e ≡ Some (history_of n) → n.cores.code ≡ m.cores.code

@@ -1,9 +1,10 @@
 -- What an event of a core leaves as it was, rule by rule.
-use Rattle.std.proofs.Common.{◌≡◌, ℕ, ◌+◌, ◌<◌, ◌==◌, ◌||◌, ◌&&◌, Bool, true, false, if◌then◌else◌, Option, Some, None, refl}
+use Rattle.std.proofs.Common.{◌≡◌, ℕ, ◌+◌, ◌<◌, ◌==◌, ◌&&◌, Bool, true, false, if◌then◌else◌, Option, Some, None, refl}
 use Rattle.std.proofs.Common.{nat_le, nat_lt, ap, length, sym, ◌∙◌, subst, arith, inl, inr}
 use Rattle.std.specs.Prelude.{is_some, unwrap_or, IfSome}
 use Rattle.std.proofs.lemmas.Bool.{cases_eq}
 use Rattle.std.proofs.lemmas.Bool.Decides.{nat_tests}
+use Rattle.base_lemmas.proofs.Lemmas.{and-left, neither, none_below, word_at-own}
 use Rattle.rv_code.specs.Machine.{program}
 use Rattle.rules_maps.specs.Cache.{is_modified}
 use Rattle.rules_maps.specs.Shape.{Shape, lines}
@@ -47,9 +48,6 @@ alone-in-place b c = inr (inl refl)
 
 -- ---- a commit
 
-place-is : (x : ℕ) → word_at (line_of x) (place_of x) ≡ x
-place-is x = omega arith
-
 place-less : (x : ℕ) → place_of x < 8
 place-less x = omega arith
 
@@ -57,7 +55,7 @@ place-less x = omega arith
 word-there : (p : ℕ → Bool) (x : ℕ) → p x ≡ true → any_word p (line_of x) ≡ true
 unfolding any_word
 word-there p x e =
-    any_below-at (λ k. p (word_at (line_of x) k)) 8 (place_of x) (place-less x) (ap p (place-is x) ∙ e)
+    any_below-at (λ k. p (word_at (line_of x) k)) 8 (place_of x) (place-less x) (ap p (word_at-own x) ∙ e)
 
 word-none : (p : ℕ → Bool) (x : ℕ) → any_word p (line_of x) ≡ false → p x ≡ false
 word-none p x e = go (p x) refl
@@ -66,23 +64,11 @@ word-none p x e = go (p x) refl
     go false q = q
     go true q = absurd (let some = word-there p x q in cc)
 
-line-none : (p : ℕ → Bool) (n l : ℕ) → any_below p n ≡ false → l < n → p l ≡ false
-line-none p n l e h = go (p l) refl
-  where
-    go : (b : Bool) → p l ≡ b → p l ≡ false
-    go false q = q
-    go true q = absurd (let some = any_below-at p n l h q in cc)
-
-or-none : (a b : Bool) → (a || b) ≡ false → (a ≡ false) × (b ≡ false)
-or-none false false e = (refl, refl)
-or-none false true e = absurd (cc)
-or-none true b e = absurd (cc)
-
 -- nothing was written there
 none-written : (sh : Shape) (s : CoreState) (x : ℕ) → wrote_some sh s ≡ false → line_of x < lines sh → written_words s x ≡ None
 unfolding wrote_some is_written written_words is_modified holds
 none-written sh s x none here =
-    let at = or-none _ _ (line-none (is_written s.cache s.spilled) (lines sh) (line_of x) none here) in
+    let at = neither _ _ (none_below (is_written s.cache s.spilled) (lines sh) (line_of x) none here) in
     let modified = word-none s.cache.modified x at.0 in
     let spilled = word-none (λ w. is_some (s.spilled w)) x at.1 in
     ap (λ b. or_else (s.spilled x) (if b then s.cache.value x else None)) modified ∙ go (s.spilled x) spilled
@@ -104,7 +90,7 @@ other-there sh c many =
 unwritten : (sh : Shape) (c : ℕ) (s : CoreState) (x : ℕ) → line_of x < lines sh → may_change sh (packet sh c s) (line_of x) ≡ false
     → written_words s x ≡ None
 unwritten sh c s x here e =
-    let at = or-none (nat_le sh.cores 1) _ e in
+    let at = neither (nat_le sh.cores 1) _ e in
     go (wrote_some sh s) refl (any_below (others sh c) sh.cores) (other-there sh c at.0) at.1
   where
     is-none : (o : Option ℕ) → is_some o ≡ false → o ≡ None
@@ -227,14 +213,10 @@ happens-follows sh p w (Take c) h = take-follows sh w c w.bus refl
 
 -- ---- an event of a run
 
-and-true : (a b : Bool) → (a && b) ≡ true → a ≡ true
-and-true true b e = refl
-and-true false b e = absurd (cc)
-
 names-core : (sh : Shape) (e : BusEvent) → bus_names sh e ≡ true → core_of e < sh.cores
 unfolding bus_names
 names-core sh (Exec c) q = grind (arith, nat_tests)
-names-core sh (Evict c x y) q = let here : nat_lt c sh.cores ≡ true = and-true _ _ q in grind (arith, nat_tests)
+names-core sh (Evict c x y) q = let here : nat_lt c sh.cores ≡ true = and-left _ _ q in grind (arith, nat_tests)
 names-core sh (Take c) q = grind (arith, nat_tests)
 
 pub step-follows : (sh : Shape) (p : Program) (w : BusWorld) (e : BusEvent)

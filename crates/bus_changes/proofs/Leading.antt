@@ -1,9 +1,9 @@
 -- The changes of a part of the state put on the record that it had give the one that it has, and so it is of a core's records.
 use Rattle.std.proofs.Common.{◌≡◌, ℕ, zero, suc, ◌==◌, ◌&&◌, Bool, true, false, cond, if◌then◌else◌, List, [], ◌∷◌, ◌++◌}
-use Rattle.std.proofs.Common.{Option, Some, None, append-nil, refl, ap, ◌∙◌, subst, arith}
+use Rattle.std.proofs.Common.{Option, Some, None, append-nil, refl, ap, ◌∙◌, subst}
 use Rattle.std.specs.Prelude.{is_some, option_map}
 use Rattle.std.specs.List.{flat_map}
-use Rattle.std.proofs.lemmas.Bool.Decides.{nat_tests}
+use Rattle.base_lemmas.proofs.Lemmas.{and-both, eq-from}
 use Rattle.rules_maps.specs.Nodes.{Core}
 use Rattle.rules_maps.specs.Shape.{Shape}
 use Rattle.rules_maps.specs.Words.{all_below, any_word, those}
@@ -19,7 +19,7 @@ use Rattle.watch_changes.specs.Changes.{changes, put_on}
 use Rattle.watch_changes.specs.Nodes.{records_at}
 use Rattle.watch_changes.specs.Order.{AreOrdered}
 use Rattle.watch_changes.specs.Same.{alike}
-use Rattle.watch_changes.proofs.Lemmas.{put-changes, records-ordered}
+use Rattle.watch_changes.proofs.Lemmas.{put-changes, records-ordered, alike-is}
 use Rattle.bus_state.specs.Parts.{bus_core_records, holding}
 use Rattle.bus_state.specs.Records.{BusRecord, ArbiterIs, LeftTo, PacketHas}
 use Rattle.bus_changes.specs.Changes.{arbiter_changes, arbiter_record, line_changes, line_in, part_changes, put_on_part, same_flag}
@@ -33,14 +33,6 @@ put-part true b a h = h refl
 put-part false b (Some r) h = refl
 put-part false (Some r) None h = refl
 put-part false None None h = refl
-
-and-both : (a b : Bool) → (a && b) ≡ true → (a ≡ true) × (b ≡ true)
-and-both true true e = (refl, refl)
-and-both true false e = absurd (cc)
-and-both false b e = absurd (cc)
-
-number-same : (x y : ℕ) → (x == y) ≡ true → x ≡ y
-number-same x y e = grind (arith, nat_tests)
 
 -- ---- the arbiter
 
@@ -62,7 +54,7 @@ holding-same n Free Free e = refl
 holding-same n Free (Alone d) e = absurd (cc)
 holding-same n Free (Packet g still) e = absurd (cc)
 holding-same n (Alone c) Free e = absurd (cc)
-holding-same n (Alone c) (Alone d) e = ap (λ k. holding n (Alone k)) (number-same c d e)
+holding-same n (Alone c) (Alone d) e = ap (λ k. holding n (Alone k)) (eq-from c d e)
 holding-same n (Alone c) (Packet g still) e = absurd (cc)
 holding-same n (Packet f left) Free e = absurd (cc)
 holding-same n (Packet f left) (Alone d) e = absurd (cc)
@@ -73,17 +65,9 @@ arbiter-leads : (n t u : ℕ) (b a : Bus)
 unfolding arbiter_changes
 arbiter-leads n t u b a =
     put-part (t == u && same_holding n b a) (Some (arbiter_record n t b)) (Some (arbiter_record n u a))
-    (λ e. let both = and-both _ _ e in λ i. Some (ArbiterIs (number-same t u both.0 i) (holding-same n b a both.1 i)))
+    (λ e. let both = and-both _ _ e in λ i. Some (ArbiterIs (eq-from t u both.0 i) (holding-same n b a both.1 i)))
 
 -- ---- the packet
-
-alike-is : (xs ys : List ℕ) → alike xs ys ≡ true → xs ≡ ys
-unfolding alike
-alike-is [] [] e = refl
-alike-is [] (y ∷ ys) e = absurd (cc)
-alike-is (x ∷ xs) [] e = absurd (cc)
-alike-is (x ∷ xs) (y ∷ ys) e =
-    let both = and-both _ _ e in λ i. number-same x y both.0 i ∷ alike-is xs ys both.1 i
 
 line-same : (f g : ℕ → Option ℕ) (l : ℕ) → same_line (line_in f l) (line_in g l) ≡ true → line_in f l ≡ line_in g l
 unfolding line_in
@@ -91,7 +75,7 @@ line-same f g l e = go (any_word (λ w. is_some (f w)) l) (any_word (λ w. is_so
   where
     one : (d x : PacketLine) → d.line ≡ x.line → (d.mask == x.mask && alike d.words x.words) ≡ true → d ≡ x
     one d x a e = let both = and-both _ _ e in
-        λ i. record { line = a i; mask = number-same d.mask x.mask both.0 i; words = alike-is d.words x.words both.1 i }
+        λ i. record { line = a i; mask = eq-from d.mask x.mask both.0 i; words = alike-is d.words x.words both.1 i }
 
     go : (a b : Bool) → same_line (if a then Some (packet_line f l) else None) (if b then Some (packet_line g l) else None) ≡ true
         → (if a then Some (packet_line f l) else None) ≡ (if b then Some (packet_line g l) else None)
@@ -113,7 +97,7 @@ memory-leads : (addr was is first : ℕ) → put_on_part (value_record addr was 
 unfolding value_changes
 memory-leads addr was is first =
     put-part (was == is) (value_record addr was first) (value_record addr is first)
-    (λ e. ap (λ x. value_record addr x first) (number-same was is e))
+    (λ e. ap (λ x. value_record addr x first) (eq-from was is e))
 
 pub parts-lead : PartsLeadOn
 parts-lead = record { arbiter = arbiter-leads; packet = packet-leads; memory = memory-leads }

@@ -8,19 +8,20 @@ use Rattle.std.proofs.lemmas.Bool.{cases_eq}
 use Rattle.std.proofs.lemmas.List.{map-append}
 use Rattle.std.proofs.lemmas.Simd.{map-map}
 use Rattle.tcc_base.specs.declared.access.Tagged.{Tagged}
+use Rattle.base_lemmas.proofs.Lemmas.{eq-self, flat-last, those-empty}
 use Rattle.rules_maps.specs.Shape.{Shape, lines}
 use Rattle.rules_maps.specs.Words.{any_below, any_word, those}
 use Rattle.rules_tcc.specs.Seen.{numbers}
 use Rattle.rules_bus.specs.State.{Bus}
 use Rattle.bus_tcc.specs.Left.{packet_words}
 use Rattle.bus_tcc.specs.Packets.{PacketLine, packet_line, packet_line_of, packet_lines}
-use Rattle.watch_changes.specs.Same.{alike}
 use Rattle.bus_state.specs.Records.{PacketHas}
 use Rattle.bus_changes.specs.Changes.{BusChange, Gone, Told, bus_change_lines, line_changes, line_in}
 use Rattle.bus_changes.specs.Changes.{packet_changes}
 use Rattle.bus_changes.specs.Following.{NoneInPlace, may_change}
 use Rattle.bus_changes.specs.Memory.{number_of_line}
-use Rattle.bus_changes.proofs.Words.{flat-last, flat-none}
+use Rattle.bus_changes.proofs.Words.{flat-none}
+use Rattle.watch_changes.proofs.Lemmas.{alike-self}
 
 abbrev has_word : (ℕ → Option ℕ) → ℕ → Bool
 has_word f = any_word (λ w. is_some (f w))
@@ -31,14 +32,9 @@ no-word : (l : ℕ) → has_word (λ w. None) l ≡ false
 unfolding any_word any_below
 no-word l = refl
 
-no-those : (p : ℕ → Bool) (n : ℕ) → ((l : ℕ) → p l ≡ false) → those p n ≡ []
-unfolding those
-no-those p zero none = refl
-no-those p (suc n) none = (λ i. no-those p n none i ++ cond (none n i) (n ∷ []) [])
-
 pub no-lines : (sh : Shape) → packet_lines sh (λ w. None) ≡ []
 unfolding packet_lines
-no-lines sh = ap (map (packet_line (λ w. None))) (no-those (has_word (λ w. None)) (lines sh) no-word)
+no-lines sh = ap (map (packet_line (λ w. None))) (those-empty (has_word (λ w. None)) (lines sh) no-word)
 
 -- ---- what is told, line by line
 
@@ -118,17 +114,9 @@ packet-went sh f g e =
     ∙ sym (ap (map Gone) (map-map PacketHas (packet_line f) (those (has_word f) (lines sh)))
     ∙ map-map Gone (λ l. PacketHas (packet_line f l)) (those (has_word f) (lines sh)))
 
-test-self : (x : ℕ) → (x == x) ≡ true
-test-self x = grind (arith, nat_tests)
-
-alike-self : (xs : List ℕ) → alike xs xs ≡ true
-unfolding alike
-alike-self [] = refl
-alike-self (x ∷ xs) = rw (test-self x) (alike-self xs)
-
 same-self : (d : Option PacketLine) → line_changes d d ≡ []
 same-self None = refl
-same-self (Some d) = rw (test-self d.mask, alike-self d.words) refl
+same-self (Some d) = rw (eq-self d.mask, alike-self d.words) refl
 
 pub packet-stays : (sh : Shape) (f : ℕ → Option ℕ) → packet_changes sh f f ≡ []
 unfolding packet_changes

@@ -7,6 +7,7 @@ use Rattle.std.proofs.lemmas.Bool.Decides.{nat_tests}
 use Rattle.std.proofs.lemmas.List.{drop_all, drop_more, take_more}
 use Rattle.std.proofs.lemmas.List.Concat.{flat_map-append}
 use Rattle.std.proofs.lemmas.List.Elements.{Contains-get_or}
+use Rattle.base_lemmas.proofs.Lemmas.{eq-self, flat-last, line_of-word_at}
 use Rattle.rv_code.specs.Machine.{first_ram}
 use Rattle.rules_maps.specs.Shape.{Shape, lines}
 use Rattle.rules_maps.specs.Words.{line_of, those, word_at}
@@ -19,6 +20,7 @@ use Rattle.bus_changes.specs.Changes.{BusChange, bus_change_line, bus_change_lin
 use Rattle.bus_changes.specs.Changes.{words_changes}
 use Rattle.bus_changes.specs.Following.{IsMemoryKept, may_change}
 use Rattle.bus_changes.specs.Memory.{AreInMemory, AreTaken, IsCopy, IsRenewed, is_among, may_have_changed}
+use Rattle.theorem_bus.proofs.Lemmas.{flat-same}
 
 -- ---- a word
 
@@ -27,14 +29,11 @@ pub word-told : (sh : Shape) (first f g : ℕ → ℕ) (w addr x y old : ℕ) �
 unfolding word_changes
 word-told sh first f g w addr x y old a p q o = λ i. value_changes (a i) (p i) (q i) (o i)
 
-test-self : (x : ℕ) → (x == x) ≡ true
-test-self x = grind (arith, nat_tests)
-
 -- one that is as it was
 word-same : (sh : Shape) (first f g : ℕ → ℕ) (w : ℕ) → g w ≡ f w → word_changes sh first f g w ≡ []
 unfolding word_changes value_changes
 word-same sh first f g w e =
-    ap (λ y. value_changes (addr_of sh w) (f w) y (first w)) e ∙ rw (test-self (f w)) refl
+    ap (λ y. value_changes (addr_of sh w) (f w) y (first w)) e ∙ rw (eq-self (f w)) refl
 
 -- ---- lines, one after another
 
@@ -126,15 +125,6 @@ in-memory sh p all small e = λ i d h.
 
 -- ---- what is told of some lines is what is told of all
 
-pub flat-last : {A : Type 0} (h : ℕ → List A) (p : ℕ → Bool) (n : ℕ)
-    → flat_map h (those p (suc n)) ≡ flat_map h (those p n) ++ cond (p n) (h n) []
-unfolding those
-flat-last h p n = flat_map-append h (those p n) (cond (p n) (n ∷ []) []) ∙ ap (λ t. flat_map h (those p n) ++ t) (go (p n))
-  where
-    go : (b : Bool) → flat_map h (cond b (n ∷ []) []) ≡ cond b (h n) []
-    go true = append-nil (h n)
-    go false = refl
-
 pub flat-some : {A : Type 0} (h k : ℕ → List A) (p : ℕ → Bool) (n : ℕ) → ((l : ℕ) → l < n → p l ≡ true → h l ≡ k l)
     → ((l : ℕ) → l < n → p l ≡ false → k l ≡ []) → flat_map h (those p n) ≡ flat_map k (numbers n)
 unfolding those
@@ -150,9 +140,6 @@ flat-some h k p (suc n) same none =
     go true e = same n (omega arith) e
     go false e = sym (none n (omega arith) e)
 
-pub flat-same : {A : Type 0} (h k : ℕ → List A) (n : ℕ) → ((l : ℕ) → l < n → h l ≡ k l) → flat_map h (numbers n) ≡ flat_map k (numbers n)
-flat-same h k n same = flat-some h k (λ j. true) n (λ l less t. same l less) (λ l less e. absurd (cc))
-
 abbrev map_nothing : (A : Type 0) → List ℕ → List A
 map_nothing A ns = flat_map (λ l. []) ns
 
@@ -165,15 +152,12 @@ flat-none {A} k n none = flat-same k (λ l. []) n none ∙ flat-nothing A (numbe
 
 -- ---- memory
 
-line-is : (l k : ℕ) → k < 8 → line_of (word_at l k) ≡ l
-line-is l k h = omega (arith, h)
-
 -- nothing is told of a line that is as it was
 line-same : (sh : Shape) (first f g : ℕ → ℕ) (l : ℕ) → ((x : ℕ) → line_of x ≡ l → g x ≡ f x) → words_changes sh first f g l ≡ []
 unfolding words_changes
 line-same sh first f g l same =
     flat-none (λ k. word_changes sh first f g (word_at l k)) 8
-    (λ k less. word-same sh first f g (word_at l k) (same (word_at l k) (line-is l k less)))
+    (λ k less. word-same sh first f g (word_at l k) (same (word_at l k) (line_of-word_at l k less)))
 
 pub memory-same : (sh : Shape) (first f g : ℕ → ℕ) → g ≡ f → memory_changes sh first f g ≡ []
 unfolding memory_changes

@@ -9,6 +9,7 @@ use Rattle.image_load.specs.Start.{Start}
 use Rattle.rv_code.specs.Machine.{first_ram, program}
 use Rattle.schedule_text.specs.Grammar.{joined}
 use Rattle.tcc_base.specs.Settings.{Settings}
+use Rattle.base_lemmas.proofs.Lemmas.{appends-more, appends-none}
 use Rattle.rules_bus.specs.Useful.{BusIsDone}
 use Rattle.theorem_bus.specs.Given.{bus_at_start}
 use Rattle.bus_tcc.specs.Machine.{bus_history_of, bus_settings_of, bus_start_of, bus_world_of}
@@ -23,7 +24,7 @@ use Rattle.watch_trace.specs.Text.{tail_text}
 use Rattle.text_runs.specs.Pieces.{IsCut, IsEndCut, IsPart, IsStopped, IsTold, Written, window}
 use Rattle.text_runs.specs.declared.pieces.Broken.{Broken}
 use Rattle.text_runs.specs.declared.pieces.Broken.TheVariants.{Memory, Output}
-use Rattle.text_runs.proofs.Lemmas.{appends-more, appends-none, rose-later}
+use Rattle.text_runs.proofs.Lemmas.{rose-later}
 use Rattle.bus_run.specs.Going.{GoneOn, Led, Starts, coming, texts}
 use Rattle.bus_run.specs.Laws.{gone-more, gone-none}
 use Rattle.bus_run.specs.Shown.{IsAllTold, lines_coming}

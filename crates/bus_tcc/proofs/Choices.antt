@@ -8,13 +8,14 @@ use Rattle.std.proofs.lemmas.Option.{get_or_from_slice_get, slice_get-get_or, sl
 use Rattle.image_load.specs.Contents.{Contents, started}
 use Rattle.rv_code.specs.Machine.{program}
 use Rattle.tcc_base.specs.Settings.{Settings}
+use Rattle.base_lemmas.proofs.Lemmas.{get-front, never}
 use Rattle.rules_maps.specs.Shape.{Shape}
 use Rattle.rules_tcc.specs.CoreEvict.{core_evict}
 use Rattle.rules_tcc.specs.Seen.{numbers}
 use Rattle.rules_tcc.specs.State.{CoreState}
 use Rattle.rules_tcc.specs.Useful.{room}
 use Rattle.machine_cores.specs.Bank.{cores_of}
-use Rattle.machine_cores.proofs.Lemmas.{get-left, get-right}
+use Rattle.machine_cores.proofs.Lemmas.{get-right}
 use Rattle.base_sums.specs.Falls.{FallsAt}
 use Rattle.rules_bus.specs.State.{BusEvent, Exec, Evict, Take}
 use Rattle.bus_tcc.specs.Answers.{bus_step_of}
@@ -29,9 +30,6 @@ use Rattle.bus_tcc.specs.declared.event.BusEvent.{BusEvent as CodeEvent}
 use Rattle.bus_tcc.proofs.Enabling.{exec-enabled, useful-parts}
 use Rattle.bus_tcc.proofs.Events.{bank_in}
 use Rattle.bus_tcc.proofs.Numbers.{AreLengths, IsFound, count-most, flat-most, found, past, total}
-
-never : false ≡ true → ⊥
-never q = cc
 
 -- what the bus of a machine says
 pub free-of : (m now : BusMachine) (b : Bool) → m ≡ now → b ≡ is_free (bus_of m.bus) → b ≡ is_free (bus_world_of now).bus
@@ -235,13 +233,13 @@ module _ (m : BusMachine) (k : ℕ) (w : IsBusWhole m) where
   at-parts = ap (λ es. slice_get es k) (useful-parts m w)
 
   pub at-execs : (o : Option BusEvent) → o ≡ slice_get (execs_of m) k → k < length (execs_of m) → o ≡ slice_get (bus_useful_of m) k
-  at-execs o e l = e ∙ sym (at-parts ∙ get-left (execs_of m) (evicts_of m ++ takes_of m) k l)
+  at-execs o e l = e ∙ sym (at-parts ∙ get-front (execs_of m) (evicts_of m ++ takes_of m) k l)
 
   pub at-evicts : (o : Option BusEvent) (i : ℕ) → o ≡ slice_get (evicts_of m) i → k ≡ length (execs_of m) + i
       → i < length (evicts_of m) → o ≡ slice_get (bus_useful_of m) k
   at-evicts o i e q l =
       e ∙ sym (at-parts ∙ (get-right (execs_of m) (evicts_of m ++ takes_of m) i k q
-      ∙ get-left (evicts_of m) (takes_of m) i l))
+      ∙ get-front (evicts_of m) (takes_of m) i l))
 
   pub at-takes : (o : Option BusEvent) (i : ℕ) → o ≡ slice_get (takes_of m) i
       → k ≡ length (execs_of m) + (length (evicts_of m) + i) → o ≡ slice_get (bus_useful_of m) k
@@ -250,11 +248,6 @@ module _ (m : BusMachine) (k : ℕ) (w : IsBusWhole m) where
       ∙ get-right (evicts_of m) (takes_of m) i (length (evicts_of m) + i) refl))
 
 -- ---- one after another
-
-pub none-past : {A : Type 0} (xs : List A) (k : ℕ) → slice_get xs k ≡ None → k < length xs → ⊥
-none-past [] k e l = omega (arith, l)
-none-past (x ∷ xs) zero e l = cc
-none-past (x ∷ xs) (suc k) e l = none-past xs k e (omega (arith, l))
 
 -- one more event of the list
 pub one-listed : (us : List BusEvent) (es more : List CodeEvent) (k : ℕ) (e : CodeEvent) → map bus_event_of es ≡ take k us

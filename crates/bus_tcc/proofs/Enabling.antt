@@ -5,6 +5,7 @@ use Rattle.std.specs.Prelude.{IfSome, nat_lt}
 use Rattle.std.specs.List.{flat_map}
 use Rattle.std.proofs.lemmas.Bool.{lt-ltb}
 use Rattle.std.proofs.lemmas.Bool.Decides.{nat_tests}
+use Rattle.base_lemmas.proofs.Lemmas.{and-true, map-map, or-false, or-true, power-positive}
 use Rattle.rules_maps.specs.Shape.{Shape}
 use Rattle.rules_program.specs.Program.{Need, Nothing, Loads, Stores, Changes, Prints, Ends, Halts, Traps, Program}
 use Rattle.rules_tcc.specs.Attempt.{Out, is_solo}
@@ -20,9 +21,9 @@ use Rattle.core_node.specs.Executing.{overflows}
 use Rattle.rules_bus.specs.Commit.{BusStepped}
 use Rattle.rules_bus.specs.Exec.{bus_exec, exec_alone, executed, goes_on, when_free}
 use Rattle.rules_bus.specs.State.{Bus, BusWorld, Exec, Evict, Take, Free, Alone, Packet}
-use Rattle.rules_bus.specs.Step.{bus_names, bus_step, if_evicted}
+use Rattle.rules_bus.specs.Step.{bus_names, bus_step}
 use Rattle.rules_bus.specs.Take.{bus_take, take_from}
-use Rattle.theorem_bus.proofs.Lemmas.{alone-stays, evicts_in, flat-same, goes, instruction-some, one_if, positive, useful-by_core}
+use Rattle.theorem_bus.proofs.Lemmas.{alone-stays, evicts_in, flat-same, goes, instruction-some, one_if, useful-by_core, evicted-some}
 use Rattle.bus_tcc.specs.Answers.{bus_step_of}
 use Rattle.bus_tcc.specs.Chosen.{bus_useful_of}
 use Rattle.bus_tcc.specs.Left.{is_left}
@@ -33,23 +34,11 @@ use Rattle.bus_tcc.specs.Whole.{IsBusWhole}
 use Rattle.bus_tcc.proofs.Bounds.{core-bounded}
 use Rattle.bus_tcc.proofs.Events.{bank_in, evict-step}
 use Rattle.bus_tcc.proofs.Instructions.{instruction-alone, instruction_of}
-use Rattle.bus_tcc.proofs.Numbers.{map-map, ones-flat}
+use Rattle.bus_tcc.proofs.Numbers.{ones-flat}
 use Rattle.bus_tcc.proofs.Published.{exec-step}
 use Rattle.bus_tcc.proofs.Using.{at-phase}
 
 -- ---- an execution
-
-or-false : (b : Bool) → (b || false) ≡ b
-or-false true = refl
-or-false false = refl
-
-or-true : (b : Bool) → (b || true) ≡ true
-or-true true = refl
-or-true false = refl
-
-and-true : (b : Bool) → (b && true) ≡ b
-and-true true = refl
-and-true false = refl
 
 some-free : {A : Type 0} (b : Bus) (x : A) → is_some (when_free b x) ≡ is_free b
 some-free Free x = refl
@@ -157,10 +146,6 @@ exec-enabled m c w l = by (state_of m c).phase refl ∙ at-phase _ _ _ _ _ (stat
 
 -- ---- the other events
 
-evicted-some : (w : BusWorld) (c : ℕ) (o : Option Out) → is_some (if_evicted w c o) ≡ is_some o
-evicted-some w c None = refl
-evicted-some w c (Some o) = refl
-
 pub evict-enabled : (m : BusMachine) (c x y : ℕ)
     → (c < (bus_settings_of m).cores) × (x < (bus_settings_of m).sets) × (y < (bus_settings_of m).ways)
     → is_some (bus_step_of m (Evict c x y)) ≡ is_some (core_evict (bus_settings_of m) x y (cores_of (bank_in m) c))
@@ -210,7 +195,7 @@ useful-parts m w =
     let sh = bus_settings_of m in
     let v = bus_world_of m in
     let n = numbers sh.cores in
-    useful-by_core sh (bus_program_of m) v (positive (bus_settings_of m).sets w.allowed.2.0)
+    useful-by_core sh (bus_program_of m) v (power-positive (bus_settings_of m).sets w.allowed.2.0)
     ∙ ap (λ es. es ++ (flat_map (λ c. evicts_in sh (v.cores c) c (room sh (bus_program_of m) (v.cores c))) n
     ++ flat_map (λ c. one_if (is_some (bus_take sh v c)) (Take c)) n))
     (flat-same _ (λ c. one_if (may_exec sh (bus_program_of m) (is_free v.bus) c (v.cores c)) (Exec c)) sh.cores

@@ -1,10 +1,11 @@
 -- An instruction with its line at hand, and what the machine is after it.
 use Rattle.std.proofs.Common.{◌≡◌, ◌≢◌, ℕ, ◌+◌, ◌<◌, Bool, true, false, not, ◌&&◌, List, [], length, Option, Some, None, Err, refl, ap, sym}
 use Rattle.std.proofs.Common.{◌∙◌, subst, arith}
-use Rattle.std.specs.Prelude.{zero, suc, ◌==◌, ◌||◌, get_or, is_some, unwrap_or, if◌then◌else◌, Contains}
+use Rattle.std.specs.Prelude.{◌==◌, ◌||◌, get_or, is_some, unwrap_or, if◌then◌else◌, Contains}
 use Rattle.std.proofs.lemmas.Bool.Decides.{nat_tests}
 use Rattle.tcc_base.specs.Put.{put}
 use Rattle.tcc_base.specs.declared.access.Size.TheVariants.{Byte, Half, Word}
+use Rattle.base_lemmas.proofs.Lemmas.{has-full}
 use Rattle.rules_maps.specs.Cache.{Cache, free_way}
 use Rattle.rules_maps.specs.CacheChange.{filled, placed}
 use Rattle.rules_maps.specs.Masks.{has, mask_of}
@@ -42,19 +43,6 @@ use Rattle.bus_tcc.proofs.Bounds.{core-bounded}
 use Rattle.bus_tcc.proofs.Events.{StaysBut, bank_in, stays-kept, took-by, took-whole, world-is}
 use Rattle.bus_tcc.proofs.PacketLines.{unless-in-order}
 
--- a line that is whole isn't changed where it is filled
-all-ones : (k : ℕ) → k < 8 → has 255 k ≡ true
-unfolding has
-all-ones zero l = refl
-all-ones (suc zero) l = refl
-all-ones (suc (suc zero)) l = refl
-all-ones (suc (suc (suc zero))) l = refl
-all-ones (suc (suc (suc (suc zero)))) l = refl
-all-ones (suc (suc (suc (suc (suc zero))))) l = refl
-all-ones (suc (suc (suc (suc (suc (suc zero)))))) l = refl
-all-ones (suc (suc (suc (suc (suc (suc (suc zero))))))) l = refl
-all-ones (suc (suc (suc (suc (suc (suc (suc (suc k)))))))) l = absurd (omega arith)
-
 whole-value : (l : ℕ) (c : Cache) → mask_of (λ k. is_some (c.value (word_at l k))) ≡ 255 → (v : ℕ) → l ≡ line_of v
     → is_some (c.value v) ≡ true
 whole-value l c e v q =
@@ -62,7 +50,7 @@ whole-value l c e v q =
     ap (λ w. is_some (c.value w)) (sym at)
     ∙ sym (has-mask_of (λ k. is_some (c.value (word_at l k))) (place_of v) (omega arith))
     ∙ ap (λ m. has m (place_of v)) e
-    ∙ all-ones (place_of v) (omega arith)
+    ∙ has-full (place_of v) (omega arith)
 
 filled-whole : (l : ℕ) (ws : List ℕ) (c : Cache) → mask_of (λ k. is_some (c.value (word_at l k))) ≡ 255 → filled l ws c ≡ c
 unfolding filled

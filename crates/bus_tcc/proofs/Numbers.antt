@@ -8,9 +8,10 @@ use Rattle.std.proofs.lemmas.Grind.{flat_map-append}
 use Rattle.std.proofs.lemmas.List.Elements.{filter-append}
 use Rattle.std.proofs.lemmas.List.Sums.{sum_by_more}
 use Rattle.std.proofs.lemmas.Option.{slice_get_past, slice_get_within}
+use Rattle.base_lemmas.proofs.Lemmas.{get-front}
 use Rattle.rules_maps.specs.Words.{those}
 use Rattle.rules_tcc.specs.Seen.{numbers}
-use Rattle.machine_cores.proofs.Lemmas.{get-left, get-right}
+use Rattle.machine_cores.proofs.Lemmas.{get-right}
 use Rattle.base_sums.specs.Falls.{FallsAt}
 
 one-more : (t : ℕ → Bool) (n : ℕ) → filter t (numbers (suc n)) ≡ filter t (numbers n) ++ cond (t n) (n ∷ []) []
@@ -44,7 +45,7 @@ sought t i zero e h = absurd (omega arith)
 sought t i (suc n) e h = ap (λ xs. slice_get xs (length (filter t (numbers i)))) (one-more t n) ∙ elim (cases_eq i n) [
   | inl q ↦ rw (← q, e) (get-right (filter t (numbers i)) (i ∷ []) 0 (length (filter t (numbers i))) (omega arith))
   | inr m ↦ (let at = sought t i n e (omega arith) in
-      get-left (filter t (numbers n)) (cond (t n) (n ∷ []) []) (length (filter t (numbers i)))
+      get-front (filter t (numbers n)) (cond (t n) (n ∷ []) []) (length (filter t (numbers i)))
       (slice_get_within (filter t (numbers n)) (length (filter t (numbers i))) i at) ∙ at)
 ]
 
@@ -57,10 +58,6 @@ ones-flat t g (x ∷ xs) = by (t x) (ones-flat t g xs)
         → cond b (g x ∷ []) [] ++ flat_map (λ c. cond (t c) (g c ∷ []) []) xs ≡ map g (cond b (x ∷ filter t xs) (filter t xs))
     by true e = ap (λ ys. g x ∷ ys) e
     by false e = e
-
-pub map-map : {A B C : Type 0} (f : B → C) (g : A → B) (xs : List A) → map f (map g xs) ≡ map (λ x. f (g x)) xs
-map-map f g [] = refl
-map-map f g (x ∷ xs) = ap (λ ys. f (g x) ∷ ys) (map-map f g xs)
 
 -- short lists by number
 pub flat-most : {A : Type 0} (f : ℕ → List A) (m n : ℕ) → ((k : ℕ) → k < n → length (f k) ≤ m) → length (flat_map f (numbers n)) ≤ n * m
@@ -127,7 +124,7 @@ inside : {A : Type 0} (f : ℕ → List A) (i n r : ℕ) → i < n → r < lengt
 inside f i zero r l h = absurd (omega arith)
 inside f i (suc n) r l h = ap (λ xs. slice_get xs (length (flat_map f (numbers i)) + r)) (flat-more f n) ∙ elim (cases_eq i n) [
   | inl q ↦ rw (← q) (get-right (flat_map f (numbers i)) (f i) r (length (flat_map f (numbers i)) + r) refl)
-  | inr m ↦ get-left (flat_map f (numbers n)) (f n) (length (flat_map f (numbers i)) + r) (earlier f i n r (omega arith) h)
+  | inr m ↦ get-front (flat_map f (numbers n)) (f n) (length (flat_map f (numbers i)) + r) (earlier f i n r (omega arith) h)
       ∙ inside f i n r (omega arith) h
 ]
 

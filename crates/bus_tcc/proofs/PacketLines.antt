@@ -1,8 +1,9 @@
 -- The lines of a packet stand in order: those that an attempt has written, and none.
 use Rattle.std.proofs.Common.{◌≡◌, ℕ, zero, suc, ◌<◌, Bool, true, false, ◌||◌, List, [], ◌∷◌, ◌++◌, map, get_or, Option, Some, None}
-use Rattle.std.proofs.Common.{is_some, refl, ap, sym, ◌∙◌, subst, arith}
+use Rattle.std.proofs.Common.{is_some, refl, ap, sym, ◌∙◌, subst}
 use Rattle.std.specs.Prelude.{cond, unwrap_or, if◌then◌else◌}
 use Rattle.tcc_base.specs.declared.access.Tagged.{Tagged}
+use Rattle.base_lemmas.proofs.Lemmas.{eight-at, eight-same}
 use Rattle.rules_maps.proofs.Lemmas.{has-mask_of}
 use Rattle.rules_maps.specs.Cache.{is_modified}
 use Rattle.rules_maps.specs.Masks.{has, mask_of, masked}
@@ -18,7 +19,7 @@ use Rattle.bus_tcc.specs.Machine.{bus_of}
 use Rattle.bus_tcc.specs.Packets.{AreInOrder, lines_on, packet_line, packet_line_of, packet_lines}
 use Rattle.bus_tcc.specs.declared.bus.Bus.{Bus as CodeBus}
 use Rattle.bus_tcc.specs.declared.bus.Bus.TheVariants.{Free, Alone, Packet}
-use Rattle.bus_tcc.proofs.Writes.{eight-at, lines-written, the_line, told-each}
+use Rattle.bus_tcc.proofs.Writes.{lines-written, the_line, told-each}
 
 -- ---- none
 
@@ -49,20 +50,6 @@ unless-in-order sh true new old e h = subst (AreInOrder sh) (sym e) (none-in-ord
 unless-in-order sh false new old e h = subst (AreInOrder sh) (sym e) h
 
 -- ---- those that an attempt has written
-
-eight-same : (f g : ℕ → ℕ) → ((k : ℕ) → k < 8 → f k ≡ g k) → eight f ≡ eight g
-unfolding eight
-eight-same f g h =
-    rw (
-      h 0 (omega arith),
-      h 1 (omega arith),
-      h 2 (omega arith),
-      h 3 (omega arith),
-      h 4 (omega arith),
-      h 5 (omega arith),
-      h 6 (omega arith),
-      h 7 (omega arith),
-    ) refl
 
 -- a word that the attempt has modified is valid
 abbrev IsValid : CoreState → Type 0

@@ -10,7 +10,7 @@ use Rattle.tcc_base.specs.declared.access.Commit.{Commit as Noted}
 use Rattle.rules_maps.specs.Shape.{Shape, lines}
 use Rattle.rules_maps.specs.Words.{any_below, line_of, or_else}
 use Rattle.rules_tcc.specs.Attempt.{is_solo}
-use Rattle.rules_tcc.specs.Commit.{commit, noted, solo_commit}
+use Rattle.rules_tcc.specs.Commit.{commit, noted}
 use Rattle.rules_tcc.specs.State.{CoreState, Phase, AwaitTid}
 use Rattle.rules_tcc.specs.Step.{insert_commit}
 use Rattle.machine_commits.specs.Rising.{HasNone}
@@ -38,6 +38,7 @@ use Rattle.bus_tcc.proofs.Endings.{waiting-commits}
 use Rattle.bus_tcc.proofs.Events.{StaysBut, bank_in, stays-kept, took-by, took-whole, world-is}
 use Rattle.bus_tcc.proofs.Instructions.{busy-so, free-so}
 use Rattle.bus_tcc.proofs.PacketLines.{unless-in-order}
+use Rattle.theorem_bus.proofs.Lemmas.{out-noted}
 
 -- ---- a commit by the next TID stands at the end
 
@@ -73,20 +74,12 @@ all-before c t cs e h x i = elim (Contains-push_cases cs c x i) [
 
 -- ---- what is noted
 
-pub noted-is : (sh : Shape) (c t : ℕ) (s : CoreState) → (commit_out sh c t s).commit ≡ Some (noted t c s)
-unfolding commit solo_commit
-noted-is sh c t s = by (is_solo s.phase)
-  where
-    by : (b : Bool) → (if b then solo_commit sh c t s else commit sh c t s).commit ≡ Some (noted t c s)
-    by true = refl
-    by false = refl
-
 some-same : (a b : Noted) → Some a ≡ Some b → a ≡ b
 some-same a b e = ap (λ o. unwrap_or o a) e
 
 pub noted-tid : (sh : Shape) (c t : ℕ) (s : CoreState) (w : Written) → IsCommitOf sh c t s w → w.commit.tid ≡ record { 0 = t }
 unfolding noted
-noted-tid sh c t s w k = ap (λ d. d.tid) (some-same w.commit (noted t c s) (k.noted ∙ noted-is sh c t s))
+noted-tid sh c t s w k = ap (λ d. d.tid) (some-same w.commit (noted t c s) (k.noted ∙ out-noted sh c t s))
 
 -- ---- what the rules make of a core that executes, by its phase
 

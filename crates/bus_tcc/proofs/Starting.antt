@@ -8,6 +8,7 @@ use Rattle.tcc_base.specs.declared.access.Commit.{Commit}
 use Rattle.image_load.specs.Contents.{Contents, started}
 use Rattle.rv_code.specs.Machine.{first_ram}
 use Rattle.tcc_base.specs.Settings.{IsAllowed}
+use Rattle.base_lemmas.proofs.Lemmas.{get_or-front, get_or-last}
 use Rattle.rules_bus.specs.State.{bus_start}
 use Rattle.rules_bus.specs.Step.{bus_from, bus_run}
 use Rattle.theorem_bus.specs.Given.{bus_at_start}
@@ -65,15 +66,6 @@ pub record AreWords (f : ℕ → ℕ) (n : ℕ) (ws : List ℕ) : Type 0 where
 pub no-words : (f : ℕ → ℕ) → AreWords f 0 []
 no-words f = record { count = refl; each = λ j h. absurd (omega (arith, h)) }
 
-at-left : (xs ys : List ℕ) (j : ℕ) → j < length xs → get_or (xs ++ ys) j 0 ≡ get_or xs j 0
-at-left [] ys j h = absurd (omega (arith, h))
-at-left (x ∷ xs) ys zero h = refl
-at-left (x ∷ xs) ys (suc j) h = at-left xs ys j (omega (arith, h))
-
-at-end : (xs : List ℕ) (x : ℕ) → get_or (xs ++ x ∷ []) (length xs) 0 ≡ x
-at-end [] x = refl
-at-end (y ∷ ys) x = at-end ys x
-
 past : (xs : List ℕ) (j : ℕ) → length xs ≤ j → get_or xs j 0 ≡ 0
 past [] j h = refl
 past (x ∷ xs) zero h = absurd (omega (arith, h))
@@ -83,9 +75,9 @@ pub one-more_word : (f : ℕ → ℕ) (n : ℕ) (ws : List ℕ) (x : ℕ) → Ar
 one-more_word f n ws x h e = record {
   count = length-append ws (x ∷ []) ∙ ap (λ m. m + 1) h.count;
   each = λ j l. elim (cases_lt j (length ws)) [
-    | inl k ↦ at-left ws (x ∷ []) j k ∙ h.each j (rw (sym h.count) k)
+    | inl k ↦ get_or-front ws (x ∷ []) j k ∙ h.each j (rw (sym h.count) k)
     | inr k ↦ (let last : j ≡ length ws = omega (arith, k, l, h.count) in
-        ap (λ i. get_or (ws ++ x ∷ []) i 0) last ∙ at-end ws x ∙ e ∙ ap f (sym h.count ∙ sym last))
+        ap (λ i. get_or (ws ++ x ∷ []) i 0) last ∙ get_or-last ws x ∙ e ∙ ap f (sym h.count ∙ sym last))
   ];
 }
 

@@ -10,6 +10,7 @@ use Rattle.std.proofs.lemmas.List.{get_or-set_other}
 use Rattle.std.proofs.Math.ListN.{drop_of_length-le}
 use Rattle.std.proofs.Math.Seq.{drop-cons}
 use Rattle.tcc_base.specs.declared.access.Tagged.{Tagged}
+use Rattle.base_lemmas.proofs.Lemmas.{and-false, and-true}
 use Rattle.rules_maps.specs.Masks.{has, hit}
 use Rattle.rules_maps.specs.Words.{line_of, place_of}
 use Rattle.rules_bus.specs.Commit.{with_words}
@@ -21,10 +22,6 @@ pub record Stored (t : Tagged) (k : ℕ) (old now : List ℕ) : Type 0 where
   pub count : length now ≡ length old
   pub words : (w : ℕ) → get_or now w 0
       ≡ (if hit t.line.0 t.mask.0 w && nat_lt (place_of w) k then get_or t.words (place_of w) 0 else get_or old w 0)
-
-and-false : (b : Bool) → (b && false) ≡ false
-and-false true = refl
-and-false false = refl
 
 pub stored-first : (t : Tagged) (old : List ℕ) → Stored t 0 old old
 stored-first t old = record { count = refl; words = λ w. by w (nat_lt (place_of w) 0) (grind (arith, nat_tests)) }
@@ -99,10 +96,6 @@ stored-next t k x old now new false h l room d v e = record {
           ∙ sym d in rw out refl)
       | inr n ↦ elsewhere t.line.0 t.mask.0 k w l n
     ]
-
-and-true : (b : Bool) → (b && true) ≡ b
-and-true true = refl
-and-true false = refl
 
 pub stored-all : (t : Tagged) (old now : List ℕ) → Stored t 8 old now → (w : ℕ)
     → get_or now w 0 ≡ (if hit t.line.0 t.mask.0 w then get_or t.words (place_of w) 0 else get_or old w 0)

@@ -1,12 +1,11 @@
 -- A packet is taken line by line.
-use Rattle.std.proofs.Common.{◌≡◌, ℕ, ◌+◌, ◌<◌, ◌≤◌, ◌⊎◌, inl, inr, Bool, true, false, not, ◌||◌, ◌&&◌, if◌then◌else◌, List, [], ◌∷◌}
+use Rattle.std.proofs.Common.{◌≡◌, ℕ, ◌+◌, ◌<◌, ◌≤◌, inl, inr, Bool, true, false, not, ◌||◌, ◌&&◌, if◌then◌else◌, List, [], ◌∷◌}
 use Rattle.std.proofs.Common.{get_or, drop, length, suc, Option, Some, None, is_some}
 use Rattle.std.proofs.Common.{refl, ap, sym, ◌∙◌, subst, arith}
-use Rattle.std.specs.Prelude.{◌==◌}
 use Rattle.std.proofs.Math.ListN.{drop_of_length-le}
 use Rattle.std.proofs.Math.Seq.{drop-cons}
-use Rattle.std.proofs.lemmas.Bool.Decides.{nat_tests}
 use Rattle.tcc_base.specs.declared.access.Tagged.{Tagged}
+use Rattle.base_lemmas.proofs.Lemmas.{and-left, and-right, hit-line, or-cases, or-left, or-right}
 use Rattle.rules_maps.proofs.Lemmas.{any_below-at, any_below-found}
 use Rattle.rules_maps.specs.Cache.{Cache}
 use Rattle.rules_maps.specs.CacheChange.{invalidated, rolled_back}
@@ -20,6 +19,7 @@ use Rattle.rules_tcc.specs.State.{CoreState, Running}
 use Rattle.rules_bus.specs.Take.{packet_invalidated, reads_some, packet_taken}
 use Rattle.core_node.specs.AtHand.{words_in}
 use Rattle.bus_tcc.specs.Taking.{reads_any, struck_by, took}
+use Rattle.theorem_serial.proofs.Lemmas.{line-has}
 
 -- ---- the words that are dropped
 
@@ -100,35 +100,8 @@ same-truth true false f g = let x = f refl in cc
 same-truth false true f g = let x = g refl in cc
 same-truth false false f g = refl
 
-and-left : (a b : Bool) → (a && b) ≡ true → a ≡ true
-and-left true b e = refl
-and-left false b e = cc
-
-and-right : (a b : Bool) → (a && b) ≡ true → b ≡ true
-and-right true b e = e
-and-right false b e = cc
-
 and-both : (a b : Bool) → a ≡ true → b ≡ true → (a && b) ≡ true
 and-both a b e f = rw (e, f) refl
-
-or-cases : (a b : Bool) → (a || b) ≡ true → (a ≡ true) ⊎ (b ≡ true)
-or-cases true b e = inl refl
-or-cases false b e = inr e
-
-or-right : (a b : Bool) → b ≡ true → (a || b) ≡ true
-or-right true b e = refl
-or-right false b e = e
-
-or-left : (a b : Bool) → a ≡ true → (a || b) ≡ true
-or-left true b e = refl
-or-left false b e = cc
-
-pub place-back : (w : ℕ) → word_at (line_of w) (place_of w) ≡ w
-place-back w = omega arith
-
-pub any-at : (p : ℕ → Bool) (w : ℕ) → p w ≡ true → any_word p (line_of w) ≡ true
-unfolding any_word
-any-at p w e = any_below-at (λ k. p (word_at (line_of w) k)) 8 (place_of w) (omega arith) (ap p (place-back w) ∙ e)
 
 hit-here : (x : ℕ) (o : Option ℕ) (h : Bool) → h ≡ true → is_some (if h then Some x else o) ≡ true
 hit-here x o true e = refl
@@ -148,15 +121,11 @@ masked-word l m c e =
     let r = any_below-found (λ k. hit l m (word_at l k) && c.read (word_at l k)) 8 e in
     (word_at l r.0, and-left _ _ r.2, and-right _ _ r.2)
 
-same-line : (l m w : ℕ) → hit l m w ≡ true → l ≡ line_of w
-unfolding hit
-same-line l m w e = let q = and-left (l == line_of w) _ e in grind (arith, nat_tests)
-
 masked-at : (l m : ℕ) (c : Cache) (w : ℕ) → hit l m w ≡ true → c.read w ≡ true → reads_masked l m c ≡ true
 unfolding reads_masked
 masked-at l m c w h r =
-    subst (λ k. any_word (λ v. hit l m v && c.read v) k ≡ true) (sym (same-line l m w h))
-    (any-at (λ v. hit l m v && c.read v) w (and-both (hit l m w) (c.read w) h r))
+    subst (λ k. any_word (λ v. hit l m v && c.read v) k ≡ true) (sym (hit-line l m w h))
+    (line-has (λ v. hit l m v && c.read v) w (and-both (hit l m w) (c.read w) h r))
 
 reads-found : (ts : List Tagged) (c : Cache) → reads_any ts c ≡ true → Reads ts c
 unfolding reads_any words_in
@@ -186,7 +155,7 @@ unfolding reads_some any_word
 reads-same sh ts c mem = same-truth (reads_any ts c) _
     (λ e. let r = reads-found ts c e in
     any_below-at (any_word (λ w. is_some (words_in ts w) && c.read w)) (lines sh) (line_of r.0) (mem r.0 r.1)
-    (any-at (λ w. is_some (words_in ts w) && c.read w) r.0 (and-both _ _ r.1 r.2)))
+    (line-has (λ w. is_some (words_in ts w) && c.read w) r.0 (and-both _ _ r.1 r.2)))
     (λ e. let l = any_below-found (any_word (λ w. is_some (words_in ts w) && c.read w)) (lines sh) e in
     let k = any_below-found (λ k. is_some (words_in ts (word_at l.0 k)) && c.read (word_at l.0 k)) 8 l.2 in
     reads-there ts c (word_at l.0 k.0) (and-left _ _ k.2) (and-right _ _ k.2))

@@ -7,30 +7,19 @@ use Rattle.std.proofs.lemmas.List.{map-append}
 use Rattle.std.proofs.lemmas.Bool.{cases_eq}
 use Rattle.std.proofs.lemmas.Bool.Decides.{nat_tests}
 use Rattle.tcc_base.specs.declared.access.Tagged.{Tagged}
+use Rattle.base_lemmas.proofs.Lemmas.{eight-at, or-left, or-right, word_at-own}
 use Rattle.rules_maps.proofs.Lemmas.{has-mask_of}
 use Rattle.rules_maps.specs.Cache.{is_modified}
 use Rattle.rules_maps.specs.Masks.{hit}
 use Rattle.rules_maps.specs.Shape.{Shape, lines}
 use Rattle.rules_maps.specs.Spilled.{holds}
-use Rattle.rules_maps.specs.Words.{any_word, eight, line_of, or_else, place_of, those, word_at}
+use Rattle.rules_maps.specs.Words.{any_word, line_of, or_else, place_of, those, word_at}
 use Rattle.rules_tcc.specs.Commit.{is_written, written_mask}
 use Rattle.rules_tcc.specs.State.{CoreState}
 use Rattle.commit_engine.specs.Solo.{solo_list}
 use Rattle.rules_bus.specs.Commit.{written_words}
 use Rattle.core_node.specs.AtHand.{line_told, lines_told, word_told, words_in}
-use Rattle.bus_tcc.proofs.TakenLines.{any-at, place-back}
-
-pub eight-at : (f : ℕ → ℕ) (k : ℕ) → k < 8 → get_or (eight f) k 0 ≡ f k
-unfolding eight
-eight-at f zero h = refl
-eight-at f (suc zero) h = refl
-eight-at f (suc (suc zero)) h = refl
-eight-at f (suc (suc (suc zero))) h = refl
-eight-at f (suc (suc (suc (suc zero)))) h = refl
-eight-at f (suc (suc (suc (suc (suc zero))))) h = refl
-eight-at f (suc (suc (suc (suc (suc (suc zero)))))) h = refl
-eight-at f (suc (suc (suc (suc (suc (suc (suc zero))))))) h = refl
-eight-at f (suc (suc (suc (suc (suc (suc (suc (suc k)))))))) h = absurd (omega arith)
+use Rattle.theorem_serial.proofs.Lemmas.{line-has}
 
 both-words : (xs ys : List Tagged) (w : ℕ) → words_in (xs ++ ys) w ≡ or_else (words_in xs w) (words_in ys w)
 unfolding words_in
@@ -56,19 +45,11 @@ hit-own s w =
     let own : (line_of w == line_of w) ≡ true = grind (arith, nat_tests) in
     rw own (has-mask_of (λ k. s.cache.modified (word_at (line_of w) k) || is_some (s.spilled (word_at (line_of w) k))) (place_of w)
     (omega arith)
-    ∙ ap (wrote_it s) (place-back w))
+    ∙ ap (wrote_it s) (word_at-own w))
 
 hit-other : (l m w : ℕ) → (l ≡ line_of w → ⊥) → hit l m w ≡ false
 unfolding hit
 hit-other l m w n = let other : (l == line_of w) ≡ false = grind (arith, nat_tests) in rw other refl
-
-or-left : (a b : Bool) → a ≡ true → (a || b) ≡ true
-or-left true b e = refl
-or-left false b e = cc
-
-or-right : (a b : Bool) → b ≡ true → (a || b) ≡ true
-or-right true b e = refl
-or-right false b e = e
 
 -- so its line is one that it wrote
 wrote-line : (s : CoreState) (w : ℕ) → wrote_it s w ≡ true → is_written s.cache s.spilled (line_of w) ≡ true
@@ -77,8 +58,8 @@ wrote-line s w e = by (s.cache.modified w) refl e
   where
     by : (b : Bool) → s.cache.modified w ≡ b → (b || is_some (s.spilled w)) ≡ true
         → (any_word s.cache.modified (line_of w) || any_word (λ v. is_some (s.spilled v)) (line_of w)) ≡ true
-    by true q h = or-left _ _ (any-at s.cache.modified w q)
-    by false q h = or-right _ _ (any-at (λ v. is_some (s.spilled v)) w h)
+    by true q h = or-left _ _ (line-has s.cache.modified w q)
+    by false q h = or-right _ _ (line-has (λ v. is_some (s.spilled v)) w h)
 
 abbrev pub the_line : CoreState → (tid line : ℕ) → Tagged
 the_line s t l = line_told s t (l, written_mask s.cache s.spilled l)
@@ -89,7 +70,7 @@ one-own : (s : CoreState) (t w : ℕ) (b : Bool) → is_written s.cache s.spille
 unfolding words_in line_told
 one-own s t w true e =
     rw (hit-own s w) (ap (λ (x : ℕ). if wrote_it s w then Some x else None)
-    (eight-at (λ k. word_told s (word_at (line_of w) k)) (place_of w) (omega arith) ∙ ap (word_told s) (place-back w)))
+    (eight-at (λ k. word_told s (word_at (line_of w) k)) (place_of w) (omega arith) ∙ ap (word_told s) (word_at-own w)))
 one-own s t w false e = by (wrote_it s w) refl
   where
     by : (c : Bool) → wrote_it s w ≡ c → None ≡ (if c then Some (word_told s w) else None)

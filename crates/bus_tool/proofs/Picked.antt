@@ -1,13 +1,14 @@
 -- The events that random words pick, one after another.
-use Rattle.std.proofs.Common.{◌≡◌, ℕ, suc, ◌+◌, ◌-◌, ◌<◌, ◌≤◌, [], ◌∷◌, List, length, Option, Some, None, refl, ap, sym, ◌∙◌, subst, arith}
-use Rattle.image_load.specs.Contents.{Contents, started}
+use Rattle.std.proofs.Common.{◌≡◌, ℕ, suc, ◌+◌, ◌-◌, ◌<◌, ◌≤◌, [], ◌∷◌, List, length, Option, Some, None, refl, ap, sym, ◌∙◌, arith}
+use Rattle.base_lemmas.proofs.Lemmas.{fewer}
+use Rattle.image_load.specs.Contents.{started}
 use Rattle.rand_core.specs.Steps.{first_words}
 use Rattle.rand_pcg.specs.Lcg.{Lcg}
 use Rattle.rand_pcg.specs.Pcg.{pcg32}
 use Rattle.rv_code.specs.Machine.{program}
 use Rattle.rules_bus.specs.State.{BusEvent}
-use Rattle.rules_bus.specs.Step.{BusHistory, and_then, bus_from, bus_next, bus_run}
-use Rattle.rules_bus.specs.Useful.{after_event, bus_chosen, bus_pick, bus_picked, bus_useful}
+use Rattle.rules_bus.specs.Step.{BusHistory, and_then, bus_from, bus_next}
+use Rattle.rules_bus.specs.Useful.{after_event, bus_chosen, bus_pick, bus_picked}
 use Rattle.bus_tcc.specs.Chosen.{bus_useful_of}
 use Rattle.bus_tcc.specs.Machine.{BusMachine, bus_history_of, bus_program_of, bus_settings_of}
 use Rattle.bus_tool.specs.Picking.{TookPicked, picks}
@@ -84,9 +85,6 @@ going-none m g all =
       count = omega (arith, long);
       events = omega arith;
     }
-
-fewer : (all i : ℕ) → i < all → all - i ≡ suc (all - (i + 1))
-fewer all i h = omega (arith, h)
 
 pub going-more : {m n : BusMachine} {f g : Lcg} {all i : ℕ} (o : BusMachine) (e : BusEvent) → Going m n f g all i → i < all
     → chosen_at g n ≡ Some e

@@ -1,11 +1,12 @@
 -- Some line of a packet has a word that was read, exactly where a word of the packet was.
-use Rattle.std.proofs.Common.{◌≡◌, ℕ, zero, suc, ◌<◌, Bool, true, false, not, eqb, ◌&&◌, ◌||◌, List, [], ◌∷◌, ◌++◌, map, Option, Some, None}
-use Rattle.std.proofs.Common.{is_some, refl, ap, sym, ◌∙◌, arith}
+use Rattle.std.proofs.Common.{◌≡◌, ℕ, zero, suc, Bool, true, false, not, ◌&&◌, ◌||◌, List, [], ◌∷◌, ◌++◌, map, Option, Some, None}
+use Rattle.std.proofs.Common.{is_some, refl, ap, sym, ◌∙◌}
 use Rattle.std.specs.Prelude.{◌==◌, cond, if◌then◌else◌}
 use Rattle.std.proofs.lemmas.List.{map-append}
+use Rattle.base_lemmas.proofs.Lemmas.{and-left, any_below-same}
 use Rattle.rules_maps.proofs.Lemmas.{any_below-at, any_below-found, has-mask_of}
 use Rattle.rules_maps.specs.Masks.{has, mask_of}
-use Rattle.rules_maps.specs.Shape.{Shape, lines}
+use Rattle.rules_maps.specs.Shape.{lines}
 use Rattle.rules_maps.specs.Words.{any_below, any_word, or_else, those, word_at}
 use Rattle.rules_tcc.specs.State.{CoreState}
 use Rattle.rules_bus.specs.Take.{reads_some}
@@ -19,11 +20,6 @@ use Rattle.bus_watch.specs.Laws.{ViolationsAreRollBacks}
 abbrev hits : (words : ℕ → Option ℕ) → CoreState → (word : ℕ) → Bool
 hits f s w = is_some (f w) && s.cache.read w
 
-any-same : (p q : ℕ → Bool) (n : ℕ) → ((k : ℕ) → k < n → p k ≡ q k) → any_below p n ≡ any_below q n
-unfolding any_below
-any-same p q zero h = refl
-any-same p q (suc n) h = λ i. any-same p q n (λ k l. h k (omega (arith, l))) i || h n (omega arith) i
-
 -- the words of a line that were read are some, exactly where one is
 some-read : (f : ℕ → Option ℕ) (s : CoreState) (l : ℕ)
     → not (words_read l (mask_of (λ k. is_some (f (word_at l k)))) s == 0) ≡ any_word (hits f s) l
@@ -31,12 +27,8 @@ unfolding words_read any_word
 some-read f s l =
     let m : ℕ = mask_of (λ k. is_some (f (word_at l k))) in
     some-bit (λ k. has m k && s.cache.read (word_at l k))
-    ∙ any-same (λ k. has m k && s.cache.read (word_at l k)) (λ k. hits f s (word_at l k)) 8
+    ∙ any_below-same (λ k. has m k && s.cache.read (word_at l k)) (λ k. hits f s (word_at l k)) 8
     (λ k below. ap (λ b. b && s.cache.read (word_at l k)) (has-mask_of (λ j. is_some (f (word_at l j))) k below))
-
-and-left : (a b : Bool) → (a && b) ≡ true → a ≡ true
-and-left true b e = refl
-and-left false b e = cc
 
 -- a line of which the packet has no word has none that was read
 none-hit : (f : ℕ → Option ℕ) (s : CoreState) (l : ℕ) → any_word (λ w. is_some (f w)) l ≡ false → any_word (hits f s) l ≡ false

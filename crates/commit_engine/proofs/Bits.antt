@@ -1,6 +1,6 @@
 -- Sets of directories, place by place.
-use Rattle.std.proofs.Common.{ℕ, suc, zero, ◌+◌, ◌-◌, ◌/◌, ◌%◌, ◌^◌, ◌<◌, ◌≤◌, ◌≡◌, Bool, true, false, not, ◌&&◌, ◌||◌, inl, inr, ◌⊎◌, min}
-use Rattle.std.proofs.Common.{max, nat_eq, nat_lt, ltb, if◌then◌else◌, refl, sym, ap, ◌∙◌, arith}
+use Rattle.std.proofs.Common.{ℕ, ◌-◌, ◌/◌, ◌^◌, ◌<◌, ◌≤◌, ◌≡◌, Bool, true, false, not, ◌&&◌, ◌||◌, inl, inr}
+use Rattle.std.proofs.Common.{nat_eq, nat_lt, ltb, if◌then◌else◌, refl, sym, ap, ◌∙◌, arith}
 use Rattle.std.specs.Int.{bit_at}
 use Rattle.std.specs.Int.RustNames.{bit_or, bit_xor}
 use lib.Bits.{bit_and}
@@ -9,18 +9,10 @@ use Rattle.std.proofs.lemmas.Nat.Bits.{bit_at_ones, bit_at_ones_above, same_from
 use Rattle.std.proofs.lemmas.Bool.{cases_eq, eq-eqb, ne_eqb, false≢true}
 use Rattle.std.proofs.lemmas.Bool.Decides.{nat_tests}
 use Rattle.tcc_base.specs.Put.{put}
+use Rattle.base_lemmas.proofs.Lemmas.{and-false, and-true, any_below-found, bit_join, bit_meet, bit_minus, has-zero, none_below, or-false}
+use Rattle.base_lemmas.proofs.Lemmas.{or-true}
 use Rattle.rules_maps.specs.Masks.{has}
 use Rattle.rules_maps.specs.Words.{any_below}
-
-pub has-zero : (k : ℕ) → has 0 k ≡ false
-unfolding has
-has-zero k = rw bit_at-zero refl
-
-bit_join : (a b : ℕ) → a < 2 → b < 2 → nat_eq 1 (max a b) ≡ (nat_eq 1 a || nat_eq 1 b)
-bit_join a b p q = grind (arith, nat_tests)
-
-bit_meet : (a b : ℕ) → a < 2 → b < 2 → nat_eq 1 (min a b) ≡ (nat_eq 1 a && nat_eq 1 b)
-bit_meet a b p q = grind (arith, nat_tests)
 
 pub has-or : (m n k : ℕ) → has (bit_or m n) k ≡ (has m k || has n k)
 unfolding has
@@ -46,14 +38,6 @@ has-below n k = below (ltb k n) refl
     below true e = (let h : k < n = grind (arith, nat_tests) in rw (bit_at_ones n k h) (sym e))
     below false e = (let h : n ≤ k = grind (arith, nat_tests) in rw (bit_at_ones_above n k h) (sym e))
 
-or-false : (b : Bool) → (b || false) ≡ b
-or-false true = refl
-or-false false = refl
-
-or-true : (b : Bool) → (b || true) ≡ true
-or-true true = refl
-or-true false = refl
-
 -- a set with one more member, and without one
 pub has-with : (m d j : ℕ) → has (bit_or m (2 ^ d)) j ≡ put (has m) d true j
 has-with m d j = rw (has-or m (2 ^ d) j, has-pow d j) (at_test (nat_eq j d))
@@ -62,20 +46,9 @@ has-with m d j = rw (has-or m (2 ^ d) j, has-pow d j) (at_test (nat_eq j d))
     at_test true = or-true (has m j)
     at_test false = or-false (has m j)
 
-bit_minus : (a b : ℕ) → a < 2 → b < 2 → nat_eq 1 ((a + min a b) % 2) ≡ (nat_eq 1 a && not (nat_eq 1 b))
-bit_minus a b p q = grind (arith, nat_tests)
-
 pub has-minus : (m n k : ℕ) → has (bit_xor m (bit_and m n)) k ≡ (has m k && not (has n k))
 unfolding has
 has-minus m n k = rw (bit_at_xor, bit_at_and) (bit_minus (bit_at m k) (bit_at n k) (bit_at-lt m k) (bit_at-lt n k))
-
-and-true : (b : Bool) → (b && true) ≡ b
-and-true true = refl
-and-true false = refl
-
-and-false : (b : Bool) → (b && false) ≡ false
-and-false true = refl
-and-false false = refl
 
 pub has-without : (m d j : ℕ) → has (bit_xor m (bit_and m (2 ^ d))) j ≡ put (has m) d false j
 has-without m d j = rw (has-minus m (2 ^ d) j, has-pow d j) (at_test (nat_eq j d))
@@ -92,34 +65,6 @@ bit_test m d = rw (shr_and_one m d) (turned (bit_at m d) (bit_at-lt m d))
     turned : (b : ℕ) → b < 2 → nat_eq b 1 ≡ nat_eq 1 b
     turned b h = grind (arith, nat_tests)
 
-or_left : (a b : Bool) → (a || b) ≡ false → a ≡ false
-or_left true b e = e
-or_left false b e = refl
-
-or_right : (a b : Bool) → (a || b) ≡ false → b ≡ false
-or_right true b e = absurd (false≢true (sym e))
-or_right false b e = e
-
-or_cases : (a b : Bool) → (a || b) ≡ true → (a ≡ true) ⊎ (b ≡ true)
-or_cases true b e = inl refl
-or_cases false b e = inr e
-
-pub below_false : (p : ℕ → Bool) (n k : ℕ) → any_below p n ≡ false → k < n → p k ≡ false
-unfolding any_below
-below_false p zero k e h = absurd (omega arith)
-below_false p (suc n) k e h = elim (cases_eq k n) [
-  | inl q ↦ rw q (or_right (any_below p n) (p n) e)
-  | inr m ↦ below_false p n k (or_left (any_below p n) (p n) e) (omega arith)
-]
-
-pub below_true : (p : ℕ → Bool) (n : ℕ) → any_below p n ≡ true → (k : ℕ) × (k < n) × (p k ≡ true)
-unfolding any_below
-below_true p zero e = absurd (false≢true e)
-below_true p (suc n) e = elim (or_cases (any_below p n) (p n) e) [
-  | inl a ↦ (let w : (k : ℕ) × (k < n) × (p k ≡ true) = below_true p n a in (w.0, omega (arith, w.1), w.2))
-  | inr b ↦ (n, omega arith, b)
-]
-
 no_bits : (b : ℕ) → ((k : ℕ) → has b k ≡ false) → b ≡ 0
 unfolding has
 no_bits b h = same_from_bits b 0 (λ i. rw bit_at-zero (low (bit_at b i) (bit_at-lt b i) (h i)))
@@ -132,13 +77,13 @@ pub empty_below : (s b n : ℕ) → ((k : ℕ) → has b k ≡ (has s k && nat_l
 empty_below s b n h = by_test (any_below (has s) n) refl
   where
     out : (t : Bool) → (k : ℕ) → nat_lt k n ≡ t → any_below (has s) n ≡ false → (has s k && t) ≡ false
-    out true k e f = (let p : k < n = grind (arith, nat_tests) in rw (below_false (has s) n k f p) refl)
+    out true k e f = (let p : k < n = grind (arith, nat_tests) in rw (none_below (has s) n k f p) refl)
     out false k e f = and-false (has s k)
 
     by_test : (t : Bool) → any_below (has s) n ≡ t → nat_eq b 0 ≡ not t
     by_test false e = (let z : b ≡ 0 = no_bits b (λ k. h k ∙ out (nat_lt k n) k refl e) in rw z refl)
     by_test true e = (
-        let w : (k : ℕ) × (k < n) × (has s k ≡ true) = below_true (has s) n e in
+        let w : (k : ℕ) × (k < n) × (has s k ≡ true) = any_below-found (has s) n e in
         let l : nat_lt w.0 n ≡ true = (let p : w.0 < n = w.1 in grind (arith, nat_tests)) in
         let t : has b w.0 ≡ true = h w.0 ∙ rw (w.2, l) refl in
         ne_eqb b 0 (λ z. false≢true (sym (has-zero w.0) ∙ (ap (λ (x : ℕ). has x w.0) (sym z) ∙ t))))

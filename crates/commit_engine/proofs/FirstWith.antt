@@ -3,6 +3,7 @@ use Rattle.std.proofs.Common.{ℕ, ◌+◌, ◌≡◌, Bool, true, false, not, �
 use Rattle.std.proofs.Common.{arith}
 use Rattle.std.proofs.lemmas.Bool.Decides.{nat_tests}
 use Rattle.tcc_base.specs.Put.{put}
+use Rattle.base_lemmas.proofs.Lemmas.{lt_self}
 use Rattle.rules_maps.specs.Masks.{has}
 use Rattle.rules_maps.specs.Nodes.{Node, Core, Dir, Vendor, Skip, Probe, Abort}
 use Rattle.rules_maps.specs.Shape.{Shape}
@@ -24,9 +25,6 @@ lt_same n = grind (arith, nat_tests)
 
 lt_next : (d n : ℕ) → nat_eq d n ≡ false → nat_lt d (n + 1) ≡ nat_lt d n
 lt_next d n e = grind (arith, nat_tests)
-
-lt_self : (n : ℕ) → nat_lt n n ≡ false
-lt_self n = grind (arith, nat_tests)
 
 pub first_in : (n : ℕ) (p : ℕ → Bool) → p n ≡ true → put (first_with n p) n true ≡ first_with (n + 1) p
 unfolding first_with

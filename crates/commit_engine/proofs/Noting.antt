@@ -1,5 +1,5 @@
 -- The commits that go to the written directories, and what is noted of them.
-use Rattle.std.proofs.Common.{ℕ, suc, zero, ◌+◌, ◌%◌, ◌<◌, ◌≡◌, ◌≢◌, Bool, true, false, not, cond, ◌==◌, ◌&&◌, ◌||◌, nat_eq, nat_lt}
+use Rattle.std.proofs.Common.{ℕ, suc, zero, ◌+◌, ◌%◌, ◌<◌, ◌≡◌, ◌≢◌, Bool, true, false, ◌==◌, ◌&&◌, nat_eq, nat_lt}
 use Rattle.std.proofs.Common.{if◌then◌else◌, inl, inr, List, [], ◌∷◌, length, get_or, set, refl, ap, sym, ◌∙◌, arith}
 use Rattle.std.proofs.Math.Nat.{mod-lt}
 use Rattle.std.proofs.lemmas.Bool.{cases_eq, ne_eqb}
@@ -7,6 +7,7 @@ use Rattle.std.proofs.lemmas.Bool.Decides.{nat_tests}
 use Rattle.std.proofs.lemmas.List.{get_or-set_same, get_or-set_other}
 use Rattle.tcc_base.specs.Put.{put}
 use Rattle.tcc_base.specs.declared.names.Tid.{Tid}
+use Rattle.base_lemmas.proofs.Lemmas.{any_below-count}
 use Rattle.rules_maps.specs.Words.{any_below, count_below}
 use Rattle.rules_maps.specs.Masks.{has}
 use Rattle.rules_maps.specs.Spilled.{Spilled}
@@ -18,16 +19,6 @@ use Rattle.rules_tcc.specs.Sends.{when}
 use Rattle.commit_engine.specs.Engine.{after_of, first_with}
 use Rattle.commit_engine.specs.Sent.{to_first}
 use Rattle.commit_engine.proofs.FirstWith.{first_none, first_in, first_out}
-
--- a number below n has the property exactly where their number isn't zero
-one_more : (a : ℕ) (b : Bool) → (not (nat_eq a 0) || b) ≡ not (nat_eq (a + cond b 1 0) 0)
-one_more a true = grind (arith, nat_tests)
-one_more a false = grind (arith, nat_tests)
-
-pub any_below-count : (p : ℕ → Bool) (n : ℕ) → any_below p n ≡ not (nat_eq (count_below p n) 0)
-unfolding any_below count_below
-any_below-count p zero = refl
-any_below-count p (suc n) = rw (any_below-count p n) (one_more (count_below p n) (p n))
 
 -- how many lines were written at a directory, and what goes there
 abbrev pub count_at : Shape → Cache → ℕ → ℕ

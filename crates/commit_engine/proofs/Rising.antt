@@ -1,15 +1,9 @@
 -- Lists of numbers that rise: two with the same elements are the same.
-use Rattle.std.proofs.Common.{ℕ, suc, zero, ◌<◌, ◌≡◌, Bool, true, false, cond, ◌⊎◌, inl, inr, List, [], ◌∷◌, length, get_or, refl, sym, ◌∙◌}
+use Rattle.std.proofs.Common.{ℕ, suc, ◌<◌, ◌≡◌, Bool, true, false, cond, ◌⊎◌, inl, inr, List, [], ◌∷◌, length, get_or, refl, sym, ◌∙◌}
 use Rattle.std.proofs.Common.{ap, subst, arith, Contains}
 use Rattle.std.specs.List.{AllPairs, filter}
 use Rattle.std.proofs.lemmas.Bool.{false≢true}
-
-head_or_tail : (x k : ℕ) (xs : List ℕ) → Contains (x ∷ xs) k → (x ≡ k) ⊎ Contains xs k
-head_or_tail x k xs (zero, b, e) = inl e
-head_or_tail x k xs (suc i, b, e) = inr (i, omega arith, e)
-
-in_tail : (x k : ℕ) (xs : List ℕ) → Contains xs k → Contains (x ∷ xs) k
-in_tail x k xs c = (suc c.0, (let h : c.0 < length xs = c.1 in omega arith), c.2)
+use Rattle.base_lemmas.proofs.Lemmas.{at_head, head_or_tail, in_tail}
 
 abbrev pub Rises : List ℕ → Type 0
 Rises xs = AllPairs (λ x y. x < y) xs
@@ -23,9 +17,6 @@ above_head x k xs r c =
 
 tail_rises : (x : ℕ) (xs : List ℕ) → Rises (x ∷ xs) → Rises xs
 tail_rises x xs r = λ i j d h l. r (suc i) (suc j) d (omega arith) (omega arith)
-
-at_head : (x : ℕ) (xs : List ℕ) → Contains (x ∷ xs) x
-at_head x xs = (0, omega arith, refl)
 
 -- two rising lists of the same numbers are the same
 pub rising_same : (xs ys : List ℕ) → Rises xs → Rises ys → ((k : ℕ) → Contains xs k → Contains ys k)

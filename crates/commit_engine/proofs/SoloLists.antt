@@ -5,6 +5,7 @@ use Rattle.std.specs.List.{flat_map}
 use Rattle.std.proofs.Math.Nat.{mod-lt}
 use Rattle.std.proofs.lemmas.Bool.Decides.{nat_tests}
 use Rattle.std.proofs.lemmas.List.{map-append, length-map}
+use Rattle.base_lemmas.proofs.Lemmas.{any_below-count, count_below-most}
 use Rattle.rules_maps.specs.Words.{count_below, those}
 use Rattle.rules_maps.specs.Nodes.{Node, Core, Dir, Vendor, Msg, Skip, Mark, Commit, WriteBack}
 use Rattle.rules_maps.specs.Shape.{Shape, home, lines}
@@ -14,7 +15,6 @@ use Rattle.rules_maps.proofs.Lemmas.{length-those}
 use Rattle.rules_tcc.specs.Commit.{is_written, written_mask, solo_writes_at, solo_marks_or_skip, solo_write_backs, solo_sends}
 use Rattle.commit_engine.specs.Sent.{followed, to_first}
 use Rattle.commit_engine.specs.Solo.{solo_list, at_homes, marked_line, spilled_back, here, closing}
-use Rattle.commit_engine.proofs.Noting.{any_below-count}
 
 pub flat_map-append : {X A : Type 0} (f : X → List A) (xs ys : List X) → flat_map f (xs ++ ys) ≡ flat_map f xs ++ flat_map f ys
 flat_map-append f [] ys = refl
@@ -157,24 +157,13 @@ solo_are sh c sp t ms s e =
     each (Core k) = rw (no_core sh (marked_line t) all k, no_core sh (spilled_back sp t) all k) refl
     each Vendor = rw (no_vendor sh (marked_line t) all, no_vendor sh (spilled_back sp t) all) refl
 
--- there are no more of them than lines
-count_small : (p : ℕ → Bool) (n : ℕ) → count_below p n ≤ n
-unfolding count_below
-count_small p zero = omega arith
-count_small p (suc n) = let rest : count_below p n ≤ n = count_small p n in let own : cond (p n) 1 0 ≤ 1 = by (p n) in
-    omega (arith, rest, own)
-  where
-    by : (b : Bool) → cond b 1 0 ≤ 1
-    by true = omega arith
-    by false = omega arith
-
 pub few_lines : (sh : Shape) (c : Cache) (sp : Spilled) (ms : List (ℕ × ℕ)) → ms ≡ solo_list sh c sp → length ms ≤ lines sh
 unfolding solo_list
 few_lines sh c sp ms e =
     let long : length ms ≡ count_below (is_written c sp) (lines sh) =
     ap length e ∙ length-map (those (is_written c sp) (lines sh)) (λ l. (l, written_mask c sp l))
     ∙ length-those (is_written c sp) (lines sh) in
-    let small = count_small (is_written c sp) (lines sh) in
+    let small = count_below-most (is_written c sp) (lines sh) in
     omega (arith, long, small)
 
 -- a directory was written exactly where a line of the list is at home

@@ -1,6 +1,7 @@
 -- The mask of the words of a line that are modified or spilled.
 use Rattle.std.proofs.Common.{ℕ, ◌^◌, ◌<◌, ◌≡◌, Bool, true, false, ◌||◌, None, is_some, bit_or, refl, ap, sym, ◌∙◌, arith}
 use Rattle.std.proofs.lemmas.Nat.{or_lt}
+use Rattle.base_lemmas.proofs.Lemmas.{mask_of-same}
 use Rattle.rules_maps.specs.Words.{line_of, word_at}
 use Rattle.rules_maps.specs.Masks.{has, mask_of, join}
 use Rattle.rules_maps.specs.Shape.{Shape}
@@ -8,19 +9,6 @@ use Rattle.rules_maps.specs.Cache.{Cache, IsCache, modified_mask}
 use Rattle.rules_maps.specs.Spilled.{Spilled, spilled_mask}
 use Rattle.rules_tcc.specs.Commit.{written_mask}
 use Rattle.rules_maps.proofs.Lemmas.{has-join, has-mask_of, mask_of-has, mask_of-small}
-
-pub mask_of-same : (p q : ℕ → Bool) → ((k : ℕ) → k < 8 → p k ≡ q k) → mask_of p ≡ mask_of q
-unfolding mask_of
-mask_of-same p q e = rw (
-  e 0 (omega arith),
-  e 1 (omega arith),
-  e 2 (omega arith),
-  e 3 (omega arith),
-  e 4 (omega arith),
-  e 5 (omega arith),
-  e 6 (omega arith),
-  e 7 (omega arith),
-) refl
 
 mask_of-or : (p q : ℕ → Bool) → join (mask_of p) (mask_of q) ≡ mask_of (λ k. p k || q k)
 mask_of-or p q =

@@ -9,6 +9,7 @@ use Rattle.std.proofs.lemmas.List.Elements.{Contains-append_cases, Contains-appe
 use Rattle.std.proofs.lemmas.List.Kept.{AllPairs-filter}
 use Rattle.tcc_base.specs.declared.names.LineAddr.{LineAddr}
 use Rattle.tcc_base.specs.declared.names.Mask.{Mask}
+use Rattle.base_lemmas.proofs.Lemmas.{lt-from, or-left, or-right}
 use Rattle.rules_maps.specs.Words.{those}
 use Rattle.rules_maps.specs.Shape.{Shape, home, lines}
 use Rattle.rules_maps.specs.Cache.{Cache, is_modified, modified_mask, written_lines, marks_by_home}
@@ -47,13 +48,6 @@ pub record Gathered (sh : Shape) (c : Cache) (sp : Spilled) (d : ℕ) (ls : List
   pub modified : (l : ℕ) → l < lines sh → is_modified c l ≡ true → home sh l < d → Contains ls l
   pub spilled : (l : ℕ) → holds sp l ≡ true → Contains ls l
   pub only : (l : ℕ) → Contains ls l → is_written c sp l ≡ true
-
-or-left : (a b : Bool) → a ≡ true → (a || b) ≡ true
-or-left a b e = rw e refl
-
-or-right : (a b : Bool) → b ≡ true → (a || b) ≡ true
-or-right true b e = refl
-or-right false b e = e
 
 pub gathered-none : (sh : Shape) (c : Cache) (sp : Spilled) (ls : List ℕ)
     → ((l : ℕ) → (Contains ls l → holds sp l ≡ true) × (holds sp l ≡ true → Contains ls l)) → Gathered sh c sp 0 ls
@@ -99,9 +93,6 @@ gathered-all sh c sp d ls g h l b w = by (is_modified c l) (holds sp l) refl ref
 abbrev below : (n l : ℕ) → Bool
 below n l = nat_lt l n
 
-under : (k n : ℕ) → nat_lt k n ≡ true → k < n
-under k n t = grind (arith, nat_tests)
-
 over : (k n : ℕ) → n ≤ k → nat_lt k n ≡ false
 over k n h = grind (arith, nat_tests)
 
@@ -138,4 +129,4 @@ marks-whole sh c sp ls n i ms q h r each only e =
     (lt-ltb k n (let b : k < lines sh = t.0 in omega (arith, b, q)))))
   where
     less : (k : ℕ) → nat_lt k n ≡ true → k < lines sh
-    less k t = subst (λ (x : ℕ). k < x) q (under k n t)
+    less k t = subst (λ (x : ℕ). k < x) q (lt-from k n t)

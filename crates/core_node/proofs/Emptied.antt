@@ -1,6 +1,7 @@
 -- A frame that is emptied, in the words of the maps and of the rules.
 use Rattle.std.proofs.Common.{◌≡◌, ℕ, Bool, true, false, not, is_some, ◌&&◌, ◌||◌, if◌then◌else◌, Option, Some, None, refl, ap, ◌∙◌, sym}
 use Rattle.std.proofs.lemmas.Bool.{false≢true}
+use Rattle.base_lemmas.proofs.Lemmas.{neither-left}
 use Rattle.rules_maps.specs.Cache.{Cache, IsCache, is_marked}
 use Rattle.rules_maps.specs.CacheChange.{evicted, evicted_line}
 use Rattle.rules_maps.specs.Shape.{Shape}
@@ -49,10 +50,6 @@ pub record Leaves (sh : Shape) (x y : ℕ) (s : CoreState) (l : ℕ) : Type 0 wh
   pub free : is_awaited s.awaited l ≡ false
   pub does : core_evict sh x y s ≡ Some (gone sh x y s l)
 
-not_first : (a b : Bool) → (a || b) ≡ false → a ≡ false
-not_first true b e = e
-not_first false b e = refl
-
 pub evict_some : (sh : Shape) (x y : ℕ) (s : CoreState) → is_some (core_evict sh x y s) ≡ true → (l : ℕ) × Leaves sh x y s l
 unfolding core_evict
 evict_some sh x y s h = by (s.cache.at x y) refl
@@ -65,7 +62,7 @@ evict_some sh x y s h = by (s.cache.at x y) refl
     by None e = absurd (false≢true (rw e at h))
     by (Some l) e =
         let b : stays_put s l ≡ false = lifted (stays_put s l) (gone sh x y s l) (rw e at h) in
-        (l, record { here = e; free = not_first _ _ b; does = rw e (rw b refl) })
+        (l, record { here = e; free = neither-left _ _ b; does = rw e (rw b refl) })
 
 -- the core after its modified words were kept and its frame emptied
 pub evicted_core : (x y l : ℕ) (k m n : Core) → m ≡ record k { spilled = m.spilled } → n ≡ record m { cache = n.cache }

@@ -6,6 +6,7 @@ use Rattle.std.specs.Option.{option_map}
 use Rattle.std.specs.List.{flat_map}
 use Rattle.std.proofs.lemmas.List.{length-map}
 use Rattle.std.proofs.lemmas.Option.{slice_get-map, slice_get-get_or, slice_get_past}
+use Rattle.base_lemmas.proofs.Lemmas.{filter-flat, filter-map, those-same}
 use Rattle.rules_program.specs.Program.{Program}
 use Rattle.rules_maps.specs.Cache.{Cache, is_marked}
 use Rattle.rules_maps.specs.CacheUse.{Wants, is_number, is_useful_way, useful_at, useful_ways}
@@ -17,7 +18,7 @@ use Rattle.rules_tcc.specs.Seen.{numbers}
 use Rattle.rules_tcc.specs.State.{CoreState, Awaited}
 use Rattle.rules_tcc.specs.Useful.{holds_written, is_this_set, room}
 use Rattle.core_node.specs.Useful.{evict_is_useful, line_awaited, useful_evicts, wants_in}
-use Rattle.core_node.proofs.Listed.{filter-flat, filter-map, filter-numbers, flat-same, in_row, row_of, those-rows, those-same}
+use Rattle.core_node.proofs.Listed.{filter-numbers, flat-same, in_row, row_of, those-rows}
 
 -- ---- a way
 

@@ -1,10 +1,9 @@
 -- An instruction that fills the line of a word that it reads, and one that fills none.
 use Rattle.std.proofs.Common.{◌≡◌, ◌≢◌, ℕ, Bool, true, false, not, is_some, ◌||◌, ◌&&◌, if◌then◌else◌, Option, Some, None, Result, Ok}
-use Rattle.std.proofs.Common.{Err, OnOk, OnErr, List, refl, ap, subst, sym, ◌∙◌, arith}
-use Rattle.std.specs.Prelude.{◌==◌, get_or}
-use Rattle.std.proofs.lemmas.Bool.Decides.{nat_tests}
+use Rattle.std.proofs.Common.{Err, OnOk, OnErr, List, refl, ap, subst, sym, ◌∙◌}
 use Rattle.tcc_base.specs.declared.access.Size.{Size}
 use Rattle.tcc_base.specs.declared.access.Size.TheVariants.{Byte, Half, Word}
+use Rattle.base_lemmas.proofs.Lemmas.{eq-self}
 use Rattle.image_load.specs.Start.{Start}
 use Rattle.rv_code.specs.Instructions.{Runs}
 use Rattle.rv_code.specs.Machine.{program, in_ram}
@@ -19,18 +18,16 @@ use Rattle.rv_plain.specs.Attempts.{alone}
 use Rattle.rules_program.specs.Program.{Need, Nothing, Loads, Stores, Changes, Prints, Ends, Halts, Traps, Program}
 use Rattle.rules_program.specs.Ram.{word_of}
 use Rattle.rules_maps.specs.Cache.{Cache, free_way, all_marked}
-use Rattle.rules_maps.specs.CacheChange.{filled, marked, placed, placed_at}
+use Rattle.rules_maps.specs.CacheChange.{filled, placed, placed_at}
 use Rattle.rules_maps.specs.CacheLook.{Look, Hit, Miss, NeedsRoom, Overflow, look_line, look_store}
 use Rattle.rules_maps.specs.Shape.{Shape, set_of}
 use Rattle.rules_maps.specs.Spilled.{holds}
-use Rattle.rules_maps.specs.Words.{line_of, place_of}
-use Rattle.rules_tcc.specs.Attempt.{Out, finished, is_running, is_solo, moves, new_word, one_more_instruction}
-use Rattle.rules_tcc.specs.Commit.{solo_commit, committed_core}
-use Rattle.rules_tcc.specs.CoreDeliver.{fill}
+use Rattle.rules_maps.specs.Words.{line_of}
+use Rattle.rules_tcc.specs.Attempt.{Out, finished, is_running, moves, new_word}
 use Rattle.rules_tcc.specs.CoreExec.{core_exec, exec_in_phase, unless_awaiting}
-use Rattle.rules_tcc.specs.Execute.{request_line, miss, full_set, load, load_spilled, load_valid, overflow, place, with_read_mark}
+use Rattle.rules_tcc.specs.Execute.{load, with_read_mark}
 use Rattle.rules_tcc.specs.Execute.{stored_in_buffer, stored_in_frame}
-use Rattle.rules_tcc.specs.Execute.{word_store, partial_store, change_spilled, change_valid, marks_read, end_transaction, execute}
+use Rattle.rules_tcc.specs.Execute.{partial_store, marks_read, execute}
 use Rattle.rules_tcc.specs.Execute.{execute_need}
 use Rattle.rules_tcc.specs.Sends.{Sends}
 use Rattle.rules_tcc.specs.State.{CoreState, Awaited, Phase, Running, AwaitTid, DoomedTid, Probing, Ready, Overflowing as Overflows, Solo}
@@ -44,16 +41,13 @@ use Rattle.core_node.specs.Executing.{GoesOn, IsAligned}
 use Rattle.core_node.specs.Waiting.{has_way}
 use Rattle.core_node.proofs.InstAtPc.{executed_as}
 use Rattle.core_node.proofs.Finished.{cache-finished, finished_cache}
-use Rattle.core_node.proofs.Loaded.{load_missing, load_valid as valid_loads}
-use Rattle.core_node.proofs.Stored.{partial_missing, partial_valid}
+use Rattle.core_node.proofs.Loaded.{load_valid as valid_loads}
+use Rattle.core_node.proofs.Stored.{partial_valid}
 
 -- ---- the line of a word that is read
 
 abbrev pub framed_cache : Shape → (line : ℕ) → Cache → Cache
 framed_cache sh l c = if c.held l then c else placed sh l c
-
-same-line : (l : ℕ) → (l == l) ≡ true
-same-line l = grind (arith, nat_tests)
 
 placed-value : (sh : Shape) (l : ℕ) (c : Cache) → (placed sh l c).value ≡ c.value
 unfolding placed placed_at
@@ -74,7 +68,7 @@ framed-value sh l c = by (c.held l)
 pub lined-value : (sh : Shape) (w : ℕ) (ws : List ℕ) (s : CoreState)
     → (lined sh (line_of w) ws s).cache.value w ≡ Some (word_lined ws w s)
 unfolding lined filled
-lined-value sh w ws s = rw (same-line (line_of w), framed-value sh (line_of w) s.cache) refl
+lined-value sh w ws s = rw (eq-self (line_of w), framed-value sh (line_of w) s.cache) refl
 
 way-line : (sh : Shape) (l : ℕ) (c : Cache) (h : Bool) → h ≡ c.held l
     → has_way (if h then Hit 0 else look_line sh l c) ≡ (h || is_some (free_way sh c (set_of sh l)))

@@ -6,41 +6,18 @@ use Rattle.std.proofs.lemmas.Grind.{flat_map-append}
 use Rattle.std.proofs.lemmas.List.{map-append}
 use Rattle.std.proofs.lemmas.List.Elements.{filter-append}
 use Rattle.std.proofs.lemmas.Nat.{div-mul-add, mod-mul-add}
+use Rattle.base_lemmas.proofs.Lemmas.{map-map, those-same}
 use Rattle.rules_maps.specs.Words.{those}
 use Rattle.rules_tcc.specs.Seen.{numbers}
-
-pub filter-map : {A B : Type 0} (t : B → Bool) (g : A → B) (xs : List A) → filter t (map g xs) ≡ map g (filter (λ x. t (g x)) xs)
-filter-map t g [] = refl
-filter-map t g (x ∷ xs) = by (t (g x)) (filter-map t g xs)
-  where
-    by : (b : Bool) → filter t (map g xs) ≡ map g (filter (λ x. t (g x)) xs)
-        → cond b (g x ∷ filter t (map g xs)) (filter t (map g xs))
-        ≡ map g (cond b (x ∷ filter (λ x. t (g x)) xs) (filter (λ x. t (g x)) xs))
-    by true e = ap (λ ys. g x ∷ ys) e
-    by false e = e
-
-pub filter-flat : {A B : Type 0} (t : B → Bool) (g : A → List B) (xs : List A)
-    → filter t (flat_map g xs) ≡ flat_map (λ x. filter t (g x)) xs
-filter-flat t g [] = refl
-filter-flat t g (x ∷ xs) = filter-append t (g x) (flat_map g xs) ∙ ap (λ ys. filter t (g x) ++ ys) (filter-flat t g xs)
 
 pub map-flat : {A B C : Type 0} (f : B → C) (g : A → List B) (xs : List A) → map f (flat_map g xs) ≡ flat_map (λ x. map f (g x)) xs
 map-flat f g [] = refl
 map-flat f g (x ∷ xs) = map-append f (g x) (flat_map g xs) ∙ ap (λ ys. map f (g x) ++ ys) (map-flat f g xs)
 
-pub map-map : {A B C : Type 0} (f : B → C) (g : A → B) (xs : List A) → map f (map g xs) ≡ map (λ x. f (g x)) xs
-map-map f g [] = refl
-map-map f g (x ∷ xs) = ap (λ ys. f (g x) ∷ ys) (map-map f g xs)
-
 pub filter-numbers : (t : ℕ → Bool) (n : ℕ) → filter t (numbers n) ≡ those t n
 unfolding those
 filter-numbers t zero = refl
 filter-numbers t (suc n) = filter-append t (numbers n) (n ∷ []) ∙ ap (λ ys. ys ++ cond (t n) (n ∷ []) []) (filter-numbers t n)
-
-pub those-same : (t u : ℕ → Bool) (n : ℕ) → ((k : ℕ) → k < n → t k ≡ u k) → those t n ≡ those u n
-unfolding those
-those-same t u zero h = refl
-those-same t u (suc n) h = rw (those-same t u n (λ k l. h k (omega arith)), h n (omega arith)) refl
 
 pub flat-same : {A : Type 0} (f g : ℕ → List A) (n : ℕ) → ((k : ℕ) → k < n → f k ≡ g k) → flat_map f (numbers n) ≡ flat_map g (numbers n)
 unfolding those

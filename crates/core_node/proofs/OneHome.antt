@@ -1,6 +1,7 @@
 -- Where a machine has one directory and nothing is spilled, what a core has written is what is modified in the lines at home there.
-use Rattle.std.proofs.Common.{◌≡◌, ℕ, ◌%◌, Bool, true, false, ◌||◌, ◌&&◌, ◌==◌, map}
-use Rattle.std.proofs.Common.{refl, ap, sym, ◌∙◌, arith}
+use Rattle.std.proofs.Common.{◌≡◌, ℕ, ◌%◌, ◌&&◌, ◌==◌, map}
+use Rattle.std.proofs.Common.{ap, sym, ◌∙◌, arith}
+use Rattle.base_lemmas.proofs.Lemmas.{or-false}
 use Rattle.rules_maps.specs.Words.{any_below, any_word, those, word_at}
 use Rattle.rules_maps.specs.Masks.{mask_of}
 use Rattle.rules_maps.specs.Shape.{Shape, home, lines}
@@ -8,10 +9,6 @@ use Rattle.rules_maps.specs.Cache.{Cache, is_modified, modified_mask, written_li
 use Rattle.rules_maps.specs.Spilled.{Spilled, none_spilled, holds}
 use Rattle.rules_tcc.specs.Commit.{is_written, written_mask}
 use Rattle.commit_engine.specs.Solo.{solo_list}
-
-or-false : (b : Bool) → (b || false) ≡ b
-or-false true = refl
-or-false false = refl
 
 is_here : (sh : Shape) (c : Cache) (l : ℕ) → sh.dirs ≡ 1 → (0 == home sh l && is_modified c l) ≡ is_written c none_spilled l
 unfolding is_written holds any_word any_below none_spilled

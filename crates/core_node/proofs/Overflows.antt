@@ -1,6 +1,7 @@
 -- Which executions make a core wait to go on alone.
 use Rattle.std.proofs.Common.{◌≡◌, ◌≢◌, ℕ, Bool, true, false, not, is_some, ◌||◌, ◌&&◌, if◌then◌else◌, Option, Some, None, refl, ap, ◌∙◌}
 use Rattle.tcc_base.specs.declared.access.Size.TheVariants.{Byte, Half, Word}
+use Rattle.base_lemmas.proofs.Lemmas.{and-false, and-true}
 use Rattle.rules_program.specs.Program.{Need, Nothing, Loads, Stores, Changes, Prints, Ends, Halts, Traps, Program}
 use Rattle.rules_program.specs.Ram.{word_of}
 use Rattle.rules_maps.specs.Cache.{free_way, all_marked}
@@ -62,10 +63,6 @@ full_store sh w s r look e f g = f ∙ rw g (rw e (by (s.cache.held (line_of w))
 
 abbrev Same : Option Out → Bool → Type 0
 Same o b = goes_alone o ≡ b
-
-and-false : (b : Bool) → (b && false) ≡ false
-and-false true = refl
-and-false false = refl
 
 finished-stays : (p : Program) (n : Need) (x : ℕ) (s : CoreState) → overflows s.phase ≡ false → overflows (finished p n x s).phase ≡ false
 finished-stays p n x s e = ap overflows (phase-finished p n x s) ∙ e
@@ -184,10 +181,6 @@ execute-alone : (sh : Shape) (p : Program) (id : ℕ) (s : CoreState) → overfl
     → goes_alone (execute sh p id s) ≡ (need_overflows sh s (p.need s.local) && not (is_solo s.phase))
 unfolding execute
 execute-alone sh p id s e = need-alone sh p id s (p.need s.local) e
-
-and-true : (b : Bool) → (b && true) ≡ b
-and-true true = refl
-and-true false = refl
 
 -- one that runs does where the set that it wants is full of marks
 pub runs-alone : (sh : Shape) (p : Program) (id : ℕ) (s : CoreState) → s.phase ≡ Running

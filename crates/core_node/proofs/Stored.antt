@@ -3,7 +3,7 @@ use Rattle.std.proofs.Common.{◌≡◌, ◌≢◌, ℕ, Bool, true, false, Some
 use Rattle.rules_program.specs.Program.{Program, Need}
 use Rattle.rules_maps.specs.Words.{line_of}
 use Rattle.rules_maps.specs.Shape.{Shape, set_of}
-use Rattle.rules_maps.specs.Cache.{Cache, IsCache, free_way, all_marked}
+use Rattle.rules_maps.specs.Cache.{Cache, free_way, all_marked}
 use Rattle.rules_maps.specs.CacheLook.{Look, Hit, Miss, look_store, look_line}
 use Rattle.rules_maps.specs.Spilled.{holds}
 use Rattle.rules_tcc.specs.State.{CoreState}
@@ -13,7 +13,6 @@ use Rattle.rules_tcc.specs.Execute.{word_store, partial_store, change_valid, mar
 use Rattle.spec_cache.specs.Look.{look_of}
 use Rattle.spec_cache.specs.declared.look.Look.{Look as CodeLook}
 use Rattle.spec_cache.specs.declared.look.Look.TheVariants as code
-use Rattle.core_node.proofs.Blocked.{some_not}
 use Rattle.core_node.proofs.MissedLines.{look_by}
 use Rattle.core_node.proofs.Loaded.{not_hit, not_miss}
 
@@ -133,11 +132,3 @@ pub change_framed : (sh : Shape) (p : Program) (n : Need) (w x : ℕ) (s : CoreS
     → change_valid sh p n w s (Some x)
     ≡ Some (moves (finished p n x (stored_in_frame w (new_word n x) (marks_read w s) s)) (flush_line sh s.cache (line_of w)))
 change_framed sh p n w x s h = rw h refl
-
--- a line that has a valid word has a frame
-pub held_valued : (sh : Shape) (c : Cache) (w x : ℕ) → IsCache sh c → c.value w ≡ Some x → c.held (line_of w) ≡ true
-held_valued sh c w x k e = by (c.held (line_of w)) refl
-  where
-    by : (b : Bool) → c.held (line_of w) ≡ b → b ≡ true
-    by true f = refl
-    by false f = absurd (some_not (c.value w) x e (k.valued w f))

@@ -1,8 +1,9 @@
 -- The useful events of a machine's cores, core by core.
-use Rattle.std.proofs.Common.{◌≡◌, ℕ, ◌<◌, Bool, true, false, ◌&&◌, List, map, Option, Some, None, is_some, refl, ap, sym, ◌∙◌, arith}
+use Rattle.std.proofs.Common.{◌≡◌, ℕ, ◌<◌, Bool, true, List, map, Option, Some, None, is_some, refl, ap, sym, ◌∙◌, arith}
 use Rattle.std.specs.Prelude.{nat_lt}
 use Rattle.std.specs.List.{filter, flat_map}
 use Rattle.std.proofs.lemmas.Bool.Decides.{nat_tests}
+use Rattle.base_lemmas.proofs.Lemmas.{and-true, filter-flat, filter-map, map-map, those-same}
 use Rattle.rules_program.specs.Program.{Program}
 use Rattle.rules_maps.specs.Nodes.{Event, Exec, Evict}
 use Rattle.rules_maps.specs.Shape.{Shape}
@@ -16,16 +17,12 @@ use Rattle.rules_tcc.specs.Step.{is_enabled, if_core_moves, names_nodes, happens
 use Rattle.rules_tcc.specs.Useful.{evicts, execs, is_useful}
 use Rattle.core_node.specs.Useful.{evict_is_useful, useful_evicts}
 use Rattle.core_node.proofs.Evictions.{by_set}
-use Rattle.core_node.proofs.Listed.{filter-flat, filter-map, filter-numbers, flat-same, map-flat, map-map, those-same}
+use Rattle.core_node.proofs.Listed.{filter-numbers, flat-same, map-flat}
 
 below : (k n : ℕ) → k < n → nat_lt k n ≡ true
 below k n l = grind (arith, nat_tests)
 
-and_true : (b : Bool) → (b && true) ≡ b
-and_true true = refl
-and_true false = refl
-
-is_moved : (w : World) (c : ℕ) (o : Option Out) → is_some (if_core_moves w c o) ≡ is_some o
+pub is_moved : (w : World) (c : ℕ) (o : Option Out) → is_some (if_core_moves w c o) ≡ is_some o
 is_moved w c None = refl
 is_moved w c (Some o) = refl
 
@@ -34,7 +31,7 @@ exec-useful : (sh : Shape) (p : Program) (w : World) (c : ℕ) → c < sh.cores
     → is_useful sh p w (Exec c) ≡ is_some (core_exec sh p c (w.cores c))
 unfolding is_useful is_enabled step names_nodes happens
 exec-useful sh p w c l =
-    rw (below c sh.cores l) (rw (is_moved w c (core_exec sh p c (w.cores c))) (and_true (is_some (core_exec sh p c (w.cores c)))))
+    rw (below c sh.cores l) (rw (is_moved w c (core_exec sh p c (w.cores c))) (and-true (is_some (core_exec sh p c (w.cores c)))))
 
 -- an Evict of a core, set and way that exist is useful where it is one of the core's
 evict-useful : (sh : Shape) (p : Program) (w : World) (c x y : ℕ) → c < sh.cores → x < sh.sets → y < sh.ways

@@ -1,9 +1,10 @@
 -- Each event leaves as many messages of a kind in flight as there were, with those that it sent and without the one that left.
-use Rattle.std.proofs.Common.{◌≡◌, ◌+◌, ℕ, zero, suc, Bool, true, false, List, [], ◌∷◌, ◌++◌, Option, Some, None, IfSome, ◌&&◌}
+use Rattle.std.proofs.Common.{◌≡◌, ◌+◌, ℕ, zero, suc, Bool, true, false, List, [], ◌∷◌, ◌++◌, Option, Some, None, IfSome}
 use Rattle.std.proofs.Common.{if◌then◌else◌, length, refl, ap, arith}
 use Rattle.std.specs.Prelude.{slice_set}
 use Rattle.tcc_base.specs.declared.access.Commit.{Commit as Noted}
-use Rattle.rules_maps.specs.Nodes.{Node, Core, Dir, Vendor, Msg, Event, Exec, Evict, Deliver, node_eq}
+use Rattle.base_lemmas.proofs.Lemmas.{and-both}
+use Rattle.rules_maps.specs.Nodes.{Node, Core, Dir, Vendor, Msg, Event, Exec, Evict, Deliver}
 use Rattle.rules_maps.specs.Shape.{Shape}
 use Rattle.rules_program.specs.Program.{Program}
 use Rattle.rules_tcc.specs.Attempt.{Out}
@@ -26,6 +27,7 @@ use Rattle.count_law.specs.Messages.{flying}
 use Rattle.count_law.proofs.Flights.{as_one, flying-sent, flying-taken}
 use Rattle.count_law.proofs.Heard.{all_sends, all_ends, all_sends-append, all_ends-append}
 use Rattle.count_law.proofs.Said.{Says, commit-says, moved-says, sent-ends, sent-sends, exec-says, evict-says, deliver-says}
+use Rattle.net_core.proofs.Lemmas.{length-taking}
 
 -- from the links of one state to those of the next, with these facts
 abbrev pub Flown : Shape → (kind : ℕ) → (w v : World) → List Fact → Type 0
@@ -65,13 +67,6 @@ length-set [] i = refl
 length-set (x ∷ xs) zero = refl
 length-set (x ∷ xs) (suc i) = ap (λ n. suc n) (length-set xs i)
 
-length-taken : (net : Node → Node → Link) (src dst : Node) (i : ℕ) (s d : Node) → length (taking net src dst i s d) ≡ length (net s d)
-length-taken net src dst i s d = go (node_eq s src && node_eq d dst)
-  where
-    go : (b : Bool) → length (if b then slice_set (net s d) i None else net s d) ≡ length (net s d)
-    go true = length-set (net s d) i
-    go false = refl
-
 -- after a step of node a, at which this happened
 abbrev After : Shape → (kind : ℕ) → (w : World) → (a : Node) → (World → List Fact) → Stepped → Type 0
 After sh k w a facts t =
@@ -91,7 +86,7 @@ takes-flown : (sh : Shape) (k : ℕ) (w v : World) (src a : Node) (i : ℕ) (m :
     → v.net ≡ sending (taking w.net src a i) a sends → x ≡ as_one k (Some m) → Says k fs x
     → Flown sh k w v (fs ++ (commit_fact c ++ (moved w v a ++ sent sh w v a)))
 takes-flown sh k w v src a i m x sends fs c from node e net one says =
-    flown sh k x w v (taking w.net src a i) a sends fs c net node (length-taken w.net src a i a)
+    flown sh k x w v (taking w.net src a i) a sends fs c net node (length-taking w.net src a i a)
     (omega (arith, flying-taken sh k w.net src a i m from node e, one)) says
 
 core-flown : (sh : Shape) (k : ℕ) (w : World) (src : Node) (c i : ℕ) (m : Msg) (facts : World → List Fact) (o : Option Out)
@@ -138,10 +133,6 @@ delivers-flown sh k cs w (Core c) (Dir d) i m from node e = answers-flown sh k w
 delivers-flown sh k cs w (Core c) Vendor i m from node e = gives-flown sh k w c i m (vendor_deliver w.next c m) from e
 delivers-flown sh k cs w _ _ i m from node e = tt
 
-both : (a b : Bool) → (a && b) ≡ true → (a ≡ true) × (b ≡ true)
-both true b e = (refl, e)
-both false b e = absurd cc
-
 happens-flown : (sh : Shape) (p : Program) (k : ℕ) (h : History) (e : Event) → names_nodes sh e ≡ true
     → IfSome (happens sh p h.world e) (After sh k h.world (actor e) (λ v. acted sh p h.commits h.world v e))
 unfolding happens names_nodes
@@ -150,12 +141,12 @@ happens-flown sh p k h (Exec c) node =
     moves-flown sh k h.world c (λ v. executed sh p c s (v.cores c)) (core_exec sh p c s) node (λ v. exec-says sh p k c s (v.cores c))
 happens-flown sh p k h (Evict c x y) node =
     let s = h.world.cores c in
-    moves-flown sh k h.world c (λ v. evicted c x y s) (core_evict sh x y s) (both (is_node sh (Core c)) _ node).0
+    moves-flown sh k h.world c (λ v. evicted c x y s) (core_evict sh x y s) (and-both (is_node sh (Core c)) _ node).0
     (λ v. evict-says k c x y s)
 happens-flown sh p k h (Deliver src dst i) node = go (in_flight h.world.net src dst i) refl
   where
     ends : (is_node sh src ≡ true) × (is_node sh dst ≡ true)
-    ends = both (is_node sh src) (is_node sh dst) node
+    ends = and-both (is_node sh src) (is_node sh dst) node
 
     go : (m : Option Msg) → in_flight h.world.net src dst i ≡ m
         → IfSome (if_in_flight sh h.world src dst i m)

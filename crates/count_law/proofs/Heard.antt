@@ -10,7 +10,8 @@ use Rattle.watch_count.specs.Counts.{Counts, counted, all_counted, event_begun, 
 use Rattle.watch_count.specs.Messages.{kind_of, messages_after, no_messages, kind_place}
 use Rattle.watch_count.specs.declared.messages.MessageCounts.{MessageCounts}
 use Rattle.count_law.proofs.Nodes.{where_so}
-use Rattle.count_law.proofs.Rows.{is_told, row-changed_if, length-changed_if}
+use Rattle.count_law.proofs.Rows.{is_told, row-changed_if}
+use Rattle.watch_count.proofs.Lemmas.{length-changed_if}
 
 -- a message of this kind was sent
 abbrev pub sends : (kind : ℕ) → Fact → ℕ

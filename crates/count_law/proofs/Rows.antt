@@ -8,6 +8,7 @@ use Rattle.watch.specs.Facts.{Fact}
 use Rattle.watch_count.specs.Counts.{Counts, core_of, changed, changed_if, counted, all_counted, event_begun, event_counted}
 use Rattle.watch_count.specs.Tables.{nothing, core_after, event_came}
 use Rattle.watch_count.specs.declared.tables.CoreCounts.{CoreCounts}
+use Rattle.watch_count.proofs.Lemmas.{length-changed_if}
 
 -- the fact counts for row j
 abbrev pub is_told : (j : ℕ) → Option ℕ → Bool
@@ -41,16 +42,6 @@ pub row-changed_if : {A : Type 0} (f : A → A) (o : Option ℕ) (j : ℕ) (xs :
     → get_or (changed_if o f xs) j d ≡ (if is_told j o then f (get_or xs j d) else get_or xs j d)
 row-changed_if f None j xs d l = refl
 row-changed_if f (Some k) j xs d l = row-changed f k j xs d l
-
-length-changed : {A : Type 0} (f : A → A) (k : ℕ) (xs : List A) → length (changed k f xs) ≡ length xs
-unfolding changed
-length-changed f k [] = refl
-length-changed f zero (x ∷ xs) = refl
-length-changed f (suc k) (x ∷ xs) = ap (λ n. suc n) (length-changed f k xs)
-
-pub length-changed_if : {A : Type 0} (f : A → A) (o : Option ℕ) (xs : List A) → length (changed_if o f xs) ≡ length xs
-length-changed_if f None xs = refl
-length-changed_if f (Some k) xs = length-changed f k xs
 
 length-all : (a : Node) (fs : List Fact) (c : Counts) → length (all_counted a fs c).cores ≡ length c.cores
 unfolding all_counted counted

@@ -1,8 +1,8 @@
 -- How many messages of a kind the facts of an event tell of: what the node sent, and the one that it took.
 use Rattle.std.proofs.Common.{◌≡◌, ◌==◌, ◌+◌, ℕ, Bool, true, false, List, [], ◌∷◌, ◌++◌, Option, Some, None, nat_lt, ◌&&◌, sum_by}
 use Rattle.std.proofs.Common.{if◌then◌else◌, length, drop, refl, ap, ◌∙◌, arith}
-use Rattle.std.proofs.lemmas.Bool.Decides.{nat_tests}
 use Rattle.tcc_base.specs.declared.access.Commit.{Commit as Noted}
+use Rattle.base_lemmas.proofs.Lemmas.{drop-front, node_eq-refl}
 use Rattle.rules_maps.specs.Nodes.{Node, Core, Dir, Vendor, Msg, TidGrant, Inv, node_eq}
 use Rattle.rules_maps.specs.Shape.{Shape}
 use Rattle.rules_program.specs.Program.{Program}
@@ -144,18 +144,6 @@ sent-ends sh k w v a =
     all_ends-flat k (sent_to w v a) (nodes sh)
     (λ d. numbered-ends k a d (length (w.net a d)) (drop (length (w.net a d)) (v.net a d)))
 
--- what follows as many elements as there were
-behind : {X : Type 0} (l l' ys : List X) → length l' ≡ length l → drop (length l) (l' ++ ys) ≡ ys
-behind [] [] ys e = refl
-behind [] (x ∷ xs) ys e = absurd (omega (arith, e))
-behind (y ∷ l) [] ys e = absurd (omega (arith, e))
-behind (y ∷ l) (x ∷ xs) ys e = behind l xs ys (omega (arith, e))
-
-eq-self : (n : Node) → node_eq n n ≡ true
-eq-self (Core c) = grind (arith, nat_tests)
-eq-self (Dir d) = grind (arith, nat_tests)
-eq-self Vendor = refl
-
 sums-same : (f g : Node → ℕ) (ns : List Node) → ((n : Node) → f n ≡ g n) → sum_by f ns ≡ sum_by g ns
 sums-same f g ns each = ap (λ h. sum_by h ns) (λ i n. each n i)
 
@@ -169,7 +157,7 @@ sent-sends sh k w v net a sends e same =
   where
     link : (d : Node) (b : Bool) → b ≡ true
         → drop (length (w.net a d)) (if b then net a d ++ sent_all (sends d) else net a d) ≡ sent_all (sends d)
-    link d true f = behind (w.net a d) (net a d) (sent_all (sends d)) (same d)
+    link d true f = drop-front (w.net a d) (net a d) (sent_all (sends d)) (same d)
     link d false f = absurd cc
 
     each : (d : Node) → all_sends k (numbered a d (length (w.net a d)) (drop (length (w.net a d)) (v.net a d)))
@@ -177,4 +165,4 @@ sent-sends sh k w v net a sends e same =
     each d =
         numbered-sends k a d (length (w.net a d)) (drop (length (w.net a d)) (v.net a d))
         ∙ ap (λ n. flying_on k (drop (length (w.net a d)) (n a d))) e
-        ∙ ap (λ l. flying_on k l) (link d (node_eq a a) (eq-self a))
+        ∙ ap (λ l. flying_on k l) (link d (node_eq a a) (node_eq-refl a))

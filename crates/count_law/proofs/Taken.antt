@@ -3,6 +3,7 @@ use Rattle.std.proofs.Common.{◌≡◌, ◌==◌, ◌<◌, ◌++◌, ℕ, Bool,
 use Rattle.std.proofs.Common.{if◌then◌else◌, refl, sym, subst, arith}
 use Rattle.std.proofs.lemmas.Bool.Decides.{nat_tests}
 use Rattle.tcc_base.specs.declared.access.Commit.{Commit as Noted}
+use Rattle.base_lemmas.proofs.Lemmas.{eq-self}
 use Rattle.rules_maps.specs.Nodes.{Node, Core, Msg, TidGrant, Inv}
 use Rattle.rules_maps.specs.Shape.{Shape}
 use Rattle.rules_tcc.specs.Attempt.{Out}
@@ -16,7 +17,7 @@ use Rattle.count_law.proofs.Delivered.{TakenOut, is_none, taken_well, deliver-st
 use Rattle.count_law.proofs.Executed.{started, Started}
 use Rattle.count_law.proofs.Kept.{Kept, violated-kept, all_leave, all-leave-kept, leave-append}
 use Rattle.count_law.proofs.Rows.{fact_after, row_after, row_after-append}
-use Rattle.count_law.proofs.Told.{Own, kept-at, own-counts, own-eq, quiet-own}
+use Rattle.count_law.proofs.Told.{Own, kept-at, own-counts, quiet-own}
 
 pub kept-append : (a : Node) (j n x y : ℕ) (fs gs : List Fact) (k : CoreCounts)
     → Kept n x y (row_after a j gs (row_after a j fs k)) → Kept n x y (row_after a j (fs ++ gs) k)
@@ -69,7 +70,7 @@ violated-told c x y cs (Inv l w u) s t o k e h = go (nat_lt 0 s.n && t.n == 0) r
         let ended = violated-kept s.n x y c (committer (commit_of u cs)) u l (words_read l w s) s.phase k some h in
         all-leave-kept (Core c) c t.n x y (given_up c (tid_in s.phase)) (fact_after (Core c) c lost k)
         (given-up-leaves c c (tid_in s.phase))
-        (own-counts t.n x y lost k (c == c) (own-eq c) (kept-at 0 t.n x x y y (core_after lost k) none refl refl ended))
+        (own-counts t.n x y lost k (c == c) (eq-self c) (kept-at 0 t.n x x y y (core_after lost k) none refl refl ended))
     go false f =
         let all : s.n ≡ t.n = grind (arith, nat_tests, e, f) in kept-at s.n t.n x x y y k all refl refl h
 violated-told c x y cs _ s t o k e h =

@@ -3,6 +3,7 @@ use Rattle.std.proofs.Common.{◌≡◌, ◌==◌, ◌<◌, ◌+◌, ℕ, Bool, 
 use Rattle.std.proofs.Common.{if◌then◌else◌, refl, subst, arith}
 use Rattle.std.proofs.lemmas.Bool.Decides.{nat_tests}
 use Rattle.tcc_base.specs.declared.access.Commit.{Commit as Noted}
+use Rattle.base_lemmas.proofs.Lemmas.{eq-self}
 use Rattle.rules_maps.specs.Nodes.{Core}
 use Rattle.rules_maps.specs.Shape.{Shape}
 use Rattle.rules_program.specs.Program.{Program}
@@ -30,9 +31,6 @@ pub record Own (c : ℕ) (s : CoreState) (o : Out) (fs : List Fact) : Type 0 whe
       → Kept o.core.n (x + one o.commit) (y + gone o.commit) (row_after (Core c) c (commit_fact o.commit) (row_after (Core c) c fs k))
   -- of another core nothing is told
   pub others : (j : ℕ) → not (c == j) ≡ true → all_leave j fs ≡ true
-
-pub own-eq : (c : ℕ) → (c == c) ≡ true
-own-eq c = grind (arith, nat_tests)
 
 pub own-counts : (n x y : ℕ) (f : Fact) (k : CoreCounts) (b : Bool) → b ≡ true → Kept n x y (core_after f k)
     → Kept n x y (if b then core_after f k else k)
@@ -71,7 +69,7 @@ done-told sh p c n' x y s t (Overflowing None) m k e h =
 done-told sh p c n' x y s t _ m k e h =
     let all : n' + gone m ≡ s.n + 1 = grind (arith, nat_tests, e) in
     let own : is_own c n' m ≡ true = grind (arith, nat_tests, e) in
-    told-commit c (s.n + 1) n' x y m _ all own (own-counts (s.n + 1) x y _ k (c == c) (own-eq c) (did-kept s.n x y c _ _ k h))
+    told-commit c (s.n + 1) n' x y m _ all own (own-counts (s.n + 1) x y _ k (c == c) (eq-self c) (did-kept s.n x y c _ _ k h))
 
 exec-told : (sh : Shape) (p : Program) (c n' x y : ℕ) (s t : CoreState) (a : Option Awaited) (m : Option Noted) (k : CoreCounts)
     → accounts c s.n n' a t.phase m ≡ true → Kept s.n x y k
@@ -118,9 +116,9 @@ commits-own : (sh : Shape) (c t : ℕ) (s : CoreState) → nat_lt 0 s.n ≡ true
 unfolding commit committed_core noted row_after all_leave
 commits-own sh c t s some = record {
   starts = free-after s.ended 0;
-  mine = own-eq c;
+  mine = eq-self c;
   kept = λ x y k h.
-      told-commit c s.n 0 x y (commit sh c t s).commit k (omega arith) (let eq = own-eq c in grind (arith, nat_tests, some, eq)) h;
+      told-commit c s.n 0 x y (commit sh c t s).commit k (omega arith) (let eq = eq-self c in grind (arith, nat_tests, some, eq)) h;
   others = λ j other. refl;
 }
 

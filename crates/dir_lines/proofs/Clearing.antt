@@ -3,17 +3,13 @@ use Rattle.std.proofs.Common.{◌≡◌, ℕ, zero, suc, ◌+◌, ◌<◌, ◌�
 use Rattle.std.proofs.Common.{slice_get, Some, None, Contains, ◌⊎◌, inl, inr, refl, ap, sym, subst, ◌∙◌, arith}
 use Rattle.std.proofs.lemmas.Option.{slice_get_cases}
 use Rattle.std.proofs.lemmas.List.Elements.{Contains-get_or}
+use Rattle.base_lemmas.proofs.Lemmas.{count_below-same}
 use borrow.Author.Tests.{eqb-true, eqb-false, ne_eqb, ltb-false}
 use Rattle.rules_maps.specs.Words.{put, those, count_below, num}
 use Rattle.rules_maps.specs.Shape.{lines}
 use Rattle.rules_maps.specs.Lines.{Lines, with_mark, unmarked, has_mark}
 use Rattle.rules_maps.proofs.Lemmas.{length-those, those-only}
 use Rattle.dir_lines.specs.Home.{Home, IsAtHome}
-
-count_below-same : (p q : ℕ → Bool) (n : ℕ) → ((k : ℕ) → k < n → p k ≡ q k) → count_below p n ≡ count_below q n
-unfolding count_below
-count_below-same p q zero h = refl
-count_below-same p q (suc n) h = λ i. count_below-same p q n (λ k l. h k (omega arith)) i + num (h n (omega arith) i)
 
 -- one fewer
 count_below-fewer : (p : ℕ → Bool) (n l : ℕ) → l < n → p l ≡ true → count_below (put p l false) n + 1 ≡ count_below p n

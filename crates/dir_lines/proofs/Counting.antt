@@ -43,15 +43,6 @@ count_below-lt p h (suc n) l sub a b c = by (eqb l n) refl (λ (q : l < n). coun
         let r : count_below p n < count_below h n = rest (omega (arith, eqb-false l n e)) in
         let o : num (p n) ≤ num (h n) = own (p n) (h n) (sub n) in omega arith
 
-pub count_below-small : (p : ℕ → Bool) (n : ℕ) → count_below p n ≤ n
-unfolding count_below
-count_below-small p zero = omega arith
-count_below-small p (suc n) = let rest : count_below p n ≤ n = count_below-small p n in let own : num (p n) ≤ 1 = by (p n) in omega arith
-  where
-    by : (a : Bool) → num a ≤ 1
-    by true = omega arith
-    by false = omega arith
-
 -- one more row of d numbers, of which the first r are looked at
 row : (d h q x r : ℕ) → x ≡ q * d → r ≤ d → count_below (λ l. l % d == h) (x + r) ≡ count_below (λ l. l % d == h) x + num (nat_lt h r)
 unfolding count_below

@@ -8,8 +8,8 @@ use Rattle.dir_lines.specs.Home.{Home, IsAtHome}
 use Rattle.dir_lines.specs.Pages.{Pages, is_at_home}
 use Rattle.dir_lines.specs.Kept.{kept}
 use Rattle.dir_lines.proofs.Clearing.{found}
-use Rattle.dir_lines.proofs.PagesAt as pages
 use Rattle.dir_lines.proofs.PagesKeep.{marked-at_home}
+pub use Rattle.dir_lines.proofs.PagesAt.{is_at_home-only}
 
 pub kept-at_home : (p : Pages) (l : ℕ) → has_mark (kept p) l ≡ true → IsAtHome p.place l
 unfolding kept
@@ -24,6 +24,3 @@ listed-at_home p k l e =
 pub listed-count : (p : Pages) → length (those (has_mark (kept p)) (lines p.place.shape)) ≡ count_below (has_mark (kept p))
     (lines p.place.shape)
 listed-count p = length-those (has_mark (kept p)) (lines p.place.shape)
-
-pub is_at_home-only : (h : Home) (l : ℕ) → is_at_home h l ≡ true → IsAtHome h l
-is_at_home-only h l e = pages.is_at_home-only h l e

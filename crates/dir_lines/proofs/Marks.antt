@@ -6,6 +6,7 @@ use Rattle.std.specs.List.{insert, remove}
 use Rattle.std.proofs.lemmas.List.Elements.{All-get_or, All-append, All-cons, All-nil, All-weaker, All-push}
 use Rattle.std.proofs.Math.ListN.{get_or-append}
 use Rattle.std.proofs.Math.Seq.{take-append_seam, drop-append_seam, get_or-append_right}
+use Rattle.base_lemmas.proofs.Lemmas.{those-same}
 use borrow.Author.Tests.{ltb-true, ltb-false, ne_eqb, eq-eqb}
 use Rattle.rules_maps.specs.Words.{put, those}
 
@@ -24,12 +25,6 @@ those-split p l (suc m) (suc n) e =
     ap (λ xs. xs ++ cond (p n) (n ∷ []) []) (those-split p l m n (omega arith))
     ∙ (append_assoc (those p l ++ cond (p l) (l ∷ []) []) (between p (l + 1) m) (cond (p n) (n ∷ []) [])
     ∙ ap (λ k. (those p l ++ cond (p l) (l ∷ []) []) ++ (between p (l + 1) m ++ cond (p k) (k ∷ []) [])) f)
-
--- two tests that agree
-those-same : (p q : ℕ → Bool) (n : ℕ) → ((k : ℕ) → k < n → p k ≡ q k) → those p n ≡ those q n
-unfolding those
-those-same p q zero h = refl
-those-same p q (suc n) h = λ i. those-same p q n (λ k l. h k (omega arith)) i ++ cond (h n (omega arith) i) (n ∷ []) []
 
 between-same : (p q : ℕ → Bool) (a m : ℕ) → ((k : ℕ) → a ≤ k → p k ≡ q k) → between p a m ≡ between q a m
 unfolding between

@@ -2,6 +2,7 @@
 use Rattle.std.proofs.Common.{◌≡◌, ◌≢◌, ℕ, zero, suc, ◌+◌, ◌*◌, ◌/◌, ◌<◌, ◌≤◌, Bool, true, false, ◌==◌, ◌&&◌, if◌then◌else◌, List, [], ◌∷◌}
 use Rattle.std.proofs.Common.{length, get_or, take, drop, refl, ap, sym, subst, ◌∙◌, arith}
 use Rattle.std.proofs.Math.Nat.{mod-add-div'}
+use Rattle.base_lemmas.proofs.Lemmas.{eight-same}
 use borrow.Author.Tests.{eqb-true, eqb-false}
 use Rattle.rules_maps.specs.Words.{eight, word_at, line_of, place_of}
 use Rattle.rules_maps.specs.Masks.{has, hit}
@@ -35,11 +36,6 @@ eight-take (a ∷ b ∷ c ∷ d ∷ e ∷ []) h = absurd (omega arith)
 eight-take (a ∷ b ∷ c ∷ d ∷ e ∷ f ∷ []) h = absurd (omega arith)
 eight-take (a ∷ b ∷ c ∷ d ∷ e ∷ f ∷ g ∷ []) h = absurd (omega arith)
 eight-take (a ∷ b ∷ c ∷ d ∷ e ∷ f ∷ g ∷ h ∷ xs) q = refl
-
-pub eight-same : (f g : ℕ → ℕ) → ((k : ℕ) → k < 8 → f k ≡ g k) → eight f ≡ eight g
-unfolding eight
-eight-same f g h = λ i. h 0 (omega arith) i ∷ h 1 (omega arith) i ∷ h 2 (omega arith) i ∷ h 3 (omega arith) i ∷ h 4 (omega arith) i ∷ h 5
-    (omega arith) i ∷ h 6 (omega arith) i ∷ h 7 (omega arith) i ∷ []
 
 pub eight-drop : (n : ℕ) (xs : List ℕ) → n + 8 ≤ length xs → take 8 (drop n xs) ≡ eight (λ k. get_or xs (n + k) 0)
 eight-drop zero xs h =

@@ -24,6 +24,7 @@ use Rattle.rules_tcc.specs.DirDeliver.{came_home}
 use Rattle.rules_tcc.specs.DirDeliver.{moved_on, moved_on_if_settled, owned_by_committer, invalidation_count, invalidations}
 use Rattle.directory.specs.declared.waits.Cause.TheVariants.{Turn, Done, Line, Served, Marks}
 use Rattle.tcc_base.specs.declared.names.NodeId.{NodeId}
+use Rattle.base_lemmas.proofs.Lemmas.{neither-left, neither-right}
 use Rattle.tcc_msg.specs.declared.msg.Msg as code
 use Rattle.tcc_msg.specs.Plain.{sends_of}
 use Rattle.directory.specs.declared.handled.Handled.{Handled}
@@ -41,14 +42,6 @@ record Changed (m : Msg) (s n : DirState) : Type 0 where
   served : (l : ℕ) → is_of m l ≡ false → is_commit m ≡ false → n.serving.serving ≡ s.serving.serving → SameLine l s n
   marks : is_mark m ≡ false → n.serving.serving ≡ s.serving.serving → n.lines.mark ≡ s.lines.mark
 
-first-false : (a b : Bool) → (a || b) ≡ false → a ≡ false
-first-false true b h = absurd (false≢true (sym h))
-first-false false b h = refl
-
-second-false : (a b : Bool) → (a || b) ≡ false → b ≡ false
-second-false true b h = absurd (false≢true (sym h))
-second-false false b h = h
-
 no-rise : (a b : ℕ) → a ≤ b → nat_lt a b ≡ false → b ≡ a
 no-rise a b le f = let h : b ≤ a = ltb-false a b f in omega arith
 
@@ -58,18 +51,18 @@ leaves m s n c (Done t) f h = ltb-false t.0 n.serving.serving f
 leaves m s n c (Line l) f h = record { unmarked = h.unmarked; line = c.unmarked l.0 f h.unmarked; rises = c.rises }
 leaves m s n c (Served l) f h =
     let rose : Bool = nat_lt s.serving.serving n.serving.serving in
-    let front : (is_of m l.0 || is_commit m) ≡ false = first-false (is_of m l.0 || is_commit m) rose f in
+    let front : (is_of m l.0 || is_commit m) ≡ false = neither-left (is_of m l.0 || is_commit m) rose f in
     let same : n.serving.serving ≡ s.serving.serving =
-    no-rise s.serving.serving n.serving.serving c.rises (second-false (is_of m l.0 || is_commit m) rose f) in
+    no-rise s.serving.serving n.serving.serving c.rises (neither-right (is_of m l.0 || is_commit m) rose f) in
     record {
       serving = same;
-      line = c.served l.0 (first-false (is_of m l.0) (is_commit m) front) (second-false (is_of m l.0) (is_commit m) front) same;
+      line = c.served l.0 (neither-left (is_of m l.0) (is_commit m) front) (neither-right (is_of m l.0) (is_commit m) front) same;
     }
 leaves m s n c Marks f h =
     let rose : Bool = nat_lt s.serving.serving n.serving.serving in
     let same : n.serving.serving ≡ s.serving.serving =
-    no-rise s.serving.serving n.serving.serving c.rises (second-false (is_mark m) rose f) in
-    record { serving = same; mark = c.marks (first-false (is_mark m) rose f) same }
+    no-rise s.serving.serving n.serving.serving c.rises (neither-right (is_mark m) rose f) in
+    record { serving = same; mark = c.marks (neither-left (is_mark m) rose f) same }
 
 -- nothing of that
 unchanged : (m : Msg) (s : DirState) → Changed m s s

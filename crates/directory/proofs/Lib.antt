@@ -7,4 +7,5 @@ pub mod LoadedWords
 pub mod Taking
 pub mod Staying
 pub mod Leaving
+pub mod AlwaysTaken
 pub mod Lemmas

@@ -2,6 +2,7 @@
 use Rattle.std.proofs.Common.{◌≡◌, ℕ, zero, suc, ◌+◌, ◌*◌, ◌/◌, ◌%◌, ◌^◌, ◌<◌, ◌≤◌, Bool, true, false, ◌&&◌, ◌==◌, eqb}
 use Rattle.std.proofs.Common.{List, get_or, nat_lt, if◌then◌else◌, refl, ap, sym, ◌∙◌, arith}
 use Rattle.std.proofs.Math.Nat.{mod-add-div', mod-eq_of_lt, mul-le-mul_right}
+use Rattle.base_lemmas.proofs.Lemmas.{eight-at, has-full}
 use borrow.Author.Tests.{eqb-true, eqb-false, ltb-true, ltb-false}
 use Rattle.rules_maps.specs.Words.{eight, word_at, line_of, place_of}
 use Rattle.rules_maps.specs.Masks.{has, hit}
@@ -10,18 +11,6 @@ use Rattle.dir_lines.specs.Home.{Home, IsAtHome}
 use Rattle.dir_lines.specs.Pages.{is_at_home}
 use Rattle.dir_lines.specs.Words.{Words, words_at, with_words}
 use Rattle.dir_lines.proofs.Lemmas.{is_at_home-only}
-
-eight-at : (f : ℕ → ℕ) (k : ℕ) → k < 8 → get_or (eight f) k 0 ≡ f k
-unfolding eight
-eight-at f zero h = refl
-eight-at f (suc zero) h = refl
-eight-at f (suc (suc zero)) h = refl
-eight-at f (suc (suc (suc zero))) h = refl
-eight-at f (suc (suc (suc (suc zero)))) h = refl
-eight-at f (suc (suc (suc (suc (suc zero))))) h = refl
-eight-at f (suc (suc (suc (suc (suc (suc zero)))))) h = refl
-eight-at f (suc (suc (suc (suc (suc (suc (suc zero))))))) h = refl
-eight-at f (suc (suc (suc (suc (suc (suc (suc (suc k)))))))) h = absurd (omega arith)
 
 -- what holds of each of the first eight
 pub all-eight : (f : ℕ → ℕ) (n : ℕ) → f 0 < n → f 1 < n → f 2 < n → f 3 < n → f 4 < n → f 5 < n → f 6 < n → f 7 < n
@@ -35,18 +24,6 @@ all-eight f n a b c d e i j l (suc (suc (suc (suc (suc zero))))) h = i
 all-eight f n a b c d e i j l (suc (suc (suc (suc (suc (suc zero)))))) h = j
 all-eight f n a b c d e i j l (suc (suc (suc (suc (suc (suc (suc zero))))))) h = l
 all-eight f n a b c d e i j l (suc (suc (suc (suc (suc (suc (suc (suc k)))))))) h = absurd (omega arith)
-
-has-full : (k : ℕ) → k < 8 → has 255 k ≡ true
-unfolding has
-has-full zero h = refl
-has-full (suc zero) h = refl
-has-full (suc (suc zero)) h = refl
-has-full (suc (suc (suc zero))) h = refl
-has-full (suc (suc (suc (suc zero)))) h = refl
-has-full (suc (suc (suc (suc (suc zero))))) h = refl
-has-full (suc (suc (suc (suc (suc (suc zero)))))) h = refl
-has-full (suc (suc (suc (suc (suc (suc (suc zero))))))) h = refl
-has-full (suc (suc (suc (suc (suc (suc (suc (suc k)))))))) h = absurd (omega arith)
 
 -- the words of the first n lines are loaded
 abbrev pub LoadedBelow : (ram : ℕ → ℕ) (p : Words) (n : ℕ) → Type 0

@@ -1,26 +1,19 @@
 -- What each rule gives, by the tests that it makes.
-use Rattle.std.proofs.Common.{◌≡◌, ℕ, ◌-◌, ◌<◌, ◌≤◌, Bool, true, false, ◌==◌, ◌&&◌, nat_lt, if◌then◌else◌, List, [], ◌∷◌, Option, Some}
-use Rattle.std.proofs.Common.{None, refl, ap, arith}
+use Rattle.std.proofs.Common.{◌≡◌, ℕ, ◌-◌, Bool, true, false, ◌==◌, ◌&&◌, nat_lt, if◌then◌else◌, List, [], ◌∷◌, Option}
+use Rattle.std.proofs.Common.{None, refl, ap}
 use Rattle.std.specs.Prelude.{nat_le}
-use Rattle.std.proofs.lemmas.Bool.Decides.{nat_tests}
 use Rattle.rules_maps.specs.Words.{count_below}
 use Rattle.rules_maps.specs.Masks.{full}
 use Rattle.rules_maps.specs.Nodes.{Core, ProbeReply, DataReq}
 use Rattle.rules_maps.specs.Shape.{Shape, lines}
 use Rattle.rules_maps.specs.Serving.{Serving, advance, skipped, kept as kept_skip}
-use Rattle.rules_maps.specs.Lines.{with_asked, with_mark, has_mark}
+use Rattle.rules_maps.specs.Lines.{with_asked, has_mark}
 use Rattle.rules_maps.specs.Judge.{judge, Current, Outdated, TooEarly}
 use Rattle.rules_tcc.specs.State.{DirState}
 use Rattle.rules_tcc.specs.Sends.{nothing, to}
 use Rattle.rules_tcc.specs.DirDeliver.{Waits, Drops, Asks, Takes, skip, abort, probe, ask_owner, load_unless_owned, load_request, mark}
 use Rattle.rules_tcc.specs.DirDeliver.{mark_taken, mark_unless_owned, dir_commit, acknowledgement, write_back, judged, came_home, moved_on}
 use Rattle.rules_tcc.specs.DirDeliver.{moved_on_if_settled, owned_by_committer, invalidation_count, invalidations, unless_keeps}
-
-pub le-true : (a b : ℕ) → a ≤ b → nat_le a b ≡ true
-le-true a b h = grind (arith, nat_tests)
-
-pub le-false : (a b : ℕ) → b < a → nat_le a b ≡ false
-le-false a b h = grind (arith, nat_tests)
 
 pub skip-lower : (t : ℕ) (s : DirState) → nat_lt t s.serving.serving ≡ true → skip t s ≡ Drops
 unfolding skip

@@ -6,6 +6,7 @@ use Rattle.std.specs.Prelude.{nat_le}
 use Rattle.std.proofs.lemmas.Bool.{false≢true}
 use borrow.Author.Tests.{ltb-true}
 use Rattle.tcc_base.specs.declared.names.LineAddr.{LineAddr}
+use Rattle.base_lemmas.proofs.Lemmas.{le-false}
 use Rattle.rules_maps.specs.Words.{count_below}
 use Rattle.rules_maps.specs.Masks.{full}
 use Rattle.rules_maps.specs.Shape.{Shape, lines}
@@ -20,7 +21,6 @@ use Rattle.rules_tcc.specs.DirDeliver.{probe, mark, mark_taken, mark_unless_owne
 use Rattle.directory.specs.declared.waits.Cause.TheVariants.{Line, Served}
 use Rattle.directory.specs.Gives.{is_taken}
 use Rattle.directory.specs.Stays.{SameLine, SameServed, SameMarks, Stays}
-use Rattle.directory.proofs.RuleCases.{le-false}
 use Rattle.directory.proofs.Taking.{ask-taken}
 
 -- what a line's cause says of the line and of the TID that is served

@@ -1,9 +1,9 @@
 -- Lists that are gone through from front to back, filled with one value, or written back whole.
 use Rattle.std.proofs.Common.{◌≡◌, ℕ, suc, ◌+◌, ◌<◌, ◌∙◌, List, [], ◌∷◌, ◌++◌, length, take, drop, get_or, replicate, add-one, ap, sym}
-use Rattle.std.proofs.Common.{arith, inl, inr}
+use Rattle.std.proofs.Common.{inl, inr}
 use Rattle.std.proofs.lemmas.Bool.{cases_lt}
-use Rattle.std.proofs.lemmas.List.{append-nil, drop_all, get_or_past, get_or-replicate, length-replicate, take_more}
-use Rattle.std.proofs.Math.Seq.{drop-cons, take-length}
+use Rattle.std.proofs.lemmas.List.{get_or_past, get_or-replicate, length-replicate, take_more}
+use Rattle.std.proofs.Math.Seq.{drop-cons}
 
 -- what is left begins with the element at place j
 pub drop-left : {A : Type 0} (xs : List A) (j : ℕ) (x : A) → j < length xs → x ≡ get_or xs j x → drop j xs ≡ x ∷ drop (j + 1) xs
@@ -19,11 +19,3 @@ replicate-default n k a =
       | inl below ↦ get_or-replicate n k a a below
       | inr above ↦ get_or_past (replicate n a) k a (rw (length-replicate n a) above)
     ]
-
--- a slice of all of a vector, written back
-pub write_back-whole : {A : Type 0} (new old : List A) (n : ℕ) → length new ≡ length old → n ≡ length old →
-    take n (new ++ drop (length new) old) ≡ new
-write_back-whole new old n same whole =
-    let none : drop (length new) old ≡ [] = drop_all (length new) old (omega arith) in
-    let count : n ≡ length new = omega arith in
-    rw (none, append-nil, count) (take-length new)

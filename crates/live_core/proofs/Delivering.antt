@@ -3,24 +3,24 @@ use Rattle.std.proofs.Common.{◌≡◌, ℕ, ◌<◌, Bool, true, false, ◌&&�
 use Rattle.std.specs.Prelude.{is_some, nat_lt, not}
 use Rattle.std.specs.Option.{option_map}
 use Rattle.std.proofs.lemmas.Bool.Decides.{nat_tests}
-use Rattle.directory.specs.Gives.{is_taken}
+use Rattle.base_lemmas.proofs.Lemmas.{and-right}
 use Rattle.theorem_bounds.specs.Messages.{InBounds, MessagesInBounds, line_named}
 use Rattle.theorem_bounds.proofs.Lemmas.{fits_out, fits_back}
 use Rattle.theorem_live.specs.Fits.{fits, goes_to_core, is_grant, is_request}
-use Rattle.rules_maps.specs.Nodes.{Node, Core, Dir, Vendor, Deliver, Msg, TidReq, TidGrant, Fill, ProbeReply, DataReq, Inv}
+use Rattle.rules_maps.specs.Nodes.{Node, Core, Dir, Vendor, Deliver, Msg, TidGrant, Fill, ProbeReply, DataReq, Inv}
 use Rattle.rules_maps.specs.Shape.{Shape, home, lines}
 use Rattle.rules_program.specs.Program.{Program}
-use Rattle.rules_tcc.specs.Attempt.{Out}
 use Rattle.rules_tcc.specs.CoreDeliver.{core_deliver, from_dir, from_vendor}
-use Rattle.rules_tcc.specs.DirDeliver.{Answer, Waits, Drops, Asks, Takes, dir_deliver}
+use Rattle.rules_tcc.specs.DirDeliver.{dir_deliver}
 use Rattle.rules_tcc.specs.Links.{in_flight}
 use Rattle.rules_tcc.specs.State.{CoreState, World}
-use Rattle.rules_tcc.specs.Step.{answered, delivered, if_vendor_gives, happens, names_nodes, step, if_core_takes}
-use Rattle.rules_tcc.specs.VendorDeliver.{vendor_deliver}
+use Rattle.rules_tcc.specs.Step.{delivered, happens, names_nodes, step}
 use Rattle.live_core.specs.Plain.{plain_reason}
 use Rattle.live_core.specs.Waiting.{reason_at, reason_in}
 use Rattle.live_core.specs.declared.reason.Reason.{Reason as CodeReason}
 use Rattle.live_core.proofs.Rules.{reasons-are-rules}
+use Rattle.theorem_live.proofs.Lemmas.{some_granted, some_taken}
+use Rattle.net_core.proofs.Lemmas.{answered-some}
 
 -- ---- what fits its link
 
@@ -51,14 +51,6 @@ names sh Vendor Vendor k m e = absurd (cc)
 
 -- ---- what each node does with it
 
-last : (a b : Bool) → (a && b) ≡ true → b ≡ true
-last true b e = e
-last false b e = absurd (cc)
-
-core-takes : (w : World) (src : Node) (c k : ℕ) (o : Option Out) → is_some o ≡ true → is_some (if_core_takes w src c k o) ≡ true
-core-takes w src c k None e = absurd (cc)
-core-takes w src c k (Some o) e = refl
-
 dir-says : (sh : Shape) (d : ℕ) (c : CoreState) (m : Msg) → goes_to_core m ≡ true → is_some (from_dir sh d c m) ≡ true
 dir-says sh d c (Fill l ws) e = refl
 dir-says sh d c (ProbeReply t u) e = refl
@@ -70,26 +62,16 @@ vendor-says : (sh : Shape) (c : CoreState) (m : Msg) → is_grant m ≡ true →
 vendor-says sh c (TidGrant t) e = refl
 vendor-says sh c m e = absurd (cc)
 
-vendor-takes : (w : World) (c k : ℕ) (m : Msg) → is_request m ≡ true → is_some (if_vendor_gives w c k (vendor_deliver w.next c m)) ≡ true
-vendor-takes w c k TidReq e = refl
-vendor-takes w c k m e = absurd (cc)
-
-dir-takes : (w : World) (c d k : ℕ) (a : Answer) → is_some (answered w c d k a) ≡ is_taken a
-dir-takes w c d k Waits = refl
-dir-takes w c d k Drops = refl
-dir-takes w c d k (Asks s sends) = refl
-dir-takes w c d k (Takes s sends) = refl
-
 delivers : (sh : Shape) (w : World) (src dst : Node) (k : ℕ) (m : Msg) → fits sh src dst m ≡ true
     → is_some (delivered sh w src dst k m) ≡ not (is_some (reason_at sh w dst (Some m)))
 unfolding fits core_deliver
 delivers sh w (Core c) (Dir d) k m e =
-    dir-takes w c d k (dir_deliver sh (w.dirs d) c m) ∙ reasons-are-rules sh (w.dirs d) c m (fits_out sh c d m e).goes
-delivers sh w (Core c) Vendor k m e = vendor-takes w c k m (last (nat_lt c sh.cores) (is_request m) e)
+    answered-some w c d k (dir_deliver sh (w.dirs d) c m) ∙ reasons-are-rules sh (w.dirs d) c m (fits_out sh c d m e).goes
+delivers sh w (Core c) Vendor k m e = some_granted w c k m (and-right (nat_lt c sh.cores) (is_request m) e)
 delivers sh w (Dir d) (Core c) k m e =
-    core-takes w (Dir d) c k (from_dir sh d (w.cores c) m) (dir-says sh d (w.cores c) m (fits_back sh c d m e).goes)
+    some_taken w (Dir d) c k (from_dir sh d (w.cores c) m) (dir-says sh d (w.cores c) m (fits_back sh c d m e).goes)
 delivers sh w Vendor (Core c) k m e =
-    core-takes w Vendor c k (from_vendor sh (w.cores c) m) (vendor-says sh (w.cores c) m (last (nat_lt c sh.cores) (is_grant m) e))
+    some_taken w Vendor c k (from_vendor sh (w.cores c) m) (vendor-says sh (w.cores c) m (and-right (nat_lt c sh.cores) (is_grant m) e))
 delivers sh w (Core c) (Core d) k m e = absurd (cc)
 delivers sh w (Dir c) (Dir d) k m e = absurd (cc)
 delivers sh w (Dir c) Vendor k m e = absurd (cc)

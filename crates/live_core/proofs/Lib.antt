@@ -5,3 +5,4 @@ mod Halting
 mod Live
 mod Rules
 mod Tables
+pub mod Lemmas

@@ -17,6 +17,7 @@ use Rattle.rules_tcc.specs.State.{DirState}
 use Rattle.live_core.specs.Reasons.{Reason, Early, Marked, Count, Tag, probe_waits, owner_asked, load_waits, mark_waits, marked_lines}
 use Rattle.live_core.specs.Reasons.{commit_waits, words_wait, reason_of}
 use Rattle.live_core.specs.Waiting.{ReasonsAreTheRules}
+use Rattle.directory.proofs.Lemmas.{if-always}
 
 -- this answer takes the message exactly where there is no such reason
 abbrev Agree : Answer → Option Reason → Type 0
@@ -26,11 +27,6 @@ Agree a r = is_taken a ≡ not (is_some r)
 before : (b : Bool) (a : Answer) (r : Reason) (o : Option Reason) → Agree a o → Agree (if b then Waits else a) (if b then Some r else o)
 before true a r o h = refl
 before false a r o h = h
-
--- the rule takes it both ways
-both : (b : Bool) (x y : Answer) → is_taken x ≡ true → is_taken y ≡ true → is_taken (if b then x else y) ≡ true
-both true x y p q = p
-both false x y p q = q
 
 asks : (o l : ℕ) (s : DirState) → Agree (ask_owner o l s) (owner_asked (s.lines.asked l) (Some o))
 unfolding ask_owner
@@ -117,10 +113,10 @@ reasons-are-rules sh s c (Mark l m t) g = marking-agrees l m t s
 reasons-are-rules sh s c (Commit t n) g = committing sh c t n s
 reasons-are-rules sh s c (WriteBack l m ws t) g = words-wait c l m t ws s
 reasons-are-rules sh s c (Flush l m ws t) g = words-wait c l m t ws s
-reasons-are-rules sh s c (Skip t) g = both (nat_lt t s.serving.serving) _ _ refl refl
+reasons-are-rules sh s c (Skip t) g = if-always (nat_lt t s.serving.serving) _ _ refl refl
 reasons-are-rules sh s c (Abort t) g =
-    both (nat_lt t s.serving.serving) _ _ refl (both (s.serving.serving == t) _ _ refl refl)
-reasons-are-rules sh s c (InvAck l keeps) g = both (s.owed == 0) _ _ refl refl
+    if-always (nat_lt t s.serving.serving) _ _ refl (if-always (s.serving.serving == t) _ _ refl refl)
+reasons-are-rules sh s c (InvAck l keeps) g = if-always (s.owed == 0) _ _ refl refl
 reasons-are-rules sh s c TidReq g = absurd (cc)
 reasons-are-rules sh s c (TidGrant t) g = absurd (cc)
 reasons-are-rules sh s c (Fill l ws) g = absurd (cc)

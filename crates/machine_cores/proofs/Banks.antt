@@ -11,6 +11,7 @@ use Rattle.image_load.specs.Contents.{started}
 use Rattle.rv_code.specs.Machine.{program}
 use Rattle.tcc_base.specs.Put.{put}
 use Rattle.tcc_base.specs.Settings.{Settings}
+use Rattle.base_lemmas.proofs.Lemmas.{get-set, get-set_other, length-set}
 use Rattle.rules_program.specs.Program.{Program}
 use Rattle.rules_tcc.specs.State.{CoreState}
 use Rattle.tcc_msg.specs.declared.outgoing.Outgoing.{Outgoing}
@@ -25,7 +26,6 @@ use Rattle.machine_cores.specs.Bank.{CoresData, cores_of, core_or, first_core}
 use Rattle.machine_cores.specs.BankInside.{AreCores, IsBank, bank_of}
 use Rattle.machine_cores.specs.Uses.{AreCounted, exec_count, evict_count}
 use Rattle.machine_cores.specs.declared.bank.CoreBank.TheInside.{Inside}
-use Rattle.machine_cores.proofs.Lists.{get-set, get-set_other, length-set}
 
 pub cores-at : (b : CoresData) (c : ℕ) (x : Core) → slice_get b.cores c ≡ Some x → cores_of b c ≡ core_of x
 unfolding cores_of

@@ -3,6 +3,7 @@ use Rattle.std.proofs.Common.{◌≡◌, ℕ, ◌<◌, List, length, true, false
 use Rattle.std.specs.Prelude.{get_or, slice_get, sum}
 use Rattle.std.specs.Option.{option_map}
 use Rattle.std.proofs.lemmas.Option.{slice_get-get_or}
+use Rattle.base_lemmas.proofs.Lemmas.{never}
 use Rattle.image_load.specs.Contents.{started}
 use Rattle.rv_code.specs.Machine.{program}
 use Rattle.rules_maps.specs.Nodes.{Event, Exec, Evict}
@@ -21,9 +22,6 @@ execs d = exec_events d.code.settings (program (started d.code)) (cores_of d)
 
 abbrev pub evicts : CoresData → List Event
 evicts d = evict_events d.code.settings (program (started d.code)) (cores_of d)
-
-never : false ≡ true → ⊥
-never q = cc
 
 pub exec-totals : (b : Inside) (now : CoresData) → IsBank b → bank_of b ≡ now → sum b.execs ≡ length (execs now)
 exec-totals b now h e = exec-total _ _ _ b.execs b.evicts h.counted ∙ ap (λ d. length (execs d)) e

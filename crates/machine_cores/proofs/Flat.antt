@@ -4,14 +4,10 @@ use Rattle.std.proofs.Common.{map, take, length, length-append, Some, refl, ap, 
 use Rattle.std.specs.Prelude.{slice_get, sum}
 use Rattle.std.specs.List.{flat_map}
 use Rattle.std.proofs.lemmas.List.Sums.{sum_by-cons}
+use Rattle.base_lemmas.proofs.Lemmas.{get-front}
 
 sum-cons : (x : ℕ) (xs : List ℕ) → sum (x ∷ xs) ≡ x + sum xs
 sum-cons x xs = sum_by-cons (λ y. y) x xs
-
-pub get-left : {A : Type 0} (xs ys : List A) (i : ℕ) → i < length xs → slice_get (xs ++ ys) i ≡ slice_get xs i
-get-left [] ys i h = absurd (omega arith)
-get-left (x ∷ xs) ys zero h = refl
-get-left (x ∷ xs) ys (suc i) h = get-left xs ys i (omega arith)
 
 pub get-right : {A : Type 0} (xs ys : List A) (i k : ℕ) → k ≡ length xs + i → slice_get (xs ++ ys) k ≡ slice_get ys i
 get-right [] ys i k e = ap (slice_get ys) (omega arith)
@@ -30,7 +26,7 @@ flat-at f [] i r k x e h q = absurd (cc)
 flat-at f (y ∷ ys) zero r k x e h q =
     let same : y ≡ x = cc in
     let here : k ≡ r = omega (arith, q) in
-    rw (same, here) (get-left (f x) (flat_map f ys) r h)
+    rw (same, here) (get-front (f x) (flat_map f ys) r h)
 flat-at f (y ∷ ys) (suc i) r k x e h q =
     get-right (f y) (flat_map f ys) (sum (take i (map (λ z. length (f z)) ys)) + r) k
     (omega (arith, q, sum-cons (length (f y)) (take i (map (λ z. length (f z)) ys))))

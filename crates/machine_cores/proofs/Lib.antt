@@ -1,4 +1,3 @@
-pub mod Lists
 pub mod Flat
 pub mod Banks
 pub mod Limits

@@ -1,22 +1,15 @@
 -- How many evictions of a core there are at most.
-use Rattle.std.proofs.Common.{◌≡◌, ℕ, zero, suc, ◌*◌, ◌≤◌, Bool, true, false, cond, List, []}
+use Rattle.std.proofs.Common.{◌≡◌, ℕ, zero, suc, ◌*◌, ◌≤◌, List, []}
 use Rattle.std.proofs.Common.{◌∷◌, length, map, length-append, refl, ap, sym, ◌∙◌, arith, Fits, w32}
-use Rattle.std.specs.List.{filter, flat_map}
+use Rattle.std.specs.List.{flat_map}
 use Rattle.std.proofs.lemmas.List.{length-map}
 use Rattle.tcc_base.specs.Settings.{Settings, IsAllowed}
+use Rattle.base_lemmas.proofs.Lemmas.{filter-few}
 use Rattle.rules_maps.specs.Words.{those}
 use Rattle.rules_program.specs.Program.{Program}
 use Rattle.rules_tcc.specs.Seen.{numbers}
 use Rattle.rules_tcc.specs.State.{CoreState}
 use Rattle.core_node.specs.Useful.{evict_is_useful, useful_evicts}
-
-fewer : {A : Type 0} (p : A → Bool) (xs : List A) → length (filter p xs) ≤ length xs
-fewer p [] = omega arith
-fewer p (x ∷ xs) = by (p x) (fewer p xs)
-  where
-    by : (b : Bool) → length (filter p xs) ≤ length xs → length (cond b (x ∷ filter p xs) (filter p xs)) ≤ suc (length xs)
-    by true h = omega arith
-    by false h = omega arith
 
 pub numbers-length : (n : ℕ) → length (numbers n) ≡ n
 unfolding those
@@ -34,7 +27,7 @@ most s p c =
     let all : length (flat_map row (numbers s.sets)) ≡ length (numbers s.sets) * s.ways =
     rows row s.ways (numbers s.sets) (λ x. length-map (numbers s.ways) (λ y. (x, y)) ∙ numbers-length s.ways) in
     rw (sym (all ∙ ap (λ n. n * s.ways) (numbers-length s.sets)))
-    (fewer (λ q. evict_is_useful s p c q.0 q.1) (flat_map row (numbers s.sets)))
+    (filter-few (λ q. evict_is_useful s p c q.0 q.1) (flat_map row (numbers s.sets)))
 
 small : (a b : ℕ) → a ≤ 1024 → b ≤ 16 → a * b ≤ 16384
 small a b h i = grind arith

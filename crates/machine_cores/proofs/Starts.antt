@@ -9,6 +9,7 @@ use Rattle.std.proofs.lemmas.Option.{slice_get_read, slice_get_within}
 use Rattle.image_load.specs.Contents.{Contents, started}
 use Rattle.rv_code.specs.Machine.{program, start_local}
 use Rattle.tcc_base.specs.Settings.{Settings}
+use Rattle.base_lemmas.proofs.Lemmas.{get-front, length-set}
 use Rattle.rules_tcc.specs.State.{core_start}
 use Rattle.core_node.specs.View.{core_of}
 use Rattle.core_node.specs.declared.state.Core.{Core}
@@ -16,8 +17,7 @@ use Rattle.machine_cores.specs.Bank.{cores_of, core_or, first_core}
 use Rattle.machine_cores.specs.BankInside.{AreCores}
 use Rattle.machine_cores.specs.Uses.{AreCounted, exec_count, evict_count}
 use Rattle.machine_cores.proofs.Banks.{cores-at}
-use Rattle.machine_cores.proofs.Flat.{get-left, get-right}
-use Rattle.machine_cores.proofs.Lists.{length-set}
+use Rattle.machine_cores.proofs.Flat.{get-right}
 
 -- this is the core of that number as it begins
 pub record IsFirst (k : Contents) (j : ℕ) (x : Core) : Type 0 where
@@ -44,7 +44,7 @@ one-more_core k n cs x h f = record { count = length-append cs (x ∷ []) ∙ ap
   where
     each : (j : ℕ) (y : Core) → slice_get (cs ++ x ∷ []) j ≡ Some y → IsFirst k j y
     each j y q = elim (cases_lt j (length cs)) [
-      | inl l ↦ h.each j y (sym (get-left cs (x ∷ []) j l) ∙ q)
+      | inl l ↦ h.each j y (sym (get-front cs (x ∷ []) j l) ∙ q)
       | inr m ↦ (let short : j < length (cs ++ x ∷ []) = slice_get_within (cs ++ x ∷ []) j y q in
           let last : j ≡ length cs + 0 = omega (arith, short, length-append cs (x ∷ [])) in
           let same : x ≡ y = ap (λ o. unwrap_or o x) (sym (get-right cs (x ∷ []) 0 j last) ∙ q) in

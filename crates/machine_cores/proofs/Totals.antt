@@ -8,6 +8,7 @@ use Rattle.std.proofs.lemmas.Grind.{flat_map-append}
 use Rattle.std.specs.Option.{option_map}
 use Rattle.std.proofs.lemmas.List.{ext_get_or, get_or-map, length-map, map-append}
 use Rattle.std.proofs.lemmas.Option.{get_or_from_slice_get, slice_get-map, slice_get_past}
+use Rattle.base_lemmas.proofs.Lemmas.{get-front}
 use Rattle.rules_maps.specs.Nodes.{Event, Exec, Evict}
 use Rattle.rules_maps.specs.Shape.{Shape}
 use Rattle.rules_maps.specs.Words.{those}
@@ -18,16 +19,16 @@ use Rattle.rules_tcc.specs.State.{CoreState}
 use Rattle.core_node.specs.Useful.{useful_evicts}
 use Rattle.base_sums.specs.Falls.{FallsAt}
 use Rattle.machine_cores.specs.Uses.{AreCounted, evict_events, exec_events}
-use Rattle.machine_cores.proofs.Flat.{flat-at, flat-length, get-left, get-right}
+use Rattle.machine_cores.proofs.Flat.{flat-at, flat-length, get-right}
 use Rattle.machine_cores.proofs.Limits.{numbers-length}
 
 -- ---- lists by core
 
-numbers-at : (n i : ℕ) → i < n → slice_get (numbers n) i ≡ Some i
+pub numbers-at : (n i : ℕ) → i < n → slice_get (numbers n) i ≡ Some i
 unfolding those
 numbers-at zero i h = absurd (omega arith)
 numbers-at (suc n) i h = elim (cases_lt i n) [
-  | inl l ↦ get-left (numbers n) (n ∷ []) i (rw (numbers-length n) l) ∙ numbers-at n i l
+  | inl l ↦ get-front (numbers n) (n ∷ []) i (rw (numbers-length n) l) ∙ numbers-at n i l
   | inr m ↦ (let last : i ≡ n = omega arith in
       get-right (numbers n) (n ∷ []) 0 i (omega (arith, last, numbers-length n)) ∙ ap Some (sym last))
 ]

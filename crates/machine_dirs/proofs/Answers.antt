@@ -8,6 +8,7 @@ use Rattle.std.proofs.lemmas.Bool.Decides.{nat_tests}
 use Rattle.tcc_base.specs.Put.{put}
 use Rattle.tcc_base.specs.Settings.{Settings}
 use Rattle.tcc_base.specs.declared.names.NodeId.{NodeId}
+use Rattle.base_lemmas.proofs.Lemmas.{get-set, get-set_other, length-set}
 use Rattle.rules_maps.specs.Nodes.{Msg}
 use Rattle.rules_maps.specs.Shape.{lines}
 use Rattle.tcc_msg.specs.Plain.{sends_of}
@@ -23,7 +24,6 @@ use Rattle.machine_dirs.specs.Acted.{Acted}
 use Rattle.machine_dirs.specs.Bank.{DirsData, dirs_of}
 use Rattle.machine_dirs.specs.BankInside.{AreDirs, IsBank, bank_of}
 use Rattle.machine_dirs.specs.declared.bank.DirBank.TheInside.{Inside}
-use Rattle.machine_dirs.proofs.Lists.{get-set, get-set_other, length-set}
 use Rattle.machine_dirs.proofs.Parts.{dirs-put, dirs-at}
 
 -- the directory of that number

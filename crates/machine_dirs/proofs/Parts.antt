@@ -1,5 +1,5 @@
 -- How the states of the rules change with one directory, and what directories are at the start.
-use Rattle.std.proofs.Common.{◌≡◌, ℕ, ◌+◌, ◌/◌, ◌<◌, ◌^◌, Bool, true, false, ◌&&◌, List, length, Some, refl, ap, sym, ◌∙◌, subst, arith}
+use Rattle.std.proofs.Common.{◌≡◌, ℕ, ◌+◌, ◌/◌, ◌<◌, ◌^◌, true, false, List, length, Some, refl, ap, sym, ◌∙◌, subst, arith}
 use Rattle.std.proofs.Common.{inl, inr, if◌then◌else◌}
 use Rattle.std.specs.Prelude.{slice_get, slice_set, get_or, nat_lt, ◌==◌}
 use Rattle.std.proofs.lemmas.Bool.{cases_eq, ne_eqb, cases_Bool}
@@ -8,15 +8,16 @@ use Rattle.image_load.specs.Start.{Start}
 use Rattle.rv_code.specs.Machine.{first_ram}
 use Rattle.tcc_base.specs.Put.{put}
 use Rattle.rules_tcc.specs.State.{dir_start}
-use Rattle.rules_maps.specs.Shape.{lines, home}
+use Rattle.rules_maps.specs.Shape.{lines}
 use Rattle.rules_maps.specs.Words.{line_of, place_of}
 use Rattle.directory.specs.Data.{DirData, dir_of}
-use Rattle.dir_lines.specs.Home.{Home, IsAtHome}
+use Rattle.dir_lines.specs.Home.{IsAtHome}
 use Rattle.dir_lines.specs.Pages.{is_at_home}
 use Rattle.dir_lines.specs.Words.{words_at, Words, first_place}
 use Rattle.tcc_base.specs.Settings.{Settings}
+use Rattle.base_lemmas.proofs.Lemmas.{get-set, get-set_other}
 use Rattle.machine_dirs.specs.Bank.{DirsData, dir_or, dirs_of}
-use Rattle.machine_dirs.proofs.Lists.{get-set, get-set_other}
+use Rattle.dir_lines.proofs.Lemmas.{is_at_home-only}
 
 pub dirs-put : (ram : ℕ → ℕ) (sh : Settings) (ds : List DirData) (d : ℕ) (x : DirData) → d < length ds
     → dirs_of ram (record { settings = sh; dirs = slice_set ds d x }) ≡ put (dirs_of ram (record { settings = sh; dirs = ds })) d
@@ -49,14 +50,6 @@ first-small s w i k =
     let here : nat_lt w (s.settings.ram / 4) ≡ true = grind (arith, nat_tests) in
     rw here (omega arith)
 
-at_home : (h : Home) (l : ℕ) → is_at_home h l ≡ true → IsAtHome h l
-at_home h l q = go (nat_lt l (lines h.shape)) refl (home h.shape l == h.dir) refl q
-  where
-    go : (a : Bool) → nat_lt l (lines h.shape) ≡ a → (b : Bool) → (home h.shape l == h.dir) ≡ b → (a && b) ≡ true → IsAtHome h l
-    go true p true r z = (grind (arith, nat_tests), grind (arith, nat_tests))
-    go true p false r z = absurd (cc)
-    go false p b r z = absurd (cc)
-
 below : (ram w : ℕ) → w / 8 < ram / 32 → w < ram / 4
 below ram w h = omega arith
 
@@ -74,7 +67,7 @@ dir-first s x e same shape small = λ i. record {
   where
     here : (w : ℕ) → words_at s.word x.words w ≡ s.word w → words_at (first_ram s) x.words w ≡ first_ram s w
     here w given = elim (cases_Bool (is_at_home x.words.place (line_of w))) [
-      | inl t ↦ (let h = at_home x.lines.place (line_of w) (ap (λ p. is_at_home p (line_of w)) (sym same) ∙ t) in
+      | inl t ↦ (let h = is_at_home-only x.lines.place (line_of w) (ap (λ p. is_at_home p (line_of w)) (sym same) ∙ t) in
           let i : w < s.settings.ram / 4 = below s.settings.ram w (subst (λ sh. w / 8 < lines sh) shape h.0) in
           in_place (first_ram s) x.words w t ∙ sym (in_place s.word x.words w t) ∙ given ∙ sym (first-small s w i (small w h)))
       | inr f ↦ out_of_place (first_ram s) x.words w f

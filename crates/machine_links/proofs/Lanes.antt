@@ -3,6 +3,7 @@ use Rattle.std.proofs.Common.{◌≡◌, ℕ, suc, zero, ◌+◌, ◌*◌, ◌<�
 use Rattle.std.proofs.Common.{map, length, get_or, set, Option, Some, None, IsSome, refl, ap, sym, ◌∙◌, arith}
 use Rattle.std.proofs.lemmas.Bool.{cases_eq, cases_lt, cases_Bool, and_parts, false≢true, eq-eqb, ne_eqb}
 use Rattle.std.proofs.lemmas.List.{get_or-set_same, get_or-set_other, set-get_or, set_past, get_or_past, length-set, map-set}
+use Rattle.base_lemmas.proofs.Lemmas.{node_eq-refl}
 use Rattle.rules_maps.specs.Nodes.{Node, node_eq}
 use Rattle.rules_tcc.specs.Links.{in_flight}
 use Rattle.rules_tcc.proofs.Lemmas.{node_eq-eq}
@@ -10,7 +11,7 @@ use Rattle.machine_links.specs.declared.lane.Held.{Held}
 use Rattle.machine_links.specs.Lane.{Lane, message, is_marked, marked_as}
 use Rattle.machine_links.specs.Places.{is_link, place, src_at, dst_at}
 use Rattle.machine_links.specs.Flights.{Flights, lane_at, lane, net_of}
-use Rattle.machine_links.proofs.Placing.{placed, place-none, place-at, node_eq-own}
+use Rattle.machine_links.proofs.Placing.{placed, place-none, place-at}
 
 -- what always holds of the lanes
 pub record Laned (cs ds : ℕ) (ls : List Lane) : Type 0 where
@@ -51,7 +52,7 @@ lane-set cs ds ls s0 d0 i l h at s d = by (node_eq s s0 && node_eq d d0) refl
         let a : s ≡ s0 = sym q.src ∙ (ap (src_at cs ds) e ∙ p.src) in
         let b : d ≡ d0 = sym q.dst ∙ (ap (dst_at cs ds) e ∙ p.dst) in
         let c : (node_eq s s0 && node_eq d d0) ≡ true = (λ t. node_eq (a t) s0 && node_eq (b t) d0)
-        ∙ (λ t. node_eq-own s0 t && node_eq-own d0 t) in
+        ∙ (λ t. node_eq-refl s0 t && node_eq-refl d0 t) in
         false≢true (sym off ∙ c)
 
     stays : (o : Option ℕ) → place cs ds s d ≡ o → (node_eq s s0 && node_eq d d0) ≡ false → lane_at (set ls i l) o ≡ lane_at ls o

@@ -1,10 +1,11 @@
 -- What other crates may cite: the list of marked deliveries is that of the rules where the marks are right, and marks after a change;
 -- and a node is itself.
-use Rattle.std.proofs.Common.{◌≡◌, ℕ, suc, zero, ◌<◌, ◌==◌, Bool, true, false, cond, ◌&&◌, if◌then◌else◌, List, [], ◌∷◌, ◌++◌, map, length}
+use Rattle.std.proofs.Common.{◌≡◌, ℕ, suc, zero, ◌<◌, ◌==◌, Bool, false, cond, ◌&&◌, if◌then◌else◌, List, [], ◌∷◌, ◌++◌, map, length}
 use Rattle.std.proofs.Common.{refl, ap, ◌∙◌}
 use Rattle.std.specs.List.{flat_map, filter}
 use Rattle.std.proofs.lemmas.Bool.{eq-eqb}
 use Rattle.std.proofs.lemmas.List.Elements.{filter-append}
+use Rattle.base_lemmas.proofs.Lemmas.{filter-flat, filter-map, flat-each, node_eq-refl, those-same}
 use Rattle.rules_maps.specs.Words.{those}
 use Rattle.rules_maps.specs.Nodes.{Node, Core, Dir, Vendor, Event, Deliver, node_eq}
 use Rattle.rules_maps.specs.Shape.{Shape}
@@ -12,31 +13,12 @@ use Rattle.rules_tcc.specs.State.{World, Link}
 use Rattle.rules_tcc.specs.Seen.{numbers}
 use Rattle.rules_tcc.specs.Useful.{nodes, delivers}
 use Rattle.machine_links.specs.Flights.{Flights, net_of, is_ready, with_mark, nodes_of, ready_on, ready_list}
-use Rattle.machine_links.proofs.Numbers.{those-same}
-pub use Rattle.machine_links.proofs.Placing.{node_eq-own}
 pub use Rattle.machine_links.proofs.Reading.{marked-flies}
-
-filter-flat : {A B : Type 0} (q : B → Bool) (g : A → List B) (xs : List A) → filter q (flat_map g xs) ≡ flat_map (λ x. filter q (g x)) xs
-filter-flat q g [] = refl
-filter-flat q g (x ∷ xs) = filter-append q (g x) (flat_map g xs) ∙ ap (λ ys. filter q (g x) ++ ys) (filter-flat q g xs)
-
-filter-map : {A B : Type 0} (q : B → Bool) (h : A → B) (xs : List A) → filter q (map h xs) ≡ map h (filter (λ x. q (h x)) xs)
-filter-map q h [] = refl
-filter-map q h (x ∷ xs) = ap (λ ys. cond (q (h x)) (h x ∷ ys) ys) (filter-map q h xs) ∙ by (q (h x))
-  where
-    by : (b : Bool) → cond b (h x ∷ map h (filter (λ x. q (h x)) xs)) (map h (filter (λ x. q (h x)) xs))
-        ≡ map h (cond b (x ∷ filter (λ x. q (h x)) xs) (filter (λ x. q (h x)) xs))
-    by true = refl
-    by false = refl
 
 filter-numbers : (p : ℕ → Bool) (n : ℕ) → filter p (numbers n) ≡ those p n
 unfolding those
 filter-numbers p zero = refl
 filter-numbers p (suc n) = filter-append p (numbers n) (n ∷ []) ∙ ap (λ ks. ks ++ cond (p n) (n ∷ []) []) (filter-numbers p n)
-
-flat-each : {A B : Type 0} (f g : A → List B) → ((x : A) → f x ≡ g x) → (xs : List A) → flat_map f xs ≡ flat_map g xs
-flat-each f g h [] = refl
-flat-each f g h (x ∷ xs) = λ i. h x i ++ flat-each f g h xs i
 
 same-nodes : (sh : Shape) (f : Flights) → sh.cores ≡ f.cores → sh.dirs ≡ f.dirs → nodes sh ≡ nodes_of f
 unfolding nodes nodes_of
@@ -74,7 +56,7 @@ ready-delivers sh w f q cores dirs net agrees =
 -- the mark that was changed, and the others
 pub with_mark-own : (f : Node → Node → ℕ → Bool) (s d : Node) (k : ℕ) (b : Bool) → with_mark f s d k b s d k ≡ b
 unfolding with_mark
-with_mark-own f s d k b = (λ i. if node_eq-own s i && (node_eq-own d i && eq-eqb k k refl i) then b else f s d k)
+with_mark-own f s d k b = (λ i. if node_eq-refl s i && (node_eq-refl d i && eq-eqb k k refl i) then b else f s d k)
 
 pub with_mark-other : (f : Node → Node → ℕ → Bool) (s d : Node) (k : ℕ) (b : Bool) (t e : Node) (j : ℕ)
     → (node_eq t s && (node_eq e d && j == k)) ≡ false → with_mark f s d k b t e j ≡ f t e j

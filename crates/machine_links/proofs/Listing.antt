@@ -9,6 +9,7 @@ use Rattle.std.proofs.lemmas.List.Concat.{flat_map-append}
 use Rattle.std.proofs.lemmas.List.Sums.{sum_by_push}
 use Rattle.std.proofs.lemmas.Option.{slice_get_past, slice_get-map}
 use Rattle.std.proofs.lemmas.Nat.{div-mul-add, mod-mul-add}
+use Rattle.base_lemmas.proofs.Lemmas.{get-after, get-front, map-map}
 use Rattle.rules_maps.specs.Words.{those}
 use Rattle.rules_maps.specs.Nodes.{Node, Core, Dir, Vendor, Event, Deliver}
 use Rattle.rules_tcc.specs.Seen.{numbers}
@@ -50,10 +51,6 @@ map-same f g (suc n) h =
     ∙ (map-append f (numbers n) (n ∷ [])
     ∙ ((λ i. map-same f g n (λ k l. h k (omega arith)) i ++ h n (omega arith) i ∷ [])
     ∙ sym (ap (map g) (numbers-suc n) ∙ map-append g (numbers n) (n ∷ []))))
-
-map-map : {A B C : Type 0} (g : B → C) (f : A → B) (xs : List A) → map g (map f xs) ≡ map (λ x. g (f x)) xs
-map-map g f [] = refl
-map-map g f (x ∷ xs) = ap (λ ys. g (f x) ∷ ys) (map-map g f xs)
 
 flat-map : {A B C : Type 0} (g : B → List C) (f : A → B) (xs : List A) → flat_map g (map f xs) ≡ flat_map (λ x. g (f x)) xs
 flat-map g f [] = refl
@@ -167,17 +164,6 @@ length-first h counts (suc n) le each =
     ∙ sym (ap (λ k. sum (take k counts)) s
     ∙ (ap (λ xs. sum xs) (take_more counts n 0 (omega arith)) ∙ sum_by_push (λ x. x) (take n counts) (get_or counts n 0)))))
 
--- an element of lists joined
-get-left : {A : Type 0} (xs ys : List A) (k : ℕ) → k < length xs → slice_get (xs ++ ys) k ≡ slice_get xs k
-get-left [] ys k l = absurd (omega arith)
-get-left (x ∷ xs) ys zero l = refl
-get-left (x ∷ xs) ys (suc k) l = get-left xs ys k (omega arith)
-
-get-right : {A : Type 0} (xs ys : List A) (k r : ℕ) → k ≡ length xs + r → slice_get (xs ++ ys) k ≡ slice_get ys r
-get-right [] ys k r e = let s : k ≡ r = omega arith in ap (slice_get ys) s
-get-right (x ∷ xs) ys zero r e = absurd (omega arith)
-get-right (x ∷ xs) ys (suc k) r e = get-right xs ys k r (omega arith)
-
 get-flat : {A : Type 0} (h : ℕ → List A) (n i k r : ℕ) → i < n → k ≡ length (flat_map h (numbers i)) + r → r < length (h i)
     → slice_get (flat_map h (numbers n)) k ≡ slice_get (h i) r
 get-flat h n i k r l e within =
@@ -187,7 +173,7 @@ get-flat h n i k r l e within =
     ap (λ m. flat_map h (numbers m)) s ∙ (ap (flat_map h) (numbers-add (suc i) (n - suc i))
     ∙ (flat_map-append h (numbers (suc i)) (map (λ j. suc i + j) (numbers (n - suc i))) ∙ ap (λ ys. ys ++ rest) (flat-suc h i))) in
     ap (λ ys. slice_get ys k) (a ∙ append_assoc (flat_map h (numbers i)) (h i) rest)
-    ∙ (get-right (flat_map h (numbers i)) (h i ++ rest) k r e ∙ get-left (h i) rest r within)
+    ∙ (get-after (flat_map h (numbers i)) (h i ++ rest) k r e ∙ get-front (h i) rest r within)
 
 module _ (cs ds : ℕ) (ls : List Lane) (tree : List ℕ) (fl : ℕ) (stands : Stands cs ds ls tree fl) where
   pub same-length : length tree ≡ length ls

@@ -3,6 +3,7 @@ use Rattle.std.proofs.Common.{◌≡◌, ◌≢◌, ℕ, zero, suc, Bool, true, 
 use Rattle.std.proofs.Common.{Option, Some, None, refl, ap, sym, subst, append-nil, ◌∙◌, arith}
 use Rattle.std.proofs.lemmas.Bool.{false≢true}
 use Rattle.tcc_base.specs.declared.names.NodeId.{NodeId}
+use Rattle.base_lemmas.proofs.Lemmas.{node_eq-refl}
 use Rattle.rules_maps.specs.Bridge.{node_of}
 use Rattle.rules_maps.specs.Nodes.{Node, Core, Dir, Vendor, Msg, node_eq}
 use Rattle.tcc_msg.specs.Plain.{msg_of, sends_of}
@@ -13,7 +14,6 @@ use Rattle.rules_tcc.proofs.Lemmas.{node_eq-eq}
 use Rattle.machine_links.specs.declared.subject.Entry.{Entry}
 use Rattle.machine_links.specs.Flights.{AllListed}
 use Rattle.machine_links.specs.Subject.{Index, IsListed, Subject, about, entry, entry_of, listed_as}
-use Rattle.machine_links.proofs.Placing.{node_eq-own}
 
 -- nothing was sent
 pub none-listed : (net : Node → Node → Link) (x : Index) → net ≡ (λ s d. []) → AllListed net x
@@ -109,6 +109,6 @@ taken-listed net x y src dst k m others all c d j z e fly q = go (node_eq (Core 
     go true s true t f =
         let o = unset (net (Core c) (Dir d)) k j z f in stays o.flies (λ p. o.apart (mine.seq_is ∙ sym p.seq_is))
     go true s false t f =
-        stays f (λ p. false≢true (sym t ∙ (λ i. node_eq (mine.dst_is i) (p.dst_is i)) ∙ node_eq-own (Dir e.dst.0)))
+        stays f (λ p. false≢true (sym t ∙ (λ i. node_eq (mine.dst_is i) (p.dst_is i)) ∙ node_eq-refl (Dir e.dst.0)))
     go false s b t f =
-        stays f (λ p. false≢true (sym s ∙ (λ i. node_eq (mine.src_is i) (p.src_is i)) ∙ node_eq-own (Core e.src.0)))
+        stays f (λ p. false≢true (sym s ∙ (λ i. node_eq (mine.src_is i) (p.src_is i)) ∙ node_eq-refl (Core e.src.0)))

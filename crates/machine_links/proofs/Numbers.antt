@@ -5,6 +5,7 @@ use Rattle.std.specs.List.{filter, count_by}
 use Rattle.std.proofs.lemmas.Bool.{cases_eq, cases_Bool, eq-eqb, ne_eqb}
 use Rattle.std.proofs.lemmas.List.{length-map}
 use Rattle.std.proofs.lemmas.List.Sums.{sum_by-cons, length-filter, count_by-le-length}
+use Rattle.base_lemmas.proofs.Lemmas.{count_below-head, those-none, those-same}
 use Rattle.rules_maps.specs.Words.{those, count_below, num}
 use Rattle.rules_maps.proofs.Lemmas.{length-those}
 use Rattle.machine_links.specs.declared.lane.Held.{Held}
@@ -13,16 +14,6 @@ use Rattle.machine_links.specs.Lane.{Lane, is_marked, is_waiting, numbers_of}
 use Rattle.machine_links.specs.Laid.{laid, held_at, Rises}
 use Rattle.machine_links.proofs.Laid.{length-laid, get-laid}
 use Rattle.machine_links.proofs.Finding.{rises-le, held-low}
-
-pub those-same : (p q : ℕ → Bool) (n : ℕ) → ((k : ℕ) → k < n → p k ≡ q k) → those p n ≡ those q n
-unfolding those
-those-same p q zero h = refl
-those-same p q (suc n) h = λ i. those-same p q n (λ k l. h k (omega arith)) i ++ cond (h n (omega arith) i) (n ∷ []) []
-
-pub those-none : (p : ℕ → Bool) (n : ℕ) → ((k : ℕ) → k < n → p k ≡ false) → those p n ≡ []
-unfolding those
-those-none p zero h = refl
-those-none p (suc n) h = rw (those-none p n (λ k l. h k (omega arith)), h n (omega arith)) refl
 
 -- the first of them, and the others
 those-first : (p q : ℕ → Bool) (s n : ℕ) → s < n → p s ≡ true → ((k : ℕ) → k < s → p k ≡ false) → ((k : ℕ) → k ≢ s → p k ≡ q k)
@@ -79,18 +70,12 @@ numbers-laid p none n ws r =
     ∙ (those-same (λ k. p (get_or (laid (held_at ws) n) k None)) (λ k. p (held_at ws k)) n (λ k l. ap p (get-laid (held_at ws) n k None l))
     ∙ those-held p none 0 n ws r)
 
--- how many they are
-count-shift : (p : ℕ → Bool) (n : ℕ) → count_below p (suc n) ≡ num (p 0) + count_below (λ k. p (suc k)) n
-unfolding count_below
-count-shift p zero = omega arith
-count-shift p (suc n) = let h : count_below p n + num (p n) ≡ num (p 0) + count_below (λ k. p (suc k)) n = count-shift p n in omega arith
-
 count-list : (p : Option Held → Bool) (l : Lane) → count_below (λ k. p (get_or l k None)) (length l) ≡ count_by p l
 unfolding count_below
 count-list p [] = refl
 count-list p (x ∷ xs) =
     let a : count_below (λ k. p (get_or (x ∷ xs) k None)) (suc (length xs))
-    ≡ num (p x) + count_below (λ k. p (get_or xs k None)) (length xs) = count-shift (λ k. p (get_or (x ∷ xs) k None)) (length xs) in
+    ≡ num (p x) + count_below (λ k. p (get_or xs k None)) (length xs) = count_below-head (λ k. p (get_or (x ∷ xs) k None)) (length xs) in
     let b : count_by p (x ∷ xs) ≡ num (p x) + count_by p xs = sum_by-cons (λ x. cond (p x) 1 0) x xs in
     a ∙ (ap (λ m. num (p x) + m) (count-list p xs) ∙ sym b)
 

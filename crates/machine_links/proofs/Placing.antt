@@ -1,10 +1,9 @@
 -- The places of links among all pairs of nodes: each link has its own, and each place has its source and destination.
 use Rattle.std.proofs.Common.{◌≡◌, ℕ, ◌+◌, ◌*◌, ◌/◌, ◌%◌, ◌<◌, ◌≤◌, true, false, nat_lt, ⊎_elim, Some, None, refl, ap, subst, ◌∙◌, arith}
 use Rattle.std.proofs.lemmas.Bool.{cases_lt, and_parts, ltb-true, lt-ltb, le-ltb}
-use Rattle.std.proofs.lemmas.Bool.Decides.{nat_tests}
 use Rattle.std.proofs.lemmas.Option.{cond_some}
 use Rattle.std.proofs.lemmas.Nat.{div-mul-add, mod-mul-add, mul-add-lt, div_below, mod_below, div-add-mod'}
-use Rattle.rules_maps.specs.Nodes.{Node, Core, Dir, Vendor, node_eq}
+use Rattle.rules_maps.specs.Nodes.{Node, Core, Dir, Vendor}
 use Rattle.machine_links.specs.Places.{is_link, rank, node_at, place, src_at, dst_at}
 
 core-at : (cs ds c : ℕ) → c < cs → node_at cs ds c ≡ Core c
@@ -101,8 +100,3 @@ place-at cs ds i h e =
     rank-at cs ds (i / (cs + ds + 1)) (div_below i (cs + ds + 1) (cs + ds + 1) m h) in
     let b : rank cs ds (dst_at cs ds i) ≡ i % (cs + ds + 1) = rank-at cs ds (i % (cs + ds + 1)) (mod_below i (cs + ds + 1) m) in
     rw (e, a, b) (ap Some (div-add-mod' i (cs + ds + 1)))
-
-pub node_eq-own : (n : Node) → node_eq n n ≡ true
-node_eq-own (Core c) = grind (arith, nat_tests)
-node_eq-own (Dir d) = grind (arith, nat_tests)
-node_eq-own Vendor = refl

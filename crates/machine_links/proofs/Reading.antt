@@ -1,6 +1,7 @@
 -- What is read of one link: its messages and marks by its lane.
 use Rattle.std.proofs.Common.{◌≡◌, ℕ, true, false, [], length, get_or, Option, Some, None, is_some, refl, ap, sym, ◌∙◌}
 use Rattle.std.proofs.lemmas.List.{length-map}
+use Rattle.base_lemmas.proofs.Lemmas.{those-same}
 use Rattle.rules_maps.specs.Words.{those}
 use Rattle.rules_maps.specs.Nodes.{Node}
 use Rattle.tcc_msg.specs.Plain.{msg_of}
@@ -8,7 +9,6 @@ use Rattle.rules_tcc.specs.Links.{in_flight}
 use Rattle.machine_links.specs.declared.lane.Held.{Held}
 use Rattle.machine_links.specs.Lane.{Lane, message, is_marked, is_waiting, numbers_of}
 use Rattle.machine_links.specs.Flights.{Flights, lane, net_of, is_ready}
-use Rattle.machine_links.proofs.Numbers.{those-same}
 use Rattle.machine_links.proofs.Lanes.{in-flight}
 
 pub net-length : (f : Flights) (s d : Node) → length (net_of f s d) ≡ length (lane f s d)

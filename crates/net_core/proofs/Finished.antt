@@ -3,6 +3,7 @@ use Rattle.std.proofs.Common.{◌≡◌, ℕ, ◌<◌, Bool, true, false, List, 
 use Rattle.std.proofs.Common.{◌∙◌, subst, get_or}
 use Rattle.std.specs.Prelude.{◌↔◌, IsTrue}
 use Rattle.tcc_base.specs.declared.names.NodeId.{NodeId}
+use Rattle.base_lemmas.proofs.Lemmas.{node_eq-refl}
 use Rattle.theorem_bounds.specs.Bounds.{CacheInMemory}
 use Rattle.rules_maps.specs.Bridge.{node_of}
 use Rattle.rules_maps.specs.Cache.{Cache, is_dirty}
@@ -20,7 +21,6 @@ use Rattle.machine_cores.specs.Rest.{IsAtRest}
 use Rattle.machine_links.specs.Flights.{net_of}
 use Rattle.net_core.specs.Machine.{Machine, history_of, settings_of, world_of}
 use Rattle.net_core.specs.Whole.{IsWhole}
-use Rattle.net_core.proofs.Links.Placing.{node_eq-itself}
 use Rattle.net_core.proofs.Words.Away.{clean-line}
 use Rattle.net_core.proofs.Reaching.{settled-net, whole-bounded}
 
@@ -59,7 +59,7 @@ sent-flies : (net : Node → Node → Link) (n : NodeId) (e : NodeId × Msg) (es
     → in_flight (sending net (node_of n) (sends_of (e ∷ es))) (node_of n) (node_of e.0) (length (net (node_of n) (node_of e.0)))
     ≡ Some (msg_of e.1)
 unfolding sends_of sent_all
-sent-flies net n e es = rw (node_eq-itself (node_of n), node_eq-itself (node_of e.0))
+sent-flies net n e es = rw (node_eq-refl (node_of n), node_eq-refl (node_of e.0))
     (behind (net (node_of n) (node_of e.0)) (msg_of e.1) _)
 
 -- where nothing is in flight all that was sent stands on its links

@@ -1,26 +1,16 @@
 -- The nodes of a machine by place.
-use Rattle.std.proofs.Common.{◌≡◌, ℕ, zero, suc, ◌+◌, ◌<◌, inl, inr, List, [], ◌∷◌, ◌++◌, map, length, length-append, Some, None}
+use Rattle.std.proofs.Common.{◌≡◌, ℕ, ◌+◌, ◌<◌, List, [], ◌∷◌, ◌++◌, map, length, length-append, Some, None}
 use Rattle.std.proofs.Common.{ap, sym, ◌∙◌, arith}
 use Rattle.std.specs.Prelude.{slice_get}
-use Rattle.std.proofs.lemmas.Bool.{cases_lt}
 use Rattle.std.specs.Option.{option_map}
 use Rattle.std.proofs.lemmas.List.{length-map}
 use Rattle.std.proofs.lemmas.Option.{slice_get-map, slice_get_past}
+use Rattle.base_lemmas.proofs.Lemmas.{get-front}
 use Rattle.rules_maps.specs.Nodes.{Node, Core, Dir, Vendor}
 use Rattle.rules_maps.specs.Shape.{Shape}
-use Rattle.rules_maps.specs.Words.{those}
 use Rattle.rules_tcc.specs.Seen.{numbers}
 use Rattle.rules_tcc.specs.Useful.{nodes}
-use Rattle.machine_cores.proofs.Lemmas.{get-left, get-right, numbers-length}
-
-numbers-at : (n i : ℕ) → i < n → slice_get (numbers n) i ≡ Some i
-unfolding those
-numbers-at zero i h = absurd (omega arith)
-numbers-at (suc n) i h = elim (cases_lt i n) [
-  | inl l ↦ get-left (numbers n) (n ∷ []) i (rw (numbers-length n) l) ∙ numbers-at n i l
-  | inr m ↦ (let last : i ≡ n = omega arith in
-      get-right (numbers n) (n ∷ []) 0 i (omega (arith, last, numbers-length n)) ∙ ap Some (sym last))
-]
+use Rattle.machine_cores.proofs.Lemmas.{get-right, numbers-length, numbers-at}
 
 cores-length : (sh : Shape) → length (map Core (numbers sh.cores)) ≡ sh.cores
 cores-length sh = length-map (numbers sh.cores) Core ∙ numbers-length sh.cores
@@ -41,7 +31,7 @@ nodes-length sh =
 pub core-at : (sh : Shape) (k : ℕ) → k < sh.cores → slice_get (nodes sh) k ≡ Some (Core k)
 unfolding nodes
 core-at sh k l =
-    get-left (map Core (numbers sh.cores)) (others sh) k (rw (cores-length sh) l)
+    get-front (map Core (numbers sh.cores)) (others sh) k (rw (cores-length sh) l)
     ∙ slice_get-map Core (numbers sh.cores) k ∙ ap (option_map Core) (numbers-at sh.cores k l)
 
 behind-cores : (sh : Shape) (k i : ℕ) → k ≡ sh.cores + i → slice_get (nodes sh) k ≡ slice_get (others sh) i
@@ -50,7 +40,7 @@ behind-cores sh k i e = get-right (map Core (numbers sh.cores)) (others sh) i k 
 
 pub dir-at : (sh : Shape) (k i : ℕ) → k ≡ sh.cores + i → i < sh.dirs → slice_get (nodes sh) k ≡ Some (Dir i)
 dir-at sh k i e l =
-    behind-cores sh k i e ∙ get-left (map Dir (numbers sh.dirs)) (Vendor ∷ []) i (rw (dirs-length sh) l)
+    behind-cores sh k i e ∙ get-front (map Dir (numbers sh.dirs)) (Vendor ∷ []) i (rw (dirs-length sh) l)
     ∙ slice_get-map Dir (numbers sh.dirs) i ∙ ap (option_map Dir) (numbers-at sh.dirs i l)
 
 pub vendor-at : (sh : Shape) (k : ℕ) → k ≡ sh.cores + sh.dirs → slice_get (nodes sh) k ≡ Some Vendor

@@ -1,5 +1,5 @@
 -- The first elements of a list, one by one.
-use Rattle.std.proofs.Common.{◌≡◌, ℕ, zero, suc, ◌+◌, ◌<◌, List, [], ◌∷◌, ◌++◌, take, length, Some, None, ap, ◌∙◌, arith}
+use Rattle.std.proofs.Common.{◌≡◌, ℕ, zero, suc, ◌+◌, List, [], ◌∷◌, ◌++◌, take, Some, ap, ◌∙◌, arith}
 use Rattle.std.specs.Prelude.{slice_get}
 
 one-longer : {A : Type 0} (xs : List A) (k : ℕ) (x : A) → slice_get xs k ≡ Some x → take (suc k) xs ≡ take k xs ++ x ∷ []
@@ -9,8 +9,3 @@ one-longer (y ∷ ys) (suc k) x e = ap (λ zs. y ∷ zs) (one-longer ys k x e)
 
 pub took-more : {A : Type 0} (xs : List A) (k : ℕ) (x : A) → slice_get xs k ≡ Some x → take (k + 1) xs ≡ take k xs ++ x ∷ []
 took-more xs k x e = let s : k + 1 ≡ suc k = omega arith in ap (λ n. take n xs) s ∙ one-longer xs k x e
-
-pub none-past : {A : Type 0} (xs : List A) (k : ℕ) → slice_get xs k ≡ None → k < length xs → ⊥
-none-past [] k e l = omega (arith, l)
-none-past (x ∷ xs) zero e l = cc
-none-past (x ∷ xs) (suc k) e l = none-past xs k e (omega (arith, l))

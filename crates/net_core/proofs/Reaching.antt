@@ -1,17 +1,16 @@
 -- What a machine that the rules have led to keeps to, and that it is still one after one more event.
 use Rattle.std.proofs.Common.{◌≡◌, ℕ, zero, suc, ◌+◌, ◌^◌, ◌<◌, ◌≤◌, Bool, true, false, ◌&&◌, List, [], ◌∷◌, ◌++◌, length, Option}
 use Rattle.std.proofs.Common.{Some, None, refl, ap, sym, ◌∙◌, subst, arith}
-use Rattle.std.specs.Prelude.{nat_lt, ◌==◌, IfSome, drop}
-use Rattle.std.proofs.lemmas.Bool.Decides.{nat_tests}
+use Rattle.std.specs.Prelude.{nat_lt, IfSome, drop}
 use Rattle.image_load.specs.Contents.{Contents, started}
 use Rattle.rv_code.specs.Machine.{program}
 use Rattle.theorem_riscv.specs.Suiting.{world_at_start}
 use Rattle.tcc_base.specs.Settings.{Settings, IsAllowed}
+use Rattle.base_lemmas.proofs.Lemmas.{and-left, at_home, one-longer}
 use Rattle.theorem_live.specs.Fits.{fits, goes_to_dir, goes_to_core}
 use Rattle.rules_maps.specs.Bridge.{node_of}
 use Rattle.rules_maps.specs.Nodes.{Node, Core, Dir, Vendor, Event, Msg, TidReq, TidGrant, LoadReq, Fill, Skip, Probe, ProbeReply, Mark}
 use Rattle.rules_maps.specs.Nodes.{Commit, Abort, WriteBack, Flush, DataReq, Inv, InvAck}
-use Rattle.rules_maps.specs.Shape.{home, lines}
 use Rattle.tcc_msg.specs.Plain.{sends_of}
 use Rattle.rules_program.specs.Program.{Program}
 use Rattle.rules_tcc.specs.Links.{in_flight, sending}
@@ -51,10 +50,6 @@ pub run-on : (sh : Settings) (p : Program) (w : World) (es : List Event) (e : Ev
 unfolding run
 run-on sh p w es e h r = after-all sh p e es (record { world = w; commits = [] }) ∙ ap (and_then (λ g. next_history sh p g e)) r
 
-one-longer : (xs : List Event) (e : Event) → length (xs ++ e ∷ []) ≡ length xs + 1
-one-longer [] e = refl
-one-longer (x ∷ xs) e = let r = one-longer xs e in omega (arith, r)
-
 -- the machine after one more event of the rules
 pub reached-on : (m n : Machine) (e : Event) → Reached m →
     next_history (settings_of m) (program_of m) (history_of m) e ≡ Some (history_of n)
@@ -92,17 +87,10 @@ pub in-bounds : (m : Machine) → IsWhole m → (src dst : Node) (k : ℕ) (x : 
 unfolding history_of
 in-bounds m w src dst k x e = (whole-bounded m w).messages src dst k x e
 
-at_home : (s : Settings) (l d : ℕ) → l < lines s → home s l ≡ d → (nat_lt l (lines s) && (home s l == d)) ≡ true
-at_home s l d a b = grind (arith, nat_tests)
-
 both : (a b : Bool) (x : Bool) → (a && (b && x)) ≡ true → (a && b) ≡ true
 both true true x e = refl
 both true false x e = absurd (cc)
 both false b x e = absurd (cc)
-
-first : (a b : Bool) → (a && b) ≡ true → a ≡ true
-first true b e = refl
-first false b e = absurd (cc)
 
 swapped : (a b : Bool) → (a && b) ≡ true → (b && a) ≡ true
 swapped true true e = refl
@@ -139,12 +127,12 @@ may-go s n (Core c) (Dir d) x b = record {
   link = both (nat_lt c s.cores) (nat_lt d s.dirs) (goes_to_dir x) b.fits;
   belongs = not-foreign s n c d x (kind (nat_lt c s.cores) (nat_lt d s.dirs) (goes_to_dir x) b.fits) b.line;
 }
-may-go s n (Core c) Vendor x b = record { link = first (nat_lt c s.cores) _ b.fits; belongs = refl }
+may-go s n (Core c) Vendor x b = record { link = and-left (nat_lt c s.cores) _ b.fits; belongs = refl }
 may-go s n (Dir d) (Core c) x b = record {
   link = swapped (nat_lt c s.cores) (nat_lt d s.dirs) (both (nat_lt c s.cores) (nat_lt d s.dirs) (goes_to_core x) b.fits);
   belongs = refl;
 }
-may-go s n Vendor (Core c) x b = record { link = first (nat_lt c s.cores) _ b.fits; belongs = refl }
+may-go s n Vendor (Core c) x b = record { link = and-left (nat_lt c s.cores) _ b.fits; belongs = refl }
 may-go s n (Core c) (Core d) x b = let f = b.fits in absurd (cc)
 may-go s n (Dir c) (Dir d) x b = let f = b.fits in absurd (cc)
 may-go s n (Dir c) Vendor x b = let f = b.fits in absurd (cc)

@@ -7,11 +7,11 @@ use Rattle.std.proofs.lemmas.Bool.Decides.{nat_tests}
 use Rattle.std.proofs.lemmas.List.{length-append, length-replicate}
 use Rattle.std.proofs.lemmas.Option.{slice_get_within}
 use Rattle.tcc_base.specs.Settings.{Settings}
+use Rattle.base_lemmas.proofs.Lemmas.{get-set, get-set_other, length-set}
 use Rattle.rules_apart.specs.Fitting.{node_count}
 use Rattle.apart_node.specs.Ports.{PortData, IsPortAt, IsUnused}
 use Rattle.node_locks.specs.Joining.{AreJoined, AreJoinedTo, ports_due}
 use Rattle.node_locks.specs.Places.{nth_node}
-use Rattle.node_locks.proofs.Lists.{get-set, get-set_other, length-set}
 
 -- an element of a list with one more is an old one or that one
 last-or : (ps : List PortData) (p x : PortData) (j : ℕ) → slice_get (ps ++ p ∷ []) j ≡ Some x

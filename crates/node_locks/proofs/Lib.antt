@@ -1,6 +1,5 @@
 -- The proofs of this crate.
 mod Fits
-mod Lists
 mod Rounds
 mod Peers
 mod Joining
@@ -8,3 +7,4 @@ mod Seats
 mod Wired
 mod Entries
 mod Acting
+pub mod Lemmas

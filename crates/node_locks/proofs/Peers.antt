@@ -7,6 +7,7 @@ use Rattle.std.proofs.lemmas.Bool.Decides.{nat_tests}
 use Rattle.std.proofs.lemmas.Option.{slice_get_within}
 use Rattle.image_load.specs.Contents.{Contents}
 use Rattle.tcc_base.specs.Settings.{Settings}
+use Rattle.base_lemmas.proofs.Lemmas.{get-set, get-set_other, length-set}
 use Rattle.rules_maps.specs.Bridge.{node_of}
 use Rattle.rules_maps.specs.Nodes.{Core, Dir, Vendor}
 use Rattle.apart_node.specs.Acts.{SameNode}
@@ -17,7 +18,6 @@ use Rattle.apart_node.specs.Peers.{seat}
 use Rattle.apart_node.specs.Ports.{PortData, RoomData, port_to}
 use Rattle.node_locks.specs.Places.{nth_node}
 use Rattle.node_locks.specs.Wiring.{AreNodes, IsOf, Wiring, are_peers, link_to, link_from}
-use Rattle.node_locks.proofs.Lists.{get-set, get-set_other, length-set}
 
 -- a core's peers are the nodes behind the cores
 pub core-peers : (s : Settings) (c k : ℕ) → c < s.cores → k ≤ s.dirs

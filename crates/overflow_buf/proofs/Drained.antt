@@ -1,8 +1,9 @@
 -- What a change of the index map's entries says of the kept lines.
 use Rattle.std.proofs.Common.{ℕ, ◌<◌, ◌≡◌, true, false, cond, [], ◌∷◌, ◌++◌, length, Some, None, is_some, nat_eq, refl, sym, ◌∙◌, ap}
-use Rattle.std.proofs.Common.{arith, Bool, List, length, zero, suc, ◌⊎◌, inl, inr, Contains, subst}
+use Rattle.std.proofs.Common.{arith, Bool, length, inl, inr, Contains, subst}
 use Rattle.std.specs.Map.{keys_of, lookup}
 use Rattle.std.proofs.lemmas.Bool.{false≢true, cases_eq, eq-eqb, ne_eqb}
+use Rattle.base_lemmas.proofs.Lemmas.{head_or_tail, in_tail}
 use Rattle.rules_maps.specs.Words.{line_of, place_of, any_word, any_below}
 use Rattle.rules_maps.specs.Spilled.{none_spilled, holds}
 use Rattle.overflow_buf.specs.declared.line.SpilledLine.{SpilledLine}
@@ -84,13 +85,6 @@ no_word [] e = spilled-empty
 no_word (x ∷ es) e = absurd (omega arith)
 
 -- ---- the keys of the kept lines
-
-head_or_tail : (x k : ℕ) (xs : List ℕ) → Contains (x ∷ xs) k → (x ≡ k) ⊎ Contains xs k
-head_or_tail x k xs (zero, b, e) = inl e
-head_or_tail x k xs (suc i, b, e) = inr (i, omega arith, e)
-
-in_tail : (x k : ℕ) (xs : List ℕ) → Contains xs k → Contains (x ∷ xs) k
-in_tail x k xs c = (suc c.0, (let h : c.0 < length xs = c.1 in omega arith), c.2)
 
 pub key_kept : (es : Entries) (l : ℕ) → Contains (keys_of es) l → is_some (kept_at es l) ≡ true
 unfolding kept_at

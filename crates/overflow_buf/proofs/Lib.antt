@@ -1,3 +1,2 @@
-pub mod Eights
 pub mod Lines
 pub mod Drained

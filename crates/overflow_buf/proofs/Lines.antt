@@ -1,17 +1,18 @@
 -- What the kept lines say of each word, and after one of them changed.
-use Rattle.std.proofs.Common.{ℕ, suc, zero, ◌/◌, ◌%◌, ◌^◌, ◌<◌, ◌≤◌, ◌≡◌, ◌≢◌, Bool, true, false, cond, ◌&&◌, ◌||◌, inl, inr, List, [], ◌∷◌}
+use Rattle.std.proofs.Common.{ℕ, ◌/◌, ◌%◌, ◌^◌, ◌<◌, ◌≤◌, ◌≡◌, ◌≢◌, Bool, true, false, cond, ◌&&◌, ◌||◌, inl, inr, List, [], ◌∷◌}
 use Rattle.std.proofs.Common.{length, get_or, set, unwrap_or, Option, Some, None, is_some, nat_eq, bit_or, refl, sym, ◌∙◌, ap, arith}
 use Rattle.std.proofs.Common.{get_or-set_same, get_or-set_other}
 use Rattle.std.proofs.lemmas.Bool.{false≢true, cases_eq, cases_Bool, eq-eqb, ne_eqb}
 use Rattle.std.proofs.lemmas.Nat.{or_of_8, le_or_r}
 use Rattle.tcc_base.specs.Put.{put}
+use Rattle.base_lemmas.proofs.Lemmas.{any_below-same, eight-same, get_or-eight, is_some-cond, length-eight, line_of-word_at, mask_of-none}
+use Rattle.base_lemmas.proofs.Lemmas.{mask_of-same, nat_eq-comm, place_of-word_at}
 use Rattle.rules_maps.specs.Words.{line_of, place_of, word_at, any_below, any_word, eight}
-use Rattle.rules_maps.specs.Masks.{has, hit, mask_of, masked, join}
+use Rattle.rules_maps.specs.Masks.{has, hit, masked, join}
 use Rattle.rules_maps.specs.Spilled.{Spilled, none_spilled, spill, holds, spilled_mask, spilled_words, spilled_line}
 use Rattle.rules_maps.proofs.Lemmas.{has-join, has-pow, has-zero, mask_of-has, any_below-at}
 use Rattle.overflow_buf.specs.declared.line.SpilledLine.{SpilledLine}
 use Rattle.overflow_buf.specs.Kept.{Entries, kept_at, word_in, spilled, IsSpilled, IsLine, IsBuffer, merged}
-use Rattle.overflow_buf.proofs.Eights.{length-eight, get_or-eight}
 
 pub IsBuffer-empty : IsBuffer []
 unfolding IsLine kept_at
@@ -31,18 +32,6 @@ IsBuffer-kept old new line s k i b l =
     rw (k l) (elim (nat_eq line l) as (λ t. IsLine (cond t (Some s) (kept_at old l))) [ true ↦ i | false ↦ b l ])
 
 -- ---- a word of a line
-
-pub line_of-word_at : (l k : ℕ) → k < 8 → line_of (word_at l k) ≡ l
-line_of-word_at l k h = omega arith
-
-pub place_of-word_at : (l k : ℕ) → k < 8 → place_of (word_at l k) ≡ k
-place_of-word_at l k h = omega arith
-
-pub nat_eq-comm : (a b : ℕ) → nat_eq a b ≡ nat_eq b a
-nat_eq-comm a b = elim (cases_eq a b) [
-  | inl e ↦ rw (eq-eqb a b e, eq-eqb b a (sym e)) refl
-  | inr n ↦ rw (ne_eqb a b n, ne_eqb b a (λ e. n (sym e))) refl
-]
 
 same_word : (v w : ℕ) → nat_eq w v ≡ (nat_eq (line_of v) (line_of w) && nat_eq (place_of v) (place_of w))
 same_word v w = elim (cases_eq w v) [
@@ -159,25 +148,6 @@ word_kept es w o e = ap (λ (x : Option SpilledLine). word_in x (place_of w)) e
 
 -- ---- a mask has a place where it isn't zero
 
-any_below-same : (p q : ℕ → Bool) (n : ℕ) → ((k : ℕ) → k < n → p k ≡ q k) → any_below p n ≡ any_below q n
-unfolding any_below
-any_below-same p q zero e = refl
-any_below-same p q (suc n) e = rw (any_below-same p q n (λ k h. e k (omega arith)), e n (omega arith)) refl
-
-mask_of-none : (p : ℕ → Bool) → ((k : ℕ) → k < 8 → p k ≡ false) → mask_of p ≡ 0
-unfolding mask_of
-mask_of-none p e =
-    rw (
-      e 0 (omega arith),
-      e 1 (omega arith),
-      e 2 (omega arith),
-      e 3 (omega arith),
-      e 4 (omega arith),
-      e 5 (omega arith),
-      e 6 (omega arith),
-      e 7 (omega arith),
-    ) refl
-
 any-has : (m : ℕ) → m < 256 → m ≢ 0 → any_below (has m) 8 ≡ true
 any-has m h n = elim (cases_Bool (any_below (has m) 8)) [
   | inl t ↦ t
@@ -186,10 +156,6 @@ any-has m h n = elim (cases_Bool (any_below (has m) 8)) [
     | inr g ↦ g
   ])))
 ]
-
-is_some-cond : (b : Bool) (x : ℕ) → is_some (cond b (Some x) None) ≡ b
-is_some-cond true x = refl
-is_some-cond false x = refl
 
 -- a word of the line, by its place
 word-at : (es : Entries) (l k : ℕ) → k < 8 → spilled es (word_at l k) ≡ word_in (kept_at es l) k
@@ -206,34 +172,6 @@ holds-line es l (Some s) e i =
     (λ k h. rw (word-at es l k h, ← e) (is_some-cond (has s.mask.0 k) (get_or s.words k 0))) ∙ any-has s.mask.0 i.fits i.some)
 
 -- ---- the kept words of one line, handed out
-
-mask_of-same : (p q : ℕ → Bool) → ((k : ℕ) → k < 8 → p k ≡ q k) → mask_of p ≡ mask_of q
-unfolding mask_of
-mask_of-same p q e =
-    rw (
-      e 0 (omega arith),
-      e 1 (omega arith),
-      e 2 (omega arith),
-      e 3 (omega arith),
-      e 4 (omega arith),
-      e 5 (omega arith),
-      e 6 (omega arith),
-      e 7 (omega arith),
-    ) refl
-
-eight-same : (f g : ℕ → ℕ) → ((k : ℕ) → k < 8 → f k ≡ g k) → eight f ≡ eight g
-unfolding eight
-eight-same f g e =
-    rw (
-      e 0 (omega arith),
-      e 1 (omega arith),
-      e 2 (omega arith),
-      e 3 (omega arith),
-      e 4 (omega arith),
-      e 5 (omega arith),
-      e 6 (omega arith),
-      e 7 (omega arith),
-    ) refl
 
 unwrap-cond : (b : Bool) (x : ℕ) → unwrap_or (cond b (Some x) None) 0 ≡ cond b x 0
 unwrap-cond true x = refl

@@ -6,11 +6,11 @@ use Rattle.std.proofs.Math.Nat.{add-mod-mod, mod-add-mod}
 use Rattle.std.proofs.lemmas.List.FromFn.{get_or-map-range_with_len, sum_by-map-range_with_len_more}
 use Rattle.std.specs.List.{flat_map, range_with_len, sum}
 use Rattle.std.specs.Cmp.Lexicographic.{pointwise, same_text}
+use Rattle.base_lemmas.proofs.Lemmas.{flat_map-range_with_len_more}
 use Rattle.report_text.specs.Lines.{mem_line}
 use Rattle.report_text.specs.Text.{word_text}
 use Rattle.report_text.specs.Trial.{word_growth}
 use Rattle.report_text.proofs.Eights.{flat_map-none}
-use Rattle.report_text.proofs.Ranges.{flat_map-range_with_len_more}
 
 -- these are the words of a line
 pub record IsLine (words : ℕ → ℕ) (line : ℕ) (values : List ℕ) : Type 0 where

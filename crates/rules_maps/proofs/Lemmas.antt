@@ -14,3 +14,4 @@ pub use Rattle.rules_maps.proofs.Readers.{read-cleaned, read-committed, read-evi
 pub use Rattle.rules_maps.proofs.Readers.{read-placed}
 pub use Rattle.rules_maps.proofs.Readers.{read-rolled_back, read-stored, value-evicted, value-filled, value-invalidated, value-placed}
 pub use Rattle.rules_maps.proofs.Serving.{advance-keeps, advance-past, advance-rises, advance-stops, first-skips, kept-skips}
+pub use Rattle.rules_maps.proofs.Looks.{all_below-fails}

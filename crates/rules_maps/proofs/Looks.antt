@@ -11,7 +11,7 @@ use Rattle.rules_maps.specs.Cache.{Cache, free_way, all_marked, way_marked}
 use Rattle.rules_maps.specs.CacheLook.{Look, Miss, NeedsRoom, Overflow, look_line, reads_masked}
 use Rattle.rules_maps.proofs.Numbers.{LowestIs, lowest-is, any_below-found, any_below-at, all_below-at, all_below-each}
 
-all_below-fails : (p : ℕ → Bool) (n : ℕ) → all_below p n ≡ false → (k : ℕ) × (k < n) × (p k ≡ false)
+pub all_below-fails : (p : ℕ → Bool) (n : ℕ) → all_below p n ≡ false → (k : ℕ) × (k < n) × (p k ≡ false)
 unfolding all_below
 all_below-fails p zero e = absurd (cc)
 all_below-fails p (suc n) e =

@@ -2,6 +2,7 @@
 use Rattle.std.proofs.Common.{◌≡◌, ℕ, ◌<◌, true, false, ◌||◌, ⊎_elim, [], Option, Some, None, is_some, refl, ap, arith}
 use Rattle.std.proofs.lemmas.Bool.{cases_Bool}
 use Rattle.std.proofs.lemmas.Bool.Decides.{nat_tests}
+use Rattle.base_lemmas.proofs.Lemmas.{and-left, and-right, lt-from}
 use Rattle.rules_program.specs.Program.{Program}
 use Rattle.rules_maps.specs.Words.{any_below, any_word, word_at}
 use Rattle.rules_maps.specs.Cache.{Cache, is_marked, is_modified, is_dirty}
@@ -15,7 +16,7 @@ use Rattle.rules_tcc.specs.CoreEvict.{core_evict, evict_line}
 use Rattle.rules_tcc.specs.Step.{if_core_moves, names_nodes, happens, is_enabled}
 use Rattle.rules_tcc.specs.Seen.{IsDone}
 use Rattle.rules_tcc.specs.Useful.{is_useful, is_of_use, holds_written, is_this_set, room, useful}
-use Rattle.rules_tcc.proofs.Useful.{and-left, and-right, named, happened, lt-true, in_flight-named, useful-enabled_in, useful-holds, is-in}
+use Rattle.rules_tcc.proofs.Useful.{named, happened, in_flight-named, useful-enabled_in, useful-holds, is-in}
 use Rattle.rules_tcc.proofs.Ordered.{none-among}
 
 halted-exec : (sh : Shape) (p : Program) (c : ℕ) (s : CoreState) → s.phase ≡ Halted → core_exec sh p c s ≡ None
@@ -67,11 +68,11 @@ exec-halted sh p w c e = rw (halted-exec sh p c (w.cores c) e)
 
 exec-named : (sh : Shape) (c : ℕ) → names_nodes sh (Exec c) ≡ true → c < sh.cores
 unfolding names_nodes
-exec-named sh c h = lt-true c sh.cores h
+exec-named sh c h = lt-from c sh.cores h
 
 evict-named : (sh : Shape) (c x y : ℕ) → names_nodes sh (Evict c x y) ≡ true → c < sh.cores
 unfolding names_nodes
-evict-named sh c x y h = lt-true c sh.cores (and-left _ _ h)
+evict-named sh c x y h = lt-from c sh.cores (and-left _ _ h)
 
 not-of_use : (sh : Shape) (p : Program) (w : World) (e : Event) → is_useful sh p w e ≡ true → is_of_use sh p w e ≡ true
 unfolding is_useful

@@ -2,5 +2,5 @@
 pub use Rattle.rules_tcc.proofs.Acts.{if-step}
 unfoldable pub use Rattle.rules_tcc.proofs.Computed.{computed}
 pub use Rattle.rules_tcc.proofs.Mailed.{node_eq-eq}
-pub use Rattle.rules_tcc.proofs.Picked.{PicksRun, picked-is_run}
-pub use Rattle.rules_tcc.proofs.Useful.{useful-holds, and-left}
+pub use Rattle.rules_tcc.proofs.Picked.{PicksRun, picked-is_run, in-get}
+pub use Rattle.rules_tcc.proofs.Useful.{useful-holds}

@@ -4,6 +4,7 @@ use Rattle.std.proofs.Common.{append_assoc, append-nil, refl, ap, sym, ◌∙◌
 use Rattle.std.specs.Prelude.{slice_get}
 use Rattle.std.proofs.lemmas.Bool.Decides.{nat_tests}
 use Rattle.tcc_base.specs.Put.{put}
+use Rattle.base_lemmas.proofs.Lemmas.{and-left, and-right, not-false}
 use Rattle.rules_program.specs.Program.{Program}
 use Rattle.rules_maps.specs.Nodes.{Node, Core, Dir, Vendor, Msg, Event, Exec, Evict, Deliver, node_eq}
 use Rattle.rules_maps.specs.Shape.{Shape}
@@ -21,7 +22,6 @@ use Rattle.rules_tcc.specs.Local.{NodeState, AtCore, AtDir, AtVendor, state_at, 
 use Rattle.rules_tcc.specs.Local.{Mail, mailed, Side, is_gone, consumed, side_after, local_step, side_then, local, at_node}
 use Rattle.rules_tcc.specs.Merged.{Each}
 use Rattle.rules_tcc.proofs.Mailed.{net_before}
-use Rattle.rules_tcc.proofs.Useful.{and-left, and-right}
 
 -- what an event did at its node and on the links
 pub record IsApplied (w : World) (ev : Event) (a : Acted) (v : World) : Type 0 where
@@ -121,10 +121,6 @@ pub record Stepping (sh : Shape) (p : Program) (n : Node) (e : Entry) (s t : Sid
   pub sent : (d : Node) → t.sent d ≡ s.sent d ++ mailed e.stamp (did.sends d)
   pub gone : (q : Node) (j : ℕ) → t.gone q j ≡ consumed did.consumes e.event s.gone q j
 
-not-true : (b : Bool) → not b ≡ true → b ≡ false
-not-true true e = absurd (cc)
-not-true false e = refl
-
 stepping_in : (sh : Shape) (p : Program) (n : Node) (e : Entry) (s t : Side) (o : Option Acted) → act sh p s.state e.event e.msg ≡ o →
     node_eq (at_node e.event) n ≡ true → names_nodes sh e.event ≡ true → is_gone s.gone e.event ≡ false → side_after e s o ≡ Some t
     → Stepping sh p n e s t
@@ -153,7 +149,7 @@ stepping_if sh p n e s t true q h =
     stepping_in sh p n e s t (act sh p s.state e.event e.msg) refl
     (and-left (node_eq (at_node e.event) n) (names_nodes sh e.event && not (is_gone s.gone e.event)) q)
     (and-left (names_nodes sh e.event) (not (is_gone s.gone e.event)) r)
-    (not-true (is_gone s.gone e.event) (and-right (names_nodes sh e.event) (not (is_gone s.gone e.event)) r))
+    (not-false (is_gone s.gone e.event) (and-right (names_nodes sh e.event) (not (is_gone s.gone e.event)) r))
     h
 
 stepping : (sh : Shape) (p : Program) (n : Node) (e : Entry) (s t : Side) → local_step sh p n e s ≡ Some t → Stepping sh p n e s t

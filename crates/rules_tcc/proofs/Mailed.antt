@@ -59,17 +59,6 @@ node_eq-eq Vendor (Core d) e = absurd (cc)
 node_eq-eq Vendor (Dir d) e = absurd (cc)
 node_eq-eq Vendor Vendor e = refl
 
-pub node_eq-sym : (a b : Node) → node_eq a b ≡ node_eq b a
-node_eq-sym (Core c) (Core d) = grind (arith, nat_tests)
-node_eq-sym (Core c) (Dir d) = refl
-node_eq-sym (Core c) Vendor = refl
-node_eq-sym (Dir c) (Core d) = refl
-node_eq-sym (Dir c) (Dir d) = grind (arith, nat_tests)
-node_eq-sym (Dir c) Vendor = refl
-node_eq-sym Vendor (Core d) = refl
-node_eq-sym Vendor (Dir d) = refl
-node_eq-sym Vendor Vendor = refl
-
 -- the links once an event's message is consumed, where it is
 abbrev pub net_before : (Node → Node → Link) → Event → Bool → Node → Node → Link
 net_before net (Deliver src dst k) true s d = taking net src dst k s d

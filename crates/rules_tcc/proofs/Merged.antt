@@ -1,10 +1,11 @@
 -- The merge of fitting logs is a run: along it, the machine's state and links are those of the local runs so far.
 use Rattle.std.proofs.Common.{◌≡◌, ℕ, ◌<◌, ◌≤◌, Bool, true, false, cond, ⊎_elim, List, [], ◌∷◌, ◌++◌, length, Option, Some, None, refl, ap}
 use Rattle.std.proofs.Common.{sym, ◌∙◌, subst, arith}
-use Rattle.std.specs.Prelude.{slice_get, IsSomeAnd, IfSome, nat_lt}
+use Rattle.std.specs.Prelude.{slice_get, IsSomeAnd, IfSome}
 use Rattle.std.specs.List.{filter}
 use Rattle.std.proofs.lemmas.Bool.{cases_Bool}
 use Rattle.std.proofs.lemmas.Bool.Decides.{nat_tests}
+use Rattle.base_lemmas.proofs.Lemmas.{and-left, node_eq-refl, node_eq-sym}
 use Rattle.rules_program.specs.Program.{Local, Program}
 use Rattle.rules_maps.specs.Nodes.{Node, Core, Dir, Vendor, Event, Exec, Evict, Deliver, node_eq}
 use Rattle.rules_maps.specs.Shape.{Shape}
@@ -16,8 +17,7 @@ use Rattle.rules_tcc.specs.Local.{consumed, local, at_node}
 use Rattle.rules_tcc.specs.Merged.{Each, StoresMessageOf, StoresItsMessage, Fit, is_at, entry_before, Sorted, IsMerged, events}
 use Rattle.rules_tcc.specs.Laws.{ActsOnOne}
 use Rattle.rules_tcc.proofs.Acts.{step-acts}
-use Rattle.rules_tcc.proofs.Useful.{node_eq-same, and-left}
-use Rattle.rules_tcc.proofs.Mailed.{link_of, link-same, link-get, link-append, node_eq-eq, node_eq-sym, net_before, before-here}
+use Rattle.rules_tcc.proofs.Mailed.{link_of, link-same, link-get, link-append, node_eq-eq, net_before, before-here}
 use Rattle.rules_tcc.proofs.Mailed.{before-there, WasSent, consumed-small}
 use Rattle.rules_tcc.proofs.LocalStep.{IsApplied, Match, IsHeld, step-match, Stepping, Begins, begins, More, sent-later, sent-earlier}
 use Rattle.rules_tcc.proofs.LocalStep.{get-below}
@@ -241,7 +241,7 @@ begins-here : (sh : Shape) (p : Program) (sides : Node → Side) (cur : Node →
 begins-here sh p sides cur w e es j =
     begins sh p (at_node e.event) e (filter (is_at (at_node e.event)) es) (cur (at_node e.event)) (sides (at_node e.event))
     (subst (λ (l : List Entry). local sh p (at_node e.event) l (cur (at_node e.event)) ≡ Some (sides (at_node e.event)))
-    (filter-here (at_node e.event) e es (node_eq-same (at_node e.event))) (j.locals (at_node e.event) j.nodes.0))
+    (filter-here (at_node e.event) e es (node_eq-refl (at_node e.event))) (j.locals (at_node e.event) j.nodes.0))
 
 abbrev Ends : Shape → (Node → Side) → Option History → Type 0
 Ends sh sides o = IsSomeAnd o (λ h. (n : Node) → is_node sh n ≡ true → state_at h.world n ≡ (sides n).state)
@@ -293,7 +293,7 @@ each-parts : (P : Entry → Type 0) (sh : Shape) (es : List Entry) → ((n : Nod
 each-parts P sh [] f h = tt
 each-parts P sh (e ∷ es) f h =
     let i : Each P (e ∷ filter (is_at (at_node e.event)) es) =
-    subst (Each P) (filter-here (at_node e.event) e es (node_eq-same (at_node e.event))) (f (at_node e.event) h.0) in
+    subst (Each P) (filter-here (at_node e.event) e es (node_eq-refl (at_node e.event))) (f (at_node e.event) h.0) in
     (i.0, each-parts P sh es (λ n k. each-tail P n e es (f n k)) h.1)
 
 stamp-le : (e f : Entry) → entry_before e f ≡ true → e.stamp ≤ f.stamp

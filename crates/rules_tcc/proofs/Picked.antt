@@ -12,7 +12,7 @@ use Rattle.rules_tcc.specs.Picked.{picked, pick, chosen, after_step}
 use Rattle.rules_tcc.specs.Laws.{IsIn, EndsUseless}
 use Rattle.rules_tcc.proofs.Useful.{useful-holds, useful-enabled}
 
-in-get : (e : Event) (es : List Event) (k : ℕ) (d : Event) → k < length es → IsIn (slice_index_or es k d) es
+pub in-get : (e : Event) (es : List Event) (k : ℕ) (d : Event) → k < length es → IsIn (slice_index_or es k d) es
 in-get e [] k d h = absurd (omega arith)
 in-get e (f ∷ es) zero d h = inl refl
 in-get e (f ∷ es) (suc k) d h = inr (in-get e es k d (omega arith))

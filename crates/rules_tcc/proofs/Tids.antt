@@ -2,6 +2,7 @@
 use Rattle.std.proofs.Common.{◌≡◌, ℕ, suc, zero, ◌+◌, ◌-◌, ◌≤◌, Bool, true, cond, List, [], ◌∷◌, ◌++◌, length, drop, Option, Some, None}
 use Rattle.std.proofs.Common.{refl, ap, ◌∙◌, arith}
 use Rattle.std.specs.Prelude.{IfSome}
+use Rattle.base_lemmas.proofs.Lemmas.{node_eq-refl}
 use Rattle.rules_program.specs.Program.{Local, Program}
 use Rattle.rules_maps.specs.Nodes.{Node, Core, Dir, Vendor, Msg, TidReq, TidGrant, LoadReq, Fill, Skip, Probe, ProbeReply, Mark, Commit}
 use Rattle.rules_maps.specs.Nodes.{Abort, WriteBack, Flush, DataReq, Inv, InvAck, Event, Exec, Evict, Deliver, node_eq}
@@ -19,7 +20,6 @@ use Rattle.rules_tcc.specs.Step.{answered, if_vendor_gives, delivered, if_in_fli
 use Rattle.rules_tcc.specs.Step.{next_history, and_then, run_from, run}
 use Rattle.rules_tcc.specs.Laws.{tids_in, given_by, and_given, given, counting}
 use Rattle.rules_tcc.proofs.Acts.{if-step}
-use Rattle.rules_tcc.proofs.Useful.{node_eq-same}
 
 -- what the vendor gave in an event is what its number rose by
 pub record Gives (w : World) (e : Event) (v : World) : Type 0 where
@@ -69,7 +69,7 @@ granted-gives w c k TidReq =
     record {
       rises = omega arith;
       counts = grant-counts w.next c (w.net Vendor (Core c)) (node_eq (Core c) (Core c))
-          (node_eq-same (Core c));
+          (node_eq-refl (Core c));
     }
 granted-gives w c k (TidGrant t) = tt
 granted-gives w c k (LoadReq l a) = tt

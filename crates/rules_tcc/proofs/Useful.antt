@@ -4,9 +4,10 @@ use Rattle.std.proofs.Common.{get_or, Option, Some, None, is_some, refl, arith}
 use Rattle.std.specs.Prelude.{◌↔◌, nat_lt, IsSome}
 use Rattle.std.specs.List.{flat_map, filter}
 use Rattle.std.proofs.lemmas.Bool.Decides.{nat_tests}
+use Rattle.base_lemmas.proofs.Lemmas.{and-left, and-right, lt-from, node_eq-refl}
 use Rattle.rules_program.specs.Program.{Program}
 use Rattle.rules_maps.specs.Words.{those}
-use Rattle.rules_maps.specs.Nodes.{Node, Core, Dir, Vendor, Msg, Event, Exec, Evict, Deliver, node_eq}
+use Rattle.rules_maps.specs.Nodes.{Node, Core, Dir, Vendor, Msg, Event, Exec, Evict, Deliver}
 use Rattle.rules_maps.specs.Shape.{Shape}
 use Rattle.rules_tcc.specs.State.{World, Link}
 use Rattle.rules_tcc.specs.Links.{in_flight}
@@ -112,20 +113,15 @@ On n m (Exec d) = ⊥
 On n m (Evict d x y) = ⊥
 On n m (Deliver s t k) = (s ≡ n) × (t ≡ m)
 
-pub node_eq-same : (n : Node) → node_eq n n ≡ true
-node_eq-same (Core c) = grind (arith, nat_tests)
-node_eq-same (Dir d) = grind (arith, nat_tests)
-node_eq-same Vendor = refl
-
 numbers-before : (n m : Node) (k j : ℕ) → nat_lt k j ≡ true → event_before (Deliver n m k) (Deliver n m j) ≡ true
-numbers-before n m k j e = let p = node_eq-same n in let q = node_eq-same m in grind (arith, nat_tests)
+numbers-before n m k j e = let p = node_eq-refl n in let q = node_eq-refl m in grind (arith, nat_tests)
 
 links-before : (n m t : Node) (a b : Event) → node_before m t ≡ true → On n m a → On n t b → event_before a b ≡ true
 links-before n m t (Exec i) b e p q = absurd p
 links-before n m t (Evict i v y) b e p q = absurd p
 links-before n m t (Deliver s u k) (Exec i) e p q = absurd q
 links-before n m t (Deliver s u k) (Evict i v y) e p q = absurd q
-links-before n m t (Deliver s u k) (Deliver r v j) e p q = let h = node_eq-same n in rw (p.0, p.1, q.0, q.1) (grind (arith, nat_tests))
+links-before n m t (Deliver s u k) (Deliver r v j) e p q = let h = node_eq-refl n in rw (p.0, p.1, q.0, q.1) (grind (arith, nat_tests))
 
 sources-before : (n m : Node) (a b : Event) → node_before n m ≡ true → From n a → From m b → event_before a b ≡ true
 sources-before n m (Exec i) b e p q = absurd p
@@ -278,17 +274,6 @@ in-among : (e : Event) (es : List Event) → IsIn e es → Among e es
 in-among e [] h = h
 in-among e (f ∷ es) h = ⊎_elim (λ s. inl s) (λ k. inr (in-among e es k)) h
 
-pub and-left : (a b : Bool) → (a && b) ≡ true → a ≡ true
-and-left true b e = refl
-and-left false b e = e
-
-pub and-right : (a b : Bool) → (a && b) ≡ true → b ≡ true
-and-right true b e = e
-and-right false b e = absurd (cc)
-
-pub lt-true : (a b : ℕ) → nat_lt a b ≡ true → a < b
-lt-true a b e = grind (arith, nat_tests)
-
 some-if : (b : Bool) (o : Option Stepped) → is_some (cond b o None) ≡ true → b ≡ true
 some-if true o e = refl
 some-if false o e = e
@@ -320,10 +305,10 @@ among-evicts sh c x y h i j =
 among-nodes : (sh : Shape) (n : Node) → is_node sh n ≡ true → Among n (nodes sh)
 unfolding nodes
 among-nodes sh (Core c) h = among-left (Core c) (map Core (those (λ k. true) sh.cores)) (map Dir (those (λ k. true) sh.dirs) ++ Vendor ∷ [])
-    (among-map Core c (those (λ k. true) sh.cores) (among-numbers sh.cores c (lt-true c sh.cores h)))
+    (among-map Core c (those (λ k. true) sh.cores) (among-numbers sh.cores c (lt-from c sh.cores h)))
 among-nodes sh (Dir d) h = among-right (Dir d) (map Core (those (λ k. true) sh.cores)) (map Dir (those (λ k. true) sh.dirs) ++ Vendor ∷ [])
     (among-left (Dir d) (map Dir (those (λ k. true) sh.dirs)) (Vendor ∷ [])
-    (among-map Dir d (those (λ k. true) sh.dirs) (among-numbers sh.dirs d (lt-true d sh.dirs h))))
+    (among-map Dir d (those (λ k. true) sh.dirs) (among-numbers sh.dirs d (lt-from d sh.dirs h))))
 among-nodes sh Vendor h = among-right Vendor (map Core (those (λ k. true) sh.cores)) (map Dir (those (λ k. true) sh.dirs) ++ Vendor ∷ [])
     (among-right Vendor (map Dir (those (λ k. true) sh.dirs)) (Vendor ∷ []) (inl refl))
 
@@ -355,13 +340,13 @@ among-delivers sh w src dst k h i j =
 among-all : (sh : Shape) (p : Program) (w : World) (e : Event) → names_nodes sh e ≡ true → is_some (happens sh p w e) ≡ true
     → Among e (execs sh ++ (evicts sh ++ delivers sh w))
 unfolding names_nodes
-among-all sh p w (Exec c) n h = among-left (Exec c) (execs sh) (evicts sh ++ delivers sh w) (among-execs sh c (lt-true c sh.cores n))
+among-all sh p w (Exec c) n h = among-left (Exec c) (execs sh) (evicts sh ++ delivers sh w) (among-execs sh c (lt-from c sh.cores n))
 among-all sh p w (Evict c x y) n h =
     let r = and-right (nat_lt c sh.cores) (nat_lt x sh.sets && nat_lt y sh.ways) n in
     among-right (Evict c x y) (execs sh) (evicts sh ++ delivers sh w) (among-left (Evict c x y) (evicts sh) (delivers sh w)
-    (among-evicts sh c x y (lt-true c sh.cores (and-left (nat_lt c sh.cores) (nat_lt x sh.sets && nat_lt y sh.ways) n))
-    (lt-true x sh.sets (and-left (nat_lt x sh.sets) (nat_lt y sh.ways) r))
-    (lt-true y sh.ways (and-right (nat_lt x sh.sets) (nat_lt y sh.ways) r))))
+    (among-evicts sh c x y (lt-from c sh.cores (and-left (nat_lt c sh.cores) (nat_lt x sh.sets && nat_lt y sh.ways) n))
+    (lt-from x sh.sets (and-left (nat_lt x sh.sets) (nat_lt y sh.ways) r))
+    (lt-from y sh.ways (and-right (nat_lt x sh.sets) (nat_lt y sh.ways) r))))
 among-all sh p w (Deliver src dst k) n h =
     among-right (Deliver src dst k) (execs sh) (evicts sh ++ delivers sh w) (among-right (Deliver src dst k) (evicts sh) (delivers sh w)
     (among-delivers sh w src dst k (and-left (is_node sh src) (is_node sh dst) n) (and-right (is_node sh src) (is_node sh dst) n)

@@ -14,6 +14,7 @@ use Rattle.theorem_riscv.proofs.Lemmas.{riscv_cores_go_on, runs_give_the_plain_m
 use Rattle.theorem_riscv.specs.Given.{IsSerial, committed}
 use Rattle.theorem_riscv.specs.Suiting.{world_at_start}
 use Rattle.tcc_base.specs.declared.access.CoreEnd.TheVariants.{Run}
+use Rattle.base_lemmas.proofs.Lemmas.{none-past}
 use Rattle.theorem_live.specs.Progress.{EachGoesOn, IsPlaced}
 use Rattle.rules_maps.specs.Nodes.{Event, Exec, Evict, Deliver}
 use Rattle.rules_program.specs.Plain.{Order, serial}
@@ -26,7 +27,7 @@ use Rattle.run_follow.specs.Following.{Agree, followed_by, is_turn, may_come, ne
 use Rattle.run_follow.specs.Laws.{FollowedAll}
 use Rattle.run_follow.proofs.Along.{Kept, followed-kept}
 use Rattle.run_follow.proofs.Clear.{clear-has}
-use Rattle.run_follow.proofs.Finding.{from-here, none-past}
+use Rattle.run_follow.proofs.Finding.{from-here}
 use Rattle.run_follow.proofs.InTurn.{InTurn}
 use Rattle.run_follow.proofs.Keeping.{IsPart, is-part, one-ended}
 use Rattle.run_follow.proofs.Lengths.{first-runs}

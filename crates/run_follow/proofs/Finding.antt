@@ -1,5 +1,5 @@
 -- The first useful event that may come is found by looking at one after another.
-use Rattle.std.proofs.Common.{◌≡◌, ℕ, zero, suc, ◌+◌, ◌<◌, ◌≤◌, true, false, List, [], ◌∷◌, length, drop, Option, Some, None, ap, ◌∙◌}
+use Rattle.std.proofs.Common.{◌≡◌, ℕ, zero, suc, ◌+◌, ◌≤◌, true, false, List, [], ◌∷◌, length, drop, Option, Some, None, ap, ◌∙◌}
 use Rattle.std.proofs.Common.{arith}
 use Rattle.std.specs.Prelude.{cond, slice_get}
 use Rattle.std.specs.List.{find}
@@ -30,8 +30,3 @@ next-past turn us k e h m =
 pub next-none : (turn : Option ℕ) (us : List Event) (k : ℕ) → length us ≤ k → next_of turn (drop k us) ≡ None
 unfolding next_of
 next-none turn us k h = ap (find (may_come turn)) (drop_all k us h)
-
-pub none-past : {A : Type 0} (us : List A) (k : ℕ) → slice_get us k ≡ None → k < length us → ⊥
-none-past [] k e l = omega (arith, l)
-none-past (x ∷ us) zero e l = cc
-none-past (x ∷ us) (suc k) e l = none-past us k e (omega (arith, l))

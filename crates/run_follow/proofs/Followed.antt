@@ -1,6 +1,7 @@
 -- Events that follow a list, one after another.
 use Rattle.std.proofs.Common.{◌≡◌, ℕ, suc, ◌+◌, ◌-◌, ◌<◌, ◌≤◌, List, [], ◌∷◌, ◌++◌, length, append-nil, append_assoc}
 use Rattle.std.proofs.Common.{Option, Some, None, refl, ap, sym, ◌∙◌, subst, arith}
+use Rattle.base_lemmas.proofs.Lemmas.{fewer, one-longer}
 use Rattle.image_load.specs.Contents.{started}
 use Rattle.image_load.specs.Start.{Start}
 use Rattle.rv_code.specs.Machine.{program}
@@ -56,13 +57,6 @@ unfolding started
 follows-one os n m o e c t code =
     one-comes (start_of m) os n (history_of m) (history_of o) e (next-is_in os m ∙ c) t
     ∙ ap (λ k. e ∷ followed_from (started k) os n (history_of o)) (sym code)
-
-fewer : (all i : ℕ) → i < all → all - i ≡ suc (all - (i + 1))
-fewer all i h = omega (arith, h)
-
-one-longer : (xs : List Event) (e : Event) → length (xs ++ e ∷ []) ≡ length xs + 1
-one-longer [] e = refl
-one-longer (x ∷ xs) e = let r = one-longer xs e in omega (arith, r)
 
 -- after i events the machine has taken the first i that follow the list, and those that are left follow it from here
 pub record Going (os : List Order) (m n : Refined) (all i : ℕ) : Type 0 where

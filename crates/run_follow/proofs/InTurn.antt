@@ -1,21 +1,21 @@
 -- Along a run that follows a list all cores but the one whose turn it is have no TID, and a TID that a core holds is above those of all
 -- commits. So each new commit comes last, and the commits are by the cores of the list's first orders.
-use Rattle.std.proofs.Common.{◌≡◌, ℕ, ◌<◌, ◌≤◌, ◌⊎◌, inl, inr, Bool, true, false, List, [], ◌∷◌, ◌++◌}
+use Rattle.std.proofs.Common.{◌≡◌, ℕ, ◌<◌, ◌⊎◌, inl, inr, Bool, true, false, List, [], ◌∷◌, ◌++◌}
 use Rattle.std.proofs.Common.{Option, Some, None, refl, arith}
 use Rattle.std.proofs.lemmas.Bool.Decides.{nat_tests}
 use Rattle.tcc_base.specs.declared.access.Commit.{Commit as Noted}
 use Rattle.rules_maps.specs.Nodes.{Core, Vendor}
 use Rattle.rules_maps.specs.Words.{num}
 use Rattle.rules_program.specs.Plain.{Order}
-use Rattle.rules_tcc.specs.State.{Link, World}
+use Rattle.rules_tcc.specs.State.{World}
 use Rattle.rules_tcc.specs.Step.{History, and_noted, insert_commit}
-use Rattle.theorem_serial.specs.Count.{AnyGrant, Grants, live, passes}
 use Rattle.theorem_serial.specs.Owners.{holder}
 use Rattle.theorem_serial.specs.Pairs.{pair}
 use Rattle.theorem_serial.specs.Tids.{RequestOf, has_tid, waits_for_tid}
 use Rattle.run_follow.specs.Following.{is_turn, turn_of}
 use Rattle.run_follow.proofs.Clear.{clear-has, clear-waits, is_clear}
 use Rattle.run_follow.proofs.Turning.{Holds, Turning}
+use Rattle.theorem_serial.proofs.Lemmas.{grant-any}
 
 -- all commits have TIDs below this one
 unfoldable pub AreBelow : (tid : ℕ) → List Noted → Type 0
@@ -42,19 +42,12 @@ first-more [] (o ∷ os) n i f = (grind (arith, nat_tests, i), tt)
 first-more (c ∷ cs) [] n i f = absurd f
 first-more (c ∷ cs) (o ∷ os) n i f = (f.0, first-more cs os n i f.1)
 
--- where nothing is asked for or granted no TID is on its way
-few-grants : (t : ℕ) (l : Link) → live (Grants t) l ≤ live AnyGrant l
-unfolding live passes
-few-grants t [] = omega arith
-few-grants t (None ∷ l) = few-grants t l
-few-grants t (Some m ∷ l) = let rest = few-grants t l in grind (arith, nat_tests, rest)
-
 clear-holds : (w : World) (c t : ℕ) → is_clear (w.cores c).phase ≡ true → RequestOf (pair w c 0) → Holds w c t → ⊥
 unfolding pair holder
 clear-holds w c t k r h =
     let quiet : num (waits_for_tid (w.cores c).phase) ≡ 0 = rw (clear-waits (w.cores c).phase k) refl in
     let none : num (has_tid (w.cores c).phase t) ≡ 0 = rw (clear-has (w.cores c).phase t k) refl in
-    let few = few-grants t (w.net Vendor (Core c)) in
+    let few = grant-any t (w.net Vendor (Core c)) in
     omega (arith, quiet, none, few, r, h)
 
 pub record InTurn (os : List Order) (h : History) : Type 0 where

@@ -4,6 +4,7 @@ use Rattle.std.proofs.Common.{refl}
 use Rattle.std.proofs.Common.{arith}
 use Rattle.std.specs.Prelude.{IfSome, cond}
 use Rattle.std.specs.List.{find}
+use Rattle.base_lemmas.proofs.Lemmas.{and-left}
 use Rattle.image_load.specs.Start.{Start}
 use Rattle.rv_code.specs.Machine.{program}
 use Rattle.rules_maps.specs.Nodes.{Event}
@@ -14,7 +15,7 @@ use Rattle.rules_tcc.specs.Laws.{IsIn}
 use Rattle.rules_tcc.specs.State.{World}
 use Rattle.rules_tcc.specs.Step.{History, Stepped, and_then, is_enabled, next_history, recorded, run, run_from, step}
 use Rattle.rules_tcc.specs.Useful.{is_of_use, is_useful, useful}
-use Rattle.rules_tcc.proofs.Lemmas.{and-left, useful-holds}
+use Rattle.rules_tcc.proofs.Lemmas.{useful-holds}
 use Rattle.run_follow.specs.Following.{after_event, at_start, comes, followed_by, followed_from, may_come, next_in, next_of, turn_of}
 
 -- what is found is in the list

@@ -18,13 +18,13 @@ use Rattle.run_outcomes.specs.declared.search.Way.{Way}
 use Rattle.run_outcomes.specs.declared.states.Place.{Place}
 use Rattle.run_outcomes.specs.declared.states.Place.TheVariants.{Known, New, Full}
 use Rattle.run_outcomes.specs.declared.states.Snapshot.{Snapshot}
-use Rattle.image_load.specs.Start.{Start}
 use Rattle.rv_code.specs.Machine.{program, first_ram}
 use Rattle.rv_plain.specs.Buffered.{seen}
 use Rattle.rv_plain.specs.Cores.{core_of, no_state}
-use Rattle.rv_plain.specs.Machine.{plain_start, start_core, core_at_start}
+use Rattle.rv_plain.specs.Machine.{plain_start, start_core}
 use Rattle.rv_plain.specs.declared.plain.CoreState.{CoreState}
 use Rattle.rules_program.specs.Plain.{serial}
+use Rattle.rv_plain.proofs.Lemmas.{core-started}
 
 pub sized-at : (l : Contents) (states : List Snapshot) (k : ℕ) → AreFound l states → k < length states
     → length (state_at states k).cores ≡ l.settings.cores
@@ -74,12 +74,6 @@ added-further l old new k c limit longest n after left place found lt core next 
     let sized : length s.cores ≡ l.settings.cores = length-set (state_at old k).cores c after ∙ sized-at l old k found lt in
     subst (HasFurther l) (sym full.0)
     (s, reached-after l old k c longest n after left found lt core next, no-machine l old s found sized next.3 full.2)
-
-core-started : (s : Start) (cores : List CoreState) → length cores ≡ s.settings.cores
-    → ((k : ℕ) → k < s.settings.cores → core_of (slice_index_or cores k no_state) ≡ start_core s.settings.cores k (s.entry k))
-    → (c : ℕ) → core_of (slice_index_or cores c no_state) ≡ core_at_start s c
-core-started s cores len each c =
-    elim (cases_lt c s.settings.cores) [ inl h ↦ grind (arith, common_steps, each c h) | inr h ↦ grind (arith, common_steps) ]
 
 machine-started : (l : Contents) (cores : List CoreState) → length cores ≡ l.settings.cores
     → ((k : ℕ) → k < l.settings.cores → core_of (slice_index_or cores k no_state) ≡ start_core l.settings.cores k ((started l).entry k))

@@ -19,7 +19,7 @@ use Rattle.tcc_base.specs.declared.access.Commit.{Commit}
 use Rattle.rules_program.specs.Plain.{Plain, Attempt, Order, transaction, serial, after_order, and_commit, commit_of}
 use Rattle.rules_program.specs.Program.{Program}
 
-have-ended : (l : Contents) (s : Snapshot) → length s.cores ≡ l.settings.cores → IsEnd s → HaveEnded l.settings.cores (machine_of l s)
+pub have-ended : (l : Contents) (s : Snapshot) → length s.cores ≡ l.settings.cores → IsEnd s → HaveEnded l.settings.cores (machine_of l s)
 unfolding machine_of
 have-ended l s sized end core lt =
     All-get_or HasStopped s.cores core no_state (subst (λ n. core < n) (sym sized) lt) end

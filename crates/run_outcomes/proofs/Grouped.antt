@@ -21,6 +21,7 @@ use Rattle.run_outcomes.specs.declared.outcomes.Tell.TheVariants.{Consoles, Memo
 use Rattle.run_outcomes.specs.declared.states.Snapshot.{Snapshot}
 use Rattle.rv_plain.specs.declared.plain.CoreState.{CoreState}
 use Rattle.tcc_base.specs.declared.access.CoreEnd.{CoreEnd}
+use Rattle.base_lemmas.proofs.Lemmas.{read-set}
 
 pub alike-itself : (tell : Tell) (a : Snapshot) → AreAlike tell a a
 alike-itself Consoles a = refl
@@ -93,9 +94,6 @@ groups-skip tell states g n h running = record {
   chained = h.chained;
 }
 
-set-same : (xs : List ℕ) (i v : ℕ) → i < length xs → slice_index (slice_set xs i v) i ≡ v
-set-same xs i v lt = grind (arith, common_steps)
-
 set-other : (xs : List ℕ) (i j v : ℕ) → (j ≡ i → ⊥) → slice_index (slice_set xs i v) j ≡ slice_index xs j
 set-other xs i j v ne = grind (arith, common_steps)
 
@@ -128,7 +126,7 @@ groups-again tell states g new n i h end inside alike firsts counts chains =
       least = h.least;
       counted = length-set g.counts i (slice_index g.counts i + 1) ∙ h.counted;
       counts = λ j lt. elim (eqb_tells j i) [
-        | inl e ↦ rw (e.1, set-same g.counts i (slice_index g.counts i + 1) there)
+        | inl e ↦ rw (e.1, read-set g.counts i (slice_index g.counts i + 1) there)
             (one-more (P i) n (slice_index g.counts i) (end, alike) (h.counts i inside))
         | inr e ↦ rw (set-other g.counts i j (slice_index g.counts i + 1) e.1)
             (no-more (P j) n (slice_index g.counts j)

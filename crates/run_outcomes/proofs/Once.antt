@@ -1,39 +1,18 @@
 -- A core's next transaction has one number of instructions.
-use Rattle.std.proofs.Common.{ℕ, zero, suc, ◌≡◌, ◌+◌, ◌-◌, ◌<◌, ◌≤◌, inl, inr, Option, Some, None, IfSome, IsSomeAnd}
-use Rattle.std.proofs.Common.{refl, sym, ◌∙◌, add-zero, arith, subst}
-use Rattle.std.proofs.Math.Nat.{add-suc}
+use Rattle.std.proofs.Common.{ℕ, ◌≡◌, ◌-◌, ◌<◌, ◌≤◌, inl, inr, Option, Some, None, IfSome, IsSomeAnd}
+use Rattle.std.proofs.Common.{refl, sym, ◌∙◌, arith, subst}
 use Rattle.std.proofs.lemmas.Bool.{cases_lt}
 use Rattle.rv_plain.specs.Endings.{HasEnded}
 use Rattle.tcc_base.specs.declared.access.CoreEnd.{CoreEnd}
 use Rattle.tcc_base.specs.declared.access.CoreEnd.TheVariants.{Run, Halt, Trap}
 use Rattle.rules_program.specs.Plain.{Attempt, Outcome, Goes, Ended, Halted, Trapped, Plain, steps, begun, transaction, close}
-use Rattle.rules_program.specs.Plain.{close_if, if_runs, when_going, then_step, end_of}
+use Rattle.rules_program.specs.Plain.{close_if, if_runs, then_step, end_of}
 use Rattle.rules_program.specs.Program.{Program}
-
--- no instruction follows one that ends the transaction
-none-after : (base : ℕ) (p : Program) (a : Attempt) (o : Outcome) → HasEnded o → when_going base p a o ≡ None
-none-after base p a Goes h = absurd h
-none-after base p a Ended h = refl
-none-after base p a (Halted code) h = refl
-none-after base p a (Trapped code) h = refl
-
-steps-none : (base : ℕ) (p : Program) (start : Attempt) (k d : ℕ) → steps base p (suc k) start ≡ None
-    → steps base p (suc k + d) start ≡ None
-unfolding steps
-steps-none base p start k zero h = simp add-zero h
-steps-none base p start k (suc d) h = simp add-suc (rw (steps-none base p start k d h) refl)
+use Rattle.rv_plain.proofs.Lemmas.{none-after, steps-past}
 
 then-none : (base : ℕ) (p : Program) (x : Option Attempt) → IsSomeAnd x (λ a. HasEnded a.outcome) → then_step base p x ≡ None
 then-none base p None h = absurd h
 then-none base p (Some a) h = none-after base p a a.outcome h
-
-steps-past : (base : ℕ) (p : Program) (start : Attempt) (k n : ℕ) → k < n
-    → IsSomeAnd (steps base p k start) (λ a. HasEnded a.outcome) → steps base p n start ≡ None
-unfolding steps
-steps-past base p start k n lt h =
-    let e : suc k + (n - suc k) ≡ n = omega arith in
-    subst (λ j. steps base p j start ≡ None) e
-    (steps-none base p start k (n - suc k) (then-none base p (steps base p k start) h))
 
 closes : (m : Plain) (core : ℕ) (a : Attempt) (o : Outcome) → IsSomeAnd (close m core a (end_of o)) (λ r. Unit {0}) → HasEnded o
 closes m core a Goes h = absurd h

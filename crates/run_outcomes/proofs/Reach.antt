@@ -1,6 +1,6 @@
 -- From a core's next transaction to the states that follow.
 use Rattle.std.proofs.Common.{ℕ, ◌≡◌, ◌+◌, ◌<◌, ◌≤◌, true, List, [], ◌∷◌, ◌++◌, Option, Some, None, IsSomeAnd, Contains, map}
-use Rattle.std.proofs.Common.{refl, sym, ◌∙◌, ap, subst, length, slice_set, slice_index_or, nat_lt, append_assoc, arith}
+use Rattle.std.proofs.Common.{refl, sym, ◌∙◌, ap, subst, length, nat_lt, append_assoc, arith}
 use Rattle.std.proofs.lemmas.Grind.{common_steps}
 use Rattle.std.proofs.lemmas.Bool.Decides.{nat_tests}
 use Rattle.std.proofs.lemmas.List.{get_or-map, length-map, get_or_past}
@@ -14,22 +14,17 @@ use Rattle.run_outcomes.specs.Serially.{IsFollowed, IsReached}
 use Rattle.run_outcomes.specs.States.{machine_of, core_in, after_core}
 use Rattle.run_outcomes.specs.declared.states.Snapshot.{Snapshot}
 use Rattle.rv_code.specs.Machine.{program}
-use Rattle.rv_plain.specs.Cores.{core_of, no_state}
+use Rattle.rv_plain.specs.Cores.{no_state}
 use Rattle.rv_plain.specs.Machine.{plain_start}
 use Rattle.rv_plain.specs.declared.plain.CoreState.{CoreState}
-use Rattle.tcc_base.specs.Put.{put}
 use Rattle.tcc_base.specs.declared.access.CoreEnd.{CoreEnd}
 use Rattle.tcc_base.specs.declared.access.CoreEnd.TheVariants.{Run, Halt, Trap}
 use Rattle.tcc_base.specs.declared.access.Commit.{Commit}
 use Rattle.rules_program.proofs.Lemmas.{serial-snoc}
 use Rattle.rules_program.specs.Orders.{last_tid}
-use Rattle.rules_program.specs.Plain.{Plain, PlainCore, Attempt, Order, transaction, closed, begun, steps, close_if, if_runs, serial}
+use Rattle.rules_program.specs.Plain.{Plain, Attempt, Order, transaction, closed, begun, steps, close_if, if_runs, serial}
 use Rattle.rules_program.specs.Program.{Program}
-
-cores-put : (cores : List CoreState) (c : ℕ) (new : CoreState) (to : PlainCore) → core_of new ≡ to → c < length cores
-    → (j : ℕ) → core_of (slice_index_or (slice_set cores c new) j no_state)
-    ≡ put (λ k. core_of (slice_index_or cores k no_state)) c to j
-cores-put cores c new to is lt j = grind (arith, common_steps)
+use Rattle.rv_plain.proofs.Lemmas.{cores-put}
 
 -- the transaction of a core is that of its machine
 pub leads-transaction : (l : Contents) (s : Snapshot) (c n : ℕ) (after : CoreState) (left : List (ℕ × ℕ)) → c < length s.cores

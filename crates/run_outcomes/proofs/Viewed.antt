@@ -1,46 +1,7 @@
 -- A step that keeps its stores in the buffer is a plain step of the memory that the core sees.
-use Rattle.std.proofs.Common.{ℕ, suc, ◌≡◌, ◌+◌, ◌==◌, Bool, true, false, Option, Some, refl, add-one, if◌then◌else◌}
-use Rattle.rv_plain.specs.Buffered.{Buffered, buffered, buffered_step, plain_view, seen, or_else}
-use Rattle.tcc_base.specs.Put.{put}
-use Rattle.tcc_base.specs.declared.access.Size.TheVariants.{Word}
-use Rattle.rules_program.specs.Plain.{Attempt, Goes, stepped, plain_step, steps}
-use Rattle.rules_program.specs.Program.{Need, Nothing, Loads, Stores, Changes, Prints, Ends, Halts, Traps, Program}
-use Rattle.rules_program.specs.Ram.{loaded, stored, word_of, patched}
+use Rattle.std.proofs.Common.{ℕ, ◌≡◌, Bool, true, false, Option, Some, refl, if◌then◌else◌}
+use Rattle.rv_plain.specs.Buffered.{or_else}
 
 or_else-if : (b : Bool) (x : Option ℕ) (v here : ℕ) → or_else (if b then Some v else x) here ≡ (if b then v else or_else x here)
 or_else-if true x v here = refl
 or_else-if false x v here = refl
-
-seen-put : (ram : ℕ → ℕ) (buffer : ℕ → Option ℕ) (w v : ℕ) → seen ram (put buffer w (Some v)) ≡ put (seen ram buffer) w v
-unfolding seen
-seen-put ram buffer w v = λ i j. (or_else-if (j == w) (buffer j) v (ram j)) i
-
-stepped-view : (base : ℕ) (p : Program) (b : Buffered) (n : Need) → plain_view (buffered base p b n) ≡ stepped base p (plain_view b) n
-unfolding plain_view stored
-stepped-view base p b Nothing = refl
-stepped-view base p b (Loads addr size) = refl
-stepped-view base p b (Stores addr size value) =
-    rw (seen-put b.ram b.buffer (word_of base addr) (patched (seen b.ram b.buffer (word_of base addr)) addr size value)) refl
-stepped-view base p b (Changes addr changed) =
-    let v = changed (loaded base (seen b.ram b.buffer) addr Word) in
-    rw (seen-put b.ram b.buffer (word_of base addr) (patched (seen b.ram b.buffer (word_of base addr)) addr Word v)) refl
-stepped-view base p b (Prints byte) = refl
-stepped-view base p b Ends = refl
-stepped-view base p b (Halts code) = refl
-stepped-view base p b (Traps code) = refl
-
-view-step : (base : ℕ) (p : Program) (b : Buffered) → plain_view (buffered_step base p b) ≡ plain_step base p (plain_view b)
-unfolding buffered_step plain_step plain_view
-view-step base p b = stepped-view base p b (p.need b.local)
-
-going : (base : ℕ) (p : Program) (k : ℕ) (start a : Attempt) → a.outcome ≡ Goes → steps base p k start ≡ Some a
-    → steps base p (suc k) start ≡ Some (plain_step base p a)
-unfolding steps
-going base p k start a goes is = rw (is, goes) refl
-
--- one step more, where the last one went on
-pub viewed-next : (base : ℕ) (p : Program) (k : ℕ) (start : Attempt) (b next : Buffered) → b.outcome ≡ Goes
-    → steps base p k start ≡ Some (plain_view b) → next ≡ buffered_step base p b
-    → steps base p (k + 1) start ≡ Some (plain_view next)
-unfolding plain_view
-viewed-next base p k start b next goes is by = rw (add-one k, by, view-step base p b) (going base p k start (plain_view b) goes is)

@@ -27,13 +27,13 @@ fault-past st zero a is goes = refl
 fault-past st (suc j) a is goes = inr (refl, rw is goes)
 
 -- no instruction follows one that ends the transaction
-none-after : (base : ℕ) (p : Program) (a : Attempt) (o : Outcome) → HasEnded o → when_going base p a o ≡ None
+pub none-after : (base : ℕ) (p : Program) (a : Attempt) (o : Outcome) → HasEnded o → when_going base p a o ≡ None
 none-after base p a Goes h = absurd h
 none-after base p a Ended h = refl
 none-after base p a (Halted code) h = refl
 none-after base p a (Trapped code) h = refl
 
-steps-none : (base : ℕ) (p : Program) (start : Attempt) (k d : ℕ) → steps base p (suc k) start ≡ None
+pub steps-none : (base : ℕ) (p : Program) (start : Attempt) (k d : ℕ) → steps base p (suc k) start ≡ None
     → steps base p (suc k + d) start ≡ None
 unfolding steps
 steps-none base p start k zero h = simp add-zero h
@@ -49,7 +49,7 @@ steps-ended base p start k h = go (steps base p k start) refl h
     go None e h = absurd h
     go (Some a) e h = rw e (none-after base p a a.outcome h)
 
-steps-past : (base : ℕ) (p : Program) (start : Attempt) (k n : ℕ) → k < n
+pub steps-past : (base : ℕ) (p : Program) (start : Attempt) (k n : ℕ) → k < n
     → IsSomeAnd (steps base p k start) (λ a. HasEnded a.outcome) → steps base p n start ≡ None
 steps-past base p start k n lt h =
     let e : suc k + (n - suc k) ≡ n = omega arith in

@@ -5,3 +5,4 @@ pub mod Faults
 pub mod Starts
 pub mod Transacted
 pub mod Serials
+pub mod Lemmas

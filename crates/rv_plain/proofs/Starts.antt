@@ -28,7 +28,7 @@ cores-more g f cores x n len each is k lt =
       | inr h ↦ let e : k ≡ n = omega arith in rw e (grind (arith, common_steps))
     ]
 
-core-started : (s : Start) (cores : List CoreState) → length cores ≡ s.settings.cores
+pub core-started : (s : Start) (cores : List CoreState) → length cores ≡ s.settings.cores
     → ((k : ℕ) → k < s.settings.cores → core_of (slice_index_or cores k no_state) ≡ start_core s.settings.cores k (s.entry k))
     → (c : ℕ) → core_of (slice_index_or cores c no_state) ≡ core_at_start s c
 core-started s cores len each c =

@@ -51,7 +51,7 @@ closed-transacts l old new before mid after n a o end (Ok d) runs does ends stat
   console = ap (λ x. x.console) did;
 }
 
-cores-put : (cores : List CoreState) (c : ℕ) (new : CoreState) (to : PlainCore) → core_of new ≡ to → c < length cores
+pub cores-put : (cores : List CoreState) (c : ℕ) (new : CoreState) (to : PlainCore) → core_of new ≡ to → c < length cores
     → (j : ℕ) → core_of (slice_index_or (slice_set cores c new) j no_state)
     ≡ put (λ k. core_of (slice_index_or cores k no_state)) c to j
 cores-put cores c new to is lt j = grind (arith, common_steps)

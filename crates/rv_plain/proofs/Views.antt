@@ -17,7 +17,7 @@ pub seen-put : (ram : ℕ → ℕ) (buffer : ℕ → Option ℕ) (w v : ℕ)
 unfolding seen
 seen-put ram buffer w v = λ i j. (seen-put-at ram buffer w v j (j == w)) i
 
-stepped-view : (base : ℕ) (p : Program) (b : Buffered) (n : Need)
+pub stepped-view : (base : ℕ) (p : Program) (b : Buffered) (n : Need)
     → plain_view (buffered base p b n) ≡ stepped base p (plain_view b) n
 unfolding plain_view stored
 stepped-view base p b Nothing = refl

@@ -3,6 +3,7 @@ use Rattle.std.proofs.Common.{ℕ, zero, suc, ◌+◌, ◌*◌, ◌/◌, ◌%◌
 use Rattle.std.proofs.Common.{Option, Some, None, is_some, nat_lt, refl, sym, ◌∙◌, ap, subst, arith}
 use Rattle.std.proofs.lemmas.Bool.{false≢true, ltb-true, eqb-true}
 use Rattle.std.proofs.lemmas.Nat.{div_below, div-mul-add}
+use Rattle.base_lemmas.proofs.Lemmas.{is_some-cond}
 use Rattle.rules_maps.specs.Words.{line_of, place_of}
 use Rattle.rules_maps.specs.Masks.{has}
 use Rattle.rules_maps.specs.Shape.{set_of}
@@ -39,10 +40,6 @@ module _ (o : Option FrameView) (s : (f : FrameView) → o ≡ Some f → IsFram
   read_none : (k : ℕ) → is_some o ≡ false → read_in o k ≡ false
   unfolding read_in
   read_none k e = rw (is_some-none o e) refl
-
-is_some-cond : (b : Bool) (x : ℕ) → is_some (cond b (Some x) None) ≡ b
-is_some-cond true x = refl
-is_some-cond false x = refl
 
 modified_is_valid : (o : Option FrameView) (s : (f : FrameView) → o ≡ Some f → IsFrame f) (k : ℕ) → modified_in o k ≡ true
     → is_some (value_in o k) ≡ true

@@ -1,20 +1,15 @@
 -- Numbers that pass a test: how many there are, which is the k-th, and ways counted in place of lines.
-use Rattle.std.proofs.Common.{ℕ, suc, zero, ◌+◌, ◌<◌, ◌≤◌, ◌≡◌, ◌≢◌, Bool, true, false, not, cond, ◌||◌, inl, inr, List, [], ◌∷◌, ◌++◌}
-use Rattle.std.proofs.Common.{length, get_or, Option, Some, None, nat_eq, refl, sym, ◌∙◌, ap, arith}
+use Rattle.std.proofs.Common.{ℕ, suc, zero, ◌<◌, ◌≡◌, ◌≢◌, Bool, true, false, cond, inl, inr, List, [], ◌∷◌}
+use Rattle.std.proofs.Common.{length, get_or, Option, Some, None, refl, sym, ◌∙◌, ap, arith}
 use Rattle.std.proofs.lemmas.Bool.{cases_eq, cases_Bool}
-use Rattle.std.proofs.lemmas.Bool.Decides.{nat_tests}
-use Rattle.rules_maps.specs.Words.{num, count_below, any_below, those}
+use Rattle.base_lemmas.proofs.Lemmas.{count_below-head, count_below-same, get_or-front, get_or-last}
+use Rattle.rules_maps.specs.Words.{count_below, those}
 use Rattle.rules_maps.proofs.Lemmas.{length-those}
 use Rattle.spec_cache.specs.declared.frame.FrameView.{FrameView}
 use Rattle.spec_cache.specs.Frame.{holds_line}
 use Rattle.spec_cache.specs.Held.{frame_of}
 use Rattle.spec_cache.proofs.FrameList.{frame_of-absent}
 use Rattle.spec_cache.proofs.FrameFound.{holds_line-true, holds_line-some, holds_line-other, holds_line-none}
-
-pub count_below-same : (p q : ℕ → Bool) (n : ℕ) → ((k : ℕ) → k < n → p k ≡ q k) → count_below p n ≡ count_below q n
-unfolding count_below
-count_below-same p q zero e = refl
-count_below-same p q (suc n) e = rw (count_below-same p q n (λ k h. e k (omega arith)), e n (omega arith)) refl
 
 pub count_below-zero : (p : ℕ → Bool) → count_below p 0 ≡ 0
 unfolding count_below
@@ -38,26 +33,11 @@ count_below-more p q (suc n) x b t f e = elim (cases_eq x n) [
       let u : p n ≡ q n = e n (λ z. d (sym z)) in rw (a, u) (omega arith))
 ]
 
--- the first number apart from the others
-pub count_below-head : (p : ℕ → Bool) (n : ℕ) → count_below p (suc n) ≡ num (p 0) + count_below (λ k. p (suc k)) n
-unfolding count_below
-count_below-head p zero = omega arith
-count_below-head p (suc n) = rw (count_below-head p n) (omega arith)
-
-one_more : (a : ℕ) (b : Bool) → (not (nat_eq a 0) || b) ≡ not (nat_eq (a + cond b 1 0) 0)
-one_more a true = grind (arith, nat_tests)
-one_more a false = grind (arith, nat_tests)
-
 head-fails : (p : ℕ → Bool) (n : ℕ) → p 0 ≡ false → count_below p (suc n) ≡ count_below (λ k. p (suc k)) n
 head-fails p n e = count_below-head p n ∙ (rw e (omega arith))
 
 head-passes : (p : ℕ → Bool) (n : ℕ) → p 0 ≡ true → count_below p (suc n) ≡ suc (count_below (λ k. p (suc k)) n)
 head-passes p n e = count_below-head p n ∙ (rw e (omega arith))
-
-pub any_below-count : (p : ℕ → Bool) (n : ℕ) → any_below p n ≡ not (nat_eq (count_below p n) 0)
-unfolding any_below count_below
-any_below-count p zero = refl
-any_below-count p (suc n) = rw (any_below-count p n) (one_more (count_below p n) (p n))
 
 -- more numbers, more that pass
 pub count_below-within : (p : ℕ → Bool) (n i : ℕ) → i < n → p i ≡ true → count_below p i < count_below p n
@@ -68,23 +48,6 @@ count_below-within p (suc n) i b t = elim (cases_eq i n) [
       rw u (omega (arith, v)))
   | inr d ↦ (let h = count_below-within p n i (omega arith) t in omega (arith, h))
 ]
-
-pub count_below-at_most : (p : ℕ → Bool) (n : ℕ) → count_below p n ≤ n
-unfolding count_below
-count_below-at_most p zero = omega arith
-count_below-at_most p (suc n) = elim (cases_Bool (p n)) [
-  | inl t ↦ (let h = count_below-at_most p n in rw t (omega (arith, h)))
-  | inr f ↦ (let h = count_below-at_most p n in rw f (omega (arith, h)))
-]
-
-get_or-front : (xs ys : List ℕ) (k : ℕ) → k < length xs → get_or (xs ++ ys) k 0 ≡ get_or xs k 0
-get_or-front [] ys k b = absurd (omega arith)
-get_or-front (x ∷ xs) ys zero b = refl
-get_or-front (x ∷ xs) ys (suc k) b = get_or-front xs ys k (omega arith)
-
-get_or-last : (xs : List ℕ) (y : ℕ) → get_or (xs ++ y ∷ []) (length xs) 0 ≡ y
-get_or-last [] y = refl
-get_or-last (x ∷ xs) y = get_or-last xs y
 
 -- the number that passes where k others did before
 pub those-nth : (p : ℕ → Bool) (n i k : ℕ) → i < n → p i ≡ true → count_below p i ≡ k → get_or (those p n) k 0 ≡ i

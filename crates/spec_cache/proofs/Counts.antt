@@ -4,6 +4,7 @@ use Rattle.std.proofs.Common.{Some, None, is_some, nat_eq, refl, sym, ◌∙◌,
 use Rattle.std.specs.Option.{MatchOption}
 use Rattle.std.proofs.lemmas.Bool.{eqb-true}
 use Rattle.std.proofs.Math.Bool.{and-false}
+use Rattle.base_lemmas.proofs.Lemmas.{any_below-count, any_below-none, any_below-same, count_below-same, line_of-word_at}
 use Rattle.rules_maps.specs.Words.{line_of, place_of, any_word, any_below, count_below}
 use Rattle.rules_maps.specs.Masks.{has}
 use Rattle.rules_maps.specs.Shape.{lines}
@@ -17,10 +18,10 @@ use Rattle.spec_cache.specs.Home.{written_in}
 use Rattle.spec_cache.specs.Useful.{writes_in, dirty_way, is_marked_frame, useful_in}
 use Rattle.spec_cache.proofs.FrameList.{frame_of-found}
 use Rattle.spec_cache.proofs.FrameFound.{frame_of-way}
-use Rattle.spec_cache.proofs.Readings.{any_below-same, any-has, modified-at, line_of-word_at, is_dirty-frame, is_marked-frame, keeps-frame}
+use Rattle.spec_cache.proofs.Readings.{any-has, modified-at, is_dirty-frame, is_marked-frame, keeps-frame}
 use Rattle.spec_cache.proofs.Calls.{found_line, frame_here}
 use Rattle.spec_cache.proofs.Looks.{not_held, is_held, at_way}
-use Rattle.spec_cache.proofs.Counted.{count_below-same, any_below-count, lines_counted, those-nth, count_below-within}
+use Rattle.spec_cache.proofs.Counted.{lines_counted, those-nth, count_below-within}
 
 -- ---- one number further
 
@@ -75,9 +76,6 @@ unfolding any_below
 never zero = refl
 never (suc n) = rw (never n) refl
 
-none_word : (p : ℕ → Bool) (n : ℕ) → ((k : ℕ) → k < n → p k ≡ false) → any_below p n ≡ false
-none_word p n e = any_below-same p (λ _. false) n e ∙ never n
-
 module _ (h : Held) (s : IsHeld h) where
   frame_in : (l : ℕ) (f : FrameView) → frame_of h.frames l ≡ Some f → IsFrame f × (f.line.0 ≡ l)
   unfolding IsWay holds_line
@@ -90,11 +88,11 @@ module _ (h : Held) (s : IsHeld h) where
 
   unmodified : (l : ℕ) → frame_of h.frames l ≡ None → is_modified (maps h) l ≡ false
   unfolding is_modified any_word maps modified_in
-  unmodified l e = none_word _ 8 (λ k b. rw (line_of-word_at l k b, e) refl)
+  unmodified l e = any_below-none _ 8 (λ k b. rw (line_of-word_at l k b, e) refl)
 
   clean : (l : ℕ) → frame_of h.frames l ≡ None → is_dirty (maps h) l ≡ false
   unfolding is_dirty any_word maps dirty_in
-  clean l e = none_word _ 8 (λ k b. rw (line_of-word_at l k b, e) refl)
+  clean l e = any_below-none _ 8 (λ k b. rw (line_of-word_at l k b, e) refl)
 
   -- ---- counts
 

@@ -1,10 +1,10 @@
 -- What both forms of the frames show: their ways are in order at the start, after a change, and a search finds a line.
 use Rattle.std.proofs.Common.{ℕ, suc, zero, ◌+◌, ◌*◌, ◌/◌, ◌%◌, ◌<◌, ◌≤◌, ◌≡◌, true, false, cond, inl, inr, List}
-use Rattle.std.proofs.Common.{◌++◌, length, get_or, set, take, drop, replicate, Option, Some, None, refl, sym, ◌∙◌, ap}
+use Rattle.std.proofs.Common.{length, get_or, set, replicate, Option, Some, None, refl, sym, ◌∙◌, ap}
 use Rattle.std.proofs.Common.{arith}
 use Rattle.std.specs.Option.{MatchOption}
 use Rattle.std.proofs.lemmas.Bool.{cases_Bool}
-use Rattle.std.proofs.lemmas.List.{length-replicate, take-append-le, take_all}
+use Rattle.std.proofs.lemmas.List.{length-replicate}
 use Rattle.tcc_base.specs.Settings.{Settings, IsAllowed}
 use Rattle.rules_maps.specs.Words.{line_of}
 use Rattle.rules_maps.specs.Cache.{empty_cache}
@@ -80,10 +80,6 @@ maps-empty s n = same_cache _ _
     (λ w. rw (frame_of-none n (line_of w)) refl)
 
 -- ---- a slice of all of a vector written back
-
-pub written_back : {A : Type 0} (xs ys : List A) (n : ℕ) → length xs ≡ length ys → n ≡ length ys → take n (xs ++ drop (length xs) ys) ≡ xs
-written_back xs ys n l e =
-    rw (e, ← l) (take-append-le (length xs) xs (drop (length xs) ys) (omega arith) ∙ take_all (length xs) xs (omega arith))
 
 -- ---- a search
 

@@ -2,13 +2,13 @@
 use Rattle.std.proofs.Common.{ℕ, ◌<◌, ◌≡◌, Bool, true, false, not, cond, ◌&&◌, ◌||◌, List, length, get_or, unwrap_or, Some, None, nat_eq}
 use Rattle.std.proofs.Common.{refl, sym, ap, get_or-set_same, get_or-set_other}
 use Rattle.std.proofs.lemmas.Bool.{eqb-true, eqb-false}
+use Rattle.base_lemmas.proofs.Lemmas.{get_or-eight, has-full, has-zero}
 use Rattle.rules_maps.specs.Masks.{has}
 use Rattle.spec_cache.specs.declared.frame.FrameView.{FrameView}
 use Rattle.spec_cache.specs.Frame.{value_in, read_in, modified_in, dirty_in, IsFrame, marked_frame, stored_frame, filled_up, filled_frame}
 use Rattle.spec_cache.specs.Frame.{invalidated_frame, cleaned_frame, dropped_frame, rolled_back_frame, read_cleared_frame, committed_frame}
 use Rattle.spec_cache.specs.Frame.{committed_modified}
-use Rattle.spec_cache.proofs.MaskLaws.{has-join, has-minus, has-pow, has-zero, has-full}
-use Rattle.spec_cache.proofs.Eights.{get_or-eight}
+use Rattle.spec_cache.proofs.MaskLaws.{has-join, has-minus, has-pow}
 
 -- a test that chooses between a value and none
 pub minus_some : {A : Type 0} (a b : Bool) (x : A) → cond (a && not b) (Some x) None ≡ cond b None (cond a (Some x) None)

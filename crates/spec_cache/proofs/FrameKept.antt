@@ -5,12 +5,12 @@ use Rattle.std.proofs.Math.Pow.{pow_mono, pow_pos}
 use Rattle.std.proofs.Math.Bool.{and-false}
 use Rattle.std.proofs.lemmas.Bool.{false≢true, cases_eq, cases_lt, or_cases, or_left, or_right}
 use Rattle.std.proofs.lemmas.Nat.{or_of_8, xor_of_8, and_le_l, pow_below, div_below}
+use Rattle.base_lemmas.proofs.Lemmas.{has-full, has-zero, length-eight}
 use Rattle.rules_maps.specs.Masks.{has, minus, join}
 use Rattle.spec_cache.specs.declared.frame.FrameView.{FrameView}
 use Rattle.spec_cache.specs.Frame.{IsFrame, empty_frame, marked_frame, stored_frame, filled_up, filled_frame, invalidated_frame}
 use Rattle.spec_cache.specs.Frame.{cleaned_frame, dropped_frame, rolled_back_frame, read_cleared_frame, committed_frame, committed_modified}
-use Rattle.spec_cache.proofs.MaskLaws.{has-join, has-minus, has-zero, has-full}
-use Rattle.spec_cache.proofs.Eights.{length-eight}
+use Rattle.spec_cache.proofs.MaskLaws.{has-join, has-minus}
 
 never : {P : Type 0} (k : ℕ) → has 0 k ≡ true → P
 never k h = absurd (false≢true (sym (has-zero k) ∙ h))

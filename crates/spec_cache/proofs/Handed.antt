@@ -1,14 +1,15 @@
 -- What a cache shows and hands out of its frames.
-use Rattle.std.proofs.Common.{ℕ, suc, zero, ◌+◌, ◌*◌, ◌<◌, ◌≡◌, Bool, true, false, not, get_or, set, Option, Some, None, is_some, nat_eq}
-use Rattle.std.proofs.Common.{bit_and, refl, sym, ◌∙◌, ap, arith}
+use Rattle.std.proofs.Common.{ℕ, ◌+◌, ◌*◌, ◌<◌, ◌≡◌, Bool, true, false, not, get_or, set, Option, Some, None, is_some, nat_eq}
+use Rattle.std.proofs.Common.{bit_and, refl, sym, ◌∙◌, ap}
 use Rattle.std.specs.Option.{MatchOption, option_map}
-use Rattle.rules_maps.specs.Words.{line_of, place_of, word_at, any_below, any_word}
+use Rattle.rules_maps.specs.Words.{line_of, place_of, word_at, any_word}
 use Rattle.rules_maps.specs.Cache.{dirty_copy, is_dirty, keeps}
 use Rattle.rules_maps.specs.CacheChange.{evicted, evicted_line}
 use Rattle.rules_maps.specs.Bridge.{tagged_of}
 use Rattle.spec_cache.specs.declared.frame.FrameView.{FrameView}
 use Rattle.tcc_base.specs.declared.access.Tagged.{Tagged}
 use Rattle.std.proofs.Math.Bool.{and-false}
+use Rattle.base_lemmas.proofs.Lemmas.{any_below-none, line_of-word_at}
 use Rattle.rules_maps.specs.Masks.{hit}
 use Rattle.rules_maps.specs.CacheLook.{reads_masked}
 use Rattle.spec_cache.proofs.FrameKept.{IsFrame-invalidated}
@@ -17,7 +18,6 @@ use Rattle.spec_cache.specs.Held.{Held, IsHeld, IsWayOf, frame_of, maps}
 use Rattle.spec_cache.specs.Look.{Views, Gives}
 use Rattle.spec_cache.proofs.FrameFound.{frame_of-way}
 use Rattle.spec_cache.proofs.Readings.{views-frame, value-word, modified_mask-frame, dirty_copy-frame, keeps-frame, reads_masked-frame}
-use Rattle.spec_cache.proofs.Readings.{line_of-word_at}
 use Rattle.spec_cache.proofs.MapsPlaced.{maps-emptied}
 use Rattle.spec_cache.proofs.Calls.{found_line, frame_here, found_then, with_way}
 use Rattle.spec_cache.proofs.Looks.{at_way, is_held}
@@ -69,11 +69,6 @@ pub part_of : (h : Held) (s : IsHeld h) (l : ℕ) (p : ℕ × FrameView) (w : Is
     → option_map tagged_of b ≡ dirty_copy (maps h) l
 part_of h s l p w b e = ap (option_map tagged_of) e ∙ dirty_copy-frame h l p.1 (found_line h s l p w) (frame_here h s l p w) w.line
 
-none_below : (p : ℕ → Bool) (n : ℕ) → ((k : ℕ) → k < n → p k ≡ false) → any_below p n ≡ false
-unfolding any_below
-none_below p zero e = refl
-none_below p (suc n) e = rw (none_below p n (λ k b. e k (omega arith)), e n (omega arith)) refl
-
 module _ (h : Held) (l : ℕ) (absent : frame_of h.frames l ≡ None) where
   absent_word : (k : ℕ) → k < 8 → frame_of h.frames (line_of (word_at l k)) ≡ None
   absent_word k b = rw (line_of-word_at l k b) absent
@@ -81,16 +76,16 @@ module _ (h : Held) (l : ℕ) (absent : frame_of h.frames l ≡ None) where
   pub nothing_dirty : None ≡ dirty_copy (maps h) l
   unfolding dirty_copy is_dirty any_word maps dirty_in
   nothing_dirty =
-      rw (none_below (λ k. is_some (dirty_in (frame_of h.frames (line_of (word_at l k))) (place_of (word_at l k)))) 8
+      rw (any_below-none (λ k. is_some (dirty_in (frame_of h.frames (line_of (word_at l k))) (place_of (word_at l k)))) 8
       (λ k b. rw (absent_word k b) refl)) refl
 
   pub nothing_read : (m : ℕ) → false ≡ reads_masked l m (maps h)
   unfolding reads_masked any_word maps read_in
-  nothing_read m = sym (none_below _ 8 (λ k b. rw (absent_word k b) (and-false (hit l m (word_at l k)))))
+  nothing_read m = sym (any_below-none _ 8 (λ k b. rw (absent_word k b) (and-false (hit l m (word_at l k)))))
 
   pub nothing_kept : false ≡ keeps (maps h) l
   unfolding keeps any_word maps value_in
-  nothing_kept = sym (none_below _ 8 (λ k b. rw (absent_word k b) refl))
+  nothing_kept = sym (any_below-none _ 8 (λ k b. rw (absent_word k b) refl))
 
 -- after an invalidation
 module _ (h : Held) (s : IsHeld h) (l : ℕ) (p : ℕ × FrameView) (w : IsWayOf h l p) (m : ℕ) where

@@ -1,5 +1,4 @@
 pub mod MaskLaws
-pub mod Eights
 pub mod FrameChanges
 pub mod FrameKept
 pub mod FrameList

@@ -3,6 +3,7 @@ use Rattle.std.proofs.Common.{[], ℕ, ◌+◌, ◌*◌, ◌/◌, ◌%◌, ◌<�
 use Rattle.std.proofs.Common.{set, unwrap_or, Option, Some, None, is_some, nat_eq, nat_lt, refl, sym, ◌∙◌, ap, subst, arith}
 use Rattle.std.proofs.Common.{get_or-set_same, get_or-set_other}
 use Rattle.std.proofs.lemmas.Bool.{cases_eq, eq-eqb, ne_eqb}
+use Rattle.base_lemmas.proofs.Lemmas.{nat_eq-comm}
 use Rattle.rules_maps.specs.Words.{line_of, place_of}
 use Rattle.rules_maps.specs.Masks.{has, hit}
 use Rattle.rules_maps.specs.Cache.{Cache}
@@ -48,12 +49,6 @@ pub words_dropped-line : (l m : ℕ) (c : Cache) → words_dropped (spill l m []
 unfolding words_dropped
 words_dropped-line l m c = same_cache _ _ (λ t y. refl) (λ k. refl) (λ w. rw (spilled-hit l m w) refl) (λ w. refl)
     (λ w. rw (spilled-hit l m w) refl) (λ w. rw (spilled-hit l m w) refl)
-
-pub nat_eq-comm : (a b : ℕ) → nat_eq a b ≡ nat_eq b a
-nat_eq-comm a b = elim (cases_eq a b) [
-  | inl e ↦ rw (eq-eqb a b e, eq-eqb b a (sym e)) refl
-  | inr n ↦ rw (ne_eqb a b n, ne_eqb b a (λ e. n (sym e))) refl
-]
 
 -- two words are the same where they stand in one line at one place
 pub same_word : (v w : ℕ) → nat_eq v w ≡ (nat_eq (line_of v) (line_of w) && nat_eq (place_of v) (place_of w))

@@ -4,14 +4,14 @@ use Rattle.std.proofs.Common.{None, is_some, nat_eq, nat_lt, refl, sym, ◌∙�
 use Rattle.std.proofs.lemmas.Bool.{cases_eq, eq-eqb, ne_eqb, ltb-true, ltb-false}
 use Rattle.std.proofs.lemmas.Nat.{div-mul-add}
 use Rattle.std.proofs.Math.Bool.{and-false}
+use Rattle.base_lemmas.proofs.Lemmas.{has-zero, nat_eq-comm}
 use Rattle.rules_maps.specs.Words.{line_of, place_of}
 use Rattle.rules_maps.specs.CacheChange.{placed_at, evicted_line}
 use Rattle.spec_cache.specs.declared.frame.FrameView.{FrameView}
 use Rattle.spec_cache.specs.Frame.{value_in, read_in, modified_in, dirty_in, line_in, empty_frame}
 use Rattle.spec_cache.specs.Held.{Held, IsHeld, frame_of, frame_at, maps}
-use Rattle.spec_cache.proofs.MaskLaws.{has-zero}
 use Rattle.spec_cache.proofs.FrameFound.{frame_of-placed, frame_of-emptied, some_within}
-use Rattle.spec_cache.proofs.MapsChanged.{same_cache, nat_eq-comm}
+use Rattle.spec_cache.proofs.MapsChanged.{same_cache}
 
 -- two ways of a cache are the same where their sets and their ways are
 pub same_place : (ways s y t z : ℕ) → y < ways → z < ways → s * ways + y ≡ t * ways + z → (s ≡ t) × (y ≡ z)

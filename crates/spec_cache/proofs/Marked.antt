@@ -1,5 +1,5 @@
 -- The lines of a directory that a cache has read or written: lists of them, and what the maps say.
-use Rattle.std.proofs.Common.{ℕ, suc, zero, ◌+◌, ◌%◌, ◌<◌, ◌≤◌, ◌≡◌, Bool, true, false, not, cond, ◌&&◌, ◌⊎◌, inl, inr, List, [], ◌∷◌, ◌++◌}
+use Rattle.std.proofs.Common.{ℕ, suc, zero, ◌+◌, ◌%◌, ◌<◌, ◌≤◌, ◌≡◌, Bool, true, false, not, cond, ◌&&◌, inl, inr, List, [], ◌∷◌, ◌++◌}
 use Rattle.std.proofs.Common.{length, get_or, map, take, Option, Some, None, nat_eq, refl, sym, ◌∙◌, ap, subst, arith, Contains}
 use Rattle.std.specs.List.{AllPairs}
 use Rattle.std.specs.Bool.{MatchBool}
@@ -8,6 +8,7 @@ use Rattle.std.proofs.lemmas.List.Elements.{Contains-append_left, Contains-push,
 use Rattle.std.proofs.lemmas.List.{take_all, take_more, map-append}
 use Rattle.tcc_base.specs.declared.names.LineAddr.{LineAddr}
 use Rattle.tcc_base.specs.declared.names.Mask.{Mask}
+use Rattle.base_lemmas.proofs.Lemmas.{any_below-same, at_head, head_or_tail, in_tail, line_of-word_at}
 use Rattle.rules_maps.specs.Words.{line_of, place_of, word_at, any_below, any_word, those}
 use Rattle.rules_maps.specs.Masks.{has}
 use Rattle.rules_maps.specs.Shape.{lines}
@@ -19,17 +20,10 @@ use Rattle.spec_cache.specs.Held.{Held, IsHeld, IsWayOf, frame_of, maps}
 use Rattle.spec_cache.specs.Home.{reads_in, written_in, written_found, Collects, mark_of}
 use Rattle.spec_cache.proofs.FrameFound.{frame_of-way}
 use Rattle.spec_cache.proofs.FrameList.{frame_of-found}
-use Rattle.spec_cache.proofs.Readings.{any_below-same, any-has, read-at, modified-at, line_of-word_at, modified_mask-frame}
+use Rattle.spec_cache.proofs.Readings.{any-has, read-at, modified-at, modified_mask-frame}
 use Rattle.spec_cache.proofs.Calls.{found_line, frame_here}
 
 -- ---- lists that rise
-
-head_or_tail : (x k : ℕ) (xs : List ℕ) → Contains (x ∷ xs) k → (x ≡ k) ⊎ Contains xs k
-head_or_tail x k xs (zero, b, e) = inl e
-head_or_tail x k xs (suc i, b, e) = inr (i, omega arith, e)
-
-in_tail : (x k : ℕ) (xs : List ℕ) → Contains xs k → Contains (x ∷ xs) k
-in_tail x k xs c = (suc c.0, (let h : c.0 < length xs = c.1 in omega arith), c.2)
 
 abbrev pub Rises : List ℕ → Type 0
 Rises xs = AllPairs (λ x y. x < y) xs
@@ -40,9 +34,6 @@ above_head x k xs r c = let h : c.0 < length xs = c.1 in let e : get_or xs c.0 k
 
 tail_rises : (x : ℕ) (xs : List ℕ) → Rises (x ∷ xs) → Rises xs
 tail_rises x xs r = λ i j d h l. r (suc i) (suc j) d (omega arith) (omega arith)
-
-at_head : (x : ℕ) (xs : List ℕ) → Contains (x ∷ xs) x
-at_head x xs = (0, omega arith, refl)
 
 -- two rising lists of the same numbers are the same
 pub rising_same : (xs ys : List ℕ) → Rises xs → Rises ys → ((k : ℕ) → Contains xs k → Contains ys k)

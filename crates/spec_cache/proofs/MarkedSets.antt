@@ -12,6 +12,7 @@ use Rattle.std.proofs.lemmas.List.Kept.{AllPairs-from_increasing, Contains-dedup
 use Rattle.std.proofs.lemmas.List.Sorted.{Contains-permutation, IsPermutation-sym}
 use Rattle.std.proofs.lemmas.Map.Keys.{IsStrictlyIncreasing-dedup}
 use Rattle.std.proofs.lemmas.Nat.{div_below, div-mul-add}
+use Rattle.base_lemmas.proofs.Lemmas.{or-cases, or-left, or-right}
 use Rattle.rules_maps.specs.Words.{any_below, those}
 use Rattle.rules_maps.specs.Cache.{way_marked}
 use Rattle.rules_maps.specs.CacheUse.{is_number}
@@ -70,18 +71,6 @@ option-below : (o : Option ℕ) (x n : ℕ) → IfSome o (λ y. y < n) → is_nu
 option-below None x n b e = absurd (false≢true e)
 option-below (Some m) x n b e = let q = eqb-true m x e in omega (arith, b, q)
 
-either-left : (a b : Bool) → a ≡ true → (a || b) ≡ true
-either-left true b e = refl
-either-left false b e = absurd (false≢true e)
-
-either-right : (a b : Bool) → b ≡ true → (a || b) ≡ true
-either-right true b e = refl
-either-right false b e = e
-
-one-of : (a b : Bool) → (a || b) ≡ true → (a ≡ true) ⊎ (b ≡ true)
-one-of true b e = inl refl
-one-of false b e = inr e
-
 -- the set is this one, or has a marked frame
 abbrev is_that_or_marked : Held → Option ℕ → ℕ → Bool
 is_that_or_marked h o x = is_number o x || has_marked h.config (maps h) x
@@ -127,14 +116,14 @@ module _ (h : Held) (s : IsHeld h) where
       holds x (inl m) =
           let i = c.only x m in
           let q = found-set i.0 x i.1 in
-          those-holds (is_that_or_marked h o) h.config.sets x q.0 (either-right (is_number o x) (has_marked h.config (maps h) x) q.1)
+          those-holds (is_that_or_marked h o) h.config.sets x q.0 (or-right (is_number o x) (has_marked h.config (maps h) x) q.1)
       holds x (inr m) =
           let q = option-only o x m in
           those-holds (is_that_or_marked h o) h.config.sets x (option-below o x h.config.sets b q)
-          (either-left (is_number o x) (has_marked h.config (maps h) x) q)
+          (or-left (is_number o x) (has_marked h.config (maps h) x) q)
 
       there : (x : ℕ) → is_that_or_marked h o x ≡ true → Contains (xs ++ option_to_list o) x
-      there x e = elim (one-of (is_number o x) (has_marked h.config (maps h) x) e) [
+      there x e = elim (or-cases (is_number o x) (has_marked h.config (maps h) x) e) [
         | inl q ↦ Contains-append_right xs (option_to_list o) x (option-holds o x q)
         | inr q ↦ (let i = set-found x q in Contains-append_left xs (option_to_list o) x (c.each i.0 x i.1))
       ]

@@ -6,6 +6,7 @@ use Rattle.std.proofs.lemmas.Bool.{false≢true}
 use Rattle.std.proofs.lemmas.List.{set-get_or}
 use Rattle.std.proofs.lemmas.Nat.{div-mul-add}
 use Rattle.std.proofs.Math.Bool.{and-false}
+use Rattle.base_lemmas.proofs.Lemmas.{not-false}
 use Rattle.rules_maps.specs.Words.{line_of, place_of, lowest}
 use Rattle.rules_maps.specs.Shape.{set_of, lines}
 use Rattle.rules_maps.specs.Cache.{Cache, free_way}
@@ -68,10 +69,6 @@ is_some-none : {A : Type 0} (o : Option A) → is_some o ≡ false → o ≡ Non
 is_some-none None e = refl
 is_some-none (Some x) e = absurd (false≢true (sym e))
 
-not-true : (b : Bool) → not b ≡ true → b ≡ false
-not-true true e = absurd (false≢true e)
-not-true false e = refl
-
 some_case : (o : Option ℕ) (P : Type 0) (Q : ℕ → Type 0) (y : ℕ) → MatchOption o P Q → o ≡ Some y → Q y
 some_case None P Q y m e = absurd (let z : None ≡ Some y = e in cc)
 some_case (Some x) P Q y m e = let z : x ≡ y = cc in subst Q z m
@@ -107,7 +104,7 @@ module _ (h : Held) (s : IsHeld h) (l : ℕ) (t : ℕ) (set_is : t ≡ set_of h.
         let p : not (is_some ((maps h).at t y)) ≡ true = lowest-passes (λ z. not (is_some ((maps h).at t z))) h.config.ways y (sym free) in
         line_in-none (get_or h.frames i None)
         (ap (λ x. is_some (line_in (get_or h.frames x None))) place ∙ ap (λ (x : Option ℕ). is_some x) (sym (at_way h t y way))
-        ∙ not-true (is_some ((maps h).at t y)) p)
+        ∙ not-false (is_some ((maps h).at t y)) p)
 
     pub placed_some : i < length h.frames → (n : Held) → n ≡ record h { frames = set h.frames i (Some f) }
         → maps n ≡ placed h.config l (maps h)

@@ -1,11 +1,13 @@
 -- What the maps say of a line, read off its frame.
-use Rattle.std.proofs.Common.{ℕ, suc, zero, ◌<◌, ◌≤◌, ◌≡◌, Bool, true, false, not, cond, ◌&&◌, ◌||◌, inl, inr, get_or, unwrap_or, bit_or}
+use Rattle.std.proofs.Common.{ℕ, ◌<◌, ◌≤◌, ◌≡◌, Bool, true, false, not, cond, ◌&&◌, ◌||◌, inl, inr, get_or, unwrap_or, bit_or}
 use Rattle.std.proofs.Common.{Some, None, is_some, nat_eq, bit_and, refl, sym, ◌∙◌, ap, subst, arith}
 use Rattle.std.specs.Option.{option_map}
 use Rattle.std.proofs.lemmas.Bool.{false≢true, cases_eq, cases_Bool, eq-eqb, ne_eqb}
 use Rattle.std.proofs.lemmas.Nat.{and_le_l, le_or_l, or_of_8}
-use Rattle.rules_maps.specs.Words.{line_of, place_of, word_at, any_below, any_word, eight, or_else}
-use Rattle.rules_maps.specs.Masks.{has, hit, mask_of, masked, meet, join}
+use Rattle.base_lemmas.proofs.Lemmas.{any_below-same, eight-same, is_some-cond, line_of-word_at, mask_of-none, mask_of-same, none_below}
+use Rattle.base_lemmas.proofs.Lemmas.{place_of-word_at}
+use Rattle.rules_maps.specs.Words.{line_of, place_of, word_at, any_below, any_word, or_else}
+use Rattle.rules_maps.specs.Masks.{has, hit, masked, meet, join}
 use Rattle.rules_maps.specs.Cache.{is_marked, is_dirty, modified_mask, dirty_mask, dirty_words, dirty_tag, first_of_line, dirty_copy, keeps}
 use Rattle.rules_maps.specs.CacheLook.{reads_masked}
 use Rattle.rules_maps.specs.Bridge.{tagged_of}
@@ -17,71 +19,7 @@ use Rattle.spec_cache.specs.Look.{Views}
 
 -- ---- the words of a line
 
-pub line_of-word_at : (l k : ℕ) → k < 8 → line_of (word_at l k) ≡ l
-line_of-word_at l k h = omega arith
-
-pub place_of-word_at : (l k : ℕ) → k < 8 → place_of (word_at l k) ≡ k
-place_of-word_at l k h = omega arith
-
-pub any_below-same : (p q : ℕ → Bool) (n : ℕ) → ((k : ℕ) → k < n → p k ≡ q k) → any_below p n ≡ any_below q n
-unfolding any_below
-any_below-same p q zero e = refl
-any_below-same p q (suc n) e = rw (any_below-same p q n (λ k h. e k (omega arith)), e n (omega arith)) refl
-
-pub mask_of-same : (p q : ℕ → Bool) → ((k : ℕ) → k < 8 → p k ≡ q k) → mask_of p ≡ mask_of q
-unfolding mask_of
-mask_of-same p q e =
-    rw (
-      e 0 (omega arith),
-      e 1 (omega arith),
-      e 2 (omega arith),
-      e 3 (omega arith),
-      e 4 (omega arith),
-      e 5 (omega arith),
-      e 6 (omega arith),
-      e 7 (omega arith),
-    ) refl
-
-pub eight-same : (f g : ℕ → ℕ) → ((k : ℕ) → k < 8 → f k ≡ g k) → eight f ≡ eight g
-unfolding eight
-eight-same f g e =
-    rw (
-      e 0 (omega arith),
-      e 1 (omega arith),
-      e 2 (omega arith),
-      e 3 (omega arith),
-      e 4 (omega arith),
-      e 5 (omega arith),
-      e 6 (omega arith),
-      e 7 (omega arith),
-    ) refl
-
 -- ---- a mask has a place where it isn't zero
-
-none_below : (p : ℕ → Bool) (n k : ℕ) → any_below p n ≡ false → k < n → p k ≡ false
-unfolding any_below
-none_below p zero k e h = absurd (omega arith)
-none_below p (suc n) k e h = elim (cases_Bool (any_below p n)) [
-  | inl t ↦ absurd (false≢true (sym e ∙ (rw t refl)))
-  | inr f ↦ elim (cases_eq k n) [
-    | inl q ↦ rw q (rw f at e)
-    | inr m ↦ none_below p n k f (omega arith)
-  ]
-]
-
-mask_of-none : (p : ℕ → Bool) → ((k : ℕ) → k < 8 → p k ≡ false) → mask_of p ≡ 0
-unfolding mask_of
-mask_of-none p e =
-    rw (
-      e 0 (omega arith),
-      e 1 (omega arith),
-      e 2 (omega arith),
-      e 3 (omega arith),
-      e 4 (omega arith),
-      e 5 (omega arith),
-      e 6 (omega arith),
-      e 7 (omega arith),
-    ) refl
 
 any-zero : any_below (has 0) 8 ≡ false
 any-zero = any_below-same (has 0) (λ _. false) 8 (λ k h. has-zero k) ∙ (unfold any_below in refl)
@@ -100,10 +38,6 @@ and-swap true true = refl
 and-swap true false = refl
 and-swap false true = refl
 and-swap false false = refl
-
-is_some-cond : (b : Bool) (x : ℕ) → is_some (cond b (Some x) None) ≡ b
-is_some-cond true x = refl
-is_some-cond false x = refl
 
 some_cond : (b : Bool) (x : ℕ) → is_some (cond b (Some x) None) ≡ true → cond b (Some x) None ≡ Some x
 some_cond true x e = refl

@@ -5,12 +5,13 @@ use Rattle.std.proofs.lemmas.Bool.{cases_eq, eq-eqb, ne_eqb}
 use Rattle.std.proofs.lemmas.List.{length-replicate}
 use Rattle.std.proofs.lemmas.Nat.{div_below, div-mul-add}
 use Rattle.tcc_base.specs.Settings.{Settings}
+use Rattle.base_lemmas.proofs.Lemmas.{count_below-most, count_below-same}
 use Rattle.rules_maps.specs.Words.{num, count_below}
 use Rattle.spec_cache.specs.declared.frame.FrameView.{FrameView}
 use Rattle.spec_cache.specs.Held.{Held}
 use Rattle.spec_cache.specs.PerSet.{Counted, count_set, IsPerSet}
 use Rattle.spec_cache.specs.Tracked.{count_ways}
-use Rattle.spec_cache.proofs.Counted.{count_below-same, count_below-none, count_below-within, count_below-at_most}
+use Rattle.spec_cache.proofs.Counted.{count_below-none, count_below-within}
 use Rattle.spec_cache.proofs.Forms.{get_or-none}
 use Rattle.spec_cache.proofs.Tallied.{count-set, count-some, count-most, count-none, zeros}
 
@@ -95,7 +96,7 @@ module _ (q : Option FrameView → Bool) (h : Held) (ways : 1 ≤ h.config.ways)
       pub shift-few : get_or p.counts (i / h.config.ways) 0 ≤ 16
       unfolding count_set
       shift-few =
-          let r = count_below-at_most (λ y. q (get_or h.frames (i / h.config.ways * h.config.ways + y) None)) h.config.ways in
+          let r = count_below-most (λ y. q (get_or h.frames (i / h.config.ways * h.config.ways + y) None)) h.config.ways in
           let e = k.each (i / h.config.ways) set_exists in omega (arith, r, e, few)
 
   pub shift-few_all : (p : Counted) → IsPerSet q h p → length h.frames ≤ 16384 → p.all ≤ 16384

@@ -1,10 +1,11 @@
 -- What is counted of the ways, after one of them changed.
 use Rattle.std.proofs.Common.{ℕ, suc, zero, ◌+◌, ◌*◌, ◌%◌, ◌<◌, ◌≤◌, ◌≡◌, Bool, true, false, not, cond, ◌&&◌, inl, inr, List, [], ◌∷◌}
-use Rattle.std.proofs.Common.{length, get_or, set, map, replicate, Option, Some, None, is_some, nat_eq, refl, sym, ◌∙◌, ap, arith}
+use Rattle.std.proofs.Common.{length, get_or, set, map, replicate, Option, Some, None, nat_eq, refl, sym, ◌∙◌, ap, arith}
 use Rattle.std.specs.Option.{IfSome}
 use Rattle.std.specs.Bool.{MatchBool}
 use Rattle.std.proofs.lemmas.Bool.{false≢true, cases_lt, cases_Bool, eq-eqb, ne_eqb}
 use Rattle.tcc_base.specs.Settings.{Settings, IsAllowed}
+use Rattle.base_lemmas.proofs.Lemmas.{any_below-count, count_below-head, count_below-most, is_some-cond, num-most}
 use Rattle.rules_maps.specs.Words.{num, any_below}
 use Rattle.rules_maps.proofs.Lemmas.{any_below-found, any_below-at}
 use Rattle.spec_cache.specs.declared.frame.FrameView.{FrameView}
@@ -12,7 +13,7 @@ use Rattle.spec_cache.specs.Frame.{holds_line}
 use Rattle.spec_cache.specs.Home.{reads_in, written_in}
 use Rattle.spec_cache.specs.Useful.{writes_in, dirty_way}
 use Rattle.spec_cache.specs.Tracked.{count_ways, written_home, read_home, is_home, tag_of}
-use Rattle.spec_cache.proofs.Counted.{count_below-head, count_below-none, count_below-within, count_below-at_most, any_below-count}
+use Rattle.spec_cache.proofs.Counted.{count_below-none, count_below-within}
 use Rattle.spec_cache.proofs.Forms.{get_or-none}
 
 module _ (q : Option FrameView → Bool) where
@@ -30,7 +31,7 @@ module _ (q : Option FrameView → Bool) where
 
   pub count-most : (fs : List (Option FrameView)) → count_ways q fs ≤ length fs
   unfolding count_ways
-  count-most fs = count_below-at_most (λ i. q (get_or fs i None)) (length fs)
+  count-most fs = count_below-most (λ i. q (get_or fs i None)) (length fs)
 
   pub count-some : (fs : List (Option FrameView)) (i : ℕ) → i < length fs → q (get_or fs i None) ≡ true → 0 < count_ways q fs
   unfolding count_ways
@@ -51,14 +52,10 @@ home_test : (w : Bool) (m d : ℕ) → is_home (cond w (Some m) None) d ≡ (nat
 home_test true m d = elim (cases_Bool (nat_eq d m)) [ inl t ↦ rw t refl | inr f ↦ rw f refl ]
 home_test false m d = elim (cases_Bool (nat_eq d m)) [ inl t ↦ rw t refl | inr f ↦ rw f refl ]
 
-chosen : (b : Bool) (x : ℕ) → is_some (cond b (Some x) None) ≡ b
-chosen true x = refl
-chosen false x = refl
-
 pub writes-home : (dirs d : ℕ) (o : Option FrameView) → writes_in dirs d o ≡ is_home (written_home dirs o) d
 unfolding written_in written_home
 writes-home dirs d None = refl
-writes-home dirs d (Some f) = chosen (nat_eq d (f.line.0 % dirs) && not (nat_eq f.modified.0 0)) f.line.0
+writes-home dirs d (Some f) = is_some-cond (nat_eq d (f.line.0 % dirs) && not (nat_eq f.modified.0 0)) f.line.0
     ∙ sym (home_test (not (nat_eq f.modified.0 0)) (f.line.0 % dirs) d)
 
 pub reads-home : (dirs d : ℕ) (o : Option FrameView) → reads_in dirs d o ≡ is_home (read_home dirs o) d
@@ -94,7 +91,7 @@ module _ (dirs : ℕ) (some_dirs : 1 ≤ dirs) (few : dirs ≤ 64) where
   pub never-written : (d : ℕ) → dirs ≤ d → (o : Option FrameView) → writes_in dirs d o ≡ false
   unfolding written_in
   never-written d b None = refl
-  never-written d b (Some f) = chosen (nat_eq d (f.line.0 % dirs) && not (nat_eq f.modified.0 0)) f.line.0
+  never-written d b (Some f) = is_some-cond (nat_eq d (f.line.0 % dirs) && not (nat_eq f.modified.0 0)) f.line.0
       ∙ apart f.line.0 d (not (nat_eq f.modified.0 0)) b
 
   pub never-read : (d : ℕ) → dirs ≤ d → (o : Option FrameView) → reads_in dirs d o ≡ false
@@ -130,10 +127,6 @@ pub counted-small : (q : ℕ → Option FrameView → Bool) (fs : List (Option F
     → ((d : ℕ) → d < 64 → get_or ns d 0 ≡ count_ways (q d) fs) →
     length fs ≤ 16384 → (d : ℕ) → d < 64 → get_or ns d 0 ≤ 16384
 counted-small q fs ns is small d b = let m = count-most (q d) fs in let e = is d b in omega (arith, m, e, small)
-
-num-most : (b : Bool) → num b ≤ 1
-num-most true = omega arith
-num-most false = omega arith
 
 pub dirty-fits : (fs : List (Option FrameView)) (n : ℕ) (b : Bool) → n ≡ count_ways dirty_way fs → length fs ≤ 16384 → n + num b ≤ 16385
 dirty-fits fs n b e small = let m = count-most dirty_way fs in let k = num-most b in omega (arith, m, e, small, k)

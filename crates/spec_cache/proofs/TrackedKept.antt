@@ -4,6 +4,7 @@ use Rattle.std.proofs.Common.{Option, Some, None, inl, inr, refl, sym, ap, â—Œâˆ
 use Rattle.std.proofs.lemmas.Bool.{cases_eq}
 use Rattle.std.proofs.lemmas.List.{map-set, length-replicate}
 use Rattle.tcc_base.specs.Settings.{Settings}
+use Rattle.base_lemmas.proofs.Lemmas.{count_below-same}
 use Rattle.rules_maps.specs.Words.{num, count_below}
 use Rattle.spec_cache.specs.declared.frame.FrameView.{FrameView}
 use Rattle.spec_cache.specs.Home.{reads_in, written_in}
@@ -11,7 +12,6 @@ use Rattle.spec_cache.specs.Useful.{writes_in, dirty_way}
 use Rattle.spec_cache.specs.Held.{Held}
 use Rattle.spec_cache.specs.PerSet.{Counted, IsPerSet, count_set, idle_way, used_way}
 use Rattle.spec_cache.specs.Tracked.{written_home, read_home, is_home, tag_of, AreAlike, IsTracked}
-use Rattle.spec_cache.proofs.Counted.{count_below-same}
 use Rattle.spec_cache.proofs.Tallied.{recounted, writes-home, reads-home, count-none, map-none, zeros}
 use Rattle.spec_cache.proofs.SetTallies.{IsPerSet-empty}
 

@@ -5,6 +5,7 @@ use Rattle.std.specs.Option.{option_map, IfSome}
 use Rattle.std.specs.Prelude.{nat_lt, if◌then◌else◌}
 use Rattle.std.proofs.lemmas.Bool.{false≢true, cases_eq, cases_Bool, eq-eqb, eqb-true, ne_eqb, lt-ltb}
 use Rattle.std.proofs.lemmas.Nat.{div-mul-add}
+use Rattle.base_lemmas.proofs.Lemmas.{count_below-most, count_below-same}
 use Rattle.rules_maps.specs.Words.{count_below}
 use Rattle.rules_maps.specs.CacheUse.{Wants, is_number, useful_ways}
 use Rattle.spec_cache.specs.declared.frame.FrameView.{FrameView}
@@ -12,7 +13,7 @@ use Rattle.spec_cache.specs.Useful.{useful_in, set_below, other_set, room_set, l
 use Rattle.spec_cache.specs.Held.{Held, IsHeld, maps}
 use Rattle.spec_cache.specs.PerSet.{count_set, idle_way, used_way}
 use Rattle.spec_cache.specs.Tracked.{count_ways}
-use Rattle.spec_cache.proofs.Counted.{count_below-at_most, count_below-same, count_below-zero}
+use Rattle.spec_cache.proofs.Counted.{count_below-zero}
 use Rattle.spec_cache.proofs.Counts.{useful_counted}
 use Rattle.spec_cache.proofs.Tallied.{count-most, few-ways}
 use Rattle.spec_cache.proofs.UsefulSets.{count_below-plus, in_way, at_set, plain-set}
@@ -221,7 +222,7 @@ module _ (h : Held) (s : IsHeld h) (q : Wants) where
 few-of : (u : Option FrameView → Bool) (h : Held) → IsHeld h → (t : ℕ) → count_set u h t ≤ 16
 unfolding count_set
 few-of u h s t =
-    let m = count_below-at_most (λ y. u (get_or h.frames (t * h.config.ways + y) None)) h.config.ways in
+    let m = count_below-most (λ y. u (get_or h.frames (t * h.config.ways + y) None)) h.config.ways in
     let w = s.allowed.3.1 in
     omega (arith, m, w)
 

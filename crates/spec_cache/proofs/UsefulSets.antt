@@ -5,13 +5,14 @@ use Rattle.std.specs.Option.{option_map}
 use Rattle.std.proofs.lemmas.Bool.{false≢true, cases_eq, or_parts, eq-eqb, ne_eqb}
 use Rattle.std.proofs.lemmas.Nat.{div-mul-add}
 use Rattle.std.proofs.Math.Nat.{mul-le-mul_right}
+use Rattle.base_lemmas.proofs.Lemmas.{count_below-most, count_below-same}
 use Rattle.rules_maps.specs.Words.{count_below}
 use Rattle.rules_maps.specs.CacheUse.{Wants, is_number, useful_ways}
 use Rattle.spec_cache.specs.declared.frame.FrameView.{FrameView}
 use Rattle.spec_cache.specs.Useful.{useful_in}
 use Rattle.spec_cache.specs.Held.{Held, IsHeld, maps}
 use Rattle.spec_cache.specs.PerSet.{count_set, idle_way, used_way, IsNthWay}
-use Rattle.spec_cache.proofs.Counted.{count_below-same, count_below-at_most, count_below-zero}
+use Rattle.spec_cache.proofs.Counted.{count_below-zero}
 use Rattle.spec_cache.proofs.Counts.{useful_counted, useful_nth, useful_more}
 
 -- the numbers below a sum
@@ -124,7 +125,7 @@ module _ (h : Held) (s : IsHeld h) (q : Wants) where
 
   pub few-in_set : (t : ℕ) → count_set (useful_in q t) h t ≤ 16
   unfolding count_set
-  few-in_set t = let m = count_below-at_most (λ y. useful_in q t (get_or h.frames (t * h.config.ways + y) None)) h.config.ways in let w =
+  few-in_set t = let m = count_below-most (λ y. useful_in q t (get_or h.frames (t * h.config.ways + y) None)) h.config.ways in let w =
       s.allowed.3.1 in omega (arith, m, w)
 
 -- a whole set was looked at

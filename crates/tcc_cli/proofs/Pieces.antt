@@ -1,8 +1,7 @@
 -- Pieces that are written one after the other.
-use Rattle.std.proofs.Common.{ℕ, suc, ◌≡◌, ◌+◌, ◌<◌, ◌≤◌, List, [], ◌∷◌, ◌++◌, length, take, drop, get_or, Option, sym, ◌∙◌, ap, subst}
+use Rattle.std.proofs.Common.{ℕ, suc, ◌≡◌, ◌+◌, ◌<◌, List, [], ◌∷◌, ◌++◌, length, take, drop, get_or, Option, sym, ◌∙◌, ap, subst}
 use Rattle.std.proofs.Common.{refl, rules, Bor, append_assoc, arith, append-nil, add-one, drop-cons, take-suc}
 use Rattle.std.proofs.Math.Seq.{take-append-add}
-use Rattle.std.proofs.lemmas.Bool.Decides.{nat_tests}
 use Rattle.std.proofs.lemmas.Grind.{flat_map-append}
 use Rattle.std.proofs.lemmas.List.{take-append-drop, take-append-le}
 use Rattle.std.proofs.lemmas.List.Folds.{length-flat_map-take}
@@ -10,6 +9,7 @@ use Rattle.std.specs.List.{flat_map}
 use Rattle.std.specs.Fmt.{decimal}
 use Rattle.std.specs.Io.KnownBytes.{Appends}
 use Rattle.std.specs.Prelude.{codes}
+use Rattle.base_lemmas.proofs.Lemmas.{appends-more}
 use Rattle.report_text.specs.Lines.{newline}
 use Rattle.tcc_cli.specs.Lines.{Written, IsCut, IsTold}
 use Rattle.tcc_cli.specs.Refusals.{reader_word, line_of}
@@ -17,12 +17,7 @@ use Rattle.tcc_cli.specs.declared.refusal.ImageFault.{ImageFault}
 use Rattle.tcc_cli.specs.declared.refusal.Refusal.TheVariants.{Words, Value, Image, Schedule, Store, Output, Memory}
 use Rattle.tcc_words.specs.Fields.{field_word}
 use Rattle.tcc_words.specs.declared.command.Field.{Field}
-use Rattle.tcc_world.proofs.Lemmas.{appends-append}
 use Rattle.tcc_world.specs.Faults.{Rose}
-
--- a count that rose from one that was no smaller rose from the smaller one
-pub rose_before : (before mid after : ℕ) → before ≤ mid → Rose mid after → Rose before after
-rose_before before mid after h rose = grind (arith, nat_tests)
 
 split_at : {P : Type 0} (f : P → List ℕ) (ps : List P) (i : ℕ) (d : P) → i < length ps
     → flat_map f ps ≡ flat_map f (take i ps) ++ (f (get_or ps i d) ++ flat_map f (drop (suc i) ps))
@@ -46,7 +41,7 @@ cut_at f ps i n d o mid h begun short cut rose =
     ∙ ap (λ t. pre ++ t) (take-append-le n x rest (omega (arith, short))) in (
       length pre + n,
       omega (arith, fits, short),
-      subst (Appends o.before o.after) (sym whole) (appends-append o.before mid o.after pre (take n x) begun cut),
+      subst (Appends o.before o.after) (sym whole) (appends-more o.before mid o.after pre (take n x) begun cut),
       rose,
     )
 
@@ -59,7 +54,7 @@ told_more f ps i d before mid after h begun more =
     let x = f (get_or ps i d) in
     let joined : flat_map f (take (suc i) ps) ≡ pre ++ x =
     ap (flat_map f) (take-suc ps i d h) ∙ flat_map-append f (take i ps) (get_or ps i d ∷ []) ∙ ap (λ t. pre ++ t) (append-nil x) in
-    rw (add-one i) (subst (Appends before after) (sym joined) (appends-append before mid after pre x begun more))
+    rw (add-one i) (subst (Appends before after) (sym joined) (appends-more before mid after pre x begun more))
 
 pub told_same : (s t : List ℕ) (o : Written) → s ≡ t → IsTold s o → IsTold t o
 told_same s t o e h = subst (λ x. IsTold x o) e h

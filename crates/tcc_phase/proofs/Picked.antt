@@ -2,6 +2,7 @@
 use Rattle.std.proofs.Common.{◌≡◌, ℕ, suc, ◌+◌, ◌-◌, ◌<◌, [], ◌∷◌, ◌++◌, length, map, append-nil, append_assoc, Some, None, refl, ap, sym}
 use Rattle.std.proofs.Common.{◌∙◌, arith}
 use Rattle.std.proofs.lemmas.List.{map-append, length_push}
+use Rattle.base_lemmas.proofs.Lemmas.{fewer}
 use Rattle.image_load.specs.Contents.{Contents, started}
 use Rattle.image_load.specs.Start.{Start}
 use Rattle.rand_core.specs.Steps.{first_words}
@@ -58,9 +59,6 @@ going-same {c} {p} {f} {g} {all} {i} q s h t e k = record {
   events = e ∙ s.events;
   count = ap length t ∙ s.count;
 }
-
-fewer : (all i : ℕ) → i < all → all - i ≡ suc (all - (i + 1))
-fewer all i h = omega (arith, h)
 
 -- one word more
 pub going-more : {c : Contents} {p : PhaseMachine} {f g : Lcg} {all i : ℕ} (q : PhaseMachine) (e : CodeEvent) → Going c p f g all i

@@ -7,6 +7,7 @@ use Rattle.tcc_base.specs.declared.access.Commit.{Commit}
 use Rattle.rules_program.specs.Cores.{AreBy}
 use Rattle.rules_program.specs.Orders.{order_of_commit}
 use Rattle.std.specs.Prelude.{map}
+use Rattle.base_lemmas.proofs.Lemmas.{lt_self}
 use Rattle.rules_tcc.specs.Step.{insert_commit}
 use Rattle.theorem_serial.specs.Owners.{IsRising}
 use Rattle.theorem_phases.specs.Laws.{place_of}
@@ -22,13 +23,10 @@ none-smaller b t (c ∷ cs) r l = go (nat_lt c.tid.0 t) refl (none-smaller c.tid
     go false q e = e
     go true q e = let s = r.0 in absurd (grind (arith, nat_tests))
 
-itself : (t : ℕ) → nat_lt t t ≡ false
-itself t = grind (arith, nat_tests)
-
 -- a commit isn't before itself
 pub place-insert : (x : Commit) (cs : List Commit) → place_of x.tid.0 (insert_commit x cs) ≡ place_of x.tid.0 cs
 unfolding insert_commit
-place-insert x [] = rw (itself x.tid.0) refl
+place-insert x [] = rw (lt_self x.tid.0) refl
 place-insert x (d ∷ ds) = go (nat_lt x.tid.0 d.tid.0) (place-insert x ds)
   where
     rest : (t : Bool) → place_of x.tid.0 (insert_commit x ds) ≡ place_of x.tid.0 ds
@@ -40,7 +38,7 @@ place-insert x (d ∷ ds) = go (nat_lt x.tid.0 d.tid.0) (place-insert x ds)
 
     go : (a : Bool) → place_of x.tid.0 (insert_commit x ds) ≡ place_of x.tid.0 ds
         → place_of x.tid.0 (cond a (x ∷ d ∷ ds) (d ∷ insert_commit x ds)) ≡ place_of x.tid.0 (d ∷ ds)
-    go true e = rw (itself x.tid.0) refl
+    go true e = rw (lt_self x.tid.0) refl
     go false e = rest (nat_lt d.tid.0 x.tid.0) e
 
 above : (b : ℕ) (x : Commit) (cs : List Commit) → IsRising b (insert_commit x cs) → b < x.tid.0

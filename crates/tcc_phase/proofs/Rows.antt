@@ -1,9 +1,10 @@
 -- The useful events that aren't held back, by number.
-use Rattle.std.proofs.Common.{◌≡◌, ℕ, suc, ◌+◌, ◌<◌, ◌≤◌, Bool, true, false, List, length, map, Option, Some, None, refl, ap, sym, ◌∙◌}
+use Rattle.std.proofs.Common.{◌≡◌, ℕ, ◌+◌, ◌<◌, ◌≤◌, Bool, true, false, List, length, map, Option, Some, None, refl, ap, sym, ◌∙◌}
 use Rattle.std.proofs.Common.{subst, arith}
 use Rattle.std.specs.Prelude.{filter, get_or, not, option_map, slice_get}
 use Rattle.std.proofs.lemmas.Option.{slice_get-get_or, slice_get-map}
 use Rattle.std.proofs.lemmas.List.{get_or_read, length-map}
+use Rattle.base_lemmas.proofs.Lemmas.{next-number}
 use Rattle.image_load.specs.Contents.{started}
 use Rattle.rv_code.specs.Machine.{program}
 use Rattle.rules_maps.specs.Nodes.{Core, Deliver, Event, Vendor}
@@ -27,9 +28,6 @@ use Rattle.tcc_phase.proofs.Requests.Those.{stands}
 pub all-is : (m : Machine) → useful (settings_of m) (program_of m) (world_of m) ≡ all_in m
 unfolding all_in started history_of
 all-is m = refl
-
-next-one : (n : ℕ) → n + 1 ≡ suc n
-next-one n = omega arith
 
 module _ (m : Machine) (l : Ledger) (kept : IsKept (start_of m) (history_of m) m.events l) (holds : UsefulHolds) (ordered :
     UsefulOrdered) where
@@ -86,19 +84,19 @@ module _ (m : Machine) (l : Ledger) (kept : IsKept (start_of m) (history_of m) m
     pub passes : (e : Event) → slice_get (all_in m) (k + j) ≡ Some e → event_before e own_request ≡ false → j < passed_by m (k + j + 1)
     unfolding passed_by
     passes e at b =
-        subst (λ n. j < left_out held (all_in m) n) (sym (next-one (k + j)))
+        subst (λ n. j < left_out held (all_in m) n) (sym (next-number (k + j)))
         (stands-behind held (all_in m) (k + j) j e own_request all-ordered at (row-is j h) b)
 
     pub not-yet : (e : Event) → slice_get (all_in m) (k + j) ≡ Some e → event_before e own_request ≡ true → passed_by m (k + j + 1) ≤ j
     unfolding passed_by
     not-yet e at b =
-        subst (λ n. left_out held (all_in m) n ≤ j) (sym (next-one (k + j)))
+        subst (λ n. left_out held (all_in m) n ≤ j) (sym (next-number (k + j)))
         (stands-before held (all_in m) (k + j) j e own_request all-ordered at (row-is j h) b)
 
     pub all-passed : slice_get (all_in m) (k + j) ≡ None → j < passed_by m (k + j + 1)
     unfolding passed_by
     all-passed at =
-        subst (λ n. j < left_out held (all_in m) n) (sym (next-one (k + j)))
+        subst (λ n. j < left_out held (all_in m) n) (sym (next-number (k + j)))
         (let a = out-all held (all_in m) (k + j) at in let b = count-is in omega (arith, a, b, h))
 
     reads : (xs : List ℕ) (i x : ℕ) → i < length xs → x ≡ get_or xs i x → x ≡ get_or xs i 0
@@ -149,7 +147,7 @@ module _ (m : Machine) where
   pub is-passed : (k i : ℕ) → i ≤ passed_by m (k + i) → passed_by m (k + i + 1) ≤ i → IsPassed m k i
   unfolding passed_by
   is-passed k i a b =
-      let r = subst (λ n. passed_by m (k + i) ≤ left_out (is_held (start_of m) (history_of m)) (all_in m) n) (sym (next-one (k + i)))
+      let r = subst (λ n. passed_by m (k + i) ≤ left_out (is_held (start_of m) (history_of m)) (all_in m) n) (sym (next-number (k + i)))
       (out-rises (is_held (start_of m) (history_of m)) (all_in m) (k + i)) in
       (omega (arith, a, b, r), omega (arith, a, b, r))
 
@@ -163,7 +161,7 @@ module _ (m : Machine) where
       kth (is_held (start_of m) (history_of m)) (useful (start_of m).settings (program (start_of m)) (history_of m).world) k i (k + i)
       refl h.0
       (subst (λ n. left_out (is_held (start_of m) (history_of m))
-      (useful (start_of m).settings (program (start_of m)) (history_of m).world) n ≡ i) (next-one (k + i)) h.1)
+      (useful (start_of m).settings (program (start_of m)) (history_of m).world) n ≡ i) (next-number (k + i)) h.1)
 
 pub at-number : (m n : Machine) (o : Option Event) (k i : ℕ) → n ≡ m
     → o ≡ slice_get (useful (settings_of n) (program_of n) (world_of n)) (k + i) → IsPassed m k i → o ≡ slice_get (useful_in m) k

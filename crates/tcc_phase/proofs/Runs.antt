@@ -3,6 +3,7 @@ use Rattle.std.proofs.Common.{◌≡◌, ℕ, zero, suc, ◌+◌, ◌<◌, ◌�
 use Rattle.std.proofs.Common.{ap, sym, ◌∙◌, arith}
 use Rattle.std.specs.Prelude.{slice_get}
 use Rattle.std.proofs.lemmas.List.{map-append}
+use Rattle.base_lemmas.proofs.Lemmas.{next-number}
 use Rattle.image_load.specs.Contents.{started}
 use Rattle.rules_maps.specs.Nodes.{Event}
 use Rattle.tcc_msg.specs.Plain.{event_of}
@@ -14,6 +15,7 @@ use Rattle.net_core.specs.declared.taking.StepError.{StepError}
 use Rattle.net_core.specs.declared.taking.StepError.TheVariants.{Refused, Memory}
 use Rattle.tcc_phase.specs.Answers.{Ran, StoppedAt, next_of}
 use Rattle.tcc_phase.proofs.Keeping.Following.{phased-on}
+use Rattle.net_core.proofs.Lemmas.{one-more}
 
 -- so many were taken
 pub record RanSo (m n : Machine) (k : ℕ) (es : List CodeEvent) : Type 0 where
@@ -24,14 +26,6 @@ pub record RanSo (m n : Machine) (k : ℕ) (es : List CodeEvent) : Type 0 where
 pub ran-none : (m : Machine) (es : List CodeEvent) → RanSo m m 0 es
 unfolding phased_from
 ran-none m es = record { ran = refl; events = omega arith; code = refl }
-
-next-number : (k : ℕ) → k + 1 ≡ suc k
-next-number k = omega arith
-
-one-more : (es : List CodeEvent) (k : ℕ) (e : CodeEvent) → slice_get es k ≡ Some e → take (suc k) es ≡ take k es ++ e ∷ []
-one-more [] k e h = absurd (cc)
-one-more (x ∷ es) zero e h = let same : x ≡ e = cc in ap (λ y. y ∷ []) same
-one-more (x ∷ es) (suc k) e h = ap (λ ys. x ∷ ys) (one-more es k e h)
 
 pub ran-more : (m n o : Machine) (k : ℕ) (es : List CodeEvent) (e : CodeEvent) → RanSo m n k es → slice_get es k ≡ Some e
     → next_of n (event_of e) ≡ Some (history_of o) → o.events ≡ n.events + 1 → o.cores.code ≡ n.cores.code → RanSo m o (k + 1) es
@@ -77,11 +71,6 @@ took-more us k x h = ap (λ j. take j us) (next-number k) ∙ go us k h
     go [] k h = absurd (cc)
     go (y ∷ us) zero h = let same : y ≡ x = cc in ap (λ z. z ∷ []) same
     go (y ∷ us) (suc k) h = ap (λ ys. y ∷ ys) (go us k h)
-
-pub one-listed : (us : List Event) (es more : List CodeEvent) (k : ℕ) (e : CodeEvent) → map event_of es ≡ take k us
-    → slice_get us k ≡ Some (event_of e) → more ≡ es ++ e ∷ [] → map event_of more ≡ take (k + 1) us
-one-listed us es more k e so at m =
-    ap (map event_of) m ∙ (map-append event_of es (e ∷ []) ∙ (ap (λ ys. ys ++ event_of e ∷ []) so ∙ sym (took-more us k (event_of e) at)))
 
 pub none-past : (us : List Event) (k : ℕ) → slice_get us k ≡ None → k < length us → ⊥
 none-past [] k e l = omega (arith, l)

@@ -1,6 +1,7 @@
 -- The events that random words pick, one after another.
 use Rattle.std.proofs.Common.{◌≡◌, ℕ, suc, ◌+◌, ◌-◌, ◌<◌, ◌≤◌, List, [], ◌∷◌, ◌++◌, length, append-nil, append_assoc}
 use Rattle.std.proofs.Common.{Option, Some, None, refl, ap, sym, ◌∙◌, subst, arith}
+use Rattle.base_lemmas.proofs.Lemmas.{one-longer}
 use Rattle.image_load.specs.Contents.{started}
 use Rattle.rand_core.specs.Steps.{first_words}
 use Rattle.rand_pcg.specs.Lcg.{Lcg}
@@ -17,7 +18,7 @@ use Rattle.net_core.specs.Machine.{Machine, history_of, program_of, settings_of,
 use Rattle.tcc_refine.specs.Refined.{Refined}
 use Rattle.tcc_pick.specs.Picking.{TookAll, picks}
 use Rattle.tcc_pick.specs.Words.{after_words, words}
-use Rattle.tcc_pick.proofs.Took.{Same, Takes, one-longer, took-more, took-none, took-same}
+use Rattle.tcc_pick.proofs.Took.{Same, Takes, took-more, took-none, took-same}
 
 -- the event that a generator's next word chooses
 abbrev pub chosen_at : Lcg → Machine → Option Event
@@ -42,7 +43,7 @@ picks-none k g m e = picks-first k g m
     ∙ ap (pick (settings_of m) (program_of m) (world_of m) (picked (settings_of m) (program_of m) (words k (pcg32 g).1))) e
 
 -- the event that is chosen leads there
-leads-to : (h : History) (o : Option Stepped) (g : History) (rest : World → List Event) → recorded h o ≡ Some g
+pub leads-to : (h : History) (o : Option Stepped) (g : History) (rest : World → List Event) → recorded h o ≡ Some g
     → after_step rest o ≡ rest g.world
 leads-to h None g rest e = absurd (cc)
 leads-to h (Some s) g rest e = ap rest (ap (of s.world) e)

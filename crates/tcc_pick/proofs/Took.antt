@@ -1,18 +1,16 @@
 -- A machine that takes events one after another, with the list of what it took.
-use Rattle.std.proofs.Common.{◌≡◌, ◌+◌, List, [], ◌∷◌, ◌++◌, length, map, append-nil, append_assoc}
-use Rattle.std.proofs.Common.{Option, Some, None, refl, ap, sym, ◌∙◌, arith}
+use Rattle.std.proofs.Common.{◌≡◌, ◌+◌, List, [], ◌∷◌, ◌++◌, map, append-nil, append_assoc}
+use Rattle.std.proofs.Common.{Some, refl, ap, sym, ◌∙◌, arith}
 use Rattle.std.proofs.lemmas.List.{map-append}
-use Rattle.image_load.specs.Contents.{started}
-use Rattle.rv_code.specs.Machine.{program}
-use Rattle.tcc_base.specs.Settings.{Settings}
+use Rattle.base_lemmas.proofs.Lemmas.{one-longer}
 use Rattle.rules_maps.specs.Nodes.{Event}
 use Rattle.tcc_msg.specs.Plain.{event_of}
 use Rattle.tcc_msg.specs.declared.event.Event.{Event as CodeEvent}
-use Rattle.rules_program.specs.Program.{Program}
-use Rattle.rules_tcc.specs.Step.{History, and_then, next_history, run_from}
-use Rattle.net_core.specs.Machine.{Machine, history_of, program_of, settings_of}
+use Rattle.rules_tcc.specs.Step.{and_then, next_history, run_from}
+use Rattle.net_core.specs.Machine.{history_of, program_of, settings_of}
 use Rattle.tcc_refine.specs.Refined.{Refined}
 use Rattle.tcc_pick.specs.Picking.{TookAll}
+use Rattle.net_core.proofs.Lemmas.{after-all, same-code}
 
 -- a call that leaves the rules' state and the list as they are
 pub record Same (m n : Refined) : Type 0 where
@@ -28,26 +26,6 @@ pub record Takes (m n : Refined) (e : CodeEvent) : Type 0 where
   pub events : n.machine.events ≡ m.machine.events + 1
   pub code : n.machine.cores.code ≡ m.machine.cores.code
 
-after-all : (sh : Settings) (p : Program) (e : Event) (es : List Event) (h : History)
-    → run_from sh p (es ++ e ∷ []) h ≡ and_then (λ g. next_history sh p g e) (run_from sh p es h)
-unfolding run_from
-after-all sh p e [] h = last (next_history sh p h e)
-  where
-    last : (o : Option History) → and_then (λ g. Some g) o ≡ o
-    last None = refl
-    last (Some g) = refl
-after-all sh p e (x ∷ es) h = go (next_history sh p h x) (after-all sh p e es)
-  where
-    go : (o : Option History) →
-        ((g : History) → run_from sh p (es ++ e ∷ []) g ≡ and_then (λ f. next_history sh p f e) (run_from sh p es g))
-        → and_then (run_from sh p (es ++ e ∷ [])) o ≡ and_then (λ g. next_history sh p g e) (and_then (run_from sh p es) o)
-    go None rest = refl
-    go (Some g) rest = rest g
-
-pub one-longer : (xs : List Event) (e : Event) → length (xs ++ e ∷ []) ≡ length xs + 1
-one-longer [] e = refl
-one-longer (x ∷ xs) e = let r = one-longer xs e in omega (arith, r)
-
 pub took-none : (m : Refined) → TookAll m m []
 unfolding run_from
 took-none m = record { taken = sym (append-nil (map event_of m.taken)); ran = refl; events = omega arith; code = refl }
@@ -59,10 +37,6 @@ took-same m n o es t s = record {
   events = s.events ∙ t.events;
   code = s.code ∙ t.code;
 }
-
-same-code : (m n : Machine) (e : Event) → n.cores.code ≡ m.cores.code
-    → next_history (settings_of m) (program_of m) (history_of n) e ≡ next_history (settings_of n) (program_of n) (history_of n) e
-same-code m n e c = λ i. next_history (sym c i).settings (program (started (sym c i))) (history_of n) e
 
 pub took-more : (m n o : Refined) (es : List Event) (e : CodeEvent) → TookAll m n es → Takes n o e → TookAll m o (es ++ event_of e ∷ [])
 took-more m n o es e t s =

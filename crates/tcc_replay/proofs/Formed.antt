@@ -2,7 +2,6 @@
 use Rattle.std.proofs.Common.{◌≡◌, ℕ, zero, suc, ◌+◌, ◌<◌, ◌≤◌, Bool, true, false, ◌&&◌, List, [], ◌∷◌, ◌++◌, length, map}
 use Rattle.std.proofs.Common.{Option, Some, None, refl, ◌∙◌, arith}
 use Rattle.std.specs.Prelude.{All, nat_lt, slice_index_or, if◌then◌else◌}
-use Rattle.std.proofs.lemmas.Bool.Decides.{nat_tests}
 use Rattle.std.proofs.lemmas.List.Elements.{All-cons, All-nil}
 use Rattle.image_load.specs.Contents.{Contents, started}
 use Rattle.rv_code.specs.Machine.{program}
@@ -11,6 +10,7 @@ use Rattle.schedule_text.specs.WellFormed.{IsNode, Names, one_is_core}
 use Rattle.tcc_base.specs.Settings.{Settings, IsAllowed}
 use Rattle.tcc_base.specs.declared.names.NodeId.{NodeId}
 use Rattle.tcc_base.specs.declared.names.NodeId.TheVariants.{Core, Dir, Vendor}
+use Rattle.base_lemmas.proofs.Lemmas.{and-left, and-right, lt-from}
 use Rattle.theorem_bounds.specs.Bounds.{IsBounded}
 use Rattle.theorem_bounds.proofs.Lemmas.{link_short, riscv_bounded_after}
 use Rattle.theorem_live.specs.Fits.{fits}
@@ -31,17 +31,6 @@ use Rattle.tcc_replay.specs.Replayed.{TakenHasText}
 
 -- ---- one event
 
-below : (a b : ℕ) → nat_lt a b ≡ true → a < b
-below a b e = grind (arith, nat_tests)
-
-first : (a b : Bool) → (a && b) ≡ true → a ≡ true
-first true b e = refl
-first false b e = absurd (cc)
-
-second : (a b : Bool) → (a && b) ≡ true → b ≡ true
-second true b e = e
-second false b e = absurd (cc)
-
 in-front : (l : Link) (k : ℕ) (m : Msg) → slice_index_or l k None ≡ Some m → k < length l
 in-front [] k m e = absurd (cc)
 in-front (x ∷ l) zero m e = omega arith
@@ -60,8 +49,8 @@ one-core sh Vendor (Dir d) m e = absurd (cc)
 one-core sh Vendor Vendor m e = absurd (cc)
 
 has-node : (sh : Settings) (n : NodeId) → is_node sh (node_of n) ≡ true → IsNode sh n
-has-node sh (Core c) e = below c.0 sh.cores e
-has-node sh (Dir d) e = below d.0 sh.dirs e
+has-node sh (Core c) e = lt-from c.0 sh.cores e
+has-node sh (Dir d) e = lt-from d.0 sh.dirs e
 has-node sh Vendor e = tt
 
 all-there : (b : Bool) (o : Option Stepped) (h g : History) → recorded h (if b then o else None) ≡ Some g → b ≡ true
@@ -78,14 +67,14 @@ named : (sh : Settings) (p : Program) (es : List RuleEvent) (h g : History) (e :
     → length es ≤ 4194304 → next_history sh p h (event_of e) ≡ Some g → Names sh e
 unfolding next_history step names_nodes happens
 named sh p es h g (Exec core) k b few n =
-    below core.0 sh.cores (all-there (nat_lt core.0 sh.cores) (happens sh p h.world (event_of (Exec core))) h g n)
+    lt-from core.0 sh.cores (all-there (nat_lt core.0 sh.cores) (happens sh p h.world (event_of (Exec core))) h g n)
 named sh p es h g (Evict core set way) k b few n =
     let there = all-there (nat_lt core.0 sh.cores && (nat_lt set sh.sets && nat_lt way sh.ways))
     (happens sh p h.world (event_of (Evict core set way))) h g n in
-    let frame = second (nat_lt core.0 sh.cores) (nat_lt set sh.sets && nat_lt way sh.ways) there in (
-      below core.0 sh.cores (first (nat_lt core.0 sh.cores) (nat_lt set sh.sets && nat_lt way sh.ways) there),
-      below set sh.sets (first (nat_lt set sh.sets) (nat_lt way sh.ways) frame),
-      below way sh.ways (second (nat_lt set sh.sets) (nat_lt way sh.ways) frame),
+    let frame = and-right (nat_lt core.0 sh.cores) (nat_lt set sh.sets && nat_lt way sh.ways) there in (
+      lt-from core.0 sh.cores (and-left (nat_lt core.0 sh.cores) (nat_lt set sh.sets && nat_lt way sh.ways) there),
+      lt-from set sh.sets (and-left (nat_lt set sh.sets) (nat_lt way sh.ways) frame),
+      lt-from way sh.ways (and-right (nat_lt set sh.sets) (nat_lt way sh.ways) frame),
     )
 named sh p es h g (Deliver name) k b few n =
     let src = node_of name.src in
@@ -95,8 +84,8 @@ named sh p es h g (Deliver name) k b few n =
     (λ m fly.
     let short = link_short sh es h src dst k b few in
     let front = in-front (h.world.net src dst) name.seq m fly in (
-      has-node sh name.src (first (is_node sh src) (is_node sh dst) there),
-      has-node sh name.dst (second (is_node sh src) (is_node sh dst) there),
+      has-node sh name.src (and-left (is_node sh src) (is_node sh dst) there),
+      has-node sh name.dst (and-right (is_node sh src) (is_node sh dst) there),
       one-core sh name.src name.dst m (b.messages src dst name.seq m fly).fits,
       omega (arith, short, front),
     ))

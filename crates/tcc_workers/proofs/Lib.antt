@@ -1,2 +1,3 @@
 mod Shares
 mod Turning
+pub mod Lemmas

@@ -21,7 +21,7 @@ made-none : (a : Option (List Call)) → Made a a []
 made-none None = tt
 made-none (Some xs) = sym (append-nil xs)
 
-made-more : (a b c : Option (List Call)) (xs ys : List Call) → Made a b xs → Made b c ys → Made a c (xs ++ ys)
+pub made-more : (a b c : Option (List Call)) (xs ys : List Call) → Made a b xs → Made b c ys → Made a c (xs ++ ys)
 made-more a b None xs ys p q = tt
 made-more a None (Some cs) xs ys p q = absurd q
 made-more None (Some bs) (Some cs) xs ys p q = absurd p
@@ -35,7 +35,7 @@ after-more (suc n) m g =
     let sum : suc (n + m) ≡ suc n + m = omega arith in
     ap (λ w. (pcg32 w).1) (after-more n m g) ∙ ap (λ k. after_words k g) sum
 
-one-entry : (a : Act) → entries_by a ≤ 1
+pub one-entry : (a : Act) → entries_by a ≤ 1
 one-entry Moved = omega arith
 one-entry Idle = omega arith
 one-entry Memory = omega arith

@@ -1,4 +1,3 @@
 pub mod Files
 pub mod Holding
 pub mod Told
-pub mod Lemmas

@@ -1,22 +1,11 @@
 -- Laws of what is told: bytes that are written in parts.
-use Rattle.std.proofs.Common.{◌≡◌, ◌+◌, ◌-◌, ℕ, List, [], ◌++◌, length, take, drop, ap, sym, ◌∙◌, append_assoc, append-nil, arith}
+use Rattle.std.proofs.Common.{◌≡◌, ◌+◌, ◌-◌, ℕ, List, length, take, drop, sym, arith}
 use Rattle.std.proofs.Common.{length-drop}
-use Rattle.std.specs.Prelude.{Option, None, Some}
+use Rattle.std.specs.Prelude.{Option}
 use Rattle.std.specs.Io.KnownBytes.{Appends}
 use Rattle.std.proofs.Math.Seq.{take-add}
 use Rattle.std.proofs.lemmas.List.{take_all}
-
-pub appends-nothing : (told : Option (List ℕ)) → Appends told told []
-appends-nothing None = _
-appends-nothing (Some known) = sym (append-nil known)
-
-pub appends-append : (before mid after : Option (List ℕ)) (xs ys : List ℕ) → Appends before mid xs → Appends mid after ys
-    → Appends before after (xs ++ ys)
-appends-append None mid after xs ys first then = _
-appends-append (Some known) None after xs ys first then = absurd first
-appends-append (Some known) (Some more) None xs ys first then = absurd then
-appends-append (Some known) (Some more) (Some all) xs ys first then =
-    then ∙ ap (λ begun. begun ++ ys) first ∙ append_assoc known xs ys
+use Rattle.base_lemmas.proofs.Lemmas.{appends-more, appends-none}
 
 rest_whole : (i : ℕ) (xs : List ℕ) → take (length xs - i) (drop i xs) ≡ drop i xs
 rest_whole i xs = take_all (length xs - i) (drop i xs) (omega (arith, length-drop i xs))
@@ -27,7 +16,7 @@ pub appends-take_more : (before mid after : Option (List ℕ)) (i n : ℕ) (xs :
     → Appends before after (take (i + n) xs)
 appends-take_more before mid after i n xs begun more =
     let rest = take (length xs - i) (drop i xs) in
-    rw (take-add i n xs, sym (rest_whole i xs)) (appends-append before mid after (take i xs) (take n rest) begun more)
+    rw (take-add i n xs, sym (rest_whole i xs)) (appends-more before mid after (take i xs) (take n rest) begun more)
 
 -- for a loop that writes part after part
-pub ruleset parts = (appends-nothing, appends-take_more)
+pub ruleset parts = (appends-none, appends-take_more)

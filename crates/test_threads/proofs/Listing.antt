@@ -1,21 +1,14 @@
 -- Calls that are listed one after another, and the words that are drawn for them.
-use Rattle.std.proofs.Common.{◌≡◌, ℕ, zero, suc, ◌+◌, ◌≤◌, List, [], ◌∷◌, ◌++◌, Option, Some, None, refl, ap, sym, ◌∙◌, subst, arith}
-use Rattle.std.proofs.Common.{append_assoc, append-nil}
+use Rattle.std.proofs.Common.{◌≡◌, ℕ, suc, ◌≤◌, List, [], ◌∷◌, Option, Some, None, refl, ap, sym, ◌∙◌, subst, arith}
+use Rattle.std.proofs.Common.{append-nil}
 use Rattle.rand_pcg.specs.Lcg.{Lcg}
 use Rattle.rand_pcg.specs.Pcg.{pcg32}
-use Rattle.apart_node.specs.declared.node.Act.{Act}
-use Rattle.apart_node.specs.declared.node.Act.TheVariants.{Moved, Idle, Memory}
-use Rattle.node_locks.specs.Turns.{IsTurn, after_words, entries_by, moved_in, nth_word}
+use Rattle.node_locks.specs.Turns.{IsTurn, after_words, moved_in, nth_word}
 use Rattle.node_locks.specs.declared.acts.Acts.{Acts}
 use Rattle.tcc_workers.specs.Calls.{Made, acts_at}
 use Rattle.tcc_workers.specs.declared.turns.Call.{Call}
 use Rattle.tcc_workers.specs.declared.turns.Call.TheVariants.{Turn}
-
-made-more : (a b c : Option (List Call)) (xs ys : List Call) → Made a b xs → Made b c ys → Made a c (xs ++ ys)
-made-more a b None xs ys p q = tt
-made-more a None (Some cs) xs ys p q = absurd q
-made-more None (Some bs) (Some cs) xs ys p q = absurd p
-made-more (Some as₁) (Some bs) (Some cs) xs ys p q = q ∙ ap (λ l. l ++ ys) p ∙ append_assoc as₁ xs ys
+use Rattle.tcc_workers.proofs.Lemmas.{made-more, one-entry}
 
 pub listed-none : (node : ℕ) (g : Lcg) (a : Option (List Call)) → Made a a (acts_at node g 0)
 unfolding acts_at
@@ -39,11 +32,6 @@ module _ (g words : Lcg) (n k pick : ℕ) (drawn : Lcg) (at : words ≡ after_wo
       let word : pick ≡ nth_word n g = ap (λ p. p.0) draws ∙ ap (λ w. (pcg32 w).0) at in
       subst (λ m. Made a c (acts_at node g m)) (sym more)
       (made-more a b c _ _ p (subst (λ x. Made b c (Turn node x ∷ [])) word q))
-
-one-entry : (a : Act) → entries_by a ≤ 1
-one-entry Moved = omega arith
-one-entry Idle = omega arith
-one-entry Memory = omega arith
 
 -- a turn of one act moves one at most
 pub one-moved : (t : Acts) → IsTurn 1 t → moved_in t ≤ 1

@@ -5,10 +5,10 @@ use Rattle.std.proofs.lemmas.List.Elements.{All-from_get_or, All-get_or}
 use Rattle.std.proofs.lemmas.List.FromFn.{get_or-map-range_with_len, length-map-range_with_len}
 use Rattle.std.specs.List.{range_with_len}
 use Rattle.image_load.specs.Contents.{Contents, started}
-use Rattle.run_outcomes.proofs.Lemmas.{orders_to-lead}
+use Rattle.run_outcomes.proofs.Lemmas.{orders_to-lead, have-ended}
 use Rattle.run_outcomes.specs.Explored.{AreFound, AreLed, no_snapshot, state_at}
 use Rattle.run_outcomes.specs.Outcomes.{HaveEnded, IsOutcome}
-use Rattle.run_outcomes.specs.Results.{AreEnds, HasStopped, IsEnd}
+use Rattle.run_outcomes.specs.Results.{AreEnds, IsEnd}
 use Rattle.run_outcomes.specs.States.{machine_of}
 use Rattle.run_outcomes.specs.Ways.{Explored, orders_to}
 use Rattle.run_outcomes.specs.declared.outcomes.Results.{Results}
@@ -16,7 +16,6 @@ use Rattle.run_outcomes.specs.declared.outcomes.Tell.{Tell}
 use Rattle.run_outcomes.specs.declared.stuck.Stuck.{Stuck}
 use Rattle.run_outcomes.specs.declared.states.Snapshot.{Snapshot}
 use Rattle.rv_code.specs.Machine.{program}
-use Rattle.rv_plain.specs.Cores.{no_state}
 use Rattle.rv_plain.specs.Machine.{plain_start}
 use Rattle.tcc_base.specs.declared.access.Commit.{Commit}
 use Rattle.rules_program.specs.Plain.{Plain, serial}
@@ -50,11 +49,6 @@ tables-tell-every-end tell e r stuck every last orders =
 
 -- ---- only ends that are reached are told
 
-ended-machine : (l : Contents) (s : Snapshot) → length s.cores ≡ l.settings.cores → IsEnd s
-    → HaveEnded l.settings.cores (machine_of l s)
-unfolding machine_of
-ended-machine l s sized ended core lt = All-get_or HasStopped s.cores core no_state (subst (λ n. core < n) (sym sized) lt) ended
-
 reached : (l : Contents) (s : Snapshot) (x : Option (Plain × List Commit)) → HaveEnded l.settings.cores (machine_of l s)
     → IsSomeAnd x (λ y. machine_of l s ≡ y.0)
     → IsSomeAnd x (λ y. HaveEnded l.settings.cores y.0 × (machine_shown l (machine_of l s) ≡ machine_shown l y.0))
@@ -69,7 +63,7 @@ outcome-reached e r i found led ends lt =
     let sized = All-get_or (λ s. length s.cores ≡ e.loaded.settings.cores) e.states k no_snapshot end.0 found.sized in
     reached e.loaded (state_at e.states k)
     (serial e.loaded.settings.base (program (started e.loaded)) 0 (orders_to e.ways k) (plain_start (started e.loaded)))
-    (ended-machine e.loaded (state_at e.states k) sized end.1)
+    (have-ended e.loaded (state_at e.states k) sized end.1)
     (orders_to-lead e.loaded e.states e.ways k found led end.0)
 
 pub tables-tell-only-ends : TablesTellOnlyEnds

@@ -4,7 +4,7 @@ use Rattle.std.proofs.Common.{refl, sym, ◌∙◌, ap, subst, arith}
 use Rattle.std.proofs.Math.Seq.{take-append_seam, take-append-add}
 use Rattle.std.proofs.lemmas.List.{length-append, take-append-le}
 use Rattle.std.specs.Io.KnownBytes.{Appends}
-use Rattle.tcc_world.proofs.Lemmas.{appends-append, appends-nothing}
+use Rattle.base_lemmas.proofs.Lemmas.{appends-more, appends-none}
 use Rattle.tcc_world.specs.Faults.{Rose}
 use Rattle.text_outcomes.specs.Written.{IsBroken, IsCut, IsPut, Written}
 use Rattle.text_outcomes.specs.declared.writing.Broken.{Broken}
@@ -13,7 +13,7 @@ use Rattle.text_outcomes.specs.declared.writing.Broken.TheVariants.{Memory, Outp
 -- ---- bytes of which the rest is held
 
 pub put-none : (held : List ℕ) (o : Option (List ℕ)) → IsPut held held o o
-put-none held o = record { written = []; parts = refl; appended = appends-nothing o }
+put-none held o = record { written = []; parts = refl; appended = appends-none o }
 
 pub put-more : (all held next xs : List ℕ) (a b : Option (List ℕ)) → IsPut all held a b → next ≡ held ++ xs → IsPut (all ++ xs) next a b
 put-more all held next xs a b p e = record {
@@ -26,7 +26,7 @@ pub put-put : (all held next : List ℕ) (a b c : Option (List ℕ)) → IsPut a
 put-put all held next a b c p q = record {
   written = p.written ++ q.written;
   parts = p.parts ∙ ap (λ ys. p.written ++ ys) q.parts ∙ sym (append_assoc p.written q.written next);
-  appended = appends-append a b c p.written q.written p.appended q.appended;
+  appended = appends-more a b c p.written q.written p.appended q.appended;
 }
 
 -- nothing is held any more
@@ -39,12 +39,12 @@ put-all all held next a b p e f = record {
 
 -- what is held is written too
 pub put-whole : (all held : List ℕ) (a b c : Option (List ℕ)) → IsPut all held a b → Appends b c held → Appends a c all
-put-whole all held a b c p q = subst (Appends a c) (sym p.parts) (appends-append a b c p.written held p.appended q)
+put-whole all held a b c p q = subst (Appends a c) (sym p.parts) (appends-more a b c p.written held p.appended q)
 
 -- ---- bytes of which a first part was written
 
 pub cut-none : (all : List ℕ) (a : Option (List ℕ)) → 0 < length all → IsCut all a a
-cut-none all a some = record { n = 0; short = some; appended = appends-nothing a }
+cut-none all a some = record { n = 0; short = some; appended = appends-none a }
 
 -- of what is held a first part is written too
 pub put-cut : (all held : List ℕ) (a b c : Option (List ℕ)) → IsPut all held a b → IsCut held b c → IsCut all a c
@@ -55,7 +55,7 @@ put-cut all held a b c p q =
       n = length p.written + q.n;
       short = omega (arith, size, short);
       appended = subst (Appends a c) (sym (ap (take (length p.written + q.n)) p.parts ∙ take-append-add p.written held q.n))
-          (appends-append a b c p.written (take q.n held) p.appended q.appended);
+          (appends-more a b c p.written (take q.n held) p.appended q.appended);
     }
 
 pub cut-more : (all more : List ℕ) (a b : Option (List ℕ)) → IsCut all a b → IsCut (all ++ more) a b

@@ -1,23 +1,14 @@
 -- What stands behind what was told before, piece by piece.
 use Rattle.std.proofs.Common.{◌≡◌, ℕ, ◌+◌, ◌<◌, ◌≤◌, List, [], ◌++◌, length, append-nil, append_assoc}
-use Rattle.std.proofs.Common.{Option, Some, None, ap, sym, ◌∙◌, subst, arith, take}
+use Rattle.std.proofs.Common.{Option, ap, sym, ◌∙◌, subst, arith, take}
 use Rattle.std.proofs.Math.Seq.{take-append_seam, take-append-add}
 use Rattle.std.proofs.lemmas.List.{length-append}
 use Rattle.std.specs.Io.KnownBytes.{Appends}
+use Rattle.base_lemmas.proofs.Lemmas.{appends-more, appends-none}
 use Rattle.tcc_world.specs.Faults.{Rose}
 use Rattle.text_runs.specs.Pieces.{IsCut, IsPart, IsPut}
 
 -- ---- bytes that stand behind others
-
-pub appends-none : (o : Option (List ℕ)) → Appends o o []
-appends-none None = tt
-appends-none (Some xs) = sym (append-nil xs)
-
-pub appends-more : (a b c : Option (List ℕ)) (xs ys : List ℕ) → Appends a b xs → Appends b c ys → Appends a c (xs ++ ys)
-appends-more None b c xs ys p q = tt
-appends-more (Some zs) None c xs ys p q = absurd p
-appends-more (Some zs) (Some bs) None xs ys p q = absurd q
-appends-more (Some zs) (Some bs) (Some cs) xs ys p q = q ∙ ap (λ vs. vs ++ ys) p ∙ append_assoc zs xs ys
 
 -- ---- what was held was put out in part
 

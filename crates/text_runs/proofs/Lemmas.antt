@@ -1,2 +1,2 @@
 -- What other crates may cite: what stands behind what was told before, piece by piece.
-pub use Rattle.text_runs.proofs.Bytes.{appends-more, appends-none, put-cut, put-part, rose-later}
+pub use Rattle.text_runs.proofs.Bytes.{put-cut, put-part, rose-later}

@@ -3,16 +3,15 @@ use Rattle.std.specs.Prelude.{ℕ, ◌+◌, ◌≡◌, ◌<◌, ◌≤◌, ◌==
 use Rattle.std.proofs.Common.{arith, refl, sym, ◌∙◌}
 use Rattle.std.proofs.lemmas.Bool.Decides.{nat_tests}
 use Rattle.rules_program.specs.Program.{Program}
-use Rattle.rules_maps.specs.Cache.{Cache, IsCache}
 use Rattle.rules_maps.specs.Nodes.{Node, Core, Dir, Vendor, Msg, TidGrant, LoadReq, Fill, Mark, DataReq, Inv, InvAck}
 use Rattle.rules_maps.specs.Shape.{Shape, lines}
-use Rattle.rules_maps.specs.Words.{num, line_of}
+use Rattle.rules_maps.specs.Words.{num}
 use Rattle.rules_tcc.specs.Attempt.{Out}
 use Rattle.rules_tcc.specs.CoreDeliver.{core_deliver, grant, from_dir}
 use Rattle.rules_tcc.specs.CoreEvict.{core_evict}
 use Rattle.rules_tcc.specs.CoreExec.{core_exec}
 use Rattle.rules_tcc.specs.State.{CoreState, Awaited}
-use Rattle.theorem_serial.specs.InMemory.{FramesInMemory, StaysInMemory, WordInMemory}
+use Rattle.theorem_serial.specs.InMemory.{StaysInMemory}
 use Rattle.theorem_serial.specs.OneCore.{OneCore}
 use Rattle.theorem_serial.specs.Tids.{has_tid}
 use Rattle.theorem_serial.proofs.Lemmas.{HomelyOut, homes-exec, homes-evict, homes-grant, homes-back, CoreInMemory, OutInMemory}
@@ -23,10 +22,10 @@ use Rattle.theorem_serial.proofs.Lemmas.{grant-memory, back-memory, SendsInMemor
 use Rattle.theorem_serial.proofs.Lemmas.{exec_one}
 use Rattle.theorem_serial.proofs.Lemmas.{evict_one, grant_one, back_one}
 use Rattle.theorem_live.proofs.CoreFits.{Fit, fit-exec, fit-evict, fit-grant, fit-back}
-use Rattle.theorem_bounds.specs.Bounds.{AttemptCounted, CacheInMemory, most_sent}
+use Rattle.theorem_bounds.specs.Bounds.{AttemptCounted, most_sent}
 use Rattle.theorem_bounds.specs.Messages.{IsLine, line_named}
 use Rattle.theorem_bounds.proofs.CoreKeeps.{CoreKeeps, exec-keeps, evict-keeps, grant-keeps, back-keeps}
-use Rattle.theorem_bounds.proofs.Lemmas.{fits_back}
+use Rattle.theorem_bounds.proofs.Lemmas.{fits_back, kept_in_frames as frames}
 use Rattle.theorem_bounds.proofs.Outside.{is_inside, below}
 use Rattle.rules_apart.specs.Carried.{IsCarried}
 use Rattle.theorem_apart.specs.Apart.{CoreApart, EachCarried}
@@ -34,27 +33,6 @@ use Rattle.theorem_apart.proofs.sends.Carries.{core-carries}
 use Rattle.theorem_apart.proofs.sends.Timely.{AllTimely, HasTids, IsTid, exec-timely, evict-timely, grant-timely, back-timely}
 
 -- what is apart, from its parts
-
-frames : (sh : Shape) (c : Cache) → IsCache sh c → FramesInMemory sh c → CacheInMemory sh c
-frames sh c k f = record {
-  at = λ s y l e. f l ((k.placed s y l e).2);
-  held = f;
-  valid = valid;
-  read = λ x e. read x e (c.held (line_of x)) refl;
-  modified = λ x e. valid x (k.modified x e);
-  dirty = λ x e. valid x (k.dirty x e);
-}
-  where
-    valid_in : (x : ℕ) → is_some (c.value x) ≡ true → (b : Bool) → c.held (line_of x) ≡ b → WordInMemory sh x
-    valid_in x e true q = f (line_of x) q
-    valid_in x e false q = absurd (let n = k.valued x q in cc)
-
-    valid : (x : ℕ) → is_some (c.value x) ≡ true → WordInMemory sh x
-    valid x e = valid_in x e (c.held (line_of x)) refl
-
-    read : (x : ℕ) → c.read x ≡ true → (b : Bool) → c.held (line_of x) ≡ b → WordInMemory sh x
-    read x e true q = f (line_of x) q
-    read x e false q = absurd (let n = k.unread x q in cc)
 
 pub core-apart : (sh : Shape) (n c : ℕ) (s : CoreState) → c < sh.cores → AttemptCounted n s → HasTids s → OneCore sh s → CoreInMemory sh s
     → CoreApart sh n c s

@@ -1,9 +1,10 @@
 -- What code is to know before it calls a node: from the node's bounds, and from the link that brings a message.
-use Rattle.std.specs.Prelude.{ℕ, ◌+◌, ◌^◌, ◌≡◌, ◌<◌, ◌≤◌, Bool, true, false, ◌&&◌, Contains, Option, Some, None, IfSome, nat_lt}
+use Rattle.std.specs.Prelude.{ℕ, ◌+◌, ◌^◌, ◌≡◌, ◌<◌, ◌≤◌, true, false, Contains, Option, Some, None, IfSome, nat_lt}
 use Rattle.std.proofs.Common.{arith, refl}
 use Rattle.image_load.specs.Start.{Start}
 use Rattle.rv_code.specs.Machine.{program}
 use Rattle.tcc_base.specs.Settings.{IsAllowed}
+use Rattle.base_lemmas.proofs.Lemmas.{and-both}
 use Rattle.rules_maps.specs.Nodes.{Node, Core, Dir, Vendor, Event, Msg, TidReq}
 use Rattle.rules_maps.specs.Shape.{Shape}
 use Rattle.rules_tcc.specs.Local.{NodeState, AtCore, AtVendor, Acted, at_node, act}
@@ -13,12 +14,12 @@ use Rattle.rules_tcc.specs.Step.{names_nodes}
 use Rattle.theorem_live.specs.Fits.{fits}
 use Rattle.theorem_bounds.specs.Messages.{WasGranted, tid_named}
 use Rattle.theorem_bounds.proofs.Lemmas.{fits_out, fits_back}
-use Rattle.theorem_live.proofs.Events.{below}
 use Rattle.rules_apart.specs.Carried.{IsCarried}
 use Rattle.theorem_apart.specs.Apart.{NodeInBounds, EachCarried, ActsInBounds}
 use Rattle.theorem_apart.specs.Brought.{JoinsNodes, BroughtToDir}
 use Rattle.theorem_apart.specs.Laws.{BringsCarried}
 use Rattle.theorem_apart.proofs.Stays.{riscv_nodes_stay}
+use Rattle.theorem_serial.proofs.Lemmas.{is-lt}
 
 -- a core's attempt has room for one more instruction
 pub attempt_short : (sh : Shape) (done c : ℕ) (s : CoreState) → done < 4194304 → NodeInBounds sh done (Core c) (AtCore s) → s.n < 4194304
@@ -28,19 +29,15 @@ attempt_short sh done c s l k = omega (arith, l, k.bounds.attempt.instructions)
 pub next_few : (sh : Shape) (done next : ℕ) → done < 4194304 → NodeInBounds sh done Vendor (AtVendor next) → next ≤ 4194304
 next_few sh done next l k = omega (arith, l, k)
 
-both : (a b : Bool) → (a && b) ≡ true → (a ≡ true) × (b ≡ true)
-both true b e = (refl, e)
-both false b e = absurd (cc)
-
 -- the ends of a link that carries a message exist
 pub joins_nodes : (sh : Shape) (src dst : Node) (m : Msg) → IsCarried sh src dst m → JoinsNodes sh src dst
 unfolding fits
 joins_nodes sh (Core c) (Dir d) m b = let k = fits_out sh c d m b.fits in
-    record { source = below c sh.cores k.core; destination = below d sh.dirs k.dir }
+    record { source = is-lt c sh.cores k.core; destination = is-lt d sh.dirs k.dir }
 joins_nodes sh (Dir d) (Core c) m b = let k = fits_back sh c d m b.fits in
-    record { source = below d sh.dirs k.dir; destination = below c sh.cores k.core }
-joins_nodes sh (Core c) Vendor m b = record { source = (both _ _ b.fits).0; destination = refl }
-joins_nodes sh Vendor (Core c) m b = record { source = refl; destination = (both _ _ b.fits).0 }
+    record { source = is-lt d sh.dirs k.dir; destination = is-lt c sh.cores k.core }
+joins_nodes sh (Core c) Vendor m b = record { source = (and-both _ _ b.fits).0; destination = refl }
+joins_nodes sh Vendor (Core c) m b = record { source = refl; destination = (and-both _ _ b.fits).0 }
 joins_nodes sh (Core c) (Core d) m b = absurd (let f = b.fits in cc)
 joins_nodes sh (Dir c) (Dir d) m b = absurd (let f = b.fits in cc)
 joins_nodes sh (Dir d) Vendor m b = absurd (let f = b.fits in cc)
@@ -67,7 +64,7 @@ to_dir_from_core sh Vendor d m b = absurd (let f = b.fits in cc)
 pub to_vendor_from_core : (sh : Shape) (src : Node) (m : Msg) → IsCarried sh src Vendor m → (c : ℕ) × (src ≡ Core c) × (m ≡ TidReq)
 unfolding fits
 to_vendor_from_core sh (Core c) TidReq b = (c, refl, refl)
-to_vendor_from_core sh (Core c) m b = absurd (let f = both (nat_lt c sh.cores) false b.fits in cc)
+to_vendor_from_core sh (Core c) m b = absurd (let f = and-both (nat_lt c sh.cores) false b.fits in cc)
 to_vendor_from_core sh (Dir e) m b = absurd (let f = b.fits in cc)
 to_vendor_from_core sh Vendor m b = absurd (let f = b.fits in cc)
 

@@ -11,7 +11,7 @@ use Rattle.rules_program.specs.Program.{Need, Nothing, Loads, Stores, Changes, P
 use Rattle.rules_program.specs.Ram.{word_of}
 use Rattle.rules_maps.specs.Words.{line_of}
 use Rattle.rules_maps.specs.Shape.{Shape, set_of}
-use Rattle.rules_maps.specs.Cache.{Cache, IsCache, free_way, all_marked}
+use Rattle.rules_maps.specs.Cache.{Cache, free_way, all_marked}
 use Rattle.rules_maps.specs.CacheChange.{marked, stored, placed}
 use Rattle.rules_maps.specs.Spilled.{holds, none_spilled}
 use Rattle.rules_maps.proofs.Lemmas.{value-placed, modified-placed, modified-committed}
@@ -39,7 +39,7 @@ sees-spilled : (s : CoreState) (ram : ℕ → ℕ) (w x : ℕ) → s.spilled w �
 unfolding sees
 sees-spilled s ram w x e = rw e
 
-sees-modified : (s : CoreState) (ram : ℕ → ℕ) (w x : ℕ) → s.spilled w ≡ None → s.cache.modified w ≡ true → s.cache.value w ≡ Some x
+pub sees-modified : (s : CoreState) (ram : ℕ → ℕ) (w x : ℕ) → s.spilled w ≡ None → s.cache.modified w ≡ true → s.cache.value w ≡ Some x
     → sees s ram w ≡ x
 unfolding sees
 sees-modified s ram w x e m v = rw (e, m, v)

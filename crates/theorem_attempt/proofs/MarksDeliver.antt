@@ -5,6 +5,7 @@ use Rattle.std.specs.Prelude.{IfSome, unwrap_or, ◌==◌, nat_lt}
 use Rattle.std.proofs.lemmas.Bool.{cases_Bool, cases_eq}
 use Rattle.std.proofs.lemmas.Bool.Decides.{nat_tests}
 use Rattle.tcc_base.specs.Put.{put}
+use Rattle.base_lemmas.proofs.Lemmas.{and-left, hit-line, neither-right}
 use Rattle.rules_maps.specs.Words.{line_of, place_of, word_at, any_below, any_word}
 use Rattle.rules_maps.specs.Masks.{hit}
 use Rattle.rules_maps.specs.Nodes.{Node, Core, Dir, Vendor, Msg, TidReq, TidGrant, LoadReq, Fill, Skip, Probe, ProbeReply, Mark, Commit}
@@ -27,7 +28,6 @@ use Rattle.rules_tcc.specs.CoreDeliver.{words_invalidated, is_violated, acknowle
 use Rattle.theorem_attempt.specs.Follows.{Uses}
 use Rattle.theorem_attempt.specs.Marks.{StillHas, UseStands, AllStand, UsesStand, OnlyUsed, awaits_in, owed_in, MarksFit}
 use Rattle.theorem_attempt.specs.Views.{uses_violated, uses_delivered}
-use Rattle.rules_tcc.proofs.Lemmas.{and-left}
 use Rattle.theorem_attempt.proofs.Marks.{none-used}
 
 -- a change that keeps each use keeps them in every phase, where it adds no read mark to a core that is alone
@@ -114,10 +114,6 @@ evicted-uses x y l c us (Overflowing (Some t)) e m h =
     uses-kept c (evicted x y c) us (Overflowing (Some t)) (evicted-stands x y l c e (grind (arith, nat_tests))) h
 evicted-uses x y l c us Halted e m h = h
 
-or-right : (a b : Bool) → (a || b) ≡ false → b ≡ false
-or-right true b e = absurd (cc)
-or-right false b e = e
-
 evict_line-fit : (sh : Shape) (x y : ℕ) (s : CoreState) (us : Uses) (o : Option ℕ) → s.cache.at x y ≡ o → MarksFit sh s us
     → IfSome (evict_line sh x y s o) (λ t. MarksFit sh t.core us)
 evict_line-fit sh x y s us None e m = tt
@@ -131,7 +127,7 @@ evict_line-fit sh x y s us (Some l) e m = at (is_awaited s.awaited l || (is_mark
     at false q =
         record {
           stand = evicted-uses x y l s.cache us s.phase e
-              (or-right (is_awaited s.awaited l) (is_marked s.cache l && not (is_solo s.phase)) q) m.stand;
+              (neither-right (is_awaited s.awaited l) (is_marked s.cache l && not (is_solo s.phase)) q) m.stand;
           used = fewer-used s.cache (evicted x y s.cache) us (evicted-reads x y l s.cache e) m.used;
           awaits = m.awaits;
           owes = m.owes;
@@ -317,10 +313,6 @@ hit-reads l m c w r h e =
     let i : word_at l (w % 8) ≡ w = omega arith in
     any_below-at (λ k. hit l m (word_at l k) && c.read (word_at l k)) 8 (w % 8) (omega arith)
     (subst (λ v. (hit l m v && c.read v) ≡ true) (sym i) (grind (arith, nat_tests)))
-
-pub hit-line : (l m w : ℕ) → hit l m w ≡ true → l ≡ line_of w
-unfolding hit
-hit-line l m w h = grind (arith, nat_tests)
 
 unhit-same : (l m : ℕ) (c : Cache) (w : ℕ) → hit l m w ≡ false → (invalidated l m c).value w ≡ c.value w
 unhit-same l m c w h = value-invalidated l m c w ∙ grind (arith, nat_tests)

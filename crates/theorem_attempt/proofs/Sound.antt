@@ -5,10 +5,11 @@ use Rattle.std.specs.Prelude.{IfSome}
 use Rattle.std.proofs.lemmas.Bool.{cases_Bool, cases_eq}
 use Rattle.std.proofs.lemmas.Bool.Decides.{nat_tests}
 use Rattle.tcc_base.specs.Put.{put}
+use Rattle.base_lemmas.proofs.Lemmas.{held_valued}
 use Rattle.rules_program.specs.Program.{Need, Nothing, Loads, Stores, Changes, Prints, Ends, Halts, Traps, Program}
 use Rattle.rules_maps.specs.Words.{line_of, any_word, word_at}
 use Rattle.rules_maps.specs.Shape.{Shape, set_of}
-use Rattle.rules_maps.specs.Cache.{Cache, IsCache, free_way, all_marked}
+use Rattle.rules_maps.specs.Cache.{Cache, free_way, all_marked}
 use Rattle.rules_maps.specs.CacheChange.{marked, stored, placed}
 use Rattle.rules_maps.specs.Spilled.{holds}
 use Rattle.rules_maps.proofs.Lemmas.{marked-keeps, stored-keeps, placed-keeps, any_below-at, any_below-found, held-placed, modified-placed}
@@ -51,10 +52,6 @@ holds-none sp l v h e = ⊎_elim
     (λ t. t)
     (cases_Bool (is_some (sp v)))
 
--- a valid word's line has a frame
-pub valid-held : (sh : Shape) (c : Cache) (w x : ℕ) → IsCache sh c → c.value w ≡ Some x → c.held (line_of w) ≡ true
-valid-held sh c w x k e = ⊎_elim (λ h. h) (λ h. let n = k.valued w h in absurd (cc)) (cases_Bool (c.held (line_of w)))
-
 pub request_line-sound : (sh : Shape) (l : ℕ) (s : CoreState) → s.cache.held l ≡ true → SoundCore sh s →
     SoundCore sh (request_line sh l s).core
 unfolding request_line
@@ -91,7 +88,7 @@ with_read_mark-sound sh w x s m e k = at (is_running s.phase)
   where
     at : (b : Bool) → SoundCore sh (cond b (record s { cache = marked w s.cache }) s)
     at true = record {
-      cache = marked-keeps sh w s.cache (valid-held sh s.cache w x k.cache e) k.cache;
+      cache = marked-keeps sh w s.cache (held_valued sh s.cache w x k.cache e) k.cache;
       awaits = marked_awaits s.awaited k.awaits;
       alone = k.alone;
       apart = λ v u i h. let a = k.apart v u i h in (modified-marked w s.cache u ∙ a.0, dirty-marked w s.cache u ∙ a.1);

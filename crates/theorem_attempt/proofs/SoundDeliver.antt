@@ -5,6 +5,7 @@ use Rattle.std.specs.Prelude.{IfSome, ◌==◌, nat_lt}
 use Rattle.std.proofs.lemmas.Bool.{cases_Bool, cases_eq}
 use Rattle.std.proofs.lemmas.Bool.Decides.{nat_tests}
 use Rattle.tcc_base.specs.Put.{put}
+use Rattle.base_lemmas.proofs.Lemmas.{neither-left, neither-right}
 use Rattle.rules_program.specs.Program.{Local, Program}
 use Rattle.rules_maps.specs.Words.{line_of, word_at, any_word, any_below}
 use Rattle.rules_maps.specs.Nodes.{Node, Core, Dir, Vendor, Msg, TidReq, TidGrant, LoadReq, Fill, Skip, Probe, ProbeReply, Mark, Commit}
@@ -50,14 +51,6 @@ evicted-awaits : (x y l : ℕ) (c : Cache) (o : Option Awaited) → c.at x y ≡
 evicted-awaits x y l c None e n h = tt
 evicted-awaits x y l c (Some a) e n h = held-evicted x y c a.line l e ∙ grind (arith, nat_tests)
 
-or-left : (a b : Bool) → (a || b) ≡ false → a ≡ false
-or-left true b e = absurd (cc)
-or-left false b e = refl
-
-or-right : (a b : Bool) → (a || b) ≡ false → b ≡ false
-or-right true b e = absurd (cc)
-or-right false b e = e
-
 -- an unmarked line has no modified word
 unmarked-modified : (c : Cache) (l w : ℕ) → is_marked c l ≡ false → l ≡ line_of w → c.modified w ≡ true → ⊥
 unfolding is_marked any_word
@@ -102,8 +95,8 @@ evict_line-sound sh x y s (Some l) e k = at (is_awaited s.awaited l || (is_marke
         (write_back_line sh s.cache l))))
     at true q = tt
     at false q =
-        let n = or-left (is_awaited s.awaited l) (is_marked s.cache l && not (is_solo s.phase)) q in
-        let r = or-right (is_awaited s.awaited l) (is_marked s.cache l && not (is_solo s.phase)) q in
+        let n = neither-left (is_awaited s.awaited l) (is_marked s.cache l && not (is_solo s.phase)) q in
+        let r = neither-right (is_awaited s.awaited l) (is_marked s.cache l && not (is_solo s.phase)) q in
         record {
           cache = evicted-keeps sh x y s.cache k.cache;
           awaits = evicted-awaits x y l s.cache s.awaited e n k.awaits;

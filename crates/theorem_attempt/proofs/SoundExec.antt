@@ -3,6 +3,7 @@ use Rattle.std.proofs.Common.{◌≡◌, ℕ, Bool, true, false, cond, ⊎_elim,
 use Rattle.std.proofs.lemmas.Bool.{cases_Bool}
 use Rattle.tcc_base.specs.declared.access.Size.{Size}
 use Rattle.tcc_base.specs.declared.access.Size.TheVariants.{Byte, Half, Word}
+use Rattle.base_lemmas.proofs.Lemmas.{held_valued}
 use Rattle.rules_program.specs.Program.{Need, Nothing, Loads, Stores, Changes, Prints, Ends, Halts, Traps, Program}
 use Rattle.rules_program.specs.Ram.{word_of}
 use Rattle.rules_maps.specs.Words.{line_of}
@@ -14,14 +15,14 @@ use Rattle.rules_maps.proofs.Lemmas.{committed-keeps, words_dropped-keeps, read-
 use Rattle.rules_maps.proofs.Lemmas.{held-words_dropped}
 use Rattle.rules_tcc.specs.State.{CoreState, Awaited, Phase, Running, AwaitTid, DoomedTid, Probing, Ready, Overflowing, Solo, Halted}
 use Rattle.rules_tcc.specs.Sends.{nothing, flush_line}
-use Rattle.rules_tcc.specs.Attempt.{Out, moves, is_solo, is_running, finished, new_word}
+use Rattle.rules_tcc.specs.Attempt.{moves, is_solo, finished, new_word}
 use Rattle.rules_tcc.specs.Commit.{committed_core, commit, solo_commit}
 use Rattle.rules_tcc.specs.Execute.{place, full_set, with_read_mark, load_valid, load_spilled, load, stored_in_buffer, stored_in_frame}
 use Rattle.rules_tcc.specs.Execute.{word_store, marks_read, change_valid, change_spilled, partial_store, end_transaction, store_by_size}
 use Rattle.rules_tcc.specs.Execute.{execute_need, execute}
 use Rattle.rules_tcc.specs.CoreExec.{unless_awaiting, exec_in_phase, core_exec}
 use Rattle.theorem_attempt.specs.Sound.{AwaitsHeld, is_idle, SoundCore}
-use Rattle.theorem_attempt.proofs.Sound.{finished-sound, holds-none, valid-held, MayAct, OutSound, with_read_mark-sound}
+use Rattle.theorem_attempt.proofs.Sound.{finished-sound, holds-none, MayAct, OutSound, with_read_mark-sound}
 use Rattle.theorem_attempt.proofs.Sound.{stored_in_buffer-sound}
 use Rattle.theorem_attempt.proofs.Sound.{stored_in_frame-sound, miss-sound, full_set-sound, place-sound, place-held}
 
@@ -80,7 +81,7 @@ partial_store-sound sh p need w s m k = spilled_in (s.spilled w) refl
     held_in x e true h =
         finished-sound sh p need x (stored_in_buffer w (new_word need x) s) (stored_in_buffer-sound sh w (new_word need x) s m h k)
     held_in x e false h = finished-sound sh p need x (stored_in_frame w (new_word need x) (marks_read w s) s)
-        (stored_in_frame-sound sh w (new_word need x) (marks_read w s) s m (valid-held sh s.cache w x k.cache e) h k)
+        (stored_in_frame-sound sh w (new_word need x) (marks_read w s) s m (held_valued sh s.cache w x k.cache e) h k)
 
     valid_in : (o : Option ℕ) → s.cache.value w ≡ o → OutSound sh (change_valid sh p need w s o)
     valid_in None e = miss-sound sh (line_of w) s k

@@ -1,7 +1,8 @@
 -- Lines that messages in flight name are of memory, and at home at the link's directory.
-use Rattle.std.specs.Prelude.{ℕ, ◌≡◌, ◌<◌, ◌≤◌, ◌%◌, Bool, true, false, not, ◌==◌, ◌&&◌, Some, IfSome, nat_lt}
+use Rattle.std.specs.Prelude.{ℕ, ◌≡◌, ◌<◌, ◌≤◌, ◌%◌, Bool, true, false, not, ◌==◌, ◌&&◌, Some, IfSome}
 use Rattle.std.proofs.Common.{arith, refl}
 use Rattle.std.proofs.lemmas.Bool.Decides.{nat_tests}
+use Rattle.base_lemmas.proofs.Lemmas.{in-memory}
 use Rattle.rules_maps.specs.Nodes.{Core, Dir, Msg, LoadReq, Fill, ProbeReply, Mark, WriteBack, Flush, DataReq, Inv, InvAck}
 use Rattle.rules_maps.specs.Shape.{Shape, home, lines}
 use Rattle.rules_maps.specs.Words.{num}
@@ -27,9 +28,6 @@ at-home sh d l z = go ((l % sh.dirs) == d) refl z
     go : (b : Bool) → ((l % sh.dirs) == d) ≡ b → num (not b) ≤ 0 → l % sh.dirs ≡ d
     go true q z = grind (arith, nat_tests)
     go false q z = absurd (omega (arith, z))
-
-in-memory : (sh : Shape) (l : ℕ) → nat_lt l (lines sh) ≡ true → l < lines sh
-in-memory sh l e = grind (arith, nat_tests)
 
 -- words on their way home are of a line of memory
 copy-passes : (l t : ℕ) → num ((l == l) && (t == t)) ≡ 1

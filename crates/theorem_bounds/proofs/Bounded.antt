@@ -1,6 +1,7 @@
 -- Every state that a run reaches is in bounds: from what the theorem's list says of it, and from what is counted along the run.
-use Rattle.std.specs.Prelude.{ℕ, ◌≡◌, ◌<◌, Bool, true, false, ◌&&◌, List, length, Option, Some, None, IfSome, is_some, nat_lt}
+use Rattle.std.specs.Prelude.{ℕ, ◌≡◌, ◌<◌, Bool, true, false, List, length, Option, Some, None, IfSome, is_some, nat_lt}
 use Rattle.std.proofs.Common.{refl}
+use Rattle.base_lemmas.proofs.Lemmas.{and-never}
 use Rattle.rules_maps.specs.Cache.{Cache, IsCache}
 use Rattle.rules_maps.specs.Nodes.{Node, Core, Dir, Vendor, Event, Msg, TidReq, TidGrant}
 use Rattle.rules_maps.specs.Shape.{Shape, lines}
@@ -65,20 +66,16 @@ core-bounded sh n h r m k c = record {
 
 -- messages
 
-no_other : (b : Bool) → (b && false) ≡ true → ⊥
-no_other true e = absurd (cc)
-no_other false e = absurd (cc)
-
 ask-bounded : (sh : Shape) (next c : ℕ) (m : Msg) → fits sh (Core c) Vendor m ≡ true → InBounds sh next (Core c) Vendor m
 unfolding fits
 ask-bounded sh next c TidReq f = record { fits = f; line = tt; tid = tt }
-ask-bounded sh next c m f = absurd (no_other (nat_lt c sh.cores) f)
+ask-bounded sh next c m f = absurd (and-never (nat_lt c sh.cores) f)
 
 grant-bounded : (sh : Shape) (h : History) → Reached sh h → (c i : ℕ) (m : Msg) → in_flight h.world.net Vendor (Core c) i ≡ Some m
     → fits sh Vendor (Core c) m ≡ true → InBounds sh h.world.next Vendor (Core c) m
 unfolding fits
 grant-bounded sh h r c i (TidGrant t) e f = record { fits = f; line = tt; tid = grant_granted sh h r c i t e }
-grant-bounded sh h r c i m e f = absurd (no_other (nat_lt c sh.cores) f)
+grant-bounded sh h r c i m e f = absurd (and-never (nat_lt c sh.cores) f)
 
 -- no other link has a message
 no-such : (sh : Shape) (src dst : Node) (m : Msg) (next : ℕ) → fits sh src dst m ≡ true → fits sh src dst m ≡ false

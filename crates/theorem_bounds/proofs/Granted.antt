@@ -4,6 +4,7 @@ use Rattle.std.specs.Prelude.{IfSome, nat_lt, nat_le}
 use Rattle.std.proofs.Common.{arith, refl}
 use Rattle.std.proofs.lemmas.Bool.Decides.{nat_tests}
 use Rattle.tcc_base.specs.declared.access.Commit.{Commit as Noted}
+use Rattle.base_lemmas.proofs.Lemmas.{eq-self}
 use Rattle.rules_maps.specs.Lines.{has_mark}
 use Rattle.rules_maps.specs.Nodes.{Core, Dir, Vendor, Msg, TidReq, TidGrant, LoadReq, Fill, Skip, Probe, ProbeReply, Mark, Commit, Abort}
 use Rattle.rules_maps.specs.Nodes.{WriteBack, Flush, DataReq, Inv, InvAck}
@@ -67,9 +68,6 @@ serves-bounded sh h r d l = record { least = r.fits.serves d; most = last (h.wor
 pub flies : (k : Kind) (l : Link) (i : ℕ) (m : Msg) → slice_index_or l i None ≡ Some m → passes k m ≡ true → 1 ≤ live k l
 flies k l i m e p = let n : num (passes k m) ≡ 1 = rw p refl in omega (arith, live-some k l i m e)
 
-same : (n : ℕ) → (n == n) ≡ true
-same n = grind (arith, nat_tests)
-
 -- a TID that is skipped, given up or committed
 resolved_granted : (sh : Shape) (h : History) (r : Reached sh h) (c d t : ℕ) → c < sh.cores → d < sh.dirs
     → 1 ≤ live (Resolves t) (h.world.net (Core c) (Dir d)) → WasGranted h.world.next t
@@ -100,15 +98,15 @@ pub out_granted : (sh : Shape) (h : History) (r : Reached sh h) (c d k : ℕ) (m
     → in_flight h.world.net (Core c) (Dir d) k ≡ Some m → goes_to_dir m ≡ true → IfSome (tid_named m) (WasGranted h.world.next)
 unfolding passes pair
 out_granted sh h r c d k (Skip t) cl dl e g =
-    resolved_granted sh h r c d t cl dl (flies (Resolves t) (h.world.net (Core c) (Dir d)) k (Skip t) e (same t))
+    resolved_granted sh h r c d t cl dl (flies (Resolves t) (h.world.net (Core c) (Dir d)) k (Skip t) e (eq-self t))
 out_granted sh h r c d k (Abort t) cl dl e g =
-    resolved_granted sh h r c d t cl dl (flies (Resolves t) (h.world.net (Core c) (Dir d)) k (Abort t) e (same t))
+    resolved_granted sh h r c d t cl dl (flies (Resolves t) (h.world.net (Core c) (Dir d)) k (Abort t) e (eq-self t))
 out_granted sh h r c d k (Commit t n) cl dl e g =
-    resolved_granted sh h r c d t cl dl (flies (Resolves t) (h.world.net (Core c) (Dir d)) k (Commit t n) e (same t))
+    resolved_granted sh h r c d t cl dl (flies (Resolves t) (h.world.net (Core c) (Dir d)) k (Commit t n) e (eq-self t))
 out_granted sh h r c d k (Probe t) cl dl e g = granted_to sh h r c t ((r.carried.probes_are_of_tids_already_taken c d t
-    (omega (arith, flies (Probes t) (h.world.net (Core c) (Dir d)) k (Probe t) e (same t)))).0)
+    (omega (arith, flies (Probes t) (h.world.net (Core c) (Dir d)) k (Probe t) e (eq-self t)))).0)
 out_granted sh h r c d k (Mark l m t) cl dl e g = granted_to sh h r c t (r.carried.marks_sent_are_in_flight_or_handled.0 c d t
-    (flies (Marks t) (h.world.net (Core c) (Dir d)) k (Mark l m t) e (same t)))
+    (flies (Marks t) (h.world.net (Core c) (Dir d)) k (Mark l m t) e (eq-self t)))
 out_granted sh h r c d k (LoadReq l a) cl dl e g = tt
 out_granted sh h r c d k (WriteBack l m ws u) cl dl e g = tt
 out_granted sh h r c d k (Flush l m ws u) cl dl e g = tt
@@ -143,7 +141,7 @@ inv_granted sh h r c d k l m t cl dl e = (let s = r.fits.serves d in omega (arit
     marked : has_mark (h.world.dirs d).lines l ≡ true
     marked = go (has_mark (h.world.dirs d).lines l) (omega (
       arith,
-      flies (InvOf l) link k (Inv l m t) e (same l),
+      flies (InvOf l) link k (Inv l m t) e (eq-self l),
       (r.carried.inv_and_ack_name_a_marked_line c d l cl dl).one,
     ))
       where
@@ -159,7 +157,7 @@ pub back_granted : (sh : Shape) (h : History) (r : Reached sh h) (c d k : ℕ) (
     → in_flight h.world.net (Dir d) (Core c) k ≡ Some m → goes_to_core m ≡ true → IfSome (tid_named m) (WasGranted h.world.next)
 unfolding passes pair
 back_granted sh h r c d k (ProbeReply t s) cl dl e g = granted_to sh h r c t ((r.carried.probes_are_of_tids_already_taken c d t
-    (omega (arith, flies (Replies t) (h.world.net (Dir d) (Core c)) k (ProbeReply t s) e (same t)))).0)
+    (omega (arith, flies (Replies t) (h.world.net (Dir d) (Core c)) k (ProbeReply t s) e (eq-self t)))).0)
 back_granted sh h r c d k (Inv l m t) cl dl e g = inv_granted sh h r c d k l m t cl dl e
 back_granted sh h r c d k (Fill l ws) cl dl e g = tt
 back_granted sh h r c d k (DataReq l) cl dl e g = tt
@@ -169,4 +167,4 @@ pub grant_granted : (sh : Shape) (h : History) (r : Reached sh h) (c k t : ℕ)
     → in_flight h.world.net Vendor (Core c) k ≡ Some (TidGrant t) → WasGranted h.world.next t
 unfolding passes holder pair
 grant_granted sh h r c k t e = granted_to sh h r c t (r.owners.held c 0 t
-    (omega (arith, flies (Grants t) (h.world.net Vendor (Core c)) k (TidGrant t) e (same t))))
+    (omega (arith, flies (Grants t) (h.world.net Vendor (Core c)) k (TidGrant t) e (eq-self t))))

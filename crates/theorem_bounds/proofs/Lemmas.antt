@@ -4,3 +4,4 @@ pub use Rattle.theorem_bounds.proofs.Bounded.{kept_in_frames, runs_are_bounded}
 pub use Rattle.theorem_bounds.proofs.Counted.{finishes, marked_read, none, rolled, weak}
 pub use Rattle.theorem_bounds.proofs.Ends.{Between, fits_out, fits_back}
 pub use Rattle.theorem_bounds.proofs.Riscv.{riscv_runs_are_bounded}
+pub use Rattle.theorem_bounds.proofs.Outside.{sent-length}

@@ -83,7 +83,7 @@ link-inside sh (Some x ∷ l) zero m z e = let h : x ≡ m = cc in rw (← h) (g
 link-inside sh (None ∷ l) (suc k) m z e = link-inside sh l k m z e
 link-inside sh (Some x ∷ l) (suc k) m z e = link-inside sh l k m (omega arith) e
 
-sent-length : (ms : List Msg) → length (sent_all ms) ≡ length ms
+pub sent-length : (ms : List Msg) → length (sent_all ms) ≡ length ms
 unfolding sent_all
 sent-length [] = refl
 sent-length (m ∷ ms) = omega (arith, sent-length ms)

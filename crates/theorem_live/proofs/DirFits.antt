@@ -4,6 +4,7 @@ use Rattle.std.specs.Prelude.{if◌then◌else◌}
 use Rattle.std.specs.List.{flat_map}
 use Rattle.std.proofs.Common.{arith, refl}
 use Rattle.std.proofs.lemmas.Bool.Decides.{nat_tests}
+use Rattle.base_lemmas.proofs.Lemmas.{those-empty}
 use Rattle.rules_maps.specs.Words.{those, count_below}
 use Rattle.rules_maps.specs.Judge.{Judgement, judge, Current, Outdated, TooEarly}
 use Rattle.rules_maps.specs.Lines.{Lines, with_sharer, with_owner, with_asked, with_mark, unmarked, has_mark}
@@ -19,7 +20,6 @@ use Rattle.rules_tcc.specs.DirDeliver.{invalidation_count, owned_by_committer, m
 use Rattle.rules_tcc.specs.DirDeliver.{acknowledgement, came_home, judged, write_back, dir_deliver}
 use Rattle.rules_tcc.specs.Sends.{Sends, nothing}
 use Rattle.rules_tcc.specs.State.{DirState}
-use Rattle.theorem_serial.proofs.Lemmas.{those-none}
 use Rattle.theorem_live.proofs.Strays.{strays, AllFit, strays-none, strays-flat, back_fits, fit-nothing, fit-to}
 
 -- owners are cores of the machine, and a TID is served
@@ -134,7 +134,7 @@ invalidates sh d ls c t i (Core j) = go (nat_lt j sh.cores) refl
     go true e = strays-flat sh (Dir d) (Core j) (λ l. Inv l (ls.mark l) t ∷ [])
         (λ l. back_fits sh j d (Inv l (ls.mark l) t) (grind (arith, nat_tests)) i refl) (those (is_invalidated sh ls c j) (lines sh))
     go false e = let z : those (is_invalidated sh ls c j) (lines sh) ≡ [] =
-        those-none (is_invalidated sh ls c j) (lines sh) (λ l. rw e refl) in rw z (strays-none sh (Dir d) (Core j))
+        those-empty (is_invalidated sh ls c j) (lines sh) (λ l. rw e refl) in rw z (strays-none sh (Dir d) (Core j))
 
 owned-by : (sh : Shape) (c t : ℕ) (s : DirState) (n : ℕ) → c < sh.cores → KeptDir sh s
     → KeptDir sh (record s { lines = owned_by_committer c t s.lines; owed = n })

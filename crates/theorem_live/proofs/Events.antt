@@ -1,5 +1,5 @@
 -- Useful events, from messages in flight and from what their takers do.
-use Rattle.std.specs.Prelude.{ℕ, ◌≡◌, ◌<◌, ◌≤◌, Bool, true, false, Option, Some, None, is_some, nat_lt}
+use Rattle.std.specs.Prelude.{ℕ, ◌≡◌, ◌<◌, ◌≤◌, Bool, true, false, Option, Some, None, is_some}
 use Rattle.std.proofs.Common.{arith, refl, sym, subst, ◌⊎◌, inl, inr}
 use Rattle.std.proofs.lemmas.Bool.Decides.{nat_tests}
 use Rattle.rules_program.specs.Program.{Program}
@@ -21,6 +21,7 @@ use Rattle.theorem_serial.specs.Count.{Kind, Asks as Requests, live, passes}
 use Rattle.theorem_live.specs.Fits.{goes_to_core, is_grant, is_request}
 use Rattle.theorem_live.specs.Progress.{spares, GoesOn, IsPlaced}
 use Rattle.theorem_live.proofs.Found.{back, out, found}
+use Rattle.theorem_serial.proofs.Lemmas.{is-lt}
 
 -- a useful event that is no other core's request for a TID, whichever core asks, and executes none but a core that has a TID
 pub record Moves (sh : Shape) (p : Program) (w : World) : Type 0 where
@@ -39,14 +40,11 @@ goes_on sh p w c m = record {
 
 -- what is enabled
 
-pub below : (a b : ℕ) → a < b → nat_lt a b ≡ true
-below a b h = grind (arith, nat_tests)
-
 some_moved : (w : World) (c : ℕ) (o : Option Out) → is_some o ≡ true → is_some (if_core_moves w c o) ≡ true
 some_moved w c None h = absurd (cc)
 some_moved w c (Some o) h = refl
 
-some_taken : (w : World) (src : Node) (c k : ℕ) (o : Option Out) → is_some o ≡ true → is_some (if_core_takes w src c k o) ≡ true
+pub some_taken : (w : World) (src : Node) (c k : ℕ) (o : Option Out) → is_some o ≡ true → is_some (if_core_takes w src c k o) ≡ true
 some_taken w src c k None h = absurd (cc)
 some_taken w src c k (Some o) h = refl
 
@@ -63,7 +61,8 @@ some_answered w c d k Drops h = refl
 some_answered w c d k (Asks s sends) h = refl
 some_answered w c d k (Takes s sends) h = refl
 
-some_granted : (w : World) (c k : ℕ) (m : Msg) → is_request m ≡ true → is_some (if_vendor_gives w c k (vendor_deliver w.next c m)) ≡ true
+pub some_granted : (w : World) (c k : ℕ) (m : Msg) → is_request m ≡ true
+    → is_some (if_vendor_gives w c k (vendor_deliver w.next c m)) ≡ true
 some_granted w c k TidReq h = refl
 some_granted w c k m h = absurd (cc)
 
@@ -72,7 +71,7 @@ some_granted w c k m h = absurd (cc)
 exec_useful : (sh : Shape) (p : Program) (w : World) (c : ℕ) → c < sh.cores → is_some (core_exec sh p c (w.cores c)) ≡ true
     → is_useful sh p w (Exec c) ≡ true
 unfolding is_useful is_enabled step names_nodes happens
-exec_useful sh p w c l h = rw (below c sh.cores l, some_moved w c (core_exec sh p c (w.cores c)) h) refl
+exec_useful sh p w c l h = rw (is-lt c sh.cores l, some_moved w c (core_exec sh p c (w.cores c)) h) refl
 
 same_core : (c a : ℕ) → Exec c ≡ Exec a → c ≡ a
 same_core c a e = cc
@@ -103,7 +102,7 @@ pub evict_moves : (sh : Shape) (p : Program) (w : World) (c x y : ℕ) → c < s
 unfolding is_useful is_enabled step names_nodes happens
 evict_moves sh p w c x y l i j h u = record {
   event = Evict c x y;
-  is_useful = rw (below c sh.cores l, below x sh.sets i, below y sh.ways j, some_moved w c (core_evict sh x y (w.cores c)) h) (used u);
+  is_useful = rw (is-lt c sh.cores l, is-lt x sh.sets i, is-lt y sh.ways j, some_moved w c (core_evict sh x y (w.cores c)) h) (used u);
   spares = λ j. refl;
   placed = λ a e. absurd (cc);
 }
@@ -123,7 +122,7 @@ pub back_moves : (sh : Shape) (p : Program) (w : World) (d c k : ℕ) (m : Msg) 
 unfolding core_deliver
 back_moves sh p w d c k m i l e h = record {
   event = Deliver (Dir d) (Core c) k;
-  is_useful = delivers sh p w (Dir d) (Core c) k m (below d sh.dirs i) (below c sh.cores l) e
+  is_useful = delivers sh p w (Dir d) (Core c) k m (is-lt d sh.dirs i) (is-lt c sh.cores l) e
       (some_taken w (Dir d) c k (from_dir sh d (w.cores c) m) (some m h));
   spares = λ j. refl;
   placed = λ a e. absurd (cc);
@@ -141,7 +140,7 @@ pub grant_moves : (sh : Shape) (p : Program) (w : World) (c k : ℕ) (m : Msg) �
 unfolding core_deliver
 grant_moves sh p w c k m l e h = record {
   event = Deliver Vendor (Core c) k;
-  is_useful = delivers sh p w Vendor (Core c) k m refl (below c sh.cores l) e
+  is_useful = delivers sh p w Vendor (Core c) k m refl (is-lt c sh.cores l) e
       (some_taken w Vendor c k (from_vendor sh (w.cores c) m) (some m h));
   spares = λ j. refl;
   placed = λ a e. absurd (cc);
@@ -155,7 +154,7 @@ pub out_moves : (sh : Shape) (p : Program) (w : World) (c d k : ℕ) (m : Msg) �
     → in_flight w.net (Core c) (Dir d) k ≡ Some m → is_answer (dir_deliver sh (w.dirs d) c m) ≡ true → Moves sh p w
 out_moves sh p w c d k m l i e h = record {
   event = Deliver (Core c) (Dir d) k;
-  is_useful = delivers sh p w (Core c) (Dir d) k m (below c sh.cores l) (below d sh.dirs i) e
+  is_useful = delivers sh p w (Core c) (Dir d) k m (is-lt c sh.cores l) (is-lt d sh.dirs i) e
       (some_answered w c d k (dir_deliver sh (w.dirs d) c m) h);
   spares = λ j. refl;
   placed = λ a e. absurd (cc);
@@ -164,7 +163,7 @@ out_moves sh p w c d k m l i e h = record {
 -- a core's own request for a TID, or that of any core
 pub ask_useful : (sh : Shape) (p : Program) (w : World) (c k : ℕ) (m : Msg) → c < sh.cores → in_flight w.net (Core c) Vendor k ≡ Some m
     → is_request m ≡ true → is_useful sh p w (Deliver (Core c) Vendor k) ≡ true
-ask_useful sh p w c k m l e h = delivers sh p w (Core c) Vendor k m (below c sh.cores l) refl e (some_granted w c k m h)
+ask_useful sh p w c k m l e h = delivers sh p w (Core c) Vendor k m (is-lt c sh.cores l) refl e (some_granted w c k m h)
 
 -- the same, from counts
 

@@ -19,10 +19,10 @@ use Rattle.theorem_serial.specs.Copies.{stored_there}
 use Rattle.theorem_serial.specs.Count.{Probes, Replies, LoadOf, FillOf, live, passes}
 use Rattle.theorem_serial.specs.Marks.{marks_of, has_marked}
 use Rattle.theorem_serial.specs.OneCore.{awaits_replies}
-use Rattle.theorem_serial.specs.Owners.{holder, times}
+use Rattle.theorem_serial.specs.Owners.{times}
 use Rattle.theorem_serial.specs.Pairs.{pair}
 use Rattle.theorem_serial.specs.Tids.{has_tid, opens}
-use Rattle.theorem_serial.proofs.Lemmas.{total-le, some-part, num-one, numbered-least, last-most, granted-at, times-listed}
+use Rattle.theorem_serial.proofs.Lemmas.{total-le, some-part, num-one, numbered-least, last-most, granted-at, times-listed, own-holder}
 use Rattle.theorem_live.specs.Fits.{goes_to_core}
 use Rattle.theorem_live.proofs.Events.{Moves, is_answer, exec_moves, back_counted, out_counted}
 use Rattle.theorem_live.proofs.Least.{IsLeast, least}
@@ -68,10 +68,6 @@ probing sh p h c t k reach l q a = go d.0 (d.1) (d.2) (live (Replies t) (back h.
 
 -- what a core's last commit at a directory was
 
-tid_held : (w : World) (c d t : ℕ) → has_tid (w.cores c).phase t ≡ true → 1 ≤ holder t (pair w c d)
-unfolding holder pair
-tid_held w c d t q = let n : num (has_tid (w.cores c).phase t) ≡ 1 = rw q refl in omega arith
-
 stored_by : (sh : Shape) (c d : ℕ) (x : Noted) → stored_there sh c d x ≡ true → x.core.0 ≡ c
 unfolding stored_there
 stored_by sh c d x q = grind (arith, nat_tests)
@@ -109,7 +105,7 @@ after_held sh p h c d t k l i q = omega (
 )
   where
     granted : Contains k.grants (record { tid = t; core = c }) × (times t h.commits ≡ 0)
-    granted = k.carried.live_tid_is_granted_to_its_core c d t l (tid_held h.world c d t q)
+    granted = k.carried.live_tid_is_granted_to_its_core c d t l (own-holder h.world c d t q)
 
     first : 1 ≤ t
     first = numbered-least 1 k.grants (record { tid = t; core = c }) (k.carried.granted_tids_are_those_below_next.0) (granted.0)
@@ -127,7 +123,7 @@ after_held sh p h c d t k l i q = omega (
         go (inl b) = omega arith
         go (inr b) = absurd (other x m (omega (
           arith,
-          k.carried.live_tid_is_the_last_granted_to_its_core c d t x.tid.0 (tid_held h.world c d t q) its,
+          k.carried.live_tid_is_the_last_granted_to_its_core c d t x.tid.0 (own-holder h.world c d t q) its,
         )))
 
 -- loads
@@ -245,7 +241,7 @@ least_moves sh p h t k x = let a = some_core sh h.world t x.some in
 -- a TID that a core has was granted
 held_granted : (sh : Shape) (p : Program) (h : History) (t : ℕ) → Reached sh p h → IsHeld sh h.world t → t < h.world.next
 held_granted sh p h t k a =
-    granted_below sh p h a.core t k ((k.carried.live_tid_is_granted_to_its_core a.core 0 t a.below (tid_held h.world a.core 0 t a.has)).0)
+    granted_below sh p h a.core t k ((k.carried.live_tid_is_granted_to_its_core a.core 0 t a.below (own-holder h.world a.core 0 t a.has)).0)
 
 -- either something can go on, or no core has a TID and every directory serves the vendor's next or is beyond it
 pub record NoneHeld (sh : Shape) (p : Program) (w : World) : Type 0 where

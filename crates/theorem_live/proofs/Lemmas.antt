@@ -1,4 +1,5 @@
 -- What other crates may cite: the laws, and that a core executes or waits for room in a set where some frame can be emptied.
 pub use Rattle.theorem_live.proofs.FitSteps.{links_fit}
 pub use Rattle.theorem_live.proofs.Room.{Emptied, Wants, WantsSome, emptied, exec-or}
-pub use Rattle.theorem_live.proofs.Stuck.{no_state_is_stuck, each_core_goes_on, picked_ends_done}
+pub use Rattle.theorem_live.proofs.Stuck.{no_state_is_stuck, each_core_goes_on, picked_ends_done, halted-or}
+pub use Rattle.theorem_live.proofs.Events.{some_granted, some_taken}

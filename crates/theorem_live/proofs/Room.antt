@@ -1,15 +1,15 @@
 -- Exec or room: a core that executes and awaits no line can execute, or it waits for room in a set where some frame can be emptied.
-use Rattle.std.specs.Prelude.{ℕ, zero, suc, ◌≡◌, ◌<◌, ◌≤◌, Bool, true, false, not, ◌||◌, Option, Some, None, is_some}
+use Rattle.std.specs.Prelude.{ℕ, ◌≡◌, ◌<◌, ◌≤◌, Bool, true, false, not, ◌||◌, Option, Some, None, is_some}
 use Rattle.std.proofs.Common.{arith, refl, ◌⊎◌, inl, inr}
 use Rattle.std.proofs.lemmas.Bool.Decides.{nat_tests}
 use Rattle.tcc_base.specs.declared.access.Size.TheVariants.{Byte, Half, Word}
 use Rattle.rules_program.specs.Program.{Need, Nothing, Loads, Stores, Changes, Prints, Ends, Halts, Traps, Program}
 use Rattle.rules_program.specs.Ram.{word_of}
-use Rattle.rules_maps.specs.Words.{line_of, all_below, lowest}
+use Rattle.rules_maps.specs.Words.{line_of, lowest}
 use Rattle.rules_maps.specs.Shape.{Shape, set_of}
 use Rattle.rules_maps.specs.Cache.{Cache, free_way, way_marked, all_marked, is_marked}
 use Rattle.rules_maps.specs.Spilled.{holds}
-use Rattle.rules_maps.proofs.Lemmas.{LowestIs, lowest-is}
+use Rattle.rules_maps.proofs.Lemmas.{LowestIs, lowest-is, all_below-fails}
 use Rattle.rules_tcc.specs.State.{CoreState, Awaited, Phase, Running, Solo, World}
 use Rattle.rules_tcc.specs.Attempt.{is_solo}
 use Rattle.rules_tcc.specs.CoreEvict.{core_evict}
@@ -133,15 +133,6 @@ exec-or sh p c s x a = in_phase s.phase x
 
 -- some frame of the set can be emptied
 
-unmarked-way : (q : ℕ → Bool) (n : ℕ) → all_below q n ≡ false → (k : ℕ) × (k < n) × (q k ≡ false)
-unfolding all_below
-unmarked-way q zero h = absurd (cc)
-unmarked-way q (suc n) h = go (q n) refl (λ a. unmarked-way q n a)
-  where
-    go : (b : Bool) → q n ≡ b → (all_below q n ≡ false → (k : ℕ) × (k < n) × (q k ≡ false)) → (k : ℕ) × (k < suc n) × (q k ≡ false)
-    go false e f = (n, omega arith, e)
-    go true e f = let r = f (grind (arith, nat_tests)) in (r.0, omega (arith, r.1), r.2)
-
 -- where no way is free each holds a line
 taken-way : (sh : Shape) (c : Cache) (x y : ℕ) → is_some (free_way sh c x) ≡ false → y < sh.ways → is_some (c.at x y) ≡ true
 unfolding free_way
@@ -181,7 +172,7 @@ emptied sh l s r n a v = go (is_solo s.phase) refl
     go true e = record { way = 0; below = n; evicts = evicts sh x 0 s a (taken-way sh s.cache x 0 v.full n) (inl e) }
     go false e =
         let m : all_marked sh s.cache x ≡ false = (let q = v.loose in grind (arith, nat_tests)) in
-        let w = unmarked-way (λ y. way_marked s.cache (s.cache.at x y)) sh.ways m in
+        let w = all_below-fails (λ y. way_marked s.cache (s.cache.at x y)) sh.ways m in
         record { way = w.0; below = w.1; evicts = evicts sh x w.0 s a (taken-way sh s.cache x w.0 v.full (w.1)) (inr (w.2)) }
 
 pub room_moves : (sh : Shape) (p : Program) (w : World) (c : ℕ) → IsEquipped sh p → c < sh.cores → executes (w.cores c).phase ≡ true

@@ -12,7 +12,7 @@ use Rattle.rules_tcc.specs.Links.{sent_all, sending, taking}
 use Rattle.rules_tcc.specs.Sends.{Sends, nothing, to, then_send, to_dirs, when}
 use Rattle.rules_tcc.proofs.Lemmas.{node_eq-eq}
 use Rattle.theorem_live.specs.Fits.{goes_to_core, goes_to_dir, fits}
-use Rattle.theorem_live.proofs.Events.{below}
+use Rattle.theorem_serial.proofs.Lemmas.{is-lt}
 
 -- among messages that are sent, and on a link
 pub strays : Shape → (src dst : Node) → List Msg → ℕ
@@ -115,20 +115,20 @@ strays-when sh s d false ms h = strays-none sh s d
 pub out_fits : (sh : Shape) (c d : ℕ) (m : Msg) → c < sh.cores → d < sh.dirs → goes_to_dir m ≡ true
     → strays sh (Core c) (Dir d) (m ∷ []) ≡ 0
 unfolding fits
-out_fits sh c d m l i g = strays-one sh (Core c) (Dir d) m (rw (below c sh.cores l, below d sh.dirs i, g) refl)
+out_fits sh c d m l i g = strays-one sh (Core c) (Dir d) m (rw (is-lt c sh.cores l, is-lt d sh.dirs i, g) refl)
 
 pub back_fits : (sh : Shape) (c d : ℕ) (m : Msg) → c < sh.cores → d < sh.dirs → goes_to_core m ≡ true
     → strays sh (Dir d) (Core c) (m ∷ []) ≡ 0
 unfolding fits
-back_fits sh c d m l i g = strays-one sh (Dir d) (Core c) m (rw (below c sh.cores l, below d sh.dirs i, g) refl)
+back_fits sh c d m l i g = strays-one sh (Dir d) (Core c) m (rw (is-lt c sh.cores l, is-lt d sh.dirs i, g) refl)
 
 pub ask_fits : (sh : Shape) (c : ℕ) → c < sh.cores → strays sh (Core c) Vendor (TidReq ∷ []) ≡ 0
 unfolding fits
-ask_fits sh c l = strays-one sh (Core c) Vendor TidReq (rw (below c sh.cores l) refl)
+ask_fits sh c l = strays-one sh (Core c) Vendor TidReq (rw (is-lt c sh.cores l) refl)
 
 pub grant_fits : (sh : Shape) (c t : ℕ) → c < sh.cores → strays sh Vendor (Core c) (TidGrant t ∷ []) ≡ 0
 unfolding fits
-grant_fits sh c t l = strays-one sh Vendor (Core c) (TidGrant t) (rw (below c sh.cores l) refl)
+grant_fits sh c t l = strays-one sh Vendor (Core c) (TidGrant t) (rw (is-lt c sh.cores l) refl)
 
 -- where it goes
 

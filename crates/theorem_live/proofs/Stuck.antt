@@ -48,7 +48,7 @@ none_useful sh p w z e u = in_none ((useful-holds sh p w e).1 u)
     in_none : IsIn e (useful sh p w) → ⊥
     in_none i = (rw z at i)
 
-halted-or : (q : Phase) → (q ≡ Halted) ⊎ (q ≢ Halted)
+pub halted-or : (q : Phase) → (q ≡ Halted) ⊎ (q ≢ Halted)
 halted-or Halted = inl refl
 halted-or q = inr (λ e. absurd (cc))
 

@@ -1,26 +1,18 @@
 -- The RISC-V machines are equipped for their programs, and so no state of them is stuck.
-use Rattle.std.specs.Prelude.{ℕ, ◌≡◌, ◌≤◌, IsTrue}
-use Rattle.std.specs.Int.{is_power_of_two}
-use Rattle.std.specs.Int.RustNames.{count_ones}
-use Rattle.std.proofs.Common.{arith}
-use Rattle.std.proofs.lemmas.Bool.Decides.{nat_tests}
-use Rattle.std.proofs.lemmas.Nat.{ones_le_self}
 use Rattle.image_load.specs.Start.{Start}
 use Rattle.rv_code.specs.Machine.{program, first_ram}
 use Rattle.tcc_base.specs.Settings.{IsAllowed}
+use Rattle.base_lemmas.proofs.Lemmas.{power-positive}
 use Rattle.theorem_live.specs.Progress.{IsEquipped}
 use Rattle.theorem_live.proofs.Lemmas.{no_state_is_stuck, each_core_goes_on, picked_ends_done}
 use Rattle.theorem_riscv.specs.Going.{RiscvNeverStuck, RiscvCoresGoOn, RiscvPickedEndsDone}
 use Rattle.theorem_riscv.specs.Suiting.{local_at_start}
 use Rattle.theorem_riscv.proofs.Needs.{needs-inside}
 
-positive : (n : ℕ) → IsTrue (is_power_of_two n) → 1 ≤ n
-positive n h = let e : count_ones n ≡ 1 = grind (arith, nat_tests) in omega (arith, ones_le_self n)
-
-equipped : (s : Start) → IsAllowed s.settings → IsEquipped s.settings (program s)
+pub equipped : (s : Start) → IsAllowed s.settings → IsEquipped s.settings (program s)
 equipped s k = let (cores, dirs, sets, ways, ram, base) = k in record {
   dirs = dirs.0;
-  sets = positive s.settings.sets (sets.0);
+  sets = power-positive s.settings.sets (sets.0);
   ways = ways.0;
   inside = needs-inside s (ram.2);
 }

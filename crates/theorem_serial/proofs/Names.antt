@@ -82,7 +82,7 @@ pub use Rattle.rules_tcc.specs.Step.{History, and_noted, Stepped, recorded, and_
 pub use Rattle.rules_tcc.specs.Step.{if_core_takes, answered}
 unfoldable pub use Rattle.rules_tcc.specs.Step.{core_moves, step, core_takes, dir_takes, dir_asks, vendor_gives, insert_commit, run}
 unfoldable pub use Rattle.rules_tcc.specs.Step.{next_history, run_from, happens, names_nodes}
-pub use Rattle.theorem_attempt.proofs.Lemmas.{hit-line, hit-reads, valid-held, attempts-fit, patched-small, start-follows}
+pub use Rattle.theorem_attempt.proofs.Lemmas.{hit-reads, attempts-fit, patched-small, start-follows}
 pub use Rattle.theorem_attempt.specs.Follows.{Uses, Agrees, Reaches, FollowsIn, HasEnded, IsSmall, NeedFits, used_by, EndFits, Fits}
 pub use Rattle.theorem_attempt.specs.Follows.{used_at}
 pub use Rattle.theorem_attempt.specs.Follows.{used_in}

@@ -5,6 +5,7 @@ use Rattle.std.specs.List.{count_by}
 use Rattle.std.specs.Prelude.{slice_set, slice_index_or}
 use Rattle.std.proofs.lemmas.Bool.Decides.{nat_tests}
 use Rattle.std.proofs.lemmas.List.Sums.{sum_by-cons}
+use Rattle.base_lemmas.proofs.Lemmas.{node_eq-sym}
 use Rattle.rules_maps.specs.Nodes.{Node, Core, Msg, Event, Exec, Evict, Deliver, node_eq}
 use Rattle.rules_maps.specs.Shape.{Shape}
 use Rattle.rules_program.specs.Program.{Program}
@@ -18,7 +19,6 @@ use Rattle.watch.specs.Happened.{acted, facts_of, happened}
 use Rattle.trace_law.specs.Sent.{ConsumedOnce, NothingSent, is_delivery, consumes, is_gone}
 use Rattle.trace_law.specs.Told.{Told, if_enabled, told, begun}
 use Rattle.trace_law.proofs.Events.{consumed_by, event-consumed}
-use Rattle.trace_law.proofs.Grown.{eq-sym}
 use Rattle.trace_law.proofs.Links.{gone_in, gone-sent, gone-set}
 use Rattle.trace_law.proofs.Outcomes.{Alone, Outcome, Happens, leaves, left, step-outcome}
 
@@ -55,8 +55,8 @@ gone-left true net src dst k m s d j e = go (node_eq s src) (node_eq d dst) refl
         → cond (gone_in (if x && y then slice_set (net s d) k None else net s d) j) 1 0
         ≡ cond (is_delivery s d j (Deliver src dst k) && true) 1 0 + cond (gone_in (net s d) j) 1 0
     go true true f g =
-        let first : node_eq src s ≡ true = eq-sym src s ∙ f in
-        let second : node_eq dst d ≡ true = eq-sym dst d ∙ g in
+        let first : node_eq src s ≡ true = node_eq-sym src s ∙ f in
+        let second : node_eq dst d ≡ true = node_eq-sym dst d ∙ g in
         let third : (k == j) ≡ (j == k) = grind (arith, nat_tests) in
         let here : slice_index_or (net s d) k None ≡ Some m =
         subst (λ n. slice_index_or (net n d) k None ≡ Some m) (sym (node_eq-eq s src f))
@@ -69,10 +69,10 @@ gone-left true net src dst k m s d j e = go (node_eq s src) (node_eq d dst) refl
         with-true true q = q
         with-true false q = q
     go true false f g =
-        let second : node_eq dst d ≡ false = eq-sym dst d ∙ g in
+        let second : node_eq dst d ≡ false = node_eq-sym dst d ∙ g in
         none (grind (arith, nat_tests, second))
     go false y f g =
-        let first : node_eq src s ≡ false = eq-sym src s ∙ f in
+        let first : node_eq src s ≡ false = node_eq-sym src s ∙ f in
         none (grind (arith, nat_tests, first))
 
 -- ---- an event

@@ -3,10 +3,10 @@ use Rattle.std.proofs.Common.{◌≡◌, ◌+◌, ◌⊎◌, ℕ, zero, suc, Boo
 use Rattle.std.proofs.Common.{◌&&◌, if◌then◌else◌, length, drop, refl, sym, ap, subst, ◌∙◌, inl, inr, arith}
 use Rattle.std.specs.List.{flat_map, Contains}
 use Rattle.std.specs.Prelude.{slice_index_or}
-use Rattle.std.proofs.lemmas.Bool.Decides.{nat_tests}
 use Rattle.std.proofs.lemmas.List.{append-nil, append_assoc}
 use Rattle.std.proofs.lemmas.List.Elements.{Contains-append_right}
-use Rattle.rules_maps.specs.Nodes.{Node, Core, Dir, Vendor, Msg, node_eq}
+use Rattle.base_lemmas.proofs.Lemmas.{drop-front, node_eq-refl, node_eq-sym}
+use Rattle.rules_maps.specs.Nodes.{Node, Msg, node_eq}
 use Rattle.rules_maps.specs.Shape.{Shape}
 use Rattle.rules_tcc.specs.Laws.{counting}
 use Rattle.rules_tcc.specs.Links.{in_flight, sent_all, sending}
@@ -18,24 +18,8 @@ use Rattle.rules_tcc.proofs.Lemmas.{node_eq-eq}
 use Rattle.watch.specs.Facts.{Fact, Sent}
 use Rattle.watch.specs.Happened.{numbered, sent_to, sent}
 use Rattle.trace_law.specs.Sent.{number_in, numbers_in}
-use Rattle.trace_law.proofs.Links.{length-sent, behind, counting-more, in-sent}
+use Rattle.trace_law.proofs.Links.{length-sent, counting-more, in-sent}
 use Rattle.trace_law.proofs.Nodes.{where_so, node-once, node-gives}
-
-pub eq-self : (n : Node) → node_eq n n ≡ true
-eq-self (Core c) = grind (arith, nat_tests)
-eq-self (Dir d) = grind (arith, nat_tests)
-eq-self Vendor = refl
-
-pub eq-sym : (a b : Node) → node_eq a b ≡ node_eq b a
-eq-sym (Core c) (Core d) = grind (arith, nat_tests)
-eq-sym (Core c) (Dir d) = refl
-eq-sym (Core c) Vendor = refl
-eq-sym (Dir c) (Core d) = refl
-eq-sym (Dir c) (Dir d) = grind (arith, nat_tests)
-eq-sym (Dir c) Vendor = refl
-eq-sym Vendor (Core d) = refl
-eq-sym Vendor (Dir d) = refl
-eq-sym Vendor Vendor = refl
 
 -- node a acted: links that were left, with what it sent at their end
 pub record Grown (w v : World) (a : Node) : Type 0 where
@@ -47,7 +31,7 @@ pub record Grown (w v : World) (a : Node) : Type 0 where
 
 -- its own links after it
 own-link : (w v : World) (a d : Node) (g : Grown w v a) → v.net a d ≡ g.links a d ++ sent_all (g.sends d)
-own-link w v a d g = ap (λ n. n a d) g.grown ∙ go (node_eq a a) (eq-self a)
+own-link w v a d g = ap (λ n. n a d) g.grown ∙ go (node_eq a a) (node_eq-refl a)
   where
     go : (b : Bool) → b ≡ true → (if b then g.links a d ++ sent_all (g.sends d) else g.links a d) ≡ g.links a d ++ sent_all (g.sends d)
     go true e = refl
@@ -65,7 +49,7 @@ other-link w v a s d g e = ap (λ n. n s d) g.grown ∙ go (node_eq s a) e
 new-part : (w v : World) (a d : Node) (g : Grown w v a) → drop (length (w.net a d)) (v.net a d) ≡ sent_all (g.sends d)
 new-part w v a d g =
     ap (λ l. drop (length (w.net a d)) l) (own-link w v a d g)
-    ∙ behind (w.net a d) (g.links a d) (sent_all (g.sends d)) (g.long a d)
+    ∙ drop-front (w.net a d) (g.links a d) (sent_all (g.sends d)) (g.long a d)
 
 -- ---- the numbers that are told
 
@@ -152,7 +136,7 @@ numbers-grown sh w v a s d g node =
         ap (λ k. counting 0 (length (w.net s d)) ++ counting k (length (g.sends d))) old
         ∙ sym (counting-more 0 (length (w.net s d)) (length (g.sends d))) ∙ ap (counting 0) all
     go false e =
-        let apart : node_eq s a ≡ false = eq-sym s a ∙ e in
+        let apart : node_eq s a ≡ false = node_eq-sym s a ∙ e in
         let all : length (w.net s d) ≡ length (v.net s d) = omega (arith, ap length (other-link w v a s d g apart), g.long s d) in
         append-nil (counting 0 (length (w.net s d))) ∙ ap (counting 0) all
 

@@ -1,6 +1,6 @@
 -- One link: what is on it once messages are sent at its end, and once one is consumed.
 use Rattle.std.proofs.Common.{◌≡◌, ◌==◌, ◌+◌, ◌⊎◌, ℕ, zero, suc, Bool, false, not, List, [], ◌∷◌, ◌++◌, Some, None}
-use Rattle.std.proofs.Common.{nat_lt, ◌&&◌, is_some, cond, length, drop, refl, ap, ◌∙◌, inl, inr, arith}
+use Rattle.std.proofs.Common.{nat_lt, ◌&&◌, is_some, cond, length, refl, ap, ◌∙◌, inl, inr, arith}
 use Rattle.std.specs.Prelude.{slice_set, slice_index_or}
 use Rattle.std.proofs.lemmas.Bool.Decides.{nat_tests}
 use Rattle.rules_maps.specs.Nodes.{Msg}
@@ -18,13 +18,6 @@ pub length-set : (l : Link) (i : ℕ) → length (slice_set l i None) ≡ length
 length-set [] i = refl
 length-set (x ∷ xs) zero = refl
 length-set (x ∷ xs) (suc i) = ap (λ n. suc n) (length-set xs i)
-
--- what follows as many elements as there were
-pub behind : {X : Type 0} (l l' ys : List X) → length l' ≡ length l → drop (length l) (l' ++ ys) ≡ ys
-behind [] [] ys e = refl
-behind [] (x ∷ xs) ys e = absurd (omega (arith, e))
-behind (y ∷ l) [] ys e = absurd (omega (arith, e))
-behind (y ∷ l) (x ∷ xs) ys e = behind l xs ys (omega (arith, e))
 
 -- the numbers of one list, and of what follows it
 pub counting-more : (a n m : ℕ) → counting a (n + m) ≡ counting a n ++ counting (a + n) m

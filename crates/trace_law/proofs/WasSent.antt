@@ -1,10 +1,11 @@
 -- What is told to be taken, dropped or to have made a directory ask was told to be sent before.
-use Rattle.std.proofs.Common.{◌≡◌, ◌⊎◌, ℕ, zero, suc, Bool, true, false, List, [], ◌∷◌, ◌++◌, Option, Some, None, IfSome, ◌&&◌}
+use Rattle.std.proofs.Common.{◌≡◌, ◌⊎◌, ℕ, zero, suc, true, List, [], ◌∷◌, ◌++◌, Option, Some, None, IfSome}
 use Rattle.std.proofs.Common.{refl, sym, ap, subst, ◌∙◌, inl, inr, arith}
 use Rattle.std.specs.List.{Contains}
 use Rattle.std.specs.Prelude.{slice_index_or}
 use Rattle.std.proofs.lemmas.List.{append_assoc}
 use Rattle.std.proofs.lemmas.List.Elements.{Contains-append_left, Contains-append_right}
+use Rattle.base_lemmas.proofs.Lemmas.{and-right}
 use Rattle.rules_maps.specs.Nodes.{Node, Msg, Event, Deliver}
 use Rattle.rules_maps.specs.Shape.{Shape}
 use Rattle.rules_program.specs.Program.{Program}
@@ -77,10 +78,6 @@ hears-heard : (m : Msg) (fs : List Fact) → Hears m fs → Contains (all_heard 
 hears-heard m fs (inl i) = contains-heard (Took m) m fs refl i
 hears-heard m fs (inr (inl i)) = contains-heard (Dropped m) m fs refl i
 hears-heard m fs (inr (inr i)) = contains-heard (AskedOwner m) m fs refl i
-
-and-right : (a b : Bool) → (a && b) ≡ true → b ≡ true
-and-right true b e = e
-and-right false b e = absurd cc
 
 names-dst : (sh : Shape) (src dst : Node) (k : ℕ) → names_nodes sh (Deliver src dst k) ≡ true → is_node sh dst ≡ true
 unfolding names_nodes

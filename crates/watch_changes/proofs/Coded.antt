@@ -4,6 +4,7 @@ use Rattle.std.proofs.Common.{IsTrue, ◌↔◌, refl, ap, sym, ◌∙◌, arith
 use Rattle.std.specs.Int.{bit_at}
 use Rattle.std.proofs.lemmas.Bool.Decides.{nat_tests}
 use Rattle.std.proofs.lemmas.Nat.Bits.{bit_at-lt, same_from_bits_below}
+use Rattle.base_lemmas.proofs.Lemmas.{eq-true}
 use Rattle.rules_maps.specs.Masks.{has}
 use Rattle.rules_maps.specs.Words.{those}
 use Rattle.watch_state.specs.Records.{Frame, Holds}
@@ -80,9 +81,6 @@ set-same a b small tiny e = same_from_bits_below 64 a b small tiny (λ k h. bit 
 
 -- ---- the code's tests are those of the definitions
 
-same-test : (a b : ℕ) → a ≡ b → (a == b) ≡ true
-same-test a b q = grind (arith, nat_tests)
-
 pub set-test : (a b : ℕ) → a < 2 ^ 64 → b < 2 ^ 64 → (a == b) ≡ alike (those (has a) 64) (those (has b) 64)
 set-test a b small tiny = go (a == b) refl (alike (those (has a) 64) (those (has b) 64)) refl
   where
@@ -92,7 +90,7 @@ set-test a b small tiny = go (a == b) refl (alike (those (has a) 64) (those (has
     go true e false q =
         let one : a ≡ b = grind (arith, nat_tests) in
         sym (alike-self (those (has a) 64)) ∙ ap (λ k. alike (those (has a) 64) (those (has k) 64)) one ∙ q
-    go false e true q = sym e ∙ same-test a b (set-same a b small tiny (alike-is (those (has a) 64) (those (has b) 64) q))
+    go false e true q = sym e ∙ eq-true a b (set-same a b small tiny (alike-is (those (has a) 64) (those (has b) 64) q))
 
 pub equal-test : (xs ys : List ℕ) (r : Bool) → (IsTrue r ↔ (xs ≡ ys)) → r ≡ alike xs ys
 equal-test xs ys true h = sym (alike-self xs) ∙ ap (λ zs. alike xs zs) (h.0 refl)

@@ -2,7 +2,8 @@
 use Rattle.std.proofs.Common.{◌≡◌, ℕ, suc, ◌<◌, ◌==◌, ◌||◌, Bool, true, false, List, [], ◌∷◌, ◌++◌, Option, Some, None, refl, ap, sym}
 use Rattle.std.proofs.Common.{◌∙◌, arith}
 use Rattle.std.specs.List.{flat_map}
-use Rattle.rules_maps.specs.Cache.{Cache, is_marked, way_marked}
+use Rattle.base_lemmas.proofs.Lemmas.{neither, none_below}
+use Rattle.rules_maps.specs.Cache.{Cache, way_marked}
 use Rattle.rules_maps.specs.CacheUse.{is_number}
 use Rattle.rules_maps.specs.Shape.{Shape, lines, set_of}
 use Rattle.rules_maps.specs.Words.{any_below, those}
@@ -15,7 +16,7 @@ use Rattle.watch_state.specs.Records.{Frame, Record, Holds}
 use Rattle.watch_changes.specs.Changes.{changes}
 use Rattle.watch_changes.specs.Same.{frame_numbers, same}
 use Rattle.watch_changes.specs.Touched.{More, NoMore, Marked, Every, Reach, has_more, may_hold, reaches}
-use Rattle.watch_changes.proofs.KeptFrames.{frame-kept, none-below}
+use Rattle.watch_changes.proofs.KeptFrames.{frame-kept}
 use Rattle.watch_changes.proofs.Lowering.{alike-self}
 use Rattle.watch_changes.proofs.Ordering.{Lie, lie-those, up-to-self, widened}
 use Rattle.watch_changes.proofs.OrderedCores.{all-spilled-lie, attempt-lies, by_number, joined, of_kind, registers-lie, set-lies}
@@ -27,16 +28,12 @@ use Rattle.watch_changes.proofs.Splitting.{changes-append, changes-those}
 
 -- ---- the frames of a set that isn't reached
 
-neither : (a b : Bool) → (a || b) ≡ false → (a ≡ false) × (b ≡ false)
-neither true b e = absurd (cc)
-neither false b e = (refl, e)
-
 -- no way of it holds the line
 not-held : (sh : Shape) (c : Cache) (o : Option ℕ) (x y l : ℕ) → may_hold sh c o x ≡ false → y < sh.ways → c.at x y ≡ Some l
     → is_number o l ≡ false
 not-held sh c None x y l h b e = refl
 not-held sh c (Some m) x y l h b e =
-    let none = none-below (λ z. is_number (c.at x z) m) sh.ways y
+    let none = none_below (λ z. is_number (c.at x z) m) sh.ways y
     (neither (set_of sh m == x) (any_below (λ z. is_number (c.at x z) m) sh.ways) h).1 b in
     turned l m (sym (ap (λ o. is_number o m) e) ∙ none)
   where
@@ -49,7 +46,7 @@ not-more : (sh : Shape) (c : Cache) (m : More) (x y l : ℕ) → has_more sh c m
 unfolding has_marked way_marked
 not-more sh c NoMore x y l h b e = refl
 not-more sh c Marked x y l h b e =
-    sym (ap (λ o. way_marked c o) e) ∙ none-below (λ z. way_marked c (c.at x z)) sh.ways y h b
+    sym (ap (λ o. way_marked c o) e) ∙ none_below (λ z. way_marked c (c.at x z)) sh.ways y h b
 not-more sh c Every x y l h b e = h
 
 not-reached : (sh : Shape) (c : Cache) (r : Reach) (x y l : ℕ) → reaches sh c r x ≡ false → y < sh.ways → c.at x y ≡ Some l

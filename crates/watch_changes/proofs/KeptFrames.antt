@@ -1,14 +1,14 @@
 -- Which frames a change of a cache leaves as they are.
-use Rattle.std.proofs.Common.{◌≡◌, ℕ, zero, suc, ◌<◌, ◌==◌, ◌||◌, Bool, true, false, List, get_or, Option, Some, None, is_some, unwrap_or}
-use Rattle.std.proofs.Common.{if◌then◌else◌, refl, ap, sym, ◌∙◌, arith}
+use Rattle.std.proofs.Common.{◌≡◌, ℕ, ◌<◌, ◌==◌, ◌||◌, Bool, false, List, Option, Some, None, is_some, unwrap_or}
+use Rattle.std.proofs.Common.{refl, ap, ◌∙◌, arith}
 use Rattle.std.proofs.lemmas.Bool.Decides.{nat_tests}
+use Rattle.base_lemmas.proofs.Lemmas.{eight-same, mask_of-same, neither, none_below}
 use Rattle.rules_maps.specs.Cache.{Cache, dirty_mask, dirty_tag, first_of_line, free_way, is_marked, modified_mask}
-use Rattle.rules_maps.specs.CacheChange.{cleaned, committed, evicted, evicted_line, filled, invalidated, marked, placed, placed_at}
-use Rattle.rules_maps.specs.CacheChange.{read_cleared, rolled_back, stored, words_dropped}
-use Rattle.rules_maps.specs.Masks.{hit, mask_of}
+use Rattle.rules_maps.specs.CacheChange.{cleaned, committed, evicted_line, filled, invalidated, marked, placed, placed_at}
+use Rattle.rules_maps.specs.CacheChange.{read_cleared, rolled_back, stored}
+use Rattle.rules_maps.specs.Masks.{hit}
 use Rattle.rules_maps.specs.Shape.{Shape, set_of}
-use Rattle.rules_maps.specs.Words.{any_below, any_word, eight, line_of, word_at}
-use Rattle.rules_maps.proofs.Lemmas.{any_below-at}
+use Rattle.rules_maps.specs.Words.{any_word, line_of, word_at}
 use Rattle.watch_state.specs.Cores.{frame_of}
 
 -- the words of a line are the same in both
@@ -31,34 +31,6 @@ kept-then c d e l x y = record {
 
 -- ---- its frame is the same
 
-mask-alike : (p q : ℕ → Bool) → ((k : ℕ) → k < 8 → p k ≡ q k) → mask_of p ≡ mask_of q
-unfolding mask_of
-mask-alike p q h =
-    rw (
-      h 0 (omega arith),
-      h 1 (omega arith),
-      h 2 (omega arith),
-      h 3 (omega arith),
-      h 4 (omega arith),
-      h 5 (omega arith),
-      h 6 (omega arith),
-      h 7 (omega arith),
-    ) refl
-
-eight-alike : (f g : ℕ → ℕ) → ((k : ℕ) → k < 8 → f k ≡ g k) → eight f ≡ eight g
-unfolding eight
-eight-alike f g h =
-    rw (
-      h 0 (omega arith),
-      h 1 (omega arith),
-      h 2 (omega arith),
-      h 3 (omega arith),
-      h 4 (omega arith),
-      h 5 (omega arith),
-      h 6 (omega arith),
-      h 7 (omega arith),
-    ) refl
-
 first-alike : (f g : ℕ → Option ℕ) (l : ℕ) → ((k : ℕ) → k < 8 → f (word_at l k) ≡ g (word_at l k)) → first_of_line f l ≡ first_of_line g l
 unfolding first_of_line
 first-alike f g l h =
@@ -78,14 +50,14 @@ unfolding frame_of modified_mask dirty_mask dirty_tag
 frame-kept c d l x =
     λ i. record {
       line = l;
-      valid = mask-alike (λ k. is_some (c.value (word_at l k))) (λ k. is_some (d.value (word_at l k)))
+      valid = mask_of-same (λ k. is_some (c.value (word_at l k))) (λ k. is_some (d.value (word_at l k)))
           (λ k b. ap (λ (o : Option ℕ). is_some o) (x.value k b)) i;
-      read = mask-alike (λ k. c.read (word_at l k)) (λ k. d.read (word_at l k)) x.read i;
-      modified = mask-alike (λ k. c.modified (word_at l k)) (λ k. d.modified (word_at l k)) x.modified i;
-      dirty = mask-alike (λ k. is_some (c.dirty (word_at l k))) (λ k. is_some (d.dirty (word_at l k)))
+      read = mask_of-same (λ k. c.read (word_at l k)) (λ k. d.read (word_at l k)) x.read i;
+      modified = mask_of-same (λ k. c.modified (word_at l k)) (λ k. d.modified (word_at l k)) x.modified i;
+      dirty = mask_of-same (λ k. is_some (c.dirty (word_at l k))) (λ k. is_some (d.dirty (word_at l k)))
           (λ k b. ap (λ (o : Option ℕ). is_some o) (x.dirty k b)) i;
       tag = unwrap_or (first-alike c.dirty d.dirty l x.dirty i) 0;
-      words = eight-alike (λ k. unwrap_or (c.value (word_at l k)) 0) (λ k. unwrap_or (d.value (word_at l k)) 0)
+      words = eight-same (λ k. unwrap_or (c.value (word_at l k)) 0) (λ k. unwrap_or (d.value (word_at l k)) 0)
           (λ k b. ap (λ o. unwrap_or o 0) (x.value k b)) i;
     }
 
@@ -172,24 +144,13 @@ record IsUnmarked (c : Cache) (l : ℕ) : Type 0 where
   read : (k : ℕ) → k < 8 → c.read (word_at l k) ≡ false
   modified : (k : ℕ) → k < 8 → c.modified (word_at l k) ≡ false
 
-neither : (a b : Bool) → (a || b) ≡ false → (a ≡ false) × (b ≡ false)
-neither true b e = absurd (cc)
-neither false b e = (refl, e)
-
-pub none-below : (p : ℕ → Bool) (n k : ℕ) → any_below p n ≡ false → k < n → p k ≡ false
-none-below p n k e b = go (p k) refl
-  where
-    go : (t : Bool) → p k ≡ t → t ≡ false
-    go false q = refl
-    go true q = absurd (let some = any_below-at p n k b q in cc)
-
 unmarked : (c : Cache) (l : ℕ) → is_marked c l ≡ false → IsUnmarked c l
 unfolding is_marked any_word
 unmarked c l e = record {
   read = λ k b. (neither (c.read (word_at l k)) (c.modified (word_at l k))
-      (none-below (λ j. c.read (word_at l j) || c.modified (word_at l j)) 8 k e b)).0;
+      (none_below (λ j. c.read (word_at l j) || c.modified (word_at l j)) 8 k e b)).0;
   modified = λ k b. (neither (c.read (word_at l k)) (c.modified (word_at l k))
-      (none-below (λ j. c.read (word_at l j) || c.modified (word_at l j)) 8 k e b)).1;
+      (none_below (λ j. c.read (word_at l j) || c.modified (word_at l j)) 8 k e b)).1;
 }
 
 pub rolled_back-keeps : (c : Cache) (l : ℕ) → is_marked c l ≡ false → IsKept c (rolled_back c) l

@@ -8,3 +8,4 @@ pub use Rattle.watch_changes.proofs.Merging.{changes-new, changes-ordered, put-c
 pub use Rattle.watch_changes.proofs.Ordered.{records-ordered}
 pub use Rattle.watch_changes.proofs.Touching.{touched-suffices}
 pub use Rattle.watch_changes.proofs.Traced.{plain-from, plain-trace}
+pub use Rattle.watch_changes.proofs.Lowering.{alike-is, alike-self}

@@ -9,16 +9,10 @@ use Rattle.std.proofs.lemmas.Option.{get_or_from_slice_get, slice_get-get_or, sl
 use Rattle.std.proofs.lemmas.List.Elements.{Contains-get_or}
 use Rattle.std.specs.List.{All}
 use Rattle.tcc_base.specs.declared.names.LineAddr.{LineAddr}
+use Rattle.base_lemmas.proofs.Lemmas.{those-same}
 use Rattle.rules_maps.specs.Words.{those}
 use Rattle.rules_maps.proofs.Lemmas.{those-only}
 use Rattle.watch_changes.specs.Plain.{line_numbers, with_line}
-
--- sets that are alike below a bound
-pub those-alike : (p q : ℕ → Bool) (n : ℕ) → ((k : ℕ) → k < n → p k ≡ q k) → those p n ≡ those q n
-unfolding those
-those-alike p q zero same = refl
-those-alike p q (suc n) same =
-    λ i. those-alike p q n (λ k b. same k (omega (arith, b))) i ++ cond (same n (omega arith) i) (n ∷ []) []
 
 pub those-none : (n : ℕ) → those (λ j. false) n ≡ []
 unfolding those
@@ -28,7 +22,7 @@ those-none (suc n) = append-nil (those (λ j. false) n) ∙ those-none n
 -- ---- one line
 
 pub alone-outside : (l n : ℕ) → n ≤ l → those (λ j. j == l) n ≡ []
-alone-outside l n b = those-alike (λ j. j == l) (λ j. false) n (λ k h. grind (arith, nat_tests)) ∙ those-none n
+alone-outside l n b = those-same (λ j. j == l) (λ j. false) n (λ k h. grind (arith, nat_tests)) ∙ those-none n
 
 pub alone-inside : (l n : ℕ) → l < n → those (λ j. j == l) n ≡ l ∷ []
 unfolding those
@@ -46,7 +40,7 @@ alone-inside l (suc n) b = go (λ h. alone-inside l n h) (n == l) refl
 -- ---- one more line
 
 pub more-outside : (l n : ℕ) (p : ℕ → Bool) → n ≤ l → those (λ j. j == l || p j) n ≡ those p n
-more-outside l n p b = those-alike (λ j. j == l || p j) p n (λ k h. apart k h (k == l) refl)
+more-outside l n p b = those-same (λ j. j == l || p j) p n (λ k h. apart k h (k == l) refl)
   where
     apart : (k : ℕ) → k < n → (t : Bool) → (k == l) ≡ t → (t || p k) ≡ p k
     apart k h false e = refl

@@ -1,16 +1,14 @@
 -- The order of keys is strict and total, and numbers that are alike are the same.
-use Rattle.std.proofs.Common.{◌≡◌, ℕ, ◌==◌, Bool, true, false, List, [], ◌∷◌, refl, arith}
+use Rattle.std.proofs.Common.{◌≡◌, ℕ, Bool, true, false, List, [], ◌∷◌, refl, arith}
 use Rattle.std.proofs.lemmas.Bool.Decides.{nat_tests}
+use Rattle.base_lemmas.proofs.Lemmas.{eq-self}
 use Rattle.watch_changes.specs.Order.{lower}
 use Rattle.watch_changes.specs.Same.{alike}
-
-test-self : (x : ℕ) → (x == x) ≡ true
-test-self x = grind (arith, nat_tests)
 
 pub lower-self : (xs : List ℕ) → lower xs xs ≡ false
 unfolding lower
 lower-self [] = refl
-lower-self (x ∷ xs) = rw (test-self x) (lower-self xs)
+lower-self (x ∷ xs) = rw (eq-self x) (lower-self xs)
 
 pub lower-then : (xs ys zs : List ℕ) → lower xs ys ≡ true → lower ys zs ≡ true → lower xs zs ≡ true
 unfolding lower
@@ -42,7 +40,7 @@ lower-neither (x ∷ xs) (y ∷ ys) p q =
 pub alike-self : (xs : List ℕ) → alike xs xs ≡ true
 unfolding alike
 alike-self [] = refl
-alike-self (x ∷ xs) = rw (test-self x) (alike-self xs)
+alike-self (x ∷ xs) = rw (eq-self x) (alike-self xs)
 
 pub alike-is : (xs ys : List ℕ) → alike xs ys ≡ true → xs ≡ ys
 unfolding alike

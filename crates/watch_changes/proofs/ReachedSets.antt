@@ -1,5 +1,5 @@
 -- The sets that an event reaches, as the code lists them.
-use Rattle.std.proofs.Common.{◌≡◌, ℕ, suc, ◌+◌, ◌<◌, ◌==◌, ◌||◌, Bool, true, false, List, [], ◌∷◌, ◌++◌, length, get_or, Option, Some}
+use Rattle.std.proofs.Common.{◌≡◌, ℕ, suc, ◌+◌, ◌<◌, ◌==◌, ◌||◌, Bool, true, false, List, [], ◌∷◌, ◌++◌, get_or, Option, Some}
 use Rattle.std.proofs.Common.{None, IfSome}
 use Rattle.std.proofs.Common.{refl, ap, subst, sym, ◌∙◌, arith}
 use Rattle.std.proofs.lemmas.Bool.Decides.{nat_tests}
@@ -7,14 +7,15 @@ use Rattle.std.proofs.lemmas.List.Elements.{Contains-get_or}
 use Rattle.std.specs.List.{All}
 use Rattle.std.specs.Option.{option_map, option_to_list}
 use Rattle.tcc_base.specs.declared.names.LineAddr.{LineAddr}
+use Rattle.base_lemmas.proofs.Lemmas.{those-same}
 use Rattle.rules_maps.specs.Cache.{Cache, IsCache}
 use Rattle.rules_maps.specs.CacheUse.{is_number}
 use Rattle.rules_maps.specs.Shape.{Shape, set_of}
 use Rattle.rules_maps.specs.Words.{any_below, those}
 use Rattle.rules_maps.proofs.Lemmas.{any_below-found, those-only}
 use Rattle.spec_cache.specs.MarkedSets.{has_marked}
-use Rattle.watch_changes.specs.Touched.{More, NoMore, Marked, Every, Reach, may_hold, reaches}
-use Rattle.watch_changes.proofs.Listing.{alone-inside, those-alike, those-none}
+use Rattle.watch_changes.specs.Touched.{NoMore, Marked, Every, may_hold, reaches}
+use Rattle.watch_changes.proofs.Listing.{alone-inside, those-none}
 
 -- in a machine's cache a line is in a way of its own set alone
 number-is : (o : Option ℕ) (l : ℕ) → is_number o l ≡ true → o ≡ Some l
@@ -39,7 +40,7 @@ lone : (sh : Shape) (c : Cache) (l : ℕ) → IsCache sh c → set_of sh l < sh.
     → those (reaches sh c (record { line = Some l; more = NoMore })) sh.sets ≡ set_of sh l ∷ []
 unfolding reaches
 lone sh c l k b =
-    those-alike (λ x. may_hold sh c (Some l) x || false) (λ x. x == set_of sh l) sh.sets
+    those-same (λ x. may_hold sh c (Some l) x || false) (λ x. x == set_of sh l) sh.sets
     (λ x h. both (may_hold sh c (Some l) x) (set_of sh l == x) (x == set_of sh l) (own-set sh c l x k) (turned (set_of sh l) x))
     ∙ alone-inside (set_of sh l) sh.sets b
   where
@@ -72,7 +73,7 @@ unfolding reaches
 marked-reached sh c None set e k = ap (λ o. those (λ x. is_number o x || has_marked sh c x) sh.sets) e
 marked-reached sh c (Some l) set e k =
     ap (λ o. those (λ x. is_number o x || has_marked sh c x) sh.sets) e
-    ∙ those-alike (λ x. set_of sh l.0 == x || has_marked sh c x) (λ x. may_hold sh c (Some l.0) x || has_marked sh c x) sh.sets
+    ∙ those-same (λ x. set_of sh l.0 == x || has_marked sh c x) (λ x. may_hold sh c (Some l.0) x || has_marked sh c x) sh.sets
     (λ x h. ap (λ b. b || has_marked sh c x) (sym (own-set sh c l.0 x k)))
 
 -- ---- all
@@ -88,7 +89,7 @@ every sh c o x = go (may_hold sh c o x)
 pub every-reached : (sh : Shape) (c : Cache) (o : Option ℕ)
     → those (λ x. true) sh.sets ≡ those (reaches sh c (record { line = o; more = Every })) sh.sets
 every-reached sh c o =
-    those-alike (λ x. true) (reaches sh c (record { line = o; more = Every })) sh.sets (λ x h. every sh c o x)
+    those-same (λ x. true) (reaches sh c (record { line = o; more = Every })) sh.sets (λ x h. every sh c o x)
 
 pub every-more : (n : ℕ) → those (λ x. true) (n + 1) ≡ those (λ x. true) n ++ n ∷ []
 unfolding those

@@ -4,6 +4,7 @@ use Rattle.std.proofs.Common.{if◌then◌else◌, refl, ap, subst, sym, ◌∙�
 use Rattle.std.proofs.lemmas.Bool.Decides.{nat_tests}
 use Rattle.tcc_base.specs.declared.access.Size.{Size}
 use Rattle.tcc_base.specs.declared.access.Size.TheVariants.{Byte, Half, Word}
+use Rattle.base_lemmas.proofs.Lemmas.{neither-left, neither-right, none_below}
 use Rattle.rules_program.specs.Program.{Need, Nothing, Loads, Stores, Changes, Prints, Ends, Halts, Traps, Program}
 use Rattle.rules_program.specs.Ram.{word_of}
 use Rattle.rules_maps.specs.Cache.{Cache, all_marked, free_way, is_marked}
@@ -16,23 +17,23 @@ use Rattle.rules_maps.specs.Nodes.{Commit, Abort, WriteBack, Flush, DataReq, Inv
 use Rattle.rules_maps.specs.Shape.{Shape, set_of}
 use Rattle.rules_maps.specs.Spilled.{holds}
 use Rattle.rules_maps.specs.Words.{any_below, line_of}
-use Rattle.rules_tcc.specs.Attempt.{Out, finished, is_running, is_solo, moves, new_word, one_more_instruction, roll_back}
+use Rattle.rules_tcc.specs.Attempt.{Out, finished, is_running, is_solo, new_word, roll_back}
 use Rattle.rules_tcc.specs.Commit.{commit, committed_core, solo_commit}
 use Rattle.rules_tcc.specs.CoreDeliver.{acknowledged, core_deliver, data_request, fill, fill_awaited, from_dir, from_vendor, grant}
-use Rattle.rules_tcc.specs.CoreDeliver.{grant_in_phase, if_violated, invalidate, is_violated, may_be_above, probe_reply, ready_once_replied}
-use Rattle.rules_tcc.specs.CoreDeliver.{all_replied, replied, reply_in_phase, solo_once_replied, violated_in_phase, words_invalidated}
+use Rattle.rules_tcc.specs.CoreDeliver.{grant_in_phase, if_violated, invalidate, is_violated, may_be_above, probe_reply}
+use Rattle.rules_tcc.specs.CoreDeliver.{all_replied, replied, reply_in_phase, violated_in_phase, words_invalidated}
 use Rattle.rules_tcc.specs.CoreEvict.{core_evict, evict_line, is_awaited}
 use Rattle.rules_tcc.specs.CoreExec.{core_exec, exec_in_phase, unless_awaiting}
 use Rattle.rules_tcc.specs.Execute.{change_spilled, change_valid, end_transaction, execute, execute_need, full_set, load, load_spilled}
 use Rattle.rules_tcc.specs.Execute.{load_valid, marks_read, miss, overflow, partial_store, place, request_line, store_by_size}
 use Rattle.rules_tcc.specs.Execute.{stored_in_buffer, stored_in_frame, with_read_mark, word_store}
 use Rattle.rules_tcc.specs.State.{Awaited, CoreState, Phase, Running, AwaitTid, DoomedTid, Probing, Ready, Overflowing, Solo, Halted}
-use Rattle.spec_cache.specs.MarkedSets.{has_marked}
 use Rattle.watch_changes.specs.Touched.{More, NoMore, Marked, Every, Reach, frame_of_line, marked_frames, may_hold, more_if_read, no_frame}
-use Rattle.watch_changes.specs.Touched.{reach_of_delivery, reach_of_end, reach_of_exec, reach_of_msg, reach_of_need, reach_of_reply}
+use Rattle.watch_changes.specs.Touched.{reach_of_end, reach_of_exec, reach_of_msg, reach_of_need, reach_of_reply}
 use Rattle.watch_changes.proofs.KeptFrames.{IsKept, cleaned-keeps, committed-keeps, evicted-keeps, filled-keeps, invalidated-keeps}
-use Rattle.watch_changes.proofs.KeptFrames.{kept-self, kept-then, marked-keeps, none-below, placed-keeps, read_cleared-keeps}
+use Rattle.watch_changes.proofs.KeptFrames.{kept-self, kept-then, marked-keeps, placed-keeps, read_cleared-keeps}
 use Rattle.watch_changes.proofs.KeptFrames.{rolled_back-keeps, stored-keeps}
+use Rattle.core_node.proofs.Lemmas.{cache-finished}
 
 -- a line is among those that may change
 abbrev pub more_reaches : Cache → More → (line : ℕ) → Bool
@@ -63,20 +64,12 @@ if-within sh r s false x y p q = q
 
 -- ---- a line alone
 
-first : (a b : Bool) → (a || b) ≡ false → a ≡ false
-first true b e = absurd (cc)
-first false b e = refl
-
-second : (a b : Bool) → (a || b) ≡ false → b ≡ false
-second true b e = absurd (cc)
-second false b e = e
-
 -- a change of the words of a line, or of a line and of marked frames, where all ways hold what they held
 of-line : (sh : Shape) (l : ℕ) (m : More) (c d : Cache) → c.at ≡ d.at → ((j : ℕ) → (l == j) ≡ false → IsKept c d j)
     → IsWithin sh (record { line = Some l; more = m }) c d
 of-line sh l m c d e kept = record {
   at = λ x y h b. ap (λ f. f x y) e;
-  kept = λ j h. kept j (first (l == j) (more_reaches c m j) h);
+  kept = λ j h. kept j (neither-left (l == j) (more_reaches c m j) h);
 }
 
 of-marks : (sh : Shape) (c d : Cache) → c.at ≡ d.at → ((j : ℕ) → is_marked c j ≡ false → IsKept c d j) → IsWithin sh marked_frames c d
@@ -84,7 +77,7 @@ of-marks sh c d e kept = record { at = λ x y h b. ap (λ f. f x y) e; kept = λ
 
 set-apart : (sh : Shape) (c : Cache) (l x : ℕ) → may_hold sh c (Some l) x ≡ false → (x == set_of sh l) ≡ false
 set-apart sh c l x h =
-    let e = first (set_of sh l == x) (any_below (λ y. is_number (c.at x y) l) sh.ways) h in
+    let e = neither-left (set_of sh l == x) (any_below (λ y. is_number (c.at x y) l) sh.ways) h in
     turned (set_of sh l) x e
   where
     turned : (a b : ℕ) → (a == b) ≡ false → (b == a) ≡ false
@@ -103,26 +96,15 @@ of-place : (sh : Shape) (l : ℕ) (c d : Cache) → (placed sh l c).at ≡ d.at 
     → IsWithin sh (frame_of_line l) c d
 of-place sh l c d e kept = record {
   at = λ x y h b. place-at sh l c x y h ∙ ap (λ f. f x y) e;
-  kept = λ j h. kept-then c (placed sh l c) d j (placed-keeps sh l j c) (kept j (first (l == j) false h));
+  kept = λ j h. kept-then c (placed sh l c) d j (placed-keeps sh l j c) (kept j (neither-left (l == j) false h));
 }
 
 -- ---- an instruction
 
-finished-cache : (p : Program) (need : Need) (x : ℕ) (s : CoreState) → (finished p need x s).cache ≡ s.cache
-unfolding finished one_more_instruction
-finished-cache p Nothing x s = refl
-finished-cache p (Loads addr size) x s = refl
-finished-cache p (Stores addr size value) x s = refl
-finished-cache p (Changes addr changed) x s = refl
-finished-cache p (Prints byte) x s = refl
-finished-cache p Ends x s = refl
-finished-cache p (Halts code) x s = refl
-finished-cache p (Traps code) x s = refl
-
 -- where the instruction is finished after a change of the cache
 finish-within : (sh : Shape) (r : Reach) (p : Program) (need : Need) (x : ℕ) (c : Cache) (s : CoreState) → IsWithin sh r c s.cache
     → IsWithin sh r c (finished p need x s).cache
-finish-within sh r p need x c s h = subst (λ d. IsWithin sh r c d) (sym (finished-cache p need x s)) h
+finish-within sh r p need x c s h = subst (λ d. IsWithin sh r c d) (sym (cache-finished p need x s)) h
 
 full-within : (sh : Shape) (r : Reach) (l : ℕ) (s : CoreState) → OutWithin sh r s (full_set sh l s)
 unfolding full_set overflow
@@ -236,14 +218,14 @@ size-within sh p addr Byte value s = partial-within sh p (Stores addr Byte value
 
 need-within : (sh : Shape) (p : Program) (id : ℕ) (s : CoreState) (need : Need)
     → OutWithin sh (reach_of_need sh s.phase need) s (execute_need sh p id s need)
-need-within sh p id s Nothing = within-same sh no_frame s.cache _ (sym (finished-cache p Nothing 0 s))
+need-within sh p id s Nothing = within-same sh no_frame s.cache _ (sym (cache-finished p Nothing 0 s))
 need-within sh p id s (Loads addr size) = load-within sh p (Loads addr size) (word_of sh.base addr) s
 need-within sh p id s (Stores addr size value) = size-within sh p addr size value s
 need-within sh p id s (Changes addr changed) = partial-within sh p (Changes addr changed) (word_of sh.base addr) s
-need-within sh p id s (Prints byte) = within-same sh no_frame s.cache _ (sym (finished-cache p (Prints byte) 0 s))
-need-within sh p id s Ends = end-within sh id s (finished p Ends 0 s) s.phase (finished-cache p Ends 0 s)
-need-within sh p id s (Halts code) = end-within sh id s (finished p (Halts code) 0 s) s.phase (finished-cache p (Halts code) 0 s)
-need-within sh p id s (Traps code) = end-within sh id s (finished p (Traps code) 0 s) s.phase (finished-cache p (Traps code) 0 s)
+need-within sh p id s (Prints byte) = within-same sh no_frame s.cache _ (sym (cache-finished p (Prints byte) 0 s))
+need-within sh p id s Ends = end-within sh id s (finished p Ends 0 s) s.phase (cache-finished p Ends 0 s)
+need-within sh p id s (Halts code) = end-within sh id s (finished p (Halts code) 0 s) s.phase (cache-finished p (Halts code) 0 s)
+need-within sh p id s (Traps code) = end-within sh id s (finished p (Traps code) 0 s) s.phase (cache-finished p (Traps code) 0 s)
 
 -- ---- Exec
 
@@ -279,8 +261,8 @@ exec-within sh p id s = go s.phase refl
 
 held-there : (sh : Shape) (c : Cache) (x y l : ℕ) → c.at x y ≡ Some l → may_hold sh c (Some l) x ≡ false → y < sh.ways → Unit {0} → ⊥
 held-there sh c x y l e h b u =
-    let none = none-below (λ z. is_number (c.at x z) l) sh.ways y
-    (second (set_of sh l == x) (any_below (λ z. is_number (c.at x z) l) sh.ways) h) b in
+    let none = none_below (λ z. is_number (c.at x z) l) sh.ways y
+    (neither-right (set_of sh l == x) (any_below (λ z. is_number (c.at x z) l) sh.ways) h) b in
     let same : (l == l) ≡ false = sym (ap (λ o. is_number o l) e) ∙ none in
     grind (arith, nat_tests)
 
@@ -288,7 +270,7 @@ emptied : (sh : Shape) (x y l : ℕ) (c : Cache) → c.at x y ≡ Some l → IsW
 unfolding evicted_line
 emptied sh x y l c e = record {
   at = λ v z h b. go v z h b (v == x) (z == y) refl refl;
-  kept = λ j h. evicted-keeps l x y j c (first (l == j) false h);
+  kept = λ j h. evicted-keeps l x y j c (neither-left (l == j) false h);
 }
   where
     go : (v z : ℕ) → may_hold sh c (Some l) v ≡ false → z < sh.ways → (a b : Bool) → (v == x) ≡ a → (z == y) ≡ b
@@ -398,8 +380,8 @@ unfolding invalidated rolled_back
 back-within sh l m c = record {
   at = λ x y h b. refl;
   kept = λ j h. kept-then c (invalidated l m c) (rolled_back (invalidated l m c)) j
-      (invalidated-keeps l m j c (first (l == j) (is_marked c j) h))
-      (rolled_back-keeps (invalidated l m c) j (marks-stay l m j c ∙ second (l == j) (is_marked c j) h));
+      (invalidated-keeps l m j c (neither-left (l == j) (is_marked c j) h))
+      (rolled_back-keeps (invalidated l m c) j (marks-stay l m j c ∙ neither-right (l == j) (is_marked c j) h));
 }
 
 violated-within : (sh : Shape) (l m : ℕ) (s t : CoreState) → t.cache ≡ invalidated l m s.cache → (f : Phase)

@@ -5,6 +5,7 @@ use Rattle.std.proofs.Common.{if◌then◌else◌, nat_le, nat_lt, is_some, refl
 use Rattle.std.specs.List.{flat_map}
 use Rattle.std.proofs.lemmas.Bool.Decides.{nat_tests}
 use Rattle.std.proofs.lemmas.List.Concat.{flat_map-append}
+use Rattle.base_lemmas.proofs.Lemmas.{neither}
 use Rattle.rules_maps.specs.Judge.{Judgement, judge, Current, Outdated, TooEarly}
 use Rattle.rules_maps.specs.Lines.{Lines, has_mark, unmarked, with_asked, with_mark, with_owner, with_sharer}
 use Rattle.rules_maps.specs.Masks.{full, hit}
@@ -207,10 +208,6 @@ commit-changes sh c t count s =
     if-answer sh (Commit t count) s (s.serving.serving == t && count_below (has_mark s.lines) (lines sh) == count) _ Waits
     (settled-changes sh (Commit t count) s owned (λ l h. owned-marked c t s.lines l h)
     (record { lines = λ l h. owned-elsewhere l c t s.lines h; words = λ first l h. refl })) (record {})
-
-neither : (a b : Bool) → (a || b) ≡ false → (a ≡ false) × (b ≡ false)
-neither true b e = absurd (cc)
-neither false b e = (refl, e)
 
 ack-changes : (sh : Shape) (c l : ℕ) (keeps : Bool) (s : DirState)
     → AnswerChanges sh (InvAck l keeps) s (acknowledgement c l keeps s)

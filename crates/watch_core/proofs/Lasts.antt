@@ -1,16 +1,11 @@
 -- What was loaded and stored last.
-use Rattle.std.proofs.Common.{◌≡◌, ℕ, zero, suc, ◌-◌, ◌<◌, List, [], ◌∷◌, length}
+use Rattle.std.proofs.Common.{◌≡◌, suc, ◌-◌, List, [], ◌∷◌, length}
 use Rattle.std.proofs.Common.{Some, None, refl, ap, sym, ◌∙◌, arith}
 use Rattle.std.specs.Prelude.{slice_get}
 use Rattle.tcc_base.specs.declared.access.Load.{Load}
 use Rattle.tcc_base.specs.declared.access.Stored.{Stored}
+use Rattle.base_lemmas.proofs.Lemmas.{none-past}
 use Rattle.watch.specs.Instructions.{last_loaded, last_stored}
-
--- there is no item past the end
-pub none-past : {A : Type 0} (xs : List A) (k : ℕ) → slice_get xs k ≡ None → k < length xs → ⊥
-none-past [] k e l = omega (arith, l)
-none-past (x ∷ xs) zero e l = cc
-none-past (x ∷ xs) (suc k) e l = none-past xs k e (omega (arith, l))
 
 same-item : {A : Type 0} (x y : A) → Some x ≡ Some y → x ≡ y
 same-item x y e = cc

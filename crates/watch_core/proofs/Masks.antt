@@ -1,9 +1,10 @@
 -- The words of a line that have a mark, read from the masks of its frame, and of a line that has none.
-use Rattle.std.proofs.Common.{◌≡◌, ℕ, zero, suc, ◌+◌, ◌*◌, ◌/◌, ◌%◌, ◌<◌, Bool, true, false, not, eqb, ◌&&◌, ◌||◌}
+use Rattle.std.proofs.Common.{◌≡◌, ℕ, ◌+◌, ◌*◌, ◌/◌, ◌%◌, ◌<◌, Bool, true, false, not, eqb, ◌&&◌, ◌||◌}
 use Rattle.std.proofs.Common.{refl, ap, sym, ◌∙◌, arith, Option, Some, None, is_some}
 use Rattle.std.proofs.lemmas.Bool.Decides.{nat_tests}
 use Rattle.std.proofs.lemmas.Nat.{and_le_l}
 use Rattle.std.specs.Prelude.{bit_and}
+use Rattle.base_lemmas.proofs.Lemmas.{any_below-none, mask_of-same}
 use Rattle.rules_maps.proofs.Lemmas.{has-meet, has-mask_of, mask_of-has, mask_of-small}
 use Rattle.rules_maps.specs.Cache.{Cache, is_dirty, dirty_mask}
 use Rattle.rules_maps.specs.Masks.{has, mask_of}
@@ -43,21 +44,6 @@ pub dirty-bit : (c : Cache) (l : ℕ) → not (eqb (dirty_mask c l) 0) ≡ is_di
 unfolding dirty_mask is_dirty any_word
 dirty-bit c l = some-bit (λ k. is_some (c.dirty (word_at l k)))
 
--- masks of places that are alike are one
-pub mask_of-same : (p q : ℕ → Bool) → ((k : ℕ) → k < 8 → p k ≡ q k) → mask_of p ≡ mask_of q
-unfolding mask_of
-mask_of-same p q h =
-    rw (
-      h 0 (omega arith),
-      h 1 (omega arith),
-      h 2 (omega arith),
-      h 3 (omega arith),
-      h 4 (omega arith),
-      h 5 (omega arith),
-      h 6 (omega arith),
-      h 7 (omega arith),
-    ) refl
-
 and-turned : (a b : Bool) → a && b ≡ b && a
 and-turned true true = refl
 and-turned true false = refl
@@ -79,11 +65,6 @@ nothing = refl
 
 pub no-bit : (p : ℕ → Bool) → ((k : ℕ) → k < 8 → p k ≡ false) → 0 ≡ mask_of p
 no-bit p h = sym (mask_of-same p (λ k. false) h ∙ nothing)
-
-no-word : (p : ℕ → Bool) (n : ℕ) → ((k : ℕ) → k < n → p k ≡ false) → any_below p n ≡ false
-unfolding any_below
-no-word p zero h = refl
-no-word p (suc n) h = rw (no-word p n (λ k l. h k (omega arith)), h n (omega arith)) refl
 
 -- ---- a line without a frame
 
@@ -113,7 +94,7 @@ undirty h l k none below =
 
 pub clean : (h : Held) (l : ℕ) → (maps h).held l ≡ false → is_dirty (maps h) l ≡ false
 unfolding is_dirty any_word
-clean h l none = no-word (λ k. is_some ((maps h).dirty (word_at l k))) 8 (λ k below. undirty h l k none below)
+clean h l none = any_below-none (λ k. is_some ((maps h).dirty (word_at l k))) 8 (λ k below. undirty h l k none below)
 
 and-false : (a b : Bool) → b ≡ false → a && b ≡ false
 and-false true b e = e

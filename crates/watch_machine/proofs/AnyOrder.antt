@@ -7,6 +7,7 @@ use Rattle.std.proofs.lemmas.Bool.{cases_eq}
 use Rattle.std.proofs.lemmas.List.Elements.{All-head, All-tail}
 use Rattle.std.proofs.lemmas.List.Sums.{fold-append}
 use Rattle.tcc_base.specs.declared.names.NodeId.{NodeId}
+use Rattle.base_lemmas.proofs.Lemmas.{node_eq-refl}
 use Rattle.rules_maps.specs.Bridge.{node_of}
 use Rattle.rules_maps.specs.Nodes.{Node, Msg as PlainMsg, node_eq}
 use Rattle.rules_maps.specs.Shape.{Shape}
@@ -22,7 +23,8 @@ use Rattle.net_core.specs.Machine.{Machine, settings_of, world_of}
 use Rattle.watch_machine.specs.Rising.{place_of}
 use Rattle.watch_machine.proofs.Enabled.{flying-ends}
 use Rattle.watch_machine.proofs.Numbering.{goes, nothing-goes, stays}
-use Rattle.watch_machine.proofs.Rising.{Placed, nodes-many, nodes-placed, one-place, past, place-below, same-node, two-nodes}
+use Rattle.watch_machine.proofs.Rising.{Placed, nodes-placed, one-place, past, place-below, two-nodes}
+use Rattle.net_core.proofs.Lemmas.{nodes-length}
 
 -- ---- the nodes exist
 
@@ -30,7 +32,7 @@ use Rattle.watch_machine.proofs.Rising.{Placed, nodes-many, nodes-placed, one-pl
 some-sent : (ms : List (NodeId × Msg)) (k : ℕ) (d : NodeId × Msg) → k < length ms → 0 < length (sends_of ms (node_of (get_or ms k d).0))
 some-sent [] k d l = absurd (omega arith)
 some-sent (x ∷ xs) zero d l =
-    let one = ap length (goes x xs (node_of x.0) (same-node (node_of x.0))) in omega (arith, one)
+    let one = ap length (goes x xs (node_of x.0) (node_eq-refl (node_of x.0))) in omega (arith, one)
 some-sent (x ∷ xs) (suc k) d l = go (node_eq (node_of (get_or xs k d).0) (node_of x.0)) refl (some-sent xs k d (omega arith))
   where
     go : (b : Bool) → node_eq (node_of (get_or xs k d).0) (node_of x.0) ≡ b → 0 < length (sends_of xs (node_of (get_or xs k d).0))
@@ -87,7 +89,7 @@ at-its-node f both sh k [] x xs p e g l c = absurd (omega (arith, g, l))
 at-its-node f both sh k (n ∷ ns) x xs p e g l c = elim (cases_eq (place_of sh (node_of x.0)) k) [
   | inl q ↦
       let is : n ≡ node_of x.0 = one-place sh n (node_of x.0) p.0.1 e (p.0.0 ∙ sym q) in
-      let here : node_eq n (node_of x.0) ≡ true = ap (node_eq n) (sym is) ∙ same-node n in
+      let here : node_eq n (node_of x.0) ≡ true = ap (node_eq n) (sym is) ∙ node_eq-refl n in
       λ i. fold f c (goes x xs n here i ++ not-there sh (k + 1) ns x xs p.1 (omega (arith, q)) i)
   | inr q ↦
       let away : node_eq n (node_of x.0) ≡ false = two-nodes sh n (node_of x.0) (λ h. q (sym h ∙ p.0.0)) in
@@ -110,5 +112,5 @@ in-any-order f both sh [] all c = ap (fold f c) (none-at-all (nodes sh))
 in-any-order f both sh (x ∷ xs) all c =
     let e = All-head (λ m. is_node sh (node_of m.0) ≡ true) x xs all in
     let below = place-below sh (node_of x.0) e in
-    at-its-node f both sh 0 (nodes sh) x xs (nodes-placed sh) e (omega arith) (omega (arith, below, nodes-many sh)) c
+    at-its-node f both sh 0 (nodes sh) x xs (nodes-placed sh) e (omega arith) (omega (arith, below, nodes-length sh)) c
     ∙ in-any-order f both sh xs (All-tail (λ m. is_node sh (node_of m.0) ≡ true) x xs all) (f c (msg_of x.1))

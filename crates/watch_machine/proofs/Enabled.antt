@@ -1,13 +1,12 @@
 -- What an enabled event names: it exists; and a directory that takes a message doesn't let it wait.
 use Rattle.std.proofs.Common.{◌≡◌, ◌≢◌, ℕ, ◌<◌, Bool, true, false, Option, Some, None, refl, ap, ◌∙◌, arith}
-use Rattle.std.specs.Prelude.{nat_lt, if◌then◌else◌}
+use Rattle.std.specs.Prelude.{if◌then◌else◌}
 use Rattle.std.proofs.lemmas.Bool.Decides.{nat_tests}
 use Rattle.tcc_base.specs.Settings.{Settings}
 use Rattle.tcc_base.specs.declared.names.CoreId.{CoreId}
 use Rattle.tcc_base.specs.declared.names.NodeId.{NodeId}
 use Rattle.tcc_base.specs.declared.names.NodeId.TheVariants as code_node
 use Rattle.rules_maps.specs.Bridge.{node_of}
-use Rattle.core_node.specs.View.{IsKnown}
 use Rattle.rules_maps.specs.Nodes.{Node, Core, Dir, Vendor, Msg, Event, Exec, Evict, Deliver}
 use Rattle.rules_tcc.specs.DirDeliver.{Answer, dir_deliver}
 use Rattle.rules_tcc.specs.DirDeliver as rules
@@ -83,14 +82,6 @@ next-enabled m n e next = λ q. by (step_of m e) q next
 
 pub taken-enabled : (m n : Machine) (e : Event) (told : Step) → Advanced m n e told → step_of m e ≢ None
 taken-enabled m n e told a = next-enabled m n e a.next
-
-pub is-below : (n k : ℕ) → nat_lt n k ≡ true → n < k
-is-below n k e = grind (arith, nat_tests)
-
-pub known : (s : Settings) (n : NodeId) → is_node s (node_of n) ≡ true → IsKnown s n
-known s (code_node.Core c) e = tt
-known s (code_node.Dir d) e = is-below d.0 s.dirs e
-known s code_node.Vendor e = tt
 
 -- the node is no core
 abbrev pub IsNoCore : NodeId → Type 0

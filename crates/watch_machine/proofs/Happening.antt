@@ -1,11 +1,12 @@
 -- What an event did, from what was seen of its node before and after it.
-use Rattle.std.proofs.Common.{◌≡◌, ℕ, suc, ◌+◌, ◌-◌, List, [], ◌∷◌, ◌++◌, length, length-append, append_assoc, drop, map}
+use Rattle.std.proofs.Common.{◌≡◌, ℕ, ◌+◌, ◌-◌, List, [], ◌∷◌, ◌++◌, length, length-append, append_assoc, drop, map}
 use Rattle.std.proofs.Common.{Option, Some, None, refl, ap, sym, ◌∙◌, subst, arith}
 use Rattle.std.specs.List.{flat_map}
 use Rattle.std.proofs.Math.Seq.{drop-append_seam}
 use Rattle.std.specs.Option.{option_map}
 use Rattle.tcc_base.specs.declared.access.Commit.{Commit}
 use Rattle.tcc_base.specs.declared.names.NodeId.{NodeId}
+use Rattle.base_lemmas.proofs.Lemmas.{flat-each}
 use Rattle.rules_maps.specs.Bridge.{node_of}
 use Rattle.rules_maps.specs.Nodes.{Node, Msg, Event, Exec, Evict, Deliver}
 use Rattle.tcc_msg.specs.Plain.{sends_of}
@@ -26,6 +27,7 @@ use Rattle.watch.specs.declared.fact.Fact.{Fact as CodeFact}
 use Rattle.watch_machine.specs.Telling.{Advanced, HasRoomFor, commit_told, count_on, last_facts, last_to, numbered_from}
 use Rattle.watch_machine.specs.Watched.{TookAndToldOfNode}
 use Rattle.watch_machine.proofs.Named.{inserted-named}
+use Rattle.theorem_bounds.proofs.Lemmas.{sent-length}
 
 -- ---- the rules' step
 
@@ -70,16 +72,11 @@ unfolding numbered numbered_from sent_all
 numbered-sent src dst k [] = refl
 numbered-sent src dst k (m ∷ ms) = ap (λ fs. Sent src dst k m ∷ fs) (numbered-sent src dst (k + 1) ms)
 
-length-sent : (ms : List Msg) → length (sent_all ms) ≡ length ms
-unfolding sent_all
-length-sent [] = refl
-length-sent (m ∷ ms) = ap suc (length-sent ms)
-
 -- how many messages there are, of which the last ones are new
 length-behind : (w v : World) (src dst : Node) (ms : List Msg) → StandBehind w v src dst ms
     → length (v.net src dst) ≡ length (w.net src dst) + length ms
 length-behind w v src dst ms b =
-    ap length b.behind ∙ length-append b.front (sent_all ms) ∙ (λ i. b.as_many i + length-sent ms i)
+    ap length b.behind ∙ length-append b.front (sent_all ms) ∙ (λ i. b.as_many i + sent-length ms i)
 
 pub room-for : (m n : Machine) (src : Node) → IsSent (world_of m) (world_of n) src (sends_of n.last) → HasRoomFor n src
 room-for m n src s = λ dst.
@@ -96,10 +93,6 @@ link-is m n src dst b =
     let rest : drop k ((world_of n).net src dst) ≡ sent_all ms =
     (λ i. drop (sym b.as_many i) (b.behind i)) ∙ drop-append_seam b.front (sent_all ms) in
     ap (numbered src dst k) rest ∙ numbered-sent src dst k ms ∙ ap (λ j. numbered_from src dst j ms) first
-
-flat-each : {A B : Type 0} (f g : A → List B) → ((x : A) → f x ≡ g x) → (xs : List A) → flat_map f xs ≡ flat_map g xs
-flat-each f g h [] = refl
-flat-each f g h (x ∷ xs) = λ i. h x i ++ flat-each f g h xs i
 
 sent-is : (m n : Machine) (src : Node) → n.cores.code ≡ m.cores.code → IsSent (world_of m) (world_of n) src (sends_of n.last)
     → sent (settings_of m) (world_of m) (world_of n) src ≡ last_facts n src

@@ -1,12 +1,11 @@
 -- Messages that rise go each to a node of its own, so that telling of them in their order is telling of them by node.
 use Rattle.std.proofs.Common.{◌≡◌, ℕ, zero, suc, ◌+◌, ◌-◌, ◌<◌, ◌≤◌, inl, inr, Bool, true, false, List, [], ◌∷◌, ◌++◌, drop, length, map}
 use Rattle.std.proofs.Common.{length-append, get_or, refl, ap, sym, ◌∙◌, subst, append_assoc, append-nil, arith}
-use Rattle.std.specs.Prelude.{nat_lt}
 use Rattle.std.specs.List.{flat_map}
 use Rattle.std.proofs.lemmas.Bool.{cases_eq, cases_lt}
-use Rattle.std.proofs.lemmas.Bool.Decides.{nat_tests}
 use Rattle.std.proofs.lemmas.List.{drop_all, drop_more, length-map, map-append}
 use Rattle.tcc_base.specs.declared.names.NodeId.{NodeId}
+use Rattle.base_lemmas.proofs.Lemmas.{lt-from, node_eq-refl}
 use Rattle.rules_maps.specs.Bridge.{node_of}
 use Rattle.rules_maps.specs.Nodes.{Node, Core, Dir, Vendor, Msg as PlainMsg, node_eq}
 use Rattle.rules_maps.specs.Shape.{Shape}
@@ -22,6 +21,8 @@ use Rattle.watch.specs.Facts.{Fact, Sent}
 use Rattle.watch_machine.specs.Rising.{Rises, each_told, place_of}
 use Rattle.watch_machine.specs.Telling.{count_on, last_facts, last_to, numbered_from}
 use Rattle.watch_machine.proofs.Numbering.{goes, none-to, nothing-goes, stays}
+use Rattle.theorem_serial.proofs.Lemmas.{is-lt}
+use Rattle.net_core.proofs.Lemmas.{nodes-length}
 
 -- ---- nodes by place
 
@@ -40,12 +41,6 @@ unfolding those
 numbers-many zero = refl
 numbers-many (suc n) = length-append (numbers n) (n ∷ []) ∙ omega (arith, numbers-many n)
 
-below : (a b : ℕ) → a < b → nat_lt a b ≡ true
-below a b l = grind (arith, nat_tests)
-
-above : (a b : ℕ) → nat_lt a b ≡ true → a < b
-above a b e = grind (arith, nat_tests)
-
 cores-many : (n : ℕ) → length (map Core (numbers n)) ≡ n
 cores-many n = length-map (numbers n) Core ∙ numbers-many n
 
@@ -58,7 +53,7 @@ cores-placed sh zero l = tt
 cores-placed sh (suc n) l =
     subst (Placed sh 0) (sym (map-append Core (numbers n) (n ∷ [])))
     (placed-append sh 0 n (map Core (numbers n)) (Core n ∷ []) (cores-placed sh n (omega (arith, l))) (omega (arith, cores-many n))
-    ((refl, below n sh.cores (omega (arith, l))), tt))
+    ((refl, is-lt n sh.cores (omega (arith, l))), tt))
 
 dirs-placed : (sh : Shape) (n : ℕ) → n ≤ sh.dirs → Placed sh sh.cores (map Dir (numbers n))
 unfolding those Placed
@@ -67,7 +62,7 @@ dirs-placed sh (suc n) l =
     subst (Placed sh sh.cores) (sym (map-append Dir (numbers n) (n ∷ [])))
     (placed-append sh sh.cores (sh.cores + n) (map Dir (numbers n)) (Dir n ∷ []) (dirs-placed sh n (omega (arith, l)))
     (ap (λ i. sh.cores + i) (sym (dirs-many n)))
-    ((refl, below n sh.dirs (omega (arith, l))), tt))
+    ((refl, is-lt n sh.dirs (omega (arith, l))), tt))
 
 pub nodes-placed : (sh : Shape) → Placed sh 0 (nodes sh)
 unfolding nodes Placed
@@ -77,28 +72,22 @@ nodes-placed sh =
     (placed-append sh sh.cores (sh.cores + sh.dirs) (map Dir (numbers sh.dirs)) (Vendor ∷ []) (dirs-placed sh sh.dirs (omega arith))
     (ap (λ i. sh.cores + i) (sym (dirs-many sh.dirs))) ((refl, refl), tt))
 
-pub nodes-many : (sh : Shape) → length (nodes sh) ≡ sh.cores + sh.dirs + 1
-unfolding nodes
-nodes-many sh =
-    length-append (map Core (numbers sh.cores)) (map Dir (numbers sh.dirs) ++ Vendor ∷ [])
-    ∙ omega (arith, cores-many sh.cores, dirs-many sh.dirs, length-append (map Dir (numbers sh.dirs)) (Vendor ∷ []))
-
 -- a node's place is below their number
 pub place-below : (sh : Shape) (n : Node) → is_node sh n ≡ true → place_of sh n < sh.cores + sh.dirs + 1
-place-below sh (Core c) e = omega (arith, above c sh.cores e)
-place-below sh (Dir d) e = omega (arith, above d sh.dirs e)
+place-below sh (Core c) e = omega (arith, lt-from c sh.cores e)
+place-below sh (Dir d) e = omega (arith, lt-from d sh.dirs e)
 place-below sh Vendor e = omega arith
 
 -- and it is of no other node
 pub one-place : (sh : Shape) (a b : Node) → is_node sh a ≡ true → is_node sh b ≡ true → place_of sh a ≡ place_of sh b → a ≡ b
 one-place sh (Core c) (Core d) e f p = ap Core p
-one-place sh (Core c) (Dir d) e f p = absurd (omega (arith, above c sh.cores e, p))
-one-place sh (Core c) Vendor e f p = absurd (omega (arith, above c sh.cores e, p))
-one-place sh (Dir c) (Core d) e f p = absurd (omega (arith, above d sh.cores f, p))
+one-place sh (Core c) (Dir d) e f p = absurd (omega (arith, lt-from c sh.cores e, p))
+one-place sh (Core c) Vendor e f p = absurd (omega (arith, lt-from c sh.cores e, p))
+one-place sh (Dir c) (Core d) e f p = absurd (omega (arith, lt-from d sh.cores f, p))
 one-place sh (Dir c) (Dir d) e f p = ap Dir (omega (arith, p))
-one-place sh (Dir c) Vendor e f p = absurd (omega (arith, above c sh.dirs e, p))
-one-place sh Vendor (Core d) e f p = absurd (omega (arith, above d sh.cores f, p))
-one-place sh Vendor (Dir d) e f p = absurd (omega (arith, above d sh.dirs f, p))
+one-place sh (Dir c) Vendor e f p = absurd (omega (arith, lt-from c sh.dirs e, p))
+one-place sh Vendor (Core d) e f p = absurd (omega (arith, lt-from d sh.cores f, p))
+one-place sh Vendor (Dir d) e f p = absurd (omega (arith, lt-from d sh.dirs f, p))
 one-place sh Vendor Vendor e f p = refl
 
 -- nodes at two places are two
@@ -119,11 +108,6 @@ none-before sh j (x ∷ xs) n r l =
     let before : place_of sh n < place_of sh (node_of x.0) = omega (arith, l, r.1.0) in
     stays x xs n (two-nodes sh n (node_of x.0) (λ e. omega (arith, before, e)))
     ∙ none-before sh (place_of sh (node_of x.0) + 1) xs n r.1.1 (omega (arith, before))
-
-pub same-node : (n : Node) → node_eq n n ≡ true
-same-node (Core c) = grind (arith, nat_tests)
-same-node (Dir d) = grind (arith, nat_tests)
-same-node Vendor = refl
 
 -- what one message to a node tells
 one-told : (m : Machine) (src n : Node) (x : PlainMsg) → sends_of m.last n ≡ x ∷ []
@@ -154,7 +138,7 @@ told-from m src sh (n ∷ ns) k [] p e r a =
 told-from m src sh (n ∷ ns) k (x ∷ xs) p e r a = elim (cases_eq (place_of sh (node_of x.0)) k) [
   | inl q ↦
       let is : n ≡ node_of x.0 = one-place sh n (node_of x.0) p.0.1 r.0 (p.0.0 ∙ sym q) in
-      let here : node_eq n (node_of x.0) ≡ true = ap (node_eq n) (sym is) ∙ same-node n in
+      let here : node_eq n (node_of x.0) ≡ true = ap (node_eq n) (sym is) ∙ node_eq-refl n in
       let rest : Rises sh (k + 1) xs = subst (λ i. Rises sh (i + 1) xs) q r.1.1 in
       let one : sends_of m.last n ≡ msg_of x.1 ∷ [] =
       a n (omega (arith, p.0.0)) ∙ goes x xs n here
@@ -177,7 +161,7 @@ pub rising-told : (m : Machine) (src : Node) → Rises (settings_of m) 0 m.last 
 unfolding last_facts
 rising-told m src r =
     let sh = settings_of m in
-    sym (told-from m src sh (nodes sh) 0 m.last (nodes-placed sh) (omega (arith, nodes-many sh)) r (λ n l. refl))
+    sym (told-from m src sh (nodes sh) 0 m.last (nodes-placed sh) (omega (arith, nodes-length sh)) r (λ n l. refl))
 
 -- ---- in turn
 

@@ -1,6 +1,7 @@
 -- One event more, and the events that are left.
 use Rattle.std.proofs.Common.{◌≡◌, ℕ, ◌+◌, ◌≤◌, List, [], ◌∷◌, ◌++◌, length, append-nil, append_assoc}
 use Rattle.std.proofs.Common.{Some, refl, ap, sym, ◌∙◌, arith}
+use Rattle.base_lemmas.proofs.Lemmas.{one-longer}
 use Rattle.image_load.specs.Contents.{started}
 use Rattle.rv_code.specs.Machine.{program}
 use Rattle.rules_maps.specs.Nodes.{Event}
@@ -8,10 +9,6 @@ use Rattle.rules_tcc.specs.Step.{next_history, run_from}
 use Rattle.net_core.specs.Machine.{Machine, history_of, program_of, settings_of}
 use Rattle.watch_trace.proofs.Lemmas.{run-more}
 use Rattle.watch_run.specs.Going.{Took, Went}
-
-pub one-longer : (xs : List Event) (e : Event) → length (xs ++ e ∷ []) ≡ length xs + 1
-one-longer [] e = refl
-one-longer (x ∷ xs) e = let r = one-longer xs e in omega (arith, r)
 
 none-left : (xs ys : List Event) → length (xs ++ ys) ≤ length xs → ys ≡ []
 none-left [] [] h = refl

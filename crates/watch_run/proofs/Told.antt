@@ -1,8 +1,9 @@
 -- What is told of an event is what the trace has.
 use Rattle.std.proofs.Common.{◌≡◌, ℕ, suc, ◌+◌, ◌<◌, ◌≤◌, ◌==◌, ◌&&◌, Bool, true, false, List, [], ◌++◌}
-use Rattle.std.proofs.Common.{append-nil, append_assoc, nat_le, nat_lt, Result, Ok, Err, OnOk, Option, Some, None, IfSome, if◌then◌else◌}
+use Rattle.std.proofs.Common.{append-nil, append_assoc, nat_lt, Result, Ok, Err, OnOk, Option, Some, None, IfSome, if◌then◌else◌}
 use Rattle.std.proofs.Common.{refl, ap, sym, ◌∙◌, subst, arith}
 use Rattle.std.proofs.lemmas.Bool.Decides.{nat_tests}
+use Rattle.base_lemmas.proofs.Lemmas.{and-left, and-right, le-false, le-true}
 use Rattle.image_load.specs.Contents.{started}
 use Rattle.rv_code.specs.Machine.{first_ram}
 use Rattle.rules_maps.specs.Nodes.{Event, Exec, Evict, Deliver}
@@ -23,19 +24,11 @@ use Rattle.watch_run.specs.Telling.{IsLook, IsTold}
 
 -- ---- the node of an event that was taken
 
-both-true : (a b : Bool) → (a && b) ≡ true → b ≡ true
-both-true true b e = e
-both-true false b e = absurd (cc)
-
-first-true : (a b : Bool) → (a && b) ≡ true → a ≡ true
-first-true true b e = refl
-first-true false b e = absurd (cc)
-
 actor-named : (sh : Shape) (e : Event) → names_nodes sh e ≡ true → is_node sh (actor e) ≡ true
 unfolding names_nodes
 actor-named sh (Exec c) h = h
-actor-named sh (Evict c x y) h = first-true (nat_lt c sh.cores) (nat_lt x sh.sets && nat_lt y sh.ways) h
-actor-named sh (Deliver src dst k) h = both-true (is_node sh src) (is_node sh dst) h
+actor-named sh (Evict c x y) h = and-left (nat_lt c sh.cores) (nat_lt x sh.sets && nat_lt y sh.ways) h
+actor-named sh (Deliver src dst k) h = and-right (is_node sh src) (is_node sh dst) h
 
 pub actor-is : (sh : Shape) (p : Program) (h k : History) (e : Event) → next_history sh p h e ≡ Some k → is_node sh (actor e) ≡ true
 unfolding next_history step
@@ -96,12 +89,6 @@ text-tells (Ok y) states b n o e text after facts t h is q =
 
 -- ---- what one event adds
 
-in-window : (from number : ℕ) → from ≤ number → nat_le from number ≡ true
-in-window from number h = grind (arith, nat_tests)
-
-before-window : (from number : ℕ) → number < from → nat_le from number ≡ false
-before-window from number h = grind (arith, nat_tests)
-
 begins-behind : (from number : ℕ) → from ≡ number + 1 → (from == suc number) ≡ true
 begins-behind from number h = grind (arith, nat_tests)
 
@@ -121,7 +108,7 @@ event-tells (Ok y) states n o e from number text after b q =
     let x = shows states (start_of n) in
     let lines = event_text (settings_of n) (program_of n) (history_of n) e in
     q ∙ ap (λ c. text ++ (if c then lines ++ x.event (world_of n) (world_of o) e
-    else if from == suc number then x.begins (world_of o) else [])) (sym (in-window from number b))
+    else if from == suc number then x.begins (world_of o) else [])) (sym (le-true from number b))
 
 -- just before it
 pub window-tells : {A E : Type 0} (x : Result A E) (states : Bool) (n o : Machine) (e : Event) (from number : ℕ) (text after : List ℕ)
@@ -133,7 +120,7 @@ window-tells (Err f) states n o e from number text after t b q = record {}
 window-tells (Ok y) states n o e from number text after t b q =
     let x = shows states (start_of n) in
     let lines = event_and_facts e (happened (settings_of n) (program_of n) (history_of n) e) in
-    let test = before-window from number (omega (arith, b)) in
+    let test = le-false from number (omega (arith, b)) in
     let begins : (from == suc number) ≡ true = begins-behind from number b in
     q ∙ ap (λ d. text ++ (shows states (started d)).begins (world_of o)) t.code
     ∙ (λ i. text ++ (if sym test i then lines ++ x.event (world_of n) (world_of o) e
@@ -147,7 +134,7 @@ unfolding added history_of
 nothing-tells states n o e from number text b =
     let x = shows states (start_of n) in
     let lines = event_and_facts e (happened (settings_of n) (program_of n) (history_of n) e) in
-    let test = before-window from number (omega (arith, b)) in
+    let test = le-false from number (omega (arith, b)) in
     let begins : (from == suc number) ≡ false = begins-later from number b in
     sym (append-nil text)
     ∙ (λ i. text ++ (if sym test i then lines ++ x.event (world_of n) (world_of o) e

@@ -9,6 +9,7 @@ use Rattle.image_load.specs.Start.{Start}
 use Rattle.rv_code.specs.Machine.{program}
 use Rattle.theorem_riscv.specs.Suiting.{world_at_start}
 use Rattle.tcc_base.specs.Settings.{IsAllowed}
+use Rattle.base_lemmas.proofs.Lemmas.{appends-more, appends-none}
 use Rattle.rules_maps.specs.Nodes.{Event}
 use Rattle.rules_tcc.specs.Seen.{IsDone}
 use Rattle.rules_tcc.specs.State.{World}
@@ -28,7 +29,7 @@ use Rattle.watch_run.specs.declared.telling.Shown.{Shown}
 use Rattle.watch_run.specs.declared.tracing.Broken.{Broken}
 use Rattle.watch_run.specs.declared.tracing.Broken.TheVariants.{Memory, Output}
 use Rattle.watch_run.proofs.Leading.{StartsAt, leads}
-use Rattle.watch_run.proofs.Written.{appends-more, appends-none, put-cut}
+use Rattle.watch_run.proofs.Written.{put-cut}
 
 -- a count that rose later rose
 pub rose-later : (a b c : ℕ) → a ≤ b → Rose b c → Rose a c

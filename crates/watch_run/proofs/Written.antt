@@ -1,8 +1,9 @@
 -- What stands behind what was told before, piece by piece.
 use Rattle.std.proofs.Common.{◌≡◌, ℕ, ◌+◌, ◌≤◌, ◌==◌, List, [], ◌∷◌, ◌++◌, length, append-nil, append_assoc}
-use Rattle.std.proofs.Common.{Option, Some, None, if◌then◌else◌, ap, sym, ◌∙◌, subst, arith, take}
+use Rattle.std.proofs.Common.{Option, if◌then◌else◌, ap, sym, ◌∙◌, subst, arith, take}
 use Rattle.std.proofs.Math.Seq.{take-append_seam, take-append-add}
 use Rattle.std.specs.Io.KnownBytes.{Appends}
+use Rattle.base_lemmas.proofs.Lemmas.{appends-more, appends-none}
 use Rattle.image_load.specs.Contents.{started}
 use Rattle.rv_code.specs.Machine.{program}
 use Rattle.rules_maps.specs.Nodes.{Event}
@@ -16,16 +17,6 @@ use Rattle.watch_run.specs.declared.telling.Shown.{Shown}
 use Rattle.watch_run.proofs.Going.{Gone, by-first, gone-all, gone-more, gone-none}
 
 -- ---- bytes that stand behind others
-
-pub appends-none : (o : Option (List ℕ)) → Appends o o []
-appends-none None = tt
-appends-none (Some xs) = sym (append-nil xs)
-
-pub appends-more : (a b c : Option (List ℕ)) (xs ys : List ℕ) → Appends a b xs → Appends b c ys → Appends a c (xs ++ ys)
-appends-more None b c xs ys p q = tt
-appends-more (Some zs) None c xs ys p q = absurd p
-appends-more (Some zs) (Some bs) None xs ys p q = absurd q
-appends-more (Some zs) (Some bs) (Some cs) xs ys p q = q ∙ ap (λ vs. vs ++ ys) p ∙ append_assoc zs xs ys
 
 -- ---- what was held was put out in part
 

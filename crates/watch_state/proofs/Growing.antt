@@ -5,6 +5,7 @@ use Rattle.std.proofs.lemmas.Bool.Decides.{nat_tests}
 use Rattle.std.proofs.lemmas.List.{append_assoc}
 use Rattle.std.specs.List.{flat_map}
 use Rattle.std.proofs.lemmas.List.Concat.{flat_map-append}
+use Rattle.base_lemmas.proofs.Lemmas.{flat-last, those-same}
 use Rattle.rules_maps.specs.Words.{any_below, those}
 use Rattle.rules_tcc.specs.Seen.{numbers}
 use Rattle.watch_state.specs.Cores.{owed_record}
@@ -30,21 +31,11 @@ pub led-none : (rs : List Record) → led_lines (codes "") rs ≡ record_lines r
 unfolding led_lines record_lines
 led-none rs = refl
 
--- the numbers with a property, by one number more
-those-next : {A : Type 0} (f : ℕ → List A) (p : ℕ → Bool) (n : ℕ)
-    → flat_map f (those p (suc n)) ≡ flat_map f (those p n) ++ cond (p n) (f n) []
-unfolding those
-those-next f p n = flat_map-append f (those p n) (cond (p n) (n ∷ []) []) ∙ ap (λ ys. flat_map f (those p n) ++ ys) (last (p n))
-  where
-    last : (b : Bool) → flat_map f (cond b (n ∷ []) []) ≡ cond b (f n) []
-    last true = append-nil (f n)
-    last false = refl
-
 pub those-more : {A : Type 0} (f : ℕ → List A) (p : ℕ → Bool) (n : ℕ)
     → flat_map f (those p (n + 1)) ≡ flat_map f (those p n) ++ cond (p n) (f n) []
 those-more f p n =
     let e : n + 1 ≡ suc n = omega arith in
-    ap (λ m. flat_map f (those p m)) e ∙ those-next f p n
+    ap (λ m. flat_map f (those p m)) e ∙ flat-last f p n
 
 pub numbers-more : {A : Type 0} (f : ℕ → List A) (n : ℕ) → flat_map f (numbers (n + 1)) ≡ flat_map f (numbers n) ++ f n
 numbers-more f n = those-more f (λ k. true) n
@@ -130,13 +121,6 @@ lines-then rs ss old now new h e =
     e ∙ ap (λ t. t ++ record_lines ss) h ∙ append_assoc old (record_lines rs) (record_lines ss)
     ∙ ap (λ t. old ++ t) (sym (lines-append rs ss))
 
--- sets with the same numbers below a bound
-those-alike : (p q : ℕ → Bool) (n : ℕ) → ((k : ℕ) → k < n → p k ≡ q k) → those p n ≡ those q n
-unfolding those
-those-alike p q zero same = refl
-those-alike p q (suc n) same =
-    λ i. those-alike p q n (λ k b. same k (omega (arith, b))) i ++ cond (same n (omega arith) i) (n ∷ []) []
-
 -- one number more, which isn't in the set or below the bound
 within-more : (p q : ℕ → Bool) (n m : ℕ) → (n ≤ m → those p m ≡ those q n) → n ≤ suc m → ((k : ℕ) → k < n → p k ≡ q k)
     → ((k : ℕ) → n ≤ k → p k ≡ false) → those p (suc m) ≡ those q n
@@ -146,7 +130,7 @@ within-more p q n m ih b same none = go (nat_lt m n) refl
     go : (t : Bool) → nat_lt m n ≡ t → (those p m ++ cond (p m) (m ∷ []) []) ≡ those q n
     go true e =
         let one : suc m ≡ n = grind (arith, nat_tests) in
-        ap (λ k. those p k) one ∙ those-alike p q n same
+        ap (λ k. those p k) one ∙ those-same p q n same
     go false e =
         let le : n ≤ m = grind (arith, nat_tests) in
         rw (none m le) (append-nil (those p m) ∙ ih le)

@@ -1,11 +1,10 @@
 -- Texts that grow by what is written of each element of a list.
-use Rattle.std.proofs.Common.{◌≡◌, ℕ, zero, suc, ◌+◌, ◌<◌, ◌≤◌, Bool, true, false, cond, List, [], ◌∷◌, ◌++◌, take, length, Some, None}
-use Rattle.std.proofs.Common.{refl, ap, sym, ◌∙◌, arith}
+use Rattle.std.proofs.Common.{◌≡◌, ℕ, zero, suc, ◌+◌, Bool, true, false, cond, List, [], ◌∷◌, ◌++◌, take, Some}
+use Rattle.std.proofs.Common.{refl, ap, sym, ◌∙◌}
 use Rattle.std.specs.Prelude.{slice_get}
 use Rattle.std.specs.List.{flat_map}
-use Rattle.std.proofs.lemmas.List.{flat_map_more, take_all, take_more}
 use Rattle.std.proofs.lemmas.List.Concat.{flat_map-append}
-use Rattle.std.proofs.lemmas.Option.{get_or_from_slice_get, slice_get_within}
+use Rattle.base_lemmas.proofs.Lemmas.{piece-more as text-listed}
 use Rattle.rules_maps.specs.Words.{those}
 use Rattle.rules_tcc.specs.Seen.{numbers}
 use Rattle.watch_state.specs.Lines.{led_lines, record_line}
@@ -29,14 +28,6 @@ flats-more h f n old now new q e =
     piece-more (λ k. flat_map h (f k)) n old now new (q ∙ ap (λ t. old ++ t) (flat-flat h f (numbers n))) e
     ∙ ap (λ t. old ++ t) (sym (flat-flat h f (numbers (n + 1))))
 
--- of any list
-pub text-listed : {A : Type 0} (f : A → List ℕ) (xs : List A) (k : ℕ) (x : A) (old now new : List ℕ) → slice_get xs k ≡ Some x
-    → now ≡ old ++ flat_map f (take k xs) → new ≡ now ++ f x → new ≡ old ++ flat_map f (take (k + 1) xs)
-text-listed f xs k x old now new at h e =
-    let more : take (k + 1) xs ≡ take k xs ++ x ∷ [] =
-    take_more xs k x (slice_get_within xs k x at) ∙ ap (λ y. take k xs ++ y ∷ []) (get_or_from_slice_get xs k x x at) in
-    e ∙ ap (λ t. t ++ f x) h ∙ flat_map_more f old (take k xs) x ∙ ap (λ ys. old ++ flat_map f ys) (sym more)
-
 pub flats-listed : {A B : Type 0} (h : B → List ℕ) (f : A → List B) (xs : List A) (k : ℕ) (x : A) (old now new : List ℕ)
     → slice_get xs k ≡ Some x → now ≡ old ++ flat_map h (flat_map f (take k xs)) → new ≡ now ++ flat_map h (f x)
     → new ≡ old ++ flat_map h (flat_map f (take (k + 1) xs))
@@ -51,15 +42,6 @@ unfolding led_lines
 led-listed lead f xs k x old now new at q e = flats-listed (λ r. lead ++ record_line r) f xs k x old now new at q e
 
 -- ---- all elements
-
-pub text-whole : {A : Type 0} (f : A → List ℕ) (xs : List A) (k : ℕ) (old now : List ℕ) → length xs ≤ k
-    → now ≡ old ++ flat_map f (take k xs) → now ≡ old ++ flat_map f xs
-text-whole f xs k old now l h = h ∙ ap (λ ys. old ++ flat_map f ys) (take_all k xs l)
-
-pub none-past : {A : Type 0} (xs : List A) (k : ℕ) → slice_get xs k ≡ None → k < length xs → ⊥
-none-past [] k e l = omega (arith, l)
-none-past (x ∷ xs) zero e l = cc
-none-past (x ∷ xs) (suc k) e l = none-past xs k e (omega (arith, l))
 
 -- numbers of which nothing is written may be left out
 pub only-those : {A : Type 0} (f : ℕ → List A) (p : ℕ → Bool) → ((k : ℕ) → p k ≡ false → f k ≡ []) → (n : ℕ)

@@ -4,7 +4,6 @@ use Rattle.std.proofs.Common.{◌≡◌, ℕ, zero, suc, ◌+◌, List, [], ◌�
 use Rattle.std.proofs.Common.{arith}
 use Rattle.std.proofs.lemmas.Grind.{common_steps}
 use Rattle.std.specs.Prelude.{OnOk, Result, Ok, Err}
-use Rattle.std.specs.List.{flat_map, range_with_len}
 use Rattle.schedule_text.specs.Grammar.{joined}
 
 joined-more : (ts : List (List ℕ)) (t : List ℕ) → joined (ts ++ t ∷ []) ≡ joined ts ++ t
@@ -16,11 +15,6 @@ pub joined-from : (n : ℕ) (ts : List (List ℕ)) (t : List ℕ)
 joined-from zero ts t = grind (arith, common_steps, joined-more ts t)
 joined-from (suc n) [] t = grind (arith, common_steps)
 joined-from (suc n) (s ∷ ts) t = grind (arith, common_steps, joined-from n ts t)
-
-pub flat_map-range_with_len_more : {A : Type 0} (f : ℕ → List A) (a n j : ℕ) → a + n ≡ j
-    → flat_map f (range_with_len a (n + 1)) ≡ flat_map f (range_with_len a n) ++ f j
-flat_map-range_with_len_more f a zero j e = grind (arith, common_steps)
-flat_map-range_with_len_more f a (suc n) j e = grind (arith, common_steps, flat_map-range_with_len_more f (a + 1) n j)
 
 -- what is written by two calls, where the first has succeeded
 pub parts-joined : {A E : Type 0} (r : Result A E) (old now new first second : List ℕ) → now ≡ old ++ first → OnOk r (new ≡ now ++ second)

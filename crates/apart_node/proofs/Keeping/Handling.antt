@@ -1,11 +1,12 @@
 -- A message that waits is handled.
-use Rattle.std.proofs.Common.{◌≡◌, ℕ, ◌<◌, ◌≤◌, Bool, true, false, not, cond, ◌&&◌, List, length, map, Option, Some, None, refl}
+use Rattle.std.proofs.Common.{◌≡◌, ℕ, ◌<◌, ◌≤◌, Bool, true, false, cond, ◌&&◌, List, length, map, Option, Some, None, refl}
 use Rattle.std.proofs.Common.{ap, ◌∙◌, arith}
 use Rattle.std.specs.Prelude.{slice_get, option_and_then, All, IfSome, IsSomeAnd, ◌==◌}
 use Rattle.std.specs.List.{filter}
 use Rattle.std.proofs.lemmas.Bool.Decides.{nat_tests}
 use Rattle.std.proofs.lemmas.List.Elements.{All-filter, filter_passes}
 use Rattle.std.proofs.lemmas.Option.{slice_get-map, slice_get_within}
+use Rattle.base_lemmas.proofs.Lemmas.{node_eq-refl, not-false}
 use Rattle.rules_maps.specs.Bridge.{node_of}
 use Rattle.rules_maps.specs.Nodes.{Node, Event, Exec, Evict, Deliver, node_eq}
 use Rattle.rules_tcc.specs.Local.{Mail, consumed, is_gone}
@@ -20,7 +21,6 @@ use Rattle.apart_node.specs.Node.{CameBefore}
 use Rattle.apart_node.specs.Ports.{PortData, RoomData, got_at, port_to, taken_from}
 use Rattle.apart_node.specs.declared.room.Waiting.{Waiting}
 use Rattle.apart_node.proofs.Porting.Pools.{all-at, others}
-use Rattle.apart_node.proofs.Porting.Posted.{node_eq-refl}
 
 -- the message of a delivery has come
 abbrev pub Within : (Node → List Mail) → Event → Type 0
@@ -89,10 +89,6 @@ other-fresh gone s src d k j n f = rw n (both-ways (node_eq src s))
 elsewhere-fresh : (gone : Node → ℕ → Bool) (s src d : Node) (k j : ℕ) → node_eq src s ≡ false → gone src j ≡ false
     → consumed true (Deliver s d k) gone src j ≡ false
 elsewhere-fresh gone s src d k j n f = rw n f
-
-not-false : (b : Bool) → not b ≡ true → b ≡ false
-not-false true h = absurd (cc)
-not-false false h = refl
 
 left-fresh : (gone : Node → ℕ → Bool) (s src d : Node) (k : ℕ) (pool : List (ℕ × CodeMail)) (t : Bool) → node_eq s src ≡ t
     → All (λ e. gone src e.0 ≡ false) pool → All (λ e. consumed true (Deliver s d k) gone src e.0 ≡ false)

@@ -6,6 +6,7 @@ use Rattle.std.proofs.lemmas.List.{length_push}
 use Rattle.std.proofs.lemmas.List.Elements.{All-push}
 use Rattle.image_load.specs.Contents.{started}
 use Rattle.tcc_base.specs.declared.names.NodeId.{NodeId}
+use Rattle.base_lemmas.proofs.Lemmas.{node_eq-refl}
 use Rattle.rules_maps.specs.Bridge.{node_of}
 use Rattle.rules_maps.specs.Nodes.{Node, Event, Exec, Evict, Deliver, node_eq}
 use Rattle.tcc_msg.specs.Plain.{event_of, sends_of}
@@ -27,7 +28,6 @@ use Rattle.apart_node.specs.declared.room.Waiting.{Waiting}
 use Rattle.apart_node.proofs.Keeping.Gathering.{run-same}
 use Rattle.apart_node.proofs.Keeping.Handling.{Handles, handles-for, loses-ahead, loses-fresh, loses-got}
 use Rattle.apart_node.proofs.Porting.SeveralMoves.{links-refl, room-refl}
-use Rattle.apart_node.proofs.Porting.Posted.{node_eq-refl}
 use Rattle.apart_node.proofs.Running.Local.{after, run-push}
 use Rattle.apart_node.proofs.Running.Stamps.{last-push, rises-push}
 
@@ -178,10 +178,6 @@ waiting-is r own e o w q h = some-for e (rw q at h)
     some-for (Exec c) h = h
     some-for (Evict c x y) h = h
     some-for (Deliver s d k) h = h
-
-pub on_err-from : {A E : Type 0} (r : Result A E) (P : Type 0) → P → OnErr r P
-on_err-from (Ok x) P p = tt
-on_err-from (Err e) P p = p
 
 pub on_err-of : {A E : Type 0} (r : Result A E) (P : Type 0) → is_err r ≡ true → OnErr r P → P
 on_err-of (Ok x) P e p = absurd (cc)

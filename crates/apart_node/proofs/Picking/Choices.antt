@@ -4,6 +4,7 @@ use Rattle.std.proofs.Common.{map, Option, Some, None, length-append, refl, ap, 
 use Rattle.std.specs.Prelude.{nat_lt, slice_get, option_map}
 use Rattle.std.proofs.lemmas.List.{length-map}
 use Rattle.std.proofs.lemmas.Option.{slice_get-map}
+use Rattle.base_lemmas.proofs.Lemmas.{get-after}
 use Rattle.image_load.specs.Contents.{started}
 use Rattle.rv_code.specs.Machine.{program}
 use Rattle.rules_maps.specs.Bridge.{node_of}
@@ -17,7 +18,6 @@ use Rattle.apart_node.specs.Deeds.{IsPossible, IsReady}
 use Rattle.apart_node.specs.Node.{NodeData, last_stamp}
 use Rattle.apart_node.specs.declared.choosing.Deed.{Deed}
 use Rattle.apart_node.specs.declared.room.Waiting.{Waiting}
-use Rattle.apart_node.proofs.Picking.Deliveries.{get-after}
 use Rattle.apart_node.proofs.Running.Stored.{get-behind}
 
 pub useful-length : (n : NodeData) → length (useful n) ≡ length (own_choices n.member (last_stamp n.log)) + length

@@ -2,9 +2,10 @@
 use Rattle.std.proofs.Common.{◌≡◌, ℕ, ◌+◌, ◌%◌, ◌^◌, ◌<◌, ◌≤◌, ◌⊎◌, Bool, true, false, List, [], ◌∷◌, length, Option, Some, None}
 use Rattle.std.proofs.Common.{max, refl, ap, sym, ◌∙◌, arith}
 use Rattle.std.specs.Prelude.{nat_lt, slice_get, MatchOption, IsSomeAnd}
-use Rattle.std.specs.List.{filter, flat_map}
+use Rattle.std.specs.List.{filter}
 use Rattle.std.proofs.lemmas.Bool.Decides.{nat_tests}
 use Rattle.std.proofs.lemmas.List.{length-map}
+use Rattle.base_lemmas.proofs.Lemmas.{flat-nothing}
 use Rattle.rules_maps.specs.Bridge.{node_of}
 use Rattle.rules_maps.specs.Nodes.{Node, Deliver}
 use Rattle.tcc_msg.specs.Plain.{event_of}
@@ -35,10 +36,6 @@ ready-late m last src e h = let t = late last e.1.stamp h in rw t refl
 filter-nothing : {A : Type 0} (f : A → Bool) (xs : List A) → ((x : A) → f x ≡ false) → filter f xs ≡ []
 filter-nothing f [] h = refl
 filter-nothing f (x ∷ xs) h = let t = h x in rw t (filter-nothing f xs h)
-
-flat-nothing : {A B : Type 0} (f : A → List B) (xs : List A) → ((x : A) → f x ≡ []) → flat_map f xs ≡ []
-flat-nothing f [] h = refl
-flat-nothing f (x ∷ xs) h = let t = h x in rw t (flat-nothing f xs h)
 
 no-delivery : (m : MemberData) (last : ℕ) (p : PortData) → 2 ^ 62 ≤ last → deliveries m last p ≡ []
 unfolding ready_in

@@ -1,5 +1,5 @@
 -- Counts by place, and what filters count.
-use Rattle.std.proofs.Common.{◌≡◌, ◌≢◌, ℕ, zero, suc, ◌+◌, ◌<◌, ◌≤◌, Bool, true, false, cond, List, [], ◌∷◌, ◌++◌, length, take, sum, Some}
+use Rattle.std.proofs.Common.{◌≡◌, ◌≢◌, ℕ, zero, suc, ◌+◌, ◌≤◌, Bool, true, false, cond, List, [], ◌∷◌, ◌++◌, length, take, sum, Some}
 use Rattle.std.proofs.Common.{if◌then◌else◌, refl, ap, sym, ◌∙◌, arith, length-append}
 use Rattle.std.specs.Prelude.{slice_get, slice_index, slice_set}
 use Rattle.std.specs.List.{filter, flat_map, remove}
@@ -48,14 +48,6 @@ remove-few [] zero = omega arith
 remove-few [] (suc i) = omega arith
 remove-few (x ∷ xs) zero = omega arith
 remove-few (x ∷ xs) (suc i) = let l = remove-few xs i in omega (arith, l)
-
-pub filter-few : {A : Type 0} (f : A → Bool) (xs : List A) → length (filter f xs) ≤ length xs
-filter-few f [] = omega arith
-filter-few f (x ∷ xs) = one (f x) (filter-few f xs)
-  where
-    one : (b : Bool) → length (filter f xs) ≤ length xs → length (cond b (x ∷ filter f xs) (filter f xs)) ≤ suc (length xs)
-    one true h = omega (arith, h)
-    one false h = omega (arith, h)
 
 -- nothing passes
 pub filter-none : {A : Type 0} (f : A → Bool) (xs : List A) → length (filter f xs) ≡ 0 → (k : ℕ) (x : A) → slice_get xs k ≡ Some x
@@ -106,11 +98,6 @@ counted-remove f xs i x n one g h e =
     omega (arith, h, less, same)
 
 -- ---- counts
-
-pub read-set : (ns : List ℕ) (i n : ℕ) → i < length ns → slice_index (slice_set ns i n) i ≡ n
-read-set [] i n h = absurd (omega arith)
-read-set (m ∷ ns) zero n h = refl
-read-set (m ∷ ns) (suc i) n h = read-set ns i n (omega arith)
 
 pub read-set_other : (ns : List ℕ) (i j n : ℕ) → j ≢ i → slice_index (slice_set ns i n) j ≡ slice_index ns j
 read-set_other [] i j n o = refl

@@ -1,9 +1,10 @@
 -- The messages that wait at all ports, one port after another.
-use Rattle.std.proofs.Common.{◌≡◌, ℕ, zero, suc, ◌+◌, List, [], ◌∷◌, ◌++◌, length, take, Some, length-append, refl}
-use Rattle.std.proofs.Common.{ap, ◌∙◌, arith}
+use Rattle.std.proofs.Common.{◌≡◌, ℕ, zero, suc, ◌+◌, List, [], ◌∷◌, length, take, Some, length-append, refl}
+use Rattle.std.proofs.Common.{◌∙◌, arith}
 use Rattle.std.specs.Prelude.{slice_get}
 use Rattle.std.specs.List.{flat_map}
 use Rattle.std.proofs.lemmas.Option.{same_Some}
+use Rattle.base_lemmas.proofs.Lemmas.{get-after}
 use Rattle.apart_node.proofs.Running.Stored.{get-behind}
 
 -- one list more
@@ -13,11 +14,6 @@ flat-more f [] i x h = absurd (cc)
 flat-more f (y ∷ xs) zero x h = let e : y ≡ x = same_Some y x h in rw e (omega (arith, length-append (f x) []))
 flat-more f (y ∷ xs) (suc i) x h =
     omega (arith, flat-more f xs i x h, length-append (f y) (flat_map f (take (suc i) xs)), length-append (f y) (flat_map f (take i xs)))
-
-pub get-after : {A : Type 0} (xs ys : List A) (k r : ℕ) → k ≡ length xs + r → slice_get (xs ++ ys) k ≡ slice_get ys r
-get-after [] ys k r e = ap (slice_get ys) (omega (arith, e))
-get-after (x ∷ xs) ys zero r e = absurd (omega (arith, e))
-get-after (x ∷ xs) ys (suc k) r e = get-after xs ys k r (omega (arith, e))
 
 -- an element of the i-th list
 pub flat-kth : {A B : Type 0} (f : A → List B) (xs : List A) (i r k : ℕ) (x : A) (y : B) → slice_get xs i ≡ Some x

@@ -1,5 +1,5 @@
 -- What the tally of a node's ports says.
-use Rattle.std.proofs.Common.{◌≡◌, ◌≢◌, ℕ, zero, suc, ◌+◌, ◌<◌, ◌^◌, ◌&&◌, Bool, true, false, not, List, length, take, sum}
+use Rattle.std.proofs.Common.{◌≡◌, ◌≢◌, ℕ, zero, suc, ◌+◌, ◌<◌, ◌^◌, Bool, true, false, not, List, length, take, sum}
 use Rattle.std.proofs.Common.{Option, Some, None, max, refl, ap}
 use Rattle.std.proofs.Common.{sym, subst, ◌∙◌, arith, inl, inr}
 use Rattle.std.specs.Prelude.{All, nat_lt, is_some, replicate, slice_get, slice_index, slice_set}
@@ -7,6 +7,7 @@ use Rattle.std.proofs.lemmas.Bool.{and_from, cases_eq}
 use Rattle.std.proofs.lemmas.Bool.Decides.{nat_tests}
 use Rattle.std.proofs.lemmas.List.{length-map, length-replicate, length-set, take_all}
 use Rattle.std.proofs.lemmas.Option.{same_Some}
+use Rattle.base_lemmas.proofs.Lemmas.{and-both, get-set, get-set_other, read-set}
 use Rattle.rules_maps.specs.Bridge.{node_of}
 use Rattle.rules_maps.specs.Nodes.{Node}
 use Rattle.tcc_msg.specs.Plain.{msg_of}
@@ -20,8 +21,8 @@ use Rattle.apart_node.specs.Choice.{all_deliveries, deliveries, delivery, ready,
 use Rattle.apart_node.specs.Moves.{AtEach, Both}
 use Rattle.apart_node.specs.Ports.{ArePorts, IsEntry, IsPort, IsUnused, PortData}
 use Rattle.apart_node.specs.Tally.{AreReady, CountsPort, IsTallied, TallyData, hanging_in, hangs, noted}
-use Rattle.apart_node.proofs.Picking.Counts.{filter-all, filter-none, read-set, read-set_other, sum-flat}
-use Rattle.apart_node.proofs.Porting.ChangedElement.{each-length, get-set, get-set_other}
+use Rattle.apart_node.proofs.Picking.Counts.{filter-all, filter-none, read-set_other, sum-flat}
+use Rattle.apart_node.proofs.Porting.ChangedElement.{each-length}
 use Rattle.apart_node.proofs.Porting.Pools.{all-at}
 
 -- a port has changed, and is noted
@@ -126,10 +127,6 @@ not-false : (b : Bool) → not b ≡ false → b ≡ true
 not-false true e = refl
 not-false false e = absurd (cc)
 
-both-true : (a b : Bool) → (a && b) ≡ true → (a ≡ true) × (b ≡ true)
-both-true true b e = (refl, e)
-both-true false b e = absurd (cc)
-
 early : (last stamp : ℕ) → last < 2 ^ 62 → nat_lt stamp (2 ^ 62) ≡ true → nat_lt (max last stamp) (2 ^ 62) ≡ true
 early last stamp l e = grind (arith, nat_tests)
 
@@ -137,7 +134,7 @@ open-ready : (m : MemberData) (last : ℕ) (src : Node) (e : ℕ × Mail) → Is
     → IsCarried m.code.settings src (node_of m.node) (msg_of e.1.msg) → hangs (node_of m.node) e ≡ false → ready m last src e ≡ true
 unfolding hangs ready
 open-ready m last src e k l c h =
-    let both = both-true (nat_lt e.1.stamp (2 ^ 62)) (never_waits (node_of m.node) (msg_of e.1.msg)) (not-false _ h) in
+    let both = and-both (nat_lt e.1.stamp (2 ^ 62)) (never_waits (node_of m.node) (msg_of e.1.msg)) (not-false _ h) in
     and_from (nat_lt (max last e.1.stamp) (2 ^ 62)) (is_some (takes m.code.settings (state_of m) src (Some (msg_of e.1.msg))))
     (early last e.1.stamp l both.0)
     (always-taken m.code.settings (node_of m.node) src (state_of m) (msg_of e.1.msg) k c both.1)

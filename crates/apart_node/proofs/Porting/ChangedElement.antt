@@ -1,25 +1,14 @@
 -- A list with one element changed, place by place.
-use Rattle.std.proofs.Common.{◌≡◌, ◌≢◌, ℕ, zero, suc, ◌<◌, List, [], ◌∷◌, length, Option, Some, None, refl, ap, ◌∙◌, arith}
+use Rattle.std.proofs.Common.{◌≡◌, ℕ, suc, ◌<◌, List, [], ◌∷◌, length, Option, Some, None, refl, ap, ◌∙◌}
 use Rattle.std.specs.Prelude.{slice_get, slice_set}
 use Rattle.std.proofs.lemmas.Bool.{cases_eq}
 use Rattle.std.proofs.Common.{inl, inr}
 use Rattle.tcc_base.specs.Settings.{Settings}
+use Rattle.base_lemmas.proofs.Lemmas.{get-set, get-set_other}
 use Rattle.rules_maps.specs.Nodes.{Node}
 use Rattle.apart_node.specs.Moves.{AtEach, Both, SameLinks}
 use Rattle.apart_node.specs.Ports.{ArePorts, IsPortAt, PortData}
 use Rattle.apart_node.proofs.Porting.SeveralMoves.{both-refl, both-then, both-weaker}
-
-pub get-set : {A : Type 0} (xs : List A) (i : ℕ) (x : A) → i < length xs → slice_get (slice_set xs i x) i ≡ Some x
-get-set [] i x h = absurd (omega arith)
-get-set (y ∷ ys) zero x h = refl
-get-set (y ∷ ys) (suc i) x h = get-set ys i x (omega arith)
-
-pub get-set_other : {A : Type 0} (xs : List A) (i j : ℕ) (x : A) → j ≢ i → slice_get (slice_set xs i x) j ≡ slice_get xs j
-get-set_other [] i j x n = refl
-get-set_other (y ∷ ys) zero zero x n = absurd (n refl)
-get-set_other (y ∷ ys) zero (suc j) x n = refl
-get-set_other (y ∷ ys) (suc i) zero x n = refl
-get-set_other (y ∷ ys) (suc i) (suc j) x n = get-set_other ys i j x (λ e. n (ap suc e))
 
 pub each-set : (P : PortData → PortData → Type 0) (ps : List PortData) (i : ℕ) (p q : PortData) → slice_get ps i ≡ Some p → P p q
     → ((r : PortData) → P r r) → i < length ps → AtEach P ps (slice_set ps i q)

@@ -1,12 +1,12 @@
 -- The first of what isn't sent yet goes onto its link, and what was sent stays the same.
 use Rattle.std.proofs.Common.{◌≡◌, ◌≢◌, ℕ, ◌<◌, Bool, true, false, cond, if◌then◌else◌, List, [], ◌∷◌, ◌++◌, length, Option, Some}
-use Rattle.std.proofs.Common.{None, append_assoc, refl, ap, sym, ◌∙◌, arith}
+use Rattle.std.proofs.Common.{None, append_assoc, refl, ap, sym, ◌∙◌}
 use Rattle.std.specs.Prelude.{slice_get, slice_set, option_and_then}
 use Rattle.std.proofs.lemmas.List.{map-append}
 use Rattle.tcc_base.specs.declared.names.NodeId.{NodeId}
 use Rattle.rules_maps.specs.Bridge.{node_of}
-use Rattle.std.proofs.lemmas.Bool.Decides.{nat_tests}
-use Rattle.rules_maps.specs.Nodes.{Node, Core, Dir, Vendor, Msg as PlainMsg, node_eq}
+use Rattle.base_lemmas.proofs.Lemmas.{get-set, get-set_other, node_eq-refl}
+use Rattle.rules_maps.specs.Nodes.{Node, Msg as PlainMsg, node_eq}
 use Rattle.tcc_msg.specs.Plain.{msg_of, sends_of}
 use Rattle.tcc_msg.specs.declared.msg.Msg.{Msg}
 use Rattle.rules_tcc.specs.Local as rules
@@ -16,7 +16,6 @@ use Rattle.rules_apart.specs.Filled.{mail_of}
 use Rattle.rules_apart.specs.declared.logs.Mail.{Mail}
 use Rattle.apart_node.specs.Peers.{seat}
 use Rattle.apart_node.specs.Ports.{PortData, RoomData, handed_to, port_to, sent_at}
-use Rattle.apart_node.proofs.Porting.ChangedElement.{get-set, get-set_other}
 use Rattle.apart_node.proofs.Porting.Seats.{seat-same}
 
 -- the room with the message on its link
@@ -29,11 +28,6 @@ posted r k p m rest = record r { ports = slice_set r.ports k (with_sent p m); un
 mailed-cons : (t : ℕ) (m : PlainMsg) (ms : List PlainMsg) → rules.mailed t (m ∷ ms) ≡ record { msg = m; stamp = t } ∷ rules.mailed t ms
 unfolding mailed
 mailed-cons t m ms = refl
-
-pub node_eq-refl : (n : Node) → node_eq n n ≡ true
-node_eq-refl (Core c) = grind (arith, nat_tests)
-node_eq-refl (Dir d) = grind (arith, nat_tests)
-node_eq-refl Vendor = refl
 
 abbrev first_to : (dst : Node) → NodeId → Msg → List PlainMsg
 first_to dst d m = if node_eq dst (node_of d) then msg_of m ∷ [] else []

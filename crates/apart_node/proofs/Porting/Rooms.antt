@@ -7,6 +7,7 @@ use Rattle.std.proofs.lemmas.List.{drop_more, map-append, set-get_or}
 use Rattle.std.proofs.lemmas.List.Elements.{All-head, All-tail}
 use Rattle.std.proofs.lemmas.Option.{get_or_from_slice_get, same_Some, slice_get_within}
 use Rattle.tcc_base.specs.declared.names.NodeId.{NodeId}
+use Rattle.base_lemmas.proofs.Lemmas.{get-set, get-set_other, node_eq-refl}
 use Rattle.rules_maps.specs.Bridge.{node_of}
 use Rattle.rules_maps.specs.Nodes.{Node, Deliver, node_eq}
 use Rattle.tcc_msg.specs.Plain.{msg_of, sends_of}
@@ -27,8 +28,8 @@ use Rattle.apart_node.specs.Ports.{taken_from}
 use Rattle.apart_node.specs.declared.port.Letter.{Letter}
 use Rattle.apart_node.specs.declared.room.Waiting.{Waiting}
 use Rattle.apart_node.proofs.Porting.SeveralMoves.{both-refl, links-refl, room-places, stands-refl}
-use Rattle.apart_node.proofs.Porting.ChangedElement.{each-set, each-weaker, get-set, get-set_other, ports-keep}
-use Rattle.apart_node.proofs.Porting.Posted.{node_eq-refl, posted, with_sent}
+use Rattle.apart_node.proofs.Porting.ChangedElement.{each-set, each-weaker, ports-keep}
+use Rattle.apart_node.proofs.Porting.Posted.{posted, with_sent}
 use Rattle.apart_node.proofs.Porting.Seats.{seat-below, seat-same}
 
 pub first-carried : (r : RoomData) (d : NodeId) (m : Msg) (rest : List (NodeId × Msg)) → r.unsent ≡ (d, m) ∷ rest → IsRoom r

@@ -1,9 +1,10 @@
 -- Each peer has its own port, and what is carried goes to a peer.
-use Rattle.std.proofs.Common.{◌≡◌, ℕ, ◌<◌, Bool, true, false, ◌&&◌, Some, refl, ap, sym, ◌∙◌, arith}
+use Rattle.std.proofs.Common.{◌≡◌, ℕ, ◌<◌, true, ◌&&◌, Some, refl, ap, sym, ◌∙◌, arith}
 use Rattle.std.specs.Prelude.{nat_lt}
 use Rattle.std.proofs.lemmas.Bool.Decides.{nat_tests}
 use Rattle.std.proofs.lemmas.Option.{cond_some, same_Some}
 use Rattle.tcc_base.specs.Settings.{Settings}
+use Rattle.base_lemmas.proofs.Lemmas.{and-left, and-right}
 use Rattle.rules_maps.specs.Nodes.{Node, Core, Dir, Vendor, Msg}
 use Rattle.theorem_live.specs.Fits.{fits, goes_to_dir, goes_to_core, is_grant}
 use Rattle.rules_apart.specs.Carried.{IsCarried}
@@ -56,27 +57,19 @@ seat-below s Vendor Vendor k h = absurd (cc)
 some-below : (n i : ℕ) → nat_lt i n ≡ true → if_below n i ≡ Some i
 some-below n i h = rw h
 
-and-first : (a b : Bool) → (a && b) ≡ true → a ≡ true
-and-first true b h = refl
-and-first false b h = absurd (cc)
-
-and-second : (a b : Bool) → (a && b) ≡ true → b ≡ true
-and-second true b h = h
-and-second false b h = absurd (cc)
-
 has-seat : (s : Settings) (own dst : Node) (m : Msg) → fits s own dst m ≡ true → (k : ℕ) × (seat s own dst ≡ Some k)
 unfolding seat fits
 has-seat s (Core c) (Dir d) m f = (
   d,
-  some-below s.dirs d (and-first (nat_lt d s.dirs) (goes_to_dir m)
-      (and-second (nat_lt c s.cores) (nat_lt d s.dirs && goes_to_dir m) f)),
+  some-below s.dirs d (and-left (nat_lt d s.dirs) (goes_to_dir m)
+      (and-right (nat_lt c s.cores) (nat_lt d s.dirs && goes_to_dir m) f)),
 )
 has-seat s (Core c) Vendor m f = (s.dirs, refl)
 has-seat s (Core c) (Core x) m f = absurd (cc)
-has-seat s (Dir d) (Core c) m f = (c, some-below s.cores c (and-first (nat_lt c s.cores) (nat_lt d s.dirs && goes_to_core m) f))
+has-seat s (Dir d) (Core c) m f = (c, some-below s.cores c (and-left (nat_lt c s.cores) (nat_lt d s.dirs && goes_to_core m) f))
 has-seat s (Dir d) (Dir e) m f = absurd (cc)
 has-seat s (Dir d) Vendor m f = absurd (cc)
-has-seat s Vendor (Core c) m f = (c, some-below s.cores c (and-first (nat_lt c s.cores) (is_grant m) f))
+has-seat s Vendor (Core c) m f = (c, some-below s.cores c (and-left (nat_lt c s.cores) (is_grant m) f))
 has-seat s Vendor (Dir e) m f = absurd (cc)
 has-seat s Vendor Vendor m f = absurd (cc)
 

@@ -9,6 +9,7 @@ use Rattle.theorem_riscv.specs.Given.{TidsOf, grants_of}
 use Rattle.theorem_riscv.specs.Suiting.{world_at_start}
 use Rattle.theorem_riscv.proofs.Lemmas.{committed_tids_were_granted_once}
 use Rattle.tcc_base.specs.declared.access.Commit.{Commit}
+use Rattle.base_lemmas.proofs.Lemmas.{node_eq-refl}
 use Rattle.rules_maps.specs.Bridge.{node_of}
 use Rattle.rules_maps.specs.Nodes.{Node, Event, node_eq}
 use Rattle.rules_maps.specs.Words.{num}
@@ -22,7 +23,6 @@ use Rattle.machine_commits.specs.Rising.{HasNone}
 use Rattle.machine_cores.specs.Bank.{cores_of}
 use Rattle.machine_dirs.specs.Bank.{dirs_of}
 use Rattle.machine_links.specs.Flights.{net_of}
-use Rattle.machine_links.proofs.Lemmas.{node_eq-own}
 use Rattle.net_core.specs.Answers.{IsSent, Kept, Took, acts_in, step_of, tid_noted, tid_told}
 use Rattle.net_core.specs.Delivery.{AreMarked}
 use Rattle.net_core.specs.Machine.{Machine, history_of, program_of, settings_of, start_of, world_of}
@@ -57,7 +57,7 @@ pub record HasSent (m n : Machine) (src : Node) : Type 0 where
 
 behind-own : (net : Node → Node → Link) (src dst : Node) (sends : Sends)
     → sending net src sends src dst ≡ net src dst ++ sent_all (sends dst)
-behind-own net src dst sends = rw (node_eq-own src) refl
+behind-own net src dst sends = rw (node_eq-refl src) refl
 
 sent-by : (m n : Machine) (src : Node) → HasSent m n src → IsSent (world_of m) (world_of n) src (sends_of n.last)
 unfolding world_of
@@ -73,7 +73,8 @@ pub as-many : (m n : Machine) (src dst : Node) → m.unsent ≡ [] → net_of n.
     → length (net_of n.flights src dst) ≡ length ((world_of m).net src dst)
 as-many m n src dst settled e = ap (λ net. length (net src dst)) (e ∙ sym (settled-net m settled))
 
-length-taking : (net : Node → Node → Link) (s d : Node) (k : ℕ) (src dst : Node) → length (taking net s d k src dst) ≡ length (net src dst)
+pub length-taking : (net : Node → Node → Link) (s d : Node) (k : ℕ) (src dst : Node)
+    → length (taking net s d k src dst) ≡ length (net src dst)
 length-taking net s d k src dst = by (node_eq src s && node_eq dst d)
   where
     by : (b : Bool) → length (if b then slice_set (net src dst) k None else net src dst) ≡ length (net src dst)

@@ -3,6 +3,7 @@ use Rattle.std.proofs.Common.{◌≡◌, ◌≢◌, ℕ, zero, suc, ◌+◌, ◌
 use Rattle.std.proofs.Common.{Option, Some, None, Ok, Err, IsErrOf, refl, ap, sym, ◌∙◌, subst, arith}
 use Rattle.std.specs.Prelude.{slice_get, is_some}
 use Rattle.std.proofs.lemmas.List.{map-append}
+use Rattle.base_lemmas.proofs.Lemmas.{next-number}
 use Rattle.image_load.specs.Contents.{started}
 use Rattle.rv_code.specs.Machine.{program}
 use Rattle.rules_maps.specs.Nodes.{Event}
@@ -102,15 +103,12 @@ pub ran-none : (m : Machine) (es : List CodeEvent) → RanSo m m 0 es
 unfolding run_from
 ran-none m es = record { ran = refl; events = omega arith; code = refl }
 
-next-number : (k : ℕ) → k + 1 ≡ suc k
-next-number k = omega arith
-
-one-more : (es : List CodeEvent) (k : ℕ) (e : CodeEvent) → slice_get es k ≡ Some e → take (suc k) es ≡ take k es ++ e ∷ []
+pub one-more : (es : List CodeEvent) (k : ℕ) (e : CodeEvent) → slice_get es k ≡ Some e → take (suc k) es ≡ take k es ++ e ∷ []
 one-more [] k e h = absurd (cc)
 one-more (x ∷ es) zero e h = let same : x ≡ e = cc in ap (λ y. y ∷ []) same
 one-more (x ∷ es) (suc k) e h = ap (λ ys. x ∷ ys) (one-more es k e h)
 
-same-code : (m n : Machine) (e : Event) → n.cores.code ≡ m.cores.code
+pub same-code : (m n : Machine) (e : Event) → n.cores.code ≡ m.cores.code
     → next_history (settings_of m) (program_of m) (history_of n) e ≡ next_history (settings_of n) (program_of n) (history_of n) e
 same-code m n e c = λ i. next_history (sym c i).settings (program (started (sym c i))) (history_of n) e
 

@@ -10,33 +10,16 @@ use Rattle.rules_maps.specs.Nodes.{Msg, TidReq, TidGrant, LoadReq, Fill, Skip, P
 use Rattle.rules_maps.specs.Nodes.{WriteBack, Flush, DataReq, Inv, InvAck}
 use Rattle.rules_maps.specs.Shape.{lines}
 use Rattle.rules_maps.specs.Words.{count_below}
-use Rattle.rules_tcc.specs.DirDeliver.{Answer, abort, acknowledgement, ask_owner, dir_commit, dir_deliver, judged}
-use Rattle.rules_tcc.specs.DirDeliver.{load_unless_owned, load_request, mark, mark_unless_owned, probe, skip, write_back}
+use Rattle.rules_tcc.specs.DirDeliver.{Answer, ask_owner, dir_commit, dir_deliver, judged}
+use Rattle.rules_tcc.specs.DirDeliver.{load_unless_owned, load_request, mark, mark_unless_owned, probe, write_back}
 use Rattle.rules_tcc.specs.State.{DirState}
 use Rattle.directory.specs.Gives.{is_taken}
+use Rattle.directory.proofs.Lemmas.{skip-taken, abort-taken, acknowledgement-taken}
 use Rattle.net_core.specs.Taking.{AtLine, SameBut, SameTaking, is_seen}
 
 if-taken : (b : Bool) (x y : Answer) (p q : Bool) → is_taken x ≡ p → is_taken y ≡ q → is_taken (if b then x else y) ≡ (if b then p else q)
 if-taken true x y p q e f = e
 if-taken false x y p q e f = f
-
-if-always : (b : Bool) (x y : Answer) → is_taken x ≡ true → is_taken y ≡ true → is_taken (if b then x else y) ≡ true
-if-always true x y e f = e
-if-always false x y e f = f
-
--- ---- these are always taken
-
-skip-taken : (k : ℕ) (s : DirState) → is_taken (skip k s) ≡ true
-unfolding skip
-skip-taken k s = if-always (nat_lt k s.serving.serving) _ _ refl refl
-
-abort-taken : (k : ℕ) (s : DirState) → is_taken (abort k s) ≡ true
-unfolding abort
-abort-taken k s = if-always (nat_lt k s.serving.serving) _ _ refl (if-always (s.serving.serving == k) _ _ refl refl)
-
-acknowledgement-taken : (c l : ℕ) (keeps : Bool) (s : DirState) → is_taken (acknowledgement c l keeps s) ≡ true
-unfolding acknowledgement
-acknowledgement-taken c l keeps s = if-always (s.owed == 0) _ _ refl refl
 
 -- ---- these by what is the same
 

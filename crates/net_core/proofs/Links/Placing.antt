@@ -6,8 +6,9 @@ use Rattle.std.proofs.Math.Seq.{drop-cons}
 use Rattle.std.proofs.lemmas.Bool.Decides.{nat_tests}
 use Rattle.tcc_base.specs.Settings.{Settings}
 use Rattle.tcc_base.specs.declared.names.NodeId.{NodeId}
+use Rattle.base_lemmas.proofs.Lemmas.{eq-from, node_eq-refl}
 use Rattle.rules_maps.specs.Bridge.{node_of}
-use Rattle.rules_maps.specs.Nodes.{Node, Core, Dir, Vendor, Msg as PlainMsg, node_eq}
+use Rattle.rules_maps.specs.Nodes.{Node, Msg as PlainMsg, node_eq}
 use Rattle.tcc_msg.proofs.Lemmas.{sends_of-append}
 use Rattle.tcc_msg.specs.Plain.{msg_of, sends_of}
 use Rattle.tcc_msg.specs.declared.msg.Msg.{Msg}
@@ -19,11 +20,6 @@ use Rattle.machine_links.proofs.Lemmas.{with_mark-own, with_mark-other}
 use Rattle.machine_links.specs.Flights.{Flights, net_of, is_ready, with_mark}
 use Rattle.machine_links.specs.Places.{is_link}
 use Rattle.net_core.specs.Delivery.{AllMayGo, AreMarked, MayGo, is_deliverable}
-
-pub node_eq-itself : (n : Node) → node_eq n n ≡ true
-node_eq-itself (Core c) = grind (arith, nat_tests)
-node_eq-itself (Dir d) = grind (arith, nat_tests)
-node_eq-itself Vendor = refl
 
 sent_all-append : (xs ys : List PlainMsg) → sent_all (xs ++ ys) ≡ sent_all xs ++ sent_all ys
 unfolding sent_all
@@ -63,7 +59,7 @@ pub first-flies : (net : Node → Node → Link) (n : Node) (x : NodeId × Msg) 
     → in_flight (sending net n (sends_of (x ∷ xs))) n (node_of x.0) (length (net n (node_of x.0))) ≡ Some (msg_of x.1)
 unfolding sends_of sent_all
 first-flies net n x xs =
-    rw (node_eq-itself n, node_eq-itself (node_of x.0))
+    rw (node_eq-refl n, node_eq-refl (node_of x.0))
     (next-on (net n (node_of x.0)) (Some (msg_of x.1)) (sent_all (sends_of xs (node_of x.0))))
 
 -- another number than that of the last was there before
@@ -114,9 +110,6 @@ all-three true true false e = absurd (cc)
 all-three true false c e = absurd (cc)
 all-three false b c e = absurd (cc)
 
-number : (k j : ℕ) → (k == j) ≡ true → k ≡ j
-number k j e = grind (arith, nat_tests)
-
 -- one more message on its link, marked as its directory says
 pub marked-push : (s : Settings) (dirs : ℕ → DirState) (old new : Flights) (n : Node) (x : NodeId × Msg) (ready : Bool)
     → AreMarked s dirs old → net_of new ≡ sending (net_of old) n (sends_of (x ∷ []))
@@ -136,7 +129,7 @@ marked-push s dirs old new n x ready marked net marks says src dst k m fly =
         let t = all-three (node_eq src n) (node_eq dst (node_of x.0)) (k == length (net_of old n (node_of x.0))) e in
         let a = node_eq-eq src n t.0 in
         let b = node_eq-eq dst (node_of x.0) t.1 in
-        let c = number k (length (net_of old n (node_of x.0))) t.2 in
+        let c = eq-from k (length (net_of old n (node_of x.0))) t.2 in
         let is = is-sent (net_of old) n x src dst k m there a b c in
         (λ i. with_mark (is_ready old) n (node_of x.0) (length (net_of old n (node_of x.0))) ready (a i) (b i) (c i))
         ∙ with_mark-own (is_ready old) n (node_of x.0) (length (net_of old n (node_of x.0))) ready

@@ -5,19 +5,17 @@ use Rattle.std.proofs.lemmas.Bool.{le-ltb, lt-ltb}
 use Rattle.std.proofs.lemmas.Bool.Decides.{nat_tests}
 use Rattle.rv_code.specs.Machine.{first_ram}
 use Rattle.tcc_base.specs.Settings.{Settings}
+use Rattle.base_lemmas.proofs.Lemmas.{and-right}
 use Rattle.theorem_live.specs.Fits.{fits, goes_to_core, is_grant, is_request}
-use Rattle.rules_maps.specs.Nodes.{Node, Core, Dir, Vendor, Exec, Evict, Deliver, Msg, TidReq, TidGrant, Fill, ProbeReply, DataReq, Inv}
+use Rattle.rules_maps.specs.Nodes.{Node, Core, Dir, Vendor, Exec, Evict, Deliver, Msg, TidGrant, Fill, ProbeReply, DataReq, Inv}
 use Rattle.rules_program.specs.Program.{Program}
-use Rattle.rules_tcc.specs.Attempt.{Out}
 use Rattle.rules_tcc.specs.CoreDeliver.{core_deliver, from_dir, from_vendor}
 use Rattle.rules_tcc.specs.CoreEvict.{core_evict}
 use Rattle.rules_tcc.specs.CoreExec.{core_exec}
 use Rattle.rules_tcc.specs.DirDeliver.{Answer, Waits, Drops, Asks, Takes, dir_deliver}
 use Rattle.rules_tcc.specs.Links.{in_flight}
 use Rattle.rules_tcc.specs.State.{CoreState, World}
-use Rattle.rules_tcc.specs.Step.{Stepped, answered, delivered, if_vendor_gives, happens, if_in_flight, if_core_moves, names_nodes, step}
-use Rattle.rules_tcc.specs.Step.{if_core_takes}
-use Rattle.rules_tcc.specs.VendorDeliver.{vendor_deliver}
+use Rattle.rules_tcc.specs.Step.{Stepped, answered, delivered, happens, if_in_flight, names_nodes, step}
 use Rattle.machine_cores.specs.Bank.{cores_of}
 use Rattle.machine_dirs.specs.Bank.{dirs_of}
 use Rattle.directory.specs.Gives.{is_taken}
@@ -26,26 +24,16 @@ use Rattle.net_core.specs.Delivery.{is_deliverable}
 use Rattle.net_core.specs.Machine.{Machine, program_of, settings_of, start_of, world_of}
 use Rattle.net_core.specs.Whole.{IsWhole}
 use Rattle.net_core.proofs.Reaching.{in-bounds}
-
-last : (a b : Bool) → (a && b) ≡ true → b ≡ true
-last true b e = e
-last false b e = absurd (cc)
+use Rattle.theorem_live.proofs.Lemmas.{some_granted, some_taken}
+use Rattle.core_node.proofs.Lemmas.{is_moved}
 
 -- ---- what a rule answers
 
-moved-some : (w : World) (c : ℕ) (o : Option Out) → is_some (if_core_moves w c o) ≡ is_some o
-moved-some w c None = refl
-moved-some w c (Some o) = refl
-
-answered-some : (w : World) (c d k : ℕ) (a : Answer) → is_some (answered w c d k a) ≡ is_taken a
+pub answered-some : (w : World) (c d k : ℕ) (a : Answer) → is_some (answered w c d k a) ≡ is_taken a
 answered-some w c d k Waits = refl
 answered-some w c d k Drops = refl
 answered-some w c d k (Asks s sends) = refl
 answered-some w c d k (Takes s sends) = refl
-
-core-takes : (w : World) (src : Node) (c k : ℕ) (o : Option Out) → is_some o ≡ true → is_some (if_core_takes w src c k o) ≡ true
-core-takes w src c k None e = absurd (cc)
-core-takes w src c k (Some o) e = refl
 
 dir-says : (s : Settings) (d : ℕ) (c : CoreState) (x : Msg) → goes_to_core x ≡ true → is_some (from_dir s d c x) ≡ true
 dir-says s d c (Fill l ws) e = refl
@@ -58,21 +46,18 @@ vendor-says : (s : Settings) (c : CoreState) (x : Msg) → is_grant x ≡ true �
 vendor-says s c (TidGrant t) e = refl
 vendor-says s c x e = absurd (cc)
 
-vendor-gives : (w : World) (c k : ℕ) (x : Msg) → is_request x ≡ true → is_some (if_vendor_gives w c k (vendor_deliver w.next c x)) ≡ true
-vendor-gives w c k TidReq e = refl
-vendor-gives w c k x e = absurd (cc)
-
 -- what fits its link is delivered where it is deliverable
 delivered-some : (s : Settings) (w : World) (src dst : Node) (k : ℕ) (x : Msg) → fits s src dst x ≡ true
     → is_some (delivered s w src dst k x) ≡ is_deliverable s w.dirs src dst x
 unfolding fits core_deliver
 delivered-some s w (Core c) (Dir d) k x e = answered-some w c d k (dir_deliver s (w.dirs d) c x)
-delivered-some s w (Core c) Vendor k x e = vendor-gives w c k x (last (nat_lt c s.cores) (is_request x) e)
+delivered-some s w (Core c) Vendor k x e = some_granted w c k x (and-right (nat_lt c s.cores) (is_request x) e)
 delivered-some s w (Dir d) (Core c) k x e =
-    core-takes w (Dir d) c k (from_dir s d (w.cores c) x)
-    (dir-says s d (w.cores c) x (last (nat_lt d s.dirs) (goes_to_core x) (last (nat_lt c s.cores) (nat_lt d s.dirs && goes_to_core x) e)))
+    some_taken w (Dir d) c k (from_dir s d (w.cores c) x)
+    (dir-says s d (w.cores c) x
+    (and-right (nat_lt d s.dirs) (goes_to_core x) (and-right (nat_lt c s.cores) (nat_lt d s.dirs && goes_to_core x) e)))
 delivered-some s w Vendor (Core c) k x e =
-    core-takes w Vendor c k (from_vendor s (w.cores c) x) (vendor-says s (w.cores c) x (last (nat_lt c s.cores) (is_grant x) e))
+    some_taken w Vendor c k (from_vendor s (w.cores c) x) (vendor-says s (w.cores c) x (and-right (nat_lt c s.cores) (is_grant x) e))
 delivered-some s w (Core c) (Core d) k x e = absurd (cc)
 delivered-some s w (Dir c) (Dir d) k x e = absurd (cc)
 delivered-some s w (Dir c) Vendor k x e = absurd (cc)
@@ -125,7 +110,7 @@ pub exec-enabled : (m : Machine) (c : ℕ) → c < (settings_of m).cores
 unfolding step happens names_nodes world_of
 exec-enabled m c h =
     let is : nat_lt c (settings_of m).cores ≡ true = lt-ltb c (settings_of m).cores h in
-    rw is (moved-some (world_of m) c (core_exec (settings_of m) (program_of m) c (cores_of m.cores c)))
+    rw is (is_moved (world_of m) c (core_exec (settings_of m) (program_of m) c (cores_of m.cores c)))
 
 pub exec-refused : (m : Machine) (c : ℕ) → (settings_of m).cores ≤ c → step_of m (Exec c) ≡ None
 unfolding step names_nodes
@@ -142,7 +127,7 @@ evict-enabled m c x y h =
     let a : nat_lt c (settings_of m).cores ≡ true = lt-ltb c (settings_of m).cores h.0 in
     let b : nat_lt x (settings_of m).sets ≡ true = lt-ltb x (settings_of m).sets h.1 in
     let d : nat_lt y (settings_of m).ways ≡ true = lt-ltb y (settings_of m).ways h.2 in
-    rw (a, b, d) (moved-some (world_of m) c (core_evict (settings_of m) x y (cores_of m.cores c)))
+    rw (a, b, d) (is_moved (world_of m) c (core_evict (settings_of m) x y (cores_of m.cores c)))
 
 has-way : (s : Settings) (c x y : ℕ) → (nat_lt c s.cores && (nat_lt x s.sets && nat_lt y s.ways)) ≡ true → HasWay s c x y
 has-way s c x y e = (grind (arith, nat_tests), grind (arith, nat_tests), grind (arith, nat_tests))

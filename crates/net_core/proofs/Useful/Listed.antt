@@ -1,11 +1,12 @@
 -- The useful events of a machine: what its cores may do, and then the messages that are marked.
-use Rattle.std.proofs.Common.{◌≡◌, ℕ, zero, suc, ◌+◌, ◌*◌, ◌^◌, ◌<◌, ◌≤◌, Bool, true, false, cond, ◌&&◌, List, [], ◌∷◌, ◌++◌, map, take}
+use Rattle.std.proofs.Common.{◌≡◌, ℕ, suc, ◌+◌, ◌*◌, ◌^◌, ◌<◌, ◌≤◌, Bool, true, false, ◌&&◌, List, [], ◌∷◌, ◌++◌, map, take}
 use Rattle.std.proofs.Common.{length, length-append, Option, Some, None, is_some, refl, ap, sym, ◌∙◌, subst, arith}
 use Rattle.std.specs.Prelude.{slice_get}
 use Rattle.std.specs.List.{filter, flat_map}
 use Rattle.std.proofs.lemmas.List.Elements.{filter-append}
 use Rattle.std.proofs.lemmas.List.{length-map, map-append}
 use Rattle.std.proofs.lemmas.Nat.{mul-le}
+use Rattle.base_lemmas.proofs.Lemmas.{and-true, get-front, those-most}
 use Rattle.theorem_bounds.proofs.Lemmas.{link_short}
 use Rattle.rules_maps.specs.Nodes.{Node, Core, Dir, Vendor, Event, Exec, Evict, Deliver, Msg}
 use Rattle.rules_maps.specs.Words.{those}
@@ -18,7 +19,7 @@ use Rattle.rules_tcc.specs.Step.{is_enabled}
 use Rattle.rules_tcc.specs.Useful.{delivers, evicts, execs, is_of_use, is_useful, useful}
 use Rattle.machine_cores.specs.Bank.{cores_of}
 use Rattle.machine_cores.specs.Uses.{evict_events, exec_events}
-use Rattle.machine_cores.proofs.Lemmas.{evicts-fit, get-left, get-right, numbers-length}
+use Rattle.machine_cores.proofs.Lemmas.{evicts-fit, get-right, numbers-length}
 use Rattle.core_node.specs.Useful.{useful_evicts}
 use Rattle.core_node.proofs.Lemmas.{useful-evicts, useful-execs}
 use Rattle.machine_links.specs.Flights.{Flights, is_ready, net_of, nodes_of, ready_list, ready_on}
@@ -33,15 +34,11 @@ use Rattle.net_core.proofs.Reaching.{settled-net, whole-bounded}
 
 -- ---- those of a machine
 
-and_true : (b : Bool) → (b && true) ≡ b
-and_true true = refl
-and_true false = refl
-
 -- what is always of use is useful where it is enabled
 pub of-use : (m : Machine) (e : Event) → is_of_use (settings_of m) (program_of m) (world_of m) e ≡ true
     → is_some (step_of m e) ≡ is_useful (settings_of m) (program_of m) (world_of m) e
 unfolding is_useful is_enabled
-of-use m e h = sym (ap (λ b. is_some (step_of m e) && b) h ∙ and_true (is_some (step_of m e)))
+of-use m e h = sym (ap (λ b. is_some (step_of m e) && b) h ∙ and-true (is_some (step_of m e)))
 
 -- a delivery is of use where it is enabled: where its message is marked
 useful-flying : (m : Machine) → IsWhole m → (src dst : Node) (k : ℕ) (x : Msg) → in_flight (world_of m).net src dst k ≡ Some x
@@ -49,7 +46,7 @@ useful-flying : (m : Machine) → IsWhole m → (src dst : Node) (k : ℕ) (x : 
     → is_useful (settings_of m) (program_of m) (world_of m) (Deliver src dst k) ≡ is_ready m.flights src dst k
 unfolding is_useful is_enabled AreMarked
 useful-flying m h src dst k x fly e =
-    ap (λ b. b && true) (flying-enabled m h src dst k x fly) ∙ and_true _ ∙ sym (h.marked src dst k x e)
+    ap (λ b. b && true) (flying-enabled m h src dst k x fly) ∙ and-true _ ∙ sym (h.marked src dst k x e)
 
 useless-none : (m : Machine) (src dst : Node) (k : ℕ) → in_flight (world_of m).net src dst k ≡ None
     → is_useful (settings_of m) (program_of m) (world_of m) (Deliver src dst k) ≡ false
@@ -103,15 +100,6 @@ flat-most f b (x ∷ xs) h =
     let rest : length (flat_map f xs) ≤ length xs * b = flat-most f b xs h in
     let split : suc (length xs) * b ≡ b + length xs * b = grind arith in
     rw split (omega (arith, length-append (f x) (flat_map f xs), own, rest))
-
-those-most : (p : ℕ → Bool) (n : ℕ) → length (those p n) ≤ n
-unfolding those
-those-most p zero = omega arith
-those-most p (suc n) = omega (arith, length-append (those p n) (cond (p n) (n ∷ []) []), one (p n), those-most p n)
-  where
-    one : (b : Bool) → length (cond b (n ∷ []) []) ≤ 1
-    one true = omega arith
-    one false = omega arith
 
 execs-most : (m : Machine) → length (execs_of m) ≤ (settings_of m).cores
 unfolding exec_events
@@ -218,13 +206,13 @@ module _ (m now : Machine) (k : ℕ) (h : IsWhole m) (v : m ≡ now) (settled : 
 
   pub at-execs : (o : Option Event) → o ≡ slice_get (execs_of m) k → k < length (execs_of m)
       → o ≡ slice_get (useful (settings_of now) (program_of now) (world_of now)) k
-  at-execs o e l = e ∙ sym (at-parts ∙ get-left (execs_of m) (evicts_of m ++ ready_list m.flights) k l)
+  at-execs o e l = e ∙ sym (at-parts ∙ get-front (execs_of m) (evicts_of m ++ ready_list m.flights) k l)
 
   pub at-evicts : (o : Option Event) (i : ℕ) → o ≡ slice_get (evicts_of m) i → k ≡ length (execs_of m) + i → i < length (evicts_of m)
       → o ≡ slice_get (useful (settings_of now) (program_of now) (world_of now)) k
   at-evicts o i e q l =
       e ∙ sym (at-parts ∙ (get-right (execs_of m) (evicts_of m ++ ready_list m.flights) i k q
-      ∙ get-left (evicts_of m) (ready_list m.flights) i l))
+      ∙ get-front (evicts_of m) (ready_list m.flights) i l))
 
   pub at-ready : (o : Option Event) (i : ℕ) → o ≡ slice_get (ready_list m.flights) i → k ≡ length (execs_of m) + (length (evicts_of m) + i)
       → o ≡ slice_get (useful (settings_of now) (program_of now) (world_of now)) k

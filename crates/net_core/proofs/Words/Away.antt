@@ -10,6 +10,7 @@ use Rattle.std.proofs.lemmas.Bool.{ne_eqb}
 use Rattle.std.proofs.lemmas.Bool.Decides.{nat_tests}
 use Rattle.std.proofs.lemmas.Nat.{ones_le_self}
 use Rattle.std.proofs.lemmas.List.Concat.{flat_map-append}
+use Rattle.base_lemmas.proofs.Lemmas.{unheld-clean, word_at-own}
 use Rattle.rules_maps.specs.Cache.{Cache, IsCache, dirty_mask, is_dirty}
 use Rattle.rules_maps.specs.Masks.{has, hit}
 use Rattle.rules_maps.specs.Nodes.{Core, Dir, WriteBack}
@@ -21,7 +22,7 @@ use Rattle.rules_tcc.specs.State.{CoreState, World}
 use Rattle.machine_cores.specs.Bank.{cores_of}
 use Rattle.machine_links.specs.Flights.{net_of}
 use Rattle.net_core.specs.Machine.{Machine, settings_of, world_of}
-use Rattle.net_core.proofs.Words.Newest.{hit-dirty, own-word, unframed}
+use Rattle.net_core.proofs.Words.Newest.{hit-dirty}
 use Rattle.net_core.proofs.Words.Seen.{own-copies}
 
 -- ---- a cache
@@ -35,7 +36,7 @@ clean-line sh c v inside none = go (c.dirty v) refl
     go None e = refl
     go (Some g) e =
         let dirty : is_some (c.dirty v) ≡ true = ap is_some e in
-        let here : is_some (c.dirty (word_at (line_of v) (place_of v))) ≡ true = ap (λ w. is_some (c.dirty w)) (own-word v) ∙ dirty in
+        let here : is_some (c.dirty (word_at (line_of v) (place_of v))) ≡ true = ap (λ w. is_some (c.dirty w)) (word_at-own v) ∙ dirty in
         let line : is_dirty c (line_of v) ≡ true =
         any_below-at (λ k. is_some (c.dirty (word_at (line_of v) k))) 8 (place_of v) (omega arith) here in
         let some : any_below (is_dirty c) (lines sh) ≡ true = any_below-at (is_dirty c) (lines sh) (line_of v) inside line in
@@ -70,7 +71,7 @@ pub clean-frames : (sh : Shape) (c : Cache) (l : ℕ) → IsTrue (is_power_of_tw
 clean-frames sh c l some k clean w own = go (c.held (line_of w)) refl
   where
     go : (b : Bool) → c.held (line_of w) ≡ b → c.dirty w ≡ None
-    go false e = unframed sh c w k e
+    go false e = unheld-clean sh c w k e
     go true e =
         let way = k.held (line_of w) e in
         let placed = k.placed (set_of sh (line_of w)) way.0 (line_of w) way.1 in

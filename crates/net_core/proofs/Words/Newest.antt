@@ -1,5 +1,5 @@
 -- The newest of several copies of a word.
-use Rattle.std.proofs.Common.{◌≡◌, ℕ, zero, suc, ◌+◌, ◌<◌, ◌≤◌, Bool, true, false, cond, List, [], ◌∷◌, ◌++◌, take, length, Option, Some}
+use Rattle.std.proofs.Common.{◌≡◌, ℕ, zero, suc, ◌+◌, ◌<◌, ◌≤◌, Bool, true, cond, List, [], ◌∷◌, ◌++◌, take, length, Option, Some}
 use Rattle.std.proofs.Common.{subst}
 use Rattle.std.proofs.Common.{None, is_some, subst, refl, ap, sym, ◌∙◌, arith, get_or, append_assoc, append-nil, if◌then◌else◌}
 use Rattle.std.specs.Prelude.{nat_eq, slice_get}
@@ -8,6 +8,7 @@ use Rattle.std.proofs.Math.Seq.{take-suc}
 use Rattle.std.proofs.lemmas.List.{take_all}
 use Rattle.std.proofs.lemmas.List.Concat.{flat_map-append}
 use Rattle.std.proofs.lemmas.Bool.{eq-eqb}
+use Rattle.base_lemmas.proofs.Lemmas.{word_at-own}
 use Rattle.rules_maps.specs.Cache.{Cache, IsCache, dirty_mask}
 use Rattle.rules_maps.specs.Masks.{hit}
 use Rattle.rules_maps.specs.Nodes.{Msg, WriteBack}
@@ -27,16 +28,14 @@ newest-append a (x ∷ xs) ys = newest-append (newer a x) xs ys
 
 -- ---- a frame
 
-pub own-word : (w : ℕ) → word_at (line_of w) (place_of w) ≡ w
-own-word w = omega arith
-
 -- the frame's mask says whether the word is dirty
 pub hit-dirty : (c : Cache) (w : ℕ) → hit (line_of w) (dirty_mask c (line_of w)) w ≡ is_some (c.dirty w)
 unfolding hit dirty_mask
 hit-dirty c w =
     let place : place_of w < 8 = omega arith in
     let line : nat_eq (line_of w) (line_of w) ≡ true = eq-eqb (line_of w) (line_of w) refl in
-    rw line (has-mask_of (λ k. is_some (c.dirty (word_at (line_of w) k))) (place_of w) place ∙ ap (λ v. is_some (c.dirty v)) (own-word w))
+    rw line (has-mask_of (λ k. is_some (c.dirty (word_at (line_of w) k))) (place_of w) place
+    ∙ ap (λ v. is_some (c.dirty v)) (word_at-own w))
 
 -- the copy of a frame is that of its words under its mask of dirty words
 frame-copy : (sh : Shape) (c : Cache) (w : ℕ) (f : FrameView) → IsCache sh c → Views c (line_of w) f
@@ -60,17 +59,6 @@ pub frame-at : (sh : Shape) (c : Cache) (l w : ℕ) (f : FrameView) → line_of 
     → copy_of w (WriteBack l f.dirty.0 f.words f.tag.0) ≡ copy_in (c.value w) (c.dirty w)
 frame-at sh c l w f e k =
     subst (λ m. Views c m f → copy_of w (WriteBack m f.dirty.0 f.words f.tag.0) ≡ copy_in (c.value w) (c.dirty w)) e (frame-copy sh c w f k)
-
--- a line without a frame has no dirty word
-pub unframed : (sh : Shape) (c : Cache) (w : ℕ) → IsCache sh c → c.held (line_of w) ≡ false → c.dirty w ≡ None
-unframed sh c w k h = go (c.dirty w) refl
-  where
-    go : (o : Option ℕ) → c.dirty w ≡ o → o ≡ None
-    go None e = refl
-    go (Some g) e =
-        let some : is_some (c.value w) ≡ true = k.dirty w (ap is_some e) in
-        let none : is_some (c.value w) ≡ false = ap is_some (k.valued w h) in
-        absurd (cc)
 
 -- ---- the messages on a link
 

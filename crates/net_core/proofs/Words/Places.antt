@@ -2,7 +2,7 @@
 use Rattle.std.proofs.Common.{◌≡◌, ◌≢◌, ℕ, ◌+◌, ◌<◌, ◌≤◌, List, [], ◌∷◌, length, length-set, get_or, refl, ap, sym, ◌∙◌, arith, inl, inr}
 use Rattle.std.proofs.Common.{if◌then◌else◌}
 use Rattle.std.proofs.Common.{Bool, true, false}
-use Rattle.std.proofs.Common.{zero, suc, ◌*◌, ◌/◌, ◌%◌, map}
+use Rattle.std.proofs.Common.{◌*◌, ◌/◌, ◌%◌, map}
 use Rattle.std.specs.Prelude.{nat_eq, slice_set}
 use Rattle.std.specs.List.{range_with_len}
 use Rattle.std.proofs.lemmas.List.{ext_get_or}
@@ -11,10 +11,11 @@ use Rattle.std.proofs.lemmas.List.{get_or-set_other, get_or-set_same}
 use Rattle.std.proofs.lemmas.Bool.{cases_eq, eq-eqb, ne_eqb}
 use Rattle.rules_maps.specs.Masks.{has, hit}
 use Rattle.rules_maps.specs.Nodes.{WriteBack}
-use Rattle.rules_maps.specs.Words.{eight, line_of, place_of, word_at}
+use Rattle.rules_maps.specs.Words.{line_of, place_of, word_at}
 use Rattle.tcc_base.specs.declared.names.LineAddr.{LineAddr}
 use Rattle.tcc_base.specs.declared.names.Mask.{Mask}
 use Rattle.tcc_base.specs.declared.names.Tid.{Tid}
+use Rattle.base_lemmas.proofs.Lemmas.{line_of-word_at, place_of-word_at}
 use Rattle.tcc_msg.specs.Plain.{msg_of}
 use Rattle.tcc_msg.specs.declared.msg.Msg.{Msg as CodeMsg}
 use Rattle.tcc_msg.specs.declared.msg.Msg.TheVariants as code
@@ -40,19 +41,12 @@ pub under-free : (m : ℕ) (ws : List ℕ) (g k : ℕ) (a : Copy) → has m k �
 unfolding under
 under-free m ws g k a h = rw h refl
 
--- the word at a place of a line
-pub placed-line : (l k : ℕ) → k < 8 → line_of (word_at l k) ≡ l
-placed-line l k h = omega arith
-
-pub placed-place : (l k : ℕ) → k < 8 → place_of (word_at l k) ≡ k
-placed-place l k h = omega arith
-
 pub under-copies : (l m : ℕ) (ws : List ℕ) (g k : ℕ) (a : Copy) → k < 8
     → under m ws g k a ≡ newest a (copy_of (word_at l k) (WriteBack l m ws g))
 unfolding under hit newest
 under-copies l m ws g k a h =
-    let own : nat_eq l (line_of (word_at l k)) ≡ true = eq-eqb l (line_of (word_at l k)) (sym (placed-line l k h)) in
-    let place : place_of (word_at l k) ≡ k = placed-place l k h in
+    let own : nat_eq l (line_of (word_at l k)) ≡ true = eq-eqb l (line_of (word_at l k)) (sym (line_of-word_at l k h)) in
+    let place : place_of (word_at l k) ≡ k = place_of-word_at l k h in
     rw own (rw place (go (has m k)))
   where
     go : (b : Bool) → (if b then newer a (record { tag = g; value = get_or ws k 0 }) else a)
@@ -119,7 +113,7 @@ pub newest-elsewhere : (a : Copy) (l k : ℕ) (own m : ℕ) (ws : List ℕ) (g :
     → a ≡ newest a (copy_of (word_at l k) (WriteBack own m ws g))
 unfolding hit newest
 newest-elsewhere a l k own m ws g e h =
-    let line : line_of (word_at l k) ≡ l = placed-line l k h in
+    let line : line_of (word_at l k) ≡ l = line_of-word_at l k h in
     let other : nat_eq own l ≡ false = ne_eqb own l e in
     rw (line, other) refl
 
@@ -128,22 +122,6 @@ pub newest-empty : (a : Copy) (l k : ℕ) (ws : List ℕ) (g : ℕ) → k < 8 �
 newest-empty a l k ws g h = under-free 0 ws g k a (has-zero k) ∙ under-copies l 0 ws g k a h
 
 -- ---- eight words
-
-pub eight-at : (f : ℕ → ℕ) (k : ℕ) → k < 8 → get_or (eight f) k 0 ≡ f k
-unfolding eight
-eight-at f zero h = refl
-eight-at f (suc zero) h = refl
-eight-at f (suc (suc zero)) h = refl
-eight-at f (suc (suc (suc zero))) h = refl
-eight-at f (suc (suc (suc (suc zero)))) h = refl
-eight-at f (suc (suc (suc (suc (suc zero))))) h = refl
-eight-at f (suc (suc (suc (suc (suc (suc zero)))))) h = refl
-eight-at f (suc (suc (suc (suc (suc (suc (suc zero))))))) h = refl
-eight-at f (suc (suc (suc (suc (suc (suc (suc (suc k)))))))) h = absurd (omega arith)
-
-pub eight-long : (f : ℕ → ℕ) → length (eight f) ≡ 8
-unfolding eight
-eight-long f = refl
 
 -- the words of a line, each by its place
 pub line-is : (f : ℕ → ℕ) (l : ℕ) (xs : List ℕ) → length xs ≡ 8 → ((k : ℕ) → k < 8 → get_or xs k 0 ≡ f (word_at l k))

@@ -3,6 +3,7 @@ use Rattle.std.proofs.Common.{◌≡◌, ℕ, suc, ◌+◌, ◌<◌, List, [], �
 use Rattle.std.proofs.Common.{sym, ◌∙◌, subst, arith, append-nil}
 use Rattle.std.specs.List.{flat_map}
 use Rattle.std.proofs.lemmas.List.Concat.{flat_map-append}
+use Rattle.base_lemmas.proofs.Lemmas.{eight-at, line_of-word_at}
 use Rattle.image_load.specs.Contents.{Contents, started}
 use Rattle.image_load.specs.Start.{Start}
 use Rattle.rv_code.specs.Machine.{first_ram, program}
@@ -21,7 +22,7 @@ use Rattle.machine_links.specs.Flights.{net_of}
 use Rattle.net_core.specs.Machine.{Machine, history_of, settings_of, start_of, world_of}
 use Rattle.net_core.specs.Whole.{IsWhole}
 use Rattle.net_core.proofs.Words.Newest.{newest-append}
-use Rattle.net_core.proofs.Words.Places.{eight-at, newest-none, placed-line}
+use Rattle.net_core.proofs.Words.Places.{newest-none}
 use Rattle.net_core.proofs.Reaching.{settled-net}
 
 -- ---- caches
@@ -136,8 +137,8 @@ pub home-word : (ram : ℕ → ℕ) (d : DirsData) (l k : ℕ) (ws : List ℕ) �
 home-word ram d l k ws b e =
     ap (λ xs. get_or xs k 0) e
     ∙ (eight-at (λ j. (dirs_of ram d (home d.settings l)).words (word_at l j)) k b
-    ∙ ap (λ n. (dirs_of ram d (home d.settings n)).words (word_at l k)) (sym (placed-line l k b)))
+    ∙ ap (λ n. (dirs_of ram d (home d.settings n)).words (word_at l k)) (sym (line_of-word_at l k b)))
 
 pub home-tag : (ram : ℕ → ℕ) (d : DirsData) (l k t : ℕ) → k < 8 → t ≡ (dirs_of ram d (home d.settings l)).lines.tag l
     → t ≡ (dirs_of ram d (home d.settings (line_of (word_at l k)))).lines.tag (line_of (word_at l k))
-home-tag ram d l k t b e = e ∙ ap (λ n. (dirs_of ram d (home d.settings n)).lines.tag n) (sym (placed-line l k b))
+home-tag ram d l k t b e = e ∙ ap (λ n. (dirs_of ram d (home d.settings n)).lines.tag n) (sym (line_of-word_at l k b))

@@ -2,6 +2,7 @@
 use Rattle.std.proofs.Common.{◌≡◌, ℕ, ◌+◌, ◌<◌, List, ◌++◌, length, Some, ap, sym, ◌∙◌, subst, arith}
 use Rattle.std.specs.Prelude.{slice_get}
 use Rattle.std.proofs.lemmas.Option.{slice_get_within}
+use Rattle.base_lemmas.proofs.Lemmas.{get-front}
 use Rattle.image_load.specs.Contents.{Contents}
 use Rattle.rules_apart.specs.Fitting.{node_count}
 use Rattle.apart_node.specs.Linked.{IsLinkedTo}
@@ -9,7 +10,7 @@ use Rattle.apart_node.specs.Node.{NodeData}
 use Rattle.node_locks.specs.Hearing.{AllAreNodes, AllHaveMet, HaveAllMet}
 use Rattle.node_locks.specs.Wiring.{AreNodes}
 use Rattle.node_locks.proofs.Peers.{core-peers}
-use Rattle.node_locks.proofs.Rounds.{get-front, get-back}
+use Rattle.node_locks.proofs.Rounds.{get-back}
 
 module _ (code : Contents) (nodes cores others : List NodeData) (are : AreNodes code nodes) (whole : nodes ≡ cores ++ others)
     (count : length cores ≡ code.settings.cores) where

@@ -3,6 +3,7 @@
 use Rattle.std.proofs.Common.{◌≡◌, true, List, [], ◌∷◌, map, Option, Some, None, refl, ap, sym, ◌∙◌, subst}
 use Rattle.std.specs.Prelude.{IsSomeAnd, IfSome}
 use Rattle.std.specs.List.{AllByRecursion, filter}
+use Rattle.base_lemmas.proofs.Lemmas.{filter-map}
 use Rattle.image_load.specs.Start.{Start}
 use Rattle.rv_code.specs.Machine.{program, first_ram}
 use Rattle.theorem_riscv.specs.Suiting.{world_at_start, local_at_start, AfterRun}
@@ -19,7 +20,7 @@ use Rattle.rules_apart.specs.Fitting.{log_of, FitLogs, IsMergeOf}
 use Rattle.rules_apart.specs.declared.logs.Logged.{Logged}
 use Rattle.stamp_merge.proofs.Laws.Fitting.{entry-event, entry-stamp, are_logs}
 use Rattle.stamp_merge.proofs.Sorting.Laid.{node}
-use Rattle.stamp_merge.proofs.Sorting.Lists.{each-from_all, filter-map}
+use Rattle.stamp_merge.proofs.Sorting.Lists.{each-from_all}
 
 -- an entry of a node of the machine
 abbrev IsHere : Shape → Entry → Type 0

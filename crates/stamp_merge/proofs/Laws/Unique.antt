@@ -6,6 +6,7 @@ use Rattle.std.proofs.lemmas.Bool.Decides.{nat_tests}
 use Rattle.tcc_base.specs.Settings.{Settings}
 use Rattle.tcc_base.specs.declared.names.NodeId.{NodeId}
 use Rattle.tcc_base.specs.declared.names.NodeId.TheVariants as named
+use Rattle.base_lemmas.proofs.Lemmas.{node_eq-refl}
 use Rattle.rules_maps.specs.Bridge.{node_of}
 use Rattle.rules_maps.specs.Nodes.{Node, Core, Dir, Vendor, node_eq}
 use Rattle.rules_maps.specs.Shape.{Shape}
@@ -21,16 +22,11 @@ use Rattle.rules_apart.specs.Filled.{bare}
 use Rattle.rules_apart.specs.Fitting.{IsMergeOf}
 use Rattle.rules_apart.specs.declared.logs.Logged.{Logged}
 
-same-node : (n : Node) → node_eq n n ≡ true
-same-node (Core c) = grind (arith, nat_tests)
-same-node (Dir d) = grind (arith, nat_tests)
-same-node Vendor = refl
-
 other-way : (m n : Node) → node_eq m n ≡ false → node_eq n m ≡ false
 other-way m n q = at (node_eq n m) refl
   where
     at : (b : Bool) → node_eq n m ≡ b → node_eq n m ≡ false
-    at true e = let i : n ≡ m = node_eq-eq n m e in let j = same-node n in absurd (cc)
+    at true e = let i : n ≡ m = node_eq-eq n m e in let j = node_eq-refl n in absurd (cc)
     at false e = e
 
 one-before : (m n : Node) → node_before m n ≡ true → node_before n m ≡ true → ⊥
@@ -53,7 +49,7 @@ one-entry-before e f h k =
     (one-before (at_node e.event) (at_node f.event)) h k
 
 filter-first : (x : Entry) (xs : List Entry) → filter (is_at (at_node x.event)) (x ∷ xs) ≡ x ∷ filter (is_at (at_node x.event)) xs
-filter-first x xs = rw (same-node (at_node x.event)) refl
+filter-first x xs = rw (node_eq-refl (at_node x.event)) refl
 
 -- the first of those that pass is one of the list
 first-passing : (P : Entry → Type 0) (t : Entry → Bool) (x : Entry) (xs ys : List Entry) → filter t ys ≡ x ∷ xs → Each P ys → P x

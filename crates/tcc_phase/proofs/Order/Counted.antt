@@ -1,11 +1,12 @@
 -- Of a list in order some events are left out: which one is the k-th that isn't.
 use Rattle.std.proofs.Common.{◌≡◌, ℕ, zero, suc, ◌+◌, ◌-◌, ◌<◌, ◌≤◌, Bool, true, false, cond, List, [], ◌∷◌, length, take, Some, None}
-use Rattle.std.proofs.Common.{refl, ap, sym, subst, arith, inl, inr}
+use Rattle.std.proofs.Common.{refl, ap, sym, subst, arith}
 use Rattle.std.specs.Prelude.{filter, not, slice_get}
 use Rattle.rules_maps.specs.Nodes.{Event}
-use Rattle.rules_tcc.specs.Laws.{IsIn, IsBeforeAll, IsOrdered}
+use Rattle.rules_tcc.specs.Laws.{IsBeforeAll, IsOrdered}
 use Rattle.rules_tcc.specs.Useful.{event_before}
 use Rattle.tcc_phase.proofs.Order.Ordered.{before-in, before-once, not-itself, filter-before}
+use Rattle.live_core.proofs.Lemmas.{is-at}
 
 -- how many of the first n are left out
 abbrev pub left_out : (p : Event → Bool) → List Event → (n : ℕ) → ℕ
@@ -95,11 +96,6 @@ kth p (x ∷ es) k i (suc n) s a b = go (λ k i. kth p es k i n) (p x) a b
     go f false a b = first f k s a b
 
 -- ---- by order
-
-is-at : (es : List Event) (n : ℕ) (e : Event) → slice_get es n ≡ Some e → IsIn e es
-is-at [] n e at = absurd (cc)
-is-at (x ∷ es) zero e at = inl (cc)
-is-at (x ∷ es) (suc n) e at = inr (is-at es n e at)
 
 -- where event n stands before the j-th that is left out, at most j of the first n + 1 are
 pub stands-before : (p : Event → Bool) (es : List Event) (n j : ℕ) (e h : Event) → IsOrdered es → slice_get es n ≡ Some e

@@ -2,6 +2,7 @@
 use Rattle.std.proofs.Common.{◌≡◌, Bool, true, false, cond, ◌&&◌, ◌||◌, List, [], ◌∷◌, refl, ap, sym, ◌∙◌, subst, arith, inl, inr, ⊎_elim}
 use Rattle.std.specs.Prelude.{nat_lt, filter}
 use Rattle.std.proofs.lemmas.Bool.Decides.{nat_tests}
+use Rattle.base_lemmas.proofs.Lemmas.{node_eq-sym}
 use Rattle.rules_maps.specs.Nodes.{Node, Core, Dir, Vendor, Event, Exec, Evict, Deliver, node_eq}
 use Rattle.rules_tcc.specs.Laws.{IsIn, IsBeforeAll, IsOrdered}
 use Rattle.rules_tcc.specs.Useful.{event_before, node_before}
@@ -25,17 +26,6 @@ node-same (Dir c) (Core d) p q = absurd (cc)
 node-same (Dir c) (Dir d) p q = grind (arith, nat_tests)
 node-same (Dir c) Vendor p q = absurd (cc)
 node-same Vendor b p q = absurd (cc)
-
-node-turned : (a b : Node) → node_eq a b ≡ node_eq b a
-node-turned (Core c) (Core d) = grind (arith, nat_tests)
-node-turned (Core c) (Dir d) = refl
-node-turned (Core c) Vendor = refl
-node-turned (Dir c) (Core d) = refl
-node-turned (Dir c) (Dir d) = grind (arith, nat_tests)
-node-turned (Dir c) Vendor = refl
-node-turned Vendor (Core d) = refl
-node-turned Vendor (Dir d) = refl
-node-turned Vendor Vendor = refl
 
 -- of lexicographic orders
 pairs-once : (a b c d e f : Bool) → (a ≡ true → d ≡ true → ⊥) → (b ≡ true → d ≡ true → ⊥) → (e ≡ true → a ≡ true → ⊥) → (c ≡ true
@@ -62,9 +52,9 @@ before-once (Deliver s d k) (Exec e) p q = absurd (cc)
 before-once (Deliver s d k) (Evict e u v) p q = absurd (cc)
 before-once (Deliver s d k) (Deliver t e m) p q =
     pairs-once (node_before s t) (node_eq s t) _ (node_before t s) (node_eq t s) _
-    (node-once s t) (λ x y. node-same t s (sym (node-turned s t) ∙ x) y) (λ x y. node-same s t (node-turned s t ∙ x) y)
+    (node-once s t) (λ x y. node-same t s (sym (node_eq-sym s t) ∙ x) y) (λ x y. node-same s t (node_eq-sym s t ∙ x) y)
     (pairs-once (node_before d e) (node_eq d e) (nat_lt k m) (node_before e d) (node_eq e d) (nat_lt m k)
-    (node-once d e) (λ x y. node-same e d (sym (node-turned d e) ∙ x) y) (λ x y. node-same d e (node-turned d e ∙ x) y)
+    (node-once d e) (λ x y. node-same e d (sym (node_eq-sym d e) ∙ x) y) (λ x y. node-same d e (node_eq-sym d e ∙ x) y)
     (λ x y. grind (arith, nat_tests))) p q
 
 pub not-itself : (e : Event) → event_before e e ≡ true → ⊥

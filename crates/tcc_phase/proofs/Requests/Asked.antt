@@ -13,6 +13,7 @@ use Rattle.rules_tcc.specs.Step.{Stepped, if_vendor_gives, happens, if_in_flight
 use Rattle.rules_tcc.specs.VendorDeliver.{Granted, vendor_deliver}
 use Rattle.theorem_phases.specs.Laws.{asks}
 use Rattle.tcc_phase.specs.Requests.{IsAsked}
+use Rattle.theorem_phases.proofs.Lemmas.{untaken}
 
 -- ---- one link
 
@@ -57,21 +58,10 @@ asked-taken (Some m ∷ ms) (suc n) a s = absurd a
 
 -- ---- one event
 
-and-false : (b : Bool) → (b && false) ≡ false
-and-false true = refl
-and-false false = refl
-
 -- a link that only grows
 grown : (at : Node) (c n : ℕ) (old new : Link) → Grows at (Core c) old new → IsAsked old n → AtMostOne new → IsAsked new n
 grown at c n old new (more, e, q) a o =
     subst (λ l. IsAsked l n) (sym e) (asked-sends old n more a (subst AtMostOne e o))
-
--- what is taken elsewhere
-untaken : (net : Node → Node → Link) (src dst : Node) (c k : ℕ) → node_eq Vendor dst ≡ false
-    → taking net src dst k (Core c) Vendor ≡ net (Core c) Vendor
-untaken net src dst c k e =
-    ap (λ b. if node_eq (Core c) src && b then slice_set (net (Core c) Vendor) k None else net (Core c) Vendor) e
-    ∙ ap (λ b. if b then slice_set (net (Core c) Vendor) k None else net (Core c) Vendor) (and-false (node_eq (Core c) src))
 
 unlike : (net : Node → Node → Link) (src : Node) (c k : ℕ) → node_eq (Core c) src ≡ false
     → taking net src Vendor k (Core c) Vendor ≡ net (Core c) Vendor

@@ -1,7 +1,8 @@
 -- Which cores are late, by the phases that are kept.
-use Rattle.std.proofs.Common.{◌≡◌, ℕ, zero, suc, ◌<◌, Bool, true, false, ◌&&◌, ◌||◌, List, Option, None, refl, ap, sym, ◌∙◌, arith}
+use Rattle.std.proofs.Common.{◌≡◌, ℕ, suc, ◌<◌, Bool, true, false, ◌&&◌, ◌||◌, List, Option, None, refl, ap, sym, ◌∙◌, arith}
 use Rattle.std.specs.Prelude.{◌↔◌, IsTrue, get_or, not, nat_lt}
 use Rattle.std.proofs.lemmas.Bool.Decides.{nat_tests}
+use Rattle.base_lemmas.proofs.Lemmas.{any_below-none, any_below-same}
 use Rattle.image_load.specs.Start.{Start}
 use Rattle.rules_maps.specs.Words.{any_below}
 use Rattle.rules_tcc.specs.State.{Halted, Phase, World}
@@ -10,24 +11,11 @@ use Rattle.theorem_phases.specs.Phased.{goes_before, has_halted, is_late}
 use Rattle.theorem_phases.specs.Phases.{phase_of}
 use Rattle.tcc_phase.specs.Requests.{either_below, is_behind, is_below}
 
--- the same of all numbers below n
-pub any-same : (p q : ℕ → Bool) (n : ℕ) → ((j : ℕ) → j < n → p j ≡ q j) → any_below p n ≡ any_below q n
-unfolding any_below
-any-same p q zero h = refl
-any-same p q (suc n) h =
-    ap (λ b. b || p n) (any-same p q n (λ j l. h j (omega (arith, l)))) ∙ ap (λ b. any_below q n || b) (h n (omega arith))
-
-any-none : (p : ℕ → Bool) (n : ℕ) → ((j : ℕ) → j < n → p j ≡ false) → any_below p n ≡ false
-unfolding any_below
-any-none p zero h = refl
-any-none p (suc n) h =
-    ap (λ b. b || p n) (any-none p n (λ j l. h j (omega (arith, l)))) ∙ h n (omega arith)
-
 pub behind-late : (s : Start) (h : History) (own : List ℕ) → ((j : ℕ) → j < s.settings.cores → get_or own j 0 ≡ phase_of s h j)
     → (c : ℕ) → c < s.settings.cores → is_late s h c ≡ is_behind s.settings.cores h.world own (get_or own c 0)
 unfolding is_late is_behind
 behind-late s h own e c l =
-    any-same (goes_before s h c) (λ j. not (has_halted (h.world.cores j).phase) && nat_lt (get_or own j 0) (get_or own c 0))
+    any_below-same (goes_before s h c) (λ j. not (has_halted (h.world.cores j).phase) && nat_lt (get_or own j 0) (get_or own c 0))
     s.settings.cores
     (λ j m. (λ i. not (has_halted (h.world.cores j).phase) && nat_lt (sym (e j m) i) (sym (e c l) i)))
 
@@ -35,7 +23,7 @@ behind-late s h own e c l =
 pub even-none : (n : ℕ) (w : World) (own : List ℕ) (c : ℕ) → ((j : ℕ) → j < n → get_or own j 0 ≡ get_or own c 0)
     → is_behind n w own (get_or own c 0) ≡ false
 unfolding is_behind
-even-none n w own c h = any-none _ n (λ j m. go (not (has_halted (w.cores j).phase)) j (h j m))
+even-none n w own c h = any_below-none _ n (λ j m. go (not (has_halted (w.cores j).phase)) j (h j m))
   where
     go : (b : Bool) (j : ℕ) → get_or own j 0 ≡ get_or own c 0 → (b && nat_lt (get_or own j 0) (get_or own c 0)) ≡ false
     go false j e = refl

@@ -7,6 +7,7 @@ use Rattle.std.proofs.lemmas.List.{map-append}
 use Rattle.image_load.specs.Start.{Start}
 use Rattle.rv_code.specs.Machine.{program}
 use Rattle.tcc_base.specs.Settings.{Settings}
+use Rattle.base_lemmas.proofs.Lemmas.{and-both, and-left, and-true}
 use Rattle.rules_maps.specs.Nodes.{Core, Dir, Vendor, Msg, Event, Exec, Evict, Deliver}
 use Rattle.rules_maps.specs.Words.{those}
 use Rattle.rules_program.specs.Program.{Program}
@@ -105,15 +106,6 @@ module _ (f : ℕ → Event) (q : ℕ → Bool) where
 requests-rise : (asked : List ℕ) (c d : ℕ) → c < d → event_before (request asked c) (request asked d) ≡ true
 requests-rise asked c d l = grind (arith, nat_tests)
 
-both-true : (a b : Bool) → (a && b) ≡ true → (a ≡ true) × (b ≡ true)
-both-true true true e = (refl, refl)
-both-true true false e = absurd (cc)
-both-true false b e = absurd (cc)
-
-with-true : (a : Bool) → (a && true) ≡ a
-with-true true = refl
-with-true false = refl
-
 named : (b : Bool) (o : Option Stepped) → is_some (cond b o None) ≡ true → (b ≡ true) × (is_some o ≡ true)
 named true o e = (refl, e)
 named false o e = absurd (cc)
@@ -122,16 +114,13 @@ flies : (sh : Settings) (w : World) (c k : ℕ) (m : Option Msg) → is_some (if
 flies sh w c k None e = absurd (cc)
 flies sh w c k (Some m) e = refl
 
-exists : (a b : Bool) → (a && b) ≡ true → a ≡ true
-exists a b e = (both-true a b e).0
-
 -- a request that may be delivered is of a core, and in flight
 enabled-request : (sh : Settings) (p : Program) (w : World) (c k : ℕ) → is_some (step sh p w (Deliver (Core c) Vendor k)) ≡ true
     → (c < sh.cores) × IsSome (in_flight w.net (Core c) Vendor k)
 unfolding step happens names_nodes
 enabled-request sh p w c k e =
     let n = named (nat_lt c sh.cores && true) (if_in_flight sh w (Core c) Vendor k (in_flight w.net (Core c) Vendor k)) e in
-    let t = exists (nat_lt c sh.cores) true n.0 in
+    let t = and-left (nat_lt c sh.cores) true n.0 in
     (grind (arith, nat_tests), flies sh w c k (in_flight w.net (Core c) Vendor k) n.1)
 
 module _ (s : Start) (h : History) (own asked : List ℕ) (holds : UsefulHolds) (ordered : UsefulOrdered)
@@ -148,8 +137,8 @@ module _ (s : Start) (h : History) (own asked : List ℕ) (holds : UsefulHolds) 
   from-those e i =
       let w = of-those (request asked) waits e s.settings.cores i in
       let c = w.number in
-      let both = both-true (is_behind s.settings.cores h.world own (get_or own c 0)) _ w.passes in
-      let u : is_useful s.settings (program s) h.world (request asked c) ≡ true = with-true _ ∙ both.1 in
+      let both = and-both (is_behind s.settings.cores h.world own (get_or own c 0)) _ w.passes in
+      let u : is_useful s.settings (program s) h.world (request asked c) ≡ true = and-true _ ∙ both.1 in
       let t : is_held s h (request asked c) ≡ true = late c w.below ∙ both.0 in
       subst (λ x. IsIn x (filter (is_held s h) all)) w.is
       (in-filter (is_held s h) (request asked c) all ((holds s.settings (program s) h.world (request asked c)).1 u) t)
@@ -164,7 +153,7 @@ module _ (s : Start) (h : History) (own asked : List ℕ) (holds : UsefulHolds) 
   to-those (Deliver Vendor d k) (i, t) = absurd (cc)
   to-those (Deliver (Core c) Vendor k) (i, t) =
       let u = (holds s.settings (program s) h.world (Deliver (Core c) Vendor k)).0 i in
-      let on : is_some (step s.settings (program s) h.world (Deliver (Core c) Vendor k)) ≡ true = exists _ true u in
+      let on : is_some (step s.settings (program s) h.world (Deliver (Core c) Vendor k)) ≡ true = and-left _ true u in
       let at = enabled-request s.settings (program s) h.world c k on in
       let same : k ≡ get_or asked c 0 = asked-at (h.world.net (Core c) Vendor) (get_or asked c 0) k (next c at.0) at.1 in
       let w : waits c ≡ true =

@@ -9,6 +9,7 @@ use Rattle.std.proofs.lemmas.List.Edits.{length-insert}
 use Rattle.std.proofs.lemmas.List.Sorted.{searched}
 use Rattle.std.proofs.lemmas.Bool.Decides.{nat_tests}
 use Rattle.tcc_base.specs.Settings.{Settings}
+use Rattle.base_lemmas.proofs.Lemmas.{any_below-same, those-most, those-same}
 use Rattle.rules_maps.specs.Nodes.{Core, Vendor, Msg, Event, Exec, Evict, Deliver}
 use Rattle.rules_maps.specs.Words.{those}
 use Rattle.rules_program.specs.Program.{Program}
@@ -19,8 +20,7 @@ use Rattle.rules_tcc.specs.VendorDeliver.{Granted, vendor_deliver}
 use Rattle.theorem_phases.specs.Laws.{asks, executes}
 use Rattle.theorem_phases.specs.Phased.{has_halted}
 use Rattle.tcc_phase.specs.Requests.{HeldBefore, Limits, is_above, is_behind, is_waiting, request}
-use Rattle.tcc_phase.proofs.Requests.Behind.{any-same}
-use Rattle.tcc_phase.proofs.Requests.Those.{absent, between, stands, those-alike, those-insert, those-most, those-rise}
+use Rattle.tcc_phase.proofs.Requests.Those.{absent, between, stands, those-insert, those-rise}
 use Rattle.tcc_phase.proofs.Requests.Waiting.{waits-above}
 
 -- ---- what the vendor takes
@@ -68,7 +68,7 @@ module _ (s : Settings) (w v : World) (own : List ℕ)
     (halts : (j : ℕ) → has_halted (v.cores j).phase ≡ has_halted (w.cores j).phase) where
   behind-same : (q : ℕ) → is_behind s.cores v own q ≡ is_behind s.cores w own q
   unfolding is_behind
-  behind-same q = any-same _ _ s.cores (λ j l. ap (λ b. not b && nat_lt (get_or own j 0) q) (halts j))
+  behind-same q = any_below-same _ _ s.cores (λ j l. ap (λ b. not b && nat_lt (get_or own j 0) q) (halts j))
 
   pub limits-same : (least : Option ℕ) → Limits s w own least → Limits s v own least
   limits-same least h c l = behind-same (get_or own c 0) ∙ h c l
@@ -146,7 +146,7 @@ module _ (s : Settings) (p : Program) (w : World) (own asked : List ℕ) (e : Ev
     (h : HeldBefore s p w own asked e held) where
   pub unless-executed : ((c : ℕ) → c < s.cores → executes c e ≡ true → is_waiting s p w own asked c ≡ h.waited c)
       → held ≡ those (is_waiting s p w own asked) s.cores
-  unless-executed f = h.listed ∙ those-alike h.waited (is_waiting s p w own asked) s.cores (λ c l. go c l (executes c e) refl)
+  unless-executed f = h.listed ∙ those-same h.waited (is_waiting s p w own asked) s.cores (λ c l. go c l (executes c e) refl)
     where
       go : (c : ℕ) → c < s.cores → (b : Bool) → executes c e ≡ b → h.waited c ≡ is_waiting s p w own asked c
       go c l true x = sym (f c l x)

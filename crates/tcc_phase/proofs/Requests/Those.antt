@@ -5,6 +5,7 @@ use Rattle.std.specs.Prelude.{get_or, insert, nat_lt}
 use Rattle.std.proofs.lemmas.Bool.Decides.{nat_tests}
 use Rattle.std.proofs.lemmas.List.{get_or_append_left, get_or_push, length_push}
 use Rattle.std.proofs.lemmas.List.Edits.{insert-append_left, insert_end}
+use Rattle.base_lemmas.proofs.Lemmas.{those-same as those-alike}
 use Rattle.rules_maps.specs.Words.{those}
 
 pub those-first : (p : ℕ → Bool) → [] ≡ those p 0
@@ -25,33 +26,7 @@ those-more p n t = sym (rw add-one (one p n t))
 pub those-same : (p : ℕ → Bool) (n : ℕ) → p n ≡ false → those p (n + 1) ≡ those p n
 those-same p n t = rw add-one (none p n t)
 
--- by tests that are equal below the bound
-pub those-alike : (p q : ℕ → Bool) (n : ℕ) → ((c : ℕ) → c < n → p c ≡ q c) → those p n ≡ those q n
-unfolding those
-those-alike p q zero h = refl
-those-alike p q (suc n) h =
-    ap (λ xs. xs ++ cond (p n) (n ∷ []) []) (those-alike p q n (λ c l. h c (omega (arith, l))))
-    ∙ ap (λ b. those q n ++ cond b (n ∷ []) []) (h n (omega arith))
-
--- where none passes there are none
-pub those-none : (p : ℕ → Bool) (n : ℕ) → ((c : ℕ) → c < n → p c ≡ false) → those p n ≡ []
-unfolding those
-those-none p zero h = refl
-those-none p (suc n) h =
-    ap (λ b. those p n ++ cond b (n ∷ []) []) (h n (omega arith)) ∙ append-nil (those p n)
-    ∙ those-none p n (λ c l. h c (omega (arith, l)))
-
 -- ---- where they stand
-
--- no more of them than numbers
-pub those-most : (p : ℕ → Bool) (n : ℕ) → length (those p n) ≤ n
-unfolding those
-those-most p zero = omega arith
-those-most p (suc n) = go (p n) (those-most p n)
-  where
-    go : (b : Bool) → length (those p n) ≤ n → length (those p n ++ cond b (n ∷ []) []) ≤ suc n
-    go true h = let e = length_push (those p n) n in omega (arith, e, h)
-    go false h = let e = ap length (append-nil (those p n)) in omega (arith, e, h)
 
 one-longer : (p : ℕ → Bool) (n : ℕ) → p n ≡ true → length (those p (suc n)) ≡ length (those p n) + 1
 one-longer p n t = ap length (one p n t) ∙ length_push (those p n) n

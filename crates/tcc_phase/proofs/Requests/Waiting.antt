@@ -2,12 +2,12 @@
 use Rattle.std.proofs.Common.{◌≡◌, ℕ, ◌<◌, ◌&&◌, false, List, [], Option, Some, None, refl, ap, sym}
 use Rattle.std.specs.Prelude.{is_some}
 use Rattle.tcc_base.specs.Settings.{Settings}
+use Rattle.base_lemmas.proofs.Lemmas.{those-none, those-same}
 use Rattle.rules_maps.specs.Words.{those}
 use Rattle.rules_program.specs.Program.{Program}
 use Rattle.rules_tcc.specs.State.{World}
 use Rattle.rules_tcc.specs.Step.{step}
 use Rattle.tcc_phase.specs.Requests.{Limits, is_above, is_waiting, request}
-use Rattle.tcc_phase.proofs.Requests.Those.{those-alike, those-none}
 
 -- a core waits where it is above that phase
 pub waits-above : (s : Settings) (p : Program) (w : World) (own asked : List ℕ) (least : ℕ) → Limits s w own (Some least) → (c : ℕ)
@@ -22,7 +22,7 @@ waits-none s p w own asked h c l = ap (λ b. b && is_some (step s p w (request a
 
 pub waiting-above : (s : Settings) (p : Program) (w : World) (own asked : List ℕ) (least : ℕ) → Limits s w own (Some least)
     → those (is_above s p w least own asked) s.cores ≡ those (is_waiting s p w own asked) s.cores
-waiting-above s p w own asked least h = those-alike _ _ s.cores (waits-above s p w own asked least h)
+waiting-above s p w own asked least h = those-same _ _ s.cores (waits-above s p w own asked least h)
 
 pub waiting-none : (s : Settings) (p : Program) (w : World) (own asked : List ℕ) → Limits s w own None
     → [] ≡ those (is_waiting s p w own asked) s.cores

@@ -4,8 +4,8 @@ use Rattle.std.specs.Prelude.{slice_index_or, All, Some, None, IfSome, nat_lt}
 use Rattle.std.proofs.Common.{arith, refl, ◌⊎◌, inl, inr}
 use Rattle.std.proofs.lemmas.Bool.{cases_lt}
 use Rattle.std.proofs.lemmas.Bool.Decides.{nat_tests}
+use Rattle.base_lemmas.proofs.Lemmas.{and-never, in-memory, node_eq-refl}
 use Rattle.rules_maps.specs.Nodes.{Node, Core, Dir, Vendor, Msg, TidReq, LoadReq, Fill, Mark, WriteBack, Flush, DataReq, Inv, InvAck}
-use Rattle.rules_maps.specs.Nodes.{node_eq}
 use Rattle.rules_maps.specs.Shape.{Shape, home, lines}
 use Rattle.rules_maps.specs.Words.{num}
 use Rattle.rules_tcc.specs.Links.{sent_all}
@@ -30,17 +30,12 @@ at-sent [] k d i = absurd (omega (arith, i))
 at-sent (m ∷ ms) zero d i = refl
 at-sent (m ∷ ms) (suc k) d i = at-sent ms k d (omega (arith, i))
 
-same-node : (n : Node) → node_eq n n ≡ true
-same-node (Core c) = grind (arith, nat_tests)
-same-node (Dir d) = grind (arith, nat_tests)
-same-node Vendor = refl
-
 pub each-fits : (sh : Shape) (n : Node) (sends : Sends) → AllFit sh n sends → (dst : Node) → All (λ m. fits sh n dst m ≡ true) (sends dst)
 each-fits sh n sends h dst k d i =
     link-fits sh n dst (sent_all (sends dst)) k (slice_index_or (sends dst) k d) clean (at-sent (sends dst) k d i)
   where
     clean : strays_on sh n dst (sent_all (sends dst)) ≡ 0
-    clean = rw (same-node n) at (sending-clean sh (λ s e. []) n sends (λ s e. clean-none sh s e) h n dst)
+    clean = rw (node_eq-refl n) at (sending-clean sh (λ s e. []) n sends (λ s e. clean-none sh s e) h n dst)
 
 pub each-inside : (sh : Shape) (n : Node) (sends : Sends) → SendsInside sh (most_sent sh) sends → (dst : Node)
     → All (λ m. is_inside sh m ≡ true) (sends dst)
@@ -48,7 +43,7 @@ each-inside sh n sends h dst k d i =
     link-inside sh (sent_all (sends dst)) k (slice_index_or (sends dst) k d) inside.none (at-sent (sends dst) k d i)
   where
     inside : LinkInside sh (0 + most_sent sh) (sent_all (sends dst))
-    inside = rw (same-node n) at (sending-inside sh 0 (most_sent sh) (λ s e. []) n sends (λ s e. link-none sh) h n dst)
+    inside = rw (node_eq-refl n) at (sending-inside sh 0 (most_sent sh) (λ s e. []) n sends (λ s e. link-none sh) h n dst)
 
 among-at : (q : Kind) (ms : List Msg) (k : ℕ) (d : Msg) → k < length ms → num (passes q (slice_index_or ms k d)) ≤ among q ms
 unfolding among
@@ -64,9 +59,6 @@ at-home sh d l z = go ((l % sh.dirs) == d) refl z
     go : (b : Bool) → ((l % sh.dirs) == d) ≡ b → num (not b) ≡ 0 → l % sh.dirs ≡ d
     go true q z = grind (arith, nat_tests)
     go false q z = absurd (omega (arith, z))
-
-pub in-memory : (sh : Shape) (l : ℕ) → nat_lt l (lines sh) ≡ true → l < lines sh
-in-memory sh l e = grind (arith, nat_tests)
 
 -- words on their way home are of a line of memory
 copied : (sh : Shape) (l g : ℕ) → (lines sh ≤ l → num ((l == l) && (g == g)) ≡ 0) → l < lines sh
@@ -93,15 +85,11 @@ line-out sh c d (WriteBack l m ws g) i z w = (copied sh l g (λ o. w l g o), at-
 line-out sh c d (Flush l m ws g) i z w = (copied sh l g (λ o. w l g o), at-home sh d l z)
 line-out sh c d m i z w = tt
 
-no_other : (b : Bool) → (b && false) ≡ true → ⊥
-no_other true e = absurd (cc)
-no_other false e = absurd (cc)
-
 -- to the vendor only requests go
 to-vendor : (sh : Shape) (c : ℕ) (m : Msg) → fits sh (Core c) Vendor m ≡ true → IsCarried sh (Core c) Vendor m
 unfolding fits
 to-vendor sh c TidReq f = record { fits = f; line = tt; tid = tt }
-to-vendor sh c m f = absurd (no_other (nat_lt c sh.cores) f)
+to-vendor sh c m f = absurd (and-never (nat_lt c sh.cores) f)
 
 -- to other cores nothing does
 to-core : (sh : Shape) (c e : ℕ) (m : Msg) → fits sh (Core c) (Core e) m ≡ true → IsCarried sh (Core c) (Core e) m

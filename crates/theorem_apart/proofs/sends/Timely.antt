@@ -2,8 +2,8 @@
 use Rattle.std.specs.Prelude.{ℕ, ◌^◌, ◌≡◌, ◌==◌, ◌&&◌, ◌||◌, not, Bool, true, false, List, [], ◌∷◌, ◌++◌, Option, Some, None, IfSome}
 use Rattle.std.specs.Prelude.{nat_lt, if◌then◌else◌}
 use Rattle.std.specs.List.{flat_map}
-use Rattle.std.proofs.Common.{arith, refl, inl, inr}
-use Rattle.std.proofs.lemmas.Bool.Decides.{nat_tests}
+use Rattle.std.proofs.Common.{arith, inl, inr}
+use Rattle.base_lemmas.proofs.Lemmas.{eq-self}
 use Rattle.rules_program.specs.Program.{Program}
 use Rattle.rules_maps.specs.Cache.{Cache, modified_mask, is_modified, written_lines, writes_at, reads_at}
 use Rattle.rules_maps.specs.Nodes.{Dir, Msg, LoadReq, Fill, Skip, Probe, ProbeReply, Mark, Commit, Abort, WriteBack, Flush, DataReq, Inv}
@@ -19,7 +19,7 @@ use Rattle.rules_tcc.specs.CoreDeliver.{grant, grant_in_phase, grant_sends, from
 use Rattle.rules_tcc.specs.CoreEvict.{core_evict}
 use Rattle.rules_tcc.specs.CoreExec.{core_exec}
 use Rattle.rules_tcc.specs.Sends.{Sends, nothing, to, when, skip_all, probe_all, abort_written, marks_for}
-use Rattle.rules_tcc.specs.State.{CoreState, Awaited, Phase, Running, AwaitTid, DoomedTid, Ready, Overflowing, Solo}
+use Rattle.rules_tcc.specs.State.{CoreState, Phase, AwaitTid, DoomedTid, Overflowing}
 use Rattle.theorem_serial.specs.Count.{Protocol, among, passes}
 use Rattle.theorem_serial.specs.Tids.{has_tid}
 use Rattle.theorem_serial.proofs.Lemmas.{evict-steady, fill-steady, data-steady, Hurt, Unhurt, Rolled, Doomed, Aborted, Gave_up}
@@ -132,18 +132,15 @@ solos sh c sp t g d = each-dir sh d _ (each-append Timely _ _ (first (solo_write
 
 -- a core's events
 
-same : (t : ℕ) → (t == t) ≡ true
-same t = grind (arith, nat_tests)
-
 pub exec-timely : (sh : Shape) (p : Program) (c : ℕ) (s : CoreState) → HasTids s → IfSome (core_exec sh p c s) (λ o. AllTimely o.sends)
 unfolding commit solo_commit has_tid
 exec-timely sh p c s h = each-exec sh p c s (λ o. AllTimely o.sends) go
   where
     go : (x : Did sh p c s) → AllTimely (out x).sends
-    go (Commits_now t e) = commits sh s.cache t (h t (rw e (same t)))
+    go (Commits_now t e) = commits sh s.cache t (h t (rw e (eq-self t)))
     go (Room_wanted r i) = λ d. each-none Timely
     go (Ends_run l e f r i) = λ d. each-none Timely
-    go (Ends_alone t l e f r i) = λ d. solos sh s.cache s.spilled t (h t (rw r (same t))) d
+    go (Ends_alone t l e f r i) = λ d. solos sh s.cache s.spilled t (h t (rw r (eq-self t))) d
     go x = steady s (out x) (did-steady x)
 
 pub evict-timely : (sh : Shape) (x y : ℕ) (s : CoreState) → IfSome (core_evict sh x y s) (λ o. AllTimely o.sends)
@@ -166,7 +163,8 @@ grant-timely sh t s g = go s.phase
 replied : (sh : Shape) (e u : ℕ) (s : CoreState) (o : Out) → HasTids s → Replied sh e u s o → AllTimely o.sends
 unfolding has_tid
 replied sh e u s o h (Ignored q n) = rw q nowhere
-replied sh e u s o h (Probed g f ph ow ca se cm) = rw se (to-dir e (marks_for sh s.cache u e) (marks sh s.cache u e (h u (rw g (same u)))))
+replied sh e u s o h (Probed g f ph ow ca se cm) =
+    rw se (to-dir e (marks_for sh s.cache u e) (marks sh s.cache u e (h u (rw g (eq-self u)))))
 replied sh e u s o h (Left_alone g f ph ow mo se cm) = rw se nowhere
 
 invalidated : (sh : Shape) (l : ℕ) (s : CoreState) (o : Out) → HasTids s → Invalidated sh l s o → AllTimely o.sends
@@ -178,10 +176,10 @@ invalidated sh l s o h i d = rw (i.dirs d) (each-append Timely _ _ (go i.hurt)
     go (Unhurt ph ow mo re se) = rw (se (Dir d)) (each-none Timely)
     go (Rolled ph ph' ow se) = rw (se (Dir d)) (each-none Timely)
     go (Doomed ph ph' ow se) = rw (se (Dir d)) (each-none Timely)
-    go (Aborted t (inl q) ph' ow se) = rw se (aborts sh s.cache t (h t (rw q (same t))) d)
-    go (Aborted t (inr q) ph' ow se) = rw se (aborts sh s.cache t (h t (rw q (same t))) d)
-    go (Gave_up t (inl q) ph' ow se) = rw se (skips sh t (h t (rw q (same t))) d)
-    go (Gave_up t (inr q) ph' ow se) = rw se (skips sh t (h t (rw q (same t))) d)
+    go (Aborted t (inl q) ph' ow se) = rw se (aborts sh s.cache t (h t (rw q (eq-self t))) d)
+    go (Aborted t (inr q) ph' ow se) = rw se (aborts sh s.cache t (h t (rw q (eq-self t))) d)
+    go (Gave_up t (inl q) ph' ow se) = rw se (skips sh t (h t (rw q (eq-self t))) d)
+    go (Gave_up t (inr q) ph' ow se) = rw se (skips sh t (h t (rw q (eq-self t))) d)
 
 pub back-timely : (sh : Shape) (e : ℕ) (s : CoreState) (m : Msg) → HasTids s → IfSome (from_dir sh e s m) (λ o. AllTimely o.sends)
 back-timely sh e s (ProbeReply u v) h = replied sh e u s (probe_reply sh e u s) h (reply-cases sh e u s)

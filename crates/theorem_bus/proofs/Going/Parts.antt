@@ -9,6 +9,7 @@ use Rattle.std.proofs.lemmas.Grind.{flat_map-append}
 use Rattle.std.proofs.lemmas.List.{map-append}
 use Rattle.std.proofs.lemmas.List.Elements.{filter-append}
 use Rattle.tcc_base.specs.declared.access.Size.TheVariants.{Byte, Half, Word}
+use Rattle.base_lemmas.proofs.Lemmas.{and-true, filter-flat, flat-nothing}
 use Rattle.rules_maps.specs.Cache.{free_way, all_marked}
 use Rattle.rules_maps.specs.Shape.{Shape, set_of}
 use Rattle.rules_maps.specs.Spilled.{holds}
@@ -38,11 +39,6 @@ each-filter t g (x ∷ xs) = by (t (g x)) (each-filter t g xs)
         ≡ cond b (g x ∷ []) [] ++ flat_map (λ y. filter t (g y ∷ [])) xs
     by true e = ap (λ ys. g x ∷ ys) e
     by false e = e
-
-filter-flat : {A B : Type 0} (t : B → Bool) (g : A → List B) (xs : List A)
-    → filter t (flat_map g xs) ≡ flat_map (λ x. filter t (g x)) xs
-filter-flat t g [] = refl
-filter-flat t g (x ∷ xs) = filter-append t (g x) (flat_map g xs) ∙ ap (λ ys. filter t (g x) ++ ys) (filter-flat t g xs)
 
 pub flat-same : {A : Type 0} (f g : ℕ → List A) (n : ℕ) → ((k : ℕ) → k < n → f k ≡ g k) → flat_map f (numbers n) ≡ flat_map g (numbers n)
 unfolding those
@@ -114,10 +110,6 @@ bus-parts sh p w =
 
 -- ---- of one core
 
-and-true : (b : Bool) → (b && true) ≡ b
-and-true true = refl
-and-true false = refl
-
 exec-useful : (sh : Shape) (p : Program) (w : BusWorld) (c : ℕ) → c < sh.cores
     → bus_is_useful sh p w (Exec c) ≡ is_some (bus_exec sh p w c)
 unfolding bus_is_useful bus_step bus_names
@@ -128,7 +120,7 @@ take-useful : (sh : Shape) (p : Program) (w : BusWorld) (c : ℕ) → c < sh.cor
 unfolding bus_is_useful bus_step bus_names
 take-useful sh p w c l = rw (lt-ltb c sh.cores l) (and-true (is_some (bus_take sh w c)))
 
-evicted-some : (w : BusWorld) (c : ℕ) (o : Option Out) → is_some (if_evicted w c o) ≡ is_some o
+pub evicted-some : (w : BusWorld) (c : ℕ) (o : Option Out) → is_some (if_evicted w c o) ≡ is_some o
 evicted-some w c None = refl
 evicted-some w c (Some o) = refl
 
@@ -196,10 +188,6 @@ abbrev pub evicts_in : Shape → CoreState → (core : ℕ) → Option ℕ → L
 evicts_in sh s c None = []
 evicts_in sh s c (Some x) = map (λ y. Evict c x y) (filter (λ y. is_some (core_evict sh x y s)) (numbers sh.ways))
 
-none-flat : {A B : Type 0} (f : A → List B) (xs : List A) → ((x : A) → f x ≡ []) → flat_map f xs ≡ []
-none-flat f [] h = refl
-none-flat f (x ∷ xs) h = ap (λ ys. ys ++ flat_map f xs) (h x) ∙ none-flat f xs h
-
 evicts-one : (sh : Shape) (p : Program) (w : BusWorld) (c : ℕ) → c < sh.cores → 1 ≤ sh.sets
     → filter (bus_is_useful sh p w) (evicts_of sh c) ≡ evicts_in sh (w.cores c) c (room sh p (w.cores c))
 evicts-one sh p w c l h =
@@ -220,7 +208,7 @@ evicts-one sh p w c l h =
 
     by : (o : Option ℕ) → IfSome o (λ x. x < sh.sets)
         → flat_map (λ x. if is_this_set o x then f x else []) (numbers sh.sets) ≡ evicts_in sh s c o
-    by None k = none-flat (λ x. if is_this_set None x then f x else []) (numbers sh.sets) (λ x. refl)
+    by None k = flat-nothing (λ x. if is_this_set None x then f x else []) (numbers sh.sets) (λ x. refl)
     by (Some z) k = flat-one f z sh.sets ∙ rw (lt-ltb z sh.sets k) refl
 
 -- one event of a core, where it is enabled

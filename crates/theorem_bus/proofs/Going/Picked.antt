@@ -2,9 +2,9 @@
 use Rattle.std.specs.Prelude.{ℕ, zero, suc, ◌≡◌, ◌<◌, ◌%◌, Bool, true, false, List, [], ◌∷◌, length, filter, slice_index_or, Option}
 use Rattle.std.specs.Prelude.{Some, None, is_some, IfSome, if◌then◌else◌}
 use Rattle.std.proofs.Common.{arith, refl}
+use Rattle.base_lemmas.proofs.Lemmas.{and-left}
 use Rattle.rules_maps.specs.Shape.{Shape}
 use Rattle.rules_program.specs.Program.{Program}
-use Rattle.rules_tcc.proofs.Lemmas.{and-left}
 use Rattle.rules_bus.specs.State.{BusWorld, BusEvent, bus_start}
 use Rattle.rules_bus.specs.Commit.{BusStepped}
 use Rattle.rules_bus.specs.Step.{BusHistory, recorded, bus_step, bus_next, and_then, bus_from, bus_run}

@@ -1,12 +1,13 @@
 -- A core that commits, by itself.
 use Rattle.std.specs.Prelude.{ℕ, ◌+◌, ◌≡◌, ◌⊎◌, Bool, true, false, Option, Some, None, is_some, if◌then◌else◌}
 use Rattle.std.proofs.Common.{refl, inl, inr, ◌∙◌}
+use Rattle.base_lemmas.proofs.Lemmas.{held_valued}
 use Rattle.rules_maps.specs.Cache.{Cache}
 use Rattle.rules_maps.specs.CacheChange.{committed, words_dropped}
 use Rattle.rules_maps.specs.Shape.{Shape}
 use Rattle.rules_maps.specs.Words.{line_of, or_else}
 use Rattle.rules_program.specs.Program.{Need, Program}
-use Rattle.theorem_attempt.proofs.Lemmas.{commit-sound, finished-sound, solo_commit-sound, valid-held}
+use Rattle.theorem_attempt.proofs.Lemmas.{commit-sound, finished-sound, solo_commit-sound}
 use Rattle.theorem_bounds.proofs.Lemmas.{finishes, none}
 use Rattle.theorem_bus.proofs.OneCore.Did.{LineSet, did-nothing, finished-did, finished-awaits}
 use Rattle.rules_maps.specs.Spilled.{none_spilled}
@@ -141,5 +142,5 @@ written-inside sh M n s k x = go (s.spilled x) refl (s.cache.modified x) (s.cach
         → is_some (or_else o (if m then v else None)) ≡ true → M (line_of x)
     go (Some y) e m v f h = k.spilled x (rw e refl)
     go None e true None f h = absurd (cc)
-    go None e true (Some z) f h = k.frames (line_of x) (valid-held sh s.cache x z k.sound.cache f)
+    go None e true (Some z) f h = k.frames (line_of x) (held_valued sh s.cache x z k.sound.cache f)
     go None e false v f h = absurd (cc)

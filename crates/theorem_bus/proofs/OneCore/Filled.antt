@@ -13,6 +13,7 @@ use Rattle.rules_maps.proofs.Lemmas.{read-placed, value-filled, value-placed}
 use Rattle.rules_tcc.specs.State.{CoreState}
 use Rattle.rules_bus.specs.Exec.{line_filled, line_words, with_line_of}
 use Rattle.theorem_bus.proofs.OneCore.Did.{AtHand, LineSet, Did}
+use Rattle.theorem_serial.proofs.Lemmas.{placed-held}
 
 -- gone: the words of the packet
 abbrev pub Coherent : (ram : ℕ → ℕ) → (gone : ℕ → Bool) → Cache → Type 0
@@ -104,14 +105,6 @@ grown-filled sh M ram l c h = record {
     from v x true q None r e = inr (sym (line_words-at ram l v (grind (arith, nat_tests))) ∙ some-is _ x e)
     from v x true q (Some y) r e = inl (r ∙ e)
     from v x false q o r e = inl (r ∙ e)
-
--- the line has a frame then
-pub placed-held : (sh : Shape) (l : ℕ) (c : Cache) → is_some (free_way sh c (set_of sh l)) ≡ true → (placed sh l c).held l ≡ true
-placed-held sh l c e = go (free_way sh c (set_of sh l)) refl e
-  where
-    go : (o : Option ℕ) → free_way sh c (set_of sh l) ≡ o → is_some o ≡ true → (placed sh l c).held l ≡ true
-    go None q i = absurd (cc)
-    go (Some y) q i = let r : (l == l) ≡ true = grind (arith, nat_tests) in held-placed sh l c l y q ∙ rw r refl
 
 grown-placed : (sh : Shape) (M : LineSet) (ram : ℕ → ℕ) (l : ℕ) (c : Cache) → M l → c.held l ≡ false
     → is_some (free_way sh c (set_of sh l)) ≡ true → Grown sh M ram c (placed sh l c)

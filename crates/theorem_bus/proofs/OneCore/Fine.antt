@@ -3,6 +3,7 @@
 use Rattle.std.specs.Prelude.{ℕ, ◌+◌, ◌≡◌, Bool, true, false, not, ◌==◌, ◌&&◌, ◌||◌, ◌⊎◌, Option, Some, None, is_some, IfSome}
 use Rattle.std.specs.Prelude.{unwrap_or, if◌then◌else◌}
 use Rattle.std.proofs.Common.{refl, ap, sym, inl, inr, ◌∙◌}
+use Rattle.base_lemmas.proofs.Lemmas.{held_valued}
 use Rattle.rules_maps.specs.Cache.{Cache, is_marked}
 use Rattle.rules_maps.specs.CacheChange.{evicted, read_cleared}
 use Rattle.rules_maps.specs.Shape.{Shape}
@@ -17,7 +18,7 @@ use Rattle.rules_tcc.specs.Sends.{write_back_line}
 use Rattle.rules_tcc.specs.State.{CoreState, Awaited, Running, AwaitTid, Overflowing}
 use Rattle.theorem_attempt.specs.Sound.{AwaitsHeld, SoundCore}
 use Rattle.theorem_bounds.specs.Bounds.{AttemptCounted}
-use Rattle.theorem_attempt.proofs.Lemmas.{core_evict-sound, core_exec-sound, valid-held}
+use Rattle.theorem_attempt.proofs.Lemmas.{core_evict-sound, core_exec-sound}
 use Rattle.theorem_bounds.proofs.Lemmas.{weak}
 use Rattle.rules_bus.specs.Exec.{with_line_of, line_at_hand, instruction, gone_alone}
 use Rattle.theorem_bus.proofs.OneCore.Did.{LineSet, How, Ran, Closed, Overflowed, NeedIn}
@@ -155,7 +156,7 @@ evict_line-fine sh M n x y s (Some l) e k q = go (is_awaited s.awaited l || (is_
 
     valid : (v : ℕ) (o : Option ℕ) → s.cache.value v ≡ o → is_some o ≡ true → M (line_of v)
     valid v None r h = absurd (cc)
-    valid v (Some z) r h = k.frames (line_of v) (valid-held sh s.cache v z k.sound.cache r)
+    valid v (Some z) r h = k.frames (line_of v) (held_valued sh s.cache v z k.sound.cache r)
 
     spilt : (v : ℕ) (b m : Bool) → s.cache.modified v ≡ m
         → is_some (if b && m then Some (unwrap_or (s.cache.value v) 0) else s.spilled v) ≡ true

@@ -1,16 +1,14 @@
 -- The same of the RISC-V programs that the machine runs: they suit, so what is committed is the plain machine, and no state is stuck.
-use Rattle.std.specs.Prelude.{ℕ, ◌≡◌, ◌<◌, ◌≤◌, Bool, true, false, length, map, Option, Some, None, IfSome, IsTrue, nat_lt, if◌then◌else◌}
-use Rattle.std.specs.Int.{is_power_of_two}
-use Rattle.std.specs.Int.RustNames.{count_ones}
+use Rattle.std.specs.Prelude.{ℕ, ◌≡◌, ◌<◌, Bool, true, false, length, map, Option, Some, None, IfSome, nat_lt, if◌then◌else◌}
 use Rattle.std.proofs.Common.{arith, refl, ap, sym, ◌∙◌}
 use Rattle.std.proofs.lemmas.Bool.Decides.{nat_tests}
-use Rattle.std.proofs.lemmas.Nat.{ones_le_self}
 use Rattle.image_load.specs.Start.{Start}
 use Rattle.rv_code.specs.Machine.{program, first_ram}
 use Rattle.rv_plain.specs.Machine.{plain_start, start_core, core_at_start, no_core}
 use Rattle.theorem_riscv.specs.Suiting.{local_at_start}
 use Rattle.theorem_riscv.proofs.Lemmas.{riscv_programs_suit}
 use Rattle.tcc_base.specs.Settings.{IsAllowed}
+use Rattle.base_lemmas.proofs.Lemmas.{power-positive}
 use Rattle.rules_program.specs.Cores.{printed, AgreeOn, with_others, and_others}
 use Rattle.rules_program.specs.Orders.{order_of_commit}
 use Rattle.rules_program.specs.Plain.{Plain}
@@ -90,11 +88,8 @@ bus_tids_count s es a = go (bus_run s.settings (program s) (bus_at_start s).worl
 
 -- progress
 
-pub positive : (n : ℕ) → IsTrue (is_power_of_two n) → 1 ≤ n
-positive n h = let e : count_ones n ≡ 1 = grind (arith, nat_tests) in omega (arith, ones_le_self n)
-
 has-caches : (s : Start) → IsAllowed s.settings → HasCaches s.settings
-has-caches s k = let (cores, dirs, sets, ways, ram, base) = k in (positive s.settings.sets (sets.0), ways.0)
+has-caches s k = let (cores, dirs, sets, ways, ram, base) = k in (power-positive s.settings.sets (sets.0), ways.0)
 
 pub riscv_bus_never_stuck : RiscvBusNeverStuck
 riscv_bus_never_stuck s es a = bus_never_stuck s.settings (program s) (local_at_start s) (first_ram s) es (has-caches s a)

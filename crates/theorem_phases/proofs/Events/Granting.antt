@@ -1,5 +1,5 @@
 -- What is granted by one more event: the next TID, to the core whose request is delivered; and such an event notes no commit.
-use Rattle.std.specs.Prelude.{ℕ, zero, suc, ◌≡◌, Bool, true, false, List, [], ◌∷◌, ◌++◌, Contains, Option, Some, None}
+use Rattle.std.specs.Prelude.{ℕ, ◌≡◌, Bool, true, false, List, [], ◌∷◌, ◌++◌, Contains, Option, Some, None}
 use Rattle.std.specs.Prelude.{IfSome, IsSome, if◌then◌else◌}
 use Rattle.std.proofs.Common.{arith, refl, ap, sym, append_assoc, ◌∙◌}
 use Rattle.std.proofs.lemmas.List.{append-nil}
@@ -14,6 +14,7 @@ use Rattle.rules_tcc.specs.Step.{run_from}
 use Rattle.rules_tcc.specs.VendorDeliver.{Granted, vendor_deliver}
 use Rattle.theorem_serial.specs.Owners.{Grant, grant_for, granted_by, then_grants, grants_from}
 use Rattle.theorem_phases.specs.Phased.{is_late, is_held}
+use Rattle.theorem_serial.proofs.Lemmas.{only-one}
 
 -- one more event along a run
 
@@ -55,10 +56,6 @@ grants-snoc sh p (f ∷ es) e h = go (next_history sh p h f) (grants-snoc sh p e
 pub none-in : (g : Grant) → Contains [] g → ⊥
 none-in g c = omega (arith, c.1)
 
-only-in : (f g : Grant) → Contains (f ∷ []) g → f ≡ g
-only-in f g (zero, l, e) = e
-only-in f g (suc k, l, e) = absurd (omega (arith, l))
-
 -- the next TID, to a core that isn't late
 pub record Granting (s : Start) (h : History) (t c : ℕ) : Type 0 where
   pub tid : t ≡ h.world.next
@@ -73,7 +70,7 @@ granting s h (Deliver (Core j) Vendor k) t c n i = go (in_flight h.world.net (Co
     same e = record { tid = sym (ap (λ g. g.tid) e); late = rw (ap (λ g. g.core) e) at n }
 
     go : (m : Option Msg) → Contains (grant_for h.world.next j m) (record { tid = t; core = c }) → Granting s h t c
-    go (Some TidReq) i = same (only-in (record { tid = h.world.next; core = j }) (record { tid = t; core = c }) i)
+    go (Some TidReq) i = same (only-one (record { tid = h.world.next; core = j }) (record { tid = t; core = c }) i)
     go _ i = absurd (none-in (record { tid = t; core = c }) i)
 granting s h _ t c n i = absurd (none-in (record { tid = t; core = c }) i)
 

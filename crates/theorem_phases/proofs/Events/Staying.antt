@@ -4,6 +4,7 @@ use Rattle.std.specs.Prelude.{ℕ, ◌≡◌, ◌==◌, ◌&&◌, ◌++◌, Bool
 use Rattle.std.proofs.Common.{append-nil, arith, refl, ap, sym, ◌∙◌}
 use Rattle.std.proofs.lemmas.Bool.Decides.{nat_tests}
 use Rattle.tcc_base.specs.declared.access.Size.TheVariants.{Byte, Half, Word}
+use Rattle.base_lemmas.proofs.Lemmas.{and-false}
 use Rattle.rules_program.specs.Program.{Need, Nothing, Loads, Stores, Changes, Prints, Ends, Halts, Traps, Program}
 use Rattle.rules_program.specs.Ram.{word_of}
 use Rattle.rules_maps.specs.Nodes.{Node, Core, Dir, Vendor, Event, Exec, Evict, Deliver, Msg, node_eq}
@@ -205,10 +206,6 @@ abbrev RequestStays : World → Event → Option Stepped → Type 0
 RequestStays w e o =
     IfSome o (λ t. (c : ℕ) → executes c e ≡ false → asks c e ≡ false → t.world.net (Core c) Vendor ≡ w.net (Core c) Vendor)
 
-and-false : (b : Bool) → (b && false) ≡ false
-and-false true = refl
-and-false false = refl
-
 -- nothing is sent
 unsent : (b : Bool) (l : Link) (ms : List Msg) → ms ≡ [] → (if b then l ++ sent_all ms else l) ≡ l
 unfolding sent_all
@@ -216,7 +213,7 @@ unsent true l ms e = ap (λ xs. l ++ sent_all xs) e ∙ append-nil l
 unsent false l ms e = refl
 
 -- nothing is taken on its way to the vendor
-untaken : (net : Node → Node → Link) (src dst : Node) (c k : ℕ) → node_eq Vendor dst ≡ false
+pub untaken : (net : Node → Node → Link) (src dst : Node) (c k : ℕ) → node_eq Vendor dst ≡ false
     → taking net src dst k (Core c) Vendor ≡ net (Core c) Vendor
 untaken net src dst c k e =
     ap (λ b. if node_eq (Core c) src && b then slice_set (net (Core c) Vendor) k None else net (Core c) Vendor) e

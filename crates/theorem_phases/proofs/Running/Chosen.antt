@@ -1,8 +1,9 @@
 -- What a chooser takes of the useful events that aren't held back: a schedule that it picks by phases is a run by phases, and ends early
 -- only where none is left.
-use Rattle.std.specs.Prelude.{ℕ, zero, suc, ◌≡◌, ◌<◌, ◌%◌, Bool, true, false, not, List, [], ◌∷◌, length, filter}
-use Rattle.std.specs.Prelude.{Option, Some, None, is_some, slice_index_or, IfSome, if◌then◌else◌}
+use Rattle.std.specs.Prelude.{ℕ, suc, ◌≡◌, ◌<◌, ◌%◌, Bool, true, false, not, List, [], ◌∷◌, length, filter}
+use Rattle.std.specs.Prelude.{Option, Some, None, is_some, IfSome, if◌then◌else◌}
 use Rattle.std.proofs.Common.{arith, refl, ◌⊎◌, inl, inr}
+use Rattle.base_lemmas.proofs.Lemmas.{and-left}
 use Rattle.image_load.specs.Start.{Start}
 use Rattle.rv_code.specs.Machine.{program}
 use Rattle.rules_maps.specs.Nodes.{Event}
@@ -10,16 +11,11 @@ use Rattle.rules_tcc.specs.Laws.{IsIn}
 use Rattle.rules_tcc.specs.Picked.{chosen}
 use Rattle.rules_tcc.specs.Step.{History, Stepped, step, is_enabled, recorded, next_history, and_then}
 use Rattle.rules_tcc.specs.Useful.{is_of_use, is_useful, useful}
-use Rattle.rules_tcc.proofs.Lemmas.{useful-holds, and-left}
+use Rattle.rules_tcc.proofs.Lemmas.{useful-holds, in-get}
 use Rattle.theorem_phases.specs.Laws.{PhasedPickedRuns}
 use Rattle.theorem_phases.specs.Phased.{is_held, phased_next, phased_from, phased_useful, pick, after_event, phased_picked}
 
 -- lists
-
-in-get : (e : Event) (es : List Event) (k : ℕ) (d : Event) → k < length es → IsIn (slice_index_or es k d) es
-in-get e [] k d h = absurd (omega arith)
-in-get e (f ∷ es) zero d h = inl refl
-in-get e (f ∷ es) (suc k) d h = inr (in-get e es k d (omega arith))
 
 in-filter : (t : Event → Bool) (e : Event) (es : List Event) → IsIn e (filter t es) → (t e ≡ true) × IsIn e es
 in-filter t e [] i = absurd i

@@ -1,5 +1,5 @@
 -- Along a run by phases the phases of the commits never fall, by rising TID.
-use Rattle.std.specs.Prelude.{ℕ, zero, suc, ◌+◌, ◌≡◌, ◌≢◌, ◌<◌, ◌≤◌, ◌==◌, ◌||◌, Bool, true}
+use Rattle.std.specs.Prelude.{ℕ, ◌+◌, ◌≡◌, ◌≢◌, ◌≤◌, Bool, true}
 use Rattle.std.specs.Prelude.{false, List, [], ◌∷◌, ◌++◌, length, Contains, Option, Some, None, IfSome, nat_lt}
 use Rattle.std.specs.Prelude.{if◌then◌else◌}
 use Rattle.std.proofs.Common.{arith, refl, ◌∙◌, ◌⊎◌, inl, inr}
@@ -9,8 +9,8 @@ use Rattle.image_load.specs.Start.{Start}
 use Rattle.rv_code.specs.Machine.{program}
 use Rattle.tcc_base.specs.Settings.{IsAllowed}
 use Rattle.tcc_base.specs.declared.access.Commit.{Commit}
+use Rattle.base_lemmas.proofs.Lemmas.{none_below}
 use Rattle.rules_maps.specs.Nodes.{Event}
-use Rattle.rules_maps.specs.Words.{any_below}
 use Rattle.rules_tcc.specs.State.{Phase, Halted, World}
 use Rattle.rules_tcc.specs.Step.{History, Stepped, step, and_noted, recorded, next_history, and_then, run_from, run}
 use Rattle.theorem_serial.specs.Owners.{Grant, granted_by, grants_from, IsNumbered, AreGranted}
@@ -48,20 +48,6 @@ start-ordered s = record {
 
 -- a TID that is granted to a core that isn't late
 
-none-of : (t : ℕ → Bool) (n j : ℕ) → any_below t n ≡ false → j < n → t j ≡ false
-unfolding any_below
-none-of t zero j e l = absurd (omega arith)
-none-of t (suc n) j e l = go (any_below t n) refl (t n) refl e (j == n) refl (none-of t n j)
-  where
-    go : (a : Bool) → any_below t n ≡ a → (b : Bool) → t n ≡ b → (a || b) ≡ false → (c : Bool) → (j == n) ≡ c
-        → (any_below t n ≡ false → j < n → t j ≡ false) → t j ≡ false
-    go true p b q e c r f = absurd (cc)
-    go false p true q e c r f = absurd (cc)
-    go false p false q e true r f = let z : j ≡ n = grind (arith, nat_tests) in rw z q
-    go false p false q e false r f =
-        let z : j ≢ n = λ y. absurd (let w : (j == n) ≡ true = grind (arith, nat_tests) in cc) in
-        f p (grind (arith, nat_tests))
-
 goes-on : (q : Phase) → q ≢ Halted → has_halted q ≡ false
 goes-on Halted n = absurd (n refl)
 goes-on _ n = refl
@@ -88,7 +74,7 @@ fresh : (s : Start) (gs : List Grant) (h : History) (t c : ℕ) → State s gs h
     → Fresh s.settings.cores (Going h) (phase_of s h) h.commits (phases_of s h) t c
 unfolding is_late
 fresh s gs h t c k g = record {
-  first = λ j l n. not-before s h c j (none-of (goes_before s h c) s.settings.cores j g.late l) n;
+  first = λ j l n. not-before s h c j (none_below (goes_before s h c) s.settings.cores j g.late l) n;
   above = above-none gs t (phase_of s h c) h.commits (phases_of s h) k.granted (k.numbered.0) (g.tid ∙ k.numbered.1);
 }
 

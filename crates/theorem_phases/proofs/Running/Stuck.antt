@@ -1,18 +1,14 @@
 -- No state that a run by phases reaches is stuck: of the cores that haven't halted one in the earliest phase goes on.
-use Rattle.std.specs.Prelude.{ℕ, IsTrue, zero, suc, ◌≡◌, ◌≢◌, ◌<◌, ◌≤◌, Bool, true, false, not, ◌&&◌}
-use Rattle.std.specs.Prelude.{◌||◌, nat_lt, List, [], ◌∷◌, Option, Some, None, IfSome}
+use Rattle.std.specs.Prelude.{ℕ, zero, suc, ◌≡◌, ◌≢◌, ◌<◌, Bool, true, false, not, ◌&&◌}
+use Rattle.std.specs.Prelude.{nat_lt, List, [], ◌∷◌, Option, Some, None, IfSome}
 use Rattle.std.proofs.Common.{arith, refl, ◌⊎◌, inl, inr}
-use Rattle.std.specs.Int.{is_power_of_two}
-use Rattle.std.specs.Int.RustNames.{count_ones}
 use Rattle.std.proofs.lemmas.Bool.Decides.{nat_tests}
-use Rattle.std.proofs.lemmas.Nat.{ones_le_self}
 use Rattle.image_load.specs.Start.{Start}
 use Rattle.rv_code.specs.Machine.{program, first_ram}
-use Rattle.tcc_base.specs.Settings.{IsAllowed}
-use Rattle.theorem_live.specs.Progress.{IsEquipped, DoneWhereNoneUseful, EachGoesOn, spares}
-use Rattle.theorem_live.proofs.Lemmas.{no_state_is_stuck, each_core_goes_on}
+use Rattle.base_lemmas.proofs.Lemmas.{any_below-found, any_below-none}
+use Rattle.theorem_live.specs.Progress.{DoneWhereNoneUseful, EachGoesOn, spares}
+use Rattle.theorem_live.proofs.Lemmas.{no_state_is_stuck, each_core_goes_on, halted-or}
 use Rattle.rules_maps.specs.Nodes.{Core, Vendor, Event, Deliver}
-use Rattle.rules_maps.specs.Words.{any_below}
 use Rattle.rules_tcc.specs.Laws.{IsIn}
 use Rattle.rules_tcc.specs.Seen.{IsDone}
 use Rattle.rules_tcc.specs.State.{Phase, Halted}
@@ -20,42 +16,14 @@ use Rattle.rules_tcc.specs.Step.{History, run}
 use Rattle.rules_tcc.specs.Useful.{useful}
 use Rattle.rules_tcc.proofs.Lemmas.{useful-holds}
 use Rattle.theorem_riscv.specs.Suiting.{local_at_start, world_at_start}
-use Rattle.theorem_riscv.proofs.Lemmas.{riscv_programs_suit}
+use Rattle.theorem_riscv.proofs.Lemmas.{equipped}
 use Rattle.theorem_phases.specs.Laws.{PhasedNeverStuck, PhasedPickedEndsDone, at_start}
 use Rattle.theorem_phases.specs.Phased.{has_halted, goes_before, is_late, is_held, phased_from, phased_useful, phased_picked}
 use Rattle.theorem_phases.specs.Phases.{phase_of}
 use Rattle.theorem_phases.proofs.Running.Chosen.{fails-each, picks}
 use Rattle.theorem_phases.proofs.Running.Runs.{phased_runs_are_runs}
 
-positive : (n : ℕ) → IsTrue (is_power_of_two n) → 1 ≤ n
-positive n h = let e : count_ones n ≡ 1 = grind (arith, nat_tests) in omega (arith, ones_le_self n)
-
-equipped : (s : Start) → IsAllowed s.settings → IsEquipped s.settings (program s)
-equipped s k = let (cores, dirs, sets, ways, ram, base) = k in let suits = riscv_programs_suit s k in record {
-  dirs = suits.dirs;
-  sets = positive s.settings.sets (sets.0);
-  ways = ways.0;
-  inside = suits.inside;
-}
-
 -- what is held back
-
--- where some number below n passes, one does
-found : (t : ℕ → Bool) (n : ℕ) → any_below t n ≡ true → (j : ℕ) × (j < n) × (t j ≡ true)
-unfolding any_below
-found t zero e = absurd (cc)
-found t (suc n) e = go (any_below t n) refl (t n) refl e (found t n)
-  where
-    go : (a : Bool) → any_below t n ≡ a → (b : Bool) → t n ≡ b → (a || b) ≡ true
-        → (any_below t n ≡ true → (j : ℕ) × (j < n) × (t j ≡ true)) → (j : ℕ) × (j < suc n) × (t j ≡ true)
-    go true p b q e f = let y = f p in (y.0, omega (arith, y.1), y.2)
-    go false p true q e f = (n, omega arith, q)
-    go false p false q e f = absurd (cc)
-
-none-below : (t : ℕ → Bool) (n : ℕ) → ((j : ℕ) → j < n → t j ≡ false) → any_below t n ≡ false
-unfolding any_below
-none-below t zero f = refl
-none-below t (suc n) f = rw (none-below t n (λ j l. f j (omega (arith, l))), f n (omega arith)) refl
 
 -- what core j is that goes before core c
 pub record Before (s : Start) (h : History) (c j : ℕ) : Type 0 where
@@ -104,13 +72,9 @@ none-goes zero s h g z c l b u = omega (arith, b)
 none-goes (suc n) s h g z c l b u =
     let on = g c l u in
     let held = all-held s h on.event z ((useful-holds s.settings (program s) h.world on.event).1 on.is_useful) in
-    let some = found (goes_before s h c) s.settings.cores (held-is-late s h c on.event on.spares held) in
+    let some = any_below-found (goes_before s h c) s.settings.cores (held-is-late s h c on.event on.spares held) in
     let other = before s h c some.0 (some.2) in
     none-goes n s h g z some.0 (some.1) (omega (arith, b, other.earlier)) other.going
-
-halted-or : (q : Phase) → (q ≡ Halted) ⊎ (q ≢ Halted)
-halted-or Halted = inl refl
-halted-or _ = inr (λ e. absurd (cc))
 
 all-halted : (s : Start) (h : History) → EachGoesOn s.settings (program s) h.world → NoneLeft s h
     → (c : ℕ) → c < s.settings.cores → (h.world.cores c).phase ≡ Halted
@@ -124,7 +88,7 @@ all-halted s h g z c l = go (halted-or (h.world.cores c).phase)
 none-held : (s : Start) (h : History) → ((c : ℕ) → c < s.settings.cores → (h.world.cores c).phase ≡ Halted) → (e : Event)
     → is_held s h e ≡ false
 unfolding is_held is_late
-none-held s h a (Deliver (Core c) Vendor k) = none-below (goes_before s h c) s.settings.cores (λ j l. at j (a j l))
+none-held s h a (Deliver (Core c) Vendor k) = any_below-none (goes_before s h c) s.settings.cores (λ j l. at j (a j l))
   where
     at : (j : ℕ) → (h.world.cores j).phase ≡ Halted → goes_before s h c j ≡ false
     at j e = rw e refl

@@ -1,4 +1,5 @@
 -- What a core's events do to the copies of a line: all keep them, but that a commit makes new ones.
+use Rattle.base_lemmas.proofs.Lemmas.{line_of-word_at}
 use Rattle.theorem_serial.proofs.Names.{committed_core, if◌then◌else◌, modified_mask, words_dropped, dirty-evicted, spilled_mask}
 use Rattle.theorem_serial.proofs.Names.{any_below-at}
 use Rattle.theorem_serial.proofs.Names.{commit_sends, written_mask, read_cleared, is_modified, solo_commit, invalidated, rolled_back}
@@ -13,8 +14,8 @@ use Rattle.theorem_serial.proofs.Names.{Shape, lines, Cache, holds, Ready, noted
 use Rattle.theorem_serial.proofs.Names.{not}
 use Rattle.theorem_serial.proofs.Names.{Some, None, refl, home, sym, ◌∙◌, num, Dir, ◌+◌, ◌≤◌, ◌⊎◌, inl, inr, hit, Msg, Inv, Out, ℕ}
 use Rattle.theorem_serial.proofs.Copies.CopySends.{few-masks, commit-copies, solo-copies, solo-wrong, flushed-leaves, back-home-leaves}
-use Rattle.theorem_serial.proofs.Copies.CoreCopies.{Conserves, conserves-still, conserves-sent, framed-dirty, placed-dirty}
-use Rattle.theorem_serial.proofs.Copies.DirtyFrames.{wrong-copy, IsClean, clean-frame, in-line, committed-frame, frame_copy, fewer-frame}
+use Rattle.theorem_serial.proofs.Copies.CoreCopies.{Conserves, conserves-still, conserves-sent, framed-dirty}
+use Rattle.theorem_serial.proofs.Copies.DirtyFrames.{wrong-copy, IsClean, clean-frame, committed-frame, frame_copy, fewer-frame}
 use Rattle.theorem_serial.proofs.Marks.CoreMarks.{holds-found}
 use Rattle.theorem_serial.proofs.Marks.StoredMasks.{unspilled, modified-line, modified-stored, written-line, written-stored}
 use Rattle.theorem_serial.proofs.OneCore.Said.{Flushes, Requests, Silent, Unheard, quiet, say}
@@ -22,6 +23,7 @@ use Rattle.theorem_serial.proofs.OneCore.Outcomes.{Commits_now, Did, Ends_alone,
 use Rattle.theorem_serial.proofs.OneCore.Outcomes.{Hurt_alone, Hurt_probing, Hurt_running, Hurt_waiting, Misses_anew, Hurt_none, after_end}
 use Rattle.theorem_serial.proofs.OneCore.Outcomes.{after_store, awaiting, each-back, each-evict, each-exec, each-grant, emptied, granted}
 use Rattle.theorem_serial.proofs.OneCore.Outcomes.{granted_said, heard, heard-quiet, heard_said, hears_ack, message, out, said}
+use Rattle.rules_maps.proofs.Lemmas.{dirty-placed}
 
 -- A commit makes one copy of each line that it stored, with its TID and of the stored words: in the frame, or sent from the overflow
 -- buffer.
@@ -163,7 +165,7 @@ alone-copies sh b l id u s i j h = go (holds s.spilled l) refl
         }
           where
             words : (k : ℕ) → k < 8 → (s.cache.modified (word_at l k) ≡ false) × (s.cache.dirty (word_at l k) ≡ None)
-            words k i = h.clean (word_at l v.0) (word_at l k) (in-line l v.0 (v.1) ∙ sym (in-line l k i)) (v.2)
+            words k i = h.clean (word_at l v.0) (word_at l k) (line_of-word_at l v.0 (v.1) ∙ sym (line_of-word_at l k i)) (v.2)
 
             none : (a : Bool) (m : Bool) (d : Option ℕ) → m ≡ false → d ≡ None
                 → (if (if a then false else m) then Some u else (if a then None else d)) ≡ None
@@ -210,7 +212,7 @@ copies-exec sh l p id s m h = each-exec sh p id s (Conserves sh l s) go
         (λ t. quiet sh s (CopyOf l t) Silent (λ y. refl) (home sh l))
     go (Misses_anew a n g i q f) =
         conserves-still sh l s (moves (record s { awaited = awaiting (line_of (w a)); cache = placed sh (line_of (w a)) s.cache })
-        (say sh s (Requests (line_of (w a))))) refl (λ j i. placed-dirty sh (line_of (w a)) s.cache (word_at l j))
+        (say sh s (Requests (line_of (w a))))) refl (λ j i. dirty-placed sh (line_of (w a)) s.cache (word_at l j))
         (λ t. quiet sh s (CopyOf l t) (Requests (line_of (w a))) (λ y. refl) (home sh l))
     go (Ends_alone t b e f r i) = let x = alone-copies sh (is_solo s.phase) l id t (after_end s b e) (m.line) (m.home) (h.words) in
         record { copies = x.copies; wrong = x.wrong }
@@ -250,7 +252,7 @@ unfolding invalidated rolled_back cleaned filled read_cleared passes
 copies-back sh l e s m h = each-back sh e s (BackStep sh l s) go m
   where
     away : (k m : ℕ) → (k ≡ l → ⊥) → (j : ℕ) → j < 8 → (invalidated k m s.cache).dirty (word_at l j) ≡ s.cache.dirty (word_at l j)
-    away k m n j i = let z : line_of (word_at l j) ≡ l = in-line l j i in
+    away k m n j i = let z : line_of (word_at l j) ≡ l = line_of-word_at l j i in
         none (hit k m (word_at l j)) (s.cache.modified (word_at l j)) (missed k m l (word_at l j) z n)
       where
         none : (a b : Bool) → a ≡ false → (if a && not b then None else s.cache.dirty (word_at l j)) ≡ s.cache.dirty (word_at l j)

@@ -1,12 +1,14 @@
 -- A core's instructions and evictions keep the copies of each line: dirty words that leave a frame are sent home, and a commit makes one
 -- copy of each line that it stored.
+use Rattle.base_lemmas.proofs.Lemmas.{line_of-word_at, unheld-clean}
 use Rattle.theorem_serial.proofs.Names.{stored, ℕ, ◌+◌, ◌≡◌, ◌<◌, ◌⊎◌, ◌==◌, ◌&&◌, Bool, true, false, not, Option, Some, None}
 use Rattle.theorem_serial.proofs.Names.{if◌then◌else◌}
 use Rattle.theorem_serial.proofs.Names.{arith, refl, ◌∙◌, inl, inr, cases_eq, nat_tests, Noted, num, line_of, word_at, Dir, Shape, home}
 use Rattle.theorem_serial.proofs.Names.{Cache}
-use Rattle.theorem_serial.proofs.Names.{IsCache, placed, placed_at, CoreState, Out, CopyOf, CopyMask, among, stores_in, names_line}
+use Rattle.theorem_serial.proofs.Names.{IsCache, placed, CoreState, Out, CopyOf, CopyMask, among, stores_in, names_line}
 use Rattle.theorem_serial.proofs.Copies.CopySends.{Leaves, few-masks}
-use Rattle.theorem_serial.proofs.Copies.DirtyFrames.{frame_copy, frame_wrong, wrong-copy, SameDirty, same-frame, clean-frame, in-line}
+use Rattle.theorem_serial.proofs.Copies.DirtyFrames.{frame_copy, frame_wrong, wrong-copy, SameDirty, same-frame, clean-frame}
+use Rattle.rules_maps.proofs.Lemmas.{dirty-placed}
 
 -- a commit makes a copy of the line with the tag; and it has another mask
 abbrev pub gains : Shape → (line : ℕ) → Option Noted → (tag : ℕ) → Bool
@@ -40,7 +42,7 @@ conserves-sent sh l k s o e h y = go (cases_eq k l)
   where
     at-line : (i : ℕ) → i < 8 → (b : Bool) → (k == l) ≡ b
         → o.core.cache.dirty (word_at l i) ≡ (if b then None else s.cache.dirty (word_at l i))
-    at-line i j b q = let z : line_of (word_at l i) ≡ l = in-line l i j in h (word_at l i) ∙ rw (z, q) refl
+    at-line i j b q = let z : line_of (word_at l i) ≡ l = line_of-word_at l i j in h (word_at l i) ∙ rw (z, q) refl
 
     go : (k ≡ l) ⊎ (k ≡ l → ⊥) → Conserves sh l s o
     go (inl q) =
@@ -52,17 +54,8 @@ conserves-sent sh l k s o e h y = go (cases_eq k l)
         }
     go (inr q) = let z : (k == l) ≡ false = grind (arith, nat_tests) in conserves-still sh l s o e (λ i j. at-line i j false z) (y.other q)
 
--- a new frame has no dirty word
-pub placed-dirty : (sh : Shape) (k : ℕ) (c : Cache) (v : ℕ) → (placed sh k c).dirty v ≡ c.dirty v
-unfolding placed placed_at
-placed-dirty sh k c v = grind (arith, nat_tests)
-
--- a line without a frame has no dirty word
-pub unheld-clean : (sh : Shape) (c : Cache) (v : ℕ) → IsCache sh c → c.held (line_of v) ≡ false → c.dirty v ≡ None
-unheld-clean sh c v h e = grind (arith, nat_tests)
-
 -- nor after a store into it
 pub framed-dirty : (sh : Shape) (w x : ℕ) (c : Cache) → IsCache sh c → c.held (line_of w) ≡ false → (v : ℕ)
     → (stored w x false (placed sh (line_of w) c)).dirty v ≡ c.dirty v
 unfolding stored
-framed-dirty sh w x c h e v = grind (arith, nat_tests, placed-dirty, unheld-clean)
+framed-dirty sh w x c h e v = grind (arith, nat_tests, dirty-placed, unheld-clean)

@@ -1,8 +1,9 @@
 -- The copies of a line in a core's frame, by the dirty words of the line.
+use Rattle.base_lemmas.proofs.Lemmas.{line_of-word_at}
 use Rattle.theorem_serial.proofs.Names.{nat_tests, ℕ, ◌+◌, ◌≡◌, ◌<◌, ◌≤◌, ◌⊎◌, ◌==◌, ◌&&◌, ◌||◌, Bool, true, false, not, Option, Some, None}
 use Rattle.theorem_serial.proofs.Names.{is_some, unwrap_or, if◌then◌else◌, arith, refl, sym, ◌∙◌, inl, inr, num, any_below, any_word}
 use Rattle.theorem_serial.proofs.Names.{word_at}
-use Rattle.theorem_serial.proofs.Names.{line_of, or_else, mask_of, Shape, Cache, IsCache, is_dirty, is_modified, dirty_tag, dirty_mask}
+use Rattle.theorem_serial.proofs.Names.{or_else, mask_of, Shape, Cache, IsCache, is_dirty, is_modified, dirty_tag, dirty_mask}
 use Rattle.theorem_serial.proofs.Names.{modified_mask, first_of_line, any_below-found, any_below-at}
 
 -- 1 where the line's frame is dirty with this tag, and where it is so with another mask
@@ -111,14 +112,11 @@ pub some-dirty : (c : Cache) (l k t : ℕ) → k < 8 → c.dirty (word_at l k) �
 unfolding is_dirty any_word
 some-dirty c l k t i e = any_below-at (λ k. is_some (c.dirty (word_at l k))) 8 k i (rw e refl)
 
-pub in-line : (l k : ℕ) → k < 8 → line_of (word_at l k) ≡ l
-in-line l k i = omega (arith, i)
-
 -- the tag of a word that is dirty is that of its line
 pub tag-of : (sh : Shape) (c : Cache) (l k t : ℕ) → IsCache sh c → k < 8 → c.dirty (word_at l k) ≡ Some t → dirty_tag c l ≡ t
 tag-of sh c l k t h i e =
     let x = dirty-found c l (some-dirty c l k t i e) in
-    h.one_tag (word_at l x.0) (word_at l k) (dirty_tag c l) t (in-line l x.0 (x.1) ∙ sym (in-line l k i)) (x.2) e
+    h.one_tag (word_at l x.0) (word_at l k) (dirty_tag c l) t (line_of-word_at l x.0 (x.1) ∙ sym (line_of-word_at l k i)) (x.2) e
 
 -- where words become clean, no copy is new
 pub fewer-frame : (sh : Shape) (c e : Cache) (l : ℕ) → IsCache sh c
@@ -154,7 +152,7 @@ Committed c e l u = (k : ℕ) → k < 8 → e.dirty (word_at l k) ≡ (if c.modi
 no-dirty : (sh : Shape) (c : Cache) (l : ℕ) → IsCache sh c → is_modified c l ≡ true → IsClean c l
 unfolding is_modified any_word
 no-dirty sh c l h m k i = let x = any_below-found (λ k. c.modified (word_at l k)) 8 m in
-    h.either (word_at l x.0) (word_at l k) (in-line l x.0 (x.1) ∙ sym (in-line l k i)) (x.2)
+    h.either (word_at l x.0) (word_at l k) (line_of-word_at l x.0 (x.1) ∙ sym (line_of-word_at l k i)) (x.2)
 
 new-dirty : (sh : Shape) (c e : Cache) (l u : ℕ) → IsCache sh c → Committed c e l u → is_modified c l ≡ true → (k : ℕ) → k < 8
     → e.dirty (word_at l k) ≡ (if c.modified (word_at l k) then Some u else None)

@@ -1,4 +1,5 @@
 -- Every event keeps the copies of each line in memory, each kind of event by itself.
+use Rattle.base_lemmas.proofs.Lemmas.{eq-self}
 use Rattle.theorem_serial.proofs.Names.{ℕ, ◌%◌, ◌≡◌, ◌<◌, ◌≤◌, ◌⊎◌, ◌==◌, Bool, true, false, not, cond, List, Option, Some, None, arith}
 use Rattle.theorem_serial.proofs.Names.{refl}
 use Rattle.theorem_serial.proofs.Names.{ap, sym, ◌∙◌, inl, inr, cases_lt, nat_tests, Noted, num, Core, Dir, Msg, Inv, Shape, home, lines}
@@ -18,7 +19,7 @@ use Rattle.theorem_serial.proofs.Copies.PairCopies.{line_copies, LineCopies, cop
 use Rattle.theorem_serial.proofs.Copies.TagsKept.{inv-tag, tag-below, stored-home, stored-in, TakenCommit, taken-commit, Invalidating}
 use Rattle.theorem_serial.proofs.Copies.WroteLines.{on-its-way, wrote-listed, no-writer}
 use Rattle.theorem_serial.proofs.Counts.Links.{live-takes}
-use Rattle.theorem_serial.proofs.Counts.StepCases.{same, differ, pairs_dir, pairs_asks, pairs_grant, pairs_back, pairs_vendor, OfAnswer}
+use Rattle.theorem_serial.proofs.Counts.StepCases.{differ, pairs_dir, pairs_asks, pairs_grant, pairs_back, pairs_vendor, OfAnswer}
 use Rattle.theorem_serial.proofs.Counts.StepCases.{step_cases}
 use Rattle.theorem_serial.proofs.Marks.CoreAfter.{AfterStep, Stays as AfterStays, after-exec, after-evict, after-grant, after-back}
 use Rattle.theorem_serial.proofs.Marks.DirRecords.{Stays, Records, Still, Came, Settles, Dropped, RecordsBy, dir-records}
@@ -241,7 +242,7 @@ pub dir-lines : (sh : Shape) (gs : List Grant) (ys : Ways) (h : History) (c d k 
 unfolding pair
 dir-lines sh gs ys h c d k m s sends b i r = pairs_dir (CopiesAt sh h.commits) h.world c d k s sends
     (λ l cl dl ll e. answer-lines sh gs ys h c d k c l true m s (after_answer (out_taken (pair h.world c d) k) s (sends (Core c))) b i
-    (same c) cl dl ll e (record { cache = refl; dir = refl; lives = λ q. live-takes q (h.world.net (Core c) (Dir d)) k m i }) r)
+    (eq-self c) cl dl ll e (record { cache = refl; dir = refl; lives = λ q. live-takes q (h.world.net (Core c) (Dir d)) k m i }) r)
     (λ j n l jl dl ll e. answer-lines sh gs ys h c d k j l false m s (after_answer (pair h.world j d) s (sends (Core j))) b i
     (differ j c n) jl dl ll e (record { cache = refl; dir = refl; lives = λ q. omega arith }) r)
     b.lines

@@ -1,4 +1,5 @@
 -- Every event keeps that the tag of a line in memory is the greatest TID that is settled at its home and stored in it.
+use Rattle.base_lemmas.proofs.Lemmas.{and-false}
 use Rattle.theorem_serial.proofs.Names.{ℕ, ◌+◌, ◌≡◌, ◌<◌, ◌≤◌, ◌⊎◌, ◌==◌, ◌&&◌, Bool, true, false, nat_lt, List, [], Contains, Option, Some}
 use Rattle.theorem_serial.proofs.Names.{None, IfSome, max, cond, set, if◌then◌else◌, arith, refl, ap, sym, ◌∙◌, cases_eq, nat_tests, Noted}
 use Rattle.theorem_serial.proofs.Names.{Program, Local, num, any_word, has_mark, no_lines, Core, Dir, Msg, Event, Shape, home, lines}
@@ -13,7 +14,7 @@ use Rattle.theorem_serial.proofs.Names.{due}
 use Rattle.theorem_serial.proofs.Names.{OwedAt, times, share, KeptStored, inl, inr, ◌-◌, subst, insert_commit}
 use Rattle.theorem_serial.proofs.Copies.WroteLines.{on-its-way, applied-or}
 use Rattle.theorem_serial.proofs.Counts.Links.{num-same, live-takes, total-le}
-use Rattle.theorem_serial.proofs.Counts.StepCases.{and-false, OfAnswer, step_cases}
+use Rattle.theorem_serial.proofs.Counts.StepCases.{OfAnswer, step_cases}
 use Rattle.theorem_serial.proofs.Marks.DirRecords.{NoCommit, Records, Still, Came, Settles, RecordsBy, dir-records}
 use Rattle.theorem_serial.proofs.Marks.MaskLaws.{same-commit}
 use Rattle.theorem_serial.proofs.Marks.OwesByCommit.{CountsMarked}

@@ -1,11 +1,11 @@
 -- No message goes to a core that the machine doesn't have, and none of them owns a line.
+use Rattle.base_lemmas.proofs.Lemmas.{those-empty}
 use Rattle.theorem_serial.proofs.Names.{ℕ, ◌≡◌, ◌<◌, ◌≤◌, false, [], ◌∷◌, ◌==◌, Some, nat_lt, arith, refl, nat_tests, Lines, Core, Msg}
 use Rattle.theorem_serial.proofs.Names.{Fill}
 use Rattle.theorem_serial.proofs.Names.{ProbeReply, DataReq, Shape, lines, DirState, Sends, nothing, to, Answer, Asks, Takes, dir_deliver}
 use Rattle.theorem_serial.proofs.Names.{invalidations, invs_to, is_invalidated, home_words, Any, among}
 use Rattle.theorem_serial.proofs.Counts.DirOutcome.{Outcome, Waiting, Spent, AsksOwner, TakesProbe, TakesLoad, TakesCommit, TakesCopy}
 use Rattle.theorem_serial.proofs.Counts.DirOutcome.{outcome}
-use Rattle.theorem_serial.proofs.Counts.Links.{those-none}
 
 -- owners are cores of the machine
 abbrev pub OwnersInside : Shape → DirState → Type 0
@@ -37,7 +37,7 @@ unfolding invalidations invs_to among
 invalidations-inside sh ls c t j l =
     let outside : nat_lt j sh.cores ≡ false = grind (arith, nat_tests) in
     let none : (k : ℕ) → is_invalidated sh ls c j k ≡ false = λ k. is_invalidated-outside sh ls c j k outside in
-    rw (those-none (is_invalidated sh ls c j) (lines sh) (λ k. none k)) refl
+    rw (those-empty (is_invalidated sh ls c j) (lines sh) (λ k. none k)) refl
 
 pub dir-inside : (sh : Shape) (s : DirState) (c : ℕ) (m : Msg) → c < sh.cores → OwnersInside sh s → AnswersInside sh (dir_deliver sh s c m)
 dir-inside sh s c m l h = go (outcome sh s c m)

@@ -3,14 +3,10 @@ use Rattle.theorem_serial.proofs.Names.{◌≡◌, ◌≤◌, Bool, true, false,
 use Rattle.theorem_serial.proofs.Names.{set}
 use Rattle.theorem_serial.proofs.Names.{get_or, Some, None, ap, ◌⊎◌, cases_eq, Msg, Link, sent_all, sum_below, Kind, live, among, passes}
 use Rattle.theorem_serial.proofs.Names.{◌==◌}
-use Rattle.theorem_serial.proofs.Names.{◌&&◌, flat_map, nat_tests, those, Dir, Mark, Shape, Cache, writes_at, modified_mask, written_lines}
+use Rattle.theorem_serial.proofs.Names.{◌&&◌, flat_map, nat_tests, Dir, Mark, Shape, Cache, writes_at, modified_mask, written_lines}
 use Rattle.theorem_serial.proofs.Names.{Spilled, skip_all, probe_all, abort_written, marks_for, commit_sends, solo_sends}
 use Rattle.theorem_serial.proofs.Names.{solo_marks_or_skip}
 use Rattle.theorem_serial.proofs.Names.{solo_write_backs, grant_sends, Resolves, Protocol}
-
--- A truth value as a number, which is 1 or 0.
-pub num-few : (b : Bool) → num b ≤ 1
-num-few a = grind (arith, nat_tests)
 
 pub num-one : (b : Bool) → 1 ≤ num b → b ≡ true
 num-one a h = grind (arith, nat_tests)
@@ -103,12 +99,6 @@ pub among-flat_map_none : (k : Kind) (f : ℕ → List Msg) → ((l : ℕ) → a
 unfolding among
 among-flat_map_none k f h [] = refl
 among-flat_map_none k f h (x ∷ xs) = omega (arith, among-append k (f x) (flat_map f xs), h x, among-flat_map_none k f h xs)
-
--- of no line nothing
-pub those-none : (p : ℕ → Bool) (n : ℕ) → ((k : ℕ) → p k ≡ false) → those p n ≡ []
-unfolding those
-those-none p zero h = refl
-those-none p (suc n) h = rw (those-none p n h, h n) refl
 
 pub passes-protocol : (t : ℕ) (m : Msg) → num (passes (Resolves t) m) ≤ num (passes Protocol m)
 unfolding passes

@@ -1,4 +1,5 @@
 -- What is to be shown of a step, by the kind of its event, and what each kind does to the pairs of a core and a directory.
+use Rattle.base_lemmas.proofs.Lemmas.{and-false, eq-self}
 use Rattle.theorem_serial.proofs.Names.{DirState, from_dir, ℕ, ◌+◌, ◌≡◌, ◌<◌, Bool, true, false, List, [], ◌∷◌, ◌++◌, ◌==◌, ◌&&◌, arith}
 use Rattle.theorem_serial.proofs.Names.{refl}
 use Rattle.theorem_serial.proofs.Names.{ap, sym, subst, ◌∙◌, inl, inr, nat_tests, cases_eq, Node, Core, Dir, Vendor, Msg, TidGrant}
@@ -16,15 +17,8 @@ use Rattle.theorem_serial.proofs.Names.{Uses, used_by, Views, uses_executed, use
 use Rattle.rules_tcc.specs.VendorDeliver.{Granted}
 use Rattle.theorem_serial.proofs.Counts.Links.{total-same, total-at, total-plus}
 
--- What each kind of event does to the pairs of a core and a directory, to what holds of them, and to sums over the cores.
-pub same : (c : ℕ) → (c == c) ≡ true
-same c = grind (arith, nat_tests)
-
 pub differ : (j c : ℕ) → (j ≡ c → ⊥) → (j == c) ≡ false
 differ j c h = grind (arith, nat_tests)
-
-pub and-false : (b : Bool) → (b && false) ≡ false
-and-false a = grind (arith, nat_tests)
 
 append-none : (l : Link) → l ++ [] ≡ l
 append-none [] = refl
@@ -33,7 +27,7 @@ append-none (x ∷ l) = rw (append-none l) refl
 -- a core moves
 pub moves-own : (w : World) (c : ℕ) (o : Out) (d : ℕ) → pair (core_moves w c o) c d ≡ after_move (pair w c d) o d
 unfolding pair core_moves
-moves-own w c o d = rw (same c) refl
+moves-own w c o d = rw (eq-self c) refl
 
 pub moves-other : (w : World) (c : ℕ) (o : Out) (j d : ℕ) → (j ≡ c → ⊥) → pair (core_moves w c o) j d ≡ pair w j d
 unfolding pair core_moves
@@ -42,7 +36,7 @@ moves-other w c o j d h = rw (differ j c h) refl
 -- a core takes a grant
 grant-own : (w : World) (c k : ℕ) (o : Out) (d : ℕ) → pair (core_takes w Vendor c k o) c d ≡ after_move (grant_taken (pair w c d) k) o d
 unfolding pair core_takes
-grant-own w c k o d = rw (same c) refl
+grant-own w c k o d = rw (eq-self c) refl
 
 grant-other : (w : World) (c k : ℕ) (o : Out) (j d : ℕ) → (j ≡ c → ⊥) → pair (core_takes w Vendor c k o) j d ≡ pair w j d
 unfolding pair core_takes
@@ -51,12 +45,12 @@ grant-other w c k o j d h = rw (differ j c h) refl
 -- a core takes a message of directory e
 pub back-own : (w : World) (c k : ℕ) (o : Out) (d : ℕ) → pair (core_takes w (Dir d) c k o) c d ≡ after_move (back_taken (pair w c d) k) o d
 unfolding pair core_takes
-back-own w c k o d = rw (same c) (rw (same d) refl)
+back-own w c k o d = rw (eq-self c) (rw (eq-self d) refl)
 
 pub back-away : (w : World) (e c k : ℕ) (o : Out) (d : ℕ) → (d ≡ e → ⊥)
     → pair (core_takes w (Dir e) c k o) c d ≡ after_move (pair w c d) o d
 unfolding pair core_takes
-back-away w e c k o d h = rw (same c) (rw (differ d e h) refl)
+back-away w e c k o d h = rw (eq-self c) (rw (differ d e h) refl)
 
 back-other : (w : World) (e c k : ℕ) (o : Out) (j d : ℕ) → (j ≡ c → ⊥) → pair (core_takes w (Dir e) c k o) j d ≡ pair w j d
 unfolding pair core_takes
@@ -66,12 +60,12 @@ back-other w e c k o j d h = rw (differ j c h) (rw (and-false (d == e)) refl)
 pub dir-own : (w : World) (c d k : ℕ) (s : DirState) (sends : Node → List Msg)
     → pair (dir_takes w c d k s sends) c d ≡ after_answer (out_taken (pair w c d) k) s (sends (Core c))
 unfolding pair dir_takes
-dir-own w c d k s sends = rw (same c) (rw (same d) refl)
+dir-own w c d k s sends = rw (eq-self c) (rw (eq-self d) refl)
 
 pub dir-other : (w : World) (c d k : ℕ) (s : DirState) (sends : Node → List Msg) (j : ℕ) → (j ≡ c → ⊥)
     → pair (dir_takes w c d k s sends) j d ≡ after_answer (pair w j d) s (sends (Core j))
 unfolding pair dir_takes
-dir-other w c d k s sends j h = rw (differ j c h) (rw (same d) refl)
+dir-other w c d k s sends j h = rw (differ j c h) (rw (eq-self d) refl)
 
 dir-away : (w : World) (c e k : ℕ) (s : DirState) (sends : Node → List Msg) (j d : ℕ) → (d ≡ e → ⊥)
     → pair (dir_takes w c e k s sends) j d ≡ pair w j d
@@ -81,7 +75,7 @@ dir-away w c e k s sends j d h = rw (differ d e h) (rw (and-false (j == c)) refl
 pub asks-own : (w : World) (d : ℕ) (s : DirState) (sends : Node → List Msg) (j : ℕ)
     → pair (dir_asks w d s sends) j d ≡ after_answer (pair w j d) s (sends (Core j))
 unfolding pair dir_asks
-asks-own w d s sends j = rw (same d) refl
+asks-own w d s sends j = rw (eq-self d) refl
 
 asks-away : (w : World) (e : ℕ) (s : DirState) (sends : Node → List Msg) (j d : ℕ) → (d ≡ e → ⊥)
     → pair (dir_asks w e s sends) j d ≡ pair w j d
@@ -96,7 +90,7 @@ given w c = record { next = w.next + 1; sends = to (Core c) (TidGrant w.next ∷
 
 vendor-own : (w : World) (c k d : ℕ) → pair (vendor_gives w c k (given w c)) c d ≡ after_grant (pair w c d) k
 unfolding pair vendor_gives
-vendor-own w c k d = rw (same c) refl
+vendor-own w c k d = rw (eq-self c) refl
 
 vendor-other : (w : World) (c k j d : ℕ) → (j ≡ c → ⊥) → pair (vendor_gives w c k (given w c)) j d ≡ after_other_grant (pair w j d)
 unfolding pair vendor_gives sent_all

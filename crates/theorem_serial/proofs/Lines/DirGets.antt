@@ -1,10 +1,10 @@
 -- What a directory's rules do to the lines of which it has asked the owner: it asks with a request, and a line that stays asked keeps its
 -- owner, whose words don't come by this message.
+use Rattle.base_lemmas.proofs.Lemmas.{eq-self}
 use Rattle.theorem_serial.proofs.Names.{ℕ, ◌≡◌, ◌≤◌, ◌⊎◌, Bool, true, false, [], ◌∷◌, ◌==◌, Some, if◌then◌else◌, arith, refl, sym}
 use Rattle.theorem_serial.proofs.Names.{ap, ◌∙◌, inl, inr, nat_tests, Core, Msg, DataReq, Shape, DirState, Sends, to, Answer, Asks}
 use Rattle.theorem_serial.proofs.Names.{Takes, dir_deliver, CopyOf, DataOf, among, passes}
 use Rattle.theorem_serial.proofs.Counts.DirOutcome.{Outcome, Waiting, Spent, AsksOwner, TakesCommit, TakesCopy, outcome, among-to}
-use Rattle.theorem_serial.proofs.Counts.StepCases.{same}
 
 -- the line stays asked, of the same owner, and the message isn't its copy
 pub record StaysAsked (s : DirState) (m : Msg) (new : DirState) (l : ℕ) : Type 0 where
@@ -32,7 +32,7 @@ dir-gets sh s c m = go (outcome sh s c m)
     sent l o e x true q r =
         inr (λ j w. let i : l ≡ x = grind (arith, nat_tests) in let y : Some o ≡ Some j = sym e ∙ ap s.lines.owner i ∙ w in
         let z : j ≡ o = cc in let n : among (DataOf x) (to (Core o) (DataReq l ∷ []) (Core j)) ≡ 1 = among-to (DataOf x) o j (DataReq l)
-        ∙ rw (z, same o, i, same x) refl in omega (arith, n))
+        ∙ rw (z, eq-self o, i, eq-self x) refl in omega (arith, n))
     sent l o e x false q r = inl r
 
     go : {m : Msg} {a : Answer} → Outcome sh s c m a → GetsBy s m a

@@ -1,12 +1,12 @@
 -- What a directory's rules do to the sharers of its lines: a Fill goes to a sharer, a commit is one of its lines, and a core is a sharer
 -- no more only where it says that it keeps no word.
+use Rattle.base_lemmas.proofs.Lemmas.{eq-self}
 use Rattle.theorem_serial.proofs.Names.{ℕ, ◌≡◌, ◌≤◌, ◌⊎◌, true, false, [], ◌==◌, ◌&&◌, arith, refl, inl, nat_tests}
 use Rattle.theorem_serial.proofs.Names.{num, has_mark, Core, Msg, Fill, ProbeReply, DataReq, Shape, DirState, Sends, Answer, Asks, Takes}
 use Rattle.theorem_serial.proofs.Names.{dir_deliver, home_words, FillOf, GoneOf, among, passes, AnyCommit}
 use Rattle.theorem_serial.proofs.Counts.DirOutcome.{Outcome, Waiting, Spent, AsksOwner, TakesProbe, TakesLoad, TakesCommit, TakesAck}
 use Rattle.theorem_serial.proofs.Counts.DirOutcome.{TakesCopy}
 use Rattle.theorem_serial.proofs.Counts.DirOutcome.{ToLoad, ToMark, outcome, among-to, among-none, none-to, none-invalidations}
-use Rattle.theorem_serial.proofs.Counts.StepCases.{same}
 use Rattle.theorem_serial.proofs.Marks.OwesByCommit.{CountsMarked}
 
 pub record Shares (sh : Shape) (s : DirState) (c : ℕ) (m : Msg) (new : DirState) (sends : Sends) : Type 0 where
@@ -50,7 +50,7 @@ dir-shares sh s c m = go (outcome sh s c m)
     go (TakesCommit b e) = record {
       kept = λ x j q. inl (grind (arith, nat_tests, q));
       filled = λ x j q. absurd (omega (arith, q, none-invalidations (FillOf x) (λ l k t. refl) sh s.lines c s.serving.serving j));
-      taken = λ x q r. rw (r, same c) refl;
+      taken = λ x q r. rw (r, eq-self c) refl;
     }
     go (TakesAck l k b h e) = record {
       kept = λ x j q. grind (arith, nat_tests, q);

@@ -1,4 +1,5 @@
 -- Every event keeps that of an asked line the request is in flight to the owner, or its words are on their way from the owner.
+use Rattle.base_lemmas.proofs.Lemmas.{line_of-word_at}
 use Rattle.theorem_serial.proofs.Names.{ℕ, ◌+◌, ◌≡◌, ◌<◌, ◌≤◌, ◌⊎◌, ◌==◌, ◌&&◌, Bool, true, false, List, [], Option, Some, None, IfSome}
 use Rattle.theorem_serial.proofs.Names.{arith}
 use Rattle.theorem_serial.proofs.Names.{refl, ap, sym, subst, ◌∙◌, nat_tests, Noted, Program, Local, num, line_of, word_at, cleaned}
@@ -9,7 +10,7 @@ use Rattle.theorem_serial.proofs.Names.{Answer}
 use Rattle.theorem_serial.proofs.Names.{Waits, Drops, Asks, Takes, dir_deliver, core_moves, core_takes, dir_takes, dir_asks, vendor_gives}
 use Rattle.theorem_serial.proofs.Names.{and_noted, step, GetsOf, KeptGets, CopyOf, DataOf, live, among, passes, Pair, pair, after_move}
 use Rattle.theorem_serial.proofs.Names.{back_taken, out_taken, after_answer, is_this}
-use Rattle.theorem_serial.proofs.Copies.DirtyFrames.{frame_copy, clean-frame, in-line}
+use Rattle.theorem_serial.proofs.Copies.DirtyFrames.{frame_copy, clean-frame}
 use Rattle.theorem_serial.proofs.Copies.LinesKept.{KeptLines}
 use Rattle.theorem_serial.proofs.Copies.PairCopies.{LineCopies, of-line}
 use Rattle.theorem_serial.proofs.Counts.Links.{live-sends, live-takes}
@@ -32,7 +33,8 @@ asked-clean : (sh : Shape) (e l : ℕ) (s : CoreState) (m : Msg) → passes (Dat
 unfolding passes data_request cleaned
 asked-clean sh e l s (DataReq k) q =
     clean-frame (cleaned k s.cache) l
-    (λ i j. (let y : (k == line_of (word_at l i)) ≡ true = (let z : line_of (word_at l i) ≡ l = in-line l i j in rw z q) in rw y refl))
+    (λ i j. (let y : (k == line_of (word_at l i)) ≡ true = (let z : line_of (word_at l i) ≡ l = line_of-word_at l i j in rw z q) in
+    rw y refl))
 asked-clean sh e l s (ProbeReply t v) q = absurd (cc)
 asked-clean sh e l s (Fill k ws) q = absurd (cc)
 asked-clean sh e l s (Inv k m u) q = absurd (cc)

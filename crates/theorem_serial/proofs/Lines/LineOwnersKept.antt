@@ -1,4 +1,5 @@
 -- Every event keeps that the owner of a line is the core that the line's tag was granted to.
+use Rattle.base_lemmas.proofs.Lemmas.{eq-self}
 use Rattle.theorem_serial.proofs.Names.{nat_tests, Commit, ℕ, ◌≡◌, Bool, true, false, List, [], ◌++◌, Contains, ◌==◌, Option, Some, None}
 use Rattle.theorem_serial.proofs.Names.{IfSome, if◌then◌else◌, arith, ap, Contains-append_left, Program, Local, num, has_mark, no_lines}
 use Rattle.theorem_serial.proofs.Names.{Core}
@@ -6,7 +7,7 @@ use Rattle.theorem_serial.proofs.Names.{Dir, Event, Msg, Shape, DirState, World,
 use Rattle.theorem_serial.proofs.Names.{KeptLineOwners, Commits, passes, Grant, granted_by, SparesCommitter, Stepped}
 use Rattle.theorem_serial.proofs.Counts.DirOutcome.{Outcome, Waiting, Spent, TakesCommit, TakesCopy, outcome}
 use Rattle.theorem_serial.proofs.Counts.Links.{live-takes}
-use Rattle.theorem_serial.proofs.Counts.StepCases.{same, Leaves, dirs_step}
+use Rattle.theorem_serial.proofs.Counts.StepCases.{Leaves, dirs_step}
 
 -- the owners of one directory's lines
 abbrev LineOwners : List Grant → DirState → Type 0
@@ -33,7 +34,7 @@ step-line-owners sh p gs w e y h =
     taken c d k n i x j true q =
         let u : ℕ = (w.dirs d).serving.serving in
         let z : c ≡ j = cc in
-        let v : num (u == u) ≡ 1 = ap num (same u) in
+        let v : num (u == u) ≡ 1 = ap num (eq-self u) in
         rw (← z) ((y c d).owner u (omega (arith, v, live-takes (Commits u) (w.net (Core c) (Dir d)) k (Commit u n) i)))
 
     owners : (c d k : ℕ) {m : Msg} {a : Answer} → in_flight w.net (Core c) (Dir d) k ≡ Some m → Outcome sh (w.dirs d) c m a

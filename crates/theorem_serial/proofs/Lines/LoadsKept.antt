@@ -1,4 +1,5 @@
 -- Every event keeps that one load request or Fill is in flight exactly for the line that a core awaits.
+use Rattle.base_lemmas.proofs.Lemmas.{eq-self}
 use Rattle.theorem_serial.proofs.Names.{ℕ, ◌≡◌, Bool, false, [], ◌==◌, ◌&&◌, Option, Some, None, IfSome, arith, refl, Program, Local, num}
 use Rattle.theorem_serial.proofs.Names.{Core, Dir, Event, Msg, Fill, ProbeReply, DataReq, Shape, DirState, World, start, core_start}
 use Rattle.theorem_serial.proofs.Names.{in_flight}
@@ -10,7 +11,7 @@ use Rattle.theorem_serial.proofs.Counts.DirOutcome.{Outcome, Waiting, Spent, Ask
 use Rattle.theorem_serial.proofs.Counts.DirOutcome.{IsSpent}
 use Rattle.theorem_serial.proofs.Counts.DirOutcome.{CopyPassed, outcome, among-none, among-to, none-to, none-invalidations}
 use Rattle.theorem_serial.proofs.Counts.Links.{live-sends, live-takes}
-use Rattle.theorem_serial.proofs.Counts.StepCases.{same, differ, pairs_move, pairs_grant, pairs_back, pairs_dir, pairs_asks, pairs_vendor}
+use Rattle.theorem_serial.proofs.Counts.StepCases.{differ, pairs_move, pairs_grant, pairs_back, pairs_dir, pairs_asks, pairs_vendor}
 use Rattle.theorem_serial.proofs.Counts.StepCases.{OfAnswer, step_cases}
 use Rattle.theorem_serial.proofs.OneCore.CoreAwaits.{LoadsStep, LoadsBack, loads-exec, loads-evict, loads-grant, loads-back}
 use Rattle.theorem_serial.proofs.Tids.TidSteps.{live-some}
@@ -84,7 +85,7 @@ step-loading sh p w e h = step_cases sh p w e (λ g o. KeptLoading sh o.world)
         pairs_move P w c o (λ d l. omega (arith, h c d l, a d l, live-sends (LoadOf l) (w.net (Core c) (Dir d)) (o.sends (Dir d)))) h
 
     self : (d : ℕ) (b : Bool) → num (d == d && b) ≡ num b
-    self d b = rw (same d) refl
+    self d b = rw (eq-self d) refl
 
     other : (d e : ℕ) (b : Bool) → (d ≡ e → ⊥) → num (d == e && b) ≡ 0
     other d e b n = rw (differ d e n) refl

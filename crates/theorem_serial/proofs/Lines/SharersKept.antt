@@ -1,4 +1,5 @@
 -- Every event keeps that a core which holds a line in memory is one of its sharers, or its Commit of the line is in flight.
+use Rattle.base_lemmas.proofs.Lemmas.{eq-self as same}
 use Rattle.theorem_serial.proofs.Names.{ℕ, ◌≡◌, ◌≤◌, ◌⊎◌, ◌&&◌, ◌||◌, Bool, true, false, nat_lt, List, arith, refl, ap, sym, ◌∙◌, inl, inr}
 use Rattle.theorem_serial.proofs.Names.{nat_tests, Noted, keeps_unmodified, is_fresh, holds_line, CommitsLine, SharerOf, FillOf, GoneOf}
 use Rattle.theorem_serial.proofs.Names.{live}
@@ -17,7 +18,7 @@ use Rattle.theorem_serial.proofs.Copies.PairCopies.{NewCommit}
 use Rattle.theorem_serial.proofs.Copies.TagsKept.{taken-commit, stored-home}
 use Rattle.theorem_serial.proofs.Copies.WroteLines.{applied-or, is_of, wrote-new, wrote-other, commit-sent, wrote-unknown}
 use Rattle.theorem_serial.proofs.Counts.Links.{live-sends, total-le, live-takes}
-use Rattle.theorem_serial.proofs.Counts.StepCases.{same, differ, either, moves-own, moves-other, pairs_dir}
+use Rattle.theorem_serial.proofs.Counts.StepCases.{differ, either, moves-own, moves-other, pairs_dir}
 use Rattle.theorem_serial.proofs.Lines.CoreHolds.{Holds, ReadsValid}
 use Rattle.theorem_serial.proofs.Lines.CoreHoldsTakes.{HoldsTaken, Gone}
 use Rattle.theorem_serial.proofs.Lines.DirSharers.{Shares}

@@ -1,4 +1,5 @@
 -- A Commit that a core sends counts the Marks that it has sent, or sends with it.
+use Rattle.base_lemmas.proofs.Lemmas.{eq-self}
 use Rattle.theorem_serial.proofs.Names.{ℕ, zero, suc, ◌+◌, ◌≡◌, ◌<◌, ◌≤◌, Bool, true, false, List, [], ◌∷◌, ◌++◌, ◌==◌, ◌&&◌, IfSome}
 use Rattle.theorem_serial.proofs.Names.{nat_lt}
 use Rattle.theorem_serial.proofs.Names.{if◌then◌else◌, flat_map, arith, refl, ◌∙◌, nat_tests, Program, num, those, count_below, Dir, Msg}
@@ -12,7 +13,7 @@ use Rattle.theorem_serial.proofs.Names.{marked_by, may_commit, has_tid, solo_com
 use Rattle.theorem_serial.proofs.Serving.CoreCommits.{heard-free}
 use Rattle.theorem_serial.proofs.Counts.Links.{among-append, total-same, among-fewer, among-flat_map_none}
 use Rattle.theorem_serial.proofs.Marks.CoreMarks.{one-mark, marks-only}
-use Rattle.theorem_serial.proofs.Marks.CoreMarking.{mine, self, told-commit, has-ready}
+use Rattle.theorem_serial.proofs.Marks.CoreMarking.{mine, told-commit, has-ready}
 use Rattle.theorem_serial.proofs.OneCore.Said.{quiet, Empties}
 use Rattle.theorem_serial.proofs.OneCore.Outcomes.{Commits_now, Did, each-exec, out, each-evict, emptied, Ends_alone, after_end, each-back}
 use Rattle.theorem_serial.proofs.OneCore.Outcomes.{heard, said}
@@ -80,7 +81,7 @@ is-commit sh c u d t n x =
 
 pub has-solo : (u : ℕ) (q : Phase) → q ≡ Solo u → has_tid q u ≡ true
 unfolding has_tid
-has-solo u q e = rw e (self u)
+has-solo u q e = rw e (eq-self u)
 
 counts-ready : (sh : Shape) (c d t u : ℕ) (s : CoreState) → s.phase ≡ Ready u → s.owing d ≡ false → CountsAll sh d t s (commit sh c u s)
 unfolding commit marked_by has_marked stores_line

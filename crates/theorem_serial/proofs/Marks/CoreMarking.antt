@@ -1,4 +1,5 @@
 -- What each of a core's rules does to its Marks, Skips and the words on its TID.
+use Rattle.base_lemmas.proofs.Lemmas.{eq-self, num-most}
 use Rattle.theorem_serial.proofs.Names.{ℕ, ◌+◌, ◌≡◌, ◌≤◌, Bool, true, false, not, List, [], ◌∷◌, ◌++◌, ◌==◌, ◌&&◌, None, IfSome, nat_lt}
 use Rattle.theorem_serial.proofs.Names.{if◌then◌else◌, arith, refl, ap, ◌⊎◌, inl, inr, cases_eq, nat_tests, Program, num, any_word, Dir}
 use Rattle.theorem_serial.proofs.Names.{Msg}
@@ -8,7 +9,7 @@ use Rattle.theorem_serial.proofs.Names.{Overflowing, Solo, to, skip_all, abort_w
 use Rattle.theorem_serial.proofs.Names.{commit_sends, solo_sends, core_exec, core_evict, Resolves, Protocol, Marks, MarkOf, EmptyMarks}
 use Rattle.theorem_serial.proofs.Names.{Skips}
 use Rattle.theorem_serial.proofs.Names.{among, passes, has_marked, stores_line, marked_by, has_tid, opens, Outcome, moves, solo_commit}
-use Rattle.theorem_serial.proofs.Counts.Links.{among-append, num-few}
+use Rattle.theorem_serial.proofs.Counts.Links.{among-append}
 use Rattle.theorem_serial.proofs.Tids.CoreProbing.{tid-after}
 use Rattle.theorem_serial.proofs.OneCore.Executes.{Steady, did-steady}
 use Rattle.theorem_serial.proofs.Marks.CoreMarks.{solo-mark, solo-full, solo-skips, solo-owned}
@@ -84,7 +85,7 @@ unsaid-append t l a b x y = record {
 
 pub at-most-one : (sh : Shape) (s : CoreState) (d l : ℕ) → marked_by sh s d l ≤ 1
 unfolding marked_by
-at-most-one sh s d l = num-few (has_marked s.phase && (not (s.owing d) && stores_line sh s.cache d l))
+at-most-one sh s d l = num-most (has_marked s.phase && (not (s.owing d) && stores_line sh s.cache d l))
 
 -- nothing is said, and what is to be marked stays
 pub silent : (sh : Shape) (d t l : ℕ) (s : CoreState) (o : Out) → Unsaid t l (o.sends (Dir d))
@@ -185,12 +186,9 @@ acked t l h d x b = go (d == h)
 pub mine : (u t : ℕ) (q : Phase) → has_tid q u ≡ true → u ≡ t → has_tid q t ≡ true
 mine u t q h e = rw e at h
 
-pub self : (u : ℕ) → (u == u) ≡ true
-self u = grind (arith, nat_tests)
-
 pub has-ready : (u : ℕ) (q : Phase) → q ≡ Ready u → has_tid q u ≡ true
 unfolding has_tid
-has-ready u q e = rw e (self u)
+has-ready u q e = rw e (eq-self u)
 
 solo-opens : (u t : ℕ) (w : Bool) (q : Phase) → q ≡ Solo u → u ≡ t → opens q w t ≡ true
 unfolding opens
@@ -203,7 +201,7 @@ marking-alone sh d t l u s o e q ph se = record {
   owned = λ x. own (rw se at x) (solo-owned sh s.cache s.spilled u d t);
   words = rw se (solo-full sh s.cache s.spilled u d);
   kept = λ x. let y : has_tid o.core.phase t ≡ false = rw ph (tid-after e t) in absurd (cc);
-  once = rw (se, q) (omega (arith, solo-mark sh s.cache s.spilled u d t l, num-few (u == t)));
+  once = rw (se, q) (omega (arith, solo-mark sh s.cache s.spilled u d t l, num-most (u == t)));
   opened = λ x. solo-opens u t (writes_at sh s.cache d) s.phase q (one (rw se at x) (cases_eq u t));
   skips =
       λ x. (

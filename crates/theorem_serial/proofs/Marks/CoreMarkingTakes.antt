@@ -1,4 +1,5 @@
 -- What each message to a core does to its Marks, Skips and the words on its TID.
+use Rattle.base_lemmas.proofs.Lemmas.{and-left, and-right, eq-self}
 use Rattle.theorem_serial.proofs.Names.{ℕ, ◌+◌, ◌≡◌, ◌<◌, ◌≤◌, Bool, true, false, not, List, [], ◌∷◌, ◌++◌, ◌==◌, ◌&&◌, Some, None, IfSome}
 use Rattle.theorem_serial.proofs.Names.{if◌then◌else◌, arith, refl, sym, ap, ◌∙◌, ◌⊎◌, inl, inr, cases_eq, nat_tests, put, num, any_below}
 use Rattle.theorem_serial.proofs.Names.{Dir}
@@ -14,7 +15,7 @@ use Rattle.theorem_serial.proofs.Names.{opens, waits_for_tid}
 use Rattle.theorem_serial.proofs.Counts.Links.{among-append, num-one}
 use Rattle.theorem_serial.proofs.Marks.CoreMarking.{Marking, Unsaid, unsaid-nothing, unsaid-append, acked, silent, silent-none}
 use Rattle.theorem_serial.proofs.Marks.CoreMarking.{marking-steady}
-use Rattle.theorem_serial.proofs.Marks.CoreMarking.{last-words, is-tid, swap, mine, self, told-abort, told-skip, marked-same, stores-same}
+use Rattle.theorem_serial.proofs.Marks.CoreMarking.{last-words, is-tid, swap, mine, told-abort, told-skip, marked-same, stores-same}
 use Rattle.theorem_serial.proofs.Marks.CoreMarks.{marks-for, marks-only, full-for, stores-writes}
 use Rattle.theorem_serial.proofs.OneCore.CoreSteps.{fill-steady, data-steady, ignored-steady, Hurt, Unhurt, Rolled, Doomed, Aborted}
 use Rattle.theorem_serial.proofs.OneCore.CoreSteps.{Gave_up}
@@ -118,7 +119,7 @@ unfolding has_marked
 none-marked a u = grind (arith, nat_tests)
 
 put_same : (e : ℕ) (f : ℕ → Bool) → put f e false e ≡ false
-put_same e f = let b : (e == e) ≡ true = self e in rw b refl
+put_same e f = let b : (e == e) ≡ true = eq-self e in rw b refl
 
 put_other : (e d : ℕ) (f : ℕ → Bool) → (d ≡ e → ⊥) → put f e false d ≡ f d
 put_other e d f n = let b : (d == e) ≡ false = grind (arith, nat_tests) in rw b refl
@@ -128,12 +129,6 @@ nothing-more a b = grind (arith, nat_tests)
 
 no-more : (a b c : Bool) → num a + num (b && (not true && c)) ≤ 1
 no-more a b c = grind (arith, nat_tests)
-
-first-is : (a b : Bool) → (a && b) ≡ true → a ≡ true
-first-is a b x = grind (arith, nat_tests)
-
-second-is : (a b : Bool) → (a && b) ≡ true → b ≡ true
-second-is a b x = grind (arith, nat_tests)
 
 opens-probing : (u t : ℕ) (w : Bool) → (u == t) ≡ true → w ≡ true → opens (Probing u) w t ≡ true
 unfolding opens
@@ -192,7 +187,7 @@ marking-here sh e u t l s o ph ow ph' ow' ca se = record {
 
     opening : 1 ≤ among (MarkOf t l) (marks_for sh s.cache u e) → opens s.phase (writes_at sh s.cache e) t ≡ true
     opening x = let y : (u == t) && stores_line sh s.cache e l ≡ true = num-one _ (omega (arith, x, marks-for sh s.cache u e t l)) in
-        rw ph (opens-probing u t (writes_at sh s.cache e) (first-is _ _ y) (stores-writes sh s.cache e l (second-is _ _ y)))
+        rw ph (opens-probing u t (writes_at sh s.cache e) (and-left _ _ y) (stores-writes sh s.cache e l (and-right _ _ y)))
 
 -- a directory where it doesn't mark
 marking-away : (sh : Shape) (e u d t l : ℕ) (s : CoreState) (o : Out) → (d ≡ e → ⊥) → s.phase ≡ Probing u
@@ -224,7 +219,7 @@ marking-replied sh e u d t l s o (Ignored q f) = rw q (marking-steady sh d t l s
 marking-replied sh e u d t l s o (Probed ph ow ph' ow' ca se cm) = go (cases_eq d e)
   where
     here : to (Dir e) (marks_for sh s.cache u e) (Dir e) ≡ marks_for sh s.cache u e
-    here = let b : (e == e) ≡ true = self e in rw b refl
+    here = let b : (e == e) ≡ true = eq-self e in rw b refl
 
     away : (d ≡ e → ⊥) → to (Dir e) (marks_for sh s.cache u e) (Dir d) ≡ []
     away n = let b : (d == e) ≡ false = grind (arith, nat_tests) in rw b refl

@@ -1,4 +1,5 @@
 -- Every event keeps that the Marks of a TID are those of the lines that its core stores.
+use Rattle.base_lemmas.proofs.Lemmas.{eq-self}
 use Rattle.theorem_serial.proofs.Names.{ℕ, ◌+◌, ◌≡◌, ◌<◌, ◌≤◌, Bool, true, false, List, ◌++◌, ◌==◌, ◌&&◌, Contains, Some, None, nat_lt}
 use Rattle.theorem_serial.proofs.Names.{nat_le}
 use Rattle.theorem_serial.proofs.Names.{slice_index_or, arith, refl, ap, subst, ◌⊎◌, inl, inr, cases_eq, cases_lt, nat_tests, num, has_mark}
@@ -13,7 +14,7 @@ use Rattle.theorem_serial.proofs.Names.{Sends}
 use Rattle.theorem_serial.proofs.Names.{core_exec, core_evict, from_dir, grant, Answer, Waits, Drops, Asks, Takes, dir_deliver, core_moves}
 use Rattle.theorem_serial.proofs.Names.{core_takes, dir_takes, dir_asks, step, granted_by, back_taken, Kept}
 use Rattle.theorem_serial.proofs.Counts.Links.{live-sends, live-takes, live-fewer, total-le, none-taken}
-use Rattle.theorem_serial.proofs.Counts.StepCases.{same, pairs_move, pairs_grant, pairs_back, pairs_dir, pairs_asks, pairs_vendor, OfAnswer}
+use Rattle.theorem_serial.proofs.Counts.StepCases.{pairs_move, pairs_grant, pairs_back, pairs_dir, pairs_asks, pairs_vendor, OfAnswer}
 use Rattle.theorem_serial.proofs.Counts.StepCases.{step_cases}
 use Rattle.theorem_serial.proofs.Marks.CoreMarking.{Marking, few, at-most-one, marking-exec, marking-evict}
 use Rattle.theorem_serial.proofs.Marks.CoreMarkingTakes.{Granting, marking-back, granting}
@@ -369,7 +370,7 @@ dir-marks sh gs w cs c d k m s sends a y h z i u = pairs_dir (λ j e v. (t l : �
 
     reached : (j t : ℕ) → j < sh.cores → d < sh.dirs → opens (w.cores j).phase (writes_at sh (w.cores j).cache d) t ≡ true
         → s.serving.serving ≤ t
-    reached j t x l o = rw (same d) at (open-ahead sh v j d t (z.tids) x l o)
+    reached j t x l o = rw (eq-self d) at (open-ahead sh v j d t (z.tids) x l o)
 
 pub no-request : (t l : ℕ) → passes (MarkOf t l) TidReq ≡ false
 unfolding passes
@@ -394,7 +395,7 @@ asks-marks sh gs w cs d s sends y h z u = pairs_asks (λ j e v. (t l : ℕ) → 
 
     reached : (j t : ℕ) → j < sh.cores → d < sh.dirs → opens (w.cores j).phase (writes_at sh (w.cores j).cache d) t ≡ true
         → s.serving.serving ≤ t
-    reached j t x l o = rw (same d) at (open-ahead sh v j d t (z.tids) x l o)
+    reached j t x l o = rw (eq-self d) at (open-ahead sh v j d t (z.tids) x l o)
 
 pub taken-back : (sh : Shape) (gs : List Grant) (w : World) (c d k t l : ℕ) → MarksOf sh gs c d t l (pair w c d)
     → MarksOf sh gs c d t l (back_taken (pair w c d) k)

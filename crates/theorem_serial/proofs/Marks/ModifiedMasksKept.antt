@@ -1,4 +1,5 @@
 -- Every event keeps that the Marks of a core's TID have the words that the core has modified as their masks, and are of different lines.
+use Rattle.base_lemmas.proofs.Lemmas.{num-most}
 use Rattle.theorem_serial.proofs.Names.{ℕ, ◌+◌, ◌≡◌, ◌<◌, ◌≤◌, true, false, not, List, [], ◌==◌, ◌&&◌, Contains, Option, Some, None, IfSome}
 use Rattle.theorem_serial.proofs.Names.{nat_lt, set, arith, refl, ◌⊎◌, inl, inr, nat_tests, Noted, Program, Local, num, modified_mask}
 use Rattle.theorem_serial.proofs.Names.{has_mark}
@@ -10,7 +11,7 @@ use Rattle.theorem_serial.proofs.Names.{marks_of}
 use Rattle.theorem_serial.proofs.Names.{marked_by, MarksOf, KeptMarks, wrong_marks, MaskedOf, KeptMasks, Grant, KeptOwners, Pair, pair}
 use Rattle.theorem_serial.proofs.Names.{after_move, grant_taken, after_answer, has_tid, Kept, KeptTold, cases_lt, no_lines, first_serving}
 use Rattle.theorem_serial.proofs.Names.{dir_start, among, OneMark}
-use Rattle.theorem_serial.proofs.Counts.Links.{live-sends, live-takes, num-few}
+use Rattle.theorem_serial.proofs.Counts.Links.{live-sends, live-takes}
 use Rattle.theorem_serial.proofs.Counts.StepCases.{pairs_move, pairs_grant, pairs_back, pairs_dir, pairs_asks, pairs_vendor, OfAnswer}
 use Rattle.theorem_serial.proofs.Counts.StepCases.{step_cases}
 use Rattle.theorem_serial.proofs.Marks.CoreMarking.{Marking, marking-exec, marking-evict, few}
@@ -198,7 +199,7 @@ unfolding marks_of
 one-answered t l v m s ms k y less eqn skip h = go (cases_lt 0 (live (MarkOf t l) k))
   where
     go : (0 < live (MarkOf t l) k) ⊎ (live (MarkOf t l) k ≤ 0) → marks_of t l (after_answer (record v { out = k }) s ms) ≤ 1
-    go (inr x) = omega (arith, x, num-few (s.serving.serving == t && has_mark s.lines l))
+    go (inr x) = omega (arith, x, num-most (s.serving.serving == t && has_mark s.lines l))
     go (inl x) =
         let e = eqn (omega (arith, x, less)) in
         let none : 0 + num (s.serving.serving == t && has_mark s.lines l) ≡ 0 =
@@ -274,4 +275,4 @@ step-one-mark sh p gs w cs e z y b h = step_cases sh p w e (λ g o. OneMark sh o
 
 pub start-one-mark : (sh : Shape) (entries : ℕ → Local) (ram : ℕ → ℕ) → OneMark sh (start entries ram)
 unfolding start dir_start no_lines pair live marks_of
-start-one-mark sh entries ram c d t l x r = omega (arith, num-few (first_serving.serving == t && false))
+start-one-mark sh entries ram c d t l x r = omega (arith, num-most (first_serving.serving == t && false))

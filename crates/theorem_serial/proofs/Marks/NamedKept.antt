@@ -1,4 +1,5 @@
 -- Every event keeps that invalidations in flight name marked lines with their masks, once each.
+use Rattle.base_lemmas.proofs.Lemmas.{eq-self}
 use Rattle.theorem_serial.proofs.Names.{Contains-append_cases, flat_map-append, SparesCommitter, is_invalidated, if◌then◌else◌}
 use Rattle.theorem_serial.proofs.Names.{invalidations}
 use Rattle.theorem_serial.proofs.Names.{data_request, after_answer, probe_reply, dir_deliver, KeptCounted, grant_taken, ProbeReply}
@@ -19,7 +20,7 @@ use Rattle.theorem_serial.proofs.Counts.DirOutcome.{none-to}
 use Rattle.theorem_serial.proofs.Counts.DirOutcome.{among-none}
 use Rattle.theorem_serial.proofs.Counts.Links.{among-append, among-flat_map_none, live-sends, live-takes, total-le, live-fewer, none-taken}
 use Rattle.theorem_serial.proofs.Counts.Links.{among-fewer}
-use Rattle.theorem_serial.proofs.Counts.StepCases.{same, dir-own, dir-other, pairs_move, pairs_grant, pairs_back, pairs_dir, pairs_asks}
+use Rattle.theorem_serial.proofs.Counts.StepCases.{dir-own, dir-other, pairs_move, pairs_grant, pairs_back, pairs_dir, pairs_asks}
 use Rattle.theorem_serial.proofs.Counts.StepCases.{pairs_vendor, OfAnswer, step_cases, asks-own}
 use Rattle.theorem_serial.proofs.Marks.DirMarks.{Marked, Stays, Clears, Skipped, Marks as IsMarked, MarkedBy, dir-marked}
 use Rattle.theorem_serial.proofs.Marks.MarksKept.{taken-less, is-mark}
@@ -144,7 +145,7 @@ dir-names sh s c m = go (outcome sh s c m)
     go (AsksOwner m l o w e) = λ j. none-to Invs o j (DataReq l) refl
     go (TakesProbe t h) = inl (λ j. none-to Invs c j (ProbeReply t s.serving.serving) refl)
     go (TakesLoad l k h e o) = inl (λ j. none-to Invs c j (Fill l (home_words s l)) refl)
-    go (TakesCommit b e) = inr (same s.serving.serving, names-invs sh s.lines c s.serving.serving)
+    go (TakesCommit b e) = inr (eq-self s.serving.serving, names-invs sh s.lines c s.serving.serving)
     go _ = inl (λ j. among-none Invs)
 
 -- a core moves: so many acknowledgements as invalidations that it took
@@ -284,7 +285,7 @@ near-back : (k e d c l : ℕ) (sh : Shape) (w : World) (m : Msg) (o : Out) → i
     → NamedOf l (after_move (back_taken (pair w c e) k) o e)
 unfolding pair
 near-back k e d c l sh w m o i a h = named-moved l e (num (passes (InvOf l) m)) (pair w c e) o (set (w.net (Dir e) (Core c)) k None)
-    (rw (same e) at a) (omega (arith, live-takes (InvOf l) (w.net (Dir e) (Core c)) k m i))
+    (rw (eq-self e) at a) (omega (arith, live-takes (InvOf l) (w.net (Dir e) (Core c)) k m i))
     (taken-less k (InvMask l ((w.dirs e).lines.mark l)) (w.net (Dir e) (Core c)) m i) h
 
 away-back : (e d c l : ℕ) (w : World) (m : Msg) (o : Out) → (d ≡ e → ⊥)

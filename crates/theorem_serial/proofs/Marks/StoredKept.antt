@@ -1,4 +1,5 @@
 -- Every event keeps that a TID that commits has marked what its commit stored, also while acknowledgements of it are owed.
+use Rattle.base_lemmas.proofs.Lemmas.{num-most}
 use Rattle.theorem_serial.proofs.Names.{after_other_grant, slice_index_or, if◌then◌else◌, modified_mask, insert_commit, SettledCommit}
 use Rattle.theorem_serial.proofs.Names.{Contains}
 use Rattle.theorem_serial.proofs.Names.{after_answer, MarkedCommit, wrong_marks, grant_taken, stored_mask, count_below, dir_deliver}
@@ -18,7 +19,7 @@ use Rattle.theorem_serial.proofs.Names.{Bool}
 use Rattle.theorem_serial.proofs.Names.{true, List, ◌++◌, Some, None, refl, Skip, Link, Kind, live, Pair, Core, Asks, step, Acks, pair}
 use Rattle.theorem_serial.proofs.Names.{Kept}
 use Rattle.theorem_serial.proofs.Names.{skip, suc, ◌+◌, ◌≡◌, ◌<◌, ◌≤◌, ◌∷◌, ◌∙◌, ◌⊎◌, inl, inr, num, Dir, Msg, Out, set, sym, ap}
-use Rattle.theorem_serial.proofs.Counts.Links.{live-sends, num-few, live-takes}
+use Rattle.theorem_serial.proofs.Counts.Links.{live-sends, live-takes}
 use Rattle.theorem_serial.proofs.Counts.StepCases.{dir-own, dir-other, asks-own, pairs_move, pairs_grant, pairs_back, pairs_dir, pairs_asks}
 use Rattle.theorem_serial.proofs.Counts.StepCases.{pairs_vendor, OfAnswer, step_cases}
 use Rattle.theorem_serial.proofs.Marks.CommitMasks.{Storing, StoresAll, storing-exec, storing-evict, storing-back}
@@ -209,7 +210,7 @@ stored-answered sh gs cs j d t v m s ms k y less ones wrongs skip nonempty ahead
         stays : (l q : ℕ) → 1 ≤ live (Resolves t) k → Contains gs (record { tid = t; core = j }) → j < sh.cores → d < sh.dirs
             → MarkedWith t l q v → MarkedWith t l q (after_answer (record v { out = k }) s ms)
         stays l q a b jl dl w = record {
-          one = marks-stay sh d t l v m s ms k y (ones l b) (skip l) nonempty (ahead jl dl a) (omega (arith, w.one, num-few (nat_lt 0 q)))
+          one = marks-stay sh d t l v m s ms k y (ones l b) (skip l) nonempty (ahead jl dl a) (omega (arith, w.one, num-most (nat_lt 0 q)))
               ∙ w.one;
           right = wrong-falls v.dir s m t l q (live (MarkMask t l q) v.out) (live (MarkMask t l q) k) y (wrongs l q b) (skip l) (w.right);
         }

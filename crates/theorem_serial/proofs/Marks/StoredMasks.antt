@@ -1,5 +1,6 @@
 -- The masks of the words that an attempt's stores name are those of the words that are modified or spilled; so a core stores at a
 -- directory where its stores do.
+use Rattle.base_lemmas.proofs.Lemmas.{any_below-same, mask_of-none}
 use Rattle.theorem_serial.proofs.Names.{ℕ, zero, suc, ◌≡◌, ◌<◌, Bool, true, false, List, ◌==◌, ◌&&◌, ◌||◌, Option, None, is_some, nat_lt}
 use Rattle.theorem_serial.proofs.Names.{if◌then◌else◌, arith, refl, sym, ap, ◌∙◌, ◌⊎◌, inl, inr, nat_tests, Stored, num, any_below}
 use Rattle.theorem_serial.proofs.Names.{any_word}
@@ -8,20 +9,6 @@ use Rattle.theorem_serial.proofs.Names.{is_written, written_mask, solo_writes_at
 use Rattle.theorem_serial.proofs.Names.{any_below-at, any_below-found}
 use Rattle.theorem_serial.proofs.Counts.Links.{num-same}
 use Rattle.theorem_serial.proofs.Marks.CoreMarks.{some-mask}
-
--- a mask has a word exactly where one of its places has p
-no-mask : (p : ℕ → Bool) → ((k : ℕ) → k < 8 → p k ≡ false) → mask_of p ≡ 0
-unfolding mask_of
-no-mask p h = rw (
-  h 0 (omega arith),
-  h 1 (omega arith),
-  h 2 (omega arith),
-  h 3 (omega arith),
-  h 4 (omega arith),
-  h 5 (omega arith),
-  h 6 (omega arith),
-  h 7 (omega arith),
-) refl
 
 mask-any : (p : ℕ → Bool) → nat_lt 0 (mask_of p) ≡ any_below p 8
 mask-any p = go (any_below p 8) refl
@@ -35,7 +22,7 @@ mask-any p = go (any_below p 8) refl
 
     go : (b : Bool) → any_below p 8 ≡ b → nat_lt 0 (mask_of p) ≡ any_below p 8
     go true e = let r = any_below-found p 8 e in let n : 0 < mask_of p = some-mask p (r.0) (r.1) (r.2) in rw e (grind (arith, nat_tests))
-    go false e = rw (e, no-mask p (none e)) refl
+    go false e = rw (e, mask_of-none p (none e)) refl
 
 any-or : (p q : ℕ → Bool) (n : ℕ) → any_below (λ k. p k || q k) n ≡ (any_below p n || any_below q n)
 unfolding any_below
@@ -51,16 +38,10 @@ pub stored-line : (sh : Shape) (d : ℕ) (ss : List Stored) (l : ℕ)
 unfolding stored_mask stores_in any_word
 stored-line sh d ss l = grind (arith, nat_tests, mask-any)
 
--- where p is of the lines with a stored word, there is one exactly where the directory was stored at
-any-same : (p q : ℕ → Bool) (n : ℕ) → ((l : ℕ) → l < n → p l ≡ q l) → any_below p n ≡ any_below q n
-unfolding any_below
-any-same p q zero h = refl
-any-same p q (suc n) h = rw (any-same p q n (λ l i. h l (omega (arith, i))), h n (omega arith)) refl
-
 pub stored-any : (sh : Shape) (d : ℕ) (ss : List Stored) (p : ℕ → Bool)
     → ((l : ℕ) → num (nat_lt l (lines sh) && p l) ≡ num (nat_lt 0 (stored_mask sh d ss l))) → any_below p (lines sh) ≡ stores_at sh d ss
 unfolding stores_at
-stored-any sh d ss p h = grind (arith, nat_tests, any-same, num-same)
+stored-any sh d ss p h = grind (arith, nat_tests, any_below-same, num-same)
 
 -- where just the words that the stores name are modified
 pub modified-line : (base : ℕ) (c : Cache) (ss : List Stored) (l : ℕ) → ((w : ℕ) → c.modified w ≡ stores_word base ss w)

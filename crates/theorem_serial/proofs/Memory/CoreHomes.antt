@@ -1,4 +1,5 @@
 -- What a core sends about lines goes to their homes, and names some word where it names words.
+use Rattle.base_lemmas.proofs.Lemmas.{and-both, eq-from}
 use Rattle.theorem_serial.proofs.Names.{ℕ, ◌%◌, ◌≡◌, ◌<◌, Bool, true, false, not, List, [], ◌∷◌, ◌++◌, ◌==◌, ◌&&◌, cond, Some, None, IfSome}
 use Rattle.theorem_serial.proofs.Names.{is_some, nat_lt, if◌then◌else◌, flat_map, arith, refl, any_below-found, nat_tests, Program, num}
 use Rattle.theorem_serial.proofs.Names.{those}
@@ -112,13 +113,6 @@ homely-written sh c l d = homely-to sh (home sh l) d (write_back_of (dirty_copy 
     go false q e = homely-none sh d
     go true q e = one-back sh d l (dirty_mask c l) (dirty_words c l) (dirty_tag c l) e (dirty-full c l q)
 
-both : (a b : Bool) → (a && b) ≡ true → (a ≡ true) × (b ≡ true)
-both true b x = (refl, x)
-both false b x = absurd (cc)
-
-same-home : (d h : ℕ) → (d == h) ≡ true → d ≡ h
-same-home d h e = grind (arith, nat_tests)
-
 homely-solo : (sh : Shape) (c : Cache) (sp : Spilled) (u : ℕ) → HomelyOut sh (solo_sends sh c sp u)
 unfolding solo_sends solo_marks_or_skip solo_write_backs among passes
 homely-solo sh c sp u d =
@@ -128,13 +122,13 @@ homely-solo sh c sp u d =
     backs : Homely sh d (flat_map (λ k. WriteBack k (spilled_mask sp k) (spilled_words sp k) u ∷ [])
         (those (λ k. d == home sh k && holds sp k) (lines sh)))
     backs = homely-those sh d (λ k. WriteBack k (spilled_mask sp k) (spilled_words sp k) u ∷ []) (λ k. d == home sh k && holds sp k)
-        (lines sh) (λ l e. let x = both (d == home sh l) (holds sp l) e in
-        one-back sh d l (spilled_mask sp l) (spilled_words sp l) u (same-home d (home sh l) (x.0)) (spilled-full sp l (x.1)))
+        (lines sh) (λ l e. let x = and-both (d == home sh l) (holds sp l) e in
+        one-back sh d l (spilled_mask sp l) (spilled_words sp l) u (eq-from d (home sh l) (x.0)) (spilled-full sp l (x.1)))
 
     marks : Homely sh d (flat_map (λ k. Mark k (written_mask c sp k) u ∷ []) (those (λ k. d == home sh k && is_written c sp k) (lines sh)))
     marks = homely-those sh d (λ k. Mark k (written_mask c sp k) u ∷ []) (λ k. d == home sh k && is_written c sp k) (lines sh)
-        (λ l e. let x = both (d == home sh l) (is_written c sp l) e in
-        one-mark sh d l (written_mask c sp l) u (same-home d (home sh l) (x.0)) (written-full c sp l (x.1)))
+        (λ l e. let x = and-both (d == home sh l) (is_written c sp l) e in
+        one-mark sh d l (written_mask c sp l) u (eq-from d (home sh l) (x.0)) (written-full c sp l (x.1)))
 
     last : Homely sh d (Commit u (count_below (λ k. d == home sh k && is_written c sp k) (lines sh)) ∷ [])
     last = record { away = refl; words = refl }
@@ -162,8 +156,8 @@ unfolding marks_for written_lines
 homely-marks sh c u e d =
     homely-to sh e d (marks_for sh c u e)
     (λ q. homely-those sh d (λ k. Mark k (modified_mask c k) u ∷ []) (λ k. e == home sh k && is_modified c k) (lines sh)
-    (λ l x. let y = both (e == home sh l) (is_modified c l) x in
-    one-mark sh d l (modified_mask c l) u (rw q (same-home e (home sh l) (y.0))) (modified-full c l (y.1))))
+    (λ l x. let y = and-both (e == home sh l) (is_modified c l) x in
+    one-mark sh d l (modified_mask c l) u (rw q (eq-from e (home sh l) (y.0))) (modified-full c l (y.1))))
 
 -- so is all that a core sends
 homely-said : (sh : Shape) (s : CoreState) (q : Said) → HomelyOut sh (say sh s q)

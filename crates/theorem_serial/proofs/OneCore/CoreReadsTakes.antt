@@ -1,11 +1,12 @@
 -- What each message to a core does to the words that are marked read.
+use Rattle.base_lemmas.proofs.Lemmas.{hit-line}
 use Rattle.theorem_serial.proofs.Names.{put, inl, inr, filled, cleaned, invalidated, OneCore, ℕ, ◌≡◌, ◌<◌, ◌≤◌, Bool, true, false, not}
 use Rattle.theorem_serial.proofs.Names.{◌&&◌}
 use Rattle.theorem_serial.proofs.Names.{◌==◌, List, Some, None, IfSome, is_some, unwrap_or, get_or, if◌then◌else◌, arith, refl, ◌⊎◌}
 use Rattle.theorem_serial.proofs.Names.{nat_tests}
 use Rattle.theorem_serial.proofs.Names.{line_of, place_of, hit, Msg, Inv, Shape, home, Cache, rolled_back, read_cleared, CoreState, Phase}
 use Rattle.theorem_serial.proofs.Names.{AwaitTid, DoomedTid, Probing, Ready, Overflowing, Solo, grant, is_violated, may_be_above}
-use Rattle.theorem_serial.proofs.Names.{words_invalidated, from_dir, has_tid, hit-line, hit-reads}
+use Rattle.theorem_serial.proofs.Names.{words_invalidated, from_dir, has_tid, hit-reads}
 use Rattle.rules_maps.specs.CacheLook.{reads_masked}
 use Rattle.theorem_serial.proofs.OneCore.CoreReads.{StillRead, Reading, ValidOrPassed, ReadOf, read-kept, reads-same, as-before, tid-kept}
 use Rattle.theorem_serial.proofs.OneCore.CoreReads.{no-tid}

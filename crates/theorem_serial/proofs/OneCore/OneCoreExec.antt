@@ -49,7 +49,7 @@ waits {sh} s go e h n a b c = record {
   rested = λ q. absurd (cc);
 }
 
-placed-held : (sh : Shape) (l : ℕ) (c : Cache) → is_some (free_way sh c (set_of sh l)) ≡ true → (placed sh l c).held l ≡ true
+pub placed-held : (sh : Shape) (l : ℕ) (c : Cache) → is_some (free_way sh c (set_of sh l)) ≡ true → (placed sh l c).held l ≡ true
 unfolding placed placed_at
 placed-held sh l c e = grind (arith, nat_tests)
 

@@ -1,4 +1,5 @@
 -- What a core sends with one event, and that nothing of a kind is among it where no message of its forms is of that kind.
+use Rattle.base_lemmas.proofs.Lemmas.{neither}
 use Rattle.theorem_serial.proofs.Names.{ℕ, ◌≡◌, Bool, true, false, not, List, [], ◌∷◌, ◌++◌, ◌==◌, ◌&&◌, ◌||◌, Option, Some, None, nat_lt}
 use Rattle.theorem_serial.proofs.Names.{if◌then◌else◌, flat_map, arith, refl, those, count_below, Dir, Vendor, Tagged, Msg, TidReq, LoadReq}
 use Rattle.theorem_serial.proofs.Names.{Skip, Probe, Mark, Commit, Abort, WriteBack, Flush, InvAck, Shape, home, lines, is_modified}
@@ -64,10 +65,6 @@ hears k _ x = false
 
 abbrev pub Unheard : Kind → Said → Type 0
 Unheard k q = (x : Piece) → hears k q x ≡ false
-
-neither : (a b : Bool) → (a || b) ≡ false → (a ≡ false) × (b ≡ false)
-neither false b e = (refl, e)
-neither true b e = absurd (cc)
 
 -- a message that isn't of the kind, and one that is sent where a test holds
 pub one-quiet : (k : Kind) (m : Msg) (b : Bool) → passes k m ≡ false → among k (if b then m ∷ [] else []) ≡ 0

@@ -229,9 +229,6 @@ loads_word-append base (s ∷ a) b w = let r : loads_word base (a ++ b) w ≡ (l
     go true = refl
     go false = refl
 
-second : (x y : Bool) → (x && y) ≡ true → y ≡ true
-second a y h = grind (arith, nat_tests)
-
 -- an instruction's access is named behind it, and all that was named before
 named-stepped : (base : ℕ) (p : Program) (a : Attempt) (need : Need) (w : ℕ)
     → ((loads_word base a.loads w || stores_word base a.stores w) || reads_word base need w) ≡ true

@@ -1,4 +1,5 @@
 -- What each change of a cache or of the overflow buffer does to the words of an attempt.
+use Rattle.base_lemmas.proofs.Lemmas.{held_valued, or-left}
 use Rattle.theorem_serial.proofs.Names.{ℕ, ◌+◌, ◌*◌, ◌%◌, ◌≡◌, Bool, true, false, not, ◌&&◌, ◌||◌, ◌==◌, List, [], ◌∷◌, ◌++◌, Option, Some}
 use Rattle.theorem_serial.proofs.Names.{None, is_some, unwrap_or, if◌then◌else◌, arith, refl, sym, ap, ◌∙◌, nat_tests, put, Stored, word_of}
 use Rattle.theorem_serial.proofs.Names.{line_of, any_word, any_below, Shape, set_of, Cache, IsCache, free_way, is_marked, marked, stored}
@@ -6,7 +7,7 @@ use Rattle.theorem_serial.proofs.Names.{placed, placed_at, filled, invalidated, 
 use Rattle.theorem_serial.proofs.Names.{committed, Spilled, spill_line, holds, any_below-at, marked-keeps, stored-keeps, placed-keeps}
 use Rattle.theorem_serial.proofs.Names.{filled-keeps, invalidated-keeps, cleaned-keeps, evicted-keeps, rolled_back-keeps}
 use Rattle.theorem_serial.proofs.Names.{read_cleared-keeps}
-use Rattle.theorem_serial.proofs.Names.{committed-keeps, stores_word, Words, hit, valid-held}
+use Rattle.theorem_serial.proofs.Names.{committed-keeps, stores_word, Words, hit}
 use Rattle.theorem_serial.proofs.OneCore.UsedWords.{stores_word-append}
 use Rattle.theorem_serial.proofs.OneCore.CoreSteps.{unmarked-word}
 
@@ -35,7 +36,8 @@ same-words sh solo c d sp ss i r m t k = record {
 pub words-marked : (sh : Shape) (c : Cache) (w x : ℕ) (sp : Spilled) (ss : List Stored) → c.value w ≡ Some x → Words sh false c sp ss
     → Words sh false (marked w c) sp ss
 unfolding marked
-words-marked sh c w x sp ss e k = same-words sh false c (marked w c) sp ss (marked-keeps sh w c (valid-held sh c w x (k.cache) e) (k.cache))
+words-marked sh c w x sp ss e k =
+    same-words sh false c (marked w c) sp ss (marked-keeps sh w c (held_valued sh c w x (k.cache) e) (k.cache))
     (λ v q. absurd (cc)) (λ v. refl) (λ v q. q) k
 
 pub placed-marks : (sh : Shape) (l : ℕ) (c : Cache) (v : ℕ)
@@ -115,9 +117,6 @@ words-buffered sh solo c w x sp ss s v l q e k = record {
     clean u y m true p r = let i : u ≡ w = grind (arith, nat_tests) in k.clean v y (l ∙ ap line_of (sym i) ∙ m) q
     clean u y m false p r = k.clean u y m (rw p at r)
 
-or_one : (a b : Bool) → a ≡ true → (a || b) ≡ true
-or_one a b e = rw e refl
-
 or_other : (a b : Bool) → a ≡ false → (a || b) ≡ b
 or_other a b e = rw e refl
 
@@ -151,7 +150,7 @@ words-evicted sh solo c s y l sp ss e m k = record {
         → ((evicted s y c).modified w || is_some (if (l == line_of w) && c.modified w then Some (unwrap_or (c.value w) 0) else sp w))
         ≡ stores_word sh.base ss w
     named w false n q r = rw ((evicted-fields c s y l w e).1) (rw q (k.named w))
-    named w true true q r = rw ((evicted-fields c s y l w e).1) (rw (q, r) (sym (or_one (c.modified w) (is_some (sp w)) r) ∙ k.named w))
+    named w true true q r = rw ((evicted-fields c s y l w e).1) (rw (q, r) (sym (or-left (c.modified w) (is_some (sp w)) r) ∙ k.named w))
     named w true false q r = rw ((evicted-fields c s y l w e).1) (rw (q, r) (sym (or_other (c.modified w) (is_some (sp w)) r) ∙ k.named w))
 
     clean : (v w : ℕ) → line_of v ≡ line_of w → is_some (if (l == line_of v) && c.modified v then Some (unwrap_or (c.value v) 0) else sp v)

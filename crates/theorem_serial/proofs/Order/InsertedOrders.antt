@@ -9,6 +9,7 @@ use Rattle.theorem_serial.proofs.Names.{Aligned}
 use Rattle.theorem_serial.proofs.Names.{IsMemory, SameAttempt, AgreeOnUsed, commits_store, commits_touch, orders_core, Again, ◌<◌, ◌++◌, ap}
 use Rattle.theorem_serial.proofs.Names.{last_tid, IsBelow, Inserted, CanInsert}
 use Rattle.tcc_base.specs.declared.access.Commit.{Commit}
+use Rattle.base_lemmas.proofs.Lemmas.{neither, or-left}
 use Rattle.rules_program.proofs.Lemmas.{serial-append}
 use Rattle.rules_program.specs.Plain.{Halted, close}
 use Rattle.theorem_serial.proofs.OneCore.UsedWords.{steps_same, steps-memory, uses-named}
@@ -137,15 +138,8 @@ abbrev AgainIf : (base : ℕ) → List Order → (here there : Plain) → Option
 AgainIf base os here there one other = IfSome one (λ done. ((c : ℕ) → orders_core os c ≡ true → there.cores c ≡ here.cores c)
     → ((w : ℕ) → commits_touch base done.1 w ≡ true → here.ram w ≡ there.ram w) → Again base os here there done other)
 
-left_true : (x y : Bool) → x ≡ true → (x || y) ≡ true
-left_true x y h = rw h refl
-
 left_of : (x y : Bool) → y ≡ false → (x || y) ≡ true → x ≡ true
 left_of a y q h = grind (arith, nat_tests)
-
-neither : (x y : Bool) → (x || y) ≡ false → (x ≡ false) × (y ≡ false)
-neither true y h = absurd (cc)
-neither false y h = (refl, h)
 
 again_then : (base : ℕ) (p : Program) (o : Order) (os : List Order) (here there : Plain) (done : Plain × Attempt)
     (rest : Plain × List Commit) (other : Option (Plain × Attempt)) (more : Plain → Option (Plain × List Commit))
@@ -202,7 +196,7 @@ rest_again : (base : ℕ) (p : Program) (o : Order) (os : List Order) (here ther
 unfolding commits_touch commit_of
 rest_again base p o os here there done None other more cores t again = tt
 rest_again base p o os here there done (Some rest) other more cores t again = λ words.
-    let u : Twice base p here there o.core done other = t (λ w h. words w (left_true _ _ h)) in
+    let u : Twice base p here there o.core done other = t (λ w h. words w (or-left _ _ h)) in
     again_then base p o os here there done rest other more u (λ k mk c w. again k (u.memory) mk c w) cores words
 
 when_again : (base : ℕ) (p : Program) (o : Order) (os : List Order) (here there : Plain) (b : Bool) (one other : Option (Plain × Attempt))
@@ -216,7 +210,7 @@ when_again base p o os here there true None other more t again = tt
 when_again base p o os here there true (Some done) other more t again =
     swap (and_commit (commit_of o done.1) (more done.0))
     (λ cores. rest_again base p o os here there done (more done.0) other more cores
-    (t (cores o.core (left_true (o.core == o.core) (orders_core os o.core) (grind (arith, nat_tests)))))
+    (t (cores o.core (or-left (o.core == o.core) (orders_core os o.core) (grind (arith, nat_tests)))))
     (λ k m mk. again done.0 k m mk))
   where
     swap : (x : Option (Plain × List Commit))

@@ -1,9 +1,10 @@
 -- The runs on which the list was tried, computed by the definitions alone.
+use Rattle.base_lemmas.proofs.Lemmas.{never}
 use Rattle.theorem_serial.proofs.Names.{line_of, World, arith, refl, inl, inr, nat_tests, passes, live, pair, stores_word, stores_in}
 use Rattle.theorem_serial.proofs.Names.{stored_mask, stores_at, names_line, wrote, wrote_line, wrote_mask, last_of, is_settled, is_applied}
 use Rattle.theorem_serial.proofs.Names.{settled_in_line, stored_there, copies_with, keeps_unmodified, holds_line, HomeWords, after_stores}
 use Rattle.theorem_serial.proofs.Names.{counts, after_commits, value_at, word_copies, Noted, Shape, home, ℕ, zero, suc, ◌≡◌, ◌<◌, ◌≤◌, ◌⊎◌}
-use Rattle.theorem_serial.proofs.Names.{◌==◌, false, true, List, None}
+use Rattle.theorem_serial.proofs.Names.{◌==◌, false, List, None}
 use Rattle.rules_tcc.proofs.Lemmas.{computed}
 use Rattle.rules_program.specs.Registers.{zeroed, register, written}
 use Rattle.rules_tcc.specs.Rows.{padded, both_words, both_code}
@@ -62,9 +63,6 @@ no l = omega (arith, l)
 unequal : (a b : ℕ) → (a == b) ≡ false → a ≡ b → ⊥
 unequal a b h e = grind (arith, nat_tests)
 
-false-true : false ≡ true → ⊥
-false-true e = absurd (cc)
-
 home-of : (sh : Shape) (ram : ℕ → ℕ) (w : World) (cs : List Noted) (d x : ℕ) → HomeWords sh ram w cs → sh.cores ≡ 2 → d < sh.dirs
     → home sh (line_of x) ≡ d
     → word_copies x ((w.dirs d).lines.tag (line_of x)) (pair w 0 d) ≡ 0 → word_copies x ((w.dirs d).lines.tag (line_of x)) (pair w 1 d) ≡ 0
@@ -77,7 +75,7 @@ unfolding run_computed
 tried_fails = record {
   tag = λ k. unequal 2 1 refl (k 1 3 one-two (let q : 3 < 4 = omega arith in q) refl);
   owner = λ k. unequal 0 1 refl (k 0 1 3 zero-two one-two (let q : 3 < 4 = omega arith in q) refl);
-  sharer = λ k. neither false-true (λ t. no t.sent) ((k 1 1 3 one-two one-two (let q : 3 < 4 = omega arith in q) refl).shares refl);
+  sharer = λ k. neither never (λ t. no t.sent) ((k 1 1 3 one-two one-two (let q : 3 < 4 = omega arith in q) refl).shares refl);
   word =
       λ k. unequal 7 2 refl (home-of tried tried_ram (with_word tried_end.world 1 24 7) tried_end.commits 1 24 k refl one-two refl refl
       refl);

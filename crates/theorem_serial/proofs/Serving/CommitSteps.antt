@@ -1,4 +1,5 @@
 -- Every event keeps that a Commit in flight is of the served TID, and that no invalidation goes to the core that committed.
+use Rattle.base_lemmas.proofs.Lemmas.{eq-self}
 use Rattle.theorem_serial.proofs.Names.{Contains-append_cases, Contains-append_left, CommitsAreServed, SparesCommitter, slice_index_or}
 use Rattle.theorem_serial.proofs.Names.{Program}
 use Rattle.theorem_serial.proofs.Names.{KeptCommitting, grant_in_phase, next_history, CommitsAbove, after_answer, CommittingOf}
@@ -20,7 +21,7 @@ use Rattle.theorem_serial.proofs.Names.{◌++◌}
 use Rattle.theorem_serial.proofs.Names.{Solo, Invs, Acks, ◌<◌, ◌≤◌, ◌∷◌, ◌⊎◌, inl, inr, num, Dir, Msg, Out, run, sym, ◌∙◌, due, ap}
 use Rattle.theorem_serial.proofs.Counts.Links.{live-sends, live-takes, total-le, live-fewer}
 use Rattle.theorem_serial.proofs.Counts.StepCases.{pairs_move, pairs_grant, pairs_back, pairs_dir, pairs_asks, pairs_vendor, OfAnswer}
-use Rattle.theorem_serial.proofs.Counts.StepCases.{step_cases, same, given}
+use Rattle.theorem_serial.proofs.Counts.StepCases.{step_cases, given}
 use Rattle.theorem_serial.proofs.Serving.CommitOwners.{CommitsNoted, noted-exec, noted-evict, noted-grant, noted-back}
 use Rattle.theorem_serial.proofs.Serving.CoreCommits.{Served, served-exec, served-evict, served-grant, served-back, fewer-above}
 use Rattle.theorem_serial.proofs.Serving.DirDue.{Due, DueBy, dir-due, still-due, none-quiet}
@@ -217,7 +218,7 @@ dir-spared sh gs w c e k m s sends y h z i u p = pairs_dir (SparedOf sh gs) w c 
     back : (j : ℕ) → e < sh.dirs → Contains gs (record { tid = s.serving.serving; core = j })
         → live Invs (w.net (Dir e) (Core j) ++ sent_all (sends (Core j))) ≡ 0
     back j = spared-back sh gs w c e k j (num (passes Acks m)) m s sends y h i u p
-        (λ x. rw (same e) at (no-invs sh v e j z (rw (same e) x)))
+        (λ x. rw (eq-self e) at (no-invs sh v e j z (rw (eq-self e) x)))
 
 asks-spared : (sh : Shape) (gs : List Grant) (w : World) (e : ℕ) (s : DirState) (sends : Sends) → SparesCommitter sh gs w
     → KeptTold sh (dir_asks w e s sends) → Due sh e (w.dirs e) 0 s sends → ((j : ℕ) → among Invs (sends (Core j)) ≡ 0)
@@ -237,7 +238,7 @@ asks-spared sh gs w e s sends h z u p =
             × ((j : ℕ) → among (InvsNot (w.dirs e).serving.serving) (sends (Core j)) ≡ 0)) ⊎ (s.owed ≡ 0)
             → live Invs (w.net (Dir e) (Core j) ++ sent_all (sends (Core j))) ≡ 0
         go (inl q) = omega (arith, (h j e).own l (rw (q.0) at g), p j, live-sends Invs (w.net (Dir e) (Core j)) (sends (Core j)))
-        go (inr q) = rw (same e) at (no-invs sh v e j z (rw (same e) q))
+        go (inr q) = rw (eq-self e) at (no-invs sh v e j z (rw (eq-self e) q))
 
 -- a directory whose TID isn't granted yet is owed nothing
 next-quiet : (sh : Shape) (w : World) (d j : ℕ) → KeptTold sh w → d < sh.dirs → (w.dirs d).serving.serving ≡ w.next

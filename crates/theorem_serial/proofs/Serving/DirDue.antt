@@ -1,4 +1,5 @@
 -- What a directory's rules do to what it is owed and to what it sends about marked lines.
+use Rattle.base_lemmas.proofs.Lemmas.{eq-self}
 use Rattle.theorem_serial.proofs.Names.{ℕ, zero, suc, ◌+◌, ◌-◌, ◌≡◌, ◌≤◌, ◌%◌, Bool, true, false, not, List, [], ◌∷◌, ◌==◌, cond}
 use Rattle.theorem_serial.proofs.Names.{if◌then◌else◌}
 use Rattle.theorem_serial.proofs.Names.{flat_map, arith, refl, ◌⊎◌, inl, inr, nat_tests, flat_map-append, num, count_below, those, Lines}
@@ -13,7 +14,6 @@ use Rattle.theorem_serial.proofs.Counts.DirOutcome.{TakesMark}
 use Rattle.theorem_serial.proofs.Counts.DirOutcome.{TakesCommit, TakesAck, TakesCopy, IsSpent, NoneOwed, CopyPassed, outcome, among-none}
 use Rattle.theorem_serial.proofs.Counts.DirOutcome.{none-to}
 use Rattle.theorem_serial.proofs.Counts.Links.{among-append, total-zero, total-same, among-fewer, among-flat_map_none}
-use Rattle.theorem_serial.proofs.Counts.StepCases.{same}
 use Rattle.theorem_serial.proofs.Serving.CoreDue.{among-those_none}
 use Rattle.theorem_serial.proofs.Tids.DirTids.{OnceAt, unserved}
 
@@ -136,15 +136,15 @@ dir-due sh d s c m h k = go (outcome sh s c m) h
     go (Waiting m) h a o = tt
     go (Spent m i) h a o = spent i o
     go (AsksOwner m l x w e) h a o = quiet-due sh d s _ _ refl (inl refl) (λ j. none-to Invs x j (DataReq l) refl) k
-    go (TakesSkip u b e i) h a o = quiet-due sh d s _ nothing refl (given (Skip u) u b e (same u) h) none-quiet k
-    go (TakesAbort u b e i) h a o = quiet-due sh d s _ nothing refl (given (Abort u) u b e (same u) h) none-quiet
+    go (TakesSkip u b e i) h a o = quiet-due sh d s _ nothing refl (given (Skip u) u b e (eq-self u) h) none-quiet k
+    go (TakesAbort u b e i) h a o = quiet-due sh d s _ nothing refl (given (Abort u) u b e (eq-self u) h) none-quiet
         (λ x q. grind (arith, nat_tests, k x))
     go (TakesProbe u i) h a o = quiet-due sh d s s _ refl (inl refl) (λ j. none-to Invs c j (ProbeReply u s.serving.serving) refl) k
     go (TakesLoad l x i e n) h a o = quiet-due sh d s _ _ refl (inl refl) (λ j. none-to Invs c j (Fill l (home_words s l)) refl) k
     go (TakesMark l n i) h a o = quiet-due sh d s _ nothing refl (inl refl) none-quiet
         (λ x q. grind (arith, nat_tests, k x, at-home (l % sh.dirs) d a))
     go (TakesCommit b e) h a o = let z : s.owed ≡ 0 = unserved s (Commit s.serving.serving (count_below (has_mark s.lines) (lines sh))) h
-        (same s.serving.serving) in record {
+        (eq-self s.serving.serving) in record {
           owed = omega (arith, z, invs-invalidations sh s.lines c s.serving.serving);
           served = settled b (invalidation_count sh s.lines c) (invalidations sh s.lines c s.serving.serving) e
               (λ j. nots-sent sh s.lines c s.serving.serving j);

@@ -1,12 +1,11 @@
 -- A directory sends invalidations only where it takes the Commit of the served TID, and none to the core that commits.
+use Rattle.base_lemmas.proofs.Lemmas.{eq-self, those-empty}
 use Rattle.theorem_serial.proofs.Names.{ℕ, ◌≡◌, Bool, true, false, not, ◌==◌, ◌&&◌, nat_lt, arith, refl, ◌⊎◌, inl, inr, nat_tests, Lines}
 use Rattle.theorem_serial.proofs.Names.{has_mark, Core, Msg, Fill, ProbeReply, DataReq, Shape, lines, DirState, Sends, Answer, Asks, Takes}
 use Rattle.theorem_serial.proofs.Names.{dir_deliver, invalidations, invs_to, is_invalidated, home_words, Invs, Commits, among, passes}
 use Rattle.theorem_serial.proofs.Counts.DirOutcome.{Outcome, Waiting, Spent, AsksOwner, TakesProbe, TakesLoad, TakesCommit, outcome}
 use Rattle.theorem_serial.proofs.Counts.DirOutcome.{among-none}
 use Rattle.theorem_serial.proofs.Counts.DirOutcome.{none-to}
-use Rattle.theorem_serial.proofs.Counts.Links.{those-none}
-use Rattle.theorem_serial.proofs.Counts.StepCases.{same}
 
 -- no invalidation, or those of a Commit of the served TID, none of them to its core
 abbrev pub Quiet : Sends → Type 0
@@ -28,7 +27,7 @@ own-spared sh ls c k =
 
 spares-invalidations : (sh : Shape) (ls : Lines) (c u : ℕ) → among Invs (invalidations sh ls c u (Core c)) ≡ 0
 unfolding invalidations invs_to among
-spares-invalidations sh ls c u = rw (those-none (is_invalidated sh ls c c) (lines sh) (own-spared sh ls c)) refl
+spares-invalidations sh ls c u = rw (those-empty (is_invalidated sh ls c c) (lines sh) (own-spared sh ls c)) refl
 
 pub dir-spares : (sh : Shape) (s : DirState) (c : ℕ) (m : Msg) → SparesBy s c m (dir_deliver sh s c m)
 unfolding passes
@@ -40,5 +39,5 @@ dir-spares sh s c m = go (outcome sh s c m)
     go (AsksOwner q l o w e) = λ j. none-to Invs o j (DataReq l) refl
     go (TakesProbe t h) = inl (λ j. none-to Invs c j (ProbeReply t s.serving.serving) refl)
     go (TakesLoad l k h e o) = inl (λ j. none-to Invs c j (Fill l (home_words s l)) refl)
-    go (TakesCommit b e) = inr (spares-invalidations sh s.lines c s.serving.serving, same s.serving.serving)
+    go (TakesCommit b e) = inr (spares-invalidations sh s.lines c s.serving.serving, eq-self s.serving.serving)
     go _ = inl (λ j. among-none Invs)

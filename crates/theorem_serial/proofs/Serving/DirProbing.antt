@@ -1,10 +1,11 @@
 -- A directory replies to a probe where it takes it, and to nothing else.
+use Rattle.base_lemmas.proofs.Lemmas.{eq-self}
 use Rattle.theorem_serial.proofs.Names.{ℕ, ◌≡◌, false, [], refl, num, Core, Msg, LoadReq, Fill, ProbeReply, DataReq, Shape, DirState, Sends}
 use Rattle.theorem_serial.proofs.Names.{nothing, Answer, Waits, Drops, Asks, Takes, dir_deliver, home_words, Probes, Replies, among, passes}
 use Rattle.theorem_serial.proofs.Counts.DirOutcome.{Outcome, Waiting, Spent, AsksOwner, TakesProbe, TakesLoad, TakesCommit, TakesCopy}
 use Rattle.theorem_serial.proofs.Counts.DirOutcome.{IsSpent}
 use Rattle.theorem_serial.proofs.Counts.DirOutcome.{CopyPassed, outcome, among-to, among-none, none-to, none-invalidations}
-use Rattle.theorem_serial.proofs.Counts.StepCases.{same, differ}
+use Rattle.theorem_serial.proofs.Counts.StepCases.{differ}
 
 -- the reply to a probe that was taken, to its core alone
 pub record Replying (m : Msg) (c : ℕ) (sends : Sends) : Type 0 where
@@ -37,7 +38,7 @@ dir-replies sh s c m = go (outcome sh s c m)
     go (Spent q h) = spent h
     go (AsksOwner q l o w e) = λ j t. none-to (Replies t) o j (DataReq l) refl
     go (TakesProbe u h) = record {
-      own = λ t. rw (among-to (Replies t) c c (ProbeReply u s.serving.serving), same c) refl;
+      own = λ t. rw (among-to (Replies t) c c (ProbeReply u s.serving.serving), eq-self c) refl;
       others = λ j t n. rw (among-to (Replies t) c j (ProbeReply u s.serving.serving), differ j c n) refl;
     }
     go (TakesLoad l k h e o) = quiet (LoadReq l k) _ (λ t. refl) (λ j t. none-to (Replies t) c j (Fill l (home_words s l)) refl)

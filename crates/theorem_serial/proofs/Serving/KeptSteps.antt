@@ -1,4 +1,5 @@
 -- Every event keeps the invariants on TIDs, probes and what is owed, and so does every run.
+use Rattle.base_lemmas.proofs.Lemmas.{eq-self}
 use Rattle.theorem_serial.proofs.Names.{ℕ, ◌+◌, ◌≡◌, ◌<◌, ◌≤◌, ◌%◌, true, false, List, ◌++◌, ◌==◌, Option, Some, None, IfSome}
 use Rattle.theorem_serial.proofs.Names.{slice_index_or}
 use Rattle.theorem_serial.proofs.Names.{arith, refl, sym, ◌∙◌, ◌⊎◌, inl, inr, cases_lt, cases_eq, nat_tests, Local, num, no_lines, Core}
@@ -18,7 +19,7 @@ use Rattle.theorem_serial.proofs.Names.{Waits, Drops, Asks, Takes, dir_deliver, 
 use Rattle.theorem_serial.proofs.Names.{and_then, run_from, run, Resolves, handled, KeptTold, Kept}
 use Rattle.theorem_serial.proofs.Counts.Inside.{AnswersInside, dir-inside}
 use Rattle.theorem_serial.proofs.Counts.Links.{live-sends, live-takes, total-le, total-zero, live-fewer, none-taken}
-use Rattle.theorem_serial.proofs.Counts.StepCases.{same, differ, given, pairs_move, pairs_grant, pairs_back, pairs_dir, pairs_asks}
+use Rattle.theorem_serial.proofs.Counts.StepCases.{differ, given, pairs_move, pairs_grant, pairs_back, pairs_dir, pairs_asks}
 use Rattle.theorem_serial.proofs.Counts.StepCases.{pairs_vendor, sum_move, sum_grant, sum_back, sum_back_away, sum_dir, sum_dir_away}
 use Rattle.theorem_serial.proofs.Counts.StepCases.{sum_asks_here, sum_asks_away, sum_vendor, OfAnswer, step_cases}
 use Rattle.theorem_serial.proofs.OneCore.CoreProbes.{StaysReached, none-asked, asked-back, asked-exec, asked-evict, asked-grant}
@@ -205,7 +206,7 @@ unfolding dir_takes pair
 owed-answered sh w c e k m s sends h l i u =
     let p = sum_dir due (λ j. among Invs (sends (Core j))) sh.cores w c k s sends e (num (passes Acks m)) 0 l
     (due-answered (pair w c e) k m s (sends (Core c)) i) (λ j n. due-other (pair w j e) s (sends (Core j))) in
-    rw (same e) (omega (arith, h, u.owed))
+    rw (eq-self e) (omega (arith, h, u.owed))
 
 served-back : (sh : Shape) (w : World) (e j ack : ℕ) (s : DirState) (sends : Sends)
     → live (InvsNot (w.dirs e).serving.serving) (w.net (Dir e) (Core j)) ≡ 0 → Due sh e (w.dirs e) ack s sends
@@ -241,7 +242,7 @@ dir-owed sh w c e k m s sends h z l i u = record {
 
     back_of : (j : ℕ) → live (InvsNot s.serving.serving) (w.net (Dir e) (Core j) ++ sent_all (sends (Core j))) ≡ 0
     back_of j = served-back sh w e j (num (passes Acks m)) s sends ((h.at_home j e).served) u
-        (λ x. rw (same e) at (none-due sh v e j s.serving.serving ((z.inside j e).back) here (rw (same e) x)))
+        (λ x. rw (eq-self e) at (none-due sh v e j s.serving.serving ((z.inside j e).back) here (rw (eq-self e) x)))
 
 -- a directory asks
 pub asks-owed : (sh : Shape) (w : World) (e : ℕ) (s : DirState) (sends : Sends) → KeptOwed sh w → KeptTids sh (dir_asks w e s sends)
@@ -260,7 +261,7 @@ asks-owed sh w e s sends h z u = record {
     here =
         let p = sum_asks_here due (λ j. among Invs (sends (Core j))) sh.cores w s sends e
         (λ j. due-other (pair w j e) s (sends (Core j))) in
-        rw (same e) (omega (arith, h.owed e, u.owed))
+        rw (eq-self e) (omega (arith, h.owed e, u.owed))
 
     owed : (d : ℕ) → (d ≡ e) ⊎ (d ≡ e → ⊥) → OwedAt sh v d
     owed d (inl n) = rw n here
@@ -268,7 +269,7 @@ asks-owed sh w e s sends h z u = record {
 
     back_of : (j : ℕ) → live (InvsNot s.serving.serving) (w.net (Dir e) (Core j) ++ sent_all (sends (Core j))) ≡ 0
     back_of j = served-back sh w e j 0 s sends ((h.at_home j e).served) u
-        (λ x. rw (same e) at (none-due sh v e j s.serving.serving ((z.inside j e).back) here (rw (same e) x)))
+        (λ x. rw (eq-self e) at (none-due sh v e j s.serving.serving ((z.inside j e).back) here (rw (eq-self e) x)))
 
 -- the vendor grants
 pub vendor-owed : (sh : Shape) (w : World) (c k : ℕ) → KeptOwed sh w → c < sh.cores → KeptOwed sh (vendor_gives w c k (given w c))

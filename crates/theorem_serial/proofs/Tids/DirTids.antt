@@ -1,4 +1,5 @@
 -- What a directory's rules do to the TIDs that it has handled.
+use Rattle.base_lemmas.proofs.Lemmas.{eq-self}
 use Rattle.theorem_serial.proofs.Names.{ℕ, ◌+◌, ◌-◌, ◌≡◌, ◌<◌, ◌≤◌, Bool, true, false, ◌==◌, nat_lt, if◌then◌else◌, arith, refl, nat_tests}
 use Rattle.theorem_serial.proofs.Names.{num}
 use Rattle.theorem_serial.proofs.Names.{count_below, has_mark, Serving, advance, kept, is_skipped, Msg, Skip, Commit, Abort, Shape, lines}
@@ -8,7 +9,6 @@ use Rattle.theorem_serial.proofs.Names.{Asks, Takes, dir_deliver, invalidation_c
 use Rattle.theorem_serial.proofs.Counts.DirOutcome.{Outcome, Waiting, Spent, TakesSkip, TakesAbort, TakesCommit, TakesAck, TakesCopy}
 use Rattle.theorem_serial.proofs.Counts.DirOutcome.{IsSpent}
 use Rattle.theorem_serial.proofs.Counts.DirOutcome.{SkipPassed, AbortPassed, CopyPassed, outcome}
-use Rattle.theorem_serial.proofs.Counts.StepCases.{same}
 
 pub skipped-above : (s : Serving) (t : ℕ) → is_skipped s t ≡ true → s.serving < t
 unfolding is_skipped
@@ -87,8 +87,8 @@ dir-handled sh s c m t = go (outcome sh s c m)
     settled a n e = grind (arith, nat_tests, moved_on-handled, owed-handled)
 
     spent : {m : Msg} → IsSpent s c m → OnceAt s m → num (passes (Resolves t) m) ≡ 0
-    spent (SkipPassed u l) h = absurd (passed_twice s (Skip u) u h (same u) l)
-    spent (AbortPassed u l) h = absurd (passed_twice s (Abort u) u h (same u) l)
+    spent (SkipPassed u l) h = absurd (passed_twice s (Skip u) u h (eq-self u) l)
+    spent (AbortPassed u l) h = absurd (passed_twice s (Abort u) u h (eq-self u) l)
     spent (CopyPassed m l k ws g y i e) h = rw (y.alike (Resolves t)) refl
     spent _ h = refl
 
@@ -101,10 +101,10 @@ dir-handled sh s c m t = go (outcome sh s c m)
     go : {m : Msg} {a : Answer} → Outcome sh s c m a → OnceAt s m → HandledBy s m t a
     go (Waiting m) h = tt
     go (Spent m i) h = spent i h
-    go (TakesSkip u b e l) h = resolved (Skip u) u b e l (same u) refl h
-    go (TakesAbort u b e l) h = resolved (Abort u) u b e l (same u) refl h
+    go (TakesSkip u b e l) h = resolved (Skip u) u b e l (eq-self u) refl h
+    go (TakesAbort u b e l) h = resolved (Abort u) u b e l (eq-self u) refl h
     go (TakesCommit b e) h = let o : s.owed ≡ 0 = unserved s (Commit s.serving.serving (count_below (has_mark s.lines) (lines sh))) h
-        (same s.serving.serving) in rw o (settled b (invalidation_count sh s.lines c) e)
+        (eq-self s.serving.serving) in rw o (settled b (invalidation_count sh s.lines c) e)
     go (TakesAck l k b i e) h = omega (arith, settled b (s.owed - 1) e, owed-handled s.serving s.owed t i)
     go (TakesCopy m l k ws g y e o) h = rw (y.alike (Resolves t)) (omega arith)
     go _ h = omega arith

@@ -1,4 +1,5 @@
 -- Each kind of event keeps the invariants.
+use Rattle.base_lemmas.proofs.Lemmas.{eq-self}
 use Rattle.theorem_serial.proofs.Names.{after_other_grant, slice_index_or, first_serving, waits_for_tid, vendor_start, vendor_gives}
 use Rattle.theorem_serial.proofs.Names.{after_answer, first-skips, grant_taken, after_grant, core_start, core_moves, core_takes, after_move}
 use Rattle.theorem_serial.proofs.Names.{back_taken, ResolvedAt, nat_tests, dir_start, in_flight, sum_below, dir_takes, out_taken, RequestOf}
@@ -11,7 +12,6 @@ use Rattle.theorem_serial.proofs.Counts.Links.{live-sends, live-takes, total-le,
 use Rattle.theorem_serial.proofs.Counts.StepCases.{sum_back_away, pairs_vendor, sum_dir_away, pairs_grant, pairs_move, pairs_back}
 use Rattle.theorem_serial.proofs.Counts.StepCases.{pairs_asks}
 use Rattle.theorem_serial.proofs.Counts.StepCases.{sum_vendor, pairs_dir, sum_grant, sum_move, sum_back, sum_asks, sum_dir, differ, given}
-use Rattle.theorem_serial.proofs.Counts.StepCases.{same}
 use Rattle.theorem_serial.proofs.Tids.CoreRequests.{KeepsRequests, requests-grant}
 use Rattle.theorem_serial.proofs.Tids.CoreTids.{KeepsPart, part-grant}
 
@@ -207,7 +207,7 @@ dir-kept sh w c e k m s sends h i q ow hd =
         let z : sum_below (λ j. 0) sh.cores ≡ 0 = total-zero (λ j. 0) sh.cores (λ j y. refl) in
         let p = sum_dir (part sh d t) (λ j. 0) sh.cores w c k s sends d (num (passes (Resolves t) m)) 0 l
         (part-answered sh d t k m (pair w c d) s (sends (Core c)) i) (λ j n. part-still sh d t (pair w j d) s (sends (Core j))) in
-        rw (same d) (omega (arith, h.resolved d t x))
+        rw (eq-self d) (omega (arith, h.resolved d t x))
 
     resolved : c < sh.cores → (d t : ℕ) → d < sh.dirs → (d ≡ e) ⊎ (d ≡ e → ⊥) → ResolvedAt sh (dir_takes w c e k s sends) d t
     resolved l d t x (inr n) = let p = sum_dir_away (part sh d t) sh.cores w c e k s sends d n in
@@ -237,7 +237,7 @@ asks-kept sh w e s sends h q ow hd = record {
         let p = sum_asks (part sh d t) (λ j. 0) sh.cores w e s sends d (λ j. part-same sh d t (pair w j d) s (sends (Core j))) in
         let y : handled s.serving s.owed t ≡ handled (w.dirs d).serving (w.dirs d).owed t =
         subst (λ y. handled s.serving s.owed t ≡ handled (w.dirs y).serving (w.dirs y).owed t) (sym n) (hd t (rw n at x)) in
-        let b : (d == e) ≡ true = rw n (same e) in
+        let b : (d == e) ≡ true = rw n (eq-self e) in
         rw b (omega (arith, h.resolved d t x))
 
 -- the vendor grants a TID

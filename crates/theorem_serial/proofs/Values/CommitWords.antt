@@ -1,5 +1,6 @@
 -- What a commit does to one word: where it didn't store it nothing; where it did, the frame's word is dirty with the commit's TID, or
 -- the spilled word is sent with it, as they were.
+use Rattle.base_lemmas.proofs.Lemmas.{eight-at, word_at-own}
 use Rattle.theorem_serial.proofs.Names.{solo_commit, ℕ, ◌≡◌, ◌==◌, ◌&&◌, ◌||◌, Bool, true, false, not, Option, Some, None, IfSome, is_some}
 use Rattle.theorem_serial.proofs.Names.{unwrap_or, get_or, if◌then◌else◌, arith, refl, ap, sym, ◌∙◌, nat_tests, Noted, Program, line_of}
 use Rattle.theorem_serial.proofs.Names.{place_of, word_at, has, hit, Dir, Skip, Mark, Commit, WriteBack, Shape, Cache, IsCache, committed}
@@ -8,7 +9,7 @@ use Rattle.theorem_serial.proofs.Names.{committed_core, commit, solo_sends, solo
 use Rattle.theorem_serial.proofs.Names.{CopyNot, among, passes, mark, skip}
 use Rattle.theorem_serial.proofs.Copies.CopySends.{commit-copies}
 use Rattle.theorem_serial.proofs.Counts.Links.{among-append, among-flat_map_none}
-use Rattle.theorem_serial.proofs.Values.WordCopies.{among-words, among-others, at-place, get-eight}
+use Rattle.theorem_serial.proofs.Values.WordCopies.{among-words, among-others}
 use Rattle.theorem_serial.proofs.OneCore.Outcomes.{Commits_now, Did, Ends_alone, after_end, each-exec, out}
 
 pub record CommitsWord (sh : Shape) (x t : ℕ) (c : Cache) (sp : Spilled) (o : Out) : Type 0 where
@@ -52,8 +53,8 @@ spilled-at : (sp : Spilled) (x : ℕ) → (has (spilled_mask sp (line_of x)) (pl
     × (get_or (spilled_words sp (line_of x)) (place_of x) 0 ≡ unwrap_or (sp x) 0)
 unfolding spilled_mask spilled_words
 spilled-at sp x = (
-  rw (at-place x) at (has-mask_of (λ k. is_some (sp (word_at (line_of x) k))) (place_of x) (omega arith)),
-  rw (at-place x) at (get-eight (λ k. unwrap_or (sp (word_at (line_of x) k)) 0) (place_of x) (omega arith)),
+  rw (word_at-own x) at (has-mask_of (λ k. is_some (sp (word_at (line_of x) k))) (place_of x) (omega arith)),
+  rw (word_at-own x) at (eight-at (λ k. unwrap_or (sp (word_at (line_of x) k)) 0) (place_of x) (omega arith)),
 )
 
 and-off : (a b : Bool) → b ≡ false → (a && b) ≡ false

@@ -1,14 +1,16 @@
 -- What a core's instructions and evictions do to a word's copies: where nothing is committed they are as many as before, with their values.
+use Rattle.base_lemmas.proofs.Lemmas.{unheld-clean}
 use Rattle.theorem_serial.proofs.Names.{word_of, stored, solo_commit, marked, ℕ, ◌≡◌, ◌==◌, Bool, true, false, Some, None, IfSome, is_some}
 use Rattle.theorem_serial.proofs.Names.{if◌then◌else◌, arith, refl, ap, ◌∙◌, nat_tests, Program, line_of, Dir, Shape, home, IsCache, placed}
-use Rattle.theorem_serial.proofs.Names.{placed_at, dirty-evicted, value-evicted, CoreState, nothing, flush_line, Out, moves, commit}
+use Rattle.theorem_serial.proofs.Names.{dirty-evicted, value-evicted, CoreState, nothing, flush_line, Out, moves, commit}
 use Rattle.theorem_serial.proofs.Names.{core_exec}
 use Rattle.theorem_serial.proofs.Names.{core_evict, CopyOf, among, passes, Cache}
-use Rattle.theorem_serial.proofs.Copies.CoreCopies.{framed-dirty, placed-dirty, unheld-clean}
+use Rattle.theorem_serial.proofs.Copies.CoreCopies.{framed-dirty}
 use Rattle.theorem_serial.proofs.Values.WordCopies.{Carries, word-still, word-sent, flushed-words, back-home-words}
 use Rattle.theorem_serial.proofs.OneCore.Said.{Requests, Silent, quiet, say}
 use Rattle.theorem_serial.proofs.OneCore.Outcomes.{Commits_now, Did, Ends_alone, Frames, Frames_anew, Misses_anew, after_store, awaiting}
 use Rattle.theorem_serial.proofs.OneCore.Outcomes.{each-evict, each-exec, emptied, out, said}
+use Rattle.rules_maps.proofs.Lemmas.{dirty-placed, value-placed}
 
 -- no dirty word changes, and no copy is sent
 pub carries-still : (sh : Shape) (s : CoreState) (o : Out) → ((v : ℕ) → o.core.cache.dirty v ≡ s.cache.dirty v)
@@ -19,10 +21,6 @@ carries-still sh s o e f z x = word-still sh x s o (e x) (f x) (λ t. z (line_of
 -- and nothing is committed
 abbrev pub Quietly : Shape → CoreState → Out → Type 0
 Quietly sh s o = (o.commit ≡ None) × Carries sh s o
-
-pub placed-value : (sh : Shape) (k : ℕ) (c : Cache) (v : ℕ) → (placed sh k c).value v ≡ c.value v
-unfolding placed placed_at
-placed-value sh k c v = grind (arith, nat_tests)
 
 -- a store into a frame sends the line's dirty words home
 framed-sent : (sh : Shape) (w y : ℕ) (also : Bool) (s r : CoreState) → r.cache ≡ stored w y also s.cache → IsCache sh s.cache
@@ -38,7 +36,7 @@ framed-sent sh w y also s r c h v = word-sent sh (line_of w) v s (moves r (flush
 framed-value : (sh : Shape) (w x : ℕ) (c : Cache) → IsCache sh c → c.held (line_of w) ≡ false → (v : ℕ) → is_some (c.dirty v) ≡ true
     → (stored w x false (placed sh (line_of w) c)).value v ≡ c.value v
 unfolding stored
-framed-value sh w x c h e v d = grind (arith, nat_tests, placed-value, unheld-clean)
+framed-value sh w x c h e v d = grind (arith, nat_tests, value-placed, unheld-clean)
 
 -- where the event commits nothing
 abbrev pub Uncommitted : Shape → CoreState → Out → Type 0
@@ -59,8 +57,8 @@ words-exec sh p id s h = each-exec sh p id s (Uncommitted sh s) go
         (λ l t. quiet sh s (CopyOf l t) Silent (λ y. refl) (home sh l))
     go (Misses_anew a n g i q f) e =
         carries-still sh s (moves (record s { awaited = awaiting (line_of (w a)); cache = placed sh (line_of (w a)) s.cache })
-        (say sh s (Requests (line_of (w a))))) (placed-dirty sh (line_of (w a)) s.cache)
-        (λ v d. placed-value sh (line_of (w a)) s.cache v)
+        (say sh s (Requests (line_of (w a))))) (dirty-placed sh (line_of (w a)) s.cache)
+        (λ v d. value-placed sh (line_of (w a)) s.cache v)
         (λ l t. quiet sh s (CopyOf l t) (Requests (line_of (w a))) (λ y. refl) (home sh l))
     go (Ends_alone t l o f r i) e = absurd (cc)
     go (Commits_now t r) e = absurd (cc)

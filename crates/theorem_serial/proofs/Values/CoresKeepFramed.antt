@@ -1,10 +1,10 @@
 -- A core's events and the words in its frames and in the Filled to it: what fades keeps its value, an invalidation takes its words, and
 -- a Fill brings what was on its way.
+use Rattle.base_lemmas.proofs.Lemmas.{hit-line}
 use Rattle.theorem_serial.proofs.Names.{ℕ, ◌≡◌, ◌≤◌, ◌⊎◌, Bool, true, false, ◌==◌, ◌&&◌, List, Option, Some, None, set, get_or, arith, refl}
 use Rattle.theorem_serial.proofs.Names.{inl, inr, nat_tests, num, line_of, place_of, hit, Msg, Fill, Inv, Shape, home, Awaited, Out, staled}
 use Rattle.theorem_serial.proofs.Names.{is_awaited, LoadingOf, FillOf, FillNot, InvWord, live, passes, Pair, after_move, back_taken}
 use Rattle.theorem_serial.proofs.Names.{is_stale}
-use Rattle.theorem_serial.proofs.Names.{hit-line}
 use Rattle.theorem_serial.proofs.Counts.Links.{live-takes}
 use Rattle.theorem_serial.proofs.Tids.TidSteps.{live-some}
 use Rattle.theorem_serial.proofs.Values.FramedWords.{HeldOf, few-not}

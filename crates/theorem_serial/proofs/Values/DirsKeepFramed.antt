@@ -1,4 +1,5 @@
 -- Where a directory takes a message, each word in a frame or a Fill has its value still, or is invalidated.
+use Rattle.base_lemmas.proofs.Lemmas.{eq-self as same}
 use Rattle.theorem_serial.proofs.Names.{ℕ, ◌+◌, ◌≡◌, ◌<◌, ◌≤◌, Bool, true, false, not, ◌==◌, ◌&&◌, List, [], Contains, Option, Some, None}
 use Rattle.theorem_serial.proofs.Names.{arith, refl, ap, subst, ◌∙◌, inl, inr, nat_tests, Noted, num, line_of, IsCache, Msg, Core, Dir}
 use Rattle.theorem_serial.proofs.Names.{LoadReq}
@@ -8,7 +9,7 @@ use Rattle.theorem_serial.proofs.Names.{among}
 use Rattle.theorem_serial.proofs.Names.{passes, CommitsInMemory, LoadsInMemory, pair, is_this, is_applied, CommitsStand, stores_at}
 use Rattle.theorem_serial.proofs.Names.{stores_word}
 use Rattle.theorem_serial.proofs.Names.{counts, value_at, word_copies, HomeWords, last_of}
-use Rattle.theorem_serial.proofs.Counts.StepCases.{same, differ, either, asks-own, OfAnswer}
+use Rattle.theorem_serial.proofs.Counts.StepCases.{differ, either, asks-own, OfAnswer}
 use Rattle.theorem_serial.proofs.Lines.LoadsKept.{FillsBy}
 use Rattle.theorem_serial.proofs.Memory.MemorySends.{accesses_at_homes}
 use Rattle.theorem_serial.proofs.Tids.Commits.{last-least}

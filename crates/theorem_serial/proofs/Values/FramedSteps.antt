@@ -5,7 +5,7 @@ use Rattle.theorem_serial.proofs.Names.{nat_lt, get_or, arith, refl, sym, ap, su
 use Rattle.theorem_serial.proofs.Names.{line_of, Core, Dir, Vendor, Msg, LoadReq, Fill, Commit, Event, Shape, home, Awaited, CoreState}
 use Rattle.theorem_serial.proofs.Names.{DirState, Phase, Ready, Solo, World, Out, is_solo, noted, from_dir, grant, core_evict, is_awaited}
 use Rattle.theorem_serial.proofs.Names.{core_exec, dir_deliver, in_flight, History, Stepped, step, next_history, recorded, and_noted}
-use Rattle.theorem_serial.proofs.Names.{insert_commit, core_moves, core_takes, Uses, sees, Suits, LoadingOf, LinesAway, LoadOf, InvWord}
+use Rattle.theorem_serial.proofs.Names.{insert_commit, core_moves, core_takes, Uses, Suits, LoadingOf, LinesAway, LoadOf, InvWord}
 use Rattle.theorem_serial.proofs.Names.{Commits, live, passes, Carried, Invariants, executes, Grant, granted_by, Pair, pair, after_move}
 use Rattle.theorem_serial.proofs.Names.{back_taken, grant_taken, after_grant, after_other_grant, is_applied, CommitsStand, stores_word}
 use Rattle.theorem_serial.proofs.Names.{after_stores, counts, value_at, UnmodifiedWords, FilledWords, Ways, ways_after, sent_by, Contains}
@@ -23,6 +23,7 @@ use Rattle.theorem_serial.proofs.Values.ModifiedWords.{stored-served, stored-see
 use Rattle.theorem_serial.proofs.Values.ValueAt.{IsSilent, with_commit, value-skip, value-insert}
 use Rattle.theorem_serial.proofs.Order.SerialSteps.{Stand, stand}
 use Rattle.theorem_serial.proofs.Tids.TidSteps.{live-some}
+use Rattle.theorem_attempt.proofs.Lemmas.{sees-modified}
 
 -- a core commits
 
@@ -43,11 +44,6 @@ own-value : (base : ℕ) (s : DirState) (c t x y : ℕ) (r : CoreState)
     → with_commit base s (Some c) None x (noted t c r) y ≡ after_stores base r.stores x y
 unfolding noted
 own-value base s c t x y r = rw (counts-own s c t r) refl
-
-pub seen-framed : (s : CoreState) (r : ℕ → ℕ) (x z : ℕ) → s.spilled x ≡ None → s.cache.modified x ≡ true → s.cache.value x ≡ Some z
-    → sees s r x ≡ z
-unfolding sees
-seen-framed s r x z a b e = rw (a, b, e) refl
 
 stores-not : (m : Bool) (o : Option ℕ) (b : Bool) → (m || is_some o) ≡ b → m ≡ false → o ≡ None → b ≡ false
 stores-not m o b e f g = sym e ∙ rw (f, g) refl
@@ -143,7 +139,7 @@ committed sh p entries ram gs ys views m h c o u k held l g = subst (λ q. KeptH
     framed x z v n true q f =
         let e : stores_word sh.base s.stores x ≡ true = sym (k.carried.stored_words_are_those_named c x) ∙ rw q refl in
         let r = stored-seen sh p entries ram gs ys views m h c g.tid x u k l g.phase e in
-        inl (sym (seen-framed s r.0 x z n q v) ∙ (r.1 ∙ sym (value-own sh p entries ram gs ys views m h c x o u k l g e)))
+        inl (sym (sees-modified s r.0 x z n q v) ∙ (r.1 ∙ sym (value-own sh p entries ram gs ys views m h c x o u k l g e)))
     framed x z v n false q f =
         let e : stores_word sh.base s.stores x ≡ false = stores-not (s.cache.modified x) (s.spilled x) (stores_word sh.base s.stores x)
         (k.carried.stored_words_are_those_named c x) q n in

@@ -1,4 +1,5 @@
 -- A word in a core's frames and in the Fills on their way to the core: it has its value, or an invalidation of it is on its way too.
+use Rattle.base_lemmas.proofs.Lemmas.{eight-at, eq-self as same}
 use Rattle.theorem_serial.proofs.Names.{moved_on_if_settled, owned_by_committer, invalidation_count, load_unless_owned, keeps_unmodified}
 use Rattle.theorem_serial.proofs.Names.{false}
 use Rattle.theorem_serial.proofs.Names.{CommitsAreServed, CommitsInMemory, flat_map-append, is_invalidated, if◌then◌else◌, invalidations}
@@ -15,7 +16,7 @@ use Rattle.theorem_serial.proofs.Names.{SharerOf, is_fresh, IsRising, is_some, l
 use Rattle.theorem_serial.proofs.Names.{DataReq}
 use Rattle.theorem_serial.proofs.Names.{mask_of, Awaited, invs_to, FillOf, passes, counts, get_or, nat_le, Answer, nat_lt, Commit, LoadOf}
 use Rattle.theorem_serial.proofs.Names.{Bool}
-use Rattle.theorem_serial.proofs.Names.{Noted, Shape, World, among, subst, eight, Sends, Waits, Drops, Takes, those, Lines, lines, true}
+use Rattle.theorem_serial.proofs.Names.{Noted, Shape, World, among, subst, Sends, Waits, Drops, Takes, those, Lines, lines, true}
 use Rattle.theorem_serial.proofs.Names.{◌&&◌}
 use Rattle.theorem_serial.proofs.Names.{◌||◌, List, Some, None, refl, Core, home, Link, live, Pair, pair, zero, ◌==◌, Fill, Asks, cond}
 use Rattle.theorem_serial.proofs.Names.{Kind}
@@ -23,7 +24,7 @@ use Rattle.theorem_serial.proofs.Names.{◌<◌, ◌≤◌, ◌⊎◌, not, inl,
 use Rattle.theorem_serial.proofs.Names.{to}
 use Rattle.rules_tcc.specs.DirDeliver.{dir_commit}
 use Rattle.theorem_serial.proofs.Counts.Links.{live-sends, live-fewer, among-fewer, num-same, live-takes, among-append}
-use Rattle.theorem_serial.proofs.Counts.StepCases.{same, either, dir-own, dir-other, pairs_dir, pairs_asks, differ, OfAnswer}
+use Rattle.theorem_serial.proofs.Counts.StepCases.{either, dir-own, dir-other, pairs_dir, pairs_asks, differ, OfAnswer}
 use Rattle.theorem_serial.proofs.Lines.LoadsKept.{FillsBy}
 use Rattle.theorem_serial.proofs.Marks.CoreMarks.{some-mask}
 use Rattle.theorem_serial.proofs.Marks.MaskLaws.{same-commit}
@@ -136,11 +137,6 @@ value-stays sh ram w v cs d c x inside before after dl e steady = value-alike sh
 -- What directories do to the words in frames and Fills: a Fill brings the words as they are, and a word that a commit stored is
 -- invalidated at each core that holds it.
 
--- one word of a list of eight
-get_or-eight : (f : ℕ → ℕ) (k : ℕ) → k < 8 → get_or (eight f) k 0 ≡ f k
-unfolding eight
-get_or-eight f a h = grind (arith, nat_tests)
-
 -- a Fill of a line of no owner, whose words are those at home; the core's last commit there is passed
 pub record Filling (l a : ℕ) (s new : DirState) (ms : List Msg) : Type 0 where
   pub passed : a < s.serving.serving
@@ -156,7 +152,7 @@ FillsHome c l a s _ = Unit {0}
 filled-word : (s : DirState) (l x y : ℕ) → (l ≡ line_of x → s.words x ≡ y)
     → (l == line_of x && not (get_or (home_words s l) (place_of x) 0 == y)) ≡ false
 unfolding home_words
-filled-word s l x y e = grind (arith, nat_tests, s.words, get_or-eight)
+filled-word s l x y e = grind (arith, nat_tests, s.words, eight-at)
 
 owner-home : (o c l a : ℕ) (s : DirState) → FillsHome c l a s (ask_owner o l s)
 unfolding ask_owner

@@ -1,4 +1,5 @@
 -- What a directory or the vendor does keeps the values of home words and of copies on their way home.
+use Rattle.base_lemmas.proofs.Lemmas.{and-false}
 use Rattle.theorem_serial.proofs.Names.{ℕ, ◌+◌, ◌≡◌, ◌<◌, ◌≤◌, ◌⊎◌, ◌==◌, ◌&&◌, ◌||◌, Bool, true, false, cond, nat_lt, List, Contains}
 use Rattle.theorem_serial.proofs.Names.{Option}
 use Rattle.theorem_serial.proofs.Names.{Some, None, if◌then◌else◌, arith, refl, ap, sym, ◌∙◌, inl, inr, cases_eq, cases_lt, nat_tests}
@@ -15,7 +16,7 @@ use Rattle.theorem_serial.proofs.Copies.LinesStep.{marked-line, writer-line, oth
 use Rattle.theorem_serial.proofs.Copies.TagsKept.{tag-below, applied-owed, TakenCommit, takes-consumes}
 use Rattle.theorem_serial.proofs.Copies.WroteLines.{wrote-at}
 use Rattle.theorem_serial.proofs.Counts.Links.{num-same}
-use Rattle.theorem_serial.proofs.Counts.StepCases.{given, and-false, OfAnswer}
+use Rattle.theorem_serial.proofs.Counts.StepCases.{given, OfAnswer}
 use Rattle.theorem_serial.proofs.Marks.DirRecords.{NoCopy, Stays, Records, Still, Came, Settles, Dropped, RecordsBy}
 use Rattle.theorem_serial.proofs.Marks.MaskLaws.{same-commit}
 use Rattle.theorem_serial.proofs.Marks.OwesByCommit.{CountsMarked}

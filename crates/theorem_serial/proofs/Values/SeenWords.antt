@@ -1,4 +1,5 @@
 -- What is seen of a word is its value after all commits: its copy with the greatest tag is of the commit whose Commit is in flight, if any.
+use Rattle.base_lemmas.proofs.Lemmas.{word_at-own}
 use Rattle.theorem_serial.proofs.Names.{ℕ, zero, suc, ◌≡◌, ◌<◌, ◌≤◌, Bool, true, false, cond, max, ◌==◌, ◌&&◌, ◌||◌, List, [], ◌∷◌}
 use Rattle.theorem_serial.proofs.Names.{length}
 use Rattle.theorem_serial.proofs.Names.{Contains, Option, Some, None, slice_index_or, is_some, if◌then◌else◌, arith, refl, sym, ap, ◌∙◌}
@@ -105,14 +106,10 @@ wrote-none base (n ∷ ns) c t x h = rw (wrote-none base ns c t x (h.1)) (go (n.
     go : (a b : Bool) → (n.tid.0 == t) ≡ b → ((a && (b && stores_word base n.stores x)) || false) ≡ false
     go a b q = grind (arith, nat_tests)
 
--- copies above the line's tag have just the words that were written
-at-place : (x : ℕ) → word_at (line_of x) (place_of x) ≡ x
-at-place x = omega arith
-
 pub mask-wrote : (base : ℕ) (ns : List Noted) (c t x : ℕ) → has (wrote_mask base ns c t (line_of x)) (place_of x) ≡ wrote base ns c t x
 unfolding wrote_mask
 mask-wrote base ns c t x = has-mask_of (λ k. wrote base ns c t (word_at (line_of x) k)) (place_of x) (omega arith)
-    ∙ ap (wrote base ns c t) (at-place x)
+    ∙ ap (wrote base ns c t) (word_at-own x)
 
 outside : (x t n : ℕ) → has n (place_of x) ≡ false → (m : Msg) → num (passes (CopyWord x t) m) ≤ num (passes (CopyMask (line_of x) t n) m)
 unfolding passes hit
@@ -133,7 +130,7 @@ unwritten-none sh ns c x t v h a w =
   where
     same : (g : ℕ) → v.core.cache.dirty x ≡ Some g → g ≡ t → ⊥
     same g e i =
-        let y : v.core.cache.dirty (word_at (line_of x) (place_of x)) ≡ Some g = rw (at-place x) e in
+        let y : v.core.cache.dirty (word_at (line_of x) (place_of x)) ≡ Some g = rw (word_at-own x) e in
         let d : is_dirty v.core.cache (line_of x) ≡ true = some-dirty v.core.cache (line_of x) (place_of x) g (omega arith) y in
         let f : dirty_tag v.core.cache (line_of x) ≡ t = tag-of sh v.core.cache (line_of x) (place_of x) g h (omega arith) y ∙ i in
         let m : has (dirty_mask v.core.cache (line_of x)) (place_of x) ≡ false = ap (λ n. has n (place_of x)) (a.framed d f)

@@ -1,9 +1,10 @@
 -- The copies of a word: no more than those of its line, and those that leave a frame go home as they are.
+use Rattle.base_lemmas.proofs.Lemmas.{eight-at, word_at-own}
 use Rattle.theorem_serial.proofs.Names.{ℕ, ◌+◌, ◌≡◌, ◌≤◌, ◌==◌, ◌&&◌, Bool, true, false, not, List, [], ◌∷◌, Option, Some, None, is_some}
 use Rattle.theorem_serial.proofs.Names.{arith}
 use Rattle.theorem_serial.proofs.Names.{refl, sym, ◌∙◌, nat_tests, num, line_of, place_of, word_at, has, hit, Msg, WriteBack, Flush, Shape}
 use Rattle.theorem_serial.proofs.Names.{Cache, IsCache, is_dirty, dirty_tag, dirty_mask, has-mask_of, Link, copies_with, CopyOf, CopyMask}
-use Rattle.theorem_serial.proofs.Names.{CopyWord, CopyNot, live, among, passes, Pair, is_this, word_copies, CopiesHave, ◌<◌, ◌⊎◌, cond}
+use Rattle.theorem_serial.proofs.Names.{CopyWord, CopyNot, live, among, passes, Pair, is_this, word_copies, CopiesHave, ◌⊎◌, cond}
 use Rattle.theorem_serial.proofs.Names.{unwrap_or, get_or, if◌then◌else◌, inl, inr, cases_eq, eight, Dir, home, dirty_words, dirty_copy}
 use Rattle.theorem_serial.proofs.Names.{CoreState, Out, to, flush_of, flush_line, write_back_line}
 use Rattle.rules_tcc.specs.Sends.{write_back_of}
@@ -53,14 +54,10 @@ live-words x t n h [] = omega arith
 live-words x t n h (None ∷ l) = live-words x t n h l
 live-words x t n h (Some m ∷ l) = omega (arith, line-word x t n h m, live-words x t n h l)
 
--- in frames
-pub at-place : (x : ℕ) → word_at (line_of x) (place_of x) ≡ x
-at-place x = omega arith
-
 -- a dirty word's line is dirty with the word's tag
 pub dirty-line : (sh : Shape) (c : Cache) (x t : ℕ) → IsCache sh c → c.dirty x ≡ Some t
     → (is_dirty c (line_of x) ≡ true) × (dirty_tag c (line_of x) ≡ t)
-dirty-line sh c x t h e = let y : c.dirty (word_at (line_of x) (place_of x)) ≡ Some t = rw (at-place x) e in
+dirty-line sh c x t h e = let y : c.dirty (word_at (line_of x) (place_of x)) ≡ Some t = rw (word_at-own x) e in
     (some-dirty c (line_of x) (place_of x) t (omega arith) y, tag-of sh c (line_of x) (place_of x) t h (omega arith) y)
 
 -- a core without a copy of the line has none of the word
@@ -87,7 +84,7 @@ few-copies sh x t v h = omega (arith, few-words x t v.out, go (v.core.cache.dirt
 mask-dirty : (c : Cache) (x n : ℕ) → has n (place_of x) ≡ true → dirty_mask c (line_of x) ≡ n → is_some (c.dirty x) ≡ true
 unfolding dirty_mask
 mask-dirty c x n i e = let y : has (dirty_mask c (line_of x)) (place_of x) ≡ true = rw e i in
-    sym (rw (at-place x) at (has-mask_of (λ k. is_some (c.dirty (word_at (line_of x) k))) (place_of x) (omega arith))) ∙ y
+    sym (rw (word_at-own x) at (has-mask_of (λ k. is_some (c.dirty (word_at (line_of x) k))) (place_of x) (omega arith))) ∙ y
 
 -- a copy of the line with a mask that has the word is a copy of the word
 pub copy-has : (sh : Shape) (x t n : ℕ) (v : Pair) → IsCache sh v.core.cache → has n (place_of x) ≡ true
@@ -162,21 +159,17 @@ leaves-none : (sh : Shape) (k x : ℕ) (c : Cache) → IsCache sh c → is_dirty
 unfolding among
 leaves-none sh k x c h q = record { same = λ e t. rw (word-clean sh k x c h q e) refl; other = λ e t. refl; right = λ t y f. refl }
 
-pub get-eight : (f : ℕ → ℕ) (k : ℕ) → k < 8 → get_or (eight f) k 0 ≡ f k
-unfolding eight
-get-eight f a i = grind (arith, nat_tests)
-
 -- the mask and the words of the line's copy, at the word's place
 mask-at : (c : Cache) (x : ℕ) → has (dirty_mask c (line_of x)) (place_of x) ≡ is_some (c.dirty x)
 unfolding dirty_mask
-mask-at c x = rw (at-place x) at (has-mask_of (λ k. is_some (c.dirty (word_at (line_of x) k))) (place_of x) (omega arith))
+mask-at c x = rw (word_at-own x) at (has-mask_of (λ k. is_some (c.dirty (word_at (line_of x) k))) (place_of x) (omega arith))
 
 value-at : (c : Cache) (x t y : ℕ) → c.dirty x ≡ Some t → c.value x ≡ Some y → get_or (dirty_words c (line_of x)) (place_of x) 0 ≡ y
 unfolding dirty_words
 value-at c x t y d v =
     let e : get_or (eight (λ k. if is_some (c.dirty (word_at (line_of x) k)) then unwrap_or (c.value (word_at (line_of x) k)) 0 else 0))
     (place_of x) 0 ≡ (if is_some (c.dirty x) then unwrap_or (c.value x) 0 else 0) =
-    rw (at-place x) at (get-eight (λ k. if is_some (c.dirty (word_at (line_of x) k)) then unwrap_or (c.value (word_at (line_of x) k)) 0
+    rw (word_at-own x) at (eight-at (λ k. if is_some (c.dirty (word_at (line_of x) k)) then unwrap_or (c.value (word_at (line_of x) k)) 0
     else 0) (place_of x) (omega arith)) in
     e ∙ rw (d, v) refl
 

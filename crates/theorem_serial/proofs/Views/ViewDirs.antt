@@ -1,4 +1,5 @@
 -- What a directory takes leaves every core's view near: each used word has its value, or it is doomed.
+use Rattle.base_lemmas.proofs.Lemmas.{eq-self}
 use Rattle.theorem_serial.proofs.Names.{ℕ, zero, suc, ◌+◌, ◌≡◌, ◌<◌, ◌≤◌, ◌⊎◌, Bool, true, cond, [], ◌∷◌, Option, Some, None, flat_map}
 use Rattle.theorem_serial.proofs.Names.{arith}
 use Rattle.theorem_serial.proofs.Names.{refl, inl, inr, cases_eq, flat_map-append, num, line_of, those, hit, Msg, Inv, Kind, passes, among}
@@ -15,7 +16,7 @@ use Rattle.theorem_serial.proofs.Names.{Waits, Drops, Asks, Takes, moved_on_if_s
 use Rattle.theorem_serial.proofs.Names.{dir_asks, Uses, out_taken, EachUse, has-mask_of, CommitsLine, IsPassed}
 use Rattle.rules_tcc.specs.DirDeliver.{dir_commit}
 use Rattle.theorem_serial.proofs.Counts.Links.{among-append, live-takes}
-use Rattle.theorem_serial.proofs.Counts.StepCases.{same, dir-own, dir-other, either, AllPairs, pairs_dir, pairs_asks, asks-own, OfAnswer}
+use Rattle.theorem_serial.proofs.Counts.StepCases.{dir-own, dir-other, either, AllPairs, pairs_dir, pairs_asks, asks-own, OfAnswer}
 use Rattle.theorem_serial.proofs.Counts.StepCases.{differ}
 use Rattle.theorem_serial.proofs.Marks.MaskLaws.{same-commit}
 use Rattle.theorem_serial.proofs.Tids.Commits.{granted-once, granted-at}
@@ -106,7 +107,7 @@ num-true a e = grind (arith, nat_tests)
 all-true : (a b c : Bool) → (a && b) ≡ true → c ≡ true → true ≡ (a && (b && c))
 all-true a b c e f = grind (arith, nat_tests)
 
-is-lt : (a b : ℕ) → a < b → nat_lt a b ≡ true
+pub is-lt : (a b : ℕ) → a < b → nat_lt a b ≡ true
 is-lt a b l = grind (arith, nat_tests)
 
 inside-home : (l n d e : ℕ) → l < n → e ≡ d → (nat_lt l n && d == e) ≡ true
@@ -175,7 +176,7 @@ commit-value sh gs ys ram h k mem v stand c d u t f j b jl dl bound x y e seen =
         let g : Contains gs (record { tid = u; core = o.core.0 }) =
         rw z at (granted-at gs h.commits o (k.commits_are_of_granted_tids.1) i) in
         let r : o.core.0 ≡ c = granted-once 1 gs u o.core.0 c (k.granted_tids_are_those_below_next.0) g granted in
-        let a : is_this (Some j) o.core.0 ≡ true = rw (q, r) (same c) in
+        let a : is_this (Some j) o.core.0 ≡ true = rw (q, r) (eq-self c) in
         rw a refl
 
     -- the commit doesn't store the word
@@ -209,7 +210,7 @@ commit-value sh gs ys ram h k mem v stand c d u t f j b jl dl bound x y e seen =
 
         hit-mark : hit (line_of x) ((w.dirs d).lines.mark (line_of x)) x ≡ true
         hit-mark =
-            rw (mark, mask, same (line_of x))
+            rw (mark, mask, eq-self (line_of x))
             (has-mask_of (λ i. stores_word sh.base n.stores (word_at (line_of x) i)) (place_of x) (omega arith) ∙ stored)
 
         named : any_word (stores_word sh.base n.stores) (line_of x) ≡ true
@@ -324,7 +325,7 @@ plain-views sh ram cs vs w c d k m a mem st q h i f = go a
     go (Takes s sends) = takes s sends
     go (Asks s sends) = λ z. near-asks sh ram cs vs w d s sends q h
         (λ j b cl dl g x y e r. inl
-        (rw (same d) at (stays-value sh ram cs w (dir_asks w d s sends) j d x b mem st z dl e
+        (rw (eq-self d) at (stays-value sh ram cs w (dir_asks w d s sends) j d x b mem st z dl e
         (λ n. ap (λ v. live (Commits n.tid.0) v.out) (asks-own w d s sends n.core.0)))))
 
 commit-views : (sh : Shape) (gs : List Grant) (ys : Ways) (ram : ℕ → ℕ) (vs : ℕ → Uses) (h : History) (c d k u n : ℕ) → Carried sh gs ys h

@@ -1,4 +1,5 @@
 -- What a core does, and what the vendor grants, leaves every core's view near: each used word has its value, or it is doomed.
+use Rattle.base_lemmas.proofs.Lemmas.{eq-self}
 use Rattle.theorem_serial.proofs.Names.{nat_tests, ℕ, ◌≡◌, ◌<◌, ◌≤◌, ◌⊎◌, ◌==◌, ◌&&◌, Bool, true, false, List, [], ◌++◌, Option, Some, None}
 use Rattle.theorem_serial.proofs.Names.{IfSome, arith, refl, sym, subst, ◌∙◌, inl, inr, put, Noted, Program, line_of, writes_at, Shape}
 use Rattle.theorem_serial.proofs.Names.{home}
@@ -12,7 +13,7 @@ use Rattle.theorem_serial.proofs.Names.{UnmodifiedWords, Ways}
 use Rattle.theorem_serial.proofs.OneCore.Outcomes.{Acts}
 use Rattle.theorem_serial.proofs.Serving.OwnerSteps.{grant-any}
 use Rattle.theorem_serial.proofs.Memory.MemorySends.{marks_at_homes}
-use Rattle.theorem_serial.proofs.Counts.StepCases.{same, differ, either, pairs_move, new_uses}
+use Rattle.theorem_serial.proofs.Counts.StepCases.{differ, either, pairs_move, new_uses}
 use Rattle.theorem_serial.proofs.Values.ValueAt.{IsSilent, value-skip}
 use Rattle.theorem_serial.proofs.Views.ViewCores.{Keeps, Exec, Goes, Commits, exec-view, used-each, each-append, evict-view}
 use Rattle.theorem_serial.proofs.Views.ViewDirs.{AllNear}
@@ -21,7 +22,7 @@ use Rattle.theorem_serial.proofs.Views.ViewPairs.{NearAt, ViewOf, view-empty, vi
 
 -- the views where one core's has changed
 pub put-own : (vs : Views) (c : ℕ) (us : Uses) → put vs c us c ≡ us
-put-own vs c us = rw (same c) refl
+put-own vs c us = rw (eq-self c) refl
 
 put-other : (vs : Views) (c j : ℕ) (us : Uses) → (j ≡ c → ⊥) → put vs c us j ≡ vs j
 put-other vs c j us n = rw (differ j c n) refl
@@ -76,7 +77,7 @@ unapplied sh gs ys h k m c d t x cl dl ph e s =
     (open-served sh gs ys h k c d t cl dl (holds ph) (opened ph) (k.directory_that_replied_serves_the_tid.replied c d cl dl (commits ph)))
   where
     eq : (t == t) ≡ true
-    eq = same t
+    eq = eq-self t
 
     holds : ((h.world.cores c).phase ≡ Ready t) ⊎ ((h.world.cores c).phase ≡ Solo t) → has_tid (h.world.cores c).phase t ≡ true
     holds a = grind (arith, nat_tests)

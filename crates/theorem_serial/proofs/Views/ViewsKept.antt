@@ -1,4 +1,5 @@
 -- Every event keeps that a viewed word has the value that it has for its core, or that the attempt is doomed.
+use Rattle.base_lemmas.proofs.Lemmas.{hit-line}
 use Rattle.theorem_serial.proofs.Names.{ℕ, ◌≡◌, ◌<◌, ◌≤◌, ◌⊎◌, ◌&&◌, Bool, true, false, List, [], Option, Some, None, IfSome, nat_lt, arith}
 use Rattle.theorem_serial.proofs.Names.{refl, ap, sym, subst, ◌∙◌, inl, inr, nat_tests, num, hit, Core, Dir, Vendor, Msg, TidReq, TidGrant}
 use Rattle.theorem_serial.proofs.Names.{Inv}
@@ -6,7 +7,7 @@ use Rattle.theorem_serial.proofs.Names.{Shape, put, DoomedTid, in_flight, Out, f
 use Rattle.theorem_serial.proofs.Names.{core_takes}
 use Rattle.theorem_serial.proofs.Names.{vendor_gives, and_noted, Uses, Views, uses_delivered, Invs, InvWord, passes, live, Carried, Grant}
 use Rattle.theorem_serial.proofs.Names.{Pair}
-use Rattle.theorem_serial.proofs.Names.{pair, after_move, grant_taken, back_taken, IsBound, value_at, dooms, Ways, hit-line, hit-reads}
+use Rattle.theorem_serial.proofs.Names.{pair, after_move, grant_taken, back_taken, IsBound, value_at, dooms, Ways, hit-reads}
 use Rattle.theorem_serial.proofs.Names.{◌++◌}
 use Rattle.theorem_serial.proofs.Names.{Program, line_of, home, core_exec, core_evict, Answer, Waits, Drops, Asks, Takes, dir_deliver}
 use Rattle.theorem_serial.proofs.Names.{Stepped}

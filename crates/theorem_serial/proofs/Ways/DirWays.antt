@@ -1,5 +1,6 @@
 -- What a directory keeps as skipped is a TID of which a Skip or an Abort came, and it is owed acknowledgements only for one whose
 -- Commit came.
+use Rattle.base_lemmas.proofs.Lemmas.{eq-self}
 use Rattle.theorem_serial.proofs.Names.{invalidation_count, if◌then◌else◌, advance-rises, dir_deliver, is_skipped, kept-skips, nat_tests}
 use Rattle.theorem_serial.proofs.Names.{false}
 use Rattle.theorem_serial.proofs.Names.{DirState, Resolves, Serving, advance, Commits, nat_lt, InvAck, Answer, Aborts, passes, arith, Abort}
@@ -8,7 +9,6 @@ use Rattle.theorem_serial.proofs.Names.{Shape, Takes, Skips, Bool, true, ◌==�
 use Rattle.theorem_serial.proofs.Names.{Msg}
 use Rattle.theorem_serial.proofs.Counts.DirOutcome.{Outcome, Waiting, Spent, AsksOwner, TakesSkip, TakesAbort, TakesCommit, TakesAck}
 use Rattle.theorem_serial.proofs.Counts.DirOutcome.{outcome}
-use Rattle.theorem_serial.proofs.Counts.StepCases.{same}
 use Rattle.theorem_serial.proofs.Tids.DirTids.{OnceAt, unserved, advance-count}
 
 -- the directory serves the TID, and is owed acknowledgements for it
@@ -65,8 +65,8 @@ dir-heard sh s c m t = go (outcome sh s c m)
     go (Waiting m) h = tt
     go (Spent m i) h = tt
     go (AsksOwner m l o w e) h = (refl, refl)
-    go (TakesSkip u b e l) h = given (Skip u) u b e l (same u) (omega arith) h _ refl refl
-    go (TakesAbort u b e l) h = given (Abort u) u b e l (same u) (omega arith) h _ refl refl
+    go (TakesSkip u b e l) h = given (Skip u) u b e l (eq-self u) (omega arith) h _ refl refl
+    go (TakesAbort u b e l) h = given (Abort u) u b e l (eq-self u) (omega arith) h _ refl refl
     go (TakesCommit b e) h = settled _ b (invalidation_count sh s.lines c) e (grind (arith, nat_tests)) _ refl refl
     go (TakesAck l k b i e) h = settled (InvAck l k) b (s.owed - 1) e (grind (arith, nat_tests)) _ refl refl
     go _ h = record { keeps = omega arith; owed = omega arith }

@@ -1,4 +1,5 @@
 -- Every event keeps that each TID is where its way puts it.
+use Rattle.base_lemmas.proofs.Lemmas.{eq-self}
 use Rattle.theorem_serial.proofs.Names.{ℕ, ◌+◌, ◌≡◌, ◌<◌, true, List, [], ◌==◌, Option, Some, None, IfSome, nat_le, slice_index_or, arith}
 use Rattle.theorem_serial.proofs.Names.{refl}
 use Rattle.theorem_serial.proofs.Names.{sym, subst, ◌⊎◌, inl, inr, cases_eq, nat_tests, Program, Local, num, Core, Dir, Vendor, Msg, TidReq}
@@ -12,7 +13,7 @@ use Rattle.theorem_serial.proofs.Names.{after_other_grant, share, opens, Resolve
 use Rattle.theorem_serial.proofs.Names.{Committed}
 use Rattle.theorem_serial.proofs.Names.{Ways, told_by, ways_after, sent_by, first_ways, part_in, kept_in, WayAt, KeptWays}
 use Rattle.theorem_serial.proofs.Counts.Links.{live-sends, live-takes, total-zero}
-use Rattle.theorem_serial.proofs.Counts.StepCases.{same, differ, given, sum_move, sum_grant, sum_back, sum_back_away, sum_dir, sum_dir_away}
+use Rattle.theorem_serial.proofs.Counts.StepCases.{differ, given, sum_move, sum_grant, sum_back, sum_back_away, sum_dir, sum_dir_away}
 use Rattle.theorem_serial.proofs.Counts.StepCases.{sum_asks, sum_vendor, OfAnswer, sent_cases}
 use Rattle.theorem_serial.proofs.Serving.KeptSteps.{core_of_grant, core_of_back, core_of_out, core_of_ask, once_at}
 use Rattle.theorem_serial.proofs.Tids.CoreTids.{KeepsPart, part-exec, part-evict, part-grant, part-back}
@@ -113,7 +114,7 @@ way-dir sh w c e k m s sends d t y l i u r z h = go (cases_eq d e)
   where
     here : in_flight w.net (Core c) (Dir d) k ≡ Some m → Heard (w.dirs d) m t s → ResolvedAt sh (dir_takes w c d k s sends) d t
         → WayAt sh (dir_takes w c d k s sends) d t y
-    here i u z = way-heard sh w (dir_takes w c d k s sends) d t m y refl sum (rw (same d) u) r z h
+    here i u z = way-heard sh w (dir_takes w c d k s sends) d t m y refl sum (rw (eq-self d) u) r z h
       where
         none : sum_below (λ j. 0) sh.cores ≡ 0
         none = total-zero (λ j. 0) sh.cores (λ j y. refl)
@@ -152,7 +153,7 @@ way-asks sh w e s sends d t y f g h = go (cases_eq d e)
     go : (d ≡ e) ⊎ (d ≡ e → ⊥) → WayAt sh (dir_asks w e s sends) d t y
     go (inr n) = rw (differ d e n) (omega (arith, sum, h))
     go (inl n) =
-        let b : (d == e) ≡ true = rw n (same e) in
+        let b : (d == e) ≡ true = rw n (eq-self e) in
         let q : kept_in y w.next s t ≡ kept_in y w.next (w.dirs d) t = kept-same w.next (w.dirs d) s t y (rw n f) (rw n g) in
         rw b (omega (arith, sum, h, q))
 

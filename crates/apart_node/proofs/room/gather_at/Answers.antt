@@ -3,9 +3,10 @@ use Rattle.std.proofs.Common.{◌≡◌, ◌<◌, get_or, length, sym, ◌∙◌
 use Rattle.std.specs.Prelude.{slice_set}
 use Rattle.std.proofs.lemmas.List.{length-set}
 use Rattle.std.proofs.lemmas.Option.{same_Some, slice_get-get_or}
+use Rattle.base_lemmas.proofs.Lemmas.{get-set}
 use Rattle.apart_node.specs.Moves.{Takes}
 use Rattle.apart_node.proofs.Picking.Tallied.{noted-again}
-use Rattle.apart_node.proofs.Porting.ChangedElement.{each-set, get-set}
+use Rattle.apart_node.proofs.Porting.ChangedElement.{each-set}
 use Rattle.apart_node.proofs.Porting.SeveralMoves.{takes-refl}
 use Rattle.apart_node.proofs.room.gather_at.Goals as goal
 

@@ -6,8 +6,8 @@ use Rattle.core_node.specs.Answers.{Happened}
 use Rattle.core_node.specs.View.{core_of}
 use Rattle.bus_tcc.specs.Ending.{at_commit}
 use Rattle.bus_tcc.proofs.Endings.{as-told, ends-alone, never-blocked}
-use Rattle.bus_tcc.proofs.Published.{noted-is}
 use Rattle.bus_tcc.proofs.ending.execute_end.Goals as goal
+use Rattle.theorem_bus.proofs.Lemmas.{out-noted}
 
 pub returns-in-Err-clause-cause : goal.returns-in-Err-clause-cause
 returns-in-Err-clause-cause c =
@@ -37,7 +37,7 @@ unreachable-requires c =
     let p = program (started c.args.code.now) in
     let h = ends-alone k.config p k.id.0 c.args.tid.0 (core_of k) c.requires.alone c.requires.idle c.requires.commits in
     let told = as-told _ _ _ _ c.in-Ok-Stepped.field-0-is h c.in-Ok-Stepped.ensures.told in
-    let none = sym (noted-is k.config k.id.0 c.args.tid.0 (at_commit p (core_of k))) ∙ told.0 in absurd (cc)
+    let none = sym (out-noted k.config k.id.0 c.args.tid.0 (at_commit p (core_of k))) ∙ told.0 in absurd (cc)
 
 pub unreachable-requires-in-Ok-Asked : goal.unreachable-requires-in-Ok-Asked
 unreachable-requires-in-Ok-Asked c =
@@ -45,4 +45,4 @@ unreachable-requires-in-Ok-Asked c =
     let p = program (started c.args.code.now) in
     let h = ends-alone k.config p k.id.0 c.args.tid.0 (core_of k) c.requires.alone c.requires.idle c.requires.commits in
     let told = as-told _ _ _ _ c.in-Ok-Asked.field-0-is h c.in-Ok-Asked.ensures.told in
-    let none = sym (noted-is k.config k.id.0 c.args.tid.0 (at_commit p (core_of k))) ∙ told.0 in absurd (cc)
+    let none = sym (out-noted k.config k.id.0 c.args.tid.0 (at_commit p (core_of k))) ∙ told.0 in absurd (cc)

@@ -1,4 +1,5 @@
 use Rattle.std.proofs.Common.{ap, sym, ◌∙◌}
+use Rattle.base_lemmas.proofs.Lemmas.{held_valued}
 use Rattle.rules_maps.specs.CacheLook.{look_load}
 use Rattle.rules_maps.specs.Shape.{Shape}
 use Rattle.rv_exec.specs.Needs.{need_of}
@@ -7,7 +8,7 @@ use Rattle.spec_cache.specs.Held.{maps}
 use Rattle.core_node.specs.View.{core_of}
 use Rattle.core_node.proofs.Blocked.{blocked_some, blocked_none, ok_silently, unchanged_core}
 use Rattle.core_node.proofs.Loaded.{valid_hit, not_found, looks_for}
-use Rattle.core_node.proofs.Stored.{partial_spilled, partial_valid, partial_missing, held_valued}
+use Rattle.core_node.proofs.Stored.{partial_spilled, partial_valid, partial_missing}
 use Rattle.core_node.proofs.changing.partial_store.Goals as goal
 
 pub returns-in-Some-clause-does : goal.returns-in-Some-clause-does

@@ -1,10 +1,10 @@
 -- Each message in turn.
 use Rattle.std.proofs.Common.{◌≡◌, ◌++◌, length, ap, sym, ◌∙◌, arith}
+use Rattle.base_lemmas.proofs.Lemmas.{none-past}
 use Rattle.rules_maps.specs.Nodes.{Core, Dir}
 use Rattle.tcc_msg.specs.Plain.{msg_of}
 use Rattle.machine_links.specs.Flights.{net_of}
 use Rattle.net_core.specs.Away.{is_noted}
-use Rattle.net_core.proofs.Prefixes.{none-past}
 use Rattle.net_core.proofs.Words.Newest.{copies-took, copies-took_all, waiting_on}
 use Rattle.net_core.proofs.noting.note_link.Goals as goal
 use Rattle.net_core.proofs.noting.note_link.Goals.{in-Some, in_default}

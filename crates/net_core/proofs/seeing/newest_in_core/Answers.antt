@@ -1,12 +1,13 @@
 -- The frame's dirty words, or no frame and so no dirty word.
 use Rattle.std.proofs.Common.{◌∙◌, ap, sym, ℕ}
+use Rattle.base_lemmas.proofs.Lemmas.{line_of-word_at, unheld-clean}
 use Rattle.rules_maps.specs.Nodes.{WriteBack}
 use Rattle.rules_maps.specs.Words.{word_at}
 use Rattle.rules_tcc.specs.Seen.{copy_in, copy_of, newest}
 use Rattle.machine_cores.specs.Bank.{cores_of}
 use Rattle.net_core.specs.Copies.{nth_copy}
-use Rattle.net_core.proofs.Words.Newest.{frame-at, unframed}
-use Rattle.net_core.proofs.Words.Places.{newest-empty, newest-none, placed-line}
+use Rattle.net_core.proofs.Words.Newest.{frame-at}
+use Rattle.net_core.proofs.Words.Places.{newest-empty, newest-none}
 use Rattle.net_core.proofs.seeing.newest_in_core.Goals as goal
 
 pub returns-then-frame-ne0 : goal.returns-then-frame-ne0
@@ -14,7 +15,8 @@ returns-then-frame-ne0 c = λ k b.
     let cache = (cores_of c.args.cores.now c.args.core.0).cache in
     c.newest_under.ensures c.args.line.0 k b
     ∙ ap (newest (nth_copy c.args.best.now k))
-    (frame-at c.args.cores.now.code.settings cache c.args.line.0 (word_at c.args.line.0 k) c.in-Some.frame (placed-line c.args.line.0 k b)
+    (frame-at c.args.cores.now.code.settings cache c.args.line.0 (word_at c.args.line.0 k) c.in-Some.frame
+    (line_of-word_at c.args.line.0 k b)
     c.requires.cache c.in-Some.ensures.1)
 
 pub returns-else-frame-ne0 : goal.returns-else-frame-ne0
@@ -25,7 +27,7 @@ returns-else-frame-ne0 c = λ k b.
     let w : ℕ = word_at c.args.line.0 k in
     newest-empty a c.args.line.0 k f.words f.tag.0 b
     ∙ ap (λ m. newest a (copy_of w (WriteBack c.args.line.0 m f.words f.tag.0))) (sym c.if-frame-ne0.false)
-    ∙ ap (newest a) (frame-at c.args.cores.now.code.settings cache c.args.line.0 w f (placed-line c.args.line.0 k b) c.requires.cache
+    ∙ ap (newest a) (frame-at c.args.cores.now.code.settings cache c.args.line.0 w f (line_of-word_at c.args.line.0 k b) c.requires.cache
     c.in-Some.ensures.1)
 
 pub returns-in_default : goal.returns-in_default
@@ -35,5 +37,5 @@ returns-in_default c = λ k b.
     let w : ℕ = word_at c.args.line.0 k in
     newest-none a
     ∙ ap (λ o. newest a (copy_in (cache.value w) o))
-    (sym (unframed c.args.cores.now.code.settings cache w c.requires.cache
-    (ap cache.held (placed-line c.args.line.0 k b) ∙ c.in_default.ensures)))
+    (sym (unheld-clean c.args.cores.now.code.settings cache w c.requires.cache
+    (ap cache.held (line_of-word_at c.args.line.0 k b) ∙ c.in_default.ensures)))

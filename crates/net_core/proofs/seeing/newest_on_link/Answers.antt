@@ -1,5 +1,6 @@
 -- Each message in turn.
 use Rattle.std.proofs.Common.{◌≡◌, length, ap, sym, ◌∙◌, arith}
+use Rattle.base_lemmas.proofs.Lemmas.{none-past}
 use Rattle.rules_maps.specs.Nodes.{Core, Dir}
 use Rattle.rules_maps.specs.Words.{word_at}
 use Rattle.tcc_msg.specs.Plain.{msg_of}
@@ -8,7 +9,6 @@ use Rattle.machine_links.specs.Flights.{net_of}
 use Rattle.net_core.specs.Copies.{nth_copy}
 use Rattle.net_core.proofs.Words.Newest.{newest-all, newest-more, waiting_on}
 use Rattle.net_core.proofs.Words.Places.{newest-none}
-use Rattle.net_core.proofs.Prefixes.{none-past}
 use Rattle.net_core.proofs.seeing.newest_on_link.Goals as goal
 use Rattle.net_core.proofs.seeing.newest_on_link.Goals.{in-Some, in_default}
 

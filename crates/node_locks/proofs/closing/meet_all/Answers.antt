@@ -1,8 +1,8 @@
 -- One more has met all those.
 use Rattle.std.proofs.Common.{◌≡◌, ◌<◌, ap, ◌∙◌, subst, rules}
 use Rattle.std.specs.Prelude.{Some, slice_get, slice_set, slice_index_or, length}
+use Rattle.base_lemmas.proofs.Lemmas.{get-some}
 use Rattle.node_locks.specs.Hearing.{HasMetAll}
-use Rattle.node_locks.proofs.Lists.{get-some}
 use Rattle.node_locks.proofs.Rounds.{one-more, all-of, set-same}
 use Rattle.node_locks.proofs.closing.meet_all.Goals as goal
 

@@ -2,12 +2,12 @@
 use Rattle.std.proofs.Common.{◌≡◌, ◌++◌, ◌∷◌, [], ◌+◌, ◌<◌, List, Some, subst, arith, rules, refl, ap, sym, ◌∙◌, length, true}
 use Rattle.std.specs.Prelude.{slice_get, slice_index_or, slice_set, nat_lt}
 use Rattle.std.proofs.lemmas.Bool.Decides.{nat_tests}
+use Rattle.base_lemmas.proofs.Lemmas.{get-set_other, get-some, length-set}
 use Rattle.rules_maps.specs.Bridge.{node_of}
 use Rattle.apart_node.specs.Peers.{seat}
 use Rattle.apart_node.specs.Ports.{PortData, IsPortAt, IsUnused}
 use Rattle.node_locks.specs.Joining.{AreJoined, AreJoinedTo}
 use Rattle.node_locks.specs.Places.{nth_node}
-use Rattle.node_locks.proofs.Lists.{get-some, get-set_other, length-set}
 use Rattle.node_locks.proofs.Joining.{join-one}
 use Rattle.node_locks.proofs.Seats.{on-ok, port-at, seats}
 use Rattle.node_locks.proofs.making.join_two.Goals as goal

@@ -1,6 +1,6 @@
 use Rattle.std.proofs.Common.{◌<◌, arith, ◌∙◌, refl, lt-ltb}
+use Rattle.base_lemmas.proofs.Lemmas.{eight_of}
 use Rattle.overflow_buf.specs.Kept.{merged}
-use Rattle.overflow_buf.proofs.Eights.{eight_of}
 use Rattle.overflow_buf.proofs.line.merged_words.Goals as goal
 
 pub returns : goal.returns

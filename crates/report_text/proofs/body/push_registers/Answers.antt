@@ -1,6 +1,6 @@
 use Rattle.std.proofs.Common.{◌≡◌, ◌-◌, arith}
 use Rattle.std.proofs.lemmas.Grind.{common_steps}
-use Rattle.report_text.proofs.Ranges.{flat_map-range_with_len_more}
+use Rattle.base_lemmas.proofs.Lemmas.{flat_map-range_with_len_more}
 use Rattle.report_text.specs.Text.{register_text, registers_text}
 use Rattle.report_text.proofs.body.push_registers.Goals as goal
 use Rattle.report_text.proofs.body.push_registers.Goals.{in-Some+in_ok-push_register, in_default}

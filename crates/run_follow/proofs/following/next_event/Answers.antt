@@ -1,11 +1,12 @@
 -- The event at the next number is the one that is looked for, or it is passed over.
 use Rattle.std.proofs.Common.{◌∙◌, List, arith, sym}
 use Rattle.std.specs.Prelude.{option_map}
+use Rattle.base_lemmas.proofs.Lemmas.{none-past}
 use Rattle.rules_maps.specs.Nodes.{Event}
 use Rattle.tcc_msg.specs.Plain.{event_of}
 use Rattle.rules_tcc.specs.Useful.{useful}
 use Rattle.net_core.specs.Machine.{Machine, program_of, settings_of, world_of}
-use Rattle.run_follow.proofs.Finding.{next-here, next-none, next-past, none-past}
+use Rattle.run_follow.proofs.Finding.{next-here, next-none, next-past}
 use Rattle.run_follow.proofs.following.next_event.Goals as goal
 use Rattle.run_follow.proofs.following.next_event.Goals.{in-Some+else-in_turn, in_default}
 

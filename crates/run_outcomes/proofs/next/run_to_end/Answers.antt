@@ -4,9 +4,9 @@ use Rattle.rv_code.specs.Machine.{program}
 use Rattle.rv_plain.specs.Attempts.{attempt_of}
 use Rattle.rv_plain.specs.Buffered.{plain_view}
 use Rattle.rv_plain.specs.declared.attempt.Outcome.TheVariants.{Goes}
-use Rattle.run_outcomes.proofs.Viewed.{viewed-next}
 use Rattle.rules_program.specs.Plain.{steps}
 use Rattle.run_outcomes.proofs.next.run_to_end.Goals as goal
+use Rattle.rv_plain.proofs.Lemmas.{steps-next}
 
 pub loop-k-init : goal.loop-k-init
 unfolding steps
@@ -19,7 +19,7 @@ returns-then-has_ended-clause-runs c =
     let p = program (started c.args.code.now) in
     let start = plain_view (attempt_of c.args.attempt.now c.args.memory.now Goes) in
     let last = attempt_of c.step.new.self c.step.new.memory c.in_ok-outcome.outcome in
-    let next = viewed-next base p c.loop-k.k start (attempt_of c.loop-k.attempt c.loop-k.memory Goes) last refl
+    let next = steps-next base p c.loop-k.k start (attempt_of c.loop-k.attempt c.loop-k.memory Goes) last refl
     c.loop-k.invariant.0 c.in_ok-outcome.ensures.does in
     let counted : c.step.new.self.n ≡ c.loop-k.k + 1 = grind arith in
     let few : c.step.new.self.n ≤ c.args.longest = grind arith in
@@ -32,7 +32,7 @@ loop-k-preserved c =
     let p = program (started c.args.code.now) in
     let start = plain_view (attempt_of c.args.attempt.now c.args.memory.now Goes) in
     let last = attempt_of c.step.new.self c.step.new.memory c.in_ok-outcome.outcome in
-    let next = viewed-next base p c.loop-k.k start (attempt_of c.loop-k.attempt c.loop-k.memory Goes) last refl
+    let next = steps-next base p c.loop-k.k start (attempt_of c.loop-k.attempt c.loop-k.memory Goes) last refl
     c.loop-k.invariant.0 c.in_ok-outcome.ensures.does in (
       subst
           (λ o. steps base p (c.loop-k.k + 1) start ≡ Some (plain_view (attempt_of c.step.new.self c.step.new.memory o)))

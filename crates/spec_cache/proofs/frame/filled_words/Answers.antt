@@ -1,7 +1,7 @@
 use Rattle.std.proofs.Common.{ℕ, ◌<◌, ◌≡◌, Bool, true, false, cond, not, arith, ◌∙◌, refl, lt-ltb}
+use Rattle.base_lemmas.proofs.Lemmas.{eight_of}
 use Rattle.rules_maps.specs.Masks.{has}
 use Rattle.spec_cache.specs.Frame.{filled_up}
-use Rattle.spec_cache.proofs.Eights.{eight_of}
 use Rattle.spec_cache.proofs.frame.filled_words.Goals as goal
 
 either_way : (b : Bool) (x y : ℕ) → cond (not b) x y ≡ cond b y x

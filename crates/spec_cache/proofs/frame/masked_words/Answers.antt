@@ -1,6 +1,6 @@
 use Rattle.std.proofs.Common.{◌<◌, arith, ◌∙◌, refl, lt-ltb}
+use Rattle.base_lemmas.proofs.Lemmas.{eight_of}
 use Rattle.rules_maps.specs.Masks.{masked}
-use Rattle.spec_cache.proofs.Eights.{eight_of}
 use Rattle.spec_cache.proofs.frame.masked_words.Goals as goal
 
 pub returns : goal.returns

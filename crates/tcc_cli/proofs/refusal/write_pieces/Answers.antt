@@ -1,11 +1,12 @@
 use Rattle.std.proofs.Common.{rules, inr}
-use Rattle.tcc_cli.proofs.Pieces.{cut_at, told_more, rose_before}
+use Rattle.base_lemmas.proofs.Lemmas.{appends-none}
+use Rattle.tcc_cli.proofs.Pieces.{cut_at, told_more}
 use Rattle.tcc_cli.specs.Lines.{piece_text}
-use Rattle.tcc_world.proofs.Lemmas.{appends-nothing}
 use Rattle.tcc_cli.proofs.refusal.write_pieces.Goals as goal
+use Rattle.text_outcomes.proofs.Lemmas.{rose-later}
 
 pub loop-piece-init : goal.loop-piece-init
-loop-piece-init g c = search (rules, appends-nothing)
+loop-piece-init g c = search (rules, appends-none)
 
 pub returns-in-Err : goal.returns-in-Err
 returns-in-Err g c =
@@ -13,7 +14,7 @@ returns-in-Err g c =
     inr
     (cut_at piece_text c.args.pieces.now c.loop-piece.piece-index cut.0 _ _ (g.S.Sink.bytes c.loop-piece.sink)
     c.loop-piece-test.true c.loop-piece.invariant.written cut.1 cut.2
-    (rose_before _ _ _ c.loop-piece.invariant.faults_stay cut.3))
+    (rose-later _ _ _ c.loop-piece.invariant.faults_stay cut.3))
 
 pub loop-piece-preserved : goal.loop-piece-preserved
 loop-piece-preserved g c = record {

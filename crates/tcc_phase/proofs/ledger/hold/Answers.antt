@@ -1,8 +1,9 @@
 -- One core after another.
 use Rattle.std.proofs.Common.{◌≡◌, ℕ, Bool, [], ◌∷◌, ◌++◌, length, ap, sym, ◌∙◌, arith}
+use Rattle.base_lemmas.proofs.Lemmas.{those-most}
 use Rattle.net_core.specs.Machine.{program_of, settings_of, world_of}
 use Rattle.tcc_phase.specs.Requests.{is_above}
-use Rattle.tcc_phase.proofs.Requests.Those.{those-first, those-more, those-most, those-same}
+use Rattle.tcc_phase.proofs.Requests.Those.{those-first, those-more, those-same}
 use Rattle.tcc_phase.proofs.ledger.hold.Goals as goal
 use Rattle.tcc_phase.proofs.ledger.hold.Goals.{then-is_above, else-is_above}
 

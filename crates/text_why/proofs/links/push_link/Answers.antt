@@ -1,9 +1,9 @@
 -- Each message in flight in turn.
 use Rattle.std.proofs.Common.{string_bytes, ap, sym, ◌∙◌, ◌++◌, arith}
+use Rattle.base_lemmas.proofs.Lemmas.{none-past, piece-more, pieces-all}
 use Rattle.rules_maps.specs.Bridge.{node_of}
 use Rattle.net_core.specs.Machine.{settings_of, world_of}
 use Rattle.text_why.proofs.Flying.{flying-text, flying_on, line_of}
-use Rattle.text_why.proofs.Lists.{none-past, piece-more, pieces-all}
 use Rattle.text_why.proofs.links.push_link.Goals as goal
 use Rattle.text_why.proofs.links.push_link.Goals.{in-Some+in_ok-push_if_waiting, in_default}
 

@@ -1,11 +1,11 @@
 -- Each source in turn.
 use Rattle.std.proofs.Common.{string_bytes, ap, sym, ◌∙◌, arith}
 use Rattle.std.specs.Prelude.{slice_get}
+use Rattle.base_lemmas.proofs.Lemmas.{none-past, piece-more}
 use Rattle.rules_maps.specs.Bridge.{node_of}
 use Rattle.rules_tcc.specs.Useful.{nodes}
 use Rattle.net_core.specs.Machine.{settings_of, world_of}
 use Rattle.text_why.specs.Text.{text_from}
-use Rattle.text_why.proofs.Lists.{none-past, piece-more}
 use Rattle.text_why.proofs.links.push_waits.Goals as goal
 use Rattle.text_why.proofs.links.push_waits.Goals.{in-Some+in_ok-push_links_from, in_default}
 

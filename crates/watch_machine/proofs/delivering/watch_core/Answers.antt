@@ -1,5 +1,6 @@
 -- What was seen before the delivery and what is told behind it are all that it did.
 use Rattle.std.proofs.Common.{◌<◌, ◌++◌, map, ap, sym, ◌∙◌, subst}
+use Rattle.base_lemmas.proofs.Lemmas.{lt-from}
 use Rattle.rules_maps.specs.Bridge.{node_of}
 use Rattle.rules_maps.specs.Nodes.{Core, Deliver}
 use Rattle.tcc_msg.specs.Plain.{msg_of}
@@ -8,13 +9,14 @@ use Rattle.net_core.specs.Machine.{settings_of, world_of}
 use Rattle.watch.specs.Messages.{grant_given_up, taken, violated}
 use Rattle.watch.specs.Plain.{fact_of}
 use Rattle.watch_machine.specs.Telling.{SawMessage}
-use Rattle.watch_machine.proofs.Enabled.{flying-ends as ends, is-below, known, taken-enabled}
+use Rattle.watch_machine.proofs.Enabled.{flying-ends as ends, taken-enabled}
 use Rattle.watch_machine.proofs.Happening.{advanced-to, flown, joined, told-all, told_behind}
 use Rattle.watch_machine.proofs.delivering.watch_core.Goals as goal
+use Rattle.net_core.proofs.Lemmas.{known}
 
 pub core-requires : goal.core-requires
 core-requires c =
-    is-below c.args.id.0 (settings_of c.args.system.now).cores
+    lt-from c.args.id.0 (settings_of c.args.system.now).cores
     (ends c.args.system.now (node_of c.args.name.src) (Core c.args.id.0) c.args.name.seq (msg_of c.args.msg) c.machines_are_live.ensures
     c.requires.flies).to
 
@@ -28,7 +30,7 @@ look-seen-requires c =
 pub tell_core-requires : goal.tell_core-requires
 tell_core-requires c =
     subst (λ k. c.args.id.0 < k.settings.cores) (sym c.in_ok-step.ensures.code)
-    (is-below c.args.id.0 (settings_of c.args.system.now).cores
+    (lt-from c.args.id.0 (settings_of c.args.system.now).cores
     (ends c.args.system.now (node_of c.args.name.src) (Core c.args.id.0) c.args.name.seq (msg_of c.args.msg) c.machines_are_live.ensures
     c.requires.flies).to)
 

@@ -1,5 +1,6 @@
 -- What becomes of the message, and what is told behind its delivery, are all that it did.
 use Rattle.std.proofs.Common.{◌<◌, ◌++◌, map, sym, ◌∙◌, subst}
+use Rattle.base_lemmas.proofs.Lemmas.{lt-from}
 use Rattle.rules_maps.specs.Bridge.{node_of}
 use Rattle.rules_maps.specs.Nodes.{Core, Dir, Deliver}
 use Rattle.tcc_msg.specs.Plain.{msg_of}
@@ -8,13 +9,13 @@ use Rattle.net_core.specs.Machine.{settings_of, world_of}
 use Rattle.watch.specs.Happened.{serves_fact}
 use Rattle.watch.specs.Plain.{fact_of}
 use Rattle.watch_machine.specs.Telling.{commit_told}
-use Rattle.watch_machine.proofs.Enabled.{answer-told, flying-ends as ends, is-below, taken-enabled}
+use Rattle.watch_machine.proofs.Enabled.{answer-told, flying-ends as ends, taken-enabled}
 use Rattle.watch_machine.proofs.Happening.{advanced-from, advanced-to, flown, told-all}
 use Rattle.watch_machine.proofs.delivering.watch_dir.Goals as goal
 
 pub what_became-requires-clause-dir : goal.what_became-requires-clause-dir
 what_became-requires-clause-dir c =
-    is-below c.args.dir.0 (settings_of c.args.system.now).dirs
+    lt-from c.args.dir.0 (settings_of c.args.system.now).dirs
     (ends c.args.system.now (Core c.args.core.0) (Dir c.args.dir.0) c.args.name.seq (msg_of c.args.msg) c.machines_are_live.ensures
     c.requires.flies).to
 
@@ -24,14 +25,14 @@ what_became-requires-clause-line c =
 
 pub serving-before-requires : goal.serving-before-requires
 serving-before-requires c =
-    is-below c.args.dir.0 (settings_of c.args.system.now).dirs
+    lt-from c.args.dir.0 (settings_of c.args.system.now).dirs
     (ends c.args.system.now (Core c.args.core.0) (Dir c.args.dir.0) c.args.name.seq (msg_of c.args.msg) c.machines_are_live.ensures
     c.requires.flies).to
 
 pub tell_dir-requires : goal.tell_dir-requires
 tell_dir-requires c =
     subst (λ k. c.args.dir.0 < k.settings.dirs) (sym c.in_ok-step.ensures.code)
-    (is-below c.args.dir.0 (settings_of c.args.system.now).dirs
+    (lt-from c.args.dir.0 (settings_of c.args.system.now).dirs
     (ends c.args.system.now (Core c.args.core.0) (Dir c.args.dir.0) c.args.name.seq (msg_of c.args.msg) c.machines_are_live.ensures
     c.requires.flies).to)
 

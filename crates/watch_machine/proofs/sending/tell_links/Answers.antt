@@ -1,12 +1,12 @@
 -- Each destination in turn.
 use Rattle.std.proofs.Common.{ap, map, sym, ◌∙◌, arith}
 use Rattle.std.specs.Prelude.{slice_get}
+use Rattle.base_lemmas.proofs.Lemmas.{none-past}
 use Rattle.rules_maps.specs.Bridge.{node_of}
 use Rattle.rules_tcc.specs.Useful.{nodes}
 use Rattle.net_core.specs.Machine.{settings_of}
 use Rattle.watch.specs.Plain.{fact_of}
 use Rattle.watch_machine.specs.Telling.{last_to}
-use Rattle.watch_core.proofs.Lemmas.{none-past}
 use Rattle.watch_machine.proofs.Numbering.{node-told}
 use Rattle.watch_machine.proofs.sending.tell_links.Goals as goal
 use Rattle.watch_machine.proofs.sending.tell_links.Goals.{in-Some+in_ok-tell_link, in_default}

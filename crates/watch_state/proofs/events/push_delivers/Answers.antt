@@ -4,6 +4,7 @@ use Rattle.std.specs.Prelude.{slice_get}
 use Rattle.std.specs.List.{flat_map}
 use Rattle.std.proofs.lemmas.List.{take_all}
 use Rattle.tcc_base.specs.Settings.{Settings}
+use Rattle.base_lemmas.proofs.Lemmas.{none-past}
 use Rattle.rules_maps.specs.Bridge.{node_of}
 use Rattle.rules_tcc.specs.Useful.{nodes}
 use Rattle.net_core.specs.Machine.{program_of, settings_of, world_of}
@@ -11,7 +12,7 @@ use Rattle.watch_state.specs.Events.{delivers_from}
 use Rattle.watch_state.specs.Text.{events_text}
 use Rattle.watch_state.proofs.Flying.{text_of_event}
 use Rattle.watch_state.proofs.Parts.{delivers-parts}
-use Rattle.watch_state.proofs.Listed.{flats-listed, none-past}
+use Rattle.watch_state.proofs.Listed.{flats-listed}
 use Rattle.watch_state.proofs.events.push_delivers.Goals as goal
 use Rattle.watch_state.proofs.events.push_delivers.Goals.{in-Some+in_ok-push_delivers_from, in_default}
 

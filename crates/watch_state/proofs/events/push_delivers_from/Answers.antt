@@ -1,13 +1,14 @@
 -- Each destination in turn.
 use Rattle.std.proofs.Common.{string_bytes, ap, sym, ◌∙◌, arith}
 use Rattle.std.specs.Prelude.{slice_get}
+use Rattle.base_lemmas.proofs.Lemmas.{none-past}
 use Rattle.rules_maps.specs.Bridge.{node_of}
 use Rattle.rules_tcc.specs.Useful.{nodes}
 use Rattle.net_core.specs.Machine.{settings_of, world_of}
 use Rattle.watch_state.specs.Events.{link_delivers}
 use Rattle.watch_state.specs.Text.{events_text}
 use Rattle.watch_state.proofs.Flying.{text_of_event}
-use Rattle.watch_state.proofs.Listed.{flats-listed, none-past}
+use Rattle.watch_state.proofs.Listed.{flats-listed}
 use Rattle.watch_state.proofs.events.push_delivers_from.Goals as goal
 use Rattle.watch_state.proofs.events.push_delivers_from.Goals.{in-Some+in_ok-push_link_delivers, in_default}
 

@@ -1,10 +1,10 @@
 -- Each message in flight in turn.
 use Rattle.std.proofs.Common.{string_bytes, ap, sym, ◌∙◌, ◌++◌, arith}
+use Rattle.base_lemmas.proofs.Lemmas.{none-past, piece-more, pieces-all}
 use Rattle.rules_maps.specs.Bridge.{node_of}
 use Rattle.tcc_msg.specs.Plain.{msg_of}
 use Rattle.net_core.specs.Machine.{world_of}
 use Rattle.watch_state.proofs.Flying.{flight-written, flight_lines, flights-written, flying_on}
-use Rattle.watch_state.proofs.Listed.{none-past, text-listed, text-whole}
 use Rattle.watch_state.proofs.links.push_link.Goals as goal
 use Rattle.watch_state.proofs.links.push_link.Goals.{in-Some+in_ok-push_flight, in_default}
 
@@ -15,7 +15,7 @@ loop-i-preserved c =
     let dst = node_of c.args.dst in
     elim c.match-flying_at.branch [
       | in-Some+in_ok-push_flight b ↦
-          text-listed (flight_lines c.args.lead.now w src dst) (flying_on w src dst) c.loop-i.i b.in-Some.seq
+          piece-more (flight_lines c.args.lead.now w src dst) (flying_on w src dst) c.loop-i.i b.in-Some.seq
           (string_bytes c.args.text.now) (string_bytes c.loop-i.text) (string_bytes c.match-flying_at.text)
           (sym b.in-Some.ensures.number) c.loop-i.invariant
           (ap string_bytes b.text-is ∙ b.in_ok-push_flight.ensures
@@ -31,6 +31,6 @@ returns c =
     let w = world_of c.args.system.now in
     let src = node_of c.args.src in
     let dst = node_of c.args.dst in
-    text-whole (flight_lines c.args.lead.now w src dst) (flying_on w src dst) c.loop-i.i (string_bytes c.args.text.now)
+    pieces-all (flight_lines c.args.lead.now w src dst) (flying_on w src dst) c.loop-i.i (string_bytes c.args.text.now)
     (string_bytes c.loop-i.text) (omega (arith, c.flying-i-end.ensures, c.loop-i-test.false)) c.loop-i.invariant
     ∙ ap (λ lines. string_bytes c.args.text.now ++ lines) (flights-written c.args.lead.now w src dst)

@@ -1,11 +1,12 @@
 -- Each source in turn.
 use Rattle.std.proofs.Common.{string_bytes, ap, sym, ◌∙◌, arith}
 use Rattle.std.specs.Prelude.{slice_get}
+use Rattle.base_lemmas.proofs.Lemmas.{none-past}
 use Rattle.rules_maps.specs.Bridge.{node_of}
 use Rattle.rules_tcc.specs.Useful.{nodes}
 use Rattle.net_core.specs.Machine.{settings_of, world_of}
 use Rattle.watch_state.specs.Text.{records_from}
-use Rattle.watch_state.proofs.Listed.{led-listed, none-past}
+use Rattle.watch_state.proofs.Listed.{led-listed}
 use Rattle.watch_state.proofs.links.push_links.Goals as goal
 use Rattle.watch_state.proofs.links.push_links.Goals.{in-Some+in_ok-push_links_from, in_default}
 

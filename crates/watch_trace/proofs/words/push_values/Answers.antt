@@ -1,8 +1,8 @@
 -- One word more, and all eight.
 use Rattle.std.proofs.Common.{◌≡◌, arith}
 use Rattle.std.proofs.lemmas.Grind.{common_steps}
+use Rattle.base_lemmas.proofs.Lemmas.{flat_map-range_with_len_more}
 use Rattle.watch_trace.specs.Words.{value_word, value_words}
-use Rattle.watch_trace.proofs.Lists.{flat_map-range_with_len_more}
 use Rattle.watch_trace.proofs.words.push_values.Goals as goal
 
 pub loop-k-preserved : goal.loop-k-preserved

@@ -1,11 +1,12 @@
 -- The part's event is the member's.
 use Rattle.std.proofs.Common.{◌≡◌, ◌∙◌, ◌+◌, ◌<◌, ap, subst, sym}
 use Rattle.std.specs.Option.{option_map}
+use Rattle.base_lemmas.proofs.Lemmas.{on_err-from}
 use Rattle.tcc_msg.specs.Plain.{event_of, msg_of}
 use Rattle.apart_member.specs.Acting.{Acts, ActsAs, MayDo}
 use Rattle.apart_member.specs.Data.{state_of}
 use Rattle.apart_member.specs.DataInside.{member_of}
-use Rattle.apart_member.proofs.Members.{acts-are, acts-same, acts-whole, may-act, member_with, on-err, placed-same, same-state, stays-whole}
+use Rattle.apart_member.proofs.Members.{acts-are, acts-same, acts-whole, may-act, member_with, placed-same, same-state, stays-whole}
 use Rattle.apart_member.proofs.member.Member.act.Goals as goal
 
 pub act_part-requires-clause-may : goal.act_part-requires-clause-may
@@ -28,7 +29,7 @@ invariant_of-self c =
     c.in_err-consumed.ensures.node (kept c)
 
 pub returns-in_err-consumed-clause-unchanged : goal.returns-in_err-consumed-clause-unchanged
-returns-in_err-consumed-clause-unchanged c = on-err c.from_residual.result _ (kept c ∙ ap state_of c.self.view_is)
+returns-in_err-consumed-clause-unchanged c = on_err-from c.from_residual.result _ (kept c ∙ ap state_of c.self.view_is)
 
 -- ---- the event
 

@@ -1,5 +1,6 @@
 -- An event is done.
 use Rattle.std.proofs.Common.{[], ◌∷◌, ◌++◌, length, refl, ap, sym, ◌∙◌}
+use Rattle.base_lemmas.proofs.Lemmas.{on_err-from}
 use Rattle.rules_maps.specs.Bridge.{node_of}
 use Rattle.tcc_msg.specs.Plain.{event_of}
 use Rattle.rules_apart.specs.declared.logs.Logged.{Logged}
@@ -8,7 +9,7 @@ use Rattle.apart_node.specs.Node.{NodeData}
 use Rattle.apart_node.specs.NodeInside.{node_of_parts}
 use Rattle.apart_node.proofs.Keeping.Gathering.{gathers-keep, gathers-refl, gathers-same}
 use Rattle.apart_node.proofs.Picking.Choices.{own-same}
-use Rattle.apart_node.proofs.Keeping.Performing.{Parts, may-perform, none-lost, on_err-from, performs-keep, performs-parts, waiting-is}
+use Rattle.apart_node.proofs.Keeping.Performing.{Parts, may-perform, none-lost, performs-keep, performs-parts, waiting-is}
 use Rattle.apart_node.proofs.Running.Stamps.{last-push}
 use Rattle.apart_node.proofs.node.Node.perform.Goals as goal
 

@@ -2,11 +2,12 @@
 use Rattle.std.proofs.Common.{map, refl, arith}
 use Rattle.std.proofs.lemmas.List.{length-map, length_push}
 use Rattle.std.proofs.lemmas.List.Elements.{All-push}
+use Rattle.base_lemmas.proofs.Lemmas.{filter-few}
 use Rattle.tcc_msg.specs.declared.event.Name.{Name}
 use Rattle.rules_maps.specs.Bridge.{node_of}
 use Rattle.apart_node.specs.PortInside.{IsNamed, entry_of, port_of}
 use Rattle.apart_node.specs.Tally.{hangs}
-use Rattle.apart_node.proofs.Picking.Counts.{counted-push, filter-few, one-at-most}
+use Rattle.apart_node.proofs.Picking.Counts.{counted-push, one-at-most}
 use Rattle.apart_node.proofs.Porting.Named.{entries-push, held-above}
 use Rattle.apart_node.proofs.Porting.Pools.{below-got, port-push}
 use Rattle.apart_node.proofs.Porting.SeveralMoves.{takes-push, takes-refl, takes-same}

@@ -1,10 +1,10 @@
 -- A message is taken out of its pool.
 use Rattle.std.proofs.Common.{◌∙◌}
 use Rattle.std.proofs.lemmas.Option.{get_or_from_slice_get, slice_get_within}
+use Rattle.base_lemmas.proofs.Lemmas.{get-set}
 use Rattle.apart_node.specs.Deeds.{IsWaiting}
 use Rattle.apart_node.specs.RoomInside.{room_of}
 use Rattle.apart_node.proofs.Picking.Tallied.{noted-again}
-use Rattle.apart_node.proofs.Porting.ChangedElement.{get-set}
 use Rattle.apart_node.proofs.Porting.Rooms.{dropped-room, dropped-sent, dropped-whole, port-read}
 use Rattle.apart_node.proofs.room.Mailroom.drop_waiting.Goals as goal
 

@@ -1,6 +1,7 @@
 -- Each number gives the next event.
 use Rattle.std.proofs.Common.{sym, ◌∙◌, arith}
-use Rattle.bus_tcc.proofs.Choices.{none-past, one-listed}
+use Rattle.base_lemmas.proofs.Lemmas.{none-past}
+use Rattle.bus_tcc.proofs.Choices.{one-listed}
 use Rattle.bus_tcc.proofs.system.BusSystem.useful.Goals as goal
 use Rattle.bus_tcc.proofs.system.BusSystem.useful.Goals.{in-Some+in_ok-push, in_default}
 

@@ -1,4 +1,4 @@
-use Rattle.commit_engine.proofs.Bits.{has-zero}
+use Rattle.base_lemmas.proofs.Lemmas.{has-zero}
 use Rattle.commit_engine.proofs.dir_set.DirSet.none.Goals as goal
 
 pub returns : goal.returns

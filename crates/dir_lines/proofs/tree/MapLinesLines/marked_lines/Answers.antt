@@ -1,4 +1,5 @@
 use Rattle.std.proofs.Common.{rules, ◌≡◌, ◌<◌, ◌≤◌, length, ap, ◌∙◌, arith}
+use Rattle.base_lemmas.proofs.Lemmas.{count_below-most}
 use Rattle.rules_maps.specs.Words.{count_below}
 use Rattle.rules_maps.specs.Shape.{lines}
 use Rattle.rules_maps.specs.Lines.{has_mark}
@@ -6,7 +7,6 @@ use Rattle.rules_maps.proofs.Lemmas.{length-those}
 use Rattle.dir_lines.specs.Record.{lines_of}
 use Rattle.dir_lines.specs.Filed.{filed_at}
 use Rattle.dir_lines.specs.FiledInside.{filed_of}
-use Rattle.dir_lines.proofs.Counting.{count_below-small}
 use Rattle.dir_lines.proofs.Filing.{filed-at_home}
 use Rattle.dir_lines.proofs.tree.MapLinesLines.marked_lines.Goals as goal
 
@@ -17,7 +17,7 @@ overflow_cast-result c =
     (lines c.self.inside.cfg) =
     ap length c.self.invariant.marked ∙ length-those (has_mark (lines_of (filed_at (filed_of c.self.inside)))) (lines c.self.inside.cfg) in
     let d : count_below (has_mark (lines_of (filed_at (filed_of c.self.inside)))) (lines c.self.inside.cfg) ≤ lines c.self.inside.cfg =
-    count_below-small (has_mark (lines_of (filed_at (filed_of c.self.inside)))) (lines c.self.inside.cfg) in
+    count_below-most (has_mark (lines_of (filed_at (filed_of c.self.inside)))) (lines c.self.inside.cfg) in
     let e : c.self.inside.cfg.ram ≤ 16777216 = c.self.invariant.home.0.4.1 in
     let f : c.len.result < 4294967296 = omega (arith, c.len.ensures) in
     search rules

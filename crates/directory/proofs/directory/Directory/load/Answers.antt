@@ -1,9 +1,10 @@
 use Rattle.std.proofs.Common.{◌≡◌, None, option_map, ap, sym, ◌∙◌, arith}
+use Rattle.base_lemmas.proofs.Lemmas.{le-false, le-true}
 use borrow.Author.Tests.{lt-ltb, le-ltb}
 use Rattle.rules_tcc.specs.DirDeliver.{ask_owner, load_unless_owned, load_request}
 use Rattle.dir_lines.specs.Kept.{kept}
 use Rattle.directory.specs.Data.{dir_of}
-use Rattle.directory.proofs.RuleCases.{le-true, le-false, load-early, load-marked, load-other}
+use Rattle.directory.proofs.RuleCases.{load-early, load-marked, load-other}
 use Rattle.directory.proofs.Giving.{gives-ok, waits}
 use Rattle.directory.proofs.directory.Directory.load.Goals as goal
 

@@ -1,9 +1,10 @@
 use Rattle.std.proofs.Common.{◌≡◌, ap, sym, subst, ◌∙◌, arith}
+use Rattle.base_lemmas.proofs.Lemmas.{le-true}
 use Rattle.rules_maps.specs.Lines.{has_mark}
 use Rattle.directory.specs.Data.{dir_of}
 use Rattle.directory.specs.Gives.{is_taken}
 use Rattle.directory.specs.Stays.{Stays}
-use Rattle.directory.proofs.RuleCases.{load-early, le-true}
+use Rattle.directory.proofs.RuleCases.{load-early}
 use Rattle.directory.proofs.Staying.{load-stays, line-stays, line-rises, line-holds}
 use Rattle.directory.proofs.directory.Directory.load_waits_for.Goals as goal
 

@@ -1,15 +1,12 @@
-use Rattle.std.proofs.Common.{◌≡◌, ◌==◌, None, if◌then◌else◌, not, option_map, ap, sym, ◌∙◌, arith}
-use borrow.Author.Tests.{lt-ltb, le-ltb, eq-eqb, ne_eqb}
-use Rattle.rules_maps.specs.Words.{count_below}
-use Rattle.rules_maps.specs.Masks.{full}
+use Rattle.std.proofs.Common.{◌≡◌, not, option_map, ap, sym, ◌∙◌, arith}
+use Rattle.base_lemmas.proofs.Lemmas.{le-false, le-true}
+use borrow.Author.Tests.{lt-ltb, le-ltb}
 use Rattle.rules_maps.specs.Shape.{lines}
-use Rattle.rules_maps.specs.Lines.{has_mark}
-use Rattle.rules_maps.specs.Judge.{judge}
-use Rattle.rules_tcc.specs.DirDeliver.{load_unless_owned, mark_unless_owned}
+use Rattle.rules_tcc.specs.DirDeliver.{load_unless_owned}
 use Rattle.dir_lines.specs.Kept.{kept}
 use Rattle.directory.specs.Data.{dir_of}
 use Rattle.directory.specs.Gives.{is_taken}
-use Rattle.directory.proofs.RuleCases.{le-true, le-false, load-early, load-marked, load-other}
+use Rattle.directory.proofs.RuleCases.{load-early, load-marked, load-other}
 use Rattle.directory.proofs.Taking.{ask-taken}
 use Rattle.directory.proofs.directory.Directory.takes_load.Goals as goal
 

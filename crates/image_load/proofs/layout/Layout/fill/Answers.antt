@@ -1,9 +1,9 @@
 use Rattle.std.proofs.Common.{◌≡◌, ◌+◌, ◌-◌, ◌<◌, ◌≤◌, ◌∙◌, ℕ, false, arith}
 use Rattle.std.proofs.lemmas.Bool.Decides.{nat_tests}
+use Rattle.base_lemmas.proofs.Lemmas.{write_back-whole}
 use Rattle.image_load.specs.Contents.{code_at}
 use Rattle.image_load.specs.Overlap.{segments_laid}
 use Rattle.image_load.specs.Filled.{IsFilled}
-use Rattle.image_load.proofs.Lists.{write_back-whole}
 use Rattle.image_load.proofs.Memory.{filled-more, filled-nothing}
 use Rattle.image_load.proofs.Overlaps.{free-from_find}
 use Rattle.image_load.proofs.layout.Layout.fill.Goals as goal

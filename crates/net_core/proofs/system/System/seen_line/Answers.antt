@@ -2,13 +2,14 @@
 use Rattle.std.proofs.Common.{◌≡◌, ap, sym, ◌∙◌, arith}
 use Rattle.std.specs.Prelude.{get_or}
 use Rattle.tcc_base.specs.Settings.{Settings}
+use Rattle.base_lemmas.proofs.Lemmas.{line_of-word_at}
 use Rattle.rules_maps.specs.Shape.{home}
 use Rattle.rules_maps.specs.Words.{word_at}
 use Rattle.rules_tcc.specs.Seen.{Copy, seen}
 use Rattle.net_core.specs.Copies.{nth_copy}
 use Rattle.net_core.specs.Inside.{machine_of}
 use Rattle.net_core.specs.Machine.{settings_of, world_of}
-use Rattle.net_core.proofs.Words.Places.{line-is, placed-line}
+use Rattle.net_core.proofs.Words.Places.{line-is}
 use Rattle.net_core.proofs.Words.Seen.{best-first, best-last, best-more, home-tag, home-word, whole-caches}
 use Rattle.net_core.proofs.system.System.seen_line.Goals as goal
 
@@ -31,7 +32,7 @@ loop-c-preserved c = λ k b.
     (nth_copy c.newest_in_core.new.best k) (nth_copy c.newest_on_link.new.best k) c.self.view_is c.requires.settled
     (c.home-home.ensures.value
     ∙ (ap (λ (s : Settings). home s c.args.line.0) (c.config.ensures ∙ ap settings_of (sym c.self.view_is))
-    ∙ ap (home (settings_of m)) (sym (placed-line c.args.line.0 k b))))
+    ∙ ap (home (settings_of m)) (sym (line_of-word_at c.args.line.0 k b))))
     (c.loop-c.invariant k b) (c.newest_in_core.ensures k b) (c.newest_on_link.ensures k b)
 
 pub returns : goal.returns

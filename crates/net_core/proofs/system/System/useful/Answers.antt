@@ -1,6 +1,6 @@
 -- Each number gives the next event.
 use Rattle.std.proofs.Common.{sym, ◌∙◌, arith}
-use Rattle.net_core.proofs.Prefixes.{none-past}
+use Rattle.base_lemmas.proofs.Lemmas.{none-past}
 use Rattle.net_core.proofs.Useful.Listed.{one-listed}
 use Rattle.net_core.proofs.system.System.useful.Goals as goal
 use Rattle.net_core.proofs.system.System.useful.Goals.{in-Some+in_ok-push, in_default}

@@ -2,9 +2,9 @@
 use Rattle.std.proofs.Common.{◌≡◌, ◌<◌, ap, sym, subst}
 use Rattle.std.specs.Prelude.{Some, slice_get, slice_index_or, slice_set, length}
 use Rattle.std.specs.Arc.{arc_value}
+use Rattle.base_lemmas.proofs.Lemmas.{get-some}
 use Rattle.apart_node.specs.Acts.{AnswersAct, SameNode}
 use Rattle.rules_apart.specs.Fitting.{node_count}
-use Rattle.node_locks.proofs.Lists.{get-some}
 use Rattle.node_locks.proofs.Peers.{are-kept}
 use Rattle.node_locks.proofs.nodes.Nodes.act.Goals as goal
 

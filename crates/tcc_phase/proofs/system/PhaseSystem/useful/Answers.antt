@@ -1,8 +1,9 @@
 -- Each number gives the next event.
 use Rattle.std.proofs.Common.{sym, ◌∙◌, arith}
-use Rattle.tcc_phase.proofs.Runs.{none-past, one-listed}
+use Rattle.tcc_phase.proofs.Runs.{none-past}
 use Rattle.tcc_phase.proofs.system.PhaseSystem.useful.Goals as goal
 use Rattle.tcc_phase.proofs.system.PhaseSystem.useful.Goals.{in-Some+in_ok-push, in_default}
+use Rattle.net_core.proofs.Lemmas.{one-listed}
 
 pub loop-k-preserved : goal.loop-k-preserved
 loop-k-preserved c = elim c.match-useful_at.branch [
