@@ -6,13 +6,9 @@ use Rattle.rv_plain.specs.Endings.{HasEnded}
 use Rattle.tcc_base.specs.declared.access.CoreEnd.{CoreEnd}
 use Rattle.tcc_base.specs.declared.access.CoreEnd.TheVariants.{Run, Halt, Trap}
 use Rattle.rules_program.specs.Plain.{Attempt, Outcome, Goes, Ended, Halted, Trapped, Plain, steps, begun, transaction, close}
-use Rattle.rules_program.specs.Plain.{close_if, if_runs, then_step, end_of}
+use Rattle.rules_program.specs.Plain.{close_if, if_runs, end_of}
 use Rattle.rules_program.specs.Program.{Program}
-use Rattle.rv_plain.proofs.Lemmas.{none-after, steps-past}
-
-then-none : (base : ℕ) (p : Program) (x : Option Attempt) → IsSomeAnd x (λ a. HasEnded a.outcome) → then_step base p x ≡ None
-then-none base p None h = absurd h
-then-none base p (Some a) h = none-after base p a a.outcome h
+use Rattle.rv_plain.proofs.Lemmas.{steps-past}
 
 closes : (m : Plain) (core : ℕ) (a : Attempt) (o : Outcome) → IsSomeAnd (close m core a (end_of o)) (λ r. Unit {0}) → HasEnded o
 closes m core a Goes h = absurd h
