@@ -9,12 +9,12 @@ cd "$(dirname "$0")/.."
 copy=$(mktemp -d)
 trap 'rm -rf "$copy"' EXIT
 
-below='tcc_base rules_program rules_maps reg_checkpoint rv_decode rv_exec image_elf image_load rv_code rv_plain'
+below='tcc_base base_lemmas rules_program rules_maps reg_checkpoint rv_decode rv_exec image_elf image_load rv_code rv_plain'
 rules=$copy/crates/rules_tcc bus=$copy/crates/rules_bus
 mkdir "$copy/crates"
 cp HANDLES "$copy"
 grep -E "^(${below// /|}|rules_bus):" crates.txt > "$copy/crates.txt"
-grep '^rules_worked:' crates.txt | sed 's/^rules_worked/rules_tcc/; s/ \(rules_tcc\|theorem_phases\)\b//g' >> "$copy/crates.txt"
+grep '^rules_worked:' crates.txt | sed 's/^rules_worked/rules_tcc/; s/ \(rules_tcc\|theorem_phases\)\b//g; s/$/ base_lemmas/' >> "$copy/crates.txt"
 for crate in $below rules_tcc rules_bus; do
     cp -r "crates/$crate" "$copy/crates"
     rm -rf "$copy/crates/$crate/must-fail"

@@ -41,7 +41,9 @@ fn act_core(
     requires enabled { is_some (happens_at code.now (AtCore (core_of core.old)) (event_of event) (option_map msg_of msg)) ≡ true }
     requires short { (core_of core.old).n < 4194304 }
     requires empty { out.old.list.items ≡ [] }
-    ensures acts { IfOk result (ActsAs code.now (AtCore (core_of core.old)) (AtCore (core_of core.new)) (event_of event) (option_map msg_of msg) out.new.list.items) }
+    ensures acts { IfOk result
+        (ActsAs code.now (AtCore (core_of core.old)) (AtCore (core_of core.new)) (event_of event)
+        (option_map msg_of msg) out.new.list.items) }
     ensures stays { Stays core.old core.new }
     ensures unchanged { OnErr result (core_of core.new ≡ core_of core.old) }
     ensures unsent { OnErr result (out.new.list.items ≡ []) }
@@ -98,7 +100,10 @@ fn hand_to(
     requires core { src.0 < dir.old.lines.place.shape.cores }
     requires tids { HasSmallTids (msg_of msg.now) }
     requires empty { out.old.list.items ≡ [] }
-    ensures answers { IfOk result (λ consumed. (ram : ℕ → ℕ) → TakesAs (dir_of ram dir.old) (dir_deliver dir.old.lines.place.shape (dir_of ram dir.old) src.0 (msg_of msg.now)) (dir_of ram dir.new) (sends_of out.new.list.items) consumed) }
+    ensures answers { IfOk result
+        (λ consumed. (ram : ℕ → ℕ)
+        → TakesAs (dir_of ram dir.old) (dir_deliver dir.old.lines.place.shape (dir_of ram dir.old) src.0 (msg_of msg.now))
+        (dir_of ram dir.new) (sends_of out.new.list.items) consumed) }
     ensures place { dir.new.lines.place ≡ dir.old.lines.place }
     ensures unchanged { OnErr result (dir.new ≡ dir.old) }
     ensures unsent { OnErr result (out.new.list.items ≡ []) }
@@ -136,10 +141,13 @@ impl MemberKind {
         requires placed { IsPlaced code.now.settings self.old }
         requires may { PartMayDo code.now self.old (event_of event) (option_map msg_of msg) }
         requires empty { out.old.list.items ≡ [] }
-        ensures acts { IfOk result (ActsAs code.now (kind_state (first_ram (started code.now)) self.old) (kind_state (first_ram (started code.now)) self.new) (event_of event) (option_map msg_of msg) out.new.list.items) }
+        ensures acts { IfOk result
+            (ActsAs code.now (kind_state (first_ram (started code.now)) self.old) (kind_state (first_ram (started code.now)) self.new)
+            (event_of event) (option_map msg_of msg) out.new.list.items) }
         ensures placed { IsPlaced code.now.settings self.new }
         ensures node { node_at self.new ≡ node_at self.old }
-        ensures unchanged { OnErr result (kind_state (first_ram (started code.now)) self.new ≡ kind_state (first_ram (started code.now)) self.old) }
+        ensures unchanged { OnErr result
+            (kind_state (first_ram (started code.now)) self.new ≡ kind_state (first_ram (started code.now)) self.old) }
         ensures unsent { OnErr result (out.new.list.items ≡ []) }
     {
         match self {

@@ -34,7 +34,8 @@ fn core_count(core: &CoreNode, code: &Code) -> usize
 /// The k-th useful eviction of the core of this number, from 0.
 fn evict_at(id: CoreId, core: &CoreNode, code: &Code, k: usize) -> Option<Event>
     requires { code.now.settings ≡ core.now.config }
-    ensures { option_map event_of result ≡ option_map (λ q. Evict id.0 q.0 q.1) (slice_get (useful_evicts core.now.config (program (started code.now)) (core_of core.now)) k) }
+    ensures { option_map event_of result ≡ option_map (λ q. Evict id.0 q.0 q.1)
+        (slice_get (useful_evicts core.now.config (program (started code.now)) (core_of core.now)) k) }
 {
     let (set, way) = core.useful_evict(code, k)?;
     Some(Event::Evict(id, set, way))
@@ -44,7 +45,8 @@ fn evict_at(id: CoreId, core: &CoreNode, code: &Code, k: usize) -> Option<Event>
 fn core_at(id: CoreId, core: &CoreNode, code: &Code, k: usize) -> Option<Event>
     requires own { core.now.id ≡ id }
     requires same { code.now.settings ≡ core.now.config }
-    ensures { option_map event_of result ≡ slice_get (core_events core.now.config (program (started code.now)) core.now.id.0 (core_of core.now)) k }
+    ensures { option_map event_of result ≡ slice_get
+        (core_events core.now.config (program (started code.now)) core.now.id.0 (core_of core.now)) k }
 {
     if !core.can_exec(code) {
         return evict_at(id, core, code, k);
@@ -83,7 +85,8 @@ impl Member {
     pub fn takes(&self, src: NodeId, msg: &Msg) -> bool
         requires { IsCarried self.now.code.settings (node_of src) (node_of self.now.node) (msg_of msg.now) }
         ensures value { result ≡ is_some (takes self.now.code.settings (state_of self.now) (node_of src) (Some (msg_of msg.now))) }
-        ensures may { (seq : ℕ) → IsTrue result → MayDo self.now (Deliver (node_of src) (node_of self.now.node) seq) (Some (msg_of msg.now)) }
+        ensures may { (seq : ℕ) → IsTrue result
+            → MayDo self.now (Deliver (node_of src) (node_of self.now.node) seq) (Some (msg_of msg.now)) }
     {
         match &self.kind {
             MemberKind::Core(..) | MemberKind::Vendor(_) => true,

@@ -73,7 +73,8 @@ impl Node {
         requires few { length self.now.log < 4194304 }
         requires early { last_stamp self.now.log < 2 ^ 62 }
         requires one { k < length (own_events self.now.member) }
-        ensures { IsSomeAnd result (λ d. (d.waiting ≡ None) × (Some (event_of d.event) ≡ slice_get (own_events self.now.member) k) × IsPossible self.now d) }
+        ensures { IsSomeAnd result (λ d. (d.waiting ≡ None) × (Some (event_of d.event) ≡ slice_get (own_events self.now.member) k)
+            × IsPossible self.now d) }
     {
         let event = self.member.own_at(k)?;
         Some(Deed {

@@ -28,8 +28,8 @@ fn remainder(pick: u32, all: u128) -> u32
 }
 
 impl Mailroom {
-    /// What the number picks by its remainder, of so many events of the member's own and behind them the messages that it would take now, by
-    /// port and number. It takes time in the number of messages that may have to wait, and of those that wait at one port.
+    /// What the number picks by its remainder, of so many events of the member's own and behind them the messages that it would take now,
+    /// by port and number. It takes time in the number of messages that may have to wait, and of those that wait at one port.
     pub(crate) fn draw(&mut self, member: &Member, last: u64, own: usize, pick: u32) -> Draw
         requires settings { self.old.settings ≡ member.now.code.settings }
         requires own { self.old.own ≡ member.now.node }

@@ -68,7 +68,12 @@ impl Node {
         requires start { state_of member ≡ state_at (world_at_start (started member.code)) (node_of member.node) }
         requires ports { ArePorts config.now (node_of member.node) ports.items }
         requires unused { All IsUnused ports.items }
-        ensures { IfOk result (λ node. node ≡ record { member = member; log = []; room = record { settings = config.now; own = member.node; ports = ports.items; unsent = [] } }) }
+        ensures { IfOk result (λ node.
+            node ≡ record {
+              member = member;
+              log = [];
+              room = record { settings = config.now; own = member.node; ports = ports.items; unsent = [] };
+            }) }
     {
         let room = Mailroom::new(alloc, *config, member.node(), ports)?;
         let own = member.own_count();

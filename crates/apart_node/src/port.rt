@@ -1,5 +1,6 @@
 // A node's ends of the links to and from one peer, and the messages from there that wait.
-ghost use Rattle.std.specs.Prelude.{◌≡◌, ◌^◌, ◌<◌, ◌≤◌, ◌∷◌, ◌++◌, [], ℕ, List, length, slice_get, Some, if◌then◌else◌, OnOk, OnErr, IfOk, IfErr, IsTrue, max};
+ghost use Rattle.std.specs.Prelude.{◌≡◌, ◌^◌, ◌<◌, ◌≤◌, ◌∷◌, ◌++◌, [], ℕ, List, length, slice_get, Some, if◌then◌else◌, OnOk, OnErr, IfOk};
+ghost use Rattle.std.specs.Prelude.{IfErr, IsTrue, max};
 ghost use Rattle.rules_maps.specs.Bridge.{node_of};
 ghost use Rattle.rules_maps.specs.Nodes.{Deliver};
 ghost use Rattle.tcc_msg.specs.Plain.{msg_of};
@@ -80,7 +81,8 @@ fn is_ready(member: &Member, last: u64, src: NodeId, mail: &Mail) -> bool
     requires { IsCarried member.now.code.settings (node_of src) (node_of member.now.node) (msg_of mail.now.msg) }
     ensures ready { result ≡ may_take member.now last (node_of src) mail.now }
     ensures early { IsTrue result → max last mail.now.stamp < 2 ^ 62 }
-    ensures may { (seq : ℕ) → IsTrue result → MayDo member.now (Deliver (node_of src) (node_of member.now.node) seq) (Some (msg_of mail.now.msg)) }
+    ensures may { (seq : ℕ) → IsTrue result
+        → MayDo member.now (Deliver (node_of src) (node_of member.now.node) seq) (Some (msg_of mail.now.msg)) }
 {
     last.max(mail.stamp) < LAST_STAMP && member.takes(src, &mail.msg)
 }
@@ -132,8 +134,10 @@ impl Port {
 
     /// Sends a message to the peer. After want of memory nothing is changed.
     pub(crate) fn send<R: Wait>(&mut self, rt: &R, mail: Mail) -> Result<(), NoMemory>
-        requires { IsCarried self.old.outlet.ends.settings (node_of self.old.outlet.ends.src) (node_of self.old.outlet.ends.dst) (msg_of mail.msg) }
-        ensures sent { OnOk result (self.new ≡ record self.old { outlet = record self.old.outlet { sent = self.old.outlet.sent ++ mail ∷ [] } }) }
+        requires { IsCarried self.old.outlet.ends.settings (node_of self.old.outlet.ends.src) (node_of self.old.outlet.ends.dst)
+            (msg_of mail.msg) }
+        ensures sent { OnOk result
+            (self.new ≡ record self.old { outlet = record self.old.outlet { sent = self.old.outlet.sent ++ mail ∷ [] } }) }
         ensures unchanged { OnErr result (self.new ≡ self.old) }
     {
         self.outlet.push(rt, mail)?;
@@ -236,7 +240,9 @@ impl Port {
         ensures letter { IfOk result (λ l. IsLetter self.now l) }
         ensures kth { IfOk result (λ l. slice_get (ready_in member.now last self.now) k ≡ Some (l.number, l.mail)) }
         ensures early { IfOk result (λ l. max last l.mail.stamp < 2 ^ 62) }
-        ensures may { IfOk result (λ l. MayDo member.now (Deliver (node_of self.now.inlet.ends.src) (node_of member.now.node) l.number) (Some (msg_of l.mail.msg))) }
+        ensures may { IfOk result
+            (λ l. MayDo member.now (Deliver (node_of self.now.inlet.ends.src) (node_of member.now.node) l.number)
+            (Some (msg_of l.mail.msg))) }
         ensures count { IfErr result (λ n. n ≡ length (ready_in member.now last self.now)) }
         ensures past { IfErr result (λ n. n ≤ k) }
     {

@@ -229,7 +229,8 @@ impl Mailroom {
     /// Takes a message out of its pool.
     pub(crate) fn drop_waiting(&mut self, waiting: &Waiting)
         requires { IsWaiting self.old waiting.now }
-        ensures room { Room (Loses true (Deliver (node_of waiting.now.src) (node_of self.old.own) waiting.now.letter.number)) self.old self.new }
+        ensures room { Room (Loses true (Deliver (node_of waiting.now.src) (node_of self.old.own) waiting.now.letter.number)) self.old
+            self.new }
         ensures sent { (stamp : ℕ) → SameSent stamp self.old self.new }
     {
         self.ports[waiting.seat].drop_letter(&waiting.letter);
@@ -239,7 +240,9 @@ impl Mailroom {
     /// What the peer has taken is a beginning of what was sent to it and is on the link.
     pub(crate) fn hear<R: Wait>(&mut self, rt: &R, peer: &mut Mailroom)
         requires { IsLinkedTo self.old peer.old }
-        ensures begins { (stamp : ℕ) → (rest : List Sent) × (handed_to self.old stamp (node_of peer.old.own) ≡ taken_from peer.old (node_of self.old.own) ++ rest) }
+        ensures begins { (stamp : ℕ)
+            → (rest : List Sent) × (handed_to self.old stamp (node_of peer.old.own) ≡ taken_from peer.old (node_of self.old.own)
+            ++ rest) }
         ensures unchanged { self.new ≡ self.old }
         ensures peer { peer.new ≡ peer.old }
     {

@@ -1,5 +1,6 @@
 // The tree of sums as callers see it: a list of counts.
-ghost use Rattle.std.specs.Prelude.{◌≡◌, ℕ, ◌<◌, ◌≤◌, ◌↔◌, List, length, replicate, sum, slice_index, slice_set, nat_eq, IfOk, IfSome, IsSome};
+ghost use Rattle.std.specs.Prelude.{◌≡◌, ℕ, ◌<◌, ◌≤◌, ◌↔◌, List, length, replicate, sum, slice_index, slice_set, nat_eq, IfOk, IfSome};
+ghost use Rattle.std.specs.Prelude.{IsSome};
 ghost use Rattle.base_sums.specs.Falls.{FallsAt};
 
 use crate::blocks::{BLOCK, blocks_of, fall_in_counts, fall_in_sums};
@@ -12,8 +13,8 @@ pub const MAX_PLACES: usize = 65_536;
 
 /// A count for each of a fixed number of places. In a clause it is the list of the counts.
 ///
-/// All calls but `new` and `find` take constant time. `find` goes over one number for each 256 places, and over 32 more, at most. No call but
-/// `new` takes memory.
+/// All calls but `new` and `find` take constant time. `find` goes over one number for each 256 places, and over 32 more, at most. No call
+/// but `new` takes memory.
 #[derive(Debug, Drop)]
 pub struct SumTree {
     counts: Vec<u32>,

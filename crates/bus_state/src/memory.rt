@@ -1,4 +1,5 @@
-// The words of memory that aren't as they were loaded, each record appended to a list. Where memory runs out, the list holds a part of them.
+// The words of memory that aren't as they were loaded, each record appended to a list. Where memory runs out, the list holds a part of
+// them.
 ghost use Rattle.std.specs.Prelude.{◌≡◌, ◌+◌, ◌*◌, ◌/◌, ◌^◌, ◌<◌, ◌++◌, ◌==◌, ◌∷◌, [], OnOk, map, if◌then◌else◌};
 ghost use Rattle.std.specs.List.{flat_map};
 ghost use Rattle.rv_code.specs.Machine.{first_ram};

@@ -72,7 +72,8 @@ impl BusBank {
     /// Whether an execution would make the core wait to go on alone.
     pub fn overflows(&self, core: CoreId) -> bool
         requires { core.0 < self.now.code.settings.cores }
-        ensures { result ≡ goes_alone (core_exec self.now.code.settings (program (started self.now.code)) core.0 (cores_of self.now core.0)) }
+        ensures { result ≡ goes_alone
+            (core_exec self.now.code.settings (program (started self.now.code)) core.0 (cores_of self.now core.0)) }
     {
         self.core(core).overflows(&self.code)
     }
@@ -109,8 +110,12 @@ impl BusBank {
         requires short { (cores_of self.old core.0).n < 4194304 }
         requires executes { executes (cores_of self.old core.0).phase ≡ true }
         requires idle { (cores_of self.old core.0).awaited ≡ None }
-        ensures does { IfOk result (λ alone. ExecutedAt alone tid.0 (instruction self.old.code.settings (program (started self.old.code)) (word_in ram.now) core.0 (cores_of self.old core.0)) core.0 self.old self.new) }
-        ensures blocked { IsBlocked result (instruction self.old.code.settings (program (started self.old.code)) (word_in ram.now) core.0 (cores_of self.old core.0)) }
+        ensures does { IfOk result
+            (λ alone. ExecutedAt alone tid.0
+            (instruction self.old.code.settings (program (started self.old.code)) (word_in ram.now) core.0
+            (cores_of self.old core.0)) core.0 self.old self.new) }
+        ensures blocked { IsBlocked result
+            (instruction self.old.code.settings (program (started self.old.code)) (word_in ram.now) core.0 (cores_of self.old core.0)) }
         ensures code { self.new.code ≡ self.old.code }
         ensures unchanged { OnErr result (cores_of self.new ≡ cores_of self.old) }
     {
@@ -144,8 +149,13 @@ impl BusBank {
         requires idle { (cores_of self.old core.0).awaited ≡ None }
         requires commits { CommitsBy (program (started self.old.code)) tid.0 (cores_of self.old core.0) (cores_of self.old core.0).phase }
         requires can { CanCommit self.old.code.settings (cores_of self.old core.0) }
-        ensures does { OnOk result (cores_of self.new ≡ put (cores_of self.old) core.0 (all_clean (commit_out self.old.code.settings core.0 tid.0 (at_commit (program (started self.old.code)) (cores_of self.old core.0))).core)) }
-        ensures wrote { IfOk result (λ w. IsCommitOf self.old.code.settings core.0 tid.0 (at_commit (program (started self.old.code)) (cores_of self.old core.0)) w) }
+        ensures does { OnOk result
+            (cores_of self.new ≡ put (cores_of self.old) core.0
+            (all_clean (commit_out self.old.code.settings core.0 tid.0
+            (at_commit (program (started self.old.code)) (cores_of self.old core.0))).core)) }
+        ensures wrote { IfOk result
+            (λ w. IsCommitOf self.old.code.settings core.0 tid.0
+            (at_commit (program (started self.old.code)) (cores_of self.old core.0)) w) }
         ensures cause { OnErr result (IsMemory result) }
         ensures code { self.new.code ≡ self.old.code }
         ensures unchanged { OnErr result (cores_of self.new ≡ cores_of self.old) }

@@ -20,8 +20,11 @@ impl Engine {
     pub(crate) fn publish(&mut self, core: CoreId) -> Result<BusStep, BusError>
         requires few { self.old.events < 4194304 }
         requires exists { core.0 < (bus_settings_of self.old).cores }
-        requires may { let s = (bus_world_of self.old).cores core.0 in CommitsBy (bus_program_of self.old) (bus_world_of self.old).next s s.phase }
-        requires commits { bus_step_of self.old (Exec core.0) ≡ Some (bus_commit (bus_settings_of self.old) (bus_world_of self.old) core.0 (at_commit (bus_program_of self.old) ((bus_world_of self.old).cores core.0))) }
+        requires may { let s = (bus_world_of self.old).cores core.0 in
+            CommitsBy (bus_program_of self.old) (bus_world_of self.old).next s s.phase }
+        requires commits { bus_step_of self.old (Exec core.0) ≡ Some
+            (bus_commit (bus_settings_of self.old) (bus_world_of self.old) core.0
+            (at_commit (bus_program_of self.old) ((bus_world_of self.old).cores core.0))) }
         ensures { Answers self.old self.new (Exec core.0) result }
     {
         let cores = self.config().cores();

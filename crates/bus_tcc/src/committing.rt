@@ -37,8 +37,11 @@ pub(crate) fn commit_one(
     requires idle { (core_of core.old).awaited ≡ None }
     requires commits { CommitsBy (program (started code.now)) tid.0 (core_of core.old) (core_of core.old).phase }
     requires can { CanCommit core.old.config (core_of core.old) }
-    ensures does { OnOk result (core_of core.new ≡ all_clean (commit_out core.old.config core.old.id.0 tid.0 (at_commit (program (started code.now)) (core_of core.old))).core) }
-    ensures wrote { IfOk result (λ w. IsCommitOf core.old.config core.old.id.0 tid.0 (at_commit (program (started code.now)) (core_of core.old)) w) }
+    ensures does { OnOk result
+        (core_of core.new ≡ all_clean
+        (commit_out core.old.config core.old.id.0 tid.0 (at_commit (program (started code.now)) (core_of core.old))).core) }
+    ensures wrote { IfOk result
+        (λ w. IsCommitOf core.old.config core.old.id.0 tid.0 (at_commit (program (started code.now)) (core_of core.old)) w) }
     ensures cause { OnErr result (IsMemory result) }
     ensures config { core.new.config ≡ core.old.config }
     ensures id { core.new.id ≡ core.old.id }

@@ -51,9 +51,12 @@ impl Counts {
     pub(crate) fn renew(&mut self, core: CoreId, bank: &BusBank)
         requires exists { core.0 < bank.now.code.settings.cores }
         requires places { HavePlaces bank.now.code.settings self.old }
-        ensures free { self.new.free ≡ slice_set self.old.free core.0 (count_of bank.now.code.settings (program (started bank.now.code)) true core.0 (cores_of bank.now core.0)) }
-        ensures taken { self.new.taken ≡ slice_set self.old.taken core.0 (count_of bank.now.code.settings (program (started bank.now.code)) false core.0 (cores_of bank.now core.0)) }
-        ensures ways { self.new.ways ≡ slice_set self.old.ways core.0 (ways_of bank.now.code.settings (program (started bank.now.code)) (cores_of bank.now core.0)) }
+        ensures free { self.new.free ≡ slice_set self.old.free core.0
+            (count_of bank.now.code.settings (program (started bank.now.code)) true core.0 (cores_of bank.now core.0)) }
+        ensures taken { self.new.taken ≡ slice_set self.old.taken core.0
+            (count_of bank.now.code.settings (program (started bank.now.code)) false core.0 (cores_of bank.now core.0)) }
+        ensures ways { self.new.ways ≡ slice_set self.old.ways core.0
+            (ways_of bank.now.code.settings (program (started bank.now.code)) (cores_of bank.now core.0)) }
     {
         let node = bank.core(core);
         let place = core.0 as usize;

@@ -45,8 +45,12 @@ fn execute_end(
     requires idle { (core_of core.old).awaited ≡ None }
     requires alone { is_solo (core_of core.old).phase ≡ true }
     requires commits { CommitsBy (program (started code.now)) tid.0 (core_of core.old) (core_of core.old).phase }
-    ensures does { OnOk result (core_of core.new ≡ (commit_out core.old.config core.old.id.0 tid.0 (at_commit (program (started code.now)) (core_of core.old))).core) }
-    ensures noted { IfOk result (λ c. Some c ≡ (commit_out core.old.config core.old.id.0 tid.0 (at_commit (program (started code.now)) (core_of core.old))).commit) }
+    ensures does { OnOk result
+        (core_of core.new ≡ (commit_out core.old.config core.old.id.0 tid.0
+        (at_commit (program (started code.now)) (core_of core.old))).core) }
+    ensures noted { IfOk result
+        (λ c. Some c ≡ (commit_out core.old.config core.old.id.0 tid.0
+        (at_commit (program (started code.now)) (core_of core.old))).commit) }
     ensures cause { OnErr result (IsMemory result) }
     ensures config { core.new.config ≡ core.old.config }
     ensures id { core.new.id ≡ core.old.id }
@@ -72,8 +76,12 @@ pub(crate) fn end(
     requires same { code.now.settings ≡ core.old.config }
     requires idle { (core_of core.old).awaited ≡ None }
     requires commits { CommitsBy (program (started code.now)) tid.0 (core_of core.old) (core_of core.old).phase }
-    ensures does { OnOk result (core_of core.new ≡ (commit_out core.old.config core.old.id.0 tid.0 (at_commit (program (started code.now)) (core_of core.old))).core) }
-    ensures noted { IfOk result (λ c. Some c ≡ (commit_out core.old.config core.old.id.0 tid.0 (at_commit (program (started code.now)) (core_of core.old))).commit) }
+    ensures does { OnOk result
+        (core_of core.new ≡ (commit_out core.old.config core.old.id.0 tid.0
+        (at_commit (program (started code.now)) (core_of core.old))).core) }
+    ensures noted { IfOk result
+        (λ c. Some c ≡ (commit_out core.old.config core.old.id.0 tid.0
+        (at_commit (program (started code.now)) (core_of core.old))).commit) }
     ensures cause { OnErr result (IsMemory result) }
     ensures config { core.new.config ≡ core.old.config }
     ensures id { core.new.id ≡ core.old.id }

@@ -35,7 +35,9 @@ impl Engine {
     /// Whether a core would take the bus, and that isn't free.
     fn is_barred(&self, core: CoreId) -> bool
         requires { core.0 < (bus_settings_of self.now).cores }
-        ensures { result ≡ (not (is_free (bus_world_of self.now).bus) && goes_alone (core_exec (bus_settings_of self.now) (bus_program_of self.now) core.0 ((bus_world_of self.now).cores core.0))) }
+        ensures { result ≡ (not (is_free (bus_world_of self.now).bus)
+            && goes_alone (core_exec (bus_settings_of self.now) (bus_program_of self.now) core.0
+            ((bus_world_of self.now).cores core.0))) }
     {
         is_barred_by(self.bus.is_free(), self.cores.overflows(core))
     }
@@ -45,7 +47,9 @@ impl Engine {
         requires few { self.old.events < 4194304 }
         requires exists { core.0 < (bus_settings_of self.old).cores }
         requires executes { executes ((bus_world_of self.old).cores core.0).phase ≡ true }
-        requires goes_on { bus_step_of self.old (Exec core.0) ≡ goes_on (bus_world_of self.old) core.0 (instruction (bus_settings_of self.old) (bus_program_of self.old) (bus_world_of self.old).ram core.0 ((bus_world_of self.old).cores core.0)) }
+        requires goes_on { bus_step_of self.old (Exec core.0) ≡ goes_on (bus_world_of self.old) core.0
+            (instruction (bus_settings_of self.old) (bus_program_of self.old) (bus_world_of self.old).ram core.0
+            ((bus_world_of self.old).cores core.0)) }
         ensures { Answers self.old self.new (Exec core.0) result }
     {
         if self.is_barred(core) {

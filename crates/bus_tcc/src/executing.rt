@@ -61,8 +61,12 @@ pub(crate) fn execute_one(
     requires same { code.now.settings ≡ core.old.config }
     requires executes { executes (core_of core.old).phase ≡ true }
     requires idle { (core_of core.old).awaited ≡ None }
-    ensures does { IfOk result (λ alone. Executed alone tid.0 (instruction core.old.config (program (started code.now)) (word_in ram.now) core.old.id.0 (core_of core.old)) (core_of core.new)) }
-    ensures blocked { IsBlocked result (instruction core.old.config (program (started code.now)) (word_in ram.now) core.old.id.0 (core_of core.old)) }
+    ensures does { IfOk result
+        (λ alone. Executed alone tid.0
+        (instruction core.old.config (program (started code.now)) (word_in ram.now) core.old.id.0 (core_of core.old))
+        (core_of core.new)) }
+    ensures blocked { IsBlocked result
+        (instruction core.old.config (program (started code.now)) (word_in ram.now) core.old.id.0 (core_of core.old)) }
     ensures config { core.new.config ≡ core.old.config }
     ensures id { core.new.id ≡ core.old.id }
     ensures unchanged { OnErr result (core_of core.new ≡ core_of core.old) }

@@ -24,7 +24,8 @@ fn others(core: CoreId, cores: u8) -> CoreSet
 pub(crate) fn bus_with(lines: List<Tagged>, core: CoreId, cores: u8) -> Bus
     requires exists { core.0 < 64 }
     requires few { cores ≤ 64 }
-    ensures bus { bus_of result ≡ (if not (length lines == 0) && any_below (all_but core.0 cores) cores then OnBus (words_in lines) (all_but core.0 cores) else Free) }
+    ensures bus { bus_of result ≡ (if not (length lines == 0) && any_below (all_but core.0 cores) cores
+        then OnBus (words_in lines) (all_but core.0 cores) else Free) }
     ensures lines { lines_on result ≡ (if is_free (bus_of result) then [] else lines) }
 {
     let left = others(core, cores);

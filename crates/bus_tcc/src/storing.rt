@@ -31,7 +31,9 @@ fn store_if(ram: &mut [u32], at: usize, does: bool, word: u32)
 fn store_line(ram: &mut [u32], line: &Tagged)
     requires { 8 * line.now.line.0 + 8 ≤ length ram.old }
     ensures count { length ram.new ≡ length ram.old }
-    ensures words { (w : ℕ) → get_or ram.new w 0 ≡ (if hit line.now.line.0 line.now.mask.0 w then get_or line.now.words (place_of w) 0 else get_or ram.old w 0) }
+    ensures words { (w : ℕ)
+        → get_or ram.new w 0 ≡ (if hit line.now.line.0 line.now.mask.0 w then get_or line.now.words (place_of w) 0
+        else get_or ram.old w 0) }
 {
     let first = 8 * line.line.0 as usize;
     for k in 0..8 {

@@ -85,8 +85,8 @@ impl BusSystem {
     /// Takes an event: Refused exactly where it isn't enabled, so also where it names a core, set or way that doesn't exist; Memory
     /// where it is, but memory is wanting. After an error the machine is as before. Fewer than 4,194,304 events were taken before it.
     ///
-    /// Takes constant time, but for a commit, which takes time in the lines that it writes and in the cache's frames, a core that goes alone or
-    /// begins anew, which takes time in the cache's frames, and a Take, which takes time in the packet's lines.
+    /// Takes constant time, but for a commit, which takes time in the lines that it writes and in the cache's frames, a core that goes
+    /// alone or begins anew, which takes time in the cache's frames, and a Take, which takes time in the packet's lines.
     pub fn step(&mut self, event: BusEvent) -> Result<BusStep, BusError>
         requires { self.old.events < 4194304 }
         ensures { Answers self.old self.new (bus_event_of event) result }

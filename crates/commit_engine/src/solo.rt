@@ -148,7 +148,8 @@ fn send_backs(
     out: &mut Outgoing,
 )
     requires { HasRoom out.old (length marks.now) }
-    ensures { Sent out.old out.new (at_homes cfg.now (spilled_back (words_of spilled.now) tid.0) (map mark_of marks.now)) (length marks.now) }
+    ensures { Sent out.old out.new (at_homes cfg.now (spilled_back (words_of spilled.now) tid.0) (map mark_of marks.now))
+        (length marks.now) }
 {
     for (line, _) in marks {
         if spilled.holds(*line) {
@@ -177,7 +178,8 @@ pub fn send_solo(
 )
     requires marks { map mark_of marks.now ≡ solo_list cfg.now (maps cache.now) (words_of spilled.now) }
     requires room { HasRoom out.old (2 * length marks.now + cfg.now.dirs) }
-    ensures { Sent out.old out.new (solo_sends cfg.now (maps cache.now) (words_of spilled.now) tid.0) (2 * length marks.now + cfg.now.dirs) }
+    ensures { Sent out.old out.new (solo_sends cfg.now (maps cache.now) (words_of spilled.now) tid.0)
+        (2 * length marks.now + cfg.now.dirs) }
 {
     mark_all(cfg, marks, tid, out);
     close_all(cfg, marks, tid, out);

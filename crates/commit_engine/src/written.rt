@@ -26,7 +26,8 @@ fn add_lines(lines: &mut Vec<u32>, marks: &[(LineAddr, Mask)]) -> Result<(), NoM
 /// The lines that have modified or spilled words, in no order.
 fn gather(cfg: &Config, cache: &SpecCache, spilled: &OverflowBuf) -> Result<Vec<u32>, NoMemory>
     requires { cache.now.config ≡ cfg.now }
-    ensures each { IfOk result (λ v. (l : ℕ) → l < ram_lines cfg.now → is_written (maps cache.now) (words_of spilled.now) l ≡ true → Contains v.items l) }
+    ensures each { IfOk result (λ v. (l : ℕ) → l < ram_lines cfg.now → is_written (maps cache.now) (words_of spilled.now) l ≡ true
+        → Contains v.items l) }
     ensures only { IfOk result (λ v. (l : ℕ) → Contains v.items l → is_written (maps cache.now) (words_of spilled.now) l ≡ true) }
 {
     let mut lines = spilled.lines()?;
@@ -55,7 +56,8 @@ pub(crate) fn written_lines(
 ) -> Result<Vec<u32>, NoMemory>
     requires { cache.now.config ≡ cfg.now }
     ensures rising { IfOk result (λ v. AllPairs (λ a b. a < b) v.items) }
-    ensures each { IfOk result (λ v. (l : ℕ) → l < ram_lines cfg.now → is_written (maps cache.now) (words_of spilled.now) l ≡ true → Contains v.items l) }
+    ensures each { IfOk result (λ v. (l : ℕ) → l < ram_lines cfg.now → is_written (maps cache.now) (words_of spilled.now) l ≡ true
+        → Contains v.items l) }
     ensures only { IfOk result (λ v. (l : ℕ) → Contains v.items l → is_written (maps cache.now) (words_of spilled.now) l ≡ true) }
 {
     let mut lines = gather(cfg, cache, spilled)?;

@@ -189,7 +189,8 @@ fn load_with_line(
     requires goes_on { GoesOn (need_of need) }
     requires exists { line_of w.0 < lines core.old.config }
     requires fills { word_fills core.old.config w.0 (core_of core.old) ≡ true }
-    ensures does { OnOk result (core_of core.new ≡ finished (alone inst.now) (need_of need) (word_lined words.now w.0 (core_of core.old)) (with_read_mark w.0 (lined core.old.config (line_of w.0) words.now (core_of core.old)))) }
+    ensures does { OnOk result (core_of core.new ≡ finished (alone inst.now) (need_of need) (word_lined words.now w.0 (core_of core.old))
+        (with_read_mark w.0 (lined core.old.config (line_of w.0) words.now (core_of core.old)))) }
     ensures cause { OnErr result (IsMemory result) }
     ensures stays { Stays core.old core.new }
     ensures unchanged { OnErr result (core.new ≡ core.old) }
@@ -219,7 +220,8 @@ fn change_with_line(
     requires exists { line_of w.0 < lines core.old.config }
     requires fills { word_fills core.old.config w.0 (core_of core.old) ≡ true }
     requires room { HasRoom out.old 1 }
-    ensures does { OnOk result (core_of core.new ≡ changed (alone inst.now) (need_of need) w.0 (word_lined words.now w.0 (core_of core.old)) (lined core.old.config (line_of w.0) words.now (core_of core.old))) }
+    ensures does { OnOk result (core_of core.new ≡ changed (alone inst.now) (need_of need) w.0 (word_lined words.now w.0 (core_of core.old))
+        (lined core.old.config (line_of w.0) words.now (core_of core.old))) }
     ensures cause { OnErr result (IsMemory result) }
     ensures stays { Stays core.old core.new }
     ensures unchanged { OnErr result (core_of core.new ≡ core_of core.old) }
@@ -255,7 +257,9 @@ fn execute_with_line(
     requires served { IsServed core.old.config.base core.old.config.ram need }
     requires exists { line_of w.0 < lines core.old.config }
     requires fills { need_fills core.old.config (core_of core.old) (need_of need) ≡ Some w.0 }
-    ensures does { OnOk result (Leaves (execute_need core.old.config (alone inst.now) core.old.id.0 (lined core.old.config (line_of w.0) words.now (core_of core.old)) (need_of need)) (core_of core.new)) }
+    ensures does { OnOk result
+        (Leaves (execute_need core.old.config (alone inst.now) core.old.id.0
+        (lined core.old.config (line_of w.0) words.now (core_of core.old)) (need_of need)) (core_of core.new)) }
     ensures cause { OnErr result (IsMemory result) }
     ensures stays { Stays core.old core.new }
     ensures unchanged { OnErr result (core_of core.new ≡ core_of core.old) }
@@ -274,7 +278,8 @@ fn exec_plainly(core: &mut Core, code: &Code, out: &mut Outgoing) -> Result<(), 
     requires whole { IsCore core.old }
     requires counts { core.old.n < 2 ^ 32 - 1 }
     requires same { code.now.settings ≡ core.old.config }
-    ensures does { OnOk result (Leaves (core_exec core.old.config (program (started code.now)) core.old.id.0 (core_of core.old)) (core_of core.new)) }
+    ensures does { OnOk result
+        (Leaves (core_exec core.old.config (program (started code.now)) core.old.id.0 (core_of core.old)) (core_of core.new)) }
     ensures blocked { IsBlocked result (core_exec core.old.config (program (started code.now)) core.old.id.0 (core_of core.old)) }
     ensures stays { Stays core.old core.new }
     ensures unchanged { OnErr result (core_of core.new ≡ core_of core.old) }
@@ -297,8 +302,12 @@ pub(crate) fn exec_from(
     requires same { code.now.settings ≡ core.old.config }
     requires executes { executes (phase_of core.old.phase) ≡ true }
     requires idle { core.old.awaited ≡ None }
-    ensures does { OnOk result (Leaves (core_exec core.old.config (program (started code.now)) core.old.id.0 (ready core.old.config (program (started code.now)) (line_of_list ram.now) (core_of core.old))) (core_of core.new)) }
-    ensures blocked { IsBlocked result (core_exec core.old.config (program (started code.now)) core.old.id.0 (ready core.old.config (program (started code.now)) (line_of_list ram.now) (core_of core.old))) }
+    ensures does { OnOk result
+        (Leaves (core_exec core.old.config (program (started code.now)) core.old.id.0
+        (ready core.old.config (program (started code.now)) (line_of_list ram.now) (core_of core.old))) (core_of core.new)) }
+    ensures blocked { IsBlocked result
+        (core_exec core.old.config (program (started code.now)) core.old.id.0
+        (ready core.old.config (program (started code.now)) (line_of_list ram.now) (core_of core.old))) }
     ensures stays { Stays core.old core.new }
     ensures unchanged { OnErr result (core_of core.new ≡ core_of core.old) }
 {

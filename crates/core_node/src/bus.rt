@@ -141,8 +141,12 @@ impl CoreNode {
         requires same { code.now.settings ≡ self.old.config }
         requires executes { executes (core_of self.old).phase ≡ true }
         requires idle { (core_of self.old).awaited ≡ None }
-        ensures does { OnOk result (Leaves (core_exec self.old.config (program (started code.now)) self.old.id.0 (ready self.old.config (program (started code.now)) (line_at ram.now) (core_of self.old))) (core_of self.new)) }
-        ensures blocked { IsBlocked result (core_exec self.old.config (program (started code.now)) self.old.id.0 (ready self.old.config (program (started code.now)) (line_at ram.now) (core_of self.old))) }
+        ensures does { OnOk result
+            (Leaves (core_exec self.old.config (program (started code.now)) self.old.id.0
+            (ready self.old.config (program (started code.now)) (line_at ram.now) (core_of self.old))) (core_of self.new)) }
+        ensures blocked { IsBlocked result
+            (core_exec self.old.config (program (started code.now)) self.old.id.0
+            (ready self.old.config (program (started code.now)) (line_at ram.now) (core_of self.old))) }
         ensures stays { Stays self.old self.new }
         ensures unchanged { OnErr result (core_of self.new ≡ core_of self.old) }
     {

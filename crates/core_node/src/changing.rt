@@ -5,7 +5,8 @@ ghost use Rattle.rules_maps.specs.Shape.{lines, set_of};
 ghost use Rattle.rules_maps.specs.Spilled.{holds};
 ghost use Rattle.rules_maps.specs.Words.{line_of};
 ghost use Rattle.rules_tcc.specs.Attempt.{moves, finished, new_word as word_after};
-ghost use Rattle.rules_tcc.specs.Execute.{marks_read, place as placed_in, stored_in_frame, stored_in_buffer, change_valid as valid_rule, partial_store as partial_rule, word_store as word_rule};
+ghost use Rattle.rules_tcc.specs.Execute.{marks_read, place as placed_in, stored_in_frame, stored_in_buffer, change_valid as valid_rule};
+ghost use Rattle.rules_tcc.specs.Execute.{partial_store as partial_rule, word_store as word_rule};
 ghost use Rattle.rules_tcc.specs.Sends.{flush_line};
 ghost use Rattle.rv_exec.specs.Needs.{need_of};
 ghost use Rattle.rv_plain.specs.Attempts.{alone};
@@ -65,7 +66,8 @@ pub(crate) fn finish_buffered(
     requires counts { core.old.n < 2 ^ 32 - 1 }
     requires goes_on { GoesOn (need_of need) }
     requires exists { line_of w.0 < lines core.old.config }
-    ensures does { OnOk result (core_of core.new ≡ finished (alone inst.now) (need_of need) word (stored_in_buffer w.0 value (core_of core.old))) }
+    ensures does { OnOk result
+        (core_of core.new ≡ finished (alone inst.now) (need_of need) word (stored_in_buffer w.0 value (core_of core.old))) }
     ensures cause { OnErr result (IsMemory result) }
     ensures stays { Stays core.old core.new }
     ensures unchanged { OnErr result (core_of core.new ≡ core_of core.old) }
@@ -97,7 +99,9 @@ fn finish_framed(
     requires goes_on { GoesOn (need_of need) }
     requires held { (maps core.old.cache).held (line_of w.0) ≡ true }
     requires room { HasRoom out.old 1 }
-    ensures does { OnOk result (Did (moves (finished (alone inst.now) (need_of need) word (stored_in_frame w.0 value also (core_of core.old))) (flush_line core.old.config (maps core.old.cache) (line_of w.0))) 1 out.old core.new out.new) }
+    ensures does { OnOk result
+        (Did (moves (finished (alone inst.now) (need_of need) word (stored_in_frame w.0 value also (core_of core.old)))
+        (flush_line core.old.config (maps core.old.cache) (line_of w.0))) 1 out.old core.new out.new) }
     ensures cause { OnErr result (IsMemory result) }
     ensures stays { Stays core.old core.new }
     ensures unchanged { OnErr result (core.new ≡ core.old) }
@@ -138,7 +142,9 @@ fn finish_placed(
     requires exists { line_of w.0 < lines core.old.config }
     requires absent { (maps core.old.cache).held (line_of w.0) ≡ false }
     requires free { is_some (free_way core.old.config (maps core.old.cache) (set_of core.old.config (line_of w.0))) ≡ true }
-    ensures does { OnOk result (core_of core.new ≡ finished (alone inst.now) (need_of need) value (stored_in_frame w.0 value false (placed_in core.old.config (line_of w.0) (core_of core.old)))) }
+    ensures does { OnOk result
+        (core_of core.new ≡ finished (alone inst.now) (need_of need) value
+        (stored_in_frame w.0 value false (placed_in core.old.config (line_of w.0) (core_of core.old)))) }
     ensures cause { OnErr result (IsMemory result) }
     ensures stays { Stays core.old core.new }
     ensures unchanged { OnErr result (core.new ≡ core.old) }
@@ -165,7 +171,8 @@ pub(crate) fn word_store(
     requires goes_on { GoesOn (need_of need) }
     requires exists { line_of w.0 < lines core.old.config }
     requires room { HasRoom out.old 1 }
-    ensures does { OnOk result (DidSome (word_rule core.old.config (alone inst.now) (need_of need) w.0 value (core_of core.old)) 1 out.old core.new out.new) }
+    ensures does { OnOk result
+        (DidSome (word_rule core.old.config (alone inst.now) (need_of need) w.0 value (core_of core.old)) 1 out.old core.new out.new) }
     ensures blocked { IsBlocked result (word_rule core.old.config (alone inst.now) (need_of need) w.0 value (core_of core.old)) }
     ensures stays { Stays core.old core.new }
     ensures unchanged { OnErr result (core_of core.new ≡ core_of core.old) }
@@ -206,7 +213,9 @@ fn change_valid(
     requires exists { line_of w.0 < lines core.old.config }
     requires held { (maps core.old.cache).held (line_of w.0) ≡ true }
     requires room { HasRoom out.old 1 }
-    ensures does { OnOk result (DidSome (valid_rule core.old.config (alone inst.now) (need_of need) w.0 (core_of core.old) (Some word)) 1 out.old core.new out.new) }
+    ensures does { OnOk result
+        (DidSome (valid_rule core.old.config (alone inst.now) (need_of need) w.0 (core_of core.old) (Some word)) 1 out.old core.new
+        out.new) }
     ensures blocked { IsBlocked result (valid_rule core.old.config (alone inst.now) (need_of need) w.0 (core_of core.old) (Some word)) }
     ensures stays { Stays core.old core.new }
     ensures unchanged { OnErr result (core_of core.new ≡ core_of core.old) }
@@ -234,7 +243,8 @@ pub(crate) fn partial_store(
     requires aligned { IsAligned need }
     requires exists { line_of w.0 < lines core.old.config }
     requires room { HasRoom out.old 1 }
-    ensures does { OnOk result (DidSome (partial_rule core.old.config (alone inst.now) (need_of need) w.0 (core_of core.old)) 1 out.old core.new out.new) }
+    ensures does { OnOk result
+        (DidSome (partial_rule core.old.config (alone inst.now) (need_of need) w.0 (core_of core.old)) 1 out.old core.new out.new) }
     ensures blocked { IsBlocked result (partial_rule core.old.config (alone inst.now) (need_of need) w.0 (core_of core.old)) }
     ensures stays { Stays core.old core.new }
     ensures unchanged { OnErr result (core_of core.new ≡ core_of core.old) }

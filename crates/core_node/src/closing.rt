@@ -91,8 +91,12 @@ fn close_alone(
 ) -> Result<Option<Commit>, CoreError>
     requires whole { IsCore core.old }
     requires room { core.old.n < 2 ^ 32 - 1 }
-    ensures does { OnOk result (HappenedAs (end_transaction core.old.config core.old.id.0 (phase_of (Phase.Solo tid)) (concluded state.now (outcome_of ended) (core_of core.old))) out.old core.new out.new) }
-    ensures noted { IfOk result (λ c. c ≡ (end_transaction core.old.config core.old.id.0 (phase_of (Phase.Solo tid)) (concluded state.now (outcome_of ended) (core_of core.old))).commit) }
+    ensures does { OnOk result
+        (HappenedAs (end_transaction core.old.config core.old.id.0 (phase_of (Phase.Solo tid))
+        (concluded state.now (outcome_of ended) (core_of core.old))) out.old core.new out.new) }
+    ensures noted { IfOk result
+        (λ c. c ≡ (end_transaction core.old.config core.old.id.0 (phase_of (Phase.Solo tid))
+        (concluded state.now (outcome_of ended) (core_of core.old))).commit) }
     ensures cause { OnErr result (IsMemory result) }
     ensures stays { Stays core.old core.new }
     ensures unchanged { OnErr result (core.new ≡ core.old) }
@@ -114,7 +118,9 @@ fn close_running(
 ) -> Result<Option<Commit>, CoreError>
     requires whole { IsCore core.old }
     requires room { core.old.n < 2 ^ 32 - 1 }
-    ensures does { OnOk result (HappenedAs (end_transaction core.old.config core.old.id.0 (phase_of Phase.Running) (concluded state.now (outcome_of ended) (core_of core.old))) out.old core.new out.new) }
+    ensures does { OnOk result
+        (HappenedAs (end_transaction core.old.config core.old.id.0 (phase_of Phase.Running)
+        (concluded state.now (outcome_of ended) (core_of core.old))) out.old core.new out.new) }
     ensures noted { IfOk result (λ c. c ≡ None) }
     ensures cause { OnErr result (IsMemory result) }
     ensures stays { Stays core.old core.new }
@@ -137,8 +143,12 @@ pub(crate) fn close(
 ) -> Result<Option<Commit>, CoreError>
     requires whole { IsCore core.old }
     requires room { core.old.n < 2 ^ 32 - 1 }
-    ensures does { OnOk result (HappenedAs (end_transaction core.old.config core.old.id.0 (phase_of core.old.phase) (concluded state.now (outcome_of ended) (core_of core.old))) out.old core.new out.new) }
-    ensures noted { IfOk result (λ c. c ≡ (end_transaction core.old.config core.old.id.0 (phase_of core.old.phase) (concluded state.now (outcome_of ended) (core_of core.old))).commit) }
+    ensures does { OnOk result
+        (HappenedAs (end_transaction core.old.config core.old.id.0 (phase_of core.old.phase)
+        (concluded state.now (outcome_of ended) (core_of core.old))) out.old core.new out.new) }
+    ensures noted { IfOk result
+        (λ c. c ≡ (end_transaction core.old.config core.old.id.0 (phase_of core.old.phase)
+        (concluded state.now (outcome_of ended) (core_of core.old))).commit) }
     ensures cause { OnErr result (IsMemory result) }
     ensures stays { Stays core.old core.new }
     ensures unchanged { OnErr result (core.new ≡ core.old) }
@@ -165,8 +175,12 @@ pub(crate) fn end(
 ) -> Result<Option<Commit>, CoreError>
     requires whole { IsCore core.old }
     requires room { core.old.n < 2 ^ 32 - 1 }
-    ensures does { OnOk result (HappenedAs (end_transaction core.old.config core.old.id.0 (phase_of core.old.phase) (finished (alone inst.now) Ends 0 (core_of core.old))) out.old core.new out.new) }
-    ensures noted { IfOk result (λ c. c ≡ (end_transaction core.old.config core.old.id.0 (phase_of core.old.phase) (finished (alone inst.now) Ends 0 (core_of core.old))).commit) }
+    ensures does { OnOk result
+        (HappenedAs (end_transaction core.old.config core.old.id.0 (phase_of core.old.phase)
+        (finished (alone inst.now) Ends 0 (core_of core.old))) out.old core.new out.new) }
+    ensures noted { IfOk result
+        (λ c. c ≡ (end_transaction core.old.config core.old.id.0 (phase_of core.old.phase)
+        (finished (alone inst.now) Ends 0 (core_of core.old))).commit) }
     ensures cause { OnErr result (IsMemory result) }
     ensures stays { Stays core.old core.new }
     ensures unchanged { OnErr result (core.new ≡ core.old) }
@@ -186,8 +200,12 @@ pub(crate) fn stop(
 ) -> Result<Option<Commit>, CoreError>
     requires whole { IsCore core.old }
     requires room { core.old.n < 2 ^ 32 - 1 }
-    ensures does { OnOk result (HappenedAs (end_transaction core.old.config core.old.id.0 (phase_of core.old.phase) (concluded (unreserved core.old.state) (outcome_of ended) (core_of core.old))) out.old core.new out.new) }
-    ensures noted { IfOk result (λ c. c ≡ (end_transaction core.old.config core.old.id.0 (phase_of core.old.phase) (concluded (unreserved core.old.state) (outcome_of ended) (core_of core.old))).commit) }
+    ensures does { OnOk result
+        (HappenedAs (end_transaction core.old.config core.old.id.0 (phase_of core.old.phase)
+        (concluded (unreserved core.old.state) (outcome_of ended) (core_of core.old))) out.old core.new out.new) }
+    ensures noted { IfOk result
+        (λ c. c ≡ (end_transaction core.old.config core.old.id.0 (phase_of core.old.phase)
+        (concluded (unreserved core.old.state) (outcome_of ended) (core_of core.old))).commit) }
     ensures cause { OnErr result (IsMemory result) }
     ensures stays { Stays core.old core.new }
     ensures unchanged { OnErr result (core.new ≡ core.old) }

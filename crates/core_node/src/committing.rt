@@ -124,7 +124,8 @@ pub(crate) fn solo_commit(
     requires whole { IsCore core.old }
     requires marks { map mark_of marks.now ≡ solo_list core.old.config (maps core.old.cache) (words_of core.old.spilled) }
     requires room { HasRoom out.old (2 * length marks.now + core.old.config.dirs) }
-    ensures does { Did (solo_rule core.old.config core.old.id.0 tid.0 (core_of core.old)) (2 * length marks.now + core.old.config.dirs) out.old core.new out.new }
+    ensures does { Did (solo_rule core.old.config core.old.id.0 tid.0 (core_of core.old))
+        (2 * length marks.now + core.old.config.dirs) out.old core.new out.new }
     ensures noted { Some result ≡ (solo_rule core.old.config core.old.id.0 tid.0 (core_of core.old)).commit }
     ensures stays { Stays core.old core.new }
 {

@@ -86,7 +86,8 @@ fn keep_modified(core: &mut Core, set: u16, way: u8) -> Result<(), CoreError>
     requires whole { IsCore core.old }
     requires set_exists { set < core.old.config.sets }
     requires way_exists { way < core.old.config.ways }
-    ensures kept { OnOk result ((l : ℕ) → (maps core.old.cache).at set way ≡ Some l → spilled core.new.spilled ≡ spill_line l (maps core.old.cache) (spilled core.old.spilled)) }
+    ensures kept { OnOk result ((l : ℕ) → (maps core.old.cache).at set way ≡ Some l
+        → spilled core.new.spilled ≡ spill_line l (maps core.old.cache) (spilled core.old.spilled)) }
     ensures unchanged { OnErr result (core_of core.new ≡ core_of core.old) }
     ensures cause { OnErr result (IsMemory result) }
     ensures others { core.new ≡ record core.old { spilled = core.new.spilled } }
@@ -108,7 +109,8 @@ fn empty(core: &mut Core, set: u16, way: u8, out: &mut Outgoing)
     requires way_exists { way < core.old.config.ways }
     requires room { HasRoom out.old 1 }
     ensures maps { maps core.new.cache ≡ evicted set way (maps core.old.cache) }
-    ensures sent { IfSome ((maps core.old.cache).at set way) (λ l. Sent out.old out.new (write_back_line core.old.config (maps core.old.cache) l) 1) }
+    ensures sent { IfSome ((maps core.old.cache).at set way)
+        (λ l. Sent out.old out.new (write_back_line core.old.config (maps core.old.cache) l) 1) }
     ensures config { core.new.cache.config ≡ core.old.cache.config }
     ensures others { core.new ≡ record core.old { cache = core.new.cache } }
 {

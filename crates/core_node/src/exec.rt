@@ -38,8 +38,10 @@ fn exec_here(core: &mut Core, code: &Code, out: &mut Outgoing) -> Result<Option<
     requires whole { IsCore core.old }
     requires counts { core.old.n < 2 ^ 32 - 1 }
     requires same { code.now.settings ≡ core.old.config }
-    ensures does { OnOk result (Happened (execute_rule core.old.config (program (started code.now)) core.old.id.0 (core_of core.old)) out.old core.new out.new) }
-    ensures noted { IfOk result (λ c. Notes c (execute_rule core.old.config (program (started code.now)) core.old.id.0 (core_of core.old))) }
+    ensures does { OnOk result
+        (Happened (execute_rule core.old.config (program (started code.now)) core.old.id.0 (core_of core.old)) out.old core.new out.new) }
+    ensures noted { IfOk result
+        (λ c. Notes c (execute_rule core.old.config (program (started code.now)) core.old.id.0 (core_of core.old))) }
     ensures blocked { IsBlocked result (execute_rule core.old.config (program (started code.now)) core.old.id.0 (core_of core.old)) }
     ensures stays { Stays core.old core.new }
     ensures unchanged { OnErr result (core_of core.new ≡ core_of core.old) }
@@ -63,9 +65,14 @@ fn exec_unless_awaiting(
     requires whole { IsCore core.old }
     requires counts { core.old.n < 2 ^ 32 - 1 }
     requires same { code.now.settings ≡ core.old.config }
-    ensures does { OnOk result (Happened (unless_awaiting core.old.config (program (started code.now)) core.old.id.0 (core_of core.old) (awaited_of core.old.awaited)) out.old core.new out.new) }
-    ensures noted { IfOk result (λ c. Notes c (unless_awaiting core.old.config (program (started code.now)) core.old.id.0 (core_of core.old) (awaited_of core.old.awaited))) }
-    ensures blocked { IsBlocked result (unless_awaiting core.old.config (program (started code.now)) core.old.id.0 (core_of core.old) (awaited_of core.old.awaited)) }
+    ensures does { OnOk result
+        (Happened (unless_awaiting core.old.config (program (started code.now)) core.old.id.0 (core_of core.old)
+        (awaited_of core.old.awaited)) out.old core.new out.new) }
+    ensures noted { IfOk result
+        (λ c. Notes c (unless_awaiting core.old.config (program (started code.now)) core.old.id.0 (core_of core.old)
+        (awaited_of core.old.awaited))) }
+    ensures blocked { IsBlocked result
+        (unless_awaiting core.old.config (program (started code.now)) core.old.id.0 (core_of core.old) (awaited_of core.old.awaited)) }
     ensures stays { Stays core.old core.new }
     ensures unchanged { OnErr result (core_of core.new ≡ core_of core.old) }
     ensures unsent { OnErr result (out.new.list.items ≡ out.old.list.items) }
@@ -83,7 +90,8 @@ pub(crate) fn commit_ready(
     out: &mut Outgoing,
 ) -> Result<Option<Commit>, CoreError>
     requires whole { IsCore core.old }
-    ensures does { OnOk result (Happened (Some (commit_rule core.old.config core.old.id.0 tid.0 (core_of core.old))) out.old core.new out.new) }
+    ensures does { OnOk result
+        (Happened (Some (commit_rule core.old.config core.old.id.0 tid.0 (core_of core.old))) out.old core.new out.new) }
     ensures noted { IfOk result (λ c. Notes c (Some (commit_rule core.old.config core.old.id.0 tid.0 (core_of core.old)))) }
     ensures blocked { IsBlocked result (Some (commit_rule core.old.config core.old.id.0 tid.0 (core_of core.old))) }
     ensures stays { Stays core.old core.new }
@@ -100,7 +108,8 @@ fn exec_any(core: &mut Core, code: &Code, out: &mut Outgoing) -> Result<Option<C
     requires whole { IsCore core.old }
     requires counts { core.old.n < 2 ^ 32 - 1 }
     requires same { code.now.settings ≡ core.old.config }
-    ensures does { OnOk result (Happened (core_exec core.old.config (program (started code.now)) core.old.id.0 (core_of core.old)) out.old core.new out.new) }
+    ensures does { OnOk result
+        (Happened (core_exec core.old.config (program (started code.now)) core.old.id.0 (core_of core.old)) out.old core.new out.new) }
     ensures noted { IfOk result (λ c. Notes c (core_exec core.old.config (program (started code.now)) core.old.id.0 (core_of core.old))) }
     ensures blocked { IsBlocked result (core_exec core.old.config (program (started code.now)) core.old.id.0 (core_of core.old)) }
     ensures stays { Stays core.old core.new }
@@ -166,7 +175,8 @@ fn exec_left(core: &mut Core, code: &Code, out: &mut Outgoing) -> Result<Execute
     requires whole { IsCore core.old }
     requires counts { core.old.n < 2 ^ 32 - 1 }
     requires same { code.now.settings ≡ core.old.config }
-    ensures does { OnOk result (Happened (core_exec core.old.config (program (started code.now)) core.old.id.0 (core_of core.old)) out.old core.new out.new) }
+    ensures does { OnOk result
+        (Happened (core_exec core.old.config (program (started code.now)) core.old.id.0 (core_of core.old)) out.old core.new out.new) }
     ensures told { IfOk result (λ e. TellsOfEvent e
         (core_exec core.old.config (program (started code.now)) core.old.id.0 (core_of core.old))) }
     ensures blocked { IsBlocked result (core_exec core.old.config (program (started code.now)) core.old.id.0 (core_of core.old)) }
@@ -184,7 +194,8 @@ pub(crate) fn exec(core: &mut Core, code: &Code, out: &mut Outgoing) -> Result<E
     requires whole { IsCore core.old }
     requires counts { core.old.n < 2 ^ 32 - 1 }
     requires same { code.now.settings ≡ core.old.config }
-    ensures does { OnOk result (Happened (core_exec core.old.config (program (started code.now)) core.old.id.0 (core_of core.old)) out.old core.new out.new) }
+    ensures does { OnOk result
+        (Happened (core_exec core.old.config (program (started code.now)) core.old.id.0 (core_of core.old)) out.old core.new out.new) }
     ensures told { IfOk result (λ e. TellsOfEvent e
         (core_exec core.old.config (program (started code.now)) core.old.id.0 (core_of core.old))) }
     ensures blocked { IsBlocked result (core_exec core.old.config (program (started code.now)) core.old.id.0 (core_of core.old)) }

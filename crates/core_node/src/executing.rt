@@ -68,7 +68,8 @@ fn store(
     requires stores { need ≡ Need.Store addr size value }
     requires served { IsServed core.old.config.base core.old.config.ram need }
     requires room { HasRoom out.old 1 }
-    ensures does { OnOk result (DidSome (store_by_size core.old.config (alone inst.now) addr size value (core_of core.old)) 1 out.old core.new out.new) }
+    ensures does { OnOk result
+        (DidSome (store_by_size core.old.config (alone inst.now) addr size value (core_of core.old)) 1 out.old core.new out.new) }
     ensures blocked { IsBlocked result (store_by_size core.old.config (alone inst.now) addr size value (core_of core.old)) }
     ensures stays { Stays core.old core.new }
     ensures unchanged { OnErr result (core_of core.new ≡ core_of core.old) }
@@ -89,7 +90,9 @@ fn go_on(core: &mut Core, inst: &Inst, need: Need, out: &mut Outgoing) -> Result
     requires goes_on { GoesOn (need_of need) }
     requires served { IsServed core.old.config.base core.old.config.ram need }
     requires room { HasRoom out.old 1 }
-    ensures does { OnOk result (DidSome (need_rule core.old.config (alone inst.now) core.old.id.0 (core_of core.old) (need_of need)) 1 out.old core.new out.new) }
+    ensures does { OnOk result
+        (DidSome (need_rule core.old.config (alone inst.now) core.old.id.0 (core_of core.old) (need_of need)) 1 out.old core.new
+        out.new) }
     ensures blocked { IsBlocked result (need_rule core.old.config (alone inst.now) core.old.id.0 (core_of core.old) (need_of need)) }
     ensures stays { Stays core.old core.new }
     ensures unchanged { OnErr result (core_of core.new ≡ core_of core.old) }
@@ -107,7 +110,8 @@ fn go_on(core: &mut Core, inst: &Inst, need: Need, out: &mut Outgoing) -> Result
 fn error_of(core: &Core, need: Need) -> CoreError
     requires whole { IsCore core.now }
     requires served { IsServed core.now.config.base core.now.config.ram need }
-    ensures { result ≡ (if is_some (room_for_need core.now.config (core_of core.now) (need_of need)) then CoreError.Blocked else CoreError.Memory) }
+    ensures { result ≡ (if is_some (room_for_need core.now.config (core_of core.now) (need_of need)) then CoreError.Blocked
+        else CoreError.Memory) }
 {
     match room_at_need(core, need) {
         Some(_) => CoreError::Blocked,
@@ -126,8 +130,10 @@ fn proceed(
     requires counts { core.old.n < 2 ^ 32 - 1 }
     requires goes_on { GoesOn (need_of need) }
     requires served { IsServed core.old.config.base core.old.config.ram need }
-    ensures does { OnOk result (Happened (need_rule core.old.config (alone inst.now) core.old.id.0 (core_of core.old) (need_of need)) out.old core.new out.new) }
-    ensures noted { IfOk result (λ c. Notes c (need_rule core.old.config (alone inst.now) core.old.id.0 (core_of core.old) (need_of need))) }
+    ensures does { OnOk result
+        (Happened (need_rule core.old.config (alone inst.now) core.old.id.0 (core_of core.old) (need_of need)) out.old core.new out.new) }
+    ensures noted { IfOk result
+        (λ c. Notes c (need_rule core.old.config (alone inst.now) core.old.id.0 (core_of core.old) (need_of need))) }
     ensures blocked { IsBlocked result (need_rule core.old.config (alone inst.now) core.old.id.0 (core_of core.old) (need_of need)) }
     ensures stays { Stays core.old core.new }
     ensures unchanged { OnErr result (core_of core.new ≡ core_of core.old) }
@@ -153,8 +159,10 @@ pub(crate) fn execute_need(
     requires whole { IsCore core.old }
     requires counts { core.old.n < 2 ^ 32 - 1 }
     requires served { IsServed core.old.config.base core.old.config.ram need }
-    ensures does { OnOk result (Happened (need_rule core.old.config (alone inst.now) core.old.id.0 (core_of core.old) (need_of need)) out.old core.new out.new) }
-    ensures noted { IfOk result (λ c. Notes c (need_rule core.old.config (alone inst.now) core.old.id.0 (core_of core.old) (need_of need))) }
+    ensures does { OnOk result
+        (Happened (need_rule core.old.config (alone inst.now) core.old.id.0 (core_of core.old) (need_of need)) out.old core.new out.new) }
+    ensures noted { IfOk result
+        (λ c. Notes c (need_rule core.old.config (alone inst.now) core.old.id.0 (core_of core.old) (need_of need))) }
     ensures blocked { IsBlocked result (need_rule core.old.config (alone inst.now) core.old.id.0 (core_of core.old) (need_of need)) }
     ensures stays { Stays core.old core.new }
     ensures unchanged { OnErr result (core_of core.new ≡ core_of core.old) }

@@ -27,7 +27,8 @@ use tcc_msg::Outgoing;
 fn probe_marked(core: &mut Core, tid: Tid, out: &mut Outgoing)
     requires whole { IsCore core.old }
     requires room { HasRoom out.old (2 * core.old.config.dirs) }
-    ensures does { Did (grant_in_phase core.old.config tid.0 (core_of core.old) AwaitTid) (2 * core.old.config.dirs) out.old core.new out.new }
+    ensures does { Did (grant_in_phase core.old.config tid.0 (core_of core.old) AwaitTid)
+        (2 * core.old.config.dirs) out.old core.new out.new }
     ensures stays { Stays core.old core.new }
 {
     let written = written_homes(&core.config, &core.cache);
@@ -55,7 +56,8 @@ fn awaiting(tid: Tid, probed: DirSet, dirs: u8) -> Phase
 fn skip_granted(core: &mut Core, tid: Tid, out: &mut Outgoing)
     requires whole { IsCore core.old }
     requires room { HasRoom out.old (2 * core.old.config.dirs) }
-    ensures does { Did (grant_in_phase core.old.config tid.0 (core_of core.old) DoomedTid) (2 * core.old.config.dirs) out.old core.new out.new }
+    ensures does { Did (grant_in_phase core.old.config tid.0 (core_of core.old) DoomedTid)
+        (2 * core.old.config.dirs) out.old core.new out.new }
     ensures stays { Stays core.old core.new }
 {
     send_skips(&core.config, tid, out);
@@ -67,7 +69,8 @@ fn skip_granted(core: &mut Core, tid: Tid, out: &mut Outgoing)
 fn probe_all(core: &mut Core, tid: Tid, out: &mut Outgoing)
     requires whole { IsCore core.old }
     requires room { HasRoom out.old (2 * core.old.config.dirs) }
-    ensures does { Did (grant_in_phase core.old.config tid.0 (core_of core.old) (Overflowing None)) (2 * core.old.config.dirs) out.old core.new out.new }
+    ensures does { Did (grant_in_phase core.old.config tid.0 (core_of core.old) (Overflowing None))
+        (2 * core.old.config.dirs) out.old core.new out.new }
     ensures stays { Stays core.old core.new }
 {
     send_probes(&core.config, tid, out);
@@ -79,7 +82,8 @@ fn probe_all(core: &mut Core, tid: Tid, out: &mut Outgoing)
 fn grant_room(core: &mut Core, own: Option<Tid>, tid: Tid, out: &mut Outgoing)
     requires whole { IsCore core.old }
     requires room { HasRoom out.old (2 * core.old.config.dirs) }
-    ensures does { Did (grant_in_phase core.old.config tid.0 (core_of core.old) (phase_of (Phase.Overflowing own))) (2 * core.old.config.dirs) out.old core.new out.new }
+    ensures does { Did (grant_in_phase core.old.config tid.0 (core_of core.old) (phase_of (Phase.Overflowing own)))
+        (2 * core.old.config.dirs) out.old core.new out.new }
     ensures stays { Stays core.old core.new }
 {
     match own {
@@ -93,7 +97,8 @@ fn grant_room(core: &mut Core, own: Option<Tid>, tid: Tid, out: &mut Outgoing)
 pub(crate) fn grant(core: &mut Core, tid: Tid, out: &mut Outgoing)
     requires whole { IsCore core.old }
     requires room { HasRoom out.old (2 * core.old.config.dirs) }
-    ensures does { Did (grant_in_phase core.old.config tid.0 (core_of core.old) (phase_of core.old.phase)) (2 * core.old.config.dirs) out.old core.new out.new }
+    ensures does { Did (grant_in_phase core.old.config tid.0 (core_of core.old) (phase_of core.old.phase))
+        (2 * core.old.config.dirs) out.old core.new out.new }
     ensures stays { Stays core.old core.new }
 {
     match core.phase {
@@ -115,7 +120,8 @@ fn mark_replied(core: &mut Core, d: DirId, tid: Tid, marks: &[(LineAddr, Mask)],
     requires exists { d.0 < core.old.config.dirs }
     requires marks { map mark_of marks.now ≡ marks_by_home core.old.config (maps core.old.cache) d.0 }
     requires room { HasRoom out.old (length marks.now) }
-    ensures does { Did (moves (ready_once_replied core.old.config tid.0 (replied d.0 (core_of core.old))) (to (Dir d.0) (marks_for core.old.config (maps core.old.cache) tid.0 d.0))) (length marks.now) out.old core.new out.new }
+    ensures does { Did (moves (ready_once_replied core.old.config tid.0 (replied d.0 (core_of core.old)))
+        (to (Dir d.0) (marks_for core.old.config (maps core.old.cache) tid.0 d.0))) (length marks.now) out.old core.new out.new }
     ensures stays { Stays core.old core.new }
 {
     let dirs = core.config.dirs();
@@ -166,7 +172,8 @@ fn reply_probing(
     requires exists { d.0 < core.old.config.dirs }
     requires marks { map mark_of marks.now ≡ marks_by_home core.old.config (maps core.old.cache) d.0 }
     requires room { HasRoom out.old (length marks.now) }
-    ensures does { Did (reply_in_phase core.old.config d.0 tid.0 (core_of core.old) (Probing own.0)) (length marks.now) out.old core.new out.new }
+    ensures does { Did (reply_in_phase core.old.config d.0 tid.0 (core_of core.old) (Probing own.0))
+        (length marks.now) out.old core.new out.new }
     ensures stays { Stays core.old core.new }
 {
     let _dirs = core.config.dirs();
@@ -180,7 +187,8 @@ fn reply_probing(
 fn reply_overflowing(core: &mut Core, own: Tid, d: DirId, tid: Tid)
     requires whole { IsCore core.old }
     requires exists { d.0 < core.old.config.dirs }
-    ensures does { reply_in_phase core.old.config d.0 tid.0 (core_of core.old) (Overflowing (Some own.0)) ≡ moves (core_of core.new) nothing }
+    ensures does { reply_in_phase core.old.config d.0 tid.0 (core_of core.old) (Overflowing (Some own.0)) ≡ moves
+        (core_of core.new) nothing }
     ensures stays { Stays core.old core.new }
 {
     let _dirs = core.config.dirs();
@@ -193,7 +201,8 @@ fn reply_overflowing(core: &mut Core, own: Tid, d: DirId, tid: Tid)
 fn reply_room(core: &mut Core, own: Option<Tid>, d: DirId, tid: Tid)
     requires whole { IsCore core.old }
     requires exists { d.0 < core.old.config.dirs }
-    ensures does { reply_in_phase core.old.config d.0 tid.0 (core_of core.old) (phase_of (Phase.Overflowing own)) ≡ moves (core_of core.new) nothing }
+    ensures does { reply_in_phase core.old.config d.0 tid.0 (core_of core.old) (phase_of (Phase.Overflowing own)) ≡ moves
+        (core_of core.new) nothing }
     ensures stays { Stays core.old core.new }
 {
     match own {
@@ -215,7 +224,8 @@ pub(crate) fn reply(
     requires exists { d.0 < core.old.config.dirs }
     requires marks { map mark_of marks.now ≡ marks_by_home core.old.config (maps core.old.cache) d.0 }
     requires room { HasRoom out.old (length marks.now) }
-    ensures does { Did (reply_in_phase core.old.config d.0 tid.0 (core_of core.old) (phase_of core.old.phase)) (length marks.now) out.old core.new out.new }
+    ensures does { Did (reply_in_phase core.old.config d.0 tid.0 (core_of core.old) (phase_of core.old.phase))
+        (length marks.now) out.old core.new out.new }
     ensures stays { Stays core.old core.new }
 {
     match core.phase {

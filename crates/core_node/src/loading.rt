@@ -34,7 +34,8 @@ pub(crate) fn load(
     requires goes_on { GoesOn (need_of need) }
     requires exists { line_of w.0 < lines core.old.config }
     requires room { HasRoom out.old 1 }
-    ensures does { OnOk result (DidSome (load_rule core.old.config (alone inst.now) (need_of need) w.0 (core_of core.old)) 1 out.old core.new out.new) }
+    ensures does { OnOk result
+        (DidSome (load_rule core.old.config (alone inst.now) (need_of need) w.0 (core_of core.old)) 1 out.old core.new out.new) }
     ensures blocked { IsBlocked result (load_rule core.old.config (alone inst.now) (need_of need) w.0 (core_of core.old)) }
     ensures stays { Stays core.old core.new }
     ensures unchanged { OnErr result (core.new ≡ core.old) }

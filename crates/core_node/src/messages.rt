@@ -2,7 +2,8 @@
 ghost use Rattle.std.specs.Prelude.{◌≡◌, ◌+◌, ◌&&◌};
 ghost use Rattle.rules_maps.specs.Cache.{Cache};
 ghost use Rattle.rules_maps.specs.CacheLook.{reads_masked};
-ghost use Rattle.rules_tcc.specs.CoreDeliver.{fill as fill_rule, data_request as data_request_rule, invalidate as invalidate_rule, may_be_above, staled as staled_by, words_invalidated, if_violated};
+ghost use Rattle.rules_tcc.specs.CoreDeliver.{fill as fill_rule, data_request as data_request_rule, invalidate as invalidate_rule};
+ghost use Rattle.rules_tcc.specs.CoreDeliver.{may_be_above, staled as staled_by, words_invalidated, if_violated};
 ghost use Rattle.spec_cache.specs.Held.{maps};
 ghost use Rattle.commit_engine.specs.Engine.{phase_of};
 ghost use Rattle.commit_engine.specs.Sent.{HasRoom};
@@ -129,7 +130,8 @@ fn both(read: bool, above: bool) -> bool
 pub(crate) fn invalidate(core: &mut Core, line: LineAddr, mask: Mask, tid: Tid, out: &mut Outgoing)
     requires whole { IsCore core.old }
     requires room { HasRoom out.old (core.old.config.dirs + 1) }
-    ensures does { Did (invalidate_rule core.old.config line.0 mask.0 tid.0 (core_of core.old)) (core.old.config.dirs + 1) out.old core.new out.new }
+    ensures does { Did (invalidate_rule core.old.config line.0 mask.0 tid.0 (core_of core.old))
+        (core.old.config.dirs + 1) out.old core.new out.new }
     ensures stays { Stays core.old core.new }
 {
     let read = strike(core, line, mask);

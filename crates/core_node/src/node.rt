@@ -98,7 +98,8 @@ impl CoreNode {
     #[tactic(auto, unfolding(rules_tcc::specs::CoreDeliver::core_deliver))]
     pub fn deliver(&mut self, src: NodeId, msg: &Msg, out: &mut Outgoing) -> Result<(), CoreError>
         requires { IsKnown self.old.config src }
-        ensures does { OnOk result (Happened (core_deliver self.old.config (core_of self.old) (node_of src) (msg_of msg.now)) out.old self.new out.new) }
+        ensures does { OnOk result
+            (Happened (core_deliver self.old.config (core_of self.old) (node_of src) (msg_of msg.now)) out.old self.new out.new) }
         ensures blocked { IsBlocked result (core_deliver self.old.config (core_of self.old) (node_of src) (msg_of msg.now)) }
         ensures stays { Stays self.old self.new }
         ensures unchanged { OnErr result (self.new ≡ self.old) }
@@ -119,7 +120,9 @@ impl CoreNode {
     pub fn exec(&mut self, code: &Code, out: &mut Outgoing) -> Result<Executed, CoreError>
         requires short { self.old.n < 4194304 }
         requires same { code.now.settings ≡ self.old.config }
-        ensures does { OnOk result (Happened (core_exec self.old.config (program (started code.now)) self.old.id.0 (core_of self.old)) out.old self.new out.new) }
+        ensures does { OnOk result
+            (Happened (core_exec self.old.config (program (started code.now)) self.old.id.0 (core_of self.old)) out.old self.new
+            out.new) }
         ensures told { IfOk result (λ e. TellsOfEvent e
             (core_exec self.old.config (program (started code.now)) self.old.id.0 (core_of self.old))) }
         ensures blocked { IsBlocked result (core_exec self.old.config (program (started code.now)) self.old.id.0 (core_of self.old)) }
@@ -209,7 +212,8 @@ impl CoreNode {
     pub fn frame(&self, set: u16, way: u8) -> Option<FrameView>
         requires set_exists { set < self.now.config.sets }
         requires way_exists { way < self.now.config.ways }
-        ensures { let c = (core_of self.now).cache in MatchOption result (c.at set way ≡ None) (λ f. (c.at set way ≡ Some f.line.0) × Views c f.line.0 f) }
+        ensures { let c = (core_of self.now).cache in
+            MatchOption result (c.at set way ≡ None) (λ f. (c.at set way ≡ Some f.line.0) × Views c f.line.0 f) }
     {
         self.core.cache.frame(set, way)
     }
@@ -217,7 +221,8 @@ impl CoreNode {
     /// The frame of a line; None exactly where it has none.
     #[tactic(auto, unfolding(crate::specs::View::core_of))]
     pub fn frame_of(&self, line: LineAddr) -> Option<FrameView>
-        ensures { let c = (core_of self.now).cache in MatchOption result (c.held line.0 ≡ false) (λ f. IsTrue (c.held line.0) × Views c line.0 f) }
+        ensures { let c = (core_of self.now).cache in
+            MatchOption result (c.held line.0 ≡ false) (λ f. IsTrue (c.held line.0) × Views c line.0 f) }
     {
         self.core.cache.frame_of(line)
     }

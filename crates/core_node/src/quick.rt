@@ -3,7 +3,8 @@ ghost use Rattle.std.specs.Prelude.{◌≡◌, ◌<◌, ◌-◌, ◌^◌, ◌&&�
 ghost use Rattle.rules_maps.specs.Shape.{lines};
 ghost use Rattle.rules_maps.specs.Words.{line_of};
 ghost use Rattle.rules_tcc.specs.CoreExec.{core_exec};
-ghost use Rattle.rules_tcc.specs.Execute.{load as load_rule, word_store as word_rule, partial_store as partial_rule, execute as execute_rule, execute_need as need_rule};
+ghost use Rattle.rules_tcc.specs.Execute.{load as load_rule, word_store as word_rule, partial_store as partial_rule};
+ghost use Rattle.rules_tcc.specs.Execute.{execute as execute_rule, execute_need as need_rule};
 ghost use Rattle.image_load.specs.Contents.{started};
 ghost use Rattle.rv_code.specs.Machine.{program};
 ghost use Rattle.rv_code.specs.Served.{IsServed};
@@ -37,7 +38,8 @@ fn load_quickly(core: &mut Core, inst: &Inst, addr: u32, size: Size, w: WordAddr
     requires whole { IsCore core.old }
     requires counts { core.old.n < 2 ^ 32 - 1 }
     requires exists { line_of w.0 < lines core.old.config }
-    ensures does { AtOnce result (load_rule core.old.config (alone inst.now) (need_of (Loads addr size)) w.0 (core_of core.old)) (core_of core.old) (core_of core.new) }
+    ensures does { AtOnce result (load_rule core.old.config (alone inst.now) (need_of (Loads addr size)) w.0 (core_of core.old))
+        (core_of core.old) (core_of core.new) }
     ensures phase { core.new.phase ≡ core.old.phase }
     ensures awaited { core.new.awaited ≡ core.old.awaited }
     ensures stays { Stays core.old core.new }
@@ -64,7 +66,9 @@ fn load_quickly(core: &mut Core, inst: &Inst, addr: u32, size: Size, w: WordAddr
 fn store_quickly(core: &mut Core, inst: &Inst, addr: u32, value: u32, w: WordAddr) -> bool
     requires whole { IsCore core.old }
     requires counts { core.old.n < 2 ^ 32 - 1 }
-    ensures does { AtOnce result (word_rule core.old.config (alone inst.now) (need_of (Stores addr Word value)) w.0 value (core_of core.old)) (core_of core.old) (core_of core.new) }
+    ensures does { AtOnce result
+        (word_rule core.old.config (alone inst.now) (need_of (Stores addr Word value)) w.0 value (core_of core.old)) (core_of core.old)
+        (core_of core.new) }
     ensures phase { core.new.phase ≡ core.old.phase }
     ensures awaited { core.new.awaited ≡ core.old.awaited }
     ensures stays { Stays core.old core.new }
@@ -107,7 +111,8 @@ fn part_quickly(
     requires whole { IsCore core.old }
     requires counts { core.old.n < 2 ^ 32 - 1 }
     requires aligned { IsAligned (Stores addr size value) }
-    ensures does { AtOnce result (partial_rule core.old.config (alone inst.now) (need_of (Stores addr size value)) w.0 (core_of core.old)) (core_of core.old) (core_of core.new) }
+    ensures does { AtOnce result (partial_rule core.old.config (alone inst.now) (need_of (Stores addr size value)) w.0 (core_of core.old))
+        (core_of core.old) (core_of core.new) }
     ensures phase { core.new.phase ≡ core.old.phase }
     ensures awaited { core.new.awaited ≡ core.old.awaited }
     ensures stays { Stays core.old core.new }
@@ -143,7 +148,8 @@ fn need_quickly(core: &mut Core, inst: &Inst, need: Need) -> bool
     requires whole { IsCore core.old }
     requires counts { core.old.n < 2 ^ 32 - 1 }
     requires served { IsServed core.old.config.base core.old.config.ram need }
-    ensures does { AtOnce result (need_rule core.old.config (alone inst.now) core.old.id.0 (core_of core.old) (need_of need)) (core_of core.old) (core_of core.new) }
+    ensures does { AtOnce result (need_rule core.old.config (alone inst.now) core.old.id.0 (core_of core.old) (need_of need))
+        (core_of core.old) (core_of core.new) }
     ensures phase { core.new.phase ≡ core.old.phase }
     ensures awaited { core.new.awaited ≡ core.old.awaited }
     ensures stays { Stays core.old core.new }
@@ -187,7 +193,8 @@ fn here_quickly(core: &mut Core, code: &Code) -> bool
     requires whole { IsCore core.old }
     requires counts { core.old.n < 2 ^ 32 - 1 }
     requires same { code.now.settings ≡ core.old.config }
-    ensures does { AtOnce result (execute_rule core.old.config (program (started code.now)) core.old.id.0 (core_of core.old)) (core_of core.old) (core_of core.new) }
+    ensures does { AtOnce result (execute_rule core.old.config (program (started code.now)) core.old.id.0 (core_of core.old))
+        (core_of core.old) (core_of core.new) }
     ensures phase { core.new.phase ≡ core.old.phase }
     ensures awaited { core.new.awaited ≡ core.old.awaited }
     ensures stays { Stays core.old core.new }
@@ -211,7 +218,8 @@ pub(crate) fn exec_quickly(core: &mut Core, code: &Code) -> bool
     requires whole { IsCore core.old }
     requires counts { core.old.n < 2 ^ 32 - 1 }
     requires same { code.now.settings ≡ core.old.config }
-    ensures does { AtOnce result (core_exec core.old.config (program (started code.now)) core.old.id.0 (core_of core.old)) (core_of core.old) (core_of core.new) }
+    ensures does { AtOnce result (core_exec core.old.config (program (started code.now)) core.old.id.0 (core_of core.old))
+        (core_of core.old) (core_of core.new) }
     ensures done { result ≡ true → asks (core_of core.new) ≡ false }
     ensures stays { Stays core.old core.new }
 {

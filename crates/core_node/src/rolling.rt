@@ -49,7 +49,8 @@ fn doom(core: &mut Core)
 fn abort(core: &mut Core, tid: Tid, out: &mut Outgoing)
     requires whole { IsCore core.old }
     requires room { HasRoom out.old core.old.config.dirs }
-    ensures does { Did (moves (record (rolled (core_of core.old)) { phase = Running }) (abort_written core.old.config (maps core.old.cache) tid.0)) core.old.config.dirs out.old core.new out.new }
+    ensures does { Did (moves (record (rolled (core_of core.old)) { phase = Running })
+        (abort_written core.old.config (maps core.old.cache) tid.0)) core.old.config.dirs out.old core.new out.new }
     ensures stays { Stays core.old core.new }
 {
     let written = written_homes(&core.config, &core.cache);
@@ -63,7 +64,8 @@ fn abort(core: &mut Core, tid: Tid, out: &mut Outgoing)
 fn give_way(core: &mut Core, tid: Tid, out: &mut Outgoing)
     requires whole { IsCore core.old }
     requires room { HasRoom out.old core.old.config.dirs }
-    ensures does { Did (moves (record (rolled (core_of core.old)) { phase = Running; spilled = none_spilled }) (skip_all core.old.config tid.0)) core.old.config.dirs out.old core.new out.new }
+    ensures does { Did (moves (record (rolled (core_of core.old)) { phase = Running; spilled = none_spilled })
+        (skip_all core.old.config tid.0)) core.old.config.dirs out.old core.new out.new }
     ensures stays { Stays core.old core.new }
 {
     send_skips(&core.config, tid, out);
@@ -77,7 +79,8 @@ fn give_way(core: &mut Core, tid: Tid, out: &mut Outgoing)
 fn give_room_up(core: &mut Core, own: Option<Tid>, out: &mut Outgoing)
     requires whole { IsCore core.old }
     requires room { HasRoom out.old core.old.config.dirs }
-    ensures does { Did (violated_in_phase core.old.config (core_of core.old) (phase_of (Phase.Overflowing own))) core.old.config.dirs out.old core.new out.new }
+    ensures does { Did (violated_in_phase core.old.config (core_of core.old) (phase_of (Phase.Overflowing own))) core.old.config.dirs
+        out.old core.new out.new }
     ensures stays { Stays core.old core.new }
 {
     match own {
@@ -91,7 +94,8 @@ fn give_room_up(core: &mut Core, own: Option<Tid>, out: &mut Outgoing)
 pub(crate) fn give_up(core: &mut Core, out: &mut Outgoing)
     requires whole { IsCore core.old }
     requires room { HasRoom out.old core.old.config.dirs }
-    ensures does { Did (violated_in_phase core.old.config (core_of core.old) (phase_of core.old.phase)) core.old.config.dirs out.old core.new out.new }
+    ensures does { Did (violated_in_phase core.old.config (core_of core.old) (phase_of core.old.phase)) core.old.config.dirs out.old
+        core.new out.new }
     ensures stays { Stays core.old core.new }
 {
     match core.phase {

@@ -57,7 +57,8 @@ pub(crate) fn store_framed(core: &mut Core, w: WordAddr, value: u32, also: bool,
     requires whole { IsCore core.old }
     requires held { (maps core.old.cache).held (line_of w.0) ≡ true }
     requires room { HasRoom out.old 1 }
-    ensures does { Did (moves (stored_in_frame w.0 value also (core_of core.old)) (flush_line core.old.config (maps core.old.cache) (line_of w.0))) 1 out.old core.new out.new }
+    ensures does { Did (moves (stored_in_frame w.0 value also (core_of core.old))
+        (flush_line core.old.config (maps core.old.cache) (line_of w.0))) 1 out.old core.new out.new }
     ensures stays { Stays core.old core.new }
 {
     let home = NodeId::Dir(core.config.home(line_of_word(w)));

@@ -136,7 +136,9 @@ fn is_free(set: Option<u16>) -> bool
 fn can_execute(core: &Core, code: &Code) -> bool
     requires whole { IsCore core.now }
     requires same { code.now.settings ≡ core.now.config }
-    ensures { result ≡ is_some (exec_unless_awaiting core.now.config (program (started code.now)) core.now.id.0 (core_of core.now) (awaited_of core.now.awaited)) }
+    ensures { result ≡ is_some
+        (exec_unless_awaiting core.now.config (program (started code.now)) core.now.id.0 (core_of core.now)
+        (awaited_of core.now.awaited)) }
 {
     match core.awaited {
         Some(_) => false,

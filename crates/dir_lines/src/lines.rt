@@ -170,7 +170,8 @@ pub trait Lines: Drop {
 
     /// The k-th marked line in rising order, from 0; `None` exactly where there are no more than k.
     fn marked_line(&self, k: usize) -> Option<LineAddr>
-        ensures { option_map (λ l. l.0) result ≡ slice_get (those (has_mark (lines_of (records self.now))) (lines (place self.now).shape)) k };
+        ensures { option_map (λ l. l.0) result ≡ slice_get (those (has_mark (lines_of (records self.now))) (lines (place self.now).shape))
+            k };
 
     /// Clears all marks. The time goes with the number of marked lines.
     fn clear_marks(&mut self)

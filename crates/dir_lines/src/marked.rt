@@ -20,7 +20,8 @@ pub(crate) fn place(marked: &[u32], line: u32) -> usize
 // Puts in a line that isn't there: the list for a test becomes the list for the test that holds of this line too.
 pub(crate) fn note(marked: &mut Vec<u32>, line: u32)
     requires { vec_len marked.old < vec_capacity marked.old }
-    ensures items { (p : ℕ → Bool) (n : ℕ) → line < n → p line ≡ false → marked.old.items ≡ those p n → marked.new.items ≡ those (put p line true) n }
+    ensures items { (p : ℕ → Bool) (n : ℕ) → line < n → p line ≡ false → marked.old.items ≡ those p n
+        → marked.new.items ≡ those (put p line true) n }
     ensures capacity { vec_capacity marked.old ≤ vec_capacity marked.new }
 {
     let at = place(marked, line);
@@ -31,7 +32,8 @@ pub(crate) fn note(marked: &mut Vec<u32>, line: u32)
 
 // Takes out a line that is there: the list for a test becomes the list for the test that doesn't hold of this line.
 pub(crate) fn forget(marked: &mut Vec<u32>, line: u32)
-    ensures items { (p : ℕ → Bool) (n : ℕ) → line < n → p line ≡ true → marked.old.items ≡ those p n → marked.new.items ≡ those (put p line false) n }
+    ensures items { (p : ℕ → Bool) (n : ℕ) → line < n → p line ≡ true → marked.old.items ≡ those p n
+        → marked.new.items ≡ those (put p line false) n }
     ensures capacity { vec_capacity marked.old ≤ vec_capacity marked.new }
 {
     let at = place(marked, line);
@@ -43,7 +45,8 @@ pub(crate) fn forget(marked: &mut Vec<u32>, line: u32)
 // Follows a change of a line's mask.
 pub(crate) fn update(marked: &mut Vec<u32>, line: u32, was: Mask, is: Mask)
     requires { was.0 ≡ 0 → vec_len marked.old < vec_capacity marked.old }
-    ensures items { (p : ℕ → Bool) (n : ℕ) → line < n → p line ≡ nat_lt 0 was.0 → marked.old.items ≡ those p n → marked.new.items ≡ those (put p line (nat_lt 0 is.0)) n }
+    ensures items { (p : ℕ → Bool) (n : ℕ) → line < n → p line ≡ nat_lt 0 was.0 → marked.old.items ≡ those p n
+        → marked.new.items ≡ those (put p line (nat_lt 0 is.0)) n }
     ensures capacity { vec_capacity marked.old ≤ vec_capacity marked.new }
 {
     match (was.0 > 0, is.0 > 0) {

@@ -68,7 +68,8 @@ impl HomeWords {
     pub fn write(&mut self, line: LineAddr, mask: Mask, words: &[u32; 8])
         requires { IsAtHome self.old.place line.0 }
         ensures place { self.new.place ≡ self.old.place }
-        ensures words { (elsewhere : ℕ → ℕ) → words_at elsewhere self.new ≡ with_words line.0 mask.0 words.now (words_at elsewhere self.old) }
+        ensures words { (elsewhere : ℕ → ℕ)
+            → words_at elsewhere self.new ≡ with_words line.0 mask.0 words.now (words_at elsewhere self.old) }
     {
         let at = self.first(line);
         write_masked(self.words.as_mut_slice(), at, mask, words);

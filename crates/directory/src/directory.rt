@@ -105,7 +105,8 @@ impl Directory {
 
     /// The number of marked lines. It takes constant time.
     pub fn marked_lines(&self) -> u32
-        ensures { (elsewhere : ℕ → ℕ) → result ≡ count_below (has_mark (dir_of elsewhere self.now).lines) (line_count self.now.lines.place.shape) }
+        ensures { (elsewhere : ℕ → ℕ)
+            → result ≡ count_below (has_mark (dir_of elsewhere self.now).lines) (line_count self.now.lines.place.shape) }
     {
         self.lines.marked_lines()
     }
@@ -156,8 +157,11 @@ impl Directory {
         requires core { src.0 < self.old.lines.place.shape.cores }
         requires tids { HasSmallTids (msg_of msg.now) }
         ensures place { self.new.lines.place ≡ self.old.lines.place }
-        ensures gives { IfOk result (λ h. Gives self.old self.new out.old.list.items out.new.list.items h (λ s. dir_deliver self.old.lines.place.shape s src.0 (msg_of msg.now))) }
-        ensures leaves { OnOk result ((elsewhere : ℕ → ℕ) → Leaves (msg_of msg.now) (dir_of elsewhere self.old) (dir_of elsewhere self.new)) }
+        ensures gives { IfOk result
+            (λ h. Gives self.old self.new out.old.list.items out.new.list.items h
+            (λ s. dir_deliver self.old.lines.place.shape s src.0 (msg_of msg.now))) }
+        ensures leaves { OnOk result
+            ((elsewhere : ℕ → ℕ) → Leaves (msg_of msg.now) (dir_of elsewhere self.old) (dir_of elsewhere self.new)) }
         ensures foreign { (result ≡ Err DirError.Foreign) ↔ (is_foreign self.old.lines.place (msg_of msg.now) ≡ true) }
         ensures unchanged { OnErr result (self.new ≡ self.old) }
         ensures unsent { OnErr result (out.new.list.items ≡ out.old.list.items) }
@@ -192,7 +196,9 @@ impl Directory {
         requires home { is_foreign self.old.lines.place (msg_of msg.now) ≡ false }
         requires tids { HasSmallTids (msg_of msg.now) }
         ensures place { self.new.lines.place ≡ self.old.lines.place }
-        ensures gives { IfOk result (λ h. Gives self.old self.new out.old.list.items out.new.list.items h (λ s. dir_deliver self.old.lines.place.shape s src.0 (msg_of msg.now))) }
+        ensures gives { IfOk result
+            (λ h. Gives self.old self.new out.old.list.items out.new.list.items h
+            (λ s. dir_deliver self.old.lines.place.shape s src.0 (msg_of msg.now))) }
         ensures unchanged { OnErr result (self.new ≡ self.old) }
         ensures unsent { OnErr result (out.new.list.items ≡ out.old.list.items) }
     {

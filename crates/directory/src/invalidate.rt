@@ -56,7 +56,9 @@ fn tell(
     out: &mut Outgoing,
 ) -> Result<(), NoMemory>
     requires { IsAtHome lines.now.place line.0 }
-    ensures sent { OnOk result (out.new.list.items ≡ out.old.list.items ++ told line.0 ((kept lines.now).mark line.0) tid.0 (is_told (kept lines.now) src.0 line.0) lines.now.place.shape.cores) }
+    ensures sent { OnOk result
+        (out.new.list.items ≡ out.old.list.items ++ told line.0 ((kept lines.now).mark line.0) tid.0
+        (is_told (kept lines.now) src.0 line.0) lines.now.place.shape.cores) }
     ensures extends { Extends out.old.list.items out.new.list.items }
 {
     let record = lines.get(line);

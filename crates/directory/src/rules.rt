@@ -1,7 +1,8 @@
 // The rules of a directory, one function each.
 ghost use Rattle.std.specs.Prelude.{◌≡◌, ℕ, ◌^◌, ◌<◌, ◌≤◌, IfOk, OnErr, option_map, None, if◌then◌else◌, ◌==◌};
 ghost use Rattle.rules_maps.specs.Masks.{full};
-ghost use Rattle.rules_tcc.specs.DirDeliver.{skip, abort, probe, ask_owner, load_request, load_unless_owned, mark, dir_commit, acknowledgement, write_back, moved_on_if_settled, unless_keeps};
+ghost use Rattle.rules_tcc.specs.DirDeliver.{skip, abort, probe, ask_owner, load_request, load_unless_owned, mark, dir_commit};
+ghost use Rattle.rules_tcc.specs.DirDeliver.{acknowledgement, write_back, moved_on_if_settled, unless_keeps};
 ghost use Rattle.dir_lines.specs.Home.{IsAtHome};
 ghost use Rattle.dir_lines.specs.Kept.{kept};
 ghost use Rattle.directory.specs.Data.{dir_of};
@@ -104,7 +105,8 @@ impl Directory {
         requires core { src.0 < self.old.lines.place.shape.cores }
         requires home { IsAtHome self.old.lines.place line.0 }
         ensures place { self.new.lines.place ≡ self.old.lines.place }
-        ensures gives { IfOk result (λ h. Gives self.old self.new out.old.list.items out.new.list.items h (load_request src.0 line.0 after.0)) }
+        ensures gives { IfOk result
+            (λ h. Gives self.old self.new out.old.list.items out.new.list.items h (load_request src.0 line.0 after.0)) }
         ensures unchanged { OnErr result (self.new ≡ self.old) }
         ensures unsent { OnErr result (out.new.list.items ≡ out.old.list.items) }
     {
@@ -126,7 +128,8 @@ impl Directory {
         requires core { src.0 < self.old.lines.place.shape.cores }
         requires home { IsAtHome self.old.lines.place line.0 }
         ensures place { self.new.lines.place ≡ self.old.lines.place }
-        ensures gives { IfOk result (λ h. Gives self.old self.new out.old.list.items out.new.list.items h (λ s. load_unless_owned src.0 line.0 s None)) }
+        ensures gives { IfOk result
+            (λ h. Gives self.old self.new out.old.list.items out.new.list.items h (λ s. load_unless_owned src.0 line.0 s None)) }
         ensures unchanged { OnErr result (self.new ≡ self.old) }
         ensures unsent { OnErr result (out.new.list.items ≡ out.old.list.items) }
     {
@@ -177,7 +180,9 @@ impl Directory {
         requires core { src.0 < self.old.lines.place.shape.cores }
         requires tid { tid.0 < 2 ^ 62 }
         ensures place { self.new.lines.place ≡ self.old.lines.place }
-        ensures gives { IfOk result (λ h. Gives self.old self.new out.old.list.items out.new.list.items h (dir_commit self.old.lines.place.shape src.0 tid.0 count)) }
+        ensures gives { IfOk result
+            (λ h. Gives self.old self.new out.old.list.items out.new.list.items h
+            (dir_commit self.old.lines.place.shape src.0 tid.0 count)) }
         ensures unchanged { OnErr result (self.new ≡ self.old) }
         ensures unsent { OnErr result (out.new.list.items ≡ out.old.list.items) }
     {
@@ -229,7 +234,8 @@ impl Directory {
     ) -> Handled
         requires { IsAtHome self.old.lines.place line.0 }
         ensures place { self.new.lines.place ≡ self.old.lines.place }
-        ensures gives { Gives self.old self.new out.old.list.items out.new.list.items result (write_back src.0 line.0 mask.0 words.now tag.0) }
+        ensures gives { Gives self.old self.new out.old.list.items out.new.list.items result
+            (write_back src.0 line.0 mask.0 words.now tag.0) }
     {
         let _ = out;
         let record = self.lines.get(line);

@@ -18,7 +18,8 @@ impl Directory {
     /// time.
     pub fn takes(&self, src: CoreId, msg: &Msg) -> bool
         requires { src.0 < self.now.lines.place.shape.cores }
-        ensures { (elsewhere : ℕ → ℕ) → result ≡ not (is_foreign self.now.lines.place (msg_of msg.now)) && is_taken (dir_deliver self.now.lines.place.shape (dir_of elsewhere self.now) src.0 (msg_of msg.now)) }
+        ensures { (elsewhere : ℕ → ℕ) → result ≡ not (is_foreign self.now.lines.place (msg_of msg.now))
+            && is_taken (dir_deliver self.now.lines.place.shape (dir_of elsewhere self.now) src.0 (msg_of msg.now)) }
     {
         if self.is_foreign(msg) {
             return false;

@@ -32,7 +32,8 @@ impl Directory {
     /// message can't be taken: `deliver` says which causes the handling of another message may end. It takes constant time.
     pub fn waits_for(&self, src: CoreId, msg: &Msg) -> Option<Cause>
         requires { is_foreign self.now.lines.place (msg_of msg.now) ≡ false }
-        ensures { (elsewhere : ℕ → ℕ) → Tells (λ s. dir_deliver self.now.lines.place.shape s src.0 (msg_of msg.now)) (dir_of elsewhere self.now) result }
+        ensures { (elsewhere : ℕ → ℕ) → Tells (λ s. dir_deliver self.now.lines.place.shape s src.0 (msg_of msg.now))
+            (dir_of elsewhere self.now) result }
     {
         match msg {
             Msg::Probe { tid } => self.probe_waits_for(*tid),

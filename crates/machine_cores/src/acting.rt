@@ -24,10 +24,13 @@ impl CoreBank {
     pub fn exec(&mut self, core: CoreId, out: &mut Outgoing) -> Result<Executed, CoreError>
         requires exists { core.0 < self.old.code.settings.cores }
         requires short { (cores_of self.old core.0).n < 4194304 }
-        ensures does { OnOk result (Acted (core_exec self.old.code.settings (program (started self.old.code)) core.0 (cores_of self.old core.0)) core.0 self.old self.new out.old out.new) }
+        ensures does { OnOk result
+            (Acted (core_exec self.old.code.settings (program (started self.old.code)) core.0 (cores_of self.old core.0)) core.0
+            self.old self.new out.old out.new) }
         ensures told { IfOk result (λ e. TellsOfEvent e
             (core_exec self.old.code.settings (program (started self.old.code)) core.0 (cores_of self.old core.0))) }
-        ensures blocked { IsBlocked result (core_exec self.old.code.settings (program (started self.old.code)) core.0 (cores_of self.old core.0)) }
+        ensures blocked { IsBlocked result
+            (core_exec self.old.code.settings (program (started self.old.code)) core.0 (cores_of self.old core.0)) }
         ensures code { self.new.code ≡ self.old.code }
         ensures unchanged { OnErr result (cores_of self.new ≡ cores_of self.old) }
         ensures unsent { OnErr result (out.new.list.items ≡ out.old.list.items) }
@@ -55,7 +58,8 @@ impl CoreBank {
         requires exists { core.0 < self.old.code.settings.cores }
         requires set_exists { set < self.old.code.settings.sets }
         requires way_exists { way < self.old.code.settings.ways }
-        ensures does { OnOk result (Acted (core_evict self.old.code.settings set way (cores_of self.old core.0)) core.0 self.old self.new out.old out.new) }
+        ensures does { OnOk result
+            (Acted (core_evict self.old.code.settings set way (cores_of self.old core.0)) core.0 self.old self.new out.old out.new) }
         ensures blocked { IsBlocked result (core_evict self.old.code.settings set way (cores_of self.old core.0)) }
         ensures code { self.new.code ≡ self.old.code }
         ensures unchanged { OnErr result (cores_of self.new ≡ cores_of self.old) }
@@ -83,7 +87,9 @@ impl CoreBank {
     ) -> Result<(), CoreError>
         requires exists { core.0 < self.old.code.settings.cores }
         requires known { IsKnown self.old.code.settings src }
-        ensures does { OnOk result (Acted (core_deliver self.old.code.settings (cores_of self.old core.0) (node_of src) (msg_of msg.now)) core.0 self.old self.new out.old out.new) }
+        ensures does { OnOk result
+            (Acted (core_deliver self.old.code.settings (cores_of self.old core.0) (node_of src) (msg_of msg.now)) core.0 self.old
+            self.new out.old out.new) }
         ensures blocked { IsBlocked result (core_deliver self.old.code.settings (cores_of self.old core.0) (node_of src) (msg_of msg.now)) }
         ensures code { self.new.code ≡ self.old.code }
         ensures unchanged { OnErr result (cores_of self.new ≡ cores_of self.old) }

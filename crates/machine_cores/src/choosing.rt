@@ -48,7 +48,8 @@ impl CoreBank {
 
     /// The execution of the k-th core that can execute, from 0; None exactly where there are no more than k.
     pub fn exec_at(&self, k: u64) -> Option<Event>
-        ensures { option_map event_of result ≡ slice_get (exec_events self.now.code.settings (program (started self.now.code)) (cores_of self.now)) k }
+        ensures { option_map event_of result ≡ slice_get
+            (exec_events self.now.code.settings (program (started self.now.code)) (cores_of self.now)) k }
     {
         let (core, _) = self.execs.find(k)?;
         Some(Event::Exec(CoreId(core as u8)))
@@ -56,7 +57,8 @@ impl CoreBank {
 
     /// The k-th useful eviction of all cores, from 0, by core, set and way; None exactly where there are no more than k.
     pub fn evict_at(&self, k: u64) -> Option<Event>
-        ensures { option_map event_of result ≡ slice_get (evict_events self.now.code.settings (program (started self.now.code)) (cores_of self.now)) k }
+        ensures { option_map event_of result ≡ slice_get
+            (evict_events self.now.code.settings (program (started self.now.code)) (cores_of self.now)) k }
     {
         let (core, rest) = self.evicts.find(k)?;
         let core = CoreId(core as u8);

@@ -44,7 +44,8 @@ pub(crate) fn recount(
     requires same { code.now.settings ≡ core.now.config }
     requires exec_place { number < length execs.old }
     requires evict_place { number < length evicts.old }
-    ensures execs { execs.new ≡ slice_set execs.old number (execs_of core.now.config (program (started code.now)) core.now.id.0 (core_of core.now)) }
+    ensures execs { execs.new ≡ slice_set execs.old number
+        (execs_of core.now.config (program (started code.now)) core.now.id.0 (core_of core.now)) }
     ensures evicts { evicts.new ≡ slice_set evicts.old number (evicts_of core.now.config (program (started code.now)) (core_of core.now)) }
 {
     execs.set(number, exec_count(core, code));
@@ -76,7 +77,8 @@ pub(crate) fn count_uses(
     requires cores { AreCores code.now.settings cores.now }
     requires exec_places { length execs.old ≡ code.now.settings.cores }
     requires evict_places { length evicts.old ≡ code.now.settings.cores }
-    ensures { AreCounted code.now.settings (program (started code.now)) (cores_of (record { code = code.now; cores = cores.now })) execs.new evicts.new }
+    ensures { AreCounted code.now.settings (program (started code.now)) (cores_of (record { code = code.now; cores = cores.now })) execs.new
+        evicts.new }
 {
     for (c, core) in cores.items.iter().enumerate() {
         recount(core, c, code, execs, evicts);

@@ -48,7 +48,8 @@ impl CoreBank {
     /// The frame of a line in a core's cache; None exactly where it has none.
     pub fn frame_of(&self, core: CoreId, line: LineAddr) -> Option<FrameView>
         requires { core.0 < self.now.code.settings.cores }
-        ensures { let c = (cores_of self.now core.0).cache in MatchOption result (c.held line.0 ≡ false) (λ f. IsTrue (c.held line.0) × Views c line.0 f) }
+        ensures { let c = (cores_of self.now core.0).cache in
+            MatchOption result (c.held line.0 ≡ false) (λ f. IsTrue (c.held line.0) × Views c line.0 f) }
     {
         self.core(core).frame_of(line)
     }

@@ -28,8 +28,11 @@ impl DirBank {
         requires core { src.0 < self.old.settings.cores }
         requires tids { HasSmallTids (msg_of msg.now) }
         ensures settings { self.new.settings ≡ self.old.settings }
-        ensures does { IfOk result (λ h. Acted dir.0 self.old self.new out.old.list.items out.new.list.items h (λ s. dir_deliver self.old.settings s src.0 (msg_of msg.now))) }
-        ensures foreign { (result ≡ Err DirError.Foreign) ↔ (is_foreign (record { shape = self.old.settings; dir = dir.0 }) (msg_of msg.now) ≡ true) }
+        ensures does { IfOk result
+            (λ h. Acted dir.0 self.old self.new out.old.list.items out.new.list.items h
+            (λ s. dir_deliver self.old.settings s src.0 (msg_of msg.now))) }
+        ensures foreign { (result ≡ Err DirError.Foreign) ↔
+            (is_foreign (record { shape = self.old.settings; dir = dir.0 }) (msg_of msg.now) ≡ true) }
         ensures unchanged { OnErr result ((ram : ℕ → ℕ) → dirs_of ram self.new ≡ dirs_of ram self.old) }
         ensures unsent { OnErr result (out.new.list.items ≡ out.old.list.items) }
     {
@@ -40,7 +43,8 @@ impl DirBank {
     pub fn takes(&self, dir: DirId, src: CoreId, msg: &Msg) -> bool
         requires exists { dir.0 < self.now.settings.dirs }
         requires core { src.0 < self.now.settings.cores }
-        ensures { (ram : ℕ → ℕ) → result ≡ not (is_foreign (record { shape = self.now.settings; dir = dir.0 }) (msg_of msg.now)) && is_taken (dir_deliver self.now.settings (dirs_of ram self.now dir.0) src.0 (msg_of msg.now)) }
+        ensures { (ram : ℕ → ℕ) → result ≡ not (is_foreign (record { shape = self.now.settings; dir = dir.0 }) (msg_of msg.now))
+            && is_taken (dir_deliver self.now.settings (dirs_of ram self.now dir.0) src.0 (msg_of msg.now)) }
     {
         self.dirs.items[dir.0 as usize].takes(src, msg)
     }

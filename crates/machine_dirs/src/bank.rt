@@ -49,7 +49,9 @@ fn start_dirs(alloc: Global, config: &Config, loaded: &Loaded) -> Result<List<Di
     requires { loaded.now.settings ≡ config.now }
     ensures allowed { IfOk result (λ ds. IsAllowed config.now) }
     ensures dirs { IfOk result (λ ds. AreDirs config.now ds) }
-    ensures start { IfOk result (λ ds. dirs_of (first_ram (started loaded.now)) (record { settings = config.now; dirs = ds }) ≡ (λ d. dir_start (first_ram (started loaded.now)))) }
+    ensures start { IfOk result
+        (λ ds. dirs_of (first_ram (started loaded.now)) (record { settings = config.now; dirs = ds })
+        ≡ (λ d. dir_start (first_ram (started loaded.now)))) }
 {
     let mut dirs = List::new(alloc);
     for d in 0..config.dirs() {

@@ -17,7 +17,8 @@ use tcc_base::{CoreId, DirId, NodeId};
 /// Looks at all messages on the link from a core to a directory again, and marks those that the directory takes now.
 fn remark_link(flights: &mut InFlight, dir: &Directory, src: CoreId, dst: DirId)
     requires exists { src.0 < dir.now.lines.place.shape.cores }
-    requires home { (k : ℕ) (m : PlainMsg) → in_flight (net_of flights.old) (Core src.0) (Dir dst.0) k ≡ Some m → is_foreign dir.now.lines.place m ≡ false }
+    requires home { (k : ℕ) (m : PlainMsg) → in_flight (net_of flights.old) (Core src.0) (Dir dst.0) k ≡ Some m
+        → is_foreign dir.now.lines.place m ≡ false }
     ensures cores { flights.new.cores ≡ flights.old.cores }
     ensures dirs { flights.new.dirs ≡ flights.old.dirs }
     ensures net { net_of flights.new ≡ net_of flights.old }
@@ -56,11 +57,13 @@ impl DirBank {
     /// Looks at all messages to a directory again, and marks those that it takes now. Takes time in their number.
     pub fn mark(&self, flights: &mut InFlight, dir: DirId)
         requires exists { dir.0 < self.now.settings.dirs }
-        requires home { (c k : ℕ) (m : PlainMsg) → in_flight (net_of flights.old) (Core c) (Dir dir.0) k ≡ Some m → is_foreign (record { shape = self.now.settings; dir = dir.0 }) m ≡ false }
+        requires home { (c k : ℕ) (m : PlainMsg) → in_flight (net_of flights.old) (Core c) (Dir dir.0) k ≡ Some m
+            → is_foreign (record { shape = self.now.settings; dir = dir.0 }) m ≡ false }
         ensures cores { flights.new.cores ≡ flights.old.cores }
         ensures dirs { flights.new.dirs ≡ flights.old.dirs }
         ensures net { net_of flights.new ≡ net_of flights.old }
-        ensures here { (ram : ℕ → ℕ) (c k : ℕ) (m : PlainMsg) → c < self.now.settings.cores → in_flight (net_of flights.old) (Core c) (Dir dir.0) k ≡ Some m
+        ensures here { (ram : ℕ → ℕ) (c k : ℕ) (m : PlainMsg) → c < self.now.settings.cores
+            → in_flight (net_of flights.old) (Core c) (Dir dir.0) k ≡ Some m
             → is_ready flights.new (Core c) (Dir dir.0) k ≡ is_taken (dir_deliver self.now.settings (dirs_of ram self.now dir.0) c m) }
         ensures others { (s d : Node) (k : ℕ) → node_eq d (Dir dir.0) ≡ false → is_ready flights.new s d k ≡ is_ready flights.old s d k }
     {

@@ -1,5 +1,6 @@
 // The messages in flight of a machine, and which of them may be delivered.
-ghost use Rattle.std.specs.Prelude.{◌≡◌, ◌↔◌, ◌+◌, ◌-◌, ◌^◌, ◌≤◌, ◌<◌, ℕ, true, false, [], ◌∷◌, length, replicate, IsTrue, IfOk, OnOk, OnErr};
+ghost use Rattle.std.specs.Prelude.{◌≡◌, ◌↔◌, ◌+◌, ◌-◌, ◌^◌, ◌≤◌, ◌<◌, ℕ, true, false, [], ◌∷◌, length, replicate, IsTrue, IfOk, OnOk};
+ghost use Rattle.std.specs.Prelude.{OnErr};
 ghost use Rattle.std.specs.Prelude.{slice_get, slice_index, slice_set, Option, Some, None, IsSome, IfNone, IfSome, option_map, is_some};
 ghost use Rattle.rules_maps.specs.Words.{those, num};
 ghost use Rattle.rules_maps.specs.Nodes.{Node, Core, Dir, Deliver, Msg as PlainMsg};
@@ -138,7 +139,9 @@ impl InFlight {
         ensures cores { self.new.cores ≡ self.old.cores }
         ensures dirs { self.new.dirs ≡ self.old.dirs }
         ensures net { OnOk result (net_of self.new ≡ sending (net_of self.old) (node_of src) (sends_of ((dst, msg) ∷ []))) }
-        ensures ready { OnOk result (is_ready self.new ≡ with_mark (is_ready self.old) (node_of src) (node_of dst) (length (net_of self.old (node_of src) (node_of dst))) ready) }
+        ensures ready { OnOk result
+            (is_ready self.new ≡ with_mark (is_ready self.old) (node_of src) (node_of dst)
+            (length (net_of self.old (node_of src) (node_of dst))) ready) }
         ensures unchanged { OnErr result (self.new ≡ self.old) }
     {
         let seq = self.sent(src, dst);

@@ -1,6 +1,7 @@
 // One link with marks: the messages on it that are in flight, by rising number.
 ghost use Rattle.std.specs.Prelude.{◌≡◌, ℕ, ◌+◌, ◌-◌, ◌^◌, ◌<◌, ◌≤◌, List, [], ◌∷◌, ◌++◌, length, take, map};
-ghost use Rattle.std.specs.Prelude.{slice_index_or, slice_set, slice_get, Option, Some, None, false, OnOk, OnErr, IfSome, IfNone, IsSome, option_map, option_copied};
+ghost use Rattle.std.specs.Prelude.{slice_index_or, slice_set, slice_get, Option, Some, None, false, OnOk, OnErr, IfSome, IfNone, IsSome};
+ghost use Rattle.std.specs.Prelude.{option_map, option_copied};
 ghost use Rattle.std.specs.List.{count_by, filter};
 ghost use Rattle.std.specs.List.Sorted.{IsNonDecreasingBy};
 ghost use Rattle.machine_links.specs.Laid.{held_at};

@@ -24,7 +24,8 @@ pub(crate) fn look_at(nodes: &[Node])
 
 // A node hears of each of the others what that has taken, and they of it.
 fn meet_each<R: Wait>(rt: &R, node: &mut Node, others: &mut [Node])
-    requires wired { (j : ℕ) (b : NodeData) → slice_get others.old j ≡ Some b → IsLinkedTo node.old.room b.room × IsLinkedTo b.room node.old.room }
+    requires wired { (j : ℕ) (b : NodeData) → slice_get others.old j ≡ Some b
+        → IsLinkedTo node.old.room b.room × IsLinkedTo b.room node.old.room }
     ensures met { HasMetAll node.old others.old }
     ensures node { node.new ≡ node.old }
     ensures others { others.new ≡ others.old }
@@ -38,7 +39,8 @@ fn meet_each<R: Wait>(rt: &R, node: &mut Node, others: &mut [Node])
 
 // Each of these with each of those.
 fn meet_all<R: Wait>(rt: &R, these: &mut [Node], those: &mut [Node])
-    requires wired { (i j : ℕ) (a b : NodeData) → slice_get these.old i ≡ Some a → slice_get those.old j ≡ Some b → IsLinkedTo a.room b.room × IsLinkedTo b.room a.room }
+    requires wired { (i j : ℕ) (a b : NodeData) → slice_get these.old i ≡ Some a → slice_get those.old j ≡ Some b
+        → IsLinkedTo a.room b.room × IsLinkedTo b.room a.room }
     ensures met { AllHaveMet these.old those.old }
     ensures these { these.new ≡ these.old }
     ensures those { those.new ≡ those.old }

@@ -1,5 +1,6 @@
 // The buffer: the kept words of all lines, in an index map by line.
-ghost use Rattle.std.specs.Prelude.{◌≡◌, ◌≢◌, ◌<◌, ◌↔◌, ℕ, true, Option, Some, None, IsTrue, IfSome, IfNone, IfOk, OnOk, OnErr, cond, length, Contains, nat_eq, ◌==◌};
+ghost use Rattle.std.specs.Prelude.{◌≡◌, ◌≢◌, ◌<◌, ◌↔◌, ℕ, true, Option, Some, None, IsTrue, IfSome, IfNone, IfOk, OnOk, OnErr, cond};
+ghost use Rattle.std.specs.Prelude.{length, Contains, nat_eq, ◌==◌};
 ghost use Rattle.std.specs.List.{AllPairs, IsDistinct};
 ghost use Rattle.std.specs.Map.{keys_of};
 ghost use Rattle.tcc_base.specs.Put.{put as put_value};

@@ -1,6 +1,7 @@
 // The lines of a report, each appended to a text. Where memory runs out, the text holds a part of the line.
 ghost use Rattle.std.specs.Prelude.{◌≡◌, ◌++◌, OnOk, string_bytes};
-ghost use Rattle.report_text.specs.Lines.{end_line, events_line, commit_line, load_line, core_line, pc_line, reg_line, console_line, mem_line, hex};
+ghost use Rattle.report_text.specs.Lines.{end_line, events_line, commit_line, load_line, core_line, pc_line, reg_line, console_line};
+ghost use Rattle.report_text.specs.Lines.{mem_line, hex};
 ghost use Rattle.std.specs.List.{flat_map};
 
 use std::alloc::AllocError;

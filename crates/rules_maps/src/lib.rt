@@ -5,7 +5,11 @@
 //! The functions here have no body: the contract of each is a law of these definitions.
 #![tactic(auto)]
 
-ghost use Rattle.rules_maps.specs.Laws.{MaskHolds, MaskOfItself, MaskSmall, HasMinus, HasMeet, HasJoin, HasPow, HasZero, NothingLeft, HitsValid, LooksMiss, LooksOverflow, LooksRoom, AnyWord, ReadsMasked, SpillsModified, MarksOneLine, AdvanceRises, AdvancePast, AdvanceStops, AdvanceKeeps, KeptSkips, FirstSkips, CachesKeep, CacheBegins, ThoseHold, ThoseRise, ThoseCount, AnyBelow, AllBelow, LowestBelow, JudgesWaits, JudgesTakes};
+ghost use Rattle.rules_maps.specs.Laws.{MaskHolds, MaskOfItself, MaskSmall, HasMinus, HasMeet, HasJoin, HasPow, HasZero, NothingLeft};
+ghost use Rattle.rules_maps.specs.Laws.{HitsValid, LooksMiss, LooksOverflow, LooksRoom, AnyWord, ReadsMasked, SpillsModified, MarksOneLine};
+ghost use Rattle.rules_maps.specs.Laws.{AdvanceRises, AdvancePast, AdvanceStops, AdvanceKeeps, KeptSkips, FirstSkips, CachesKeep};
+ghost use Rattle.rules_maps.specs.Laws.{CacheBegins, ThoseHold, ThoseRise, ThoseCount, AnyBelow, AllBelow, LowestBelow, JudgesWaits};
+ghost use Rattle.rules_maps.specs.Laws.{JudgesTakes};
 ghost use Rattle.rules_maps.specs.Bridge.{tagged_of};
 
 /// A mask is a set of places below eight: making one from a test and asking it again gives the test, and the

@@ -3,9 +3,11 @@
 #![tactic(auto)]
 
 ghost use Rattle.rules_tcc.specs.Cases.{CasesAre};
-ghost use Rattle.rules_tcc.specs.Laws.{StepsActOnOne, UsefulHolds, UsefulOrdered, NotBeforeItself, UsefulEnabled, DoneUseless, TidsCount, PickedRuns, PickedEnds};
+ghost use Rattle.rules_tcc.specs.Laws.{StepsActOnOne, UsefulHolds, UsefulOrdered, NotBeforeItself, UsefulEnabled, DoneUseless, TidsCount};
+ghost use Rattle.rules_tcc.specs.Laws.{PickedRuns, PickedEnds};
 ghost use Rattle.rules_tcc.specs.Merged.{MergedRuns};
-ghost use Rattle.rules_tcc.specs.Schedules.{TwoTids, TwoTidsMore, ReaderWaits, ProbeWaits, OverARead, DoomedAttempt, BeforeTheFill, OverADirtyOwner, WriteBackWaits, AloneAfterOverflow};
+ghost use Rattle.rules_tcc.specs.Schedules.{TwoTids, TwoTidsMore, ReaderWaits, ProbeWaits, OverARead, DoomedAttempt, BeforeTheFill};
+ghost use Rattle.rules_tcc.specs.Schedules.{OverADirtyOwner, WriteBackWaits, AloneAfterOverflow};
 
 /// The schedules that were worked by hand end as they must: the commits with their loads, the committed registers and
 /// the words that are seen; and an event that must wait is not enabled where it comes.

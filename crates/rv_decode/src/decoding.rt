@@ -1,8 +1,10 @@
 // Decoding: the instruction that the table has for a word.
 ghost use Rattle.std.specs.Prelude.{◌≡◌, Some, IfSome};
 ghost use Rattle.rv_decode.specs.declared.instruction.Inst.{Inst};
-ghost use Rattle.rv_decode.specs.Codes.{cond_of, load_kind_of, size_of, imm_op_of, shift_of, base_op_of, other_op_of, multiply_op_of, reg_op_of, amo_op_of};
-ghost use Rattle.rv_decode.specs.Decoding.{decoded, jalr_inst, branch_inst, load_inst, store_inst, imm_inst, op_inst, fence_inst, system_inst, atomic_inst, word_atomic_inst, lr_inst};
+ghost use Rattle.rv_decode.specs.Codes.{cond_of, load_kind_of, size_of, imm_op_of, shift_of, base_op_of, other_op_of, multiply_op_of};
+ghost use Rattle.rv_decode.specs.Codes.{reg_op_of, amo_op_of};
+ghost use Rattle.rv_decode.specs.Decoding.{decoded, jalr_inst, branch_inst, load_inst, store_inst, imm_inst, op_inst, fence_inst};
+ghost use Rattle.rv_decode.specs.Decoding.{system_inst, atomic_inst, word_atomic_inst, lr_inst};
 ghost use Rattle.rv_decode.specs.Formats.{opcode_of, funct3_of, funct7_of, funct5_of, order_of, rd_of, rs1_of, rs2_of};
 ghost use Rattle.rv_decode.specs.Table.{Encodes};
 

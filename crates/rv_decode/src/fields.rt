@@ -1,7 +1,8 @@
 // Reading the fields of an instruction word: bit fields, register numbers and immediates.
 ghost use Rattle.std.specs.Prelude.{◌≡◌, ◌+◌, pos, ◌^◌, ◌≤◌, ◌<◌};
 ghost use Rattle.rv_decode.specs.Bits.{bits, signed};
-ghost use Rattle.rv_decode.specs.Formats.{opcode_of, rd_of, funct3_of, rs1_of, rs2_of, funct7_of, funct5_of, order_of, imm_i, imm_s, imm_b, imm_u, imm_j};
+ghost use Rattle.rv_decode.specs.Formats.{opcode_of, rd_of, funct3_of, rs1_of, rs2_of, funct7_of, funct5_of, order_of, imm_i, imm_s, imm_b};
+ghost use Rattle.rv_decode.specs.Formats.{imm_u, imm_j};
 
 use tcc_base::Reg;
 

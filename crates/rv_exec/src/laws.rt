@@ -1,5 +1,6 @@
 // What holds of the program that RV32IMA is, and of the definitions that its effects are stated in.
-ghost use Rattle.rv_exec.specs.Laws.{TrapsWhereNoWordIsFetched, TrapsOutsideTheTable, RunsTheTable, DividesAtItsCorners, DividesUnsigned, DividesSigned, WordsMakeTheProducts};
+ghost use Rattle.rv_exec.specs.Laws.{TrapsWhereNoWordIsFetched, TrapsOutsideTheTable, RunsTheTable, DividesAtItsCorners, DividesUnsigned};
+ghost use Rattle.rv_exec.specs.Laws.{DividesSigned, WordsMakeTheProducts};
 
 use rv_decode::table_is_a_function_of_the_word;
 

@@ -1,5 +1,6 @@
 // A transaction on its way: the core's state as it is now, what it loaded, stored and printed so far.
-ghost use Rattle.std.specs.Prelude.{◌≡◌, ℕ, ◌+◌, ◌-◌, ◌*◌, ◌^◌, ◌<◌, IfOk, IfErr, OnErr, OnOk, Some, length, [], ◌∷◌, ◌++◌, ◌↔◌, IsTrue, IsFalse};
+ghost use Rattle.std.specs.Prelude.{◌≡◌, ℕ, ◌+◌, ◌-◌, ◌*◌, ◌^◌, ◌<◌, IfOk, IfErr, OnErr, OnOk, Some, length, [], ◌∷◌, ◌++◌, ◌↔◌, IsTrue};
+ghost use Rattle.std.specs.Prelude.{IsFalse};
 ghost use Rattle.image_load.specs.Contents.{started};
 ghost use Rattle.rv_plain.specs.Buffered.{buffered, buffered_step, plain_view};
 ghost use Rattle.rv_exec.specs.Effects.{planned};

@@ -3,7 +3,8 @@ ghost use Rattle.std.specs.Prelude.{◌≡◌, Some, None, IfSome, IfNone, nat_l
 ghost use Rattle.tcc_base.specs.Settings.{IsAllowed};
 ghost use Rattle.schedule_text.specs.WellFormed.{one_is_core};
 ghost use Rattle.schedule_text.specs.Grammar.{version_of};
-ghost use Rattle.schedule_text.specs.Reading.{Reads, version_at, settings_at, core_node_at, dir_node_at, vendor_at, node_at, exec_at, evict_at, deliver_at, event_at, end_at};
+ghost use Rattle.schedule_text.specs.Reading.{Reads, version_at, settings_at, core_node_at, dir_node_at, vendor_at, node_at, exec_at};
+ghost use Rattle.schedule_text.specs.Reading.{evict_at, deliver_at, event_at, end_at};
 
 use crate::fields::{below, field, number, word};
 use tcc_base::{Config, CoreId, DirId, NodeId};

@@ -1,11 +1,14 @@
 // A core's cache: the calls of its frames, held in one array by set and way.
-ghost use Rattle.std.specs.Prelude.{◌≡◌, ◌<◌, ℕ, [], Option, Some, None, MatchBool, MatchOption, MatchResult, IfOk, map, IsTrue, IsSome, is_some, false};
+ghost use Rattle.std.specs.Prelude.{◌≡◌, ◌<◌, ℕ, [], Option, Some, None, MatchBool, MatchOption, MatchResult, IfOk, map, IsTrue, IsSome};
+ghost use Rattle.std.specs.Prelude.{is_some, false};
 ghost use Rattle.std.specs.Option.{option_map};
 ghost use Rattle.rules_maps.specs.Words.{line_of};
 ghost use Rattle.rules_maps.specs.Shape.{lines, set_of};
 ghost use Rattle.rules_maps.specs.Bridge.{tagged_of};
-ghost use Rattle.rules_maps.specs.Cache.{IsCache, empty_cache, dirty_copy, free_way as lowest_free, keeps as keeps_word, reads_at as any_read, marks_by_home as every_mark};
-ghost use Rattle.rules_maps.specs.CacheChange.{stored, placed, filled, invalidated, cleaned, evicted, words_dropped, rolled_back, read_cleared, committed};
+ghost use Rattle.rules_maps.specs.Cache.{IsCache, empty_cache, dirty_copy, free_way as lowest_free, keeps as keeps_word};
+ghost use Rattle.rules_maps.specs.Cache.{reads_at as any_read, marks_by_home as every_mark};
+ghost use Rattle.rules_maps.specs.CacheChange.{stored, placed, filled, invalidated, cleaned, evicted, words_dropped, rolled_back};
+ghost use Rattle.rules_maps.specs.CacheChange.{read_cleared, committed};
 ghost use Rattle.rules_maps.specs.CacheLook.{look_load as load_answer, look_store as store_answer, reads_masked};
 ghost use Rattle.rules_maps.specs.Spilled.{spill, none_spilled};
 ghost use Rattle.spec_cache.specs.Held.{Held, maps};
@@ -123,7 +126,8 @@ impl SpecCache {
         requires absent { (maps self.old).held line.0 ≡ false }
         ensures config { self.new.config ≡ self.old.config }
         ensures maps { maps self.new ≡ placed self.old.config line.0 (maps self.old) }
-        ensures answer { let free = lowest_free self.old.config (maps self.old) (set_of self.old.config line.0) in MatchResult result (λ _. IsSome free) (λ s. (free ≡ None) × (s ≡ set_of self.old.config line.0)) }
+        ensures answer { let free = lowest_free self.old.config (maps self.old) (set_of self.old.config line.0) in
+            MatchResult result (λ _. IsSome free) (λ s. (free ≡ None) × (s ≡ set_of self.old.config line.0)) }
     {
         self.frames.place(line)
     }
@@ -163,7 +167,8 @@ impl SpecCache {
         requires way_exists { way < self.old.config.ways }
         ensures config { self.new.config ≡ self.old.config }
         ensures maps { maps self.new ≡ evicted set way (maps self.old) }
-        ensures out { MatchOption result ((maps self.old).at set way ≡ None) (λ e. ((maps self.old).at set way ≡ Some e.line.0) × Gives (maps self.old) e.line.0 e) }
+        ensures out { MatchOption result ((maps self.old).at set way ≡ None)
+            (λ e. ((maps self.old).at set way ≡ Some e.line.0) × Gives (maps self.old) e.line.0 e) }
     {
         self.frames.evict(set, way)
     }
@@ -218,7 +223,8 @@ impl SpecCache {
     pub fn frame(&self, set: u16, way: u8) -> Option<FrameView>
         requires set_exists { set < self.now.config.sets }
         requires way_exists { way < self.now.config.ways }
-        ensures view { MatchOption result ((maps self.now).at set way ≡ None) (λ f. ((maps self.now).at set way ≡ Some f.line.0) × Views (maps self.now) f.line.0 f) }
+        ensures view { MatchOption result ((maps self.now).at set way ≡ None)
+            (λ f. ((maps self.now).at set way ≡ Some f.line.0) × Views (maps self.now) f.line.0 f) }
         ensures consistent { IsCache self.now.config (maps self.now) }
     {
         self.frames.frame(set, way)
@@ -226,7 +232,8 @@ impl SpecCache {
 
     /// The frame of a line; None exactly where it has none.
     pub fn frame_of(&self, line: LineAddr) -> Option<FrameView>
-        ensures view { MatchOption result ((maps self.now).held line.0 ≡ false) (λ f. IsTrue ((maps self.now).held line.0) × Views (maps self.now) line.0 f) }
+        ensures view { MatchOption result ((maps self.now).held line.0 ≡ false)
+            (λ f. IsTrue ((maps self.now).held line.0) × Views (maps self.now) line.0 f) }
         ensures consistent { IsCache self.now.config (maps self.now) }
     {
         self.frames.frame_of(line)

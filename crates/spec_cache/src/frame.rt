@@ -1,7 +1,9 @@
 // A frame: one line's eight words with their marks, and how each call of the cache changes it.
 ghost use Rattle.std.specs.Prelude.{false, ◌≡◌, ◌≢◌, ℕ, ◌^◌, ◌<◌, ◌≤◌, ◌↔◌, ◌==◌, ◌&&◌, Bool, not, IsTrue, Option, Some, None, length};
 ghost use Rattle.rules_maps.specs.Masks.{has as has_word, meet, masked};
-ghost use Rattle.spec_cache.specs.Frame.{value_in, read_in, modified_in, empty_frame, marked_frame, stored_frame, filled_frame, filled_up, invalidated_frame, cleaned_frame, dropped_frame, rolled_back_frame, read_cleared_frame, committed_frame, dirty_part};
+ghost use Rattle.spec_cache.specs.Frame.{value_in, read_in, modified_in, empty_frame, marked_frame, stored_frame, filled_frame, filled_up};
+ghost use Rattle.spec_cache.specs.Frame.{invalidated_frame, cleaned_frame, dropped_frame, rolled_back_frame, read_cleared_frame};
+ghost use Rattle.spec_cache.specs.Frame.{committed_frame, dirty_part};
 
 use crate::masks::{bit, has, without};
 use tcc_base::{LineAddr, Mask, Tagged, Tid};

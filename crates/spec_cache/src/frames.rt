@@ -1,11 +1,14 @@
 // The calls of a cache, over any form of its frames.
-ghost use Rattle.std.specs.Prelude.{◌≡◌, ◌<◌, ◌%◌, ℕ, [], length, Option, Some, None, MatchBool, MatchOption, MatchResult, IfOk, map, IsTrue, IsSome, is_some, false};
+ghost use Rattle.std.specs.Prelude.{◌≡◌, ◌<◌, ◌%◌, ℕ, [], length, Option, Some, None, MatchBool, MatchOption, MatchResult, IfOk, map};
+ghost use Rattle.std.specs.Prelude.{IsTrue, IsSome, is_some, false};
 ghost use Rattle.std.specs.Option.{option_map};
 ghost use Rattle.rules_maps.specs.Words.{line_of};
 ghost use Rattle.rules_maps.specs.Shape.{lines, set_of};
 ghost use Rattle.rules_maps.specs.Bridge.{tagged_of};
-ghost use Rattle.rules_maps.specs.Cache.{IsCache, dirty_copy, free_way as lowest_free, keeps as keeps_word, reads_at as any_read, marks_by_home as every_mark};
-ghost use Rattle.rules_maps.specs.CacheChange.{stored, placed, filled, invalidated, cleaned, evicted, words_dropped, rolled_back, read_cleared, committed};
+ghost use Rattle.rules_maps.specs.Cache.{IsCache, dirty_copy, free_way as lowest_free, keeps as keeps_word, reads_at as any_read};
+ghost use Rattle.rules_maps.specs.Cache.{marks_by_home as every_mark};
+ghost use Rattle.rules_maps.specs.CacheChange.{stored, placed, filled, invalidated, cleaned, evicted, words_dropped, rolled_back};
+ghost use Rattle.rules_maps.specs.CacheChange.{read_cleared, committed};
 ghost use Rattle.rules_maps.specs.CacheLook.{look_load as load_answer, look_store as store_answer, look_line, reads_masked};
 ghost use Rattle.rules_maps.specs.Spilled.{spill, none_spilled};
 ghost use Rattle.spec_cache.specs.Held.{Held, maps};
@@ -104,7 +107,8 @@ pub trait Frames: Ways {
     /// valid and modified, and read too where `mark_read` is set.
     fn store_clean(&mut self, w: WordAddr, value: u32, mark_read: bool) -> bool
         ensures config { (Self.held self.new).config ≡ (Self.held self.old).config }
-        ensures does { MatchBool result (StoresClean w.0 value mark_read (maps (Self.held self.old)) (maps (Self.held self.new))) (maps (Self.held self.new) ≡ maps (Self.held self.old)) }
+        ensures does { MatchBool result (StoresClean w.0 value mark_read (maps (Self.held self.old)) (maps (Self.held self.new)))
+            (maps (Self.held self.new) ≡ maps (Self.held self.old)) }
     {
         let line = line_of_word(w);
         let Some((at, mut frame)) = self.find(line) else {
@@ -125,7 +129,9 @@ pub trait Frames: Ways {
         requires absent { (maps (Self.held self.old)).held line.0 ≡ false }
         ensures config { (Self.held self.new).config ≡ (Self.held self.old).config }
         ensures maps { maps (Self.held self.new) ≡ placed (Self.held self.old).config line.0 (maps (Self.held self.old)) }
-        ensures answer { let free = lowest_free (Self.held self.old).config (maps (Self.held self.old)) (set_of (Self.held self.old).config line.0) in MatchResult result (λ _. IsSome free) (λ s. (free ≡ None) × (s ≡ set_of (Self.held self.old).config line.0)) }
+        ensures answer { let free = lowest_free (Self.held self.old).config (maps (Self.held self.old))
+            (set_of (Self.held self.old).config line.0) in
+            MatchResult result (λ _. IsSome free) (λ s. (free ≡ None) × (s ≡ set_of (Self.held self.old).config line.0)) }
     {
         let set = self.set_of_line(line);
         let Some(way) = self.free_way(set) else {
@@ -188,7 +194,8 @@ pub trait Frames: Ways {
         requires way_exists { way < (Self.held self.old).config.ways }
         ensures config { (Self.held self.new).config ≡ (Self.held self.old).config }
         ensures maps { maps (Self.held self.new) ≡ evicted set way (maps (Self.held self.old)) }
-        ensures out { MatchOption result ((maps (Self.held self.old)).at set way ≡ None) (λ e. ((maps (Self.held self.old)).at set way ≡ Some e.line.0) × Gives (maps (Self.held self.old)) e.line.0 e) }
+        ensures out { MatchOption result ((maps (Self.held self.old)).at set way ≡ None)
+            (λ e. ((maps (Self.held self.old)).at set way ≡ Some e.line.0) × Gives (maps (Self.held self.old)) e.line.0 e) }
     {
         let at = self.place_of_way(set, way);
         let Some(mut frame) = self.way(at) else {
@@ -265,7 +272,8 @@ pub trait Frames: Ways {
     fn frame(&self, set: u16, way: u8) -> Option<FrameView>
         requires set_exists { set < (Self.held self.now).config.sets }
         requires way_exists { way < (Self.held self.now).config.ways }
-        ensures view { MatchOption result ((maps (Self.held self.now)).at set way ≡ None) (λ f. ((maps (Self.held self.now)).at set way ≡ Some f.line.0) × Views (maps (Self.held self.now)) f.line.0 f) }
+        ensures view { MatchOption result ((maps (Self.held self.now)).at set way ≡ None)
+            (λ f. ((maps (Self.held self.now)).at set way ≡ Some f.line.0) × Views (maps (Self.held self.now)) f.line.0 f) }
         ensures consistent { IsCache (Self.held self.now).config (maps (Self.held self.now)) }
     {
         self.way(self.place_of_way(set, way))
@@ -273,7 +281,8 @@ pub trait Frames: Ways {
 
     /// The frame of a line; None exactly where it has none.
     fn frame_of(&self, line: LineAddr) -> Option<FrameView>
-        ensures view { MatchOption result ((maps (Self.held self.now)).held line.0 ≡ false) (λ f. IsTrue ((maps (Self.held self.now)).held line.0) × Views (maps (Self.held self.now)) line.0 f) }
+        ensures view { MatchOption result ((maps (Self.held self.now)).held line.0 ≡ false)
+            (λ f. IsTrue ((maps (Self.held self.now)).held line.0) × Views (maps (Self.held self.now)) line.0 f) }
         ensures consistent { IsCache (Self.held self.now).config (maps (Self.held self.now)) }
     {
         match self.find(line) {

@@ -39,7 +39,8 @@ pub(crate) fn written(way: &Option<FrameView>, home: u8, dirs: u8) -> Option<u32
 /// Whether a line at home there has a read mark.
 pub(crate) fn any_reads(ways: &[Option<FrameView>], home: u8, dirs: u8) -> bool
     requires { 0 < dirs }
-    ensures { MatchBool result ((i : ℕ) × (reads_in dirs home (get_or ways.now i None) ≡ true)) ((i : ℕ) → reads_in dirs home (get_or ways.now i None) ≡ false) }
+    ensures { MatchBool result ((i : ℕ) × (reads_in dirs home (get_or ways.now i None) ≡ true))
+        ((i : ℕ) → reads_in dirs home (get_or ways.now i None) ≡ false) }
 {
     for way in ways {
         if reads(way, home, dirs) {

@@ -56,7 +56,8 @@ impl PerSet {
         requires few { get_or self.old.counts set 0 ≤ 16 }
         requires few_all { self.old.all ≤ 16384 }
         ensures sets { length self.new.counts ≡ length self.old.counts }
-        ensures counts { (s : ℕ) → get_or self.new.counts s 0 + num (s == set && less) ≡ get_or self.old.counts s 0 + num (s == set && more) }
+        ensures counts { (s : ℕ) → get_or self.new.counts s 0 + num (s == set && less) ≡ get_or self.old.counts s 0 + num
+            (s == set && more) }
         ensures all { self.new.all + num less ≡ self.old.all + num more }
     {
         if less == more {

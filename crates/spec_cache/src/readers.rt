@@ -1,9 +1,11 @@
 // What a core asks of its cache between its changes: single frames, and what all frames hold together.
-ghost use Rattle.std.specs.Prelude.{◌≡◌, ◌<◌, ◌≤◌, ◌+◌, ◌*◌, ◌&&◌, ◌||◌, ◌==◌, ℕ, Option, None, Some, MatchOption, IfOk, IfSome, OnOk, cond, length, get_or, map};
+ghost use Rattle.std.specs.Prelude.{◌≡◌, ◌<◌, ◌≤◌, ◌+◌, ◌*◌, ◌&&◌, ◌||◌, ◌==◌, ℕ, Option, None, Some, MatchOption, IfOk, IfSome, OnOk};
+ghost use Rattle.std.specs.Prelude.{cond, length, get_or, map};
 ghost use Rattle.std.specs.Option.{option_map};
 ghost use Rattle.rules_maps.specs.Words.{any_below, count_below, those};
 ghost use Rattle.rules_maps.specs.Shape.{lines, home, set_of};
-ghost use Rattle.rules_maps.specs.Cache.{IsCache, keeps as keeps_word, is_marked as marked_line, is_modified as modified_line, is_dirty as dirty_line, writes_at as any_write, marks_by_home as every_mark};
+ghost use Rattle.rules_maps.specs.Cache.{IsCache, keeps as keeps_word, is_marked as marked_line, is_modified as modified_line};
+ghost use Rattle.rules_maps.specs.Cache.{is_dirty as dirty_line, writes_at as any_write, marks_by_home as every_mark};
 ghost use Rattle.rules_maps.specs.CacheUse.{is_number, useful_ways};
 ghost use Rattle.rules_maps.specs.CacheLook.{reads_masked as any_masked};
 ghost use Rattle.spec_cache.specs.Held.{maps};
@@ -58,7 +60,8 @@ impl SpecCache {
     pub fn way(&self, set: u16, way: u8) -> Option<(LineAddr, bool)>
         requires set_exists { set < self.now.config.sets }
         requires way_exists { way < self.now.config.ways }
-        ensures { MatchOption result ((maps self.now).at set way ≡ None) (λ p. ((maps self.now).at set way ≡ Some p.0.0) × (p.1 ≡ marked_line (maps self.now) p.0.0)) }
+        ensures { MatchOption result ((maps self.now).at set way ≡ None)
+            (λ p. ((maps self.now).at set way ≡ Some p.0.0) × (p.1 ≡ marked_line (maps self.now) p.0.0)) }
     {
         match self.frames.way(self.frames.place_of_way(set, way)) {
             None => None,
@@ -179,7 +182,8 @@ impl SpecCache {
     /// there are no more than `k`. Takes a step a set.
     pub fn useful_way(&self, wants: Wants, k: usize) -> Option<(u16, u8)>
         ensures { let all = useful_ways self.now.config (wants_of wants) (maps self.now) in
-            MatchOption result (length all ≤ k) (λ p. (k < length all) × (p.0 < self.now.config.sets) × (p.1 < self.now.config.ways) × (get_or all k 0 ≡ p.0 * self.now.config.ways + p.1)) }
+            MatchOption result (length all ≤ k) (λ p. (k < length all) × (p.0 < self.now.config.sets) × (p.1 < self.now.config.ways)
+            × (get_or all k 0 ≡ p.0 * self.now.config.ways + p.1)) }
     {
         let sets = self.frames.config().sets();
         let mut left = k;

@@ -1,5 +1,6 @@
 // The ways of a cache in one array: a change of one way keeps what is counted of all.
-ghost use Rattle.std.specs.Prelude.{◌≡◌, ◌*◌, ◌<◌, ◌≤◌, ℕ, length, get_or, set, replicate, Option, Some, None, MatchOption, MatchBool, IfOk, IfSome, cond, true, false};
+ghost use Rattle.std.specs.Prelude.{◌≡◌, ◌*◌, ◌<◌, ◌≤◌, ℕ, length, get_or, set, replicate, Option, Some, None, MatchOption, MatchBool};
+ghost use Rattle.std.specs.Prelude.{IfOk, IfSome, cond, true, false};
 ghost use Rattle.spec_cache.specs.Frame.{holds_line};
 ghost use Rattle.spec_cache.specs.Home.{reads_in};
 ghost use Rattle.spec_cache.specs.Useful.{writes_in, dirty_way};
@@ -121,7 +122,8 @@ impl Tracked {
     /// The frame of a way, where it holds the line.
     fn frame_at(&self, at: usize, line: LineAddr) -> Option<FrameView>
         requires { at < length self.now.frames }
-        ensures { MatchOption result (holds_line line.0 (get_or self.now.frames at None) ≡ false) (λ f. (get_or self.now.frames at None ≡ Some f) × (f.line.0 ≡ line.0)) }
+        ensures { MatchOption result (holds_line line.0 (get_or self.now.frames at None) ≡ false)
+            (λ f. (get_or self.now.frames at None ≡ Some f) × (f.line.0 ≡ line.0)) }
     {
         if self.tags[at] != line.0 {
             return None;
@@ -137,7 +139,8 @@ impl Tracked {
         line: LineAddr,
     ) -> Option<(usize, FrameView)>
         requires { end ≤ length self.now.frames }
-        ensures { MatchOption result ((j : ℕ) → first ≤ j → j < end → holds_line line.0 (get_or self.now.frames j None) ≡ false) (λ p. (get_or self.now.frames p.0 None ≡ Some p.1) × (p.1.line.0 ≡ line.0)) }
+        ensures { MatchOption result ((j : ℕ) → first ≤ j → j < end → holds_line line.0 (get_or self.now.frames j None) ≡ false)
+            (λ p. (get_or self.now.frames p.0 None ≡ Some p.1) × (p.1.line.0 ≡ line.0)) }
     {
         for at in first..end {
             if let Some(frame) = self.frame_at(at, line) {

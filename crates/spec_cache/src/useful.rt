@@ -3,7 +3,8 @@ ghost use Rattle.std.specs.Prelude.{◌≡◌, ◌<◌, ◌%◌, ◌&&◌, ◌||
 ghost use Rattle.std.specs.Option.{option_map};
 ghost use Rattle.rules_maps.specs.CacheUse.{is_number};
 ghost use Rattle.spec_cache.specs.PerSet.{idle_way, used_way};
-ghost use Rattle.spec_cache.specs.Useful.{wants_of, is_marked_frame, is_written_frame, useful_in, dirty_way, room_set as set_of_room, line_set as set_of_line, other_set};
+ghost use Rattle.spec_cache.specs.Useful.{wants_of, is_marked_frame, is_written_frame, useful_in, dirty_way, room_set as set_of_room};
+ghost use Rattle.spec_cache.specs.Useful.{line_set as set_of_line, other_set};
 
 use crate::frame::FrameView;
 use tcc_base::LineAddr;

@@ -1,5 +1,6 @@
 // What a form of the frames gives to the calls of a cache: its ways by place, and changes of all frames at once.
-ghost use Rattle.std.specs.Prelude.{◌≡◌, ◌<◌, ◌+◌, ◌*◌, ℕ, length, get_or, set, Option, Some, None, MatchOption, MatchBool, IfSome, IfOk, IsTrue, true, false};
+ghost use Rattle.std.specs.Prelude.{◌≡◌, ◌<◌, ◌+◌, ◌*◌, ℕ, length, get_or, set, Option, Some, None, MatchOption, MatchBool, IfSome, IfOk};
+ghost use Rattle.std.specs.Prelude.{IsTrue, true, false};
 ghost use Rattle.rules_maps.specs.Shape.{set_of};
 ghost use Rattle.rules_maps.specs.Cache.{free_way as lowest_free, all_marked as every_marked};
 ghost use Rattle.rules_maps.specs.CacheLook.{look_line};
@@ -69,7 +70,9 @@ pub trait Ways {
 
     /// Whether a line at home there has a frame with a read mark.
     fn any_reads_at(&self, home: DirId) -> bool
-        ensures any { MatchBool result ((i : ℕ) × (reads_in (held self.now).config.dirs home.0 (get_or (held self.now).frames i None) ≡ true)) ((i : ℕ) → reads_in (held self.now).config.dirs home.0 (get_or (held self.now).frames i None) ≡ false) }
+        ensures any { MatchBool result
+            ((i : ℕ) × (reads_in (held self.now).config.dirs home.0 (get_or (held self.now).frames i None) ≡ true))
+            ((i : ℕ) → reads_in (held self.now).config.dirs home.0 (get_or (held self.now).frames i None) ≡ false) }
         ensures in_order { IsHeld (held self.now) };
 
     /// The lines at home there that have a modified word, in no order.

@@ -6,7 +6,7 @@
 // | `machine CORES DIRS SETS WAYS RAM` | the machine of the rows below, with RAM's bytes; its RAM begins at 0x80000000 |
 // | `image WORD ..` | one more raw image of that machine, as hexadecimal words |
 // | `row TEXT` | a row begins, with all nodes as they start |
-// | `STEP` | a step of which all is shown: the node's state before it, where that isn't the line above, the answer, what is sent, the state |
+// | `STEP` | a step shown whole: the node's state before it, where that isn't the line above, the answer, what is sent, the state |
 // | `+ STEP` | a step on the way to where the row wants to be: what it answers is shown, and how many messages it sends |
 use crate::steps::{Step, read_step};
 use crate::words::Words;

@@ -59,7 +59,8 @@ impl Config {
     ) -> Result<Config, Limit>
         ensures settings { IfOk result (λ c. c ≡ record { cores = cores; dirs = dirs; sets = sets; ways = ways; base = base; ram = ram }) }
         ensures allowed { IfOk result IsAllowed }
-        ensures first_broken { IfErr result (BreaksFirst (record { cores = cores; dirs = dirs; sets = sets; ways = ways; base = base; ram = ram })) }
+        ensures first_broken { IfErr result
+            (BreaksFirst (record { cores = cores; dirs = dirs; sets = sets; ways = ways; base = base; ram = ram })) }
     {
         if !(1..=64).contains(&cores) {
             return Err(Limit::Cores);

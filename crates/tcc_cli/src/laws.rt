@@ -30,8 +30,8 @@ pub fn answers_are_complete()
     what_runs_is_not_refused();
 }
 
-/// A law: where the machine isn't done at the end of a run, of a seed's, of threads, by phases or on one bus, all the events that were asked
-/// for were taken.
+/// A law: where the machine isn't done at the end of a run, of a seed's, of threads, by phases or on one bus, all the events that were
+/// asked for were taken.
 pub fn open_runs_take_all_events()
     ensures runs { OpenRunsTakeAllEvents }
     ensures phased { OpenPhasedRunsTakeAllEvents }

@@ -45,9 +45,9 @@ use work_gen::workload;
 /// machine with one bus for at most so many events that a seed picks, and writes its report; `trace [..] IMAGE..` writes what each event of
 /// a run does while it goes on, with `--states` also which records it changes, `count [..] IMAGE..` how often what happened in it, and
 /// `state [..] IMAGE..` the state after it: a run as `run` makes it by a seed, or as `bus` does, or by the schedule of a file; `outcomes
-/// [..] IMAGE..` searches all results that the images can have, on whatever machine, and writes their table; `follow [..] LIST IMAGE..` runs
-/// images for at most 4,194,304 events so that their transactions commit in the order of a list, whose lines are as a report's, writes the
-/// schedule to a file where one is named, and then the report.
+/// [..] IMAGE..` searches all results that the images can have, on whatever machine, and writes their table; `follow [..] LIST IMAGE..`
+/// runs images for at most 4,194,304 events so that their transactions commit in the order of a list, whose lines are as a report's, writes
+/// the schedule to a file where one is named, and then the report.
 ///
 /// `Done`: at the end every core has halted, nothing is in flight (no packet on the bus) and no frame has a dirty word, or the list ran
 /// to its end, or the table has all results. `Stopped`: the machine isn't done, and a run has then taken all the events that were asked

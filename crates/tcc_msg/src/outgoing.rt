@@ -63,7 +63,8 @@ impl Outgoing {
         ensures unchanged { OnErr result (self.new.list.items ≡ self.old.list.items) }
 
         // What each node gets: the destination gets one more, last, and all others the same as before.
-        ensures sends { OnOk result ((n : Node) → sends_of self.new.list.items n ≡ sends_of self.old.list.items n ++ (if node_eq n (node_of dst) then msg_of msg ∷ [] else [])) }
+        ensures sends { OnOk result ((n : Node) → sends_of self.new.list.items n ≡ sends_of self.old.list.items n
+            ++ (if node_eq n (node_of dst) then msg_of msg ∷ [] else [])) }
     {
         match self.list.push((dst, msg)) {
             Ok(()) => Ok(()),

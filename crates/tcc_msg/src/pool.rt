@@ -1,5 +1,6 @@
 // The messages that have arrived at a place, by name, in an index map: found in constant time, and listed by position.
-ghost use Rattle.std.specs.Prelude.{◌≡◌, ◌<◌, ◌==◌, Some, None, [], ◌∷◌, ◌++◌, length, slice_get, OnOk, OnErr, IfNone, IfSome, option_copied, option_map};
+ghost use Rattle.std.specs.Prelude.{◌≡◌, ◌<◌, ◌==◌, Some, None, [], ◌∷◌, ◌++◌, length, slice_get, OnOk, OnErr, IfNone, IfSome};
+ghost use Rattle.std.specs.Prelude.{option_copied, option_map};
 ghost use Rattle.std.specs.List.{remove as without_place};
 ghost use Rattle.indexmap.specs.IndexMap.{swap_remove_entry};
 

@@ -46,16 +46,17 @@ impl Shift {
         left.min(u64::from(self.batch)) as u32
     }
 
-    /// Takes turns with this ticket. Before turn k it passes the gate for (worker, k). The turn is at `node(k)`, under one lock: acts of that
-    /// node one after another, each with the next word of the generator, up to the first that doesn't move, at most `batch`, and no more
-    /// than there are events left. It ends when the ticket counts `until` events, after `patience` turns in a row that moved nothing, or at
-    /// want of memory, which is its error.
+    /// Takes turns with this ticket. Before turn k it passes the gate for (worker, k). The turn is at `node(k)`, under one lock: acts of
+    /// that node one after another, each with the next word of the generator, up to the first that doesn't move, at most `batch`, and no
+    /// more than there are events left. It ends when the ticket counts `until` events, after `patience` turns in a row that moved nothing,
+    /// or at want of memory, which is its error.
     pub fn take_turns<K, P: Turns<K>>(&self, place: &P, ticket: &mut K) -> Result<(), NoMemory>
         requires counted { P.moved ticket.old ≤ self.now.until }
         requires until { self.now.until ≤ 4194304 }
         requires batch { 1 ≤ self.now.batch }
         requires parts { 0 < P.parts ticket.old }
-        ensures took { TookTurns self.now P.count (P.moved ticket.old) (P.moved ticket.new) (P.calls ticket.old) (P.calls ticket.new) (is_ok result) }
+        ensures took { TookTurns self.now P.count (P.moved ticket.old) (P.moved ticket.new) (P.calls ticket.old) (P.calls ticket.new)
+            (is_ok result) }
         ensures few { P.moved ticket.new ≤ self.now.until }
         ensures short { OnErr result (P.moved ticket.new < self.now.until) }
         ensures parts { P.parts ticket.new ≡ P.parts ticket.old }

@@ -1,5 +1,6 @@
 // A store in memory, which fails at chosen calls.
-ghost use Rattle.std.specs.Prelude.{◌≡◌, ◌≢◌, ℕ, ◌≤◌, List, Option, Some, None, true, false, ◌++◌, ◌∷◌, [], map, if◌then◌else◌, string_bytes, option_map, IfOk, OnOk, OnErr, IsErrOf};
+ghost use Rattle.std.specs.Prelude.{◌≡◌, ◌≢◌, ℕ, ◌≤◌, List, Option, Some, None, true, false, ◌++◌, ◌∷◌, [], map, if◌then◌else◌};
+ghost use Rattle.std.specs.Prelude.{string_bytes, option_map, IfOk, OnOk, OnErr, IsErrOf};
 ghost use Rattle.std.specs.Option.{option_copied};
 ghost use Rattle.std.specs.FinMap as by_name;
 ghost use Rattle.tcc_world.specs.Told.{Gives};
@@ -158,7 +159,8 @@ impl Store for MapStore {
     #[tactic(auto, using(crate::proofs::Holding::booking))]
     fn read(&mut self, alloc: Global, name: &str) -> Result<Vec<u8>, StoreError>
         ensures given { IfOk result (λ bytes. (readable self.old name.now ≡ Some bytes.items) × (self.new ≡ counted self.old)) }
-        ensures failed { IsErrOf result StoreError.Failed → (readable self.old name.now ≡ None) × (self.new ≡ read_failed self.old name.now) }
+        ensures failed { IsErrOf result StoreError.Failed → (readable self.old name.now ≡ None)
+            × (self.new ≡ read_failed self.old name.now) }
         ensures memory { IsErrOf result StoreError.Memory → self.new ≡ self.old }
 
         ensures bytes { IfOk result (λ bytes. Gives (by_name.get self.old.files name.now) bytes.items) }

@@ -79,7 +79,8 @@ impl Sink for VecSink {
         ensures failed { OnErr result (Keeps (Some self.old.bytes) (Some self.new.bytes)) }
         ensures cause { OnErr result (Rose self.old.faults self.new.faults) }
         ensures faults_stay { self.old.faults ≤ self.new.faults }
-        ensures empty { length piece.now ≡ 0 → (result ≡ Ok 0) × (Some self.new.bytes ≡ Some self.old.bytes) × (self.new.faults ≡ self.old.faults) }
+        ensures empty { length piece.now ≡ 0 → (result ≡ Ok 0) × (Some self.new.bytes ≡ Some self.old.bytes)
+            × (self.new.faults ≡ self.old.faults) }
     {
         if piece.is_empty() {
             return Ok(0);

@@ -43,7 +43,8 @@ impl Called {
     }
 
     fn add(&mut self, call: Call)
-        ensures made { Made (if self.old.lost then None else Some self.old.list.items) (if self.new.lost then None else Some self.new.list.items) (call ∷ []) }
+        ensures made { Made (if self.old.lost then None else Some self.old.list.items)
+            (if self.new.lost then None else Some self.new.list.items) (call ∷ []) }
         ensures moved { self.new.moved ≡ self.old.moved }
     {
         if self.list.push(call).is_err() {
@@ -56,7 +57,8 @@ impl<'a> Answering<'a> {
     /// One act, with the next answer.
     fn act(&self, called: &mut Called, node: u32, pick: u32) -> Act
         requires few { called.old.moved < 2 ^ 62 }
-        ensures made { Made (if called.old.lost then None else Some called.old.list.items) (if called.new.lost then None else Some called.new.list.items) (Acted node pick ∷ []) }
+        ensures made { Made (if called.old.lost then None else Some called.old.list.items)
+            (if called.new.lost then None else Some called.new.list.items) (Acted node pick ∷ []) }
         ensures moved { called.new.moved ≡ called.old.moved + entries_by result }
     {
         called.add(Call::Turn(node, pick));
@@ -77,7 +79,8 @@ impl<'a> Answering<'a> {
         requires few { called.old.moved + most ≤ 2 ^ 62 }
         ensures turn { IsTurn most result }
         ensures drawn { words.new ≡ after_words (suc result.before) words.old }
-        ensures made { Made (if called.old.lost then None else Some called.old.list.items) (if called.new.lost then None else Some called.new.list.items) (acts_at node words.old (suc result.before)) }
+        ensures made { Made (if called.old.lost then None else Some called.old.list.items)
+            (if called.new.lost then None else Some called.new.list.items) (acts_at node words.old (suc result.before)) }
         ensures moved { called.new.moved ≡ called.old.moved + moved_in result }
     {
         for before in 0..most - 1 {

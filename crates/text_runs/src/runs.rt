@@ -25,7 +25,8 @@ pub trait TextRun {
     /// neither the run nor the text is of any use.
     fn tell_next(&mut self, shown: bool, text: &mut String) -> Result<bool, NoMemory>
         requires { can self.old }
-        ensures tells { IfOk result (Tells (leads self.old self.new) (ended self.new) shown (string_bytes text.old) (string_bytes text.new)) }
+        ensures tells { IfOk result
+            (Tells (leads self.old self.new) (ended self.new) shown (string_bytes text.old) (string_bytes text.new)) }
         ensures fewer { IfOk result (λ more. IsTrue more → left self.new < left self.old) }
         ensures can_again { OnOk result (can self.new) };
 

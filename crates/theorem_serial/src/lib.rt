@@ -19,8 +19,10 @@ ghost use Rattle.theorem_serial.specs.MaskLaws.{AlwaysSince, MarkedByServed, Mar
 ghost use Rattle.theorem_serial.specs.Partly.{KeptWhole};
 ghost use Rattle.theorem_serial.specs.Probing.{OneProbe};
 ghost use Rattle.theorem_serial.specs.Stored.{KeptStored};
-ghost use Rattle.theorem_serial.specs.Laws.{Always, OneWay, OneRequest, NeverPasses, OwedInFlight, Served, CommitsOnce, HoldsLast, SparesItsCommitter, MarksAreStored};
-ghost use Rattle.theorem_serial.specs.WayLaws.{AlwaysTold, UntoldWhereOpen, UntoldIsLive, AllWaysFit, GivenUpOnce, LiveIsOpen, CommittedWhereStored, SmallerAreResolved, SmallerAreGivenUp, WorkIsReached};
+ghost use Rattle.theorem_serial.specs.Laws.{Always, OneWay, OneRequest, NeverPasses, OwedInFlight, Served, CommitsOnce, HoldsLast};
+ghost use Rattle.theorem_serial.specs.Laws.{SparesItsCommitter, MarksAreStored};
+ghost use Rattle.theorem_serial.specs.WayLaws.{AlwaysTold, UntoldWhereOpen, UntoldIsLive, AllWaysFit, GivenUpOnce, LiveIsOpen};
+ghost use Rattle.theorem_serial.specs.WayLaws.{CommittedWhereStored, SmallerAreResolved, SmallerAreGivenUp, WorkIsReached};
 ghost use Rattle.theorem_serial.specs.AtHomes.{AccessesAtHomes, MarksAtHomes, WrittenInMemory};
 ghost use Rattle.theorem_serial.specs.Invariants.{StartHasAll, RunsCarry, RunsCarryViews, RunsStayInMemory};
 ghost use Rattle.theorem_serial.specs.Theorem.{AllHold, RunsAreSerial};
@@ -34,14 +36,20 @@ ghost use Rattle.tcc_base.specs.declared.access.Commit.{Commit};
 
 /// Instructions over two memories that agree on the words used give the same.
 pub fn steps_depend_on_used_words()
-    ensures same { (base : ℕ) (p : Program) (n : ℕ) (l : Local) (here there : ℕ → ℕ) → Aligned p → IsMemory here → IsMemory there → AgreeOnUsed base p n l here there → MatchOption (steps base p n (begun l here)) (steps base p n (begun l there) ≡ None) (λ a. SameAttempt base here there a (steps base p n (begun l there))) }
+    ensures same { (base : ℕ) (p : Program) (n : ℕ) (l : Local) (here there : ℕ → ℕ) → Aligned p → IsMemory here → IsMemory there
+        → AgreeOnUsed base p n l here there → MatchOption (steps base p n (begun l here)) (steps base p n (begun l there) ≡ None)
+        (λ a. SameAttempt base here there a (steps base p n (begun l there))) }
 {}
 
 /// A serial execution may be cut at any place, and one more transaction may be inserted there: where no later transaction is its
 /// core's or touches a word that it stores, all others give what they gave, and the memory after them differs at its words alone.
 pub fn transaction_inserted()
-    ensures without { (base : ℕ) (p : Program) (last : ℕ) (early late : List Order) (o : Order) (m start done end : Plain) (a : Attempt) (before after : List Commit) → CanInsert base p last early late o m start done end a before after → serial base p last (early ++ late) m ≡ Some (end, before ++ after) }
-    ensures with_it { (base : ℕ) (p : Program) (last : ℕ) (early late : List Order) (o : Order) (m start done end : Plain) (a : Attempt) (before after : List Commit) → Aligned p → IsMemory m.ram → CanInsert base p last early late o m start done end a before after → Inserted base before o a after done end (serial base p last (early ++ o ∷ late) m) }
+    ensures without { (base : ℕ) (p : Program) (last : ℕ) (early late : List Order) (o : Order) (m start done end : Plain) (a : Attempt)
+        (before after : List Commit) → CanInsert base p last early late o m start done end a before after
+        → serial base p last (early ++ late) m ≡ Some (end, before ++ after) }
+    ensures with_it { (base : ℕ) (p : Program) (last : ℕ) (early late : List Order) (o : Order) (m start done end : Plain) (a : Attempt)
+        (before after : List Commit) → Aligned p → IsMemory m.ram → CanInsert base p last early late o m start done end a before after
+        → Inserted base before o a after done end (serial base p last (early ++ o ∷ late) m) }
 {}
 
 /// Where each TID is: at each directory it is resolved in exactly one way, and a core that waits for one has one coming.
