@@ -1,8 +1,8 @@
 #!/bin/bash
 # Times runs on host threads beside the run by a seed of the same program, in seconds that pass, the least of several: a seeded run with a
-# record; runs of 1, 2 and 4 threads; and the replay of what the last of them recorded, which is a part of each run of threads. The
-# programs have no end: each core adds 1 to a word of its own, one transaction after another, of 5 instructions (often) or of 400 (long).
-# Beside each time stand millions of events a second, and the most memory that the run had.
+# record; runs of 1, 2 and 4 threads, one event a turn, and of 4 threads with up to 64; and the replay of what the last of them recorded,
+# which is a part of each run of threads. The programs have no end: each core adds 1 to a word of its own, one transaction after another,
+# of 5 instructions (often) or of 400 (long). Beside each time stand millions of events a second, and the most memory that the run had.
 #
 #   bench/threads.sh [CORESxDIRS]...     the machines (1x1 4x2 16x4 16x16 64x64)
 #
@@ -52,6 +52,7 @@ a_table() {
     for threads in 1 2 4; do
         a_row "$threads" run --raw $machine --threads "$threads" --steps "$steps" --record schedule "$3"
     done
+    a_row 4x64 run --raw $machine --threads 4 --batch 64 --steps "$steps" --record schedule "$3"
     a_row replay replay --raw $machine schedule "$3"
 }
 
