@@ -17,6 +17,7 @@ use rand_pcg::Lcg64Xsh32;
 use rules_apart::{Logged, Logs};
 use std::alloc::Global;
 use std::marker::Brand;
+use std::process::Abort;
 use std::sync::Wait;
 use std::sync::ledger::{Blank, Ledger};
 use std::test::Fail;
@@ -199,7 +200,11 @@ fn two_workers_take_turns_and_end_quiet(rt: HostRuntime) -> Result<(), Fail> {
 }
 
 /// One worker, by a seed, for so many events, with so many acts in a turn at most.
-fn by_one(steps: u64, batch: u16) -> WorkPlan {
+fn by_one(steps: u64, batch: u16) -> WorkPlan
+    ensures threads { result.threads ≡ 1 }
+    ensures steps { result.steps ≡ steps }
+    ensures batch { result.batch ≡ batch }
+{
     WorkPlan {
         threads: 1,
         steps,
@@ -208,37 +213,61 @@ fn by_one(steps: u64, batch: u16) -> WorkPlan {
     }
 }
 
+/// The one worker of this plan does what its turns by hand do, and ends so.
+fn check_worker<R: Abort + Threads + Wait + Sync>(
+    rt: &R,
+    alloc: Global,
+    loaded: &Loaded,
+    plan: &WorkPlan,
+    ended: Ended,
+) -> Result<(), Fail>
+    requires threads { (1 ≤ plan.now.threads) × (plan.now.threads ≤ 16) }
+    requires steps { plan.now.steps ≤ 4194304 }
+    requires batch { (1 ≤ plan.now.batch) × (plan.now.batch ≤ 1024) }
+{
+    let all = worked(rt, alloc, loaded, plan, &OpenGate)?;
+    assert_eq!(rt; all.ended, ended);
+    let nodes = by_hand(rt, alloc, loaded, plan)?;
+    let Ok(logs) = nodes.close(rt, alloc) else {
+        return Err("out of memory".into());
+    };
+    assert!(rt; are_same(&all.logs.by_node.items, &logs.by_node.items));
+    assert_eq!(rt; all.moved, entries(&logs));
+    Ok(())
+}
+
 #[test]
 fn one_worker_acts_at_the_nodes_in_turn(rt: HostRuntime) -> Result<(), Fail> {
-    let loaded = adding(rt.alloc(), 2)?;
-    for (steps, batch, ended) in [
-        (30, 1, Ended::Full),
-        (1_000_000, 1, Ended::Quiet),
-        (31, 3, Ended::Full),
-        (1_000_000, 3, Ended::Quiet),
-    ] {
-        let plan = by_one(steps, batch);
-        let all = worked(&rt, rt.alloc(), &loaded, &plan, &OpenGate)?;
-        assert_eq!(rt; all.ended, ended);
-        let nodes = by_hand(&rt, rt.alloc(), &loaded, &plan)?;
-        let Ok(logs) = nodes.close(&rt, rt.alloc()) else {
-            return Err("out of memory".into());
-        };
-        assert!(rt; are_same(&all.logs.by_node.items, &logs.by_node.items));
-        assert_eq!(rt; all.moved, entries(&logs));
-    }
+    let alloc = rt.alloc();
+    let loaded = adding(alloc, 2)?;
+    check_worker(&rt, alloc, &loaded, &by_one(30, 1), Ended::Full)?;
+    check_worker(&rt, alloc, &loaded, &by_one(1_000_000, 1), Ended::Quiet)?;
+    check_worker(&rt, alloc, &loaded, &by_one(31, 3), Ended::Full)?;
+    check_worker(&rt, alloc, &loaded, &by_one(1_000_000, 3), Ended::Quiet)
+}
+
+/// The schedule of the run of this plan, of one worker, is the merge of what the worker's turns by hand log.
+fn check_run<R: Abort + Threads + Wait + Sync>(
+    rt: &R,
+    alloc: Global,
+    loaded: &Loaded,
+    plan: &WorkPlan,
+) -> Result<(), Fail>
+    requires threads { (1 ≤ plan.now.threads) × (plan.now.threads ≤ 16) }
+    requires steps { plan.now.steps ≤ 4194304 }
+    requires batch { (1 ≤ plan.now.batch) × (plan.now.batch ≤ 1024) }
+{
+    let refined = run_threads(rt, alloc, loaded, plan, &OpenGate)?;
+    let nodes = by_hand(rt, alloc, loaded, plan)?;
+    let schedule = merged(rt, alloc, nodes)?;
+    assert!(rt; refined.taken() == schedule.events.items.as_slice());
     Ok(())
 }
 
 #[test]
 fn a_run_is_the_merge_of_what_its_worker_did(rt: HostRuntime) -> Result<(), Fail> {
-    let loaded = adding(rt.alloc(), 2)?;
-    for batch in [1, 3] {
-        let plan = by_one(1_000_000, batch);
-        let refined = run_threads(&rt, rt.alloc(), &loaded, &plan, &OpenGate)?;
-        let nodes = by_hand(&rt, rt.alloc(), &loaded, &plan)?;
-        let schedule = merged(&rt, rt.alloc(), nodes)?;
-        assert!(rt; refined.taken() == schedule.events.items.as_slice());
-    }
-    Ok(())
+    let alloc = rt.alloc();
+    let loaded = adding(alloc, 2)?;
+    check_run(&rt, alloc, &loaded, &by_one(1_000_000, 1))?;
+    check_run(&rt, alloc, &loaded, &by_one(1_000_000, 3))
 }
