@@ -12,7 +12,6 @@ mod runs;
 mod serials;
 mod threads;
 mod trials;
-mod turns;
 mod waits;
 mod words;
 
