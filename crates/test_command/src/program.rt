@@ -12,6 +12,7 @@ mod runs;
 mod serials;
 mod threads;
 mod trials;
+mod turns;
 mod waits;
 mod words;
 
