@@ -11,7 +11,7 @@ use Rattle.rules_maps.specs.Words.{line_of}
 use Rattle.rules_tcc.specs.Local.{AtCore, AtDir, AtVendor, state_at}
 use Rattle.rules_tcc.specs.State.{CoreState, core_start, dir_start, start, vendor_start}
 use Rattle.rules_tcc.specs.Step.{is_node}
-use Rattle.machine_dirs.proofs.Parts.{dir-first}
+use Rattle.machine_dirs.proofs.Lemmas.{dir-first}
 use Rattle.dir_lines.specs.Home.{IsAtHome}
 use Rattle.directory.specs.Data.{DirData, dir_of}
 use Rattle.theorem_apart.specs.Apart.{NodeInBounds}

@@ -16,7 +16,7 @@ use Rattle.rules_program.specs.Program.{Program}
 use Rattle.rules_tcc.specs.Laws.{EndsUseless}
 use Rattle.rules_tcc.specs.Step.{History, and_then, next_history, run, run_from}
 use Rattle.rules_tcc.specs.Useful.{useful}
-use Rattle.rules_tcc.proofs.Picked.{PicksRun, picked-runs}
+use Rattle.rules_tcc.proofs.Lemmas.{PicksRun, picked-runs}
 use Rattle.apart_run.specs.Joined.{IsJoined, first_useful}
 use Rattle.apart_run.specs.Laws.{JoinedSchedulesAreRuns, OpenJoinedRunsTakeAllEvents}
 

@@ -4,3 +4,4 @@ pub mod Starts
 pub mod MarkedTo
 pub mod MarkedFrom
 pub mod MarkedAbout
+pub mod Lemmas

@@ -1,6 +1,9 @@
--- What other crates may cite: all that rules compute with, the laws of useful events and of picked schedules, and that equal nodes are one.
+-- What other crates may cite: all that rules compute with, the laws of useful events and of picked schedules, where merged logs lead,
+-- and that equal nodes are one.
 pub use Rattle.rules_tcc.proofs.Acts.{if-step}
 unfoldable pub use Rattle.rules_tcc.proofs.Computed.{computed}
+pub use Rattle.rules_tcc.proofs.LocalStep.{begins}
 pub use Rattle.rules_tcc.proofs.Mailed.{node_eq-eq}
-pub use Rattle.rules_tcc.proofs.Picked.{PicksRun, picked-is_run, in-get}
+pub use Rattle.rules_tcc.proofs.Merged.{merged-runs}
+pub use Rattle.rules_tcc.proofs.Picked.{PicksRun, picked-is_run, picked-runs, in-get}
 pub use Rattle.rules_tcc.proofs.Useful.{useful-holds}

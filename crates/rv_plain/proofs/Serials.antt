@@ -13,7 +13,7 @@ use Rattle.rv_plain.specs.declared.plain.Done.{Done}
 use Rattle.rv_plain.specs.declared.plain.Order.{Order as CodeOrder}
 use Rattle.rv_plain.specs.declared.plain.SerialFault.TheVariants.{NotRising, NotEnding}
 use Rattle.tcc_base.specs.declared.access.Commit.{Commit}
-use Rattle.rules_program.proofs.Serials.{serial-append, serial-snoc, last_tid-snoc}
+use Rattle.rules_program.proofs.Lemmas.{serial-append, serial-snoc, last_tid-snoc}
 use Rattle.rules_program.specs.Orders.{last_tid}
 use Rattle.rules_program.specs.Plain.{Plain, Attempt, Order, transaction, commit_of, serial}
 use Rattle.rules_program.specs.Program.{Program}

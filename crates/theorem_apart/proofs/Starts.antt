@@ -13,7 +13,7 @@ use Rattle.rules_tcc.specs.State.{start, core_start, dir_start, vendor_start}
 use Rattle.theorem_serial.specs.Tids.{has_tid}
 use Rattle.theorem_serial.proofs.Lemmas.{start-cores, start-memory}
 use Rattle.theorem_bounds.specs.Bounds.{AttemptCounted}
-use Rattle.theorem_bounds.proofs.Counted.{none}
+use Rattle.theorem_bounds.proofs.Lemmas.{none}
 use Rattle.theorem_apart.specs.Apart.{CoreApart, DirApart}
 use Rattle.theorem_apart.specs.Laws.{NodesStartInBounds, RiscvNodesStartInBounds}
 use Rattle.theorem_apart.proofs.Cores.{core-apart}

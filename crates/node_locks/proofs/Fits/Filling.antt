@@ -7,7 +7,7 @@ use Rattle.rules_maps.specs.Shape.{Shape}
 use Rattle.tcc_msg.specs.Plain.{event_of}
 use Rattle.rules_program.specs.Program.{Program}
 use Rattle.rules_tcc.proofs.Lemmas.{node_eq-eq}
-use Rattle.rules_tcc.proofs.LocalStep.{begins}
+use Rattle.rules_tcc.proofs.Lemmas.{begins}
 use Rattle.rules_tcc.specs.Local.{Mail, Side, at_node, local}
 use Rattle.rules_tcc.specs.Merged.{Each, StoresItsMessage, StoresMessageOf}
 use Rattle.rules_apart.specs.Filled.{filled, handled, entry_of}

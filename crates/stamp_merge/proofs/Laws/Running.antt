@@ -14,7 +14,7 @@ use Rattle.tcc_msg.specs.declared.event.Event.{Event}
 use Rattle.rules_tcc.specs.Local.{Entry, Side, at_node, state_at}
 use Rattle.rules_tcc.specs.Merged.{Each, Sorted, IsMerged, is_at, entry_before, events}
 use Rattle.rules_tcc.specs.Step.{History, run, is_node}
-use Rattle.rules_tcc.proofs.Merged.{merged-runs}
+use Rattle.rules_tcc.proofs.Lemmas.{merged-runs}
 use Rattle.rules_apart.specs.Filled.{handled, entry_of, filled, bare}
 use Rattle.rules_apart.specs.Fitting.{log_of, FitLogs, IsMergeOf}
 use Rattle.rules_apart.specs.declared.logs.Logged.{Logged}

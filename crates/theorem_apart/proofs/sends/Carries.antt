@@ -13,10 +13,10 @@ use Rattle.rules_tcc.specs.Sends.{Sends}
 use Rattle.theorem_serial.specs.Count.{Kind, CopyOf, LinesAway, among, passes}
 use Rattle.theorem_serial.proofs.Lemmas.{HomelyOut, SendsInMemory}
 use Rattle.theorem_live.specs.Fits.{fits}
-use Rattle.theorem_live.proofs.Strays.{AllFit, on_link as strays_on, link-none as clean-none, link-fits, sending-clean}
+use Rattle.theorem_live.proofs.Lemmas.{AllFit, strays_on, strays-none, link-fits, sending-clean}
 use Rattle.theorem_bounds.specs.Bounds.{most_sent}
 use Rattle.theorem_bounds.specs.Messages.{IsLine, line_named}
-use Rattle.theorem_bounds.proofs.Outside.{is_inside, SendsInside, LinkInside, link-none, link-inside, sending-inside}
+use Rattle.theorem_bounds.proofs.Lemmas.{is_inside, SendsInside, LinkInside, link-none, link-inside, sending-inside}
 use Rattle.rules_apart.specs.Carried.{IsCarried}
 use Rattle.theorem_apart.specs.Apart.{EachCarried}
 use Rattle.theorem_apart.proofs.sends.Each.{each-all}
@@ -35,7 +35,7 @@ each-fits sh n sends h dst k d i =
     link-fits sh n dst (sent_all (sends dst)) k (slice_index_or (sends dst) k d) clean (at-sent (sends dst) k d i)
   where
     clean : strays_on sh n dst (sent_all (sends dst)) ≡ 0
-    clean = rw (node_eq-refl n) at (sending-clean sh (λ s e. []) n sends (λ s e. clean-none sh s e) h n dst)
+    clean = rw (node_eq-refl n) at (sending-clean sh (λ s e. []) n sends (λ s e. strays-none sh s e) h n dst)
 
 pub each-inside : (sh : Shape) (n : Node) (sends : Sends) → SendsInside sh (most_sent sh) sends → (dst : Node)
     → All (λ m. is_inside sh m ≡ true) (sends dst)
