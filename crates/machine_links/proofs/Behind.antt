@@ -1,150 +1,93 @@
--- What the lanes, links, marks and counts are behind messages that were sent.
-use Rattle.std.proofs.Common.{◌≡◌, ℕ, suc, zero, ◌+◌, Bool, true, false, ◌&&◌, if◌then◌else◌, List, [], ◌∷◌, ◌++◌, map, length, get_or}
-use Rattle.std.proofs.Common.{Option, Some, None, refl, ap, sym, subst, ◌∙◌, append_assoc, append-nil, arith}
-use Rattle.std.specs.List.{All}
-use Rattle.std.proofs.lemmas.List.{map-append}
-use Rattle.std.proofs.lemmas.List.Elements.{All-head, All-tail}
+-- What the lanes, links, marks and counts are behind a message that was sent.
+use Rattle.std.proofs.Common.{◌≡◌, ℕ, suc, zero, ◌+◌, ◌-◌, ◌<◌, ◌==◌, Bool, true, false, ◌&&◌, if◌then◌else◌, List, [], ◌∷◌, ◌++◌, map}
+use Rattle.std.proofs.Common.{length, get_or, set, Some, None, IsTrue, refl, ap, sym, ◌∙◌, append-nil, arith}
+use Rattle.std.specs.List.{count_by}
+use Rattle.std.proofs.lemmas.Bool.{ne_eqb}
+use Rattle.std.proofs.lemmas.Bool.Decides.{nat_tests}
+use Rattle.std.proofs.lemmas.List.{length-map, map-append}
 use Rattle.tcc_base.specs.declared.names.NodeId.{NodeId}
+use Rattle.rules_maps.specs.Words.{num}
 use Rattle.rules_maps.specs.Nodes.{Node, node_eq}
-use Rattle.rules_maps.specs.Nodes as plain
 use Rattle.rules_maps.specs.Bridge.{node_of}
-use Rattle.tcc_msg.specs.declared.msg.Msg.{Msg}
 use Rattle.tcc_msg.specs.Plain.{msg_of, sends_of}
-use Rattle.rules_tcc.specs.State.{Link}
 use Rattle.rules_tcc.specs.Links.{sending, sent_all}
 use Rattle.machine_links.specs.declared.lane.Held.{Held}
-use Rattle.machine_links.specs.Lane.{Lane, message, is_marked}
-use Rattle.machine_links.specs.Places.{is_link, place}
-use Rattle.machine_links.specs.Flights.{lane_at, lane, net_of, is_ready, and_sent, with_sent}
-use Rattle.machine_links.proofs.Lanes.{Laned, laned-set, lane-set}
-use Rattle.machine_links.proofs.Counts.{Counted, counted-same, push-waiting, push-marked}
-use Rattle.machine_links.proofs.Flown.{with_lanes, same-lane}
-use Rattle.machine_links.proofs.Sends.{sent-place}
+use Rattle.machine_links.specs.Lane.{Lane, message, is_marked, is_waiting}
+use Rattle.machine_links.specs.Places.{place}
+use Rattle.machine_links.specs.Flights.{lane_at, lane, net_of, is_ready, with_mark}
+use Rattle.machine_links.proofs.Lanes.{laned-set, lane-set}
+use Rattle.machine_links.proofs.Counts.{counted-at, counted-set, push-waiting, push-marked}
+use Rattle.machine_links.proofs.Flown.{with_lanes, same-lane, ready-changed}
+use Rattle.machine_links.proofs.Taking.{Stands, below, place-lane}
 
-abbrev unmarked : Msg → Option Held
-unmarked m = Some (record { msg = m; ready = false })
+-- its number
+pub sent-number : (cs ds : ℕ) (ls : List Lane) (s d : Node) (i : ℕ) (l : Lane) → place cs ds s d ≡ Some i → l ≡ get_or ls i []
+    → length l ≡ length (net_of (with_lanes cs ds ls) s d)
+unfolding net_of
+sent-number cs ds ls s d i l at e =
+    ap length (e ∙ sym (place-lane cs ds ls s d i at)) ∙ sym (length-map (lane (with_lanes cs ds ls) s d) message)
 
--- all links of these messages
-abbrev Links : ℕ → ℕ → Node → List (NodeId × Msg) → Type 0
-Links cs ds s es = All (λ e. is_link cs ds s (node_of e.0) ≡ true) es
+pub sent-fits : (cs ds : ℕ) (ls : List Lane) (tree : List ℕ) (fl : ℕ) (s d : Node) (i : ℕ) (l : Lane) (h : Held) → Stands cs ds ls tree fl
+    → place cs ds s d ≡ Some i → l ≡ get_or ls i [] → count_by is_marked (l ++ Some h ∷ []) < 4294967296
+    → IsTrue h.ready → get_or tree i 0 + 1 - num false < 4294967296
+sent-fits cs ds ls tree fl s d i l h stands at e few on =
+    let a : get_or tree i 0 ≡ count_by is_marked (get_or ls i []) =
+    counted-at ls tree fl i stands.counted (below cs ds ls tree fl s d i stands at) in
+    let b : count_by is_marked l ≡ count_by is_marked (get_or ls i []) = ap (count_by is_marked) e in
+    let one : num h.ready ≡ 1 = ap num on in
+    omega (arith, push-marked l h)
 
--- one message
-one-laned : (cs ds : ℕ) (s d : Node) (m : Msg) (ls : List Lane) → Laned cs ds ls → is_link cs ds s d ≡ true
-    → Laned cs ds (and_sent (place cs ds s d) m ls)
-one-laned cs ds s d m ls laned link =
-    let at = sent-place cs ds s d ls laned.all link in
-    subst (λ us. Laned cs ds us) (sym (ap (λ o. and_sent o m ls) at.1))
-    (laned-set cs ds ls s d at.0 (get_or ls at.0 [] ++ unmarked m ∷ []) laned at.1)
-
-one-counted : (cs ds : ℕ) (s d : Node) (m : Msg) (ls : List Lane) (tree : List ℕ) (fl : ℕ) → Laned cs ds ls → is_link cs ds s d ≡ true
-    → Counted ls tree fl
-    → Counted (and_sent (place cs ds s d) m ls) tree (fl + 1)
-one-counted cs ds s d m ls tree fl laned link counted =
-    let at = sent-place cs ds s d ls laned.all link in
-    let h : Held = record { msg = m; ready = false } in
-    subst (λ us. Counted us tree (fl + 1)) (sym (ap (λ o. and_sent o m ls) at.1))
-    (counted-same ls tree fl (fl + 1) at.0 (get_or ls at.0 [] ++ unmarked m ∷ []) counted at.2 (push-marked (get_or ls at.0 []) h refl)
-    (omega (arith, push-waiting (get_or ls at.0 []) h)))
-
-one-lane : (cs ds : ℕ) (s d : Node) (m : Msg) (ls : List Lane) → Laned cs ds ls → is_link cs ds s d ≡ true
-    → (t e : Node) → lane_at (and_sent (place cs ds s d) m ls) (place cs ds t e)
-    ≡ lane_at ls (place cs ds t e) ++ (if node_eq t s && node_eq e d then unmarked m ∷ [] else [])
-one-lane cs ds s d m ls laned link t e =
-    let at = sent-place cs ds s d ls laned.all link in
-    ap (λ o. lane_at (and_sent o m ls) (place cs ds t e)) at.1
-    ∙ (lane-set cs ds ls s d at.0 (get_or ls at.0 [] ++ unmarked m ∷ []) at.2 at.1 t e ∙ by at.0 at.1 (node_eq t s && node_eq e d) refl)
+pub sent-stands : (cs ds : ℕ) (ls : List Lane) (tree : List ℕ) (fl : ℕ) (s d : Node) (i : ℕ) (l : Lane) (h : Held)
+    → Stands cs ds ls tree fl → place cs ds s d ≡ Some i → l ≡ get_or ls i []
+    → Stands cs ds (set ls i (l ++ Some h ∷ [])) (set tree i (get_or tree i 0 + num h.ready - num false)) (fl + 1)
+sent-stands cs ds ls tree fl s d i l h stands at e =
+    let w : i < length ls = below cs ds ls tree fl s d i stands at in
+    let a : get_or tree i 0 ≡ count_by is_marked (get_or ls i []) = counted-at ls tree fl i stands.counted w in
+    let b : count_by is_marked l ≡ count_by is_marked (get_or ls i []) = ap (count_by is_marked) e in
+    record {
+      laned = laned-set cs ds ls s d i (l ++ Some h ∷ []) stands.laned at;
+      counted = counted-set ls tree fl (fl + 1) i (get_or tree i 0 + num h.ready - 0) (l ++ Some h ∷ []) stands.counted w
+          (omega (arith, push-marked l h)) (waiting (get_or ls i []) e);
+    }
   where
-    by : (i : ℕ) → place cs ds s d ≡ Some i → (b : Bool) → (node_eq t s && node_eq e d) ≡ b
-        → (if b then get_or ls i [] ++ unmarked m ∷ [] else lane_at ls (place cs ds t e))
-        ≡ lane_at ls (place cs ds t e) ++ (if b then unmarked m ∷ [] else [])
-    by i at true f = ap (λ l. l ++ unmarked m ∷ []) (sym (same-lane cs ds ls s d t e i at f))
-    by i at false f = sym (append-nil (lane_at ls (place cs ds t e)))
+    waiting : (m : Lane) → l ≡ m → fl + 1 + count_by is_waiting m ≡ fl + count_by is_waiting (l ++ Some h ∷ [])
+    waiting m f = omega (arith, push-waiting l h, ap (count_by is_waiting) f)
 
--- all of them
-pub sent-laned : (cs ds : ℕ) (s : Node) (es : List (NodeId × Msg)) (ls : List Lane) → Laned cs ds ls → Links cs ds s es
-    → Laned cs ds (with_sent cs ds s es ls)
-unfolding with_sent
-sent-laned cs ds s [] ls laned links = laned
-sent-laned cs ds s (e ∷ es) ls laned links =
-    let P : NodeId × Msg → Type 0 = λ x. is_link cs ds s (node_of x.0) ≡ true in
-    sent-laned cs ds s es (and_sent (place cs ds s (node_of e.0)) e.1 ls)
-    (one-laned cs ds s (node_of e.0) e.1 ls laned (All-head P e es links)) (All-tail P e es links)
+pub sent-net : (cs ds : ℕ) (ls : List Lane) (tree : List ℕ) (fl : ℕ) (s : Node) (to : NodeId) (i : ℕ) (l : Lane) (h : Held)
+    → Stands cs ds ls tree fl → place cs ds s (node_of to) ≡ Some i → l ≡ get_or ls i []
+    → net_of (with_lanes cs ds (set ls i (l ++ Some h ∷ []))) ≡ sending (net_of (with_lanes cs ds ls)) s (sends_of ((to, h.msg) ∷ []))
+unfolding net_of lane message sends_of sent_all
+sent-net cs ds ls tree fl s to i l h stands at e =
+    λ t a b. (ap (map message)
+    (lane-set cs ds ls s (node_of to) i (l ++ Some h ∷ []) (below cs ds ls tree fl s (node_of to) i stands at) at a b)
+    ∙ by a b (node_eq a s) refl (node_eq b (node_of to)) refl) t
+  where
+    by : (a b : Node) (p : Bool) → node_eq a s ≡ p → (q : Bool) → node_eq b (node_of to) ≡ q
+        → map message (if p && q then l ++ Some h ∷ [] else lane_at ls (place cs ds a b))
+        ≡ (if p then map message (lane_at ls (place cs ds a b)) ++ sent_all ((if q then msg_of h.msg ∷ [] else []) ++ [])
+        else map message (lane_at ls (place cs ds a b)))
+    by a b true x true y =
+        map-append message l (Some h ∷ [])
+        ∙ ap (λ k. map message k ++ Some (msg_of h.msg) ∷ [])
+        (e ∙ sym (same-lane cs ds ls s (node_of to) a b i at (λ t. x t && y t)))
+    by a b true x false y = sym (append-nil (map message (lane_at ls (place cs ds a b))))
+    by a b false x q y = refl
 
-pub sent-counted : (cs ds : ℕ) (s : Node) (es : List (NodeId × Msg)) (ls : List Lane) (tree : List ℕ) (fl : ℕ) → Laned cs ds ls
-    → Links cs ds s es → Counted ls tree fl
-    → Counted (with_sent cs ds s es ls) tree (fl + length es)
-unfolding with_sent
-sent-counted cs ds s [] ls tree fl laned links counted = subst (λ n. Counted ls tree n) (let e : fl ≡ fl + 0 = omega arith in e) counted
-sent-counted cs ds s (e ∷ es) ls tree fl laned links counted =
-    let P : NodeId × Msg → Type 0 = λ x. is_link cs ds s (node_of x.0) ≡ true in
-    let link : is_link cs ds s (node_of e.0) ≡ true = All-head P e es links in
-    let more : fl + 1 + length es ≡ fl + suc (length es) = omega arith in
-    let after : List Lane = and_sent (place cs ds s (node_of e.0)) e.1 ls in
-    subst (λ n. Counted (with_sent cs ds s es after) tree n) more
-    (sent-counted cs ds s es after tree (fl + 1) (one-laned cs ds s (node_of e.0) e.1 ls laned link) (All-tail P e es links)
-    (one-counted cs ds s (node_of e.0) e.1 ls tree fl laned link counted))
-
-joined : (b c : Bool) (l : Link) (m : Msg) (rest : List plain.Msg)
-    → (if b then (l ++ map message (if b && c then unmarked m ∷ [] else [])) ++ sent_all rest else l ++ map message
-    (if b && c then unmarked m ∷ [] else []))
-    ≡ (if b then l ++ sent_all ((if c then msg_of m ∷ [] else []) ++ rest) else l)
-unfolding message sent_all
-joined true true l m rest = append_assoc l (Some (msg_of m) ∷ []) (sent_all rest)
-joined true false l m rest = ap (λ k. k ++ sent_all rest) (append-nil l)
-joined false c l m rest = append-nil l
-
-none : (b : Bool) (l : Link) → l ≡ (if b then l ++ [] else l)
-none true l = sym (append-nil l)
-none false l = refl
-
-sent-link : (cs ds : ℕ) (s : Node) (es : List (NodeId × Msg)) (ls : List Lane) → Laned cs ds ls → Links cs ds s es
-    → (t e : Node) → map message (lane_at (with_sent cs ds s es ls) (place cs ds t e))
-    ≡ (if node_eq t s then map message (lane_at ls (place cs ds t e)) ++ sent_all (sends_of es e) else map message
-    (lane_at ls (place cs ds t e)))
-unfolding with_sent sends_of sent_all
-sent-link cs ds s [] ls laned links t e = none (node_eq t s) (map message (lane_at ls (place cs ds t e)))
-sent-link cs ds s (x ∷ es) ls laned links t e =
-    let P : NodeId × Msg → Type 0 = λ x. is_link cs ds s (node_of x.0) ≡ true in
-    let link : is_link cs ds s (node_of x.0) ≡ true = All-head P x es links in
-    let after : List Lane = and_sent (place cs ds s (node_of x.0)) x.1 ls in
-    let l : Lane = lane_at ls (place cs ds t e) in
-    let here : map message (lane_at after (place cs ds t e))
-    ≡ map message l ++ map message (if node_eq t s && node_eq e (node_of x.0) then unmarked x.1 ∷ [] else []) =
-    ap (map message) (one-lane cs ds s (node_of x.0) x.1 ls laned link t e)
-    ∙ map-append message l (if node_eq t s && node_eq e (node_of x.0) then unmarked x.1 ∷ [] else []) in
-    sent-link cs ds s es after (one-laned cs ds s (node_of x.0) x.1 ls laned link) (All-tail P x es links) t e
-    ∙ (ap (λ k. if node_eq t s then k ++ sent_all (sends_of es e) else k) here
-    ∙ joined (node_eq t s) (node_eq e (node_of x.0)) (map message l) x.1 (sends_of es e))
-
-pub sent-net : (cs ds : ℕ) (s : Node) (es : List (NodeId × Msg)) (ls : List Lane) → Laned cs ds ls → Links cs ds s es
-    → net_of (with_lanes cs ds (with_sent cs ds s es ls)) ≡ sending (net_of (with_lanes cs ds ls)) s (sends_of es)
-unfolding net_of lane
-sent-net cs ds s es ls laned links = λ i t e. sent-link cs ds s es ls laned links t e i
-
-unmarked-behind : (l : Lane) (b : Bool) (m : Msg) (k : ℕ)
-    → is_marked (get_or (l ++ (if b then unmarked m ∷ [] else [])) k None) ≡ is_marked (get_or l k None)
+marks-behind : (l : Lane) (h : Held) (j : ℕ)
+    → is_marked (get_or (l ++ Some h ∷ []) j None) ≡ (if j == length l then h.ready else is_marked (get_or l j None))
 unfolding is_marked
-unmarked-behind l false m k = ap (λ u. is_marked (get_or u k None)) (append-nil l)
-unmarked-behind [] true m zero = refl
-unmarked-behind [] true m (suc k) = refl
-unmarked-behind (x ∷ xs) true m zero = refl
-unmarked-behind (x ∷ xs) true m (suc k) = unmarked-behind xs true m k
+marks-behind [] h zero = refl
+marks-behind [] h (suc j) = rw (ne_eqb (suc j) 0 (λ e. absurd (omega (arith, e)))) refl
+marks-behind (x ∷ xs) h zero = rw (ne_eqb 0 (suc (length xs)) (λ e. absurd (omega (arith, e)))) refl
+marks-behind (x ∷ xs) h (suc j) =
+    let both : (suc j == suc (length xs)) ≡ (j == length xs) = grind (arith, nat_tests) in
+    rw both (marks-behind xs h j)
 
-sent-marks : (cs ds : ℕ) (s : Node) (es : List (NodeId × Msg)) (ls : List Lane) → Laned cs ds ls → Links cs ds s es
-    → (t e : Node) (k : ℕ)
-    → is_marked (get_or (lane_at (with_sent cs ds s es ls) (place cs ds t e)) k None)
-    ≡ is_marked (get_or (lane_at ls (place cs ds t e)) k None)
-unfolding with_sent
-sent-marks cs ds s [] ls laned links t e k = refl
-sent-marks cs ds s (x ∷ es) ls laned links t e k =
-    let P : NodeId × Msg → Type 0 = λ x. is_link cs ds s (node_of x.0) ≡ true in
-    let link : is_link cs ds s (node_of x.0) ≡ true = All-head P x es links in
-    let after : List Lane = and_sent (place cs ds s (node_of x.0)) x.1 ls in
-    sent-marks cs ds s es after (one-laned cs ds s (node_of x.0) x.1 ls laned link) (All-tail P x es links) t e k
-    ∙ (ap (λ u. is_marked (get_or u k None)) (one-lane cs ds s (node_of x.0) x.1 ls laned link t e)
-    ∙ unmarked-behind (lane_at ls (place cs ds t e)) (node_eq t s && node_eq e (node_of x.0)) x.1 k)
-
-pub sent-ready : (cs ds : ℕ) (s : Node) (es : List (NodeId × Msg)) (ls : List Lane) → Laned cs ds ls → Links cs ds s es
-    → is_ready (with_lanes cs ds (with_sent cs ds s es ls)) ≡ is_ready (with_lanes cs ds ls)
-unfolding is_ready lane
-sent-ready cs ds s es ls laned links = λ i t e k. sent-marks cs ds s es ls laned links t e k i
+pub sent-ready : (cs ds : ℕ) (ls : List Lane) (tree : List ℕ) (fl : ℕ) (s d : Node) (i : ℕ) (l : Lane) (h : Held) → Stands cs ds ls tree fl
+    → place cs ds s d ≡ Some i → l ≡ get_or ls i []
+    → is_ready (with_lanes cs ds (set ls i (l ++ Some h ∷ [])))
+    ≡ with_mark (is_ready (with_lanes cs ds ls)) s d (length (net_of (with_lanes cs ds ls) s d)) h.ready
+sent-ready cs ds ls tree fl s d i l h stands at e =
+    ready-changed cs ds ls s d i (length l) (l ++ Some h ∷ []) h.ready (below cs ds ls tree fl s d i stands at) at
+    (λ j. marks-behind l h j ∙ ap (λ m. if j == length l then h.ready else is_marked (get_or m j None)) e)
+    ∙ ap (λ k. with_mark (is_ready (with_lanes cs ds ls)) s d k h.ready) (sent-number cs ds ls s d i l at e)

@@ -103,45 +103,6 @@ pushed n ws vs l h kept few e = rw add-one (subst (λ us. Kept (suc n) us (l ++ 
     count [] = omega arith
     count (u ∷ us) = omega (arith, count us)
 
--- taken back
-pub backed : (n : ℕ) (ws vs : List Waiting) (w : Waiting) (l : Lane) → Kept n ws l → IsSome (get_or l (length l - 1) None)
-    → ws ≡ vs ++ w ∷ []
-    → (0 < n) × Kept (n - 1) vs (take (length l - 1) l)
-backed n ws vs w l kept last e = by n refl
-  where
-    size : length l ≡ n
-    size = ap length (sym kept.view) ∙ length-laid (held_at ws) n
-
-    seen : IsSome (held_at ws (length l - 1))
-    seen = subst (λ o. IsSome o) (get-lane n ws l (length l - 1) kept) last
-
-    count : (us : List Waiting) → length us ≤ length (us ++ w ∷ [])
-    count [] = omega arith
-    count (u ∷ us) = omega (arith, count us)
-
-    none : n ≡ 0 → held_at ws (length l - 1) ≡ None
-    none z = held-high 0 n ws (length l - 1) kept.rising (omega arith)
-
-    by : (m : ℕ) → n ≡ m → (0 < n) × Kept (n - 1) vs (take (length l - 1) l)
-    by zero z = absurd (false≢true (subst (λ o. IsSome o) (none z) seen))
-    by (suc m) z =
-        let one : n - 1 ≡ m = omega arith in
-        let two : length l - 1 ≡ m = omega (arith, size) in
-        let r : Rises 0 (suc m) (vs ++ w ∷ []) = subst (λ k. Rises 0 k (vs ++ w ∷ [])) z (subst (λ us. Rises 0 n us) e kept.rising) in
-        let some : IsSome (held_at (vs ++ w ∷ []) m) =
-        subst (λ us. IsSome (held_at us m)) e (subst (λ k. IsSome (held_at ws k)) two seen) in
-        let own : w.seq ≡ m = last-seq 0 m vs w r some in
-        let view : laid (held_at (vs ++ w ∷ [])) (suc m) ≡ l =
-        subst (λ k. laid (held_at (vs ++ w ∷ [])) k ≡ l) z (subst (λ us. laid (held_at us) n ≡ l) e kept.view) in (
-          omega arith,
-          rw (one, two) (record {
-            rising = subst (λ k. Rises 0 k vs) own (rises-front 0 (suc m) vs w r).0;
-            few = omega (arith, kept.few, count vs, ap length e);
-            view = laid-front (held_at (vs ++ w ∷ [])) (held_at vs) m (λ k lt. sym (held-push_other vs w k (λ f. omega (arith, f, own))))
-                ∙ ap (take m) view;
-          }),
-        )
-
 -- listed by place
 pub listed : (n : ℕ) (ws : List Waiting) (l : Lane) (i : ℕ) (x : Waiting) → Kept n ws l → i < length ws → x ≡ get_or ws i x
     → Some x.seq ≡ slice_get (numbers_of is_waiting l) i

@@ -1,8 +1,8 @@
 -- How many messages of a lane are marked and in flight, after one of them has changed, and the sums over all lanes.
-use Rattle.std.proofs.Common.{◌≡◌, ℕ, suc, zero, ◌+◌, ◌<◌, ◌≤◌, Bool, false, List, [], ◌∷◌, ◌++◌, map, length, get_or, set, Some, None}
-use Rattle.std.proofs.Common.{refl, ap, sym, ◌∙◌, arith}
+use Rattle.std.proofs.Common.{◌≡◌, ℕ, suc, zero, ◌+◌, ◌<◌, ◌≤◌, Bool, List, [], ◌∷◌, ◌++◌, map, length, get_or, set, Some, None}
+use Rattle.std.proofs.Common.{ap, sym, ◌∙◌, arith}
 use Rattle.std.specs.List.{count_by, sum_by}
-use Rattle.std.proofs.lemmas.List.{set-get_or, map-set, get_or-map}
+use Rattle.std.proofs.lemmas.List.{map-set, get_or-map}
 use Rattle.std.proofs.lemmas.List.Sums.{sum_by-set, sum_by_push, get_or-le-sum_by}
 use Rattle.rules_maps.specs.Words.{num}
 use Rattle.machine_links.specs.declared.lane.Held.{Held}
@@ -53,9 +53,9 @@ pub push-waiting : (l : Lane) (h : Held) → count_by is_waiting (l ++ Some h �
 unfolding is_waiting
 push-waiting l h = sum_by_push (λ x. num (is_waiting x)) l (Some h)
 
-pub push-marked : (l : Lane) (h : Held) → h.ready ≡ false → count_by is_marked (l ++ Some h ∷ []) ≡ count_by is_marked l
+pub push-marked : (l : Lane) (h : Held) → count_by is_marked (l ++ Some h ∷ []) ≡ count_by is_marked l + num h.ready
 unfolding is_marked
-push-marked l h e = sum_by_push (λ x. num (is_marked x)) l (Some h) ∙ (ap (λ b. count_by is_marked l + num b) e ∙ omega arith)
+push-marked l h = sum_by_push (λ x. num (is_marked x)) l (Some h)
 
 -- what is counted by place and all together
 pub record Counted (ls : List Lane) (tree : List ℕ) (fl : ℕ) : Type 0 where
@@ -80,15 +80,4 @@ counted-set ls tree fl new i n l c h e f =
     record {
       counted = (λ t. set (c.counted t) i (e t)) ∙ sym (map-set (count_by is_marked) ls i l);
       flying = omega (arith, c.flying);
-    }
-
--- a lane with the same count
-pub counted-same : (ls : List Lane) (tree : List ℕ) (fl new i : ℕ) (l : Lane) → Counted ls tree fl → i < length ls
-    → count_by is_marked l ≡ count_by is_marked (get_or ls i [])
-    → new + count_by is_waiting (get_or ls i []) ≡ fl + count_by is_waiting l → Counted (set ls i l) tree new
-counted-same ls tree fl new i l c h e f =
-    let all = counted-set ls tree fl new i (count_by is_marked l) l c h refl f in
-    record {
-      counted = sym (ap (λ n. set tree i n) (e ∙ sym (counted-at ls tree fl i c h)) ∙ set-get_or tree i 0) ∙ all.counted;
-      flying = all.flying;
     }

@@ -61,17 +61,3 @@ ready-changed cs ds ls s0 d0 i k l b h at marks =
         marks j ∙ ap (λ m. if j == k then b else is_marked (get_or m j None)) (sym (same-lane cs ds ls s0 d0 s d i at (λ t. e t && f t)))
     by s d j true e false f = refl
     by s d j false e q f = refl
-
-pub ready-kept : (cs ds : ℕ) (ls : List Lane) (s0 d0 : Node) (i : ℕ) (l : Lane) → i < length ls → place cs ds s0 d0 ≡ Some i
-    → ((j : ℕ) → is_marked (get_or l j None) ≡ is_marked (get_or (get_or ls i []) j None))
-    → is_ready (with_lanes cs ds (set ls i l)) ≡ is_ready (with_lanes cs ds ls)
-unfolding is_ready lane
-ready-kept cs ds ls s0 d0 i l h at marks =
-    λ t s d j. (ap (λ m. is_marked (get_or m j None)) (lane-set cs ds ls s0 d0 i l h at s d) ∙ by s d j (node_eq s s0 && node_eq d d0) refl)
-    t
-  where
-    by : (s d : Node) (j : ℕ) (p : Bool) → (node_eq s s0 && node_eq d d0) ≡ p
-        → is_marked (get_or (if p then l else lane_at ls (place cs ds s d)) j None)
-        ≡ is_marked (get_or (lane_at ls (place cs ds s d)) j None)
-    by s d j true e = marks j ∙ ap (λ m. is_marked (get_or m j None)) (sym (same-lane cs ds ls s0 d0 s d i at e))
-    by s d j false e = refl

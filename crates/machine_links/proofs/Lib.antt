@@ -8,9 +8,8 @@ pub mod Lanes
 pub mod Counts
 pub mod Flown
 pub mod Reading
-pub mod Sends
-pub mod Behind
 pub mod Taking
+pub mod Behind
 pub mod Quiet
 pub mod Listing
 pub mod Listed

@@ -75,10 +75,6 @@ pub place-yes : (cs ds : ℕ) (s d : Node) → is_link cs ds s d ≡ true → pl
 unfolding place
 place-yes cs ds s d e = rw e refl
 
-pub place-some : (cs ds : ℕ) (s d : Node) → is_link cs ds s d ≡ true → (i : ℕ) × (place cs ds s d ≡ Some i)
-unfolding place
-place-some cs ds s d e = (rank cs ds s * (cs + ds + 1) + rank cs ds d, rw e refl)
-
 pub place-none : (cs ds : ℕ) (s d : Node) → is_link cs ds s d ≡ false → place cs ds s d ≡ None
 unfolding place
 place-none cs ds s d e = rw e refl

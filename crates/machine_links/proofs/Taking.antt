@@ -11,6 +11,8 @@ use Rattle.rules_tcc.proofs.Lemmas.{node_eq-eq}
 use Rattle.machine_links.specs.declared.lane.Held.{Held}
 use Rattle.machine_links.specs.Lane.{Lane, message, is_marked, is_waiting, marked_as}
 use Rattle.machine_links.specs.Places.{place}
+use Rattle.machine_links.specs.declared.flights.InFlight.TheInside.{Inside}
+use Rattle.machine_links.specs.FlightsInside.{IsFlights}
 use Rattle.machine_links.specs.Flights.{Flights, lane_at, lane, net_of, is_ready, with_mark}
 use Rattle.machine_links.proofs.Placing.{placed}
 use Rattle.machine_links.proofs.Lanes.{Laned, laned-set, in-flight, mark-message, mark-of, mark-set, take-mark}
@@ -22,6 +24,12 @@ use Rattle.machine_links.proofs.Flown.{with_lanes, net-taken, net-kept, ready-ch
 pub record Stands (cs ds : ℕ) (ls : List Lane) (tree : List ℕ) (fl : ℕ) : Type 0 where
   pub laned : Laned cs ds ls
   pub counted : Counted ls tree fl
+
+pub stands-of : (f : Inside) → IsFlights f → Stands f.grid.cores f.grid.dirs f.lanes.items f.ready f.flying
+stands-of f inv = record {
+  laned = record { all = inv.all; unlinked = inv.unlinked };
+  counted = record { counted = inv.counted; flying = inv.flying };
+}
 
 pub below : (cs ds : ℕ) (ls : List Lane) (tree : List ℕ) (fl : ℕ) (s d : Node) (i : ℕ) → Stands cs ds ls tree fl → place cs ds s d ≡ Some i
     → i < length ls

@@ -1,12 +1,9 @@
 -- The messages in flight of a machine: as the links of the rules, with a mark on each, and the list of those that are marked.
-use Rattle.std.specs.Prelude.{ℕ, ◌≡◌, Bool, ◌==◌, ◌&&◌, List, [], ◌∷◌, ◌++◌, map, length, slice_index_or, slice_set}
-use Rattle.std.specs.Prelude.{Option, Some, None, false, if◌then◌else◌}
+use Rattle.std.specs.Prelude.{ℕ, ◌≡◌, Bool, ◌==◌, ◌&&◌, List, [], ◌∷◌, ◌++◌, map, length, slice_index_or}
+use Rattle.std.specs.Prelude.{Option, Some, None, if◌then◌else◌}
 use Rattle.std.specs.List.{flat_map, count_by, sum_by}
-use Rattle.tcc_base.specs.declared.names.NodeId.{NodeId}
 use Rattle.rules_maps.specs.Words.{those}
 use Rattle.rules_maps.specs.Nodes.{Node, Core, Dir, Vendor, Event, Deliver, Msg as PlainMsg, node_eq}
-use Rattle.rules_maps.specs.Bridge.{node_of}
-use Rattle.tcc_msg.specs.declared.msg.Msg.{Msg}
 use Rattle.rules_tcc.specs.Links.{in_flight}
 use Rattle.rules_tcc.specs.State.{Link}
 use Rattle.rules_tcc.specs.Seen.{numbers}
@@ -62,13 +59,3 @@ ready_on f src dst = map (Deliver src dst) (those (is_ready f src dst) (length (
 -- all deliveries that may happen, by source, destination and number
 unfoldable pub ready_list : Flights → List Event
 ready_list f = flat_map (λ src. flat_map (ready_on f src) (nodes_of f)) (nodes_of f)
-
--- one more message at the end of a lane, not marked
-abbrev pub and_sent : Option ℕ → Msg → List Lane → List Lane
-and_sent None m ls = ls
-and_sent (Some i) m ls = slice_set ls i (slice_index_or ls i [] ++ Some (record { msg = m; ready = false }) ∷ [])
-
--- the lanes after these messages from src
-unfoldable pub with_sent : (cores dirs : ℕ) → Node → List (NodeId × Msg) → List Lane → List Lane
-with_sent cs ds src [] ls = ls
-with_sent cs ds src (e ∷ es) ls = with_sent cs ds src es (and_sent (place cs ds src (node_of e.0)) e.1 ls)

@@ -10,8 +10,7 @@ ghost use Rattle.rules_tcc.specs.Links.{in_flight, sending, taking};
 
 use crate::grid::Grid;
 use crate::index::Index;
-use crate::lane::Lane;
-use crate::sending::send_one;
+use crate::lane::{Held, Lane};
 use crate::subject::{Entry, Subject, entry_of};
 use base_sums::SumTree;
 use std::alloc::Global;
@@ -144,29 +143,16 @@ impl InFlight {
             (length (net_of self.old (node_of src) (node_of dst))) ready) }
         ensures unchanged { OnErr result (self.new ≡ self.old) }
     {
-        let seq = self.sent(src, dst);
-        self.put(src, dst, msg)?;
-        self.set_ready(src, dst, seq, ready);
-        Ok(())
-    }
-
-    // Sends one message without a mark.
-    fn put(&mut self, src: NodeId, dst: NodeId, msg: Msg) -> Result<(), NoMemory>
-        requires { is_link self.old.cores self.old.dirs (node_of src) (node_of dst) ≡ true }
-        ensures cores { self.new.cores ≡ self.old.cores }
-        ensures dirs { self.new.dirs ≡ self.old.dirs }
-        ensures net { OnOk result (net_of self.new ≡ sending (net_of self.old) (node_of src) (sends_of ((dst, msg) ∷ []))) }
-        ensures ready { is_ready self.new ≡ is_ready self.old }
-        ensures unchanged { OnErr result (self.new ≡ self.old) }
-    {
         if self.flying == u64::MAX {
             return Err(NoMemory);
         }
-        let entry = entry_of(src, dst, self.sent(src, dst), &msg);
+        let at = self.grid.link(src, dst);
+        let entry = entry_of(src, dst, self.lanes[at].sent(), &msg);
         self.index.list(entry)?;
-        match send_one(self.grid, src, dst, self.lanes.as_mut_slice(), msg) {
+        match self.lanes[at].send(Held { msg, ready }) {
             Ok(()) => {
                 self.flying += 1;
+                count_mark(&mut self.ready, at, false, ready);
                 Ok(())
             }
             Err(NoMemory) => {

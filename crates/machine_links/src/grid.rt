@@ -1,5 +1,5 @@
 // The nodes of a machine in their order, and the place of each pair of them.
-ghost use Rattle.std.specs.Prelude.{◌≡◌, ◌*◌, ◌<◌, ◌≤◌, true};
+ghost use Rattle.std.specs.Prelude.{◌≡◌, ◌*◌, ◌<◌, ◌≤◌, Some, true};
 ghost use Rattle.rules_maps.specs.Bridge.{node_of};
 ghost use Rattle.machine_links.specs.Places.{is_link, node_count, rank, node_at, place, src_at, dst_at};
 
@@ -72,10 +72,18 @@ impl Grid {
         ensures { result ≡ place self.now.cores self.now.dirs (node_of src) (node_of dst) }
     {
         if self.is_link(src, dst) {
-            Some(self.rank(src) * self.nodes() + self.rank(dst))
+            Some(self.link(src, dst))
         } else {
             None
         }
+    }
+
+    /// The place of a link that is there.
+    pub fn link(&self, src: NodeId, dst: NodeId) -> usize
+        requires { is_link self.now.cores self.now.dirs (node_of src) (node_of dst) ≡ true }
+        ensures { place self.now.cores self.now.dirs (node_of src) (node_of dst) ≡ Some result }
+    {
+        self.rank(src) * self.nodes() + self.rank(dst)
     }
 
     /// The source and the destination of the pair at that place.

@@ -65,17 +65,17 @@ impl Lane {
         self.sent
     }
 
-    /// Sends one more message, which isn't marked. `NoMemory` also where 2^32 messages are in flight here, or where 2^64 were sent;
-    /// nothing is changed then. It takes constant time but for the growth of the list.
-    pub fn send(&mut self, msg: Msg) -> Result<(), NoMemory>
-        ensures sent { OnOk result (self.new ≡ self.old ++ Some (record { msg = msg; ready = false }) ∷ []) }
+    /// Sends one more message, marked or not. `NoMemory` also where 2^32 messages are in flight here, or where 2^64 were sent; nothing is
+    /// changed then. It takes constant time but for the growth of the list.
+    pub fn send(&mut self, held: Held) -> Result<(), NoMemory>
+        ensures sent { OnOk result (self.new ≡ self.old ++ Some held ∷ []) }
+        ensures few { OnOk result (count_by is_marked self.new < 2 ^ 32) }
         ensures unchanged { OnErr result (self.new ≡ self.old) }
     {
         if self.sent == u64::MAX || self.waiting.len() >= 0xffff_ffff {
             return Err(NoMemory);
         }
         let seq = self.sent;
-        let held = Held { msg, ready: false };
         match self.waiting.push(Waiting { seq, held }) {
             Ok(()) => {
                 self.sent = seq + 1;
@@ -145,8 +145,22 @@ impl Lane {
     }
 }
 
-// Where the message of that number is.
+// Where the message of that number is. Most links have one message, and most of those that are named are the first.
 fn find(waiting: &[Waiting], seq: u64) -> Option<usize>
+    requires { IsNonDecreasingBy (λ w. w.seq) waiting.now }
+    ensures within { IfSome result (λ i. i < length waiting.now) }
+    ensures found { IfSome result (λ i. (d : Waiting) → (slice_index_or waiting.now i d).seq ≡ seq) }
+    ensures absent { IfNone result (held_at waiting.now seq ≡ None) }
+{
+    if !waiting.is_empty() && waiting[0].seq == seq {
+        Some(0)
+    } else {
+        search(waiting, seq)
+    }
+}
+
+// Where it is, looked for among all.
+fn search(waiting: &[Waiting], seq: u64) -> Option<usize>
     requires { IsNonDecreasingBy (λ w. w.seq) waiting.now }
     ensures within { IfSome result (λ i. i < length waiting.now) }
     ensures found { IfSome result (λ i. (d : Waiting) → (slice_index_or waiting.now i d).seq ≡ seq) }

@@ -5,7 +5,6 @@ mod flights;
 mod grid;
 mod index;
 mod lane;
-mod sending;
 mod subject;
 
 pub use flights::InFlight;

@@ -1,14 +1,22 @@
 // Messages sent, marked, listed and taken, with ample memory.
-use machine_links::{InFlight, Lane};
+use machine_links::{Held, InFlight, Lane};
 use std::alloc::Global;
 use tcc_base::{CoreId, DirId, NoMemory, NodeId, Tid};
 use tcc_msg::{Msg, Name};
 
+// A Skip of this TID, unmarked.
+fn skip(tid: u64) -> Held {
+    Held {
+        msg: Msg::Skip { tid: Tid(tid) },
+        ready: false,
+    }
+}
+
 // Skip 7, then Skip 8.
 fn two_sent(alloc: Global) -> Result<Lane, NoMemory> {
     let mut lane = Lane::new(alloc);
-    lane.send(Msg::Skip { tid: Tid(7) })?;
-    lane.send(Msg::Skip { tid: Tid(8) })?;
+    lane.send(skip(7))?;
+    lane.send(skip(8))?;
     Ok(lane)
 }
 

@@ -12,7 +12,7 @@ use Rattle.machine_links.specs.Flights.{AllListed, net_of, is_ready, lane}
 use Rattle.machine_links.proofs.Lanes.{Laned}
 use Rattle.machine_links.proofs.Flown.{with_lanes}
 use Rattle.machine_links.proofs.Reading.{flown-no_lane}
-use Rattle.machine_links.proofs.Taking.{Stands, below, counted-below, flies-held, place-lane, place-no_lane, marked-counted, marked-fits}
+use Rattle.machine_links.proofs.Taking.{stands-of, below, counted-below, flies-held, place-lane, place-no_lane, marked-counted, marked-fits}
 use Rattle.machine_links.proofs.Taking.{marked-stands, marked-net, marked-ready}
 use Rattle.machine_links.proofs.flights.InFlight.set_ready.Goals as goal
 
@@ -21,10 +21,7 @@ index_mut-requires c =
     let i = c.self.inside in
     let s = node_of c.args.src in
     let d = node_of c.args.dst in
-    let stands : Stands i.grid.cores i.grid.dirs i.lanes.items i.ready i.flying = record {
-      laned = record { all = c.self.invariant.all; unlinked = c.self.invariant.unlinked };
-      counted = record { counted = c.self.invariant.counted; flying = c.self.invariant.flying };
-    } in
+    let stands = stands-of i c.self.invariant in
     let at : place i.grid.cores i.grid.dirs s d ≡ Some c.in-Some.at = sym c.place.ensures ∙ c.in-Some.is in
     omega (arith, below i.grid.cores i.grid.dirs i.lanes.items i.ready i.flying s d c.in-Some.at stands at, i.lanes.ok)
 
@@ -34,10 +31,7 @@ set_ready-was-requires c =
     let i = c.self.inside in
     let s = node_of c.args.src in
     let d = node_of c.args.dst in
-    let stands : Stands i.grid.cores i.grid.dirs i.lanes.items i.ready i.flying = record {
-      laned = record { all = c.self.invariant.all; unlinked = c.self.invariant.unlinked };
-      counted = record { counted = c.self.invariant.counted; flying = c.self.invariant.flying };
-    } in
+    let stands = stands-of i c.self.invariant in
     let at : place i.grid.cores i.grid.dirs s d ≡ Some c.in-Some.at = sym c.place.ensures ∙ c.in-Some.is in
     let e : c.index_mut.result.now ≡ get_or i.lanes.items c.in-Some.at [] =
     get_or_read i.lanes.items c.in-Some.at c.index_mut.result.now
@@ -51,10 +45,7 @@ count_mark-requires-clause-place c =
     let i = c.self.inside in
     let s = node_of c.args.src in
     let d = node_of c.args.dst in
-    let stands : Stands i.grid.cores i.grid.dirs i.lanes.items i.ready i.flying = record {
-      laned = record { all = c.self.invariant.all; unlinked = c.self.invariant.unlinked };
-      counted = record { counted = c.self.invariant.counted; flying = c.self.invariant.flying };
-    } in
+    let stands = stands-of i c.self.invariant in
     let at : place i.grid.cores i.grid.dirs s d ≡ Some c.in-Some.at = sym c.place.ensures ∙ c.in-Some.is in
     counted-below i.grid.cores i.grid.dirs i.lanes.items i.ready i.flying s d c.in-Some.at stands at
 
@@ -64,10 +55,7 @@ count_mark-requires-clause-counted c =
     let i = c.self.inside in
     let s = node_of c.args.src in
     let d = node_of c.args.dst in
-    let stands : Stands i.grid.cores i.grid.dirs i.lanes.items i.ready i.flying = record {
-      laned = record { all = c.self.invariant.all; unlinked = c.self.invariant.unlinked };
-      counted = record { counted = c.self.invariant.counted; flying = c.self.invariant.flying };
-    } in
+    let stands = stands-of i c.self.invariant in
     let at : place i.grid.cores i.grid.dirs s d ≡ Some c.in-Some.at = sym c.place.ensures ∙ c.in-Some.is in
     let e : c.index_mut.result.now ≡ get_or i.lanes.items c.in-Some.at [] =
     get_or_read i.lanes.items c.in-Some.at c.index_mut.result.now
@@ -86,10 +74,7 @@ count_mark-requires-clause-fits c =
     let i = c.self.inside in
     let s = node_of c.args.src in
     let d = node_of c.args.dst in
-    let stands : Stands i.grid.cores i.grid.dirs i.lanes.items i.ready i.flying = record {
-      laned = record { all = c.self.invariant.all; unlinked = c.self.invariant.unlinked };
-      counted = record { counted = c.self.invariant.counted; flying = c.self.invariant.flying };
-    } in
+    let stands = stands-of i c.self.invariant in
     let at : place i.grid.cores i.grid.dirs s d ≡ Some c.in-Some.at = sym c.place.ensures ∙ c.in-Some.is in
     let e : c.index_mut.result.now ≡ get_or i.lanes.items c.in-Some.at [] =
     get_or_read i.lanes.items c.in-Some.at c.index_mut.result.now
@@ -109,10 +94,7 @@ invariant_of-self c =
     let i = c.self.inside in
     let s = node_of c.args.src in
     let d = node_of c.args.dst in
-    let stands : Stands i.grid.cores i.grid.dirs i.lanes.items i.ready i.flying = record {
-      laned = record { all = c.self.invariant.all; unlinked = c.self.invariant.unlinked };
-      counted = record { counted = c.self.invariant.counted; flying = c.self.invariant.flying };
-    } in
+    let stands = stands-of i c.self.invariant in
     let at : place i.grid.cores i.grid.dirs s d ≡ Some c.in-Some.at = sym c.place.ensures ∙ c.in-Some.is in
     let e : c.index_mut.result.now ≡ get_or i.lanes.items c.in-Some.at [] =
     get_or_read i.lanes.items c.in-Some.at c.index_mut.result.now
@@ -146,10 +128,7 @@ returns-in-Some-clause-net c =
     let i = c.self.inside in
     let s = node_of c.args.src in
     let d = node_of c.args.dst in
-    let stands : Stands i.grid.cores i.grid.dirs i.lanes.items i.ready i.flying = record {
-      laned = record { all = c.self.invariant.all; unlinked = c.self.invariant.unlinked };
-      counted = record { counted = c.self.invariant.counted; flying = c.self.invariant.flying };
-    } in
+    let stands = stands-of i c.self.invariant in
     let at : place i.grid.cores i.grid.dirs s d ≡ Some c.in-Some.at = sym c.place.ensures ∙ c.in-Some.is in
     let e : c.index_mut.result.now ≡ get_or i.lanes.items c.in-Some.at [] =
     get_or_read i.lanes.items c.in-Some.at c.index_mut.result.now
@@ -165,10 +144,7 @@ returns-in-Some-clause-ready c =
     let i = c.self.inside in
     let s = node_of c.args.src in
     let d = node_of c.args.dst in
-    let stands : Stands i.grid.cores i.grid.dirs i.lanes.items i.ready i.flying = record {
-      laned = record { all = c.self.invariant.all; unlinked = c.self.invariant.unlinked };
-      counted = record { counted = c.self.invariant.counted; flying = c.self.invariant.flying };
-    } in
+    let stands = stands-of i c.self.invariant in
     let at : place i.grid.cores i.grid.dirs s d ≡ Some c.in-Some.at = sym c.place.ensures ∙ c.in-Some.is in
     let e : c.index_mut.result.now ≡ get_or i.lanes.items c.in-Some.at [] =
     get_or_read i.lanes.items c.in-Some.at c.index_mut.result.now

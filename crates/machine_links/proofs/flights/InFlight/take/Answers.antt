@@ -11,7 +11,7 @@ use Rattle.machine_links.proofs.Lanes.{Laned}
 use Rattle.machine_links.proofs.Flown.{with_lanes}
 use Rattle.machine_links.proofs.Listings.{taken-listed}
 use Rattle.machine_links.proofs.Reading.{flown-some, flown-none, flown-no_lane}
-use Rattle.machine_links.proofs.Taking.{Stands, below, counted-below, taken-flying, taken-marked, taken-stands, taken-net, taken-ready}
+use Rattle.machine_links.proofs.Taking.{stands-of, below, counted-below, taken-flying, taken-marked, taken-stands, taken-net, taken-ready}
 use Rattle.machine_links.proofs.Taking.{no_link-net, no_link-ready, place-no_lane, place-lane}
 use Rattle.machine_links.proofs.flights.InFlight.take.Goals as goal
 
@@ -21,10 +21,7 @@ returns-in_err-at-clause-given c =
     let i = c.self.inside in
     let s = node_of c.args.name.src in
     let d = node_of c.args.name.dst in
-    let stands : Stands i.grid.cores i.grid.dirs i.lanes.items i.ready i.flying = record {
-      laned = record { all = c.self.invariant.all; unlinked = c.self.invariant.unlinked };
-      counted = record { counted = c.self.invariant.counted; flying = c.self.invariant.flying };
-    } in
+    let stands = stands-of i c.self.invariant in
     let none = place-no_lane i.grid.cores i.grid.dirs i.lanes.items s d (sym c.place.ensures ∙ c.in_err-at.was) in
     rw (← c.self.view_is, c.from_residual.ensures)
     (flown-no_lane (with_lanes i.grid.cores i.grid.dirs i.lanes.items) s d c.args.name.seq none)
@@ -35,10 +32,7 @@ returns-in_err-at-clause-net c =
     let i = c.self.inside in
     let s = node_of c.args.name.src in
     let d = node_of c.args.name.dst in
-    let stands : Stands i.grid.cores i.grid.dirs i.lanes.items i.ready i.flying = record {
-      laned = record { all = c.self.invariant.all; unlinked = c.self.invariant.unlinked };
-      counted = record { counted = c.self.invariant.counted; flying = c.self.invariant.flying };
-    } in
+    let stands = stands-of i c.self.invariant in
     let none = place-no_lane i.grid.cores i.grid.dirs i.lanes.items s d (sym c.place.ensures ∙ c.in_err-at.was) in
     rw (← c.self.view_is) (no_link-net (with_lanes i.grid.cores i.grid.dirs i.lanes.items) s d c.args.name.seq none)
 
@@ -48,10 +42,7 @@ returns-in_err-at-clause-ready c =
     let i = c.self.inside in
     let s = node_of c.args.name.src in
     let d = node_of c.args.name.dst in
-    let stands : Stands i.grid.cores i.grid.dirs i.lanes.items i.ready i.flying = record {
-      laned = record { all = c.self.invariant.all; unlinked = c.self.invariant.unlinked };
-      counted = record { counted = c.self.invariant.counted; flying = c.self.invariant.flying };
-    } in
+    let stands = stands-of i c.self.invariant in
     let none = place-no_lane i.grid.cores i.grid.dirs i.lanes.items s d (sym c.place.ensures ∙ c.in_err-at.was) in
     rw (← c.self.view_is) (no_link-ready (with_lanes i.grid.cores i.grid.dirs i.lanes.items) s d c.args.name.seq none)
 
@@ -60,10 +51,7 @@ index_mut-requires c =
     let i = c.self.inside in
     let s = node_of c.args.name.src in
     let d = node_of c.args.name.dst in
-    let stands : Stands i.grid.cores i.grid.dirs i.lanes.items i.ready i.flying = record {
-      laned = record { all = c.self.invariant.all; unlinked = c.self.invariant.unlinked };
-      counted = record { counted = c.self.invariant.counted; flying = c.self.invariant.flying };
-    } in
+    let stands = stands-of i c.self.invariant in
     let at : place i.grid.cores i.grid.dirs s d ≡ Some c.in_ok-at.at = sym c.place.ensures ∙ c.in_ok-at.was in
     omega (arith, below i.grid.cores i.grid.dirs i.lanes.items i.ready i.flying s d c.in_ok-at.at stands at, i.lanes.ok)
 
@@ -73,10 +61,7 @@ returns-in_err-held-clause-given c =
     let i = c.self.inside in
     let s = node_of c.args.name.src in
     let d = node_of c.args.name.dst in
-    let stands : Stands i.grid.cores i.grid.dirs i.lanes.items i.ready i.flying = record {
-      laned = record { all = c.self.invariant.all; unlinked = c.self.invariant.unlinked };
-      counted = record { counted = c.self.invariant.counted; flying = c.self.invariant.flying };
-    } in
+    let stands = stands-of i c.self.invariant in
     let at : place i.grid.cores i.grid.dirs s d ≡ Some c.in_ok-at.at = sym c.place.ensures ∙ c.in_ok-at.was in
     let e : c.index_mut.result.now ≡ get_or i.lanes.items c.in_ok-at.at [] =
     get_or_read i.lanes.items c.in_ok-at.at c.index_mut.result.now
@@ -92,10 +77,7 @@ returns-in_err-held-clause-net c =
     let i = c.self.inside in
     let s = node_of c.args.name.src in
     let d = node_of c.args.name.dst in
-    let stands : Stands i.grid.cores i.grid.dirs i.lanes.items i.ready i.flying = record {
-      laned = record { all = c.self.invariant.all; unlinked = c.self.invariant.unlinked };
-      counted = record { counted = c.self.invariant.counted; flying = c.self.invariant.flying };
-    } in
+    let stands = stands-of i c.self.invariant in
     let at : place i.grid.cores i.grid.dirs s d ≡ Some c.in_ok-at.at = sym c.place.ensures ∙ c.in_ok-at.was in
     let e : c.index_mut.result.now ≡ get_or i.lanes.items c.in_ok-at.at [] =
     get_or_read i.lanes.items c.in_ok-at.at c.index_mut.result.now
@@ -110,10 +92,7 @@ returns-in_err-held-clause-ready c =
     let i = c.self.inside in
     let s = node_of c.args.name.src in
     let d = node_of c.args.name.dst in
-    let stands : Stands i.grid.cores i.grid.dirs i.lanes.items i.ready i.flying = record {
-      laned = record { all = c.self.invariant.all; unlinked = c.self.invariant.unlinked };
-      counted = record { counted = c.self.invariant.counted; flying = c.self.invariant.flying };
-    } in
+    let stands = stands-of i c.self.invariant in
     let at : place i.grid.cores i.grid.dirs s d ≡ Some c.in_ok-at.at = sym c.place.ensures ∙ c.in_ok-at.was in
     let e : c.index_mut.result.now ≡ get_or i.lanes.items c.in_ok-at.at [] =
     get_or_read i.lanes.items c.in_ok-at.at c.index_mut.result.now
@@ -127,10 +106,7 @@ overflow_sub-self c =
     let i = c.self.inside in
     let s = node_of c.args.name.src in
     let d = node_of c.args.name.dst in
-    let stands : Stands i.grid.cores i.grid.dirs i.lanes.items i.ready i.flying = record {
-      laned = record { all = c.self.invariant.all; unlinked = c.self.invariant.unlinked };
-      counted = record { counted = c.self.invariant.counted; flying = c.self.invariant.flying };
-    } in
+    let stands = stands-of i c.self.invariant in
     let at : place i.grid.cores i.grid.dirs s d ≡ Some c.in_ok-at.at = sym c.place.ensures ∙ c.in_ok-at.was in
     let e : c.index_mut.result.now ≡ get_or i.lanes.items c.in_ok-at.at [] =
     get_or_read i.lanes.items c.in_ok-at.at c.index_mut.result.now
@@ -143,10 +119,7 @@ count_mark-requires-clause-place c =
     let i = c.self.inside in
     let s = node_of c.args.name.src in
     let d = node_of c.args.name.dst in
-    let stands : Stands i.grid.cores i.grid.dirs i.lanes.items i.ready i.flying = record {
-      laned = record { all = c.self.invariant.all; unlinked = c.self.invariant.unlinked };
-      counted = record { counted = c.self.invariant.counted; flying = c.self.invariant.flying };
-    } in
+    let stands = stands-of i c.self.invariant in
     let at : place i.grid.cores i.grid.dirs s d ≡ Some c.in_ok-at.at = sym c.place.ensures ∙ c.in_ok-at.was in
     counted-below i.grid.cores i.grid.dirs i.lanes.items i.ready i.flying s d c.in_ok-at.at stands at
 
@@ -155,10 +128,7 @@ count_mark-requires-clause-counted c =
     let i = c.self.inside in
     let s = node_of c.args.name.src in
     let d = node_of c.args.name.dst in
-    let stands : Stands i.grid.cores i.grid.dirs i.lanes.items i.ready i.flying = record {
-      laned = record { all = c.self.invariant.all; unlinked = c.self.invariant.unlinked };
-      counted = record { counted = c.self.invariant.counted; flying = c.self.invariant.flying };
-    } in
+    let stands = stands-of i c.self.invariant in
     let at : place i.grid.cores i.grid.dirs s d ≡ Some c.in_ok-at.at = sym c.place.ensures ∙ c.in_ok-at.was in
     let e : c.index_mut.result.now ≡ get_or i.lanes.items c.in_ok-at.at [] =
     get_or_read i.lanes.items c.in_ok-at.at c.index_mut.result.now
@@ -172,10 +142,7 @@ invariant_of-self-2 c =
     let i = c.self.inside in
     let s = node_of c.args.name.src in
     let d = node_of c.args.name.dst in
-    let stands : Stands i.grid.cores i.grid.dirs i.lanes.items i.ready i.flying = record {
-      laned = record { all = c.self.invariant.all; unlinked = c.self.invariant.unlinked };
-      counted = record { counted = c.self.invariant.counted; flying = c.self.invariant.flying };
-    } in
+    let stands = stands-of i c.self.invariant in
     let at : place i.grid.cores i.grid.dirs s d ≡ Some c.in_ok-at.at = sym c.place.ensures ∙ c.in_ok-at.was in
     let e : c.index_mut.result.now ≡ get_or i.lanes.items c.in_ok-at.at [] =
     get_or_read i.lanes.items c.in_ok-at.at c.index_mut.result.now
@@ -205,10 +172,7 @@ returns-clause-given c =
     let i = c.self.inside in
     let s = node_of c.args.name.src in
     let d = node_of c.args.name.dst in
-    let stands : Stands i.grid.cores i.grid.dirs i.lanes.items i.ready i.flying = record {
-      laned = record { all = c.self.invariant.all; unlinked = c.self.invariant.unlinked };
-      counted = record { counted = c.self.invariant.counted; flying = c.self.invariant.flying };
-    } in
+    let stands = stands-of i c.self.invariant in
     let at : place i.grid.cores i.grid.dirs s d ≡ Some c.in_ok-at.at = sym c.place.ensures ∙ c.in_ok-at.was in
     let e : c.index_mut.result.now ≡ get_or i.lanes.items c.in_ok-at.at [] =
     get_or_read i.lanes.items c.in_ok-at.at c.index_mut.result.now
@@ -224,10 +188,7 @@ returns-clause-net c =
     let i = c.self.inside in
     let s = node_of c.args.name.src in
     let d = node_of c.args.name.dst in
-    let stands : Stands i.grid.cores i.grid.dirs i.lanes.items i.ready i.flying = record {
-      laned = record { all = c.self.invariant.all; unlinked = c.self.invariant.unlinked };
-      counted = record { counted = c.self.invariant.counted; flying = c.self.invariant.flying };
-    } in
+    let stands = stands-of i c.self.invariant in
     let at : place i.grid.cores i.grid.dirs s d ≡ Some c.in_ok-at.at = sym c.place.ensures ∙ c.in_ok-at.was in
     let e : c.index_mut.result.now ≡ get_or i.lanes.items c.in_ok-at.at [] =
     get_or_read i.lanes.items c.in_ok-at.at c.index_mut.result.now
@@ -242,10 +203,7 @@ returns-clause-ready c =
     let i = c.self.inside in
     let s = node_of c.args.name.src in
     let d = node_of c.args.name.dst in
-    let stands : Stands i.grid.cores i.grid.dirs i.lanes.items i.ready i.flying = record {
-      laned = record { all = c.self.invariant.all; unlinked = c.self.invariant.unlinked };
-      counted = record { counted = c.self.invariant.counted; flying = c.self.invariant.flying };
-    } in
+    let stands = stands-of i c.self.invariant in
     let at : place i.grid.cores i.grid.dirs s d ≡ Some c.in_ok-at.at = sym c.place.ensures ∙ c.in_ok-at.was in
     let e : c.index_mut.result.now ≡ get_or i.lanes.items c.in_ok-at.at [] =
     get_or_read i.lanes.items c.in_ok-at.at c.index_mut.result.now
