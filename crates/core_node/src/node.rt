@@ -25,8 +25,8 @@ use crate::delivering::{CoreError, from_dir, from_vendor};
 use crate::evicting::{can_evict, evict};
 use crate::exec::{Executed, exec};
 use crate::state::Core;
-use crate::useful::{useful_evict, useful_evicts};
-use crate::waiting::{can_exec, waits_for_room};
+use crate::useful::{useful_evict, useful_evicts, uses};
+use crate::waiting::{may_exec, waits_for_room};
 use commit_engine::{DirSet, Phase};
 use overflow_buf::OverflowBuf;
 use reg_checkpoint::Check;
@@ -161,7 +161,7 @@ impl CoreNode {
         requires { code.now.settings ≡ self.now.config }
         ensures { result ≡ is_some (core_exec self.now.config (program (started code.now)) self.now.id.0 (core_of self.now)) }
     {
-        can_exec(&self.core, code)
+        may_exec(&self.core, waits_for_room(&self.core, code))
     }
 
     /// The set in which the core waits for room, so that it is of use to empty a frame there; None where it doesn't wait. The code
@@ -180,6 +180,15 @@ impl CoreNode {
         ensures { result ≡ length (useful_pairs self.now.config (program (started code.now)) (core_of self.now)) }
     {
         useful_evicts(&self.core, code)
+    }
+
+    /// Whether the core may execute, and how many evictions are useful: `can_exec` and `useful_evicts` at the price of one.
+    pub fn uses(&self, code: &Code) -> (bool, usize)
+        requires { code.now.settings ≡ self.now.config }
+        ensures exec { result.0 ≡ is_some (core_exec self.now.config (program (started code.now)) self.now.id.0 (core_of self.now)) }
+        ensures evicts { result.1 ≡ length (useful_pairs self.now.config (program (started code.now)) (core_of self.now)) }
+    {
+        uses(&self.core, code)
     }
 
     /// The set and way of the `k`-th useful eviction, from 0, in the order of set and way; None exactly where there are no more than

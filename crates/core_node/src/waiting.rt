@@ -1,5 +1,6 @@
-// Whether a core may execute, and the set in which it waits for room, so that an eviction there is of use.
+// The set in which a core waits for room, so that an eviction there is of use, and whether it may execute.
 ghost use Rattle.std.specs.Prelude.{◌≡◌, is_some, not};
+ghost use Rattle.rules_program.specs.Program.{Program};
 ghost use Rattle.image_load.specs.Contents.{started};
 ghost use Rattle.rv_code.specs.Machine.{program};
 ghost use Rattle.rv_code.specs.Served.{IsServed};
@@ -132,29 +133,25 @@ fn is_free(set: Option<u16>) -> bool
     }
 }
 
-/// Whether a core may execute that runs or is alone: it awaits no line, and doesn't wait for room.
-fn can_execute(core: &Core, code: &Code) -> bool
-    requires whole { IsCore core.now }
-    requires same { code.now.settings ≡ core.now.config }
-    ensures { result ≡ is_some
-        (exec_unless_awaiting core.now.config (program (started code.now)) core.now.id.0 (core_of core.now)
-        (awaited_of core.now.awaited)) }
+/// Whether a core may execute that runs or is alone and waits for room there: it awaits no line, and doesn't wait for room.
+fn may_execute(core: &Core, waits: Option<u16>) -> bool
+    ensures { (p : Program) → waits ≡ unless_awaiting core.now.config p (core_of core.now) (awaited_of core.now.awaited)
+        → result ≡ is_some (exec_unless_awaiting core.now.config p core.now.id.0 (core_of core.now) (awaited_of core.now.awaited)) }
 {
     match core.awaited {
         Some(_) => false,
-        None => is_free(room_at_pc(core, code)),
+        None => is_free(waits),
     }
 }
 
-/// Whether the core may execute.
-pub(crate) fn can_exec(core: &Core, code: &Code) -> bool
-    requires whole { IsCore core.now }
-    requires same { code.now.settings ≡ core.now.config }
-    ensures { result ≡ is_some (core_exec core.now.config (program (started code.now)) core.now.id.0 (core_of core.now)) }
+/// Whether a core may execute that waits for room there.
+pub(crate) fn may_exec(core: &Core, waits: Option<u16>) -> bool
+    ensures { (p : Program) → waits ≡ room core.now.config p (core_of core.now)
+        → result ≡ is_some (core_exec core.now.config p core.now.id.0 (core_of core.now)) }
 {
     match core.phase {
-        Phase::Running => can_execute(core, code),
-        Phase::Solo(_) => can_execute(core, code),
+        Phase::Running => may_execute(core, waits),
+        Phase::Solo(_) => may_execute(core, waits),
         Phase::Ready(_) => true,
         Phase::AwaitTid => false,
         Phase::DoomedTid => false,

@@ -14,23 +14,6 @@ use rv_code::Code;
 use std::alloc::Global;
 use tcc_base::{CoreId, List, NoMemory};
 
-/// 1 where the core can execute, else 0.
-fn exec_count(core: &CoreNode, code: &Code) -> u32
-    requires { code.now.settings ≡ core.now.config }
-    ensures { result ≡ execs_of core.now.config (program (started code.now)) core.now.id.0 (core_of core.now) }
-{
-    if core.can_exec(code) { 1 } else { 0 }
-}
-
-/// How many of the core's evictions are useful: at most one for each of its at most 1024 times 16 ways.
-fn evict_count(core: &CoreNode, code: &Code) -> u32
-    requires allowed { IsAllowed core.now.config }
-    requires same { code.now.settings ≡ core.now.config }
-    ensures { result ≡ evicts_of core.now.config (program (started code.now)) (core_of core.now) }
-{
-    core.useful_evicts(code) as u32
-}
-
 /// Counts the useful events of the core of this number anew. After a call that failed the counts are as before, since the state of
 /// the rules that the core stands for is.
 pub(crate) fn recount(
@@ -48,8 +31,10 @@ pub(crate) fn recount(
         (execs_of core.now.config (program (started code.now)) core.now.id.0 (core_of core.now)) }
     ensures evicts { evicts.new ≡ slice_set evicts.old number (evicts_of core.now.config (program (started code.now)) (core_of core.now)) }
 {
-    execs.set(number, exec_count(core, code));
-    evicts.set(number, evict_count(core, code));
+    let (may_execute, evictions) = core.uses(code);
+    execs.set(number, if may_execute { 1 } else { 0 });
+    // At most one for each of at most 1024 times 16 ways.
+    evicts.set(number, evictions as u32);
 }
 
 /// All cores, at their entries.

@@ -12,4 +12,5 @@ unfolding core_of
 returns c =
     let k = c.args.core.now in
     nth-as k.config (program (started c.args.code.now)) (core_of k) k.cache.config (wants_of c.wants.result) (maps k.cache) c.args.k
-    c.useful_way.result c.requires.whole.cache c.wants.ensures refl c.useful_way.ensures
+    c.useful_way.result c.requires.whole.cache (c.wants.ensures (program (started c.args.code.now)) c.waits_for_room.ensures) refl
+    c.useful_way.ensures

@@ -12,4 +12,5 @@ unfolding core_of
 returns c =
     let k = c.args.core.now in
     count-as k.config (program (started c.args.code.now)) (core_of k) k.cache.config (wants_of c.wants.result) (maps k.cache)
-    c.useful_count.result c.requires.whole.cache c.wants.ensures refl c.useful_count.ensures
+    c.useful_count.result c.requires.whole.cache (c.wants.ensures (program (started c.args.code.now)) c.waits_for_room.ensures) refl
+    c.useful_count.ensures
