@@ -99,6 +99,21 @@ impl System {
         ensures room { self.new.room ≡ self.old.room }
         ensures events { self.new.events ≡ self.old.events }
     {
+        if self.is_settled() {
+            return Ok(());
+        }
+        self.place()
+    }
+
+    /// The same, where there may be something to put.
+    fn place(&mut self) -> Result<(), NoMemory>
+        ensures settled { OnOk result (self.new.unsent ≡ []) }
+        ensures history { history_of self.new ≡ history_of self.old }
+        ensures last { self.new.last ≡ self.old.last }
+        ensures cores { self.new.cores ≡ self.old.cores }
+        ensures room { self.new.room ≡ self.old.room }
+        ensures events { self.new.events ≡ self.old.events }
+    {
         place_all(
             &mut self.flights,
             &self.dirs,
