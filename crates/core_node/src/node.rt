@@ -173,6 +173,16 @@ impl CoreNode {
         waits_for_room(&self.core, code)
     }
 
+    /// Whether the core may execute, and the set in which it waits for room: `can_exec` and `waits_for_room` at the price of one.
+    pub fn outlook(&self, code: &Code) -> (bool, Option<u16>)
+        requires { code.now.settings ≡ self.now.config }
+        ensures exec { result.0 ≡ is_some (core_exec self.now.config (program (started code.now)) self.now.id.0 (core_of self.now)) }
+        ensures room { result.1 ≡ room self.now.config (program (started code.now)) (core_of self.now) }
+    {
+        let waits = waits_for_room(&self.core, code);
+        (may_exec(&self.core, waits), waits)
+    }
+
     /// How many evictions are useful: those that the rules allow, where words leave the way or the core waits for room in its set.
     /// The code is of the same machine. Takes no memory.
     pub fn useful_evicts(&self, code: &Code) -> usize
