@@ -19,6 +19,7 @@ mod BankCommits
 mod Published
 mod ByPhase
 mod Numbers
+mod Ones
 mod Using
 mod Counting
 mod Enabling

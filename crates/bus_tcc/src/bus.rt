@@ -1,5 +1,5 @@
 // The bus: who has it, and the packet that is on it.
-ghost use Rattle.std.specs.Prelude.{◌≡◌, ◌<◌, ◌≤◌, [], false, not, nat_lt, filter, length, option_map, slice_get, if◌then◌else◌};
+ghost use Rattle.std.specs.Prelude.{◌≡◌, ◌<◌, ◌≤◌, ◌%◌, ◌^◌, [], false, not, nat_lt, filter, length, option_map, slice_get, if◌then◌else◌};
 ghost use Rattle.rules_tcc.specs.Seen.{numbers};
 ghost use Rattle.tcc_base.specs.Put.{put};
 ghost use Rattle.rules_maps.specs.Masks.{has};
@@ -56,18 +56,24 @@ impl CoreSet {
         DirSet { bits: self.bits }.is_empty_below(count)
     }
 
-    /// How many of the cores below a number are in the set. Takes time in this number.
+    /// The bits of the cores below a number.
+    fn bits_below(self, count: u8) -> u64
+        requires { count ≤ 64 }
+        ensures { result ≡ self.bits % 2 ^ count }
+    {
+        if count == 64 {
+            self.bits
+        } else {
+            self.bits % (1 << count)
+        }
+    }
+
+    /// How many of the cores below a number are in the set. It takes constant time.
     pub fn count_below(self, count: u8) -> u8
         requires { count ≤ 64 }
         ensures { result ≡ length (filter (has self.bits) (numbers count)) }
     {
-        let mut found = 0;
-        for core in 0..count {
-            if self.contains(CoreId(core)) {
-                found += 1;
-            }
-        }
-        found
+        self.bits_below(count).count_ones() as u8
     }
 
     /// The k-th of them, from 0; None exactly where there are no more than k. Takes time in this number.

@@ -6,7 +6,7 @@ ghost use Rattle.machine_cores.specs.Bank.{cores_of};
 ghost use Rattle.bus_tcc.specs.Uses.{AreCounted, HavePlaces, exec_count as count_of, may_exec as may, way_count as ways_of};
 
 use crate::bank::BusBank;
-use crate::uses::{exec_count, way_count};
+use crate::uses::uses;
 use base_sums::SumTree;
 use std::alloc::Global;
 use tcc_base::{CoreId, NoMemory};
@@ -60,9 +60,10 @@ impl Counts {
     {
         let node = bank.core(core);
         let place = core.0 as usize;
-        self.free.set(place, exec_count(node, &bank.code, true));
-        self.taken.set(place, exec_count(node, &bank.code, false));
-        self.ways.set(place, way_count(node, &bank.code));
+        let uses = uses(node, &bank.code);
+        self.free.set(place, if uses.free { 1 } else { 0 });
+        self.taken.set(place, if uses.taken { 1 } else { 0 });
+        self.ways.set(place, uses.ways);
     }
 
     /// Which cores may execute.

@@ -1,44 +1,53 @@
 // What one core may do next.
-ghost use Rattle.std.specs.Prelude.{◌≡◌, ◌<◌, ◌&&◌, ◌||◌, not, length, slice_get};
+ghost use Rattle.std.specs.Prelude.{◌≡◌, ◌<◌, ◌&&◌, true, false, is_some, not, length, slice_get};
 ghost use Rattle.image_load.specs.Contents.{started};
 ghost use Rattle.rv_code.specs.Machine.{program};
 ghost use Rattle.core_node.specs.View.{core_of};
-ghost use Rattle.bus_tcc.specs.Uses.{exec_count as count_of, loose_ways, may_exec as may, room_ways, way_count as ways_of};
+ghost use Rattle.core_node.specs.AtHand.{goes_alone};
+ghost use Rattle.rules_tcc.specs.CoreExec.{core_exec};
+ghost use Rattle.rules_tcc.specs.Useful.{room};
+ghost use Rattle.bus_tcc.specs.Uses.{loose_ways, may_exec as may, room_ways, way_count as ways_of};
 
 use commit_engine::Phase;
 use core_node::CoreNode;
 use rv_code::Code;
 
-/// Whether a core that runs may go on: it takes the bus only where that is free.
-fn goes_on(can: bool, free: bool, overflows: bool) -> bool
-    ensures { result ≡ (can && (free || not overflows)) }
-{
-    can && (free || !overflows)
+/// What a core may do next.
+#[derive(Clone, Copy, Debug, PartialEq, Eq)]
+pub(crate) struct MayDo {
+    /// It may execute while the bus is free.
+    pub free: bool,
+    /// It may execute while it isn't.
+    pub taken: bool,
+    /// How many ways can be emptied of the set in which it waits for room.
+    pub ways: u32,
 }
 
-/// Whether a core may execute, where the bus is free or where it isn't.
-pub(crate) fn may_exec(core: &CoreNode, code: &Code, free: bool) -> bool
+/// Whether a core that runs and can execute goes on without the bus.
+fn goes_on(core: &CoreNode, code: &Code, can: bool) -> bool
     requires { code.now.settings ≡ core.now.config }
-    ensures { result ≡ may core.now.config (program (started code.now)) free core.now.id.0 (core_of core.now) }
+    ensures { result ≡ (can && not (goes_alone (core_exec core.now.config (program (started code.now)) core.now.id.0 (core_of core.now)))) }
+{
+    can && !core.overflows(code)
+}
+
+/// Whether a core may execute where the bus is free, and where it isn't, if it can at all. It takes the bus only where that is free.
+fn may_exec(core: &CoreNode, code: &Code, can: bool) -> (bool, bool)
+    requires same { code.now.settings ≡ core.now.config }
+    requires can { can ≡ is_some (core_exec core.now.config (program (started code.now)) core.now.id.0 (core_of core.now)) }
+    ensures free { result.0 ≡ may core.now.config (program (started code.now)) true core.now.id.0 (core_of core.now) }
+    ensures taken { result.1 ≡ may core.now.config (program (started code.now)) false core.now.id.0 (core_of core.now) }
 {
     match core.phase() {
-        Phase::Running => goes_on(core.can_exec(code), free, core.overflows(code)),
-        Phase::Solo(_) => core.can_exec(code),
-        Phase::AwaitTid => free,
-        Phase::DoomedTid => false,
-        Phase::Probing(_) => false,
-        Phase::Ready(_) => false,
-        Phase::Overflowing(_) => false,
-        Phase::Halted => false,
+        Phase::Running => (can, goes_on(core, code, can)),
+        Phase::Solo(_) => (can, can),
+        Phase::AwaitTid => (true, false),
+        Phase::DoomedTid => (false, false),
+        Phase::Probing(_) => (false, false),
+        Phase::Ready(_) => (false, false),
+        Phase::Overflowing(_) => (false, false),
+        Phase::Halted => (false, false),
     }
-}
-
-/// 1 where it may, else 0.
-pub(crate) fn exec_count(core: &CoreNode, code: &Code, free: bool) -> u32
-    requires { code.now.settings ≡ core.now.config }
-    ensures { result ≡ count_of core.now.config (program (started code.now)) free core.now.id.0 (core_of core.now) }
-{
-    if may_exec(core, code, free) { 1 } else { 0 }
 }
 
 /// How many ways of a set can be emptied.
@@ -75,14 +84,32 @@ fn loose_way(core: &CoreNode, set: u16, ways: u8, k: u64) -> Option<u8>
 }
 
 /// How many ways can be emptied of the set in which the core waits for room.
-pub(crate) fn way_count(core: &CoreNode, code: &Code) -> u32
+fn way_count(core: &CoreNode, code: &Code, waits: Option<u16>) -> u32
     requires sets { 0 < core.now.config.sets }
     requires same { code.now.settings ≡ core.now.config }
+    requires waits { waits ≡ room core.now.config (program (started code.now)) (core_of core.now) }
     ensures { result ≡ ways_of core.now.config (program (started code.now)) (core_of core.now) }
 {
-    match core.waits_for_room(code) {
+    match waits {
         Some(set) => loose_count(core, set, code.config().ways()),
         None => 0,
+    }
+}
+
+/// What the core may do next: its next instruction is looked up once, and once more where it runs and can execute.
+pub(crate) fn uses(core: &CoreNode, code: &Code) -> MayDo
+    requires sets { 0 < core.now.config.sets }
+    requires same { code.now.settings ≡ core.now.config }
+    ensures free { result.free ≡ may core.now.config (program (started code.now)) true core.now.id.0 (core_of core.now) }
+    ensures taken { result.taken ≡ may core.now.config (program (started code.now)) false core.now.id.0 (core_of core.now) }
+    ensures ways { result.ways ≡ ways_of core.now.config (program (started code.now)) (core_of core.now) }
+{
+    let (can, waits) = core.outlook(code);
+    let (free, taken) = may_exec(core, code, can);
+    MayDo {
+        free,
+        taken,
+        ways: way_count(core, code, waits),
     }
 }
 
