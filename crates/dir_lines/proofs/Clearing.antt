@@ -12,7 +12,7 @@ use Rattle.rules_maps.proofs.Lemmas.{length-those, those-only}
 use Rattle.dir_lines.specs.Home.{Home, IsAtHome}
 
 -- one fewer
-count_below-fewer : (p : ℕ → Bool) (n l : ℕ) → l < n → p l ≡ true → count_below (put p l false) n + 1 ≡ count_below p n
+pub count_below-fewer : (p : ℕ → Bool) (n l : ℕ) → l < n → p l ≡ true → count_below (put p l false) n + 1 ≡ count_below p n
 unfolding count_below
 count_below-fewer p zero l a e = absurd (omega arith)
 count_below-fewer p (suc n) l a e = by (eqb n l) refl (λ (q : l < n). count_below-fewer p n l q e)
@@ -31,7 +31,7 @@ count_below-fewer p (suc n) l a e = by (eqb n l) refl (λ (q : l < n). count_bel
         let z : count_below (put p l false) n + 1 ≡ count_below p n = rest (omega (arith, eqb-false n l f)) in
         omega arith
 
-count_below-none : (p : ℕ → Bool) (n k : ℕ) → count_below p n ≡ 0 → k < n → p k ≡ false
+pub count_below-none : (p : ℕ → Bool) (n k : ℕ) → count_below p n ≡ 0 → k < n → p k ≡ false
 unfolding count_below
 count_below-none p zero k e a = absurd (omega arith)
 count_below-none p (suc n) k e a = by (eqb k n) refl (λ (q : k < n). count_below-none p n k (omega arith) q)

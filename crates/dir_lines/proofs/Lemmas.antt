@@ -4,8 +4,8 @@ use Rattle.rules_maps.specs.Words.{those, count_below}
 use Rattle.rules_maps.specs.Shape.{lines}
 use Rattle.rules_maps.proofs.Lemmas.{length-those, those-only}
 use Rattle.rules_maps.specs.Lines.{has_mark}
-use Rattle.dir_lines.specs.Home.{Home, IsAtHome}
-use Rattle.dir_lines.specs.Pages.{Pages, is_at_home}
+use Rattle.dir_lines.specs.Home.{IsAtHome}
+use Rattle.dir_lines.specs.Pages.{Pages}
 use Rattle.dir_lines.specs.Kept.{kept}
 use Rattle.dir_lines.proofs.Clearing.{found}
 use Rattle.dir_lines.proofs.PagesKeep.{marked-at_home}

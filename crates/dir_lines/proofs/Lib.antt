@@ -3,8 +3,12 @@ pub mod Changes
 pub mod Clearing
 pub mod Counting
 pub mod Filing
+pub mod Finding
 pub mod PagesAt
 pub mod PagesKeep
 pub mod Marks
+pub mod Sixteens
+pub mod Spilling
+pub mod Places
 pub mod WordsAt
 pub mod Lemmas

@@ -1,6 +1,7 @@
 -- The rising list of the numbers with a test, when the test changes at one number.
 use Rattle.std.proofs.Common.{◌≡◌, ℕ, zero, suc, ◌+◌, ◌-◌, ◌<◌, ◌≤◌, Bool, true, false, cond, nat_lt, if◌then◌else◌, List, [], ◌∷◌, ◌++◌}
-use Rattle.std.proofs.Common.{length, drop, get_or, All, append_assoc, append-nil, length-append, Result, Ok, Err, is_ok, IsOk, refl, ap}
+use Rattle.std.proofs.Common.{length, drop, get_or, slice_get, Some, All, append_assoc, append-nil, length-append, Result, Ok, Err, is_ok}
+use Rattle.std.proofs.Common.{IsOk, refl, ap}
 use Rattle.std.proofs.Common.{sym, subst, ◌∙◌, arith}
 use Rattle.std.specs.List.{insert, remove}
 use Rattle.std.proofs.lemmas.List.Elements.{All-get_or, All-append, All-cons, All-nil, All-weaker, All-push}
@@ -8,7 +9,8 @@ use Rattle.std.proofs.Math.ListN.{get_or-append}
 use Rattle.std.proofs.Math.Seq.{take-append_seam, drop-append_seam, get_or-append_right}
 use Rattle.base_lemmas.proofs.Lemmas.{those-same}
 use borrow.Author.Tests.{ltb-true, ltb-false, ne_eqb, eq-eqb}
-use Rattle.rules_maps.specs.Words.{put, those}
+use Rattle.rules_maps.specs.Words.{put, those, count_below}
+use Rattle.rules_maps.proofs.Lemmas.{length-those}
 
 -- the numbers from a on, m of them, that have p
 between : (ℕ → Bool) → ℕ → ℕ → List ℕ
@@ -78,10 +80,10 @@ place-is cs bs l at low high within after before = by (nat_lt at (length cs)) re
     by false e false f = omega (arith, ltb-false at (length cs) e, ltb-false (length cs) at f)
 
 -- the test at other numbers is as before
-put-other : (p : ℕ → Bool) (l : ℕ) (b : Bool) (k : ℕ) → (k ≡ l → ⊥) → put p l b k ≡ p k
+pub put-other : (p : ℕ → Bool) (l : ℕ) (b : Bool) (k : ℕ) → (k ≡ l → ⊥) → put p l b k ≡ p k
 put-other p l b k h = rw (ne_eqb k l h) refl
 
-put-own : (p : ℕ → Bool) (l : ℕ) (b : Bool) → put p l b l ≡ b
+pub put-own : (p : ℕ → Bool) (l : ℕ) (b : Bool) → put p l b l ≡ b
 put-own p l b = rw (eq-eqb l l refl) refl
 
 -- the three parts of the list, where the test at l is known
@@ -149,3 +151,14 @@ those-forget p l n at xs place h e same = finish (those p l) (between p (l + 1) 
 pub when_ok : {T E : Type 0} (r : Result T E) (xs ys zs : List ℕ) → IsOk r → xs ≡ (if is_ok r then ys else zs) → xs ≡ ys
 when_ok (Ok x) xs ys zs h e = e
 when_ok (Err x) xs ys zs h e = cc
+
+-- a number with the test stands behind those below it
+pub those-nth : (p : ℕ → Bool) (n l : ℕ) → l < n → p l ≡ true → slice_get (those p n) (count_below p l) ≡ Some l
+those-nth p n l h e =
+    ap (λ ys. slice_get ys (count_below p l)) (those-parts p l n true h e)
+    ∙ (ap (λ k. slice_get ((those p l ++ l ∷ []) ++ between p (l + 1) (n - l - 1)) k) (sym (length-those p l))
+    ∙ seam (those p l) (between p (l + 1) (n - l - 1)))
+  where
+    seam : (cs bs : List ℕ) → slice_get ((cs ++ l ∷ []) ++ bs) (length cs) ≡ Some l
+    seam [] bs = refl
+    seam (c ∷ cs) bs = seam cs bs

@@ -1,6 +1,7 @@
 -- What the contracts of this crate cite.
 pub mod Home
 pub mod Record
+pub mod Marking
 pub mod Pages
 pub mod PagesInside
 pub mod Kept

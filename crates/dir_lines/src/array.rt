@@ -159,8 +159,7 @@ impl DirLines {
         self.lines.own(line, core, tid)
     }
 
-    /// Sets the line's mark. The time is constant where lines are marked in rising order; else it goes with the number of marked
-    /// lines behind this one.
+    /// Sets the line's mark.
     pub fn set_mark(&mut self, line: LineAddr, mark: Mask)
         requires { IsAtHome self.old.place line.0 }
         ensures place { self.new.place ≡ self.old.place }
@@ -177,14 +176,15 @@ impl DirLines {
         self.lines.marked_lines()
     }
 
-    /// The k-th marked line in rising order, from 0; `None` exactly where there are no more than k.
+    /// The k-th marked line in rising order, from 0; `None` exactly where there are no more than k. Once more than 64 lines were
+    /// marked at once, and until none is, the time goes with the number of 4,096s of lines at this home.
     pub fn marked_line(&self, k: usize) -> Option<LineAddr>
         ensures { option_map (λ l. l.0) result ≡ slice_get (those (has_mark (kept self.now)) (lines self.now.place.shape)) k }
     {
         self.lines.marked_line(k)
     }
 
-    /// Clears all marks. The time goes with the number of marked lines.
+    /// Clears all marks. The time goes with the number of marked lines, for each as long as `marked_line` takes.
     pub fn clear_marks(&mut self)
         ensures place { self.new.place ≡ self.old.place }
         ensures map { kept self.new ≡ unmarked (kept self.old) }

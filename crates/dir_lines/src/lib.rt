@@ -4,6 +4,7 @@
 mod array;
 mod core_set;
 mod lines;
+mod mark_set;
 mod marked;
 mod pages;
 mod record;

@@ -36,8 +36,7 @@ pub trait Lines: Drop {
         ensures value { result ≡ records self.now line.0 }
         ensures home { IsHome (place self.now) };
 
-    /// Puts this record in the place of the line's record, and changes nothing else. Where the line becomes marked or is no longer
-    /// marked, the time goes with the number of marked lines behind it.
+    /// Puts this record in the place of the line's record, and changes nothing else.
     fn set(&mut self, line: LineAddr, to: LineRecord)
         requires { IsAtHome (place self.old) line.0 }
         ensures place { place self.new ≡ place self.old }
@@ -152,7 +151,7 @@ pub trait Lines: Drop {
         self.set(line, to);
     }
 
-    /// Sets the line's mark. The time is that of `set`: constant where lines are marked in rising order.
+    /// Sets the line's mark.
     fn set_mark(&mut self, line: LineAddr, mark: Mask)
         requires { IsAtHome (place self.old) line.0 }
         ensures place { place self.new ≡ place self.old }

@@ -6,7 +6,7 @@ ghost use Rattle.dir_lines.specs.Record.{blank};
 ghost use Rattle.dir_lines.specs.Pages.{is_at_home};
 
 use crate::lines::Lines;
-use crate::marked;
+use crate::mark_set::MarkSet;
 use crate::record::LineRecord;
 use std::alloc::Global;
 use std::marker::Model;
@@ -18,7 +18,7 @@ pub struct PageLines {
     cfg: Config,
     home: DirId,
     records: Vec<LineRecord>,
-    marked: Vec<u32>,
+    marks: MarkSet,
 }
 
 impl Model for PageLines {
@@ -59,15 +59,13 @@ impl Lines for PageLines {
     fn new(alloc: Global, cfg: &Config, home: DirId) -> Result<Self, NoMemory> {
         let count = count(cfg, home);
         let records = blanks(alloc, count)?;
-        match Vec::with_capacity(alloc, count) {
-            Ok(marked) => Ok(PageLines {
-                cfg: *cfg,
-                home,
-                records,
-                marked,
-            }),
-            Err(_) => Err(NoMemory),
-        }
+        let marks = MarkSet::new(alloc, count)?;
+        Ok(PageLines {
+            cfg: *cfg,
+            home,
+            records,
+            marks,
+        })
     }
 
     fn get(&self, line: LineAddr) -> LineRecord {
@@ -75,19 +73,21 @@ impl Lines for PageLines {
     }
 
     fn set(&mut self, line: LineAddr, to: LineRecord) {
-        let at = (line.0 / self.cfg.dirs() as u32) as usize;
-        let was = self.records[at].mark;
-        self.records[at] = to;
-        marked::update(&mut self.marked, line.0, was, to.mark);
+        let place = line.0 / self.cfg.dirs() as u32;
+        let was = self.records[place as usize].mark;
+        self.records[place as usize] = to;
+        self.marks.update(place, was, to.mark);
     }
 
     fn marked_lines(&self) -> u32 {
-        self.marked.len() as u32
+        self.marks.len() as u32
     }
 
     fn marked_line(&self, k: usize) -> Option<LineAddr> {
-        let line = self.marked.get(k)?;
-        Some(LineAddr(*line))
+        match self.marks.nth(&self.records, k) {
+            Some(place) => Some(LineAddr(place * self.cfg.dirs() as u32 + self.home.0 as u32)),
+            None => None,
+        }
     }
 }
 

@@ -11,7 +11,8 @@ use std::collections::BTreeMap;
 use std::marker::Model;
 use tcc_base::{Config, DirId, LineAddr, Mask, NoMemory};
 
-/// Records in an ordered map, by the lines' numbers. Each call by line takes time that goes with the logarithm of their number.
+/// Records in an ordered map, by the lines' numbers. Each call by line takes time that goes with the logarithm of their number, and
+/// one that marks a line or takes its mark with the number of marked lines behind it too.
 #[derive(Debug, Drop)]
 pub struct MapLines {
     cfg: Config,

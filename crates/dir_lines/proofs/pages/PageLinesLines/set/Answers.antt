@@ -1,14 +1,12 @@
-use Rattle.std.proofs.Common.{◌≡◌, ◌/◌, ◌<◌, ◌≤◌, length, vec_capacity, sym, subst, ap, ◌∙◌, arith}
-use Rattle.dir_lines.specs.Home.{IsAtHome, home_lines}
-use Rattle.dir_lines.specs.Record.{lines_of}
+use Rattle.std.proofs.Common.{◌/◌, ◌<◌, length, length-set, sym, subst, ap, ◌∙◌, arith}
 use Rattle.rules_maps.specs.Words.{put}
-use Rattle.rules_maps.specs.Shape.{lines}
-use Rattle.rules_maps.specs.Lines.{has_mark}
+use Rattle.dir_lines.specs.Home.{IsAtHome}
+use Rattle.dir_lines.specs.Marking.{marked_at, IsMarked}
 use Rattle.dir_lines.specs.Pages.{pages_at}
 use Rattle.dir_lines.specs.PagesInside.{pages_of}
-use Rattle.dir_lines.proofs.PagesAt.{IsWhole, stands}
-use Rattle.dir_lines.proofs.PagesKeep.{read-own, read-marked, unmarked-room, marked-at_home, marked-put, with_record, with_record-count}
-use Rattle.dir_lines.proofs.PagesKeep.{with_record-at}
+use Rattle.dir_lines.proofs.PagesAt.{stands}
+use Rattle.dir_lines.proofs.PagesKeep.{with_record-count, with_record-at}
+use Rattle.dir_lines.proofs.Places.{read-place, marked_at-set}
 use Rattle.dir_lines.proofs.pages.PageLinesLines.set.Goals as goal
 
 pub index_mut-requires : goal.index_mut-requires
@@ -18,38 +16,46 @@ index_mut-requires c =
     (subst (λ q. IsAtHome q.place c.args.line.0) (sym c.self.view_is) c.requires) in
     rw c.dirs.ensures.value (omega (arith, c.self.inside.records.ok))
 
-pub update-requires : goal.update-requires
-update-requires c z =
-    let w : IsWhole (pages_of c.self.inside) = record { exists = c.self.invariant.home.1; count = c.self.invariant.count } in
-    let at_home : IsAtHome (pages_of c.self.inside).place c.args.line.0 =
-    subst (λ q. IsAtHome q.place c.args.line.0) (sym c.self.view_is) c.requires in
-    let read : c.index.result.now ≡ pages_at (pages_of c.self.inside) c.args.line.0 =
-    read-own (pages_of c.self.inside) c.args.line.0 c.dirs.result c.index.result.now w at_home c.dirs.ensures.value c.index.ensures in
-    let h : length c.self.inside.marked.items < home_lines (pages_of c.self.inside).place =
-    unmarked-room (pages_of c.self.inside).place (pages_at (pages_of c.self.inside)) c.args.line.0 c.index.result.now.mark
-    c.self.inside.marked.items w.exists
-    (marked-at_home (pages_of c.self.inside)) at_home (ap (λ r. r.mark) read) z c.self.invariant.marked in
-    let room : home_lines (pages_of c.self.inside).place ≤ vec_capacity c.self.inside.marked = c.self.invariant.room in
-    omega (arith, c.self.inside.marked.ok)
+pub update-requires-clause-marks : goal.update-requires-clause-marks
+update-requires-clause-marks c =
+    let h : c.args.line.0 / c.dirs.result < length c.self.inside.records.items =
+    subst (λ d. c.args.line.0 / d < length c.self.inside.records.items) (sym c.dirs.ensures.value)
+    (stands (pages_of c.self.inside) c.args.line.0 (record { exists = c.self.invariant.home.1; count = c.self.invariant.count })
+    (subst (λ q. IsAtHome q.place c.args.line.0) (sym c.self.view_is) c.requires)) in (
+      marked_at c.self.inside.records.items,
+      read-place c.self.inside.records.items (c.args.line.0 / c.dirs.result) c.index.result.now h c.index.ensures,
+      c.self.invariant.marks,
+    )
+
+pub update-requires-clause-within : goal.update-requires-clause-within
+update-requires-clause-within c =
+    let h : c.args.line.0 / c.dirs.result < length c.self.inside.records.items =
+    subst (λ d. c.args.line.0 / d < length c.self.inside.records.items) (sym c.dirs.ensures.value)
+    (stands (pages_of c.self.inside) c.args.line.0 (record { exists = c.self.invariant.home.1; count = c.self.invariant.count })
+    (subst (λ q. IsAtHome q.place c.args.line.0) (sym c.self.view_is) c.requires)) in
+    omega (arith, c.self.invariant.room)
 
 pub invariant_of-self : goal.invariant_of-self
 invariant_of-self c =
-    let w : IsWhole (pages_of c.self.inside) = record { exists = c.self.invariant.home.1; count = c.self.invariant.count } in
-    let at_home : IsAtHome (pages_of c.self.inside).place c.args.line.0 =
-    subst (λ q. IsAtHome q.place c.args.line.0) (sym c.self.view_is) c.requires in
-    let read : c.index.result.now ≡ pages_at (pages_of c.self.inside) c.args.line.0 =
-    read-own (pages_of c.self.inside) c.args.line.0 c.dirs.result c.index.result.now w at_home c.dirs.ensures.value c.index.ensures in
+    let h : c.args.line.0 / c.dirs.result < length c.self.inside.records.items =
+    subst (λ d. c.args.line.0 / d < length c.self.inside.records.items) (sym c.dirs.ensures.value)
+    (stands (pages_of c.self.inside) c.args.line.0 (record { exists = c.self.invariant.home.1; count = c.self.invariant.count })
+    (subst (λ q. IsAtHome q.place c.args.line.0) (sym c.self.view_is) c.requires)) in
     record {
       home = c.self.invariant.home;
       count = with_record-count (pages_of c.self.inside) (c.args.line.0 / c.dirs.result) c.args.to c.self.invariant.count;
-      marked = marked-put (pages_of c.self.inside).place (pages_at (pages_of c.self.inside))
-          (pages_at (with_record (pages_of c.self.inside) (c.args.line.0 / c.dirs.result) c.args.to)) c.args.line.0 c.args.to
-          c.update.new.marked.items
-          (with_record-at (pages_of c.self.inside) c.args.line.0 c.dirs.result c.args.to w at_home c.dirs.ensures.value)
-          (c.update.ensures.items (has_mark (lines_of (pages_at (pages_of c.self.inside)))) (lines c.self.inside.cfg) at_home.0
-          (read-marked (pages_at (pages_of c.self.inside)) c.args.line.0 c.index.result.now.mark (ap (λ r. r.mark) read))
-          c.self.invariant.marked);
-      room = omega (arith, c.self.invariant.room, c.update.ensures.capacity);
+      few = omega (arith, c.self.invariant.few, length-set c.self.inside.records.items (c.args.line.0 / c.dirs.result) c.args.to);
+      marks = subst (IsMarked c.update.new.self.few.items c.update.new.self.many)
+          (sym (marked_at-set c.self.inside.records.items (c.args.line.0 / c.dirs.result) c.args.to h))
+          (c.update.ensures.marks (marked_at c.self.inside.records.items)
+          (read-place c.self.inside.records.items (c.args.line.0 / c.dirs.result) c.index.result.now h c.index.ensures)
+          c.self.invariant.marks);
+      room = omega (
+        arith,
+        c.self.invariant.room,
+        c.update.ensures.room,
+        length-set c.self.inside.records.items (c.args.line.0 / c.dirs.result) c.args.to,
+      );
     }
 
 pub returns-clause-records : goal.returns-clause-records
