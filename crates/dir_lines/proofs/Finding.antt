@@ -3,12 +3,11 @@ use Rattle.std.proofs.Common.{◌≡◌, ℕ, suc, ◌+◌, ◌-◌, ◌*◌, �
 use Rattle.std.proofs.Common.{ap, sym, ◌∙◌}
 use Rattle.std.proofs.Common.{◌⊎◌, inl, inr, get_or, arith}
 use Rattle.std.proofs.lemmas.Option.{slice_get_cases}
-use Rattle.std.proofs.lemmas.List.{get_or_default}
 use borrow.Author.Tests.{ltb-true, ltb-false}
 use Rattle.rules_maps.specs.Words.{those, count_below, num}
 use Rattle.rules_maps.proofs.Lemmas.{length-those}
 use Rattle.base_sums.specs.Falls.{FallsAt}
-use Rattle.dir_lines.specs.Record.{Record, blank}
+use Rattle.dir_lines.specs.Record.{Record}
 use Rattle.dir_lines.specs.Marking.{marked_at, Counts}
 use Rattle.dir_lines.proofs.Marks.{those-nth}
 use Rattle.dir_lines.proofs.Places.{those-past}

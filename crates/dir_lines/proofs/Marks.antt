@@ -1,9 +1,9 @@
 -- The rising list of the numbers with a test, when the test changes at one number.
 use Rattle.std.proofs.Common.{◌≡◌, ℕ, zero, suc, ◌+◌, ◌-◌, ◌<◌, ◌≤◌, Bool, true, false, cond, nat_lt, if◌then◌else◌, List, [], ◌∷◌, ◌++◌}
-use Rattle.std.proofs.Common.{length, drop, get_or, slice_get, Some, All, append_assoc, append-nil, length-append, Result, Ok, Err, is_ok}
-use Rattle.std.proofs.Common.{IsOk, refl, ap}
-use Rattle.std.proofs.Common.{sym, subst, ◌∙◌, arith}
+use Rattle.std.proofs.Common.{length, drop, take, get_or, slice_get, Some, All, append_assoc, append-nil, length-append, Result, Ok, Err}
+use Rattle.std.proofs.Common.{is_ok, IsOk, refl, ap, sym, subst, ◌∙◌, arith}
 use Rattle.std.specs.List.{insert, remove}
+use Rattle.std.proofs.lemmas.List.{nil_from_length}
 use Rattle.std.proofs.lemmas.List.Elements.{All-get_or, All-append, All-cons, All-nil, All-weaker, All-push}
 use Rattle.std.proofs.Math.ListN.{get_or-append}
 use Rattle.std.proofs.Math.Seq.{take-append_seam, drop-append_seam, get_or-append_right}
@@ -162,3 +162,16 @@ those-nth p n l h e =
     seam : (cs bs : List ℕ) → slice_get ((cs ++ l ∷ []) ++ bs) (length cs) ≡ Some l
     seam [] bs = refl
     seam (c ∷ cs) bs = seam cs bs
+
+-- behind all others
+pub insert-last : (xs : List ℕ) (l at : ℕ) → at ≡ length xs → xs ++ l ∷ [] ≡ insert xs at l
+insert-last xs l at e = by xs ∙ ap (λ k. insert xs k l) (sym e)
+  where
+    by : (ys : List ℕ) → ys ++ l ∷ [] ≡ insert ys (length ys) l
+    by [] = refl
+    by (y ∷ ys) = ap (λ zs. y ∷ zs) (by ys)
+
+pub remove-last : (xs : List ℕ) (k : ℕ) → length xs ≡ k + 1 → take k xs ≡ remove xs k
+remove-last [] k e = absurd (omega (arith, e))
+remove-last (x ∷ xs) zero e = sym (nil_from_length xs (omega arith))
+remove-last (x ∷ xs) (suc k) e = ap (λ ys. x ∷ ys) (remove-last xs k (omega arith))

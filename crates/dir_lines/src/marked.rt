@@ -25,7 +25,12 @@ pub(crate) fn note(marked: &mut Vec<u32>, line: u32)
     ensures capacity { vec_capacity marked.old ≤ vec_capacity marked.new }
 {
     let at = place(marked, line);
-    if marked.insert(at, line).is_err() {
+    if at == marked.len() {
+        // the common case, in which none is moved
+        if marked.push(line).is_err() {
+            unreachable!()
+        }
+    } else if marked.insert(at, line).is_err() {
         unreachable!()
     }
 }
@@ -37,7 +42,9 @@ pub(crate) fn forget(marked: &mut Vec<u32>, line: u32)
     ensures capacity { vec_capacity marked.old ≤ vec_capacity marked.new }
 {
     let at = place(marked, line);
-    if at > 0 {
+    if at == marked.len() {
+        marked.pop();
+    } else if at > 0 {
         let _ = marked.remove(at - 1);
     }
 }
