@@ -103,3 +103,64 @@ fn a_directory_reads_what_it_wrote(rt: HostRuntime) -> Result<(), Fail> {
     assert!(rt; false, "no memory");
     Ok(())
 }
+
+// Gives so many lines this mark, from the highest one down, as far as they are at home.
+fn mark_down(lines: &mut DirLines, highest: u32, step: u32, count: u32, mark: Mask) {
+    let mut line = LineAddr(highest);
+    for _ in 0..count {
+        if lines.has_line(line) {
+            lines.set_mark(line, mark);
+        }
+        line = LineAddr(line.0.saturating_sub(step));
+    }
+}
+
+// The number of marked lines, and of these the first, the second and the one at that place.
+fn ends(lines: &DirLines, last: usize) -> (u32, [Option<LineAddr>; 3]) {
+    let some = [
+        lines.marked_line(0),
+        lines.marked_line(1),
+        lines.marked_line(last),
+    ];
+    (lines.marked_lines(), some)
+}
+
+#[test]
+fn thousands_of_marks_in_falling_order(rt: HostRuntime) -> Result<(), Fail> {
+    if let Ok(cfg) = Config::new(4, 2, 1, 1, 0, 262_144)
+        && let Ok(mut lines) = DirLines::new(rt.alloc(), &cfg, DirId(1))
+    {
+        mark_down(&mut lines, 8_191, 2, 4_000, Mask(3));
+        let all = ends(&lines, 3_999);
+        mark_down(&mut lines, 8_191, 4, 2_000, Mask(0));
+        let half = ends(&lines, 1_999);
+        lines.clear_marks();
+        let none = ends(&lines, 0);
+        mark_down(&mut lines, 9, 4, 2, Mask(1));
+        assert!(rt;
+            all == (
+                4_000,
+                [
+                    Some(LineAddr(193)),
+                    Some(LineAddr(195)),
+                    Some(LineAddr(8_191))
+                ]
+            )
+        );
+        assert!(rt;
+            half == (
+                2_000,
+                [
+                    Some(LineAddr(193)),
+                    Some(LineAddr(197)),
+                    Some(LineAddr(8_189))
+                ]
+            )
+        );
+        assert!(rt; none == (0, [None, None, None]));
+        assert!(rt; ends(&lines, 2) == (2, [Some(LineAddr(5)), Some(LineAddr(9)), None]));
+        return Ok(());
+    }
+    assert!(rt; false, "no memory");
+    Ok(())
+}
