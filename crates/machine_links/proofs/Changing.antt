@@ -1,16 +1,18 @@
 -- A link over its fields: what its readers give, and what each change of the fields does to the list of what was sent.
 use Rattle.std.proofs.Common.{◌≡◌, ℕ, suc, zero, ◌+◌, ◌-◌, ◌<◌, ◌≤◌, Bool, ⊎_elim, List, [], ◌∷◌, ◌++◌, length, get_or, set, take, map}
 use Rattle.std.proofs.Common.{Some, None, IsSome, refl, ap, sym, subst, ◌∙◌, add-one, arith}
-use Rattle.std.specs.Prelude.{option_map, slice_get}
+use Rattle.std.specs.Prelude.{Option, option_map, slice_get, IfSome, IfNone}
 use Rattle.std.specs.List.{remove, count_by}
 use Rattle.std.proofs.lemmas.Bool.{cases_lt, false≢true}
-use Rattle.std.proofs.lemmas.List.{get_or_past, get_or_read, set-get_or, length-set, length-map}
-use Rattle.std.proofs.lemmas.Option.{slice_get-map, slice_get_read, slice_get_past}
+use Rattle.std.proofs.lemmas.List.{get_or_past, set-get_or, length-set}
+use Rattle.std.proofs.lemmas.Option.{slice_get-map, slice_get_within, get_or_from_slice_get}
 use Rattle.std.proofs.lemmas.List.Edits.{length-remove}
 use Rattle.machine_links.specs.declared.lane.Held.{Held}
 use Rattle.machine_links.specs.declared.lane.Waiting.{Waiting}
 use Rattle.machine_links.specs.Lane.{Lane, is_marked, is_waiting, numbers_of, marked_as}
 use Rattle.machine_links.specs.Laid.{laid, held_at, Rises}
+use Rattle.machine_links.specs.Pieces.{Marked, Taken}
+use Rattle.machine_links.proofs.Pieces.{blank}
 use Rattle.machine_links.proofs.Laid.{length-laid, get-laid, laid-push, laid-front, laid-set}
 use Rattle.machine_links.proofs.Finding.{rises-get, rises-remove, rises-set, rises-push, rises-front, held-high, held-get, held-remove_own}
 use Rattle.machine_links.proofs.Finding.{held-remove_other, held-set_own, held-set_other, held-push_own, held-push_other, last-seq}
@@ -38,10 +40,6 @@ pub found-held : (n : ℕ) (ws : List Waiting) (l : Lane) (k i : ℕ) (d : Waiti
     → get_or l k None ≡ Some (get_or ws i d).held
 found-held n ws l k i d kept at =
     get-lane n ws l k kept ∙ (ap (held_at ws) (sym (at.own d)) ∙ held-get 0 n ws i d kept.rising at.within)
-
-pub found-read : (n : ℕ) (ws : List Waiting) (l : Lane) (k i : ℕ) (x : Waiting) → Kept n ws l → At ws k i → x ≡ get_or ws i x
-    → Some x.held ≡ get_or l k None
-found-read n ws l k i x kept at e = ap (λ y. Some y.held) e ∙ sym (found-held n ws l k i x kept at)
 
 pub missing-held : (n : ℕ) (ws : List Waiting) (l : Lane) (k : ℕ) → Kept n ws l → held_at ws k ≡ None → get_or l k None ≡ None
 missing-held n ws l k kept e = get-lane n ws l k kept ∙ e
@@ -103,21 +101,42 @@ pushed n ws vs l h kept few e = rw add-one (subst (λ us. Kept (suc n) us (l ++ 
     count [] = omega arith
     count (u ∷ us) = omega (arith, count us)
 
+-- one taken or not, and one marked
+pub record Took (n : ℕ) (vs : List Waiting) (l : Lane) (k : ℕ) (o : Option Held) : Type 0 where
+  pub kept : Kept n vs (set l k None)
+  pub given : o ≡ get_or l k None
+
+pub took : (n : ℕ) (ws vs : List Waiting) (l : Lane) (k : ℕ) (o : Option Held) → Kept n ws l → IfSome o (λ h. Taken ws vs k h)
+    → IfNone o (held_at ws k ≡ None) → IfNone o (vs ≡ ws) → Took n vs l k o
+took n ws vs l k None kept t none same = record {
+  kept = subst (λ m. Kept n vs m) (missing-set n ws l k kept none) (subst (λ us. Kept n us l) (sym same) kept);
+  given = sym (missing-held n ws l k kept none);
+}
+took n ws vs l k (Some h) kept t none same = let at : At ws k t.at = record { within = t.within; own = t.own } in record {
+  kept = taken n ws vs l k t.at blank kept at t.left;
+  given = sym (found-held n ws l k t.at blank kept at ∙ ap Some (t.held blank));
+}
+
+pub marked-lane : (n : ℕ) (ws vs : List Waiting) (l : Lane) (k : ℕ) (b was : Bool) → Kept n ws l → Marked ws vs k b was
+    → Kept n vs (set l k (marked_as b (get_or l k None)))
+marked-lane n ws vs l k b was kept m = marked n ws vs l k m.at b blank kept (record { within = m.within; own = m.own }) (m.left blank)
+
+pub was-marked : (n : ℕ) (ws vs : List Waiting) (l : Lane) (k : ℕ) (b was : Bool) → Kept n ws l → Marked ws vs k b was
+    → was ≡ is_marked (get_or l k None)
+unfolding is_marked
+was-marked n ws vs l k b was kept m =
+    sym (ap is_marked (found-held n ws l k m.at blank kept (record { within = m.within; own = m.own })) ∙ m.was blank)
+
 -- listed by place
-pub listed : (n : ℕ) (ws : List Waiting) (l : Lane) (i : ℕ) (x : Waiting) → Kept n ws l → i < length ws → x ≡ get_or ws i x
-    → Some x.seq ≡ slice_get (numbers_of is_waiting l) i
-listed n ws l i x kept h e =
+pub listed : (n : ℕ) (ws : List Waiting) (l : Lane) (i : ℕ) (o : Option Waiting) → Kept n ws l → o ≡ slice_get ws i
+    → option_map (λ w. w.seq) o ≡ slice_get (numbers_of is_waiting l) i
+listed n ws l i o kept e =
     let a : numbers_of is_waiting l ≡ map (λ w. w.seq) ws = ap (numbers_of is_waiting) (sym kept.view) ∙ waiting-laid n ws kept.rising in
-    sym (ap (λ ks. slice_get ks i) a
-    ∙ (slice_get-map (λ w. w.seq) ws i ∙ ap (option_map (λ w. w.seq)) (slice_get_read ws (length ws) i x refl h e)))
+    ap (option_map (λ w. w.seq)) e ∙ sym (ap (λ ks. slice_get ks i) a ∙ slice_get-map (λ w. w.seq) ws i)
 
-pub unlisted : (n : ℕ) (ws : List Waiting) (l : Lane) (i : ℕ) → Kept n ws l → length ws ≤ i → None ≡ slice_get (numbers_of is_waiting l) i
-unlisted n ws l i kept h =
-    let a : numbers_of is_waiting l ≡ map (λ w. w.seq) ws = ap (numbers_of is_waiting) (sym kept.view) ∙ waiting-laid n ws kept.rising in
-    sym (ap (λ ks. slice_get ks i) a ∙ slice_get_past (map (λ w. w.seq) ws) i (omega (arith, length-map ws (λ w. w.seq))))
-
-pub listed-own : (n : ℕ) (ws : List Waiting) (l : Lane) (i : ℕ) (x : Waiting) → Kept n ws l → i < length ws → x ≡ get_or ws i x
+pub listed-own : (n : ℕ) (ws : List Waiting) (l : Lane) (i : ℕ) (x : Waiting) → Kept n ws l → Some x ≡ slice_get ws i
     → get_or l x.seq None ≡ Some x.held
-listed-own n ws l i x kept h e =
-    found-held n ws l x.seq i x kept (record { within = h; own = λ d. ap (λ w. w.seq) (sym (get_or_read ws i x h e d)) })
-    ∙ ap (λ w. Some w.held) (sym e)
+listed-own n ws l i x kept e =
+    let h : i < length ws = slice_get_within ws i x (sym e) in
+    let own : (d : Waiting) → get_or ws i d ≡ x = λ d. get_or_from_slice_get ws i x d (sym e) in
+    found-held n ws l x.seq i x kept (record { within = h; own = λ d. ap (λ w. w.seq) (own d) }) ∙ ap (λ w. Some w.held) (own x)

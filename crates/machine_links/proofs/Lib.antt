@@ -2,6 +2,8 @@
 pub mod Laid
 pub mod Finding
 pub mod Numbers
+pub mod Pieces
+pub mod Passing
 pub mod Changing
 pub mod Placing
 pub mod Lanes

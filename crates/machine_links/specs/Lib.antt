@@ -2,6 +2,7 @@
 pub mod Subject
 pub mod Lane
 pub mod Laid
+pub mod Pieces
 pub mod LaneInside
 pub mod Places
 pub mod Flights

@@ -22,9 +22,11 @@ use tcc_msg::{Msg, Name};
 /// each directory and to the vendor, and from each of these to each core. In a clause `net_of` makes of it the links of the rules, and
 /// `is_ready` the marks; only a message in flight is ever marked.
 ///
-/// Messages are not copied. With n messages in flight on a link, a call that names one takes time that goes with the logarithm of n;
-/// `take` moves those behind it, and `ready_at` passes over those of one link. A change of a mark takes constant time, and `ready_at` goes
-/// with the number of links divided by 256. Only `new` and `push` take memory.
+/// Messages are not copied. On a link they stand in stretches of at most 256. A call that names one, or asks for the i-th of a link,
+/// passes over the stretches before it, and searches one; `take` also moves those behind it in its stretch. So with n messages in
+/// flight on a link it takes time in n / 256, and more only where most messages of its stretches were taken and not the last ones. A
+/// change of a mark takes constant time beside that, and `ready_at` goes with the number of links divided by 256, and through one
+/// link. Only `new` and `push` take memory.
 #[derive(Debug, Drop)]
 pub struct InFlight {
     grid: Grid,
@@ -192,7 +194,7 @@ impl InFlight {
     }
 
     /// The i-th message in flight on a link by rising number, with its number; `None` exactly where there are no more than i. It
-    /// takes constant time.
+    /// passes over the stretches before it.
     pub fn waiting_at(&self, src: NodeId, dst: NodeId, i: usize) -> Option<(u64, &Msg)>
         ensures number { let net = net_of self.now in option_map (λ p. p.0) result
             ≡ slice_get (those (λ k. is_some (in_flight net (node_of src) (node_of dst) k)) (length (net (node_of src) (node_of dst)))) i }

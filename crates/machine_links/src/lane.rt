@@ -5,7 +5,10 @@ ghost use Rattle.std.specs.Prelude.{option_map, option_copied};
 ghost use Rattle.std.specs.List.{count_by, filter};
 ghost use Rattle.std.specs.List.Sorted.{IsNonDecreasingBy};
 ghost use Rattle.machine_links.specs.Laid.{held_at};
+ghost use Rattle.machine_links.specs.Pieces.{AreRising, Marked, Taken};
 
+use crate::rest::Rest;
+use crate::stretch::{ROOM, Stretch};
 use std::alloc::Global;
 use std::marker::Model;
 use tcc_base::NoMemory;
@@ -26,10 +29,13 @@ pub struct Waiting {
 }
 
 /// One link. In a clause it is the list of all messages that were sent on it, by number, each `None` once it is consumed.
+/// Its messages in flight stand in stretches of at most 256: most links have one stretch, and where thousands wait, a call passes over
+/// whole stretches.
 #[derive(Debug, Drop)]
 pub struct Lane {
     sent: u64,
-    waiting: Vec<Waiting>,
+    front: Stretch,
+    rest: Rest,
 }
 
 impl Model for Lane {
@@ -54,7 +60,8 @@ impl Lane {
     {
         Lane {
             sent: 0,
-            waiting: Vec::new(alloc),
+            front: Stretch::new(alloc),
+            rest: Rest::new(alloc),
         }
     }
 
@@ -66,133 +73,159 @@ impl Lane {
     }
 
     /// Sends one more message, marked or not. `NoMemory` also where 2^32 messages are in flight here, or where 2^64 were sent; nothing is
-    /// changed then. It takes constant time but for the growth of the list.
+    /// changed then. It takes constant time but for the growth of a stretch.
     pub fn send(&mut self, held: Held) -> Result<(), NoMemory>
         ensures sent { OnOk result (self.new ≡ self.old ++ Some held ∷ []) }
         ensures few { OnOk result (count_by is_marked self.new < 2 ^ 32) }
         ensures unchanged { OnErr result (self.new ≡ self.old) }
     {
-        if self.sent == u64::MAX || self.waiting.len() >= 0xffff_ffff {
+        if self.sent == u64::MAX || self.front.len() + self.rest.len() >= 0xffff_ffff {
             return Err(NoMemory);
         }
         let seq = self.sent;
-        match self.waiting.push(Waiting { seq, held }) {
+        match push(&mut self.front, &mut self.rest, Waiting { seq, held }) {
             Ok(()) => {
                 self.sent = seq + 1;
                 Ok(())
             }
-            Err(_) => Err(NoMemory),
+            Err(NoMemory) => Err(NoMemory),
         }
     }
 
-    /// The message of that number with its mark; `None` exactly where it isn't in flight. The time goes with the logarithm of the
-    /// number in flight here.
+    /// The message of that number with its mark; `None` exactly where it isn't in flight. It passes over the stretches before it, and
+    /// searches one.
     pub fn get(&self, seq: u64) -> Option<&Held>
         ensures { option_copied result ≡ slice_index_or self.now seq None }
     {
-        let at = find(&self.waiting, seq)?;
-        Some(&self.waiting[at].held)
+        get(&self.front, &self.rest, seq)
     }
 
-    /// Takes the message of that number out; `None` exactly where it isn't in flight, and then nothing is changed. It moves the
-    /// messages behind it.
+    /// Takes the message of that number out; `None` exactly where it isn't in flight, and then nothing is changed. It
+    /// passes over the stretches before it, and moves the messages behind it in its own.
     pub fn take(&mut self, seq: u64) -> Option<Held>
         ensures given { result ≡ slice_index_or self.old seq None }
         ensures taken { self.new ≡ slice_set self.old seq None }
     {
-        let at = find(&self.waiting, seq)?;
-        let waiting = self.waiting.remove(at);
-        Some(waiting.held)
+        take(&mut self.front, &mut self.rest, seq)
     }
 
-    /// Marks the message of that number, or takes its mark, and says whether it was marked. The time goes with the logarithm of the
-    /// number in flight here.
+    /// Marks the message of that number, or takes its mark, and says whether it was marked. It passes over the stretches before it, and
+    /// searches one.
     pub fn set_ready(&mut self, seq: u64, ready: bool) -> bool
         requires { IsSome (slice_index_or self.old seq None) }
         ensures was { result ≡ is_marked (slice_index_or self.old seq None) }
         ensures marked { self.new ≡ slice_set self.old seq (marked_as ready (slice_index_or self.old seq None)) }
         ensures few { count_by is_marked self.new < 2 ^ 32 }
     {
-        match find(&self.waiting, seq) {
-            Some(at) => mark(self.waiting.as_mut_slice(), at, ready),
+        match mark(&mut self.front, &mut self.rest, seq, ready) {
+            Some(was) => was,
             None => unreachable!(),
         }
     }
 
-    /// How many messages are in flight.
+    /// How many messages are in flight. It takes constant time.
     pub fn waiting(&self) -> usize
         ensures { result ≡ length (numbers_of is_waiting self.now) }
     {
-        self.waiting.len()
+        self.front.len() + self.rest.len()
     }
 
-    /// The i-th message in flight by rising number, with its number; `None` exactly where there are no more than i. It takes
-    /// constant time.
+    /// The i-th message in flight by rising number, with its number; `None` exactly where there are no more than i. It passes
+    /// over the stretches before it.
     pub fn waiting_at(&self, i: usize) -> Option<(u64, &Held)>
         ensures number { option_map (λ p. p.0) result ≡ slice_get (numbers_of is_waiting self.now) i }
         ensures own { IfSome result (λ p. slice_index_or self.now p.0 None ≡ Some p.1.now) }
     {
-        let waiting = self.waiting.get(i)?;
+        let waiting = nth(&self.front, &self.rest, i)?;
         Some((waiting.seq, &waiting.held))
     }
 
-    /// The number of the k-th marked message; `None` exactly where there are no more than k. The time goes with the number in
-    /// flight here.
+    /// The number of the k-th marked message; `None` exactly where there are no more than k. It passes over the
+    /// stretches before it, and over the messages of one.
     pub fn ready_at(&self, k: u64) -> Option<u64>
         ensures { result ≡ slice_get (numbers_of is_marked self.now) k }
     {
-        nth_ready(&self.waiting, k)
-    }
-}
-
-// Where the message of that number is. Most links have one message, and most of those that are named are the first.
-fn find(waiting: &[Waiting], seq: u64) -> Option<usize>
-    requires { IsNonDecreasingBy (λ w. w.seq) waiting.now }
-    ensures within { IfSome result (λ i. i < length waiting.now) }
-    ensures found { IfSome result (λ i. (d : Waiting) → (slice_index_or waiting.now i d).seq ≡ seq) }
-    ensures absent { IfNone result (held_at waiting.now seq ≡ None) }
-{
-    if !waiting.is_empty() && waiting[0].seq == seq {
-        Some(0)
-    } else {
-        search(waiting, seq)
-    }
-}
-
-// Where it is, looked for among all.
-fn search(waiting: &[Waiting], seq: u64) -> Option<usize>
-    requires { IsNonDecreasingBy (λ w. w.seq) waiting.now }
-    ensures within { IfSome result (λ i. i < length waiting.now) }
-    ensures found { IfSome result (λ i. (d : Waiting) → (slice_index_or waiting.now i d).seq ≡ seq) }
-    ensures absent { IfNone result (held_at waiting.now seq ≡ None) }
-{
-    waiting.binary_search_by_key(&seq, |w| w.seq).ok()
-}
-
-// Gives the message at that place this mark, and tells the one that it had.
-fn mark(waiting: &mut [Waiting], at: usize, ready: bool) -> bool
-    requires { at < length waiting.old }
-    ensures was { (d : Waiting) → result ≡ (slice_index_or waiting.old at d).held.ready }
-    ensures now { (d : Waiting) → let w = slice_index_or waiting.old at d in
-        waiting.new ≡ slice_set waiting.old at (record w { held = record w.held { ready = ready } }) }
-{
-    let was = waiting[at].held.ready;
-    waiting[at].held.ready = ready;
-    was
-}
-
-// The number of the k-th that is marked.
-fn nth_ready(waiting: &[Waiting], k: u64) -> Option<u64>
-    ensures { result ≡ slice_get (map (λ w. w.seq) (filter (λ w. w.held.ready) waiting.now)) k }
-{
-    let mut left = k;
-    for w in waiting {
-        if w.held.ready {
-            if left == 0 {
-                return Some(w.seq);
-            }
-            left -= 1;
+        let marked = self.front.marked();
+        if k < marked {
+            self.front.nth_ready(k)
+        } else {
+            self.rest.nth_ready(k - marked)
         }
     }
-    None
+}
+
+// One more message behind the others: in front where it has room and nothing stands behind it.
+fn push(front: &mut Stretch, rest: &mut Rest, waiting: Waiting) -> Result<(), NoMemory>
+    requires { length rest.old < 4294967295 }
+    ensures ok { OnOk result (front.new ++ rest.new ≡ (front.old ++ rest.old) ++ waiting ∷ []) }
+    ensures err { OnErr result (front.new ++ rest.new ≡ front.old ++ rest.old) }
+{
+    if rest.len() == 0 && front.len() < ROOM {
+        front.push(waiting)
+    } else {
+        rest.push(waiting)
+    }
+}
+
+// The message of that number. Most links have one message, and most of those that are named are the first.
+fn get<'a>(front: &'a Stretch, rest: &'a Rest, seq: u64) -> Option<&'a Held>
+    requires { AreRising (front.now ++ rest.now) }
+    ensures { option_copied result ≡ held_at (front.now ++ rest.now) seq }
+{
+    match front.get(seq) {
+        Some(held) => Some(held),
+        None => rest.get(seq),
+    }
+}
+
+// Takes the message of that number out.
+fn take(front: &mut Stretch, rest: &mut Rest, seq: u64) -> Option<Held>
+    requires { AreRising (front.old ++ rest.old) }
+    ensures some { IfSome result (λ h. Taken (front.old ++ rest.old) (front.new ++ rest.new) seq h) }
+    ensures none { IfNone result (held_at (front.old ++ rest.old) seq ≡ None) }
+    ensures unchanged { IfNone result (front.new ++ rest.new ≡ front.old ++ rest.old) }
+{
+    match front.take(seq) {
+        Some(held) => {
+            refill(front, rest);
+            Some(held)
+        }
+        None => rest.take(seq),
+    }
+}
+
+// Where the front is empty, the next stretch becomes it.
+fn refill(front: &mut Stretch, rest: &mut Rest)
+    ensures { front.new ++ rest.new ≡ front.old ++ rest.old }
+{
+    if front.len() == 0 {
+        if let Some(next) = rest.take_first() {
+            *front = next;
+        }
+    }
+}
+
+// Marks the message of that number, or takes its mark.
+fn mark(front: &mut Stretch, rest: &mut Rest, seq: u64, ready: bool) -> Option<bool>
+    requires { AreRising (front.old ++ rest.old) }
+    ensures some { IfSome result (λ was. Marked (front.old ++ rest.old) (front.new ++ rest.new) seq ready was) }
+    ensures none { IfNone result (held_at (front.old ++ rest.old) seq ≡ None) }
+    ensures unchanged { IfNone result (front.new ++ rest.new ≡ front.old ++ rest.old) }
+{
+    match front.set_ready(seq, ready) {
+        Some(was) => Some(was),
+        None => rest.set_ready(seq, ready),
+    }
+}
+
+// The i-th message.
+fn nth<'a>(front: &'a Stretch, rest: &'a Rest, i: usize) -> Option<&'a Waiting>
+    ensures { option_copied result ≡ slice_get (front.now ++ rest.now) i }
+{
+    let len = front.len();
+    if i < len {
+        front.at(i)
+    } else {
+        rest.at(i - len)
+    }
 }

@@ -5,6 +5,8 @@ mod flights;
 mod grid;
 mod index;
 mod lane;
+mod rest;
+mod stretch;
 mod subject;
 
 pub use flights::InFlight;

@@ -2,7 +2,7 @@
 use Rattle.std.proofs.Common.{sym, subst, rules}
 use Rattle.std.proofs.lemmas.List.Sorted.{answers_always}
 use Rattle.machine_links.proofs.Finding.{Found, searched}
-use Rattle.machine_links.proofs.lane.search.Goals as goal
+use Rattle.machine_links.proofs.stretch.search.Goals as goal
 
 pub returns : goal.returns
 returns c =

@@ -1,0 +1,29 @@
+-- What is taken from a piece is taken from all.
+use Rattle.std.proofs.Common.{◌<◌, ◌≤◌, [], length, sym, subst, ap, ◌∙◌, arith}
+use Rattle.std.proofs.lemmas.List.{get_or_read, get_or_past}
+use Rattle.machine_links.specs.Laid.{held_at}
+use Rattle.machine_links.specs.Pieces.{AreRising, Taken, flat}
+use Rattle.machine_links.proofs.Pieces.{rising-at, taken-read}
+use Rattle.machine_links.proofs.rest.take_from.Goals as goal
+
+pub returns-then-at-len-clause-none : goal.returns-then-at-len-clause-none
+unfolding held_at
+returns-then-at-len-clause-none c =
+    let xs = c.args.pieces.now.items in
+    let past : length xs ≤ c.piece_of-at.result = omega (arith, c.if-at-len.true, c.len.ensures, c.args.pieces.now.ok) in
+    (rw c.deref.ensures.value at c.piece_of-at.ensures) ∙ ap (λ ws. held_at ws c.args.seq) (get_or_past xs c.piece_of-at.result [] past)
+
+pub take-requires : goal.take-requires
+take-requires c =
+    let xs = c.args.pieces.now.items in
+    let lt : c.piece_of-at.result < length xs = omega (arith, c.if-at-len.false, c.len.ensures, c.args.pieces.now.ok) in
+    subst AreRising (sym (get_or_read xs c.piece_of-at.result c.index_mut.result.now lt c.index_mut.ensures.value []))
+    (rising-at xs c.piece_of-at.result c.requires)
+
+pub returns-clause-some : goal.returns-clause-some
+returns-clause-some c =
+    let xs = c.args.pieces.now.items in
+    let lt : c.piece_of-at.result < length xs = omega (arith, c.if-at-len.false, c.len.ensures, c.args.pieces.now.ok) in
+    subst (λ ws. Taken (flat xs) ws c.args.seq c.in_ok-held.held) (sym c.drop_empty.ensures)
+    (taken-read xs c.piece_of-at.result c.index_mut.result.now c.take.new.self c.args.seq c.in_ok-held.held lt c.index_mut.ensures.value
+    c.in_ok-held.ensures.some)

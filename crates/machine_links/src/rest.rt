@@ -1,0 +1,243 @@
+// The messages of a link that stand behind its first stretch.
+ghost use Rattle.std.specs.Prelude.{◌≡◌, ◌<◌, [], ◌∷◌, ◌++◌, length, map, slice_index_or, slice_get, Option, Some, None, OnOk, OnErr};
+ghost use Rattle.std.specs.Prelude.{IfSome, IfNone, option_copied};
+ghost use Rattle.std.specs.List.{filter};
+ghost use Rattle.machine_links.specs.Laid.{held_at};
+ghost use Rattle.machine_links.specs.Pieces.{AreRising, Marked, Taken, flat};
+
+use crate::lane::{Held, Waiting};
+use crate::stretch::{ROOM, Stretch};
+use std::alloc::Global;
+use std::marker::Model;
+use tcc_base::NoMemory;
+
+/// Stretches by rising number, none of them empty. In a clause it is the list of their messages. A call passes over whole stretches,
+/// and then goes into one.
+#[derive(Debug, Drop)]
+pub(crate) struct Rest {
+    pieces: Vec<Stretch>,
+    count: usize,
+}
+
+impl Model for Rest {
+    ghost use Rattle.std.specs.Prelude.{◌≡◌, List, length};
+    ghost use Rattle.machine_links.specs.Pieces.{flat};
+    ghost use Rattle.machine_links.specs.declared.lane.Waiting.{Waiting as Message};
+
+    ghost Value = { List Message };
+
+    ghost view = { λ r. flat r.pieces.items };
+
+    ghost invariant = { λ r. r.count ≡ length (flat r.pieces.items) };
+}
+
+impl Rest {
+    /// No message. No memory is taken yet.
+    pub(crate) fn new(alloc: Global) -> Rest
+        ensures { result ≡ [] }
+    {
+        Rest {
+            pieces: Vec::new(alloc),
+            count: 0,
+        }
+    }
+
+    /// How many messages there are.
+    pub(crate) fn len(&self) -> usize
+        ensures { result ≡ length self.now }
+    {
+        self.count
+    }
+
+    /// One more message, behind the others. After want of memory nothing is changed.
+    pub(crate) fn push(&mut self, waiting: Waiting) -> Result<(), NoMemory>
+        requires { length self.old < 4294967295 }
+        ensures ok { OnOk result (self.new ≡ self.old ++ waiting ∷ []) }
+        ensures err { OnErr result (self.new ≡ self.old) }
+    {
+        match push_last(&mut self.pieces, waiting) {
+            Ok(()) => {
+                self.count += 1;
+                Ok(())
+            }
+            Err(NoMemory) => Err(NoMemory),
+        }
+    }
+
+    /// Takes the first stretch out.
+    pub(crate) fn take_first(&mut self) -> Option<Stretch>
+        ensures some { IfSome result (λ s. s ++ self.new ≡ self.old) }
+        ensures none { IfNone result (self.new ≡ self.old) }
+    {
+        if self.pieces.is_empty() {
+            return None;
+        }
+        let first = self.pieces.remove(0);
+        self.count -= first.len();
+        Some(first)
+    }
+
+    /// The message of that number; `None` exactly where there is none.
+    pub(crate) fn get(&self, seq: u64) -> Option<&Held>
+        requires { AreRising self.now }
+        ensures { option_copied result ≡ held_at self.now seq }
+    {
+        get_in(&self.pieces, seq)
+    }
+
+    /// Takes the message of that number out; `None` where there is none, and then nothing is changed.
+    pub(crate) fn take(&mut self, seq: u64) -> Option<Held>
+        requires { AreRising self.old }
+        ensures some { IfSome result (λ h. Taken self.old self.new seq h) }
+        ensures none { IfNone result (held_at self.old seq ≡ None) }
+        ensures unchanged { IfNone result (self.new ≡ self.old) }
+    {
+        match take_from(&mut self.pieces, seq) {
+            Some(held) => {
+                self.count -= 1;
+                Some(held)
+            }
+            None => None,
+        }
+    }
+
+    /// Marks the message of that number, or takes its mark, and says whether it was marked; `None` where there is none.
+    pub(crate) fn set_ready(&mut self, seq: u64, ready: bool) -> Option<bool>
+        requires { AreRising self.old }
+        ensures some { IfSome result (λ was. Marked self.old self.new seq ready was) }
+        ensures none { IfNone result (held_at self.old seq ≡ None) }
+        ensures unchanged { IfNone result (self.new ≡ self.old) }
+    {
+        mark_in(&mut self.pieces, seq, ready)
+    }
+
+    /// The i-th message.
+    pub(crate) fn at(&self, i: usize) -> Option<&Waiting>
+        ensures { option_copied result ≡ slice_get self.now i }
+    {
+        nth(&self.pieces, i)
+    }
+
+    /// The number of the k-th marked message.
+    pub(crate) fn nth_ready(&self, k: u64) -> Option<u64>
+        ensures { result ≡ slice_get (map (λ w. w.seq) (filter (λ w. w.held.ready) self.now)) k }
+    {
+        nth_marked(&self.pieces, k)
+    }
+}
+
+// One more message in the last stretch, or in a new one.
+fn push_last(pieces: &mut Vec<Stretch>, waiting: Waiting) -> Result<(), NoMemory>
+    ensures ok { OnOk result (flat pieces.new.items ≡ flat pieces.old.items ++ waiting ∷ []) }
+    ensures err { OnErr result (flat pieces.new.items ≡ flat pieces.old.items) }
+{
+    let len = pieces.len();
+    if len != 0 && pieces[len - 1].len() < ROOM {
+        return pieces[len - 1].push(waiting);
+    }
+    push_new(pieces, waiting)
+}
+
+fn push_new(pieces: &mut Vec<Stretch>, waiting: Waiting) -> Result<(), NoMemory>
+    ensures ok { OnOk result (flat pieces.new.items ≡ flat pieces.old.items ++ waiting ∷ []) }
+    ensures err { OnErr result (flat pieces.new.items ≡ flat pieces.old.items) }
+{
+    let next = Stretch::of_one(*pieces.allocator(), waiting)?;
+    if pieces.push(next).is_err() {
+        return Err(NoMemory);
+    }
+    Ok(())
+}
+
+// The place of the stretch that has the message of that number, where there is one.
+fn piece_of(pieces: &[Stretch], seq: u64) -> usize
+    requires { AreRising (flat pieces.now) }
+    ensures { held_at (flat pieces.now) seq ≡ held_at (slice_index_or pieces.now result []) seq }
+{
+    for i in 0..pieces.len() {
+        if !pieces[i].ends_below(seq) {
+            return i;
+        }
+    }
+    pieces.len()
+}
+
+fn get_in(pieces: &[Stretch], seq: u64) -> Option<&Held>
+    requires { AreRising (flat pieces.now) }
+    ensures { option_copied result ≡ held_at (flat pieces.now) seq }
+{
+    let at = piece_of(pieces, seq);
+    if at < pieces.len() {
+        pieces[at].get(seq)
+    } else {
+        None
+    }
+}
+
+fn take_from(pieces: &mut Vec<Stretch>, seq: u64) -> Option<Held>
+    requires { AreRising (flat pieces.old.items) }
+    ensures some { IfSome result (λ h. Taken (flat pieces.old.items) (flat pieces.new.items) seq h) }
+    ensures none { IfNone result (held_at (flat pieces.old.items) seq ≡ None) }
+    ensures unchanged { IfNone result (flat pieces.new.items ≡ flat pieces.old.items) }
+{
+    let at = piece_of(pieces, seq);
+    if at >= pieces.len() {
+        return None;
+    }
+    let held = pieces[at].take(seq)?;
+    drop_empty(pieces, at);
+    Some(held)
+}
+
+// Drops this stretch, where it is empty.
+fn drop_empty(pieces: &mut Vec<Stretch>, at: usize)
+    requires { at < length pieces.old.items }
+    ensures { flat pieces.new.items ≡ flat pieces.old.items }
+{
+    if pieces[at].len() == 0 {
+        pieces.remove(at);
+    }
+}
+
+fn mark_in(pieces: &mut Vec<Stretch>, seq: u64, ready: bool) -> Option<bool>
+    requires { AreRising (flat pieces.old.items) }
+    ensures some { IfSome result (λ was. Marked (flat pieces.old.items) (flat pieces.new.items) seq ready was) }
+    ensures none { IfNone result (held_at (flat pieces.old.items) seq ≡ None) }
+    ensures unchanged { IfNone result (flat pieces.new.items ≡ flat pieces.old.items) }
+{
+    let at = piece_of(pieces, seq);
+    if at >= pieces.len() {
+        return None;
+    }
+    pieces[at].set_ready(seq, ready)
+}
+
+// The i-th message of these.
+fn nth(pieces: &[Stretch], i: usize) -> Option<&Waiting>
+    ensures { option_copied result ≡ slice_get (flat pieces.now) i }
+{
+    let mut left = i;
+    for at in 0..pieces.len() {
+        let len = pieces[at].len();
+        if left < len {
+            return pieces[at].at(left);
+        }
+        left -= len;
+    }
+    None
+}
+
+// The number of the k-th marked message of these.
+fn nth_marked(pieces: &[Stretch], k: u64) -> Option<u64>
+    ensures { result ≡ slice_get (map (λ w. w.seq) (filter (λ w. w.held.ready) (flat pieces.now))) k }
+{
+    let mut left = k;
+    for at in 0..pieces.len() {
+        let marked = pieces[at].marked();
+        if left < marked {
+            return pieces[at].nth_ready(left);
+        }
+        left -= marked;
+    }
+    None
+}
