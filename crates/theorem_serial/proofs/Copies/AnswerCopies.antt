@@ -1,12 +1,11 @@
 -- Each answer of a directory leaves the copies of a line similar, but that a Commit takes the lines over that it stored.
-use Rattle.theorem_serial.proofs.Names.{ℕ, ◌+◌, ◌≡◌, ◌<◌, ◌≤◌, ◌⊎◌, ◌==◌, ◌&&◌, Bool, true, false, List, Some, None, if◌then◌else◌, arith}
-use Rattle.theorem_serial.proofs.Names.{refl}
-use Rattle.theorem_serial.proofs.Names.{ap, sym, ◌∙◌, inl, inr, cases_eq, nat_tests, Noted, num, Msg, DirState, Kind, Commits, CopyOf}
-use Rattle.theorem_serial.proofs.Names.{CopyMask}
-use Rattle.theorem_serial.proofs.Names.{live, passes, Pair, is_this, wrote_line}
-use Rattle.theorem_serial.proofs.Copies.DirCopies.{Similar}
-use Rattle.theorem_serial.proofs.Marks.DirRecords.{NoCommit}
-use Rattle.theorem_serial.proofs.Copies.PairCopies.{LineCopies, of-line}
+use Rattle.theorem_serial.proofs
+use proofs.Names
+use Names.{ℕ, ◌+◌, ◌≡◌, ◌<◌, ◌≤◌, ◌⊎◌, ◌==◌, ◌&&◌, Bool, true, false, List, Some, None, if◌then◌else◌, arith, refl, ap, sym, ◌∙◌, inl, inr}
+use Names.{cases_eq, nat_tests, Noted, num, Msg, DirState, Kind, Commits, CopyOf, CopyMask, live, passes, Pair, is_this, wrote_line}
+use proofs.Copies.DirCopies.{Similar}
+use proofs.Marks.DirRecords.{NoCommit}
+use proofs.Copies.PairCopies.{LineCopies, of-line}
 
 -- the directory is s now, and the message is consumed where it came from this core
 pub record Answered (mine : Bool) (m : Msg) (s : DirState) (v w : Pair) : Type 0 where

@@ -1,12 +1,12 @@
 -- The facts of the list on copies, from what is kept of each line in memory; and that the start has it.
-use Rattle.theorem_serial.proofs.Names.{ℕ, ◌≡◌, ◌<◌, true, false, List, [], arith, refl, nat_tests, Noted, Local, any_below, any_word}
-use Rattle.theorem_serial.proofs.Names.{Cache}
-use Rattle.theorem_serial.proofs.Names.{empty_cache, is_dirty, dirty_tag, dirty_mask, no_lines, Shape, World, start, core_start, dir_start}
-use Rattle.theorem_serial.proofs.Names.{copies_with, AboveOf, KeptAbove, OwnedOf, KeptOwned, live, Pair, pair, wrote, wrote_line}
-use Rattle.theorem_serial.proofs.Names.{wrote_mask}
-use Rattle.theorem_serial.proofs.Copies.DirtyFrames.{frame_copy, frame_wrong}
-use Rattle.theorem_serial.proofs.Copies.LinesKept.{KeptLines}
-use Rattle.theorem_serial.proofs.Copies.PairCopies.{line_copies, line_wrong, LineCopies}
+use Rattle.theorem_serial.proofs
+use proofs.Names
+use Names.{ℕ, ◌≡◌, ◌<◌, true, false, List, [], arith, refl, nat_tests, Noted, Local, any_below, any_word, Cache, empty_cache, is_dirty}
+use Names.{dirty_tag, dirty_mask, no_lines, Shape, World, start, core_start, dir_start, copies_with, AboveOf, KeptAbove, OwnedOf, KeptOwned}
+use Names.{live, Pair, pair, wrote, wrote_line, wrote_mask}
+use proofs.Copies.DirtyFrames.{frame_copy, frame_wrong}
+use proofs.Copies.LinesKept.{KeptLines}
+use proofs.Copies.PairCopies.{line_copies, line_wrong, LineCopies}
 
 -- no frame that is dirty with the tag has another mask
 right-mask : (c : Cache) (l t n : ℕ) → frame_wrong c l t n ≡ 0 → is_dirty c l ≡ true → dirty_tag c l ≡ t → dirty_mask c l ≡ n

@@ -1,29 +1,24 @@
 -- What a core's events do to the copies of a line: all keep them, but that a commit makes new ones.
 use Rattle.base_lemmas.proofs.Lemmas.{line_of-word_at}
-use Rattle.theorem_serial.proofs.Names.{committed_core, if◌then◌else◌, modified_mask, words_dropped, dirty-evicted, spilled_mask}
-use Rattle.theorem_serial.proofs.Names.{any_below-at}
-use Rattle.theorem_serial.proofs.Names.{commit_sends, written_mask, read_cleared, is_modified, solo_commit, invalidated, rolled_back}
-use Rattle.theorem_serial.proofs.Names.{committed}
-use Rattle.theorem_serial.proofs.Names.{is_written, names_line, core_evict, CoreState, stores_in, nat_tests, core_exec, any_word, cases_eq}
-use Rattle.theorem_serial.proofs.Names.{◌≡◌}
-use Rattle.theorem_serial.proofs.Names.{from_dir, is_some, word_at, mask_of, Spilled, OneCore, Program, word_of, line_of, IsCache, cleaned}
-use Rattle.theorem_serial.proofs.Names.{◌<◌}
-use Rattle.theorem_serial.proofs.Names.{nothing, is_solo, Option, commit, IfSome, filled, CopyOf, passes, stored, marked, placed, false}
-use Rattle.theorem_serial.proofs.Names.{arith}
-use Rattle.theorem_serial.proofs.Names.{Shape, lines, Cache, holds, Ready, noted, Words, moves, grant, among, ◌==◌, ◌&&◌, ◌||◌, Bool, true}
-use Rattle.theorem_serial.proofs.Names.{not}
-use Rattle.theorem_serial.proofs.Names.{Some, None, refl, home, sym, ◌∙◌, num, Dir, ◌+◌, ◌≤◌, ◌⊎◌, inl, inr, hit, Msg, Inv, Out, ℕ}
-use Rattle.theorem_serial.proofs.Copies.CopySends.{few-masks, commit-copies, solo-copies, solo-wrong, flushed-leaves, back-home-leaves}
-use Rattle.theorem_serial.proofs.Copies.CoreCopies.{Conserves, conserves-still, conserves-sent, framed-dirty}
-use Rattle.theorem_serial.proofs.Copies.DirtyFrames.{wrong-copy, IsClean, clean-frame, committed-frame, frame_copy, fewer-frame}
-use Rattle.theorem_serial.proofs.Marks.CoreMarks.{holds-found}
-use Rattle.theorem_serial.proofs.Marks.StoredMasks.{unspilled, modified-line, modified-stored, written-line, written-stored}
-use Rattle.theorem_serial.proofs.OneCore.Said.{Flushes, Requests, Silent, Unheard, quiet, say}
-use Rattle.theorem_serial.proofs.OneCore.Outcomes.{Commits_now, Did, Ends_alone, Frames, Frames_anew, Given_none, Granted, Hands_out, Heard}
-use Rattle.theorem_serial.proofs.OneCore.Outcomes.{Hurt_alone, Hurt_probing, Hurt_running, Hurt_waiting, Misses_anew, Hurt_none, after_end}
-use Rattle.theorem_serial.proofs.OneCore.Outcomes.{after_store, awaiting, each-back, each-evict, each-exec, each-grant, emptied, granted}
-use Rattle.theorem_serial.proofs.OneCore.Outcomes.{granted_said, heard, heard-quiet, heard_said, hears_ack, message, out, said}
 use Rattle.rules_maps.proofs.Lemmas.{dirty-placed}
+use Rattle.theorem_serial.proofs
+use proofs.Names
+use Names.{committed_core, if◌then◌else◌, modified_mask, words_dropped, dirty-evicted, spilled_mask, any_below-at, commit_sends}
+use Names.{written_mask, read_cleared, is_modified, solo_commit, invalidated, rolled_back, committed, is_written, names_line, core_evict}
+use Names.{CoreState, stores_in, nat_tests, core_exec, any_word, cases_eq, ◌≡◌, from_dir, is_some, word_at, mask_of, Spilled, OneCore}
+use Names.{Program, word_of, line_of, IsCache, cleaned, ◌<◌, nothing, is_solo, Option, commit, IfSome, filled, CopyOf, passes, stored}
+use Names.{marked, placed, false, arith, Shape, lines, Cache, holds, Ready, noted, Words, moves, grant, among, ◌==◌, ◌&&◌, ◌||◌, Bool, true}
+use Names.{not, Some, None, refl, home, sym, ◌∙◌, num, Dir, ◌+◌, ◌≤◌, ◌⊎◌, inl, inr, hit, Msg, Inv, Out, ℕ}
+use proofs.Copies.CopySends.{few-masks, commit-copies, solo-copies, solo-wrong, flushed-leaves, back-home-leaves}
+use proofs.Copies.CoreCopies.{Conserves, conserves-still, conserves-sent, framed-dirty}
+use proofs.Copies.DirtyFrames.{wrong-copy, IsClean, clean-frame, committed-frame, frame_copy, fewer-frame}
+use proofs.Marks.CoreMarks.{holds-found}
+use proofs.Marks.StoredMasks.{unspilled, modified-line, modified-stored, written-line, written-stored}
+use proofs.OneCore.Said.{Flushes, Requests, Silent, Unheard, quiet, say}
+use proofs.OneCore.Outcomes.{Commits_now, Did, Ends_alone, Frames, Frames_anew, Given_none, Granted, Hands_out, Heard, Hurt_alone}
+use proofs.OneCore.Outcomes.{Hurt_probing, Hurt_running, Hurt_waiting, Misses_anew, Hurt_none, after_end, after_store, awaiting, each-back}
+use proofs.OneCore.Outcomes.{each-evict, each-exec, each-grant, emptied, granted, granted_said, heard, heard-quiet, heard_said, hears_ack}
+use proofs.OneCore.Outcomes.{message, out, said}
 
 -- A commit makes one copy of each line that it stored, with its TID and of the stored words: in the frame, or sent from the overflow
 -- buffer.

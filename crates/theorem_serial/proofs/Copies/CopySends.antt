@@ -1,14 +1,14 @@
 -- The copies of a line among what a core sends: the dirty words that leave a frame, and the spilled words of a commit.
-use Rattle.theorem_serial.proofs.Names.{ℕ, zero, suc, ◌+◌, ◌≡◌, ◌<◌, ◌≤◌, ◌==◌, ◌&&◌, Bool, true, false, not, cond, List, [], ◌∷◌, ◌++◌}
-use Rattle.theorem_serial.proofs.Names.{Some}
-use Rattle.theorem_serial.proofs.Names.{None, nat_lt, if◌then◌else◌, flat_map, arith, refl, ◌∙◌, nat_tests, flat_map-append, num, those}
-use Rattle.theorem_serial.proofs.Names.{count_below, Dir, Msg, Skip, Mark, Commit, WriteBack, Flush, Shape, home, lines, Cache, is_dirty}
-use Rattle.theorem_serial.proofs.Names.{dirty_tag, dirty_mask, dirty_words, dirty_copy, Spilled, holds, spilled_mask, spilled_words}
-use Rattle.theorem_serial.proofs.Names.{commit_sends, solo_sends, solo_marks_or_skip, solo_write_backs, solo_writes_at, is_written}
-use Rattle.theorem_serial.proofs.Names.{written_mask, to, flush_of, flush_line, write_back_line, CopyOf, CopyMask, among, passes}
 use Rattle.rules_tcc.specs.Sends.{write_back_of}
-use Rattle.theorem_serial.proofs.Copies.DirtyFrames.{frame_copy, frame_wrong}
-use Rattle.theorem_serial.proofs.Counts.Links.{among-append, among-flat_map_none}
+use Rattle.theorem_serial.proofs
+use proofs.Names
+use Names.{ℕ, zero, suc, ◌+◌, ◌≡◌, ◌<◌, ◌≤◌, ◌==◌, ◌&&◌, Bool, true, false, not, cond, List, [], ◌∷◌, ◌++◌, Some, None, nat_lt}
+use Names.{if◌then◌else◌, flat_map, arith, refl, ◌∙◌, nat_tests, flat_map-append, num, those, count_below, Dir, Msg, Skip, Mark, Commit}
+use Names.{WriteBack, Flush, Shape, home, lines, Cache, is_dirty, dirty_tag, dirty_mask, dirty_words, dirty_copy, Spilled, holds}
+use Names.{spilled_mask, spilled_words, commit_sends, solo_sends, solo_marks_or_skip, solo_write_backs, solo_writes_at, is_written}
+use Names.{written_mask, to, flush_of, flush_line, write_back_line, CopyOf, CopyMask, among, passes}
+use proofs.Copies.DirtyFrames.{frame_copy, frame_wrong}
+use proofs.Counts.Links.{among-append, among-flat_map_none}
 
 pub mask-copy : (l t n : ℕ) (m : Msg) → num (passes (CopyMask l t n) m) ≤ num (passes (CopyOf l t) m)
 unfolding passes

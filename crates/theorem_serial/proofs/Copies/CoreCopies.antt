@@ -1,14 +1,14 @@
 -- A core's instructions and evictions keep the copies of each line: dirty words that leave a frame are sent home, and a commit makes one
 -- copy of each line that it stored.
 use Rattle.base_lemmas.proofs.Lemmas.{line_of-word_at, unheld-clean}
-use Rattle.theorem_serial.proofs.Names.{stored, ℕ, ◌+◌, ◌≡◌, ◌<◌, ◌⊎◌, ◌==◌, ◌&&◌, Bool, true, false, not, Option, Some, None}
-use Rattle.theorem_serial.proofs.Names.{if◌then◌else◌}
-use Rattle.theorem_serial.proofs.Names.{arith, refl, ◌∙◌, inl, inr, cases_eq, nat_tests, Noted, num, line_of, word_at, Dir, Shape, home}
-use Rattle.theorem_serial.proofs.Names.{Cache}
-use Rattle.theorem_serial.proofs.Names.{IsCache, placed, CoreState, Out, CopyOf, CopyMask, among, stores_in, names_line}
-use Rattle.theorem_serial.proofs.Copies.CopySends.{Leaves, few-masks}
-use Rattle.theorem_serial.proofs.Copies.DirtyFrames.{frame_copy, frame_wrong, wrong-copy, SameDirty, same-frame, clean-frame}
 use Rattle.rules_maps.proofs.Lemmas.{dirty-placed}
+use Rattle.theorem_serial.proofs
+use proofs.Names
+use Names.{stored, ℕ, ◌+◌, ◌≡◌, ◌<◌, ◌⊎◌, ◌==◌, ◌&&◌, Bool, true, false, not, Option, Some, None, if◌then◌else◌, arith, refl, ◌∙◌, inl, inr}
+use Names.{cases_eq, nat_tests, Noted, num, line_of, word_at, Dir, Shape, home, Cache, IsCache, placed, CoreState, Out, CopyOf, CopyMask}
+use Names.{among, stores_in, names_line}
+use proofs.Copies.CopySends.{Leaves, few-masks}
+use proofs.Copies.DirtyFrames.{frame_copy, frame_wrong, wrong-copy, SameDirty, same-frame, clean-frame}
 
 -- a commit makes a copy of the line with the tag; and it has another mask
 abbrev pub gains : Shape → (line : ℕ) → Option Noted → (tag : ℕ) → Bool

@@ -1,9 +1,9 @@
 -- What a directory's answer does, between a core and the line's home, to the copies of a line.
-use Rattle.theorem_serial.proofs.Names.{nat_tests, ℕ, ◌+◌, ◌≡◌, ◌<◌, ◌≤◌, ◌==◌, Bool, true, cond, List, Some, arith, refl, sym, ◌∙◌, Noted}
-use Rattle.theorem_serial.proofs.Names.{num}
-use Rattle.theorem_serial.proofs.Names.{Commits, CopyOf, CopyMask, live, Pair, is_this, wrote_line, wrote_mask}
-use Rattle.theorem_serial.proofs.Copies.DirtyFrames.{frame_copy, frame_wrong}
-use Rattle.theorem_serial.proofs.Copies.PairCopies.{line_copies, line_wrong, LineCopies, of-line, of-wrong, few-wrong, same-cond}
+use Rattle.theorem_serial.proofs
+use proofs.Names.{nat_tests, ℕ, ◌+◌, ◌≡◌, ◌<◌, ◌≤◌, ◌==◌, Bool, true, cond, List, Some, arith, refl, sym, ◌∙◌, Noted, num, Commits, CopyOf}
+use proofs.Names.{CopyMask, live, Pair, is_this, wrote_line, wrote_mask}
+use proofs.Copies.DirtyFrames.{frame_copy, frame_wrong}
+use proofs.Copies.PairCopies.{line_copies, line_wrong, LineCopies, of-line, of-wrong, few-wrong, same-cond}
 
 -- The line keeps its tag and its copies with a larger tag, and loses a copy with its tag only with its owner.
 pub record Similar (base : ℕ) (cs : List Noted) (c l : ℕ) (v w : Pair) : Type 0 where

@@ -1,10 +1,10 @@
 -- The copies of a line in a core's frame, by the dirty words of the line.
 use Rattle.base_lemmas.proofs.Lemmas.{line_of-word_at}
-use Rattle.theorem_serial.proofs.Names.{nat_tests, ℕ, ◌+◌, ◌≡◌, ◌<◌, ◌≤◌, ◌⊎◌, ◌==◌, ◌&&◌, ◌||◌, Bool, true, false, not, Option, Some, None}
-use Rattle.theorem_serial.proofs.Names.{is_some, unwrap_or, if◌then◌else◌, arith, refl, sym, ◌∙◌, inl, inr, num, any_below, any_word}
-use Rattle.theorem_serial.proofs.Names.{word_at}
-use Rattle.theorem_serial.proofs.Names.{or_else, mask_of, Shape, Cache, IsCache, is_dirty, is_modified, dirty_tag, dirty_mask}
-use Rattle.theorem_serial.proofs.Names.{modified_mask, first_of_line, any_below-found, any_below-at}
+use Rattle.theorem_serial.proofs
+use proofs.Names
+use Names.{nat_tests, ℕ, ◌+◌, ◌≡◌, ◌<◌, ◌≤◌, ◌⊎◌, ◌==◌, ◌&&◌, ◌||◌, Bool, true, false, not, Option, Some, None, is_some, unwrap_or}
+use Names.{if◌then◌else◌, arith, refl, sym, ◌∙◌, inl, inr, num, any_below, any_word, word_at, or_else, mask_of, Shape, Cache, IsCache}
+use Names.{is_dirty, is_modified, dirty_tag, dirty_mask, modified_mask, first_of_line, any_below-found, any_below-at}
 
 -- 1 where the line's frame is dirty with this tag, and where it is so with another mask
 unfoldable pub frame_copy : Cache → (line tag : ℕ) → ℕ

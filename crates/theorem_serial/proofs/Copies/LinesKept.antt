@@ -1,23 +1,22 @@
 -- Every event keeps the copies of each line in memory: the owner's one with the line's tag, and those of commits on their way with a
 -- larger one.
-use Rattle.theorem_serial.proofs.Names.{ℕ, ◌+◌, ◌≡◌, ◌<◌, ◌≤◌, ◌==◌, false, List, Option, Some, None, IfSome, arith, refl, ap, sym, subst}
-use Rattle.theorem_serial.proofs.Names.{inl}
-use Rattle.theorem_serial.proofs.Names.{inr, nat_tests, Noted, num, Core, Dir, Shape, home, lines, World, Out, core_moves, History}
-use Rattle.theorem_serial.proofs.Names.{and_noted}
-use Rattle.theorem_serial.proofs.Names.{insert_commit, KeptTags, KeptLineOwners, Commits, live, among, KeptRun, Grant, times, Pair, pair}
-use Rattle.theorem_serial.proofs.Names.{after_move, share, part, Ways, part_in}
-use Rattle.theorem_serial.proofs.Serving.CommitSteps.{ofs-resolve}
-use Rattle.theorem_serial.proofs.Marks.CoreAfter.{AfterStep}
-use Rattle.theorem_serial.proofs.Copies.CoreCopies.{Conserves}
-use Rattle.theorem_serial.proofs.Ways.CoreSkips.{TellsCommit}
-use Rattle.theorem_serial.proofs.Copies.CopyRules.{InMemory}
-use Rattle.theorem_serial.proofs.Copies.TagsKept.{untagged, stored-home}
-use Rattle.theorem_serial.proofs.Counts.Links.{total-le}
-use Rattle.theorem_serial.proofs.Tids.Commits.{positive-held}
-use Rattle.theorem_serial.proofs.Copies.WroteLines.{uncommitted, commit-sent, few-resolves, SameWrote, wrote-other}
-use Rattle.theorem_serial.proofs.Copies.PairCopies.{LineCopies, copies-moved, NewCommit, copies-committed}
-use Rattle.theorem_serial.proofs.Counts.StepCases.{either, moves-own, moves-other}
-use Rattle.theorem_serial.proofs.Ways.ToldSteps.{Speaks}
+use Rattle.theorem_serial.proofs
+use proofs.Names
+use Names.{ℕ, ◌+◌, ◌≡◌, ◌<◌, ◌≤◌, ◌==◌, false, List, Option, Some, None, IfSome, arith, refl, ap, sym, subst, inl, inr, nat_tests, Noted}
+use Names.{num, Core, Dir, Shape, home, lines, World, Out, core_moves, History, and_noted, insert_commit, KeptTags, KeptLineOwners, Commits}
+use Names.{live, among, KeptRun, Grant, times, Pair, pair, after_move, share, part, Ways, part_in}
+use proofs.Serving.CommitSteps.{ofs-resolve}
+use proofs.Marks.CoreAfter.{AfterStep}
+use proofs.Copies.CoreCopies.{Conserves}
+use proofs.Ways.CoreSkips.{TellsCommit}
+use proofs.Copies.CopyRules.{InMemory}
+use proofs.Copies.TagsKept.{untagged, stored-home}
+use proofs.Counts.Links.{total-le}
+use proofs.Tids.Commits.{positive-held}
+use proofs.Copies.WroteLines.{uncommitted, commit-sent, few-resolves, SameWrote, wrote-other}
+use proofs.Copies.PairCopies.{LineCopies, copies-moved, NewCommit, copies-committed}
+use proofs.Counts.StepCases.{either, moves-own, moves-other}
+use proofs.Ways.ToldSteps.{Speaks}
 
 -- the copies of a line between a core and a directory, where it is a line in memory and at home there
 abbrev pub CopiesAt : Shape → List Noted → (core dir : ℕ) → Pair → Type 0

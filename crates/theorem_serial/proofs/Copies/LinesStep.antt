@@ -1,37 +1,34 @@
 -- Every event keeps the copies of each line in memory, each kind of event by itself.
 use Rattle.base_lemmas.proofs.Lemmas.{eq-self}
-use Rattle.theorem_serial.proofs.Names.{ℕ, ◌%◌, ◌≡◌, ◌<◌, ◌≤◌, ◌⊎◌, ◌==◌, Bool, true, false, not, cond, List, Option, Some, None, arith}
-use Rattle.theorem_serial.proofs.Names.{refl}
-use Rattle.theorem_serial.proofs.Names.{ap, sym, ◌∙◌, inl, inr, cases_lt, nat_tests, Noted, num, Core, Dir, Msg, Inv, Shape, home, lines}
-use Rattle.theorem_serial.proofs.Names.{in_flight, Out, History, Commits, InvsAway, live, among, passes, Grant, Pair, pair, after_move}
-use Rattle.theorem_serial.proofs.Names.{Ways}
-use Rattle.theorem_serial.proofs.Names.{wrote_line, ◌+◌, ◌&&◌, nat_lt, [], Contains, subst, cases_eq, has_mark, DirState, Sends, dir_takes}
-use Rattle.theorem_serial.proofs.Names.{dir_asks, CopyOf, after_answer, out_taken, is_applied, names_line, IfSome, Program, Vendor, Event}
-use Rattle.theorem_serial.proofs.Names.{core_exec, core_evict, from_dir, grant, Answer, Waits, Drops, Asks, Takes, dir_deliver, core_moves}
-use Rattle.theorem_serial.proofs.Names.{core_takes, and_noted, step, grant_taken, back_taken, after_grant, after_other_grant, is_this}
-use Rattle.theorem_serial.proofs.Copies.AnswerCopies.{Answered, none-passes, still-similar, dropped-similar, came-similar}
-use Rattle.theorem_serial.proofs.Copies.CopyRules.{BackStep, Kept, Invalidates, InMemory, copies-exec, copies-evict, copies-grant}
-use Rattle.theorem_serial.proofs.Copies.CopyRules.{copies-back}
-use Rattle.theorem_serial.proofs.Copies.CoreCopies.{Conserves}
-use Rattle.theorem_serial.proofs.Copies.DirCopies.{similar-copies, taken-copies}
-use Rattle.theorem_serial.proofs.Copies.LinesKept.{Before, CopiesAt, KeptLines, moved-lines}
-use Rattle.theorem_serial.proofs.Copies.PairCopies.{line_copies, LineCopies, copies-moved, copies-lost}
-use Rattle.theorem_serial.proofs.Copies.TagsKept.{inv-tag, tag-below, stored-home, stored-in, TakenCommit, taken-commit, Invalidating}
-use Rattle.theorem_serial.proofs.Copies.WroteLines.{on-its-way, wrote-listed, no-writer}
-use Rattle.theorem_serial.proofs.Counts.Links.{live-takes}
-use Rattle.theorem_serial.proofs.Counts.StepCases.{differ, pairs_dir, pairs_asks, pairs_grant, pairs_back, pairs_vendor, OfAnswer}
-use Rattle.theorem_serial.proofs.Counts.StepCases.{step_cases}
-use Rattle.theorem_serial.proofs.Marks.CoreAfter.{AfterStep, Stays as AfterStays, after-exec, after-evict, after-grant, after-back}
-use Rattle.theorem_serial.proofs.Marks.DirRecords.{Stays, Records, Still, Came, Settles, Dropped, RecordsBy, dir-records}
-use Rattle.theorem_serial.proofs.Marks.OwesByCommit.{CountsMarked}
-use Rattle.theorem_serial.proofs.Serving.CommitOwners.{CommitsNoted, noted-exec, noted-evict, noted-grant, noted-back}
-use Rattle.theorem_serial.proofs.Serving.CommitSteps.{commits_served}
-use Rattle.theorem_serial.proofs.Serving.KeptSteps.{core_of_back}
-use Rattle.theorem_serial.proofs.Tids.Commits.{positive-committed}
-use Rattle.theorem_serial.proofs.Tids.CoreTids.{KeepsPart, part-exec, part-evict}
-use Rattle.theorem_serial.proofs.Tids.TidSteps.{live-some}
-use Rattle.theorem_serial.proofs.Ways.CoreSkips.{Tells, tells-exec, tells-evict}
-use Rattle.theorem_serial.proofs.Ways.ToldSteps.{speaks}
+use Rattle.theorem_serial.proofs
+use proofs.Names
+use Names.{ℕ, ◌%◌, ◌≡◌, ◌<◌, ◌≤◌, ◌⊎◌, ◌==◌, Bool, true, false, not, cond, List, Option, Some, None, arith, refl, ap, sym, ◌∙◌, inl, inr}
+use Names.{cases_lt, nat_tests, Noted, num, Core, Dir, Msg, Inv, Shape, home, lines, in_flight, Out, History, Commits, InvsAway, live}
+use Names.{among, passes, Grant, Pair, pair, after_move, Ways, wrote_line, ◌+◌, ◌&&◌, nat_lt, [], Contains, subst, cases_eq, has_mark}
+use Names.{DirState, Sends, dir_takes, dir_asks, CopyOf, after_answer, out_taken, is_applied, names_line, IfSome, Program, Vendor, Event}
+use Names.{core_exec, core_evict, from_dir, grant, Answer, Waits, Drops, Asks, Takes, dir_deliver, core_moves, core_takes, and_noted, step}
+use Names.{grant_taken, back_taken, after_grant, after_other_grant, is_this}
+use proofs.Copies.AnswerCopies.{Answered, none-passes, still-similar, dropped-similar, came-similar}
+use proofs.Copies.CopyRules.{BackStep, Kept, Invalidates, InMemory, copies-exec, copies-evict, copies-grant, copies-back}
+use proofs.Copies.CoreCopies.{Conserves}
+use proofs.Copies.DirCopies.{similar-copies, taken-copies}
+use proofs.Copies.LinesKept.{Before, CopiesAt, KeptLines, moved-lines}
+use proofs.Copies.PairCopies.{line_copies, LineCopies, copies-moved, copies-lost}
+use proofs.Copies.TagsKept.{inv-tag, tag-below, stored-home, stored-in, TakenCommit, taken-commit, Invalidating}
+use proofs.Copies.WroteLines.{on-its-way, wrote-listed, no-writer}
+use proofs.Counts.Links.{live-takes}
+use proofs.Counts.StepCases.{differ, pairs_dir, pairs_asks, pairs_grant, pairs_back, pairs_vendor, OfAnswer, step_cases}
+use proofs.Marks.CoreAfter.{AfterStep, Stays as AfterStays, after-exec, after-evict, after-grant, after-back}
+use proofs.Marks.DirRecords.{Stays, Records, Still, Came, Settles, Dropped, RecordsBy, dir-records}
+use proofs.Marks.OwesByCommit.{CountsMarked}
+use proofs.Serving.CommitOwners.{CommitsNoted, noted-exec, noted-evict, noted-grant, noted-back}
+use proofs.Serving.CommitSteps.{commits_served}
+use proofs.Serving.KeptSteps.{core_of_back}
+use proofs.Tids.Commits.{positive-committed}
+use proofs.Tids.CoreTids.{KeepsPart, part-exec, part-evict}
+use proofs.Tids.TidSteps.{live-some}
+use proofs.Ways.CoreSkips.{Tells, tells-exec, tells-evict}
+use proofs.Ways.ToldSteps.{speaks}
 
 -- Every message that is taken keeps the copies of each line in memory.
 

@@ -1,14 +1,14 @@
 -- What each kind of event does, between a core and the line's home, to the copies of a line.
-use Rattle.theorem_serial.proofs.Names.{ℕ, ◌+◌, ◌≡◌, ◌<◌, ◌≤◌, ◌⊎◌, ◌==◌, ◌&&◌, Bool, true, false, not, cond, List, [], ◌∷◌, Some, None}
-use Rattle.theorem_serial.proofs.Names.{arith}
-use Rattle.theorem_serial.proofs.Names.{refl, ◌∙◌, inl, inr, cases_eq, nat_tests, Noted, num, Dir, Shape, home, Link, Out, insert_commit}
-use Rattle.theorem_serial.proofs.Names.{Commits, CopyOf, CopyMask, live, among, times, Pair, after_move, is_this, stores_in, names_line}
-use Rattle.theorem_serial.proofs.Names.{wrote_line, wrote_mask}
-use Rattle.theorem_serial.proofs.Copies.CoreCopies.{Conserves}
-use Rattle.theorem_serial.proofs.Copies.CopySends.{mask-copy}
-use Rattle.theorem_serial.proofs.Copies.DirtyFrames.{frame_copy, frame_wrong, wrong-copy}
-use Rattle.theorem_serial.proofs.Counts.Links.{live-sends}
-use Rattle.theorem_serial.proofs.Copies.WroteLines.{Wrote, wrote-new, SameWrote, wrote-other, wrote-unknown}
+use Rattle.theorem_serial.proofs
+use proofs.Names
+use Names.{ℕ, ◌+◌, ◌≡◌, ◌<◌, ◌≤◌, ◌⊎◌, ◌==◌, ◌&&◌, Bool, true, false, not, cond, List, [], ◌∷◌, Some, None, arith, refl, ◌∙◌, inl, inr}
+use Names.{cases_eq, nat_tests, Noted, num, Dir, Shape, home, Link, Out, insert_commit, Commits, CopyOf, CopyMask, live, among, times, Pair}
+use Names.{after_move, is_this, stores_in, names_line, wrote_line, wrote_mask}
+use proofs.Copies.CoreCopies.{Conserves}
+use proofs.Copies.CopySends.{mask-copy}
+use proofs.Copies.DirtyFrames.{frame_copy, frame_wrong, wrong-copy}
+use proofs.Counts.Links.{live-sends}
+use proofs.Copies.WroteLines.{Wrote, wrote-new, SameWrote, wrote-other, wrote-unknown}
 
 -- the core's copies of a line with this tag, in its frame and on their way home, and those with another mask
 unfoldable pub line_copies : (line tag : ℕ) → Pair → ℕ

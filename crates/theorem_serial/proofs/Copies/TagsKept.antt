@@ -1,29 +1,26 @@
 -- Every event keeps that the tag of a line in memory is the greatest TID that is settled at its home and stored in it.
 use Rattle.base_lemmas.proofs.Lemmas.{and-false}
-use Rattle.theorem_serial.proofs.Names.{ℕ, ◌+◌, ◌≡◌, ◌<◌, ◌≤◌, ◌⊎◌, ◌==◌, ◌&&◌, Bool, true, false, nat_lt, List, [], Contains, Option, Some}
-use Rattle.theorem_serial.proofs.Names.{None, IfSome, max, cond, set, if◌then◌else◌, arith, refl, ap, sym, ◌∙◌, cases_eq, nat_tests, Noted}
-use Rattle.theorem_serial.proofs.Names.{Program, Local, num, any_word, has_mark, no_lines, Core, Dir, Msg, Event, Shape, home, lines}
-use Rattle.theorem_serial.proofs.Names.{any_below-at, DirState, World, start, dir_start, in_flight, Sends, Out, core_exec, core_evict}
-use Rattle.theorem_serial.proofs.Names.{from_dir}
-use Rattle.theorem_serial.proofs.Names.{Answer, Waits, Drops, Asks, Takes, dir_deliver, core_moves, core_takes, dir_takes, dir_asks}
-use Rattle.theorem_serial.proofs.Names.{vendor_gives, History, Stepped, and_noted, step, settled_in_line, KeptTags, Kind, Commits, live}
-use Rattle.theorem_serial.proofs.Names.{passes}
-use Rattle.theorem_serial.proofs.Names.{KeptAll, KeptRun, pair, Grant, is_settled, is_applied, CommitsStand, stored_mask, stores_at}
-use Rattle.theorem_serial.proofs.Names.{SettledCommit, stores_word, Ways, names_line, last_of, ◌∷◌, cases_lt, Inv, Invs, InvOf, KeptNamed}
-use Rattle.theorem_serial.proofs.Names.{due}
-use Rattle.theorem_serial.proofs.Names.{OwedAt, times, share, KeptStored, inl, inr, ◌-◌, subst, insert_commit}
-use Rattle.theorem_serial.proofs.Copies.WroteLines.{on-its-way, applied-or}
-use Rattle.theorem_serial.proofs.Counts.Links.{num-same, live-takes, total-le}
-use Rattle.theorem_serial.proofs.Counts.StepCases.{OfAnswer, step_cases}
-use Rattle.theorem_serial.proofs.Marks.DirRecords.{NoCommit, Records, Still, Came, Settles, RecordsBy, dir-records}
-use Rattle.theorem_serial.proofs.Marks.MaskLaws.{same-commit}
-use Rattle.theorem_serial.proofs.Marks.OwesByCommit.{CountsMarked}
-use Rattle.theorem_serial.proofs.Marks.StoredKept.{noted-keeps, taken-stored, noted-has}
-use Rattle.theorem_serial.proofs.Marks.StoredMasks.{stored-line}
-use Rattle.theorem_serial.proofs.Serving.KeptSteps.{core_of_out}
-use Rattle.theorem_serial.proofs.Tids.Commits.{granted-once, last-same, last-most, last-least, granted-at}
-use Rattle.theorem_serial.proofs.Tids.TidSteps.{live-some}
-use Rattle.theorem_serial.proofs.Marks.AfterKept.{last-insert}
+use Rattle.theorem_serial.proofs
+use proofs.Names
+use Names.{ℕ, ◌+◌, ◌≡◌, ◌<◌, ◌≤◌, ◌⊎◌, ◌==◌, ◌&&◌, Bool, true, false, nat_lt, List, [], Contains, Option, Some, None, IfSome, max, cond}
+use Names.{set, if◌then◌else◌, arith, refl, ap, sym, ◌∙◌, cases_eq, nat_tests, Noted, Program, Local, num, any_word, has_mark, no_lines}
+use Names.{Core, Dir, Msg, Event, Shape, home, lines, any_below-at, DirState, World, start, dir_start, in_flight, Sends, Out, core_exec}
+use Names.{core_evict, from_dir, Answer, Waits, Drops, Asks, Takes, dir_deliver, core_moves, core_takes, dir_takes, dir_asks, vendor_gives}
+use Names.{History, Stepped, and_noted, step, settled_in_line, KeptTags, Kind, Commits, live, passes, KeptAll, KeptRun, pair, Grant}
+use Names.{is_settled, is_applied, CommitsStand, stored_mask, stores_at, SettledCommit, stores_word, Ways, names_line, last_of, ◌∷◌}
+use Names.{cases_lt, Inv, Invs, InvOf, KeptNamed, due, OwedAt, times, share, KeptStored, inl, inr, ◌-◌, subst, insert_commit}
+use proofs.Copies.WroteLines.{on-its-way, applied-or}
+use proofs.Counts.Links.{num-same, live-takes, total-le}
+use proofs.Counts.StepCases.{OfAnswer, step_cases}
+use proofs.Marks.DirRecords.{NoCommit, Records, Still, Came, Settles, RecordsBy, dir-records}
+use proofs.Marks.MaskLaws.{same-commit}
+use proofs.Marks.OwesByCommit.{CountsMarked}
+use proofs.Marks.StoredKept.{noted-keeps, taken-stored, noted-has}
+use proofs.Marks.StoredMasks.{stored-line}
+use proofs.Serving.KeptSteps.{core_of_out}
+use proofs.Tids.Commits.{granted-once, last-same, last-most, last-least, granted-at}
+use proofs.Tids.TidSteps.{live-some}
+use proofs.Marks.AfterKept.{last-insert}
 
 -- what an event does to the tags
 

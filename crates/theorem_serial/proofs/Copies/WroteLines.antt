@@ -1,20 +1,19 @@
 -- Which lines a core's commit with a TID stored, and that the commit is on its way there, or applied.
-use Rattle.theorem_serial.proofs.Names.{ℕ, zero, suc, ◌≡◌, ◌<◌, ◌==◌, ◌&&◌, ◌||◌, Bool, true, false, List, [], ◌∷◌, length, Contains}
-use Rattle.theorem_serial.proofs.Names.{slice_index_or, nat_lt, if◌then◌else◌, arith, refl, ap, ◌∙◌, nat_tests, Noted, num, any_below}
-use Rattle.theorem_serial.proofs.Names.{any_word}
-use Rattle.theorem_serial.proofs.Names.{word_at, mask_of, insert_commit, times, stores_in, stores_word, names_line, wrote, wrote_line}
-use Rattle.theorem_serial.proofs.Names.{wrote_mask, ◌+◌, ◌≤◌, ◌⊎◌, sym, subst, inl, inr, cases_eq, cases_lt, Core, Dir, Shape, sum_below}
-use Rattle.theorem_serial.proofs.Names.{DirState, History, Commits, live, KeptRun, Grant, pair, share, is_applied, CommitsStand, stores_at}
-use Rattle.theorem_serial.proofs.Names.{Skipped, Committed, Ways, part_in, kept_in, WayAt, Some, writes_at, Msg, Out, Sends, Stepped}
-use Rattle.theorem_serial.proofs.Names.{Resolves}
-use Rattle.theorem_serial.proofs.Names.{among, holder, has_tid, part, handled, live_way, Option, IfSome}
-use Rattle.theorem_serial.proofs.Counts.Links.{total-zero, total-le}
-use Rattle.theorem_serial.proofs.Marks.MaskLaws.{few-any}
-use Rattle.theorem_serial.proofs.Serving.CommitSteps.{of-resolves}
-use Rattle.theorem_serial.proofs.Tids.Commits.{granted-once, granted-at, positive-committed}
-use Rattle.theorem_serial.proofs.Ways.ByCore.{ByCore, Still, Moved}
-use Rattle.theorem_serial.proofs.Ways.CoreSkips.{TellsCommit}
-use Rattle.theorem_serial.proofs.Ways.ToldSteps.{Speaks, told-committed}
+use Rattle.theorem_serial.proofs
+use proofs.Names
+use Names.{ℕ, zero, suc, ◌≡◌, ◌<◌, ◌==◌, ◌&&◌, ◌||◌, Bool, true, false, List, [], ◌∷◌, length, Contains, slice_index_or, nat_lt}
+use Names.{if◌then◌else◌, arith, refl, ap, ◌∙◌, nat_tests, Noted, num, any_below, any_word, word_at, mask_of, insert_commit, times}
+use Names.{stores_in, stores_word, names_line, wrote, wrote_line, wrote_mask, ◌+◌, ◌≤◌, ◌⊎◌, sym, subst, inl, inr, cases_eq, cases_lt, Core}
+use Names.{Dir, Shape, sum_below, DirState, History, Commits, live, KeptRun, Grant, pair, share, is_applied, CommitsStand, stores_at}
+use Names.{Skipped, Committed, Ways, part_in, kept_in, WayAt, Some, writes_at, Msg, Out, Sends, Stepped, Resolves, among, holder, has_tid}
+use Names.{part, handled, live_way, Option, IfSome}
+use proofs.Counts.Links.{total-zero, total-le}
+use proofs.Marks.MaskLaws.{few-any}
+use proofs.Serving.CommitSteps.{of-resolves}
+use proofs.Tids.Commits.{granted-once, granted-at, positive-committed}
+use proofs.Ways.ByCore.{ByCore, Still, Moved}
+use proofs.Ways.CoreSkips.{TellsCommit}
+use proofs.Ways.ToldSteps.{Speaks, told-committed}
 
 -- Which lines a core's commit with a TID stored, by the list of commits.
 

@@ -1,18 +1,15 @@
 -- What a directory does with a message: each outcome with the whole new state and what is sent. All else about its rules is shown of these.
-use Rattle.theorem_serial.proofs.Names.{ℕ, ◌-◌, ◌≡◌, ◌<◌, ◌≤◌, ◌⊎◌, Bool, true, false, List, [], ◌∷◌, get_or, ◌==◌, ◌&&◌, ◌||◌, not, Option}
-use Rattle.theorem_serial.proofs.Names.{Some, None, nat_lt, nat_le, if◌then◌else◌, arith, refl, inl, inr, nat_tests, num, count_below}
-use Rattle.theorem_serial.proofs.Names.{those}
-use Rattle.theorem_serial.proofs.Names.{place_of, hit, full, Lines, has_mark, with_asked, with_mark, with_sharer, with_owner, unmarked}
-use Rattle.theorem_serial.proofs.Names.{judge}
-use Rattle.theorem_serial.proofs.Names.{is_owner, Current, Outdated, TooEarly, advance, skipped, kept, Core, Msg, LoadReq, Fill, Skip}
-use Rattle.theorem_serial.proofs.Names.{Probe}
-use Rattle.theorem_serial.proofs.Names.{ProbeReply, Mark, Commit, Abort, WriteBack, Flush, DataReq, Inv, InvAck, Shape, lines, DirState}
-use Rattle.theorem_serial.proofs.Names.{nothing, to, Answer, Waits, Drops, Asks, Takes, skip, abort, acknowledgement, dir_deliver, moved_on}
-use Rattle.theorem_serial.proofs.Names.{moved_on_if_settled, owned_by_committer, invalidation_count, invalidations, invs_to, is_invalidated}
-use Rattle.theorem_serial.proofs.Names.{unless_keeps, ask_owner, load_unless_owned, load_request, home_words, mark_taken, mark_unless_owned}
-use Rattle.theorem_serial.proofs.Names.{mark, judged, write_back, came_home, probe, Kind, among, passes}
 use Rattle.rules_tcc.specs.DirDeliver.{dir_commit}
-use Rattle.theorem_serial.proofs.Counts.Links.{among-flat_map_none}
+use Rattle.theorem_serial.proofs
+use proofs.Names
+use Names.{ℕ, ◌-◌, ◌≡◌, ◌<◌, ◌≤◌, ◌⊎◌, Bool, true, false, List, [], ◌∷◌, get_or, ◌==◌, ◌&&◌, ◌||◌, not, Option, Some, None, nat_lt, nat_le}
+use Names.{if◌then◌else◌, arith, refl, inl, inr, nat_tests, num, count_below, those, place_of, hit, full, Lines, has_mark, with_asked}
+use Names.{with_mark, with_sharer, with_owner, unmarked, judge, is_owner, Current, Outdated, TooEarly, advance, skipped, kept, Core, Msg}
+use Names.{LoadReq, Fill, Skip, Probe, ProbeReply, Mark, Commit, Abort, WriteBack, Flush, DataReq, Inv, InvAck, Shape, lines, DirState}
+use Names.{nothing, to, Answer, Waits, Drops, Asks, Takes, skip, abort, acknowledgement, dir_deliver, moved_on, moved_on_if_settled}
+use Names.{owned_by_committer, invalidation_count, invalidations, invs_to, is_invalidated, unless_keeps, ask_owner, load_unless_owned}
+use Names.{load_request, home_words, mark_taken, mark_unless_owned, mark, judged, write_back, came_home, probe, Kind, among, passes}
+use proofs.Counts.Links.{among-flat_map_none}
 
 -- a WriteBack or Flush, which count alike
 pub record IsCopy (m : Msg) (l k : ℕ) (ws : List ℕ) (g : ℕ) : Type 0 where

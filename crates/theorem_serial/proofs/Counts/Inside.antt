@@ -1,11 +1,11 @@
 -- No message goes to a core that the machine doesn't have, and none of them owns a line.
 use Rattle.base_lemmas.proofs.Lemmas.{those-empty}
-use Rattle.theorem_serial.proofs.Names.{ℕ, ◌≡◌, ◌<◌, ◌≤◌, false, [], ◌∷◌, ◌==◌, Some, nat_lt, arith, refl, nat_tests, Lines, Core, Msg}
-use Rattle.theorem_serial.proofs.Names.{Fill}
-use Rattle.theorem_serial.proofs.Names.{ProbeReply, DataReq, Shape, lines, DirState, Sends, nothing, to, Answer, Asks, Takes, dir_deliver}
-use Rattle.theorem_serial.proofs.Names.{invalidations, invs_to, is_invalidated, home_words, Any, among}
-use Rattle.theorem_serial.proofs.Counts.DirOutcome.{Outcome, Waiting, Spent, AsksOwner, TakesProbe, TakesLoad, TakesCommit, TakesCopy}
-use Rattle.theorem_serial.proofs.Counts.DirOutcome.{outcome}
+use Rattle.theorem_serial.proofs
+use proofs.Names
+use Names.{ℕ, ◌≡◌, ◌<◌, ◌≤◌, false, [], ◌∷◌, ◌==◌, Some, nat_lt, arith, refl, nat_tests, Lines, Core, Msg, Fill, ProbeReply, DataReq, Shape}
+use Names.{lines, DirState, Sends, nothing, to, Answer, Asks, Takes, dir_deliver, invalidations, invs_to, is_invalidated, home_words, Any}
+use Names.{among}
+use proofs.Counts.DirOutcome.{Outcome, Waiting, Spent, AsksOwner, TakesProbe, TakesLoad, TakesCommit, TakesCopy, outcome}
 
 -- owners are cores of the machine
 abbrev pub OwnersInside : Shape → DirState → Type 0

@@ -1,12 +1,10 @@
 -- What sending and taking do to the number of messages of a kind, and how many a rule sends.
-use Rattle.theorem_serial.proofs.Names.{◌≡◌, ◌≤◌, Bool, true, false, arith, refl, num, ℕ, zero, suc, ◌+◌, ◌<◌, ◌≢◌, List, [], ◌∷◌, ◌++◌}
-use Rattle.theorem_serial.proofs.Names.{set}
-use Rattle.theorem_serial.proofs.Names.{get_or, Some, None, ap, ◌⊎◌, cases_eq, Msg, Link, sent_all, sum_below, Kind, live, among, passes}
-use Rattle.theorem_serial.proofs.Names.{◌==◌}
-use Rattle.theorem_serial.proofs.Names.{◌&&◌, flat_map, nat_tests, Dir, Mark, Shape, Cache, writes_at, modified_mask, written_lines}
-use Rattle.theorem_serial.proofs.Names.{Spilled, skip_all, probe_all, abort_written, marks_for, commit_sends, solo_sends}
-use Rattle.theorem_serial.proofs.Names.{solo_marks_or_skip}
-use Rattle.theorem_serial.proofs.Names.{solo_write_backs, grant_sends, Resolves, Protocol}
+use Rattle.theorem_serial.proofs
+use proofs.Names
+use Names.{◌≡◌, ◌≤◌, Bool, true, false, arith, refl, num, ℕ, zero, suc, ◌+◌, ◌<◌, ◌≢◌, List, [], ◌∷◌, ◌++◌, set, get_or, Some, None, ap}
+use Names.{◌⊎◌, cases_eq, Msg, Link, sent_all, sum_below, Kind, live, among, passes, ◌==◌, ◌&&◌, flat_map, nat_tests, Dir, Mark, Shape}
+use Names.{Cache, writes_at, modified_mask, written_lines, Spilled, skip_all, probe_all, abort_written, marks_for, commit_sends, solo_sends}
+use Names.{solo_marks_or_skip, solo_write_backs, grant_sends, Resolves, Protocol}
 
 pub num-one : (b : Bool) → 1 ≤ num b → b ≡ true
 num-one a h = grind (arith, nat_tests)

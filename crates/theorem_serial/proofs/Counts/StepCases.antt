@@ -1,21 +1,17 @@
 -- What is to be shown of a step, by the kind of its event, and what each kind does to the pairs of a core and a directory.
 use Rattle.base_lemmas.proofs.Lemmas.{and-false, eq-self}
-use Rattle.theorem_serial.proofs.Names.{DirState, from_dir, ℕ, ◌+◌, ◌≡◌, ◌<◌, Bool, true, false, List, [], ◌∷◌, ◌++◌, ◌==◌, ◌&&◌, arith}
-use Rattle.theorem_serial.proofs.Names.{refl}
-use Rattle.theorem_serial.proofs.Names.{ap, sym, subst, ◌∙◌, inl, inr, nat_tests, cases_eq, Node, Core, Dir, Vendor, Msg, TidGrant}
-use Rattle.theorem_serial.proofs.Names.{sum_below}
-use Rattle.theorem_serial.proofs.Names.{World, Link, sent_all, to, Out, core_moves, core_takes, dir_takes, dir_asks, vendor_gives, Pair}
-use Rattle.theorem_serial.proofs.Names.{pair}
-use Rattle.theorem_serial.proofs.Names.{after_move, grant_taken, back_taken, after_answer, out_taken, after_grant, after_other_grant, share}
-use Rattle.theorem_serial.proofs.Names.{sum_of, Option, Some, None, IfSome, nat_lt, if◌then◌else◌, Program, Event, Exec, Evict, Deliver}
-use Rattle.theorem_serial.proofs.Names.{TidReq}
-use Rattle.theorem_serial.proofs.Names.{Shape, in_flight, Sends, nothing, core_exec, core_evict, core_deliver, grant, Answer, Waits, Drops}
-use Rattle.theorem_serial.proofs.Names.{Asks, Takes, dir_deliver, Stepped, step, if_core_moves, if_core_takes, answered, delivered}
-use Rattle.theorem_serial.proofs.Names.{if_in_flight, happens, names_nodes, is_node, Grant, grant_for, granted_by, sends_of, sends_for}
-use Rattle.theorem_serial.proofs.Names.{sent_by}
-use Rattle.theorem_serial.proofs.Names.{Uses, used_by, Views, uses_executed, uses_delivered, views_after, put}
 use Rattle.rules_tcc.specs.VendorDeliver.{Granted}
-use Rattle.theorem_serial.proofs.Counts.Links.{total-same, total-at, total-plus}
+use Rattle.theorem_serial.proofs
+use proofs.Names
+use Names.{DirState, from_dir, ℕ, ◌+◌, ◌≡◌, ◌<◌, Bool, true, false, List, [], ◌∷◌, ◌++◌, ◌==◌, ◌&&◌, arith, refl, ap, sym, subst, ◌∙◌, inl}
+use Names.{inr, nat_tests, cases_eq, Node, Core, Dir, Vendor, Msg, TidGrant, sum_below, World, Link, sent_all, to, Out, core_moves}
+use Names.{core_takes, dir_takes, dir_asks, vendor_gives, Pair, pair, after_move, grant_taken, back_taken, after_answer, out_taken}
+use Names.{after_grant, after_other_grant, share, sum_of, Option, Some, None, IfSome, nat_lt, if◌then◌else◌, Program, Event, Exec, Evict}
+use Names.{Deliver, TidReq, Shape, in_flight, Sends, nothing, core_exec, core_evict, core_deliver, grant, Answer, Waits, Drops, Asks, Takes}
+use Names.{dir_deliver, Stepped, step, if_core_moves, if_core_takes, answered, delivered, if_in_flight, happens, names_nodes, is_node}
+use Names.{Grant, grant_for, granted_by, sends_of, sends_for, sent_by, Uses, used_by, Views, uses_executed, uses_delivered, views_after}
+use Names.{put}
+use proofs.Counts.Links.{total-same, total-at, total-plus}
 
 pub differ : (j c : ℕ) → (j ≡ c → ⊥) → (j == c) ≡ false
 differ j c h = grind (arith, nat_tests)

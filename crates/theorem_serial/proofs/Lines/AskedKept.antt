@@ -1,9 +1,10 @@
 -- Every event keeps that a line whose data was asked for has an owner.
-use Rattle.theorem_serial.proofs.Names.{ℕ, IfSome, arith, nat_tests, Program, Local, no_lines, Event, Msg, Shape, DirState, World, start}
-use Rattle.theorem_serial.proofs.Names.{dir_start, Answer, dir_deliver, step}
 use Rattle.theorem_serial.specs.Asked.{AskedOwned, KeptAsked}
-use Rattle.theorem_serial.proofs.Counts.DirOutcome.{Outcome, Waiting, Spent, AsksOwner, TakesCommit, TakesCopy, outcome}
-use Rattle.theorem_serial.proofs.Counts.StepCases.{Leaves, dirs_step}
+use Rattle.theorem_serial.proofs
+use proofs.Names.{ℕ, IfSome, arith, nat_tests, Program, Local, no_lines, Event, Msg, Shape, DirState, World, start, dir_start, Answer}
+use proofs.Names.{dir_deliver, step}
+use proofs.Counts.DirOutcome.{Outcome, Waiting, Spent, AsksOwner, TakesCommit, TakesCopy, outcome}
+use proofs.Counts.StepCases.{Leaves, dirs_step}
 
 dir-asked : (sh : Shape) (s : DirState) (c : ℕ) (m : Msg) → AskedOwned s → Leaves AskedOwned (dir_deliver sh s c m)
 dir-asked sh s c m h = go (outcome sh s c m)

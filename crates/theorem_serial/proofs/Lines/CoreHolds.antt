@@ -1,18 +1,14 @@
 -- By an instruction, an eviction or a grant a core comes to hold a line only by a commit that stored in it.
-use Rattle.theorem_serial.proofs.Names.{ℕ, ◌≡◌, ◌⊎◌, ◌||◌, Bool, true, false, Option, Some, None, IfSome, is_some, refl, sym, ◌∙◌, inl, inr}
-use Rattle.theorem_serial.proofs.Names.{Noted, Program, word_of, line_of, Shape, set_of, Cache, is_modified, free_way, placed, placed_at}
-use Rattle.theorem_serial.proofs.Names.{holds}
-use Rattle.theorem_serial.proofs.Names.{CoreState, Phase, Running, Ready, Solo, Out, is_solo, commit, committed_core, noted, solo_commit}
-use Rattle.theorem_serial.proofs.Names.{arith}
-use Rattle.theorem_serial.proofs.Names.{is_written, grant, core_exec, core_evict, keeps_unmodified, is_fresh, OneCore, Words, acting}
-use Rattle.theorem_serial.proofs.Names.{nat_tests}
-use Rattle.theorem_serial.proofs.Names.{names_line}
-use Rattle.theorem_serial.proofs.Lines.HeldWords.{Fewer, fewer-kept, fewer-marked, fewer-stored, fewer-evicted, kept-committed, kept-alone}
-use Rattle.theorem_serial.proofs.Marks.StoredMasks.{unspilled, modified-line, written-line}
-use Rattle.theorem_serial.proofs.OneCore.Outcomes.{Acts, Buffers, Commits_now, Did, Ends_alone, Ends_run, Finds, Frames, Frames_anew}
-use Rattle.theorem_serial.proofs.OneCore.Outcomes.{Given_none, Granted, Idles, Misses, Misses_anew, Reads, Room_wanted, after_end}
-use Rattle.theorem_serial.proofs.OneCore.Outcomes.{each-evict}
-use Rattle.theorem_serial.proofs.OneCore.Outcomes.{each-exec, each-grant, emptied, granted, out}
+use Rattle.theorem_serial.proofs
+use proofs.Names
+use Names.{ℕ, ◌≡◌, ◌⊎◌, ◌||◌, Bool, true, false, Option, Some, None, IfSome, is_some, refl, sym, ◌∙◌, inl, inr, Noted, Program, word_of}
+use Names.{line_of, Shape, set_of, Cache, is_modified, free_way, placed, placed_at, holds, CoreState, Phase, Running, Ready, Solo, Out}
+use Names.{is_solo, commit, committed_core, noted, solo_commit, arith, is_written, grant, core_exec, core_evict, keeps_unmodified, is_fresh}
+use Names.{OneCore, Words, acting, nat_tests, names_line}
+use proofs.Lines.HeldWords.{Fewer, fewer-kept, fewer-marked, fewer-stored, fewer-evicted, kept-committed, kept-alone}
+use proofs.Marks.StoredMasks.{unspilled, modified-line, written-line}
+use proofs.OneCore.Outcomes.{Acts, Buffers, Commits_now, Did, Ends_alone, Ends_run, Finds, Frames, Frames_anew, Given_none, Granted, Idles}
+use proofs.OneCore.Outcomes.{Misses, Misses_anew, Reads, Room_wanted, after_end, each-evict, each-exec, each-grant, emptied, granted, out}
 
 -- the core commits, and its commit stored in the line
 pub record StoredLine (sh : Shape) (l : ℕ) (o : Out) : Type 0 where

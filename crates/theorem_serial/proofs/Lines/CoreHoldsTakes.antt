@@ -1,16 +1,14 @@
 -- By a message a core comes to hold a line only by the Fill that it awaits; and where it says that it keeps no word it holds none.
-use Rattle.theorem_serial.proofs.Names.{put, invalidated, none_spilled, Running, DoomedTid, Solo, moves, ℕ, ◌≡◌, ◌⊎◌, ◌==◌, ◌&&◌, ◌||◌}
-use Rattle.theorem_serial.proofs.Names.{Bool}
-use Rattle.theorem_serial.proofs.Names.{true, false, not, List, Option, Some, IfSome, is_some, arith, refl, sym, inl, inr, nat_tests}
-use Rattle.theorem_serial.proofs.Names.{any_word}
-use Rattle.theorem_serial.proofs.Names.{word_at, Dir, Msg, ProbeReply, Inv, Shape, home, Cache, keeps, filled, cleaned, read_cleared}
-use Rattle.theorem_serial.proofs.Names.{any_below-found, any_below-at, CoreState, Awaited, nothing, Out, from_dir, staled, is_awaited}
-use Rattle.theorem_serial.proofs.Names.{keeps_unmodified, is_fresh, FillOf, GoneOf, InvOf, among, passes, ◌/◌}
-use Rattle.theorem_serial.proofs.Lines.HeldWords.{Fewer, is_kept, fewer-kept, fewer-invalidated, fewer-rolled, fewer-cleared}
-use Rattle.theorem_serial.proofs.OneCore.Said.{Aborts_all, Said, Silent, Skips_all, Unheard, acked-quiet, quiet, say}
-use Rattle.theorem_serial.proofs.OneCore.Outcomes.{Last_room, Fills, Fills_none, Heard, Hurt_alone, Hurt_probing, Hurt_running}
-use Rattle.theorem_serial.proofs.OneCore.Outcomes.{Hurt_waiting}
-use Rattle.theorem_serial.proofs.OneCore.Outcomes.{Hurt_none, acked, each-back, heard, message, rolled}
+use Rattle.theorem_serial.proofs
+use proofs.Names
+use Names.{put, invalidated, none_spilled, Running, DoomedTid, Solo, moves, ℕ, ◌≡◌, ◌⊎◌, ◌==◌, ◌&&◌, ◌||◌, Bool, true, false, not, List}
+use Names.{Option, Some, IfSome, is_some, arith, refl, sym, inl, inr, nat_tests, any_word, word_at, Dir, Msg, ProbeReply, Inv, Shape, home}
+use Names.{Cache, keeps, filled, cleaned, read_cleared, any_below-found, any_below-at, CoreState, Awaited, nothing, Out, from_dir, staled}
+use Names.{is_awaited, keeps_unmodified, is_fresh, FillOf, GoneOf, InvOf, among, passes, ◌/◌}
+use proofs.Lines.HeldWords.{Fewer, is_kept, fewer-kept, fewer-invalidated, fewer-rolled, fewer-cleared}
+use proofs.OneCore.Said.{Aborts_all, Said, Silent, Skips_all, Unheard, acked-quiet, quiet, say}
+use proofs.OneCore.Outcomes.{Last_room, Fills, Fills_none, Heard, Hurt_alone, Hurt_probing, Hurt_running, Hurt_waiting, Hurt_none, acked}
+use proofs.OneCore.Outcomes.{each-back, heard, message, rolled}
 
 pub record HoldsBack (l : ℕ) (s : CoreState) (m : Msg) (o : Out) : Type 0 where
   pub kept : keeps_unmodified o.core.cache l ≡ true

@@ -1,10 +1,10 @@
 -- What a directory's rules do to the lines of which it has asked the owner: it asks with a request, and a line that stays asked keeps its
 -- owner, whose words don't come by this message.
 use Rattle.base_lemmas.proofs.Lemmas.{eq-self}
-use Rattle.theorem_serial.proofs.Names.{ℕ, ◌≡◌, ◌≤◌, ◌⊎◌, Bool, true, false, [], ◌∷◌, ◌==◌, Some, if◌then◌else◌, arith, refl, sym}
-use Rattle.theorem_serial.proofs.Names.{ap, ◌∙◌, inl, inr, nat_tests, Core, Msg, DataReq, Shape, DirState, Sends, to, Answer, Asks}
-use Rattle.theorem_serial.proofs.Names.{Takes, dir_deliver, CopyOf, DataOf, among, passes}
-use Rattle.theorem_serial.proofs.Counts.DirOutcome.{Outcome, Waiting, Spent, AsksOwner, TakesCommit, TakesCopy, outcome, among-to}
+use Rattle.theorem_serial.proofs
+use proofs.Names.{ℕ, ◌≡◌, ◌≤◌, ◌⊎◌, Bool, true, false, [], ◌∷◌, ◌==◌, Some, if◌then◌else◌, arith, refl, sym, ap, ◌∙◌, inl, inr, nat_tests}
+use proofs.Names.{Core, Msg, DataReq, Shape, DirState, Sends, to, Answer, Asks, Takes, dir_deliver, CopyOf, DataOf, among, passes}
+use proofs.Counts.DirOutcome.{Outcome, Waiting, Spent, AsksOwner, TakesCommit, TakesCopy, outcome, among-to}
 
 -- the line stays asked, of the same owner, and the message isn't its copy
 pub record StaysAsked (s : DirState) (m : Msg) (new : DirState) (l : ℕ) : Type 0 where

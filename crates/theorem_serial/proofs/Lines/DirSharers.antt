@@ -1,13 +1,12 @@
 -- What a directory's rules do to the sharers of its lines: a Fill goes to a sharer, a commit is one of its lines, and a core is a sharer
 -- no more only where it says that it keeps no word.
 use Rattle.base_lemmas.proofs.Lemmas.{eq-self}
-use Rattle.theorem_serial.proofs.Names.{ℕ, ◌≡◌, ◌≤◌, ◌⊎◌, true, false, [], ◌==◌, ◌&&◌, arith, refl, inl, nat_tests}
-use Rattle.theorem_serial.proofs.Names.{num, has_mark, Core, Msg, Fill, ProbeReply, DataReq, Shape, DirState, Sends, Answer, Asks, Takes}
-use Rattle.theorem_serial.proofs.Names.{dir_deliver, home_words, FillOf, GoneOf, among, passes, AnyCommit}
-use Rattle.theorem_serial.proofs.Counts.DirOutcome.{Outcome, Waiting, Spent, AsksOwner, TakesProbe, TakesLoad, TakesCommit, TakesAck}
-use Rattle.theorem_serial.proofs.Counts.DirOutcome.{TakesCopy}
-use Rattle.theorem_serial.proofs.Counts.DirOutcome.{ToLoad, ToMark, outcome, among-to, among-none, none-to, none-invalidations}
-use Rattle.theorem_serial.proofs.Marks.OwesByCommit.{CountsMarked}
+use Rattle.theorem_serial.proofs
+use proofs.Names.{ℕ, ◌≡◌, ◌≤◌, ◌⊎◌, true, false, [], ◌==◌, ◌&&◌, arith, refl, inl, nat_tests, num, has_mark, Core, Msg, Fill, ProbeReply}
+use proofs.Names.{DataReq, Shape, DirState, Sends, Answer, Asks, Takes, dir_deliver, home_words, FillOf, GoneOf, among, passes, AnyCommit}
+use proofs.Counts.DirOutcome.{Outcome, Waiting, Spent, AsksOwner, TakesProbe, TakesLoad, TakesCommit, TakesAck, TakesCopy, ToLoad, ToMark}
+use proofs.Counts.DirOutcome.{outcome, among-to, among-none, none-to, none-invalidations}
+use proofs.Marks.OwesByCommit.{CountsMarked}
 
 pub record Shares (sh : Shape) (s : DirState) (c : ℕ) (m : Msg) (new : DirState) (sends : Sends) : Type 0 where
   pub kept : (l j : ℕ) → s.lines.sharers l j ≡ true → (new.lines.sharers l j ≡ true) ⊎ ((j ≡ c) × (passes (GoneOf l) m ≡ true))

@@ -1,24 +1,21 @@
 -- Every event keeps that of an asked line the request is in flight to the owner, or its words are on their way from the owner.
 use Rattle.base_lemmas.proofs.Lemmas.{line_of-word_at}
-use Rattle.theorem_serial.proofs.Names.{ℕ, ◌+◌, ◌≡◌, ◌<◌, ◌≤◌, ◌⊎◌, ◌==◌, ◌&&◌, Bool, true, false, List, [], Option, Some, None, IfSome}
-use Rattle.theorem_serial.proofs.Names.{arith}
-use Rattle.theorem_serial.proofs.Names.{refl, ap, sym, subst, ◌∙◌, nat_tests, Noted, Program, Local, num, line_of, word_at, cleaned}
-use Rattle.theorem_serial.proofs.Names.{no_lines}
-use Rattle.theorem_serial.proofs.Names.{Core, Dir, Vendor, Msg, Fill, ProbeReply, DataReq, Inv, Event, Shape, home, lines, CoreState, World}
-use Rattle.theorem_serial.proofs.Names.{start, dir_start, in_flight, Sends, Out, core_exec, core_evict, from_dir, grant, data_request}
-use Rattle.theorem_serial.proofs.Names.{Answer}
-use Rattle.theorem_serial.proofs.Names.{Waits, Drops, Asks, Takes, dir_deliver, core_moves, core_takes, dir_takes, dir_asks, vendor_gives}
-use Rattle.theorem_serial.proofs.Names.{and_noted, step, GetsOf, KeptGets, CopyOf, DataOf, live, among, passes, Pair, pair, after_move}
-use Rattle.theorem_serial.proofs.Names.{back_taken, out_taken, after_answer, is_this}
-use Rattle.theorem_serial.proofs.Copies.DirtyFrames.{frame_copy, clean-frame}
-use Rattle.theorem_serial.proofs.Copies.LinesKept.{KeptLines}
-use Rattle.theorem_serial.proofs.Copies.PairCopies.{LineCopies, of-line}
-use Rattle.theorem_serial.proofs.Counts.Links.{live-sends, live-takes}
-use Rattle.theorem_serial.proofs.Counts.StepCases.{given, back-own, pairs_move, pairs_grant, pairs_back, pairs_dir, pairs_asks}
-use Rattle.theorem_serial.proofs.Counts.StepCases.{pairs_vendor}
-use Rattle.theorem_serial.proofs.Counts.StepCases.{OfAnswer, step_cases}
-use Rattle.theorem_serial.proofs.Lines.DirGets.{StaysAsked, GetsBy, dir-gets}
-use Rattle.theorem_serial.proofs.Marks.DirRecords.{RecordsBy, dir-records}
+use Rattle.theorem_serial.proofs
+use proofs.Names
+use Names.{ℕ, ◌+◌, ◌≡◌, ◌<◌, ◌≤◌, ◌⊎◌, ◌==◌, ◌&&◌, Bool, true, false, List, [], Option, Some, None, IfSome, arith, refl, ap, sym, subst}
+use Names.{◌∙◌, nat_tests, Noted, Program, Local, num, line_of, word_at, cleaned, no_lines, Core, Dir, Vendor, Msg, Fill, ProbeReply}
+use Names.{DataReq, Inv, Event, Shape, home, lines, CoreState, World, start, dir_start, in_flight, Sends, Out, core_exec, core_evict}
+use Names.{from_dir, grant, data_request, Answer, Waits, Drops, Asks, Takes, dir_deliver, core_moves, core_takes, dir_takes, dir_asks}
+use Names.{vendor_gives, and_noted, step, GetsOf, KeptGets, CopyOf, DataOf, live, among, passes, Pair, pair, after_move, back_taken}
+use Names.{out_taken, after_answer, is_this}
+use proofs.Copies.DirtyFrames.{frame_copy, clean-frame}
+use proofs.Copies.LinesKept.{KeptLines}
+use proofs.Copies.PairCopies.{LineCopies, of-line}
+use proofs.Counts.Links.{live-sends, live-takes}
+use proofs.Counts.StepCases.{given, back-own, pairs_move, pairs_grant, pairs_back, pairs_dir, pairs_asks, pairs_vendor, OfAnswer}
+use proofs.Counts.StepCases.{step_cases}
+use proofs.Lines.DirGets.{StaysAsked, GetsBy, dir-gets}
+use proofs.Marks.DirRecords.{RecordsBy, dir-records}
 
 abbrev pub GetsAt : Shape → (core dir : ℕ) → Pair → Type 0
 GetsAt sh c d v = (l : ℕ) → c < sh.cores → d < sh.dirs → l < lines sh → home sh l ≡ d → GetsOf c l v

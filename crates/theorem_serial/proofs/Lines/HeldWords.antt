@@ -1,10 +1,9 @@
 -- Which changes of a cache keep what a core holds of a line: valid words that aren't modified or are marked read.
-use Rattle.theorem_serial.proofs.Names.{ℕ, ◌≡◌, ◌<◌, ◌⊎◌, ◌==◌, ◌&&◌, ◌||◌, Bool, true, false, not, Option, Some, None, is_some}
-use Rattle.theorem_serial.proofs.Names.{if◌then◌else◌}
-use Rattle.theorem_serial.proofs.Names.{arith, refl, inl, inr, nat_tests, any_below, any_word, word_at, line_of, hit, Cache, is_modified}
-use Rattle.theorem_serial.proofs.Names.{marked, stored, invalidated, evicted, evicted_line, rolled_back, read_cleared, committed}
-use Rattle.theorem_serial.proofs.Names.{words_dropped}
-use Rattle.theorem_serial.proofs.Names.{Spilled, any_below-found, any_below-at, keeps_unmodified}
+use Rattle.theorem_serial.proofs
+use proofs.Names
+use Names.{ℕ, ◌≡◌, ◌<◌, ◌⊎◌, ◌==◌, ◌&&◌, ◌||◌, Bool, true, false, not, Option, Some, None, is_some, if◌then◌else◌, arith, refl, inl, inr}
+use Names.{nat_tests, any_below, any_word, word_at, line_of, hit, Cache, is_modified, marked, stored, invalidated, evicted, evicted_line}
+use Names.{rolled_back, read_cleared, committed, words_dropped, Spilled, any_below-found, any_below-at, keeps_unmodified}
 
 -- the word is valid, and not modified or marked read
 abbrev pub is_kept : Cache → (word : ℕ) → Bool

@@ -1,13 +1,13 @@
 -- Every event keeps that the owner of a line is the core that the line's tag was granted to.
 use Rattle.base_lemmas.proofs.Lemmas.{eq-self}
-use Rattle.theorem_serial.proofs.Names.{nat_tests, Commit, ℕ, ◌≡◌, Bool, true, false, List, [], ◌++◌, Contains, ◌==◌, Option, Some, None}
-use Rattle.theorem_serial.proofs.Names.{IfSome, if◌then◌else◌, arith, ap, Contains-append_left, Program, Local, num, has_mark, no_lines}
-use Rattle.theorem_serial.proofs.Names.{Core}
-use Rattle.theorem_serial.proofs.Names.{Dir, Event, Msg, Shape, DirState, World, start, dir_start, in_flight, Answer, step, pair}
-use Rattle.theorem_serial.proofs.Names.{KeptLineOwners, Commits, passes, Grant, granted_by, SparesCommitter, Stepped}
-use Rattle.theorem_serial.proofs.Counts.DirOutcome.{Outcome, Waiting, Spent, TakesCommit, TakesCopy, outcome}
-use Rattle.theorem_serial.proofs.Counts.Links.{live-takes}
-use Rattle.theorem_serial.proofs.Counts.StepCases.{Leaves, dirs_step}
+use Rattle.theorem_serial.proofs
+use proofs.Names
+use Names.{nat_tests, Commit, ℕ, ◌≡◌, Bool, true, false, List, [], ◌++◌, Contains, ◌==◌, Option, Some, None, IfSome, if◌then◌else◌, arith}
+use Names.{ap, Contains-append_left, Program, Local, num, has_mark, no_lines, Core, Dir, Event, Msg, Shape, DirState, World, start}
+use Names.{dir_start, in_flight, Answer, step, pair, KeptLineOwners, Commits, passes, Grant, granted_by, SparesCommitter, Stepped}
+use proofs.Counts.DirOutcome.{Outcome, Waiting, Spent, TakesCommit, TakesCopy, outcome}
+use proofs.Counts.Links.{live-takes}
+use proofs.Counts.StepCases.{Leaves, dirs_step}
 
 -- the owners of one directory's lines
 abbrev LineOwners : List Grant → DirState → Type 0

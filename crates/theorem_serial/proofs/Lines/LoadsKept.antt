@@ -1,21 +1,17 @@
 -- Every event keeps that one load request or Fill is in flight exactly for the line that a core awaits.
 use Rattle.base_lemmas.proofs.Lemmas.{eq-self}
-use Rattle.theorem_serial.proofs.Names.{ℕ, ◌≡◌, Bool, false, [], ◌==◌, ◌&&◌, Option, Some, None, IfSome, arith, refl, Program, Local, num}
-use Rattle.theorem_serial.proofs.Names.{Core, Dir, Event, Msg, Fill, ProbeReply, DataReq, Shape, DirState, World, start, core_start}
-use Rattle.theorem_serial.proofs.Names.{in_flight}
-use Rattle.theorem_serial.proofs.Names.{Out, core_exec, core_evict, from_dir, grant, Answer, Waits, Drops, Asks, Takes, dir_deliver}
-use Rattle.theorem_serial.proofs.Names.{home_words}
-use Rattle.theorem_serial.proofs.Names.{core_moves, core_takes, step, LoadingOf, KeptLoading, LoadOf, FillOf, live, among, passes, Pair}
-use Rattle.theorem_serial.proofs.Names.{pair}
-use Rattle.theorem_serial.proofs.Counts.DirOutcome.{Outcome, Waiting, Spent, AsksOwner, TakesProbe, TakesLoad, TakesCommit, TakesCopy}
-use Rattle.theorem_serial.proofs.Counts.DirOutcome.{IsSpent}
-use Rattle.theorem_serial.proofs.Counts.DirOutcome.{CopyPassed, outcome, among-none, among-to, none-to, none-invalidations}
-use Rattle.theorem_serial.proofs.Counts.Links.{live-sends, live-takes}
-use Rattle.theorem_serial.proofs.Counts.StepCases.{differ, pairs_move, pairs_grant, pairs_back, pairs_dir, pairs_asks, pairs_vendor}
-use Rattle.theorem_serial.proofs.Counts.StepCases.{OfAnswer, step_cases}
-use Rattle.theorem_serial.proofs.OneCore.CoreAwaits.{LoadsStep, LoadsBack, loads-exec, loads-evict, loads-grant, loads-back}
-use Rattle.theorem_serial.proofs.Tids.TidSteps.{live-some}
-use Rattle.theorem_serial.proofs.Names.{nat_tests}
+use Rattle.theorem_serial.proofs
+use proofs.Names
+use Names.{ℕ, ◌≡◌, Bool, false, [], ◌==◌, ◌&&◌, Option, Some, None, IfSome, arith, refl, Program, Local, num, Core, Dir, Event, Msg, Fill}
+use Names.{ProbeReply, DataReq, Shape, DirState, World, start, core_start, in_flight, Out, core_exec, core_evict, from_dir, grant, Answer}
+use Names.{Waits, Drops, Asks, Takes, dir_deliver, home_words, core_moves, core_takes, step, LoadingOf, KeptLoading, LoadOf, FillOf, live}
+use Names.{among, passes, Pair, pair, nat_tests}
+use proofs.Counts.DirOutcome.{Outcome, Waiting, Spent, AsksOwner, TakesProbe, TakesLoad, TakesCommit, TakesCopy, IsSpent, CopyPassed}
+use proofs.Counts.DirOutcome.{outcome, among-none, among-to, none-to, none-invalidations}
+use proofs.Counts.Links.{live-sends, live-takes}
+use proofs.Counts.StepCases.{differ, pairs_move, pairs_grant, pairs_back, pairs_dir, pairs_asks, pairs_vendor, OfAnswer, step_cases}
+use proofs.OneCore.CoreAwaits.{LoadsStep, LoadsBack, loads-exec, loads-evict, loads-grant, loads-back}
+use proofs.Tids.TidSteps.{live-some}
 
 -- a load request is answered by one Fill to its core, or stays, and no other message brings one
 abbrev pub FillsBy : (core : ℕ) → Msg → Answer → Type 0

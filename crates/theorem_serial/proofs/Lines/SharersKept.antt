@@ -1,36 +1,33 @@
 -- Every event keeps that a core which holds a line in memory is one of its sharers, or its Commit of the line is in flight.
 use Rattle.base_lemmas.proofs.Lemmas.{eq-self as same}
-use Rattle.theorem_serial.proofs.Names.{ℕ, ◌≡◌, ◌≤◌, ◌⊎◌, ◌&&◌, ◌||◌, Bool, true, false, nat_lt, List, arith, refl, ap, sym, ◌∙◌, inl, inr}
-use Rattle.theorem_serial.proofs.Names.{nat_tests, Noted, keeps_unmodified, is_fresh, holds_line, CommitsLine, SharerOf, FillOf, GoneOf}
-use Rattle.theorem_serial.proofs.Names.{live}
-use Rattle.theorem_serial.proofs.Names.{Pair, ◌+◌, ◌<◌, ◌==◌, [], ◌∷◌, Some, None, subst, cases_lt, num, has_mark, Core, Dir, Msg, Shape}
-use Rattle.theorem_serial.proofs.Names.{home}
-use Rattle.theorem_serial.proofs.Names.{lines, DirState, Link, Sends, in_flight, History, Kind, AckOf, Commits, among, passes, Grant, pair}
-use Rattle.theorem_serial.proofs.Names.{Ways, wrote_line, Option, IfSome, Out, and_noted, insert_commit, KeptLoading, LoadOf, CommitsAbove}
-use Rattle.theorem_serial.proofs.Names.{due}
-use Rattle.theorem_serial.proofs.Names.{after_move, share, is_applied, stores_at, names_line, is_some, line_of, CoreState, Phase, Running}
-use Rattle.theorem_serial.proofs.Names.{World, core_moves, dir_takes, KeptSharers, OneCore, acting, after_answer, out_taken, has_tid, ◌%◌}
-use Rattle.theorem_serial.proofs.Names.{not}
-use Rattle.theorem_serial.proofs.Names.{is_awaited, KeptHomes, LoadingOf, InvOf, LinesAway}
-use Rattle.theorem_serial.proofs.Copies.LinesKept.{Before, new-of}
-use Rattle.theorem_serial.proofs.Copies.LinesStep.{writer-line, commit-passes}
-use Rattle.theorem_serial.proofs.Copies.PairCopies.{NewCommit}
-use Rattle.theorem_serial.proofs.Copies.TagsKept.{taken-commit, stored-home}
-use Rattle.theorem_serial.proofs.Copies.WroteLines.{applied-or, is_of, wrote-new, wrote-other, commit-sent, wrote-unknown}
-use Rattle.theorem_serial.proofs.Counts.Links.{live-sends, total-le, live-takes}
-use Rattle.theorem_serial.proofs.Counts.StepCases.{differ, either, moves-own, moves-other, pairs_dir}
-use Rattle.theorem_serial.proofs.Lines.CoreHolds.{Holds, ReadsValid}
-use Rattle.theorem_serial.proofs.Lines.CoreHoldsTakes.{HoldsTaken, Gone}
-use Rattle.theorem_serial.proofs.Lines.DirSharers.{Shares}
-use Rattle.theorem_serial.proofs.Marks.CoreAfter.{AfterStep}
-use Rattle.theorem_serial.proofs.Marks.DirRecords.{Records, Still, Came, Settles}
-use Rattle.theorem_serial.proofs.Marks.NamedKept.{lines-live}
-use Rattle.theorem_serial.proofs.Marks.ReadsKept.{KeptReads}
-use Rattle.theorem_serial.proofs.OneCore.CoreReads.{ValidOrPassed}
-use Rattle.theorem_serial.proofs.Serving.CommitSteps.{of-above}
-use Rattle.theorem_serial.proofs.Tids.TidSteps.{live-some}
-use Rattle.theorem_serial.proofs.Ways.CoreSkips.{TellsCommit}
-use Rattle.theorem_serial.proofs.Ways.ToldSteps.{Speaks}
+use Rattle.theorem_serial.proofs
+use proofs.Names
+use Names.{ℕ, ◌≡◌, ◌≤◌, ◌⊎◌, ◌&&◌, ◌||◌, Bool, true, false, nat_lt, List, arith, refl, ap, sym, ◌∙◌, inl, inr, nat_tests, Noted}
+use Names.{keeps_unmodified, is_fresh, holds_line, CommitsLine, SharerOf, FillOf, GoneOf, live, Pair, ◌+◌, ◌<◌, ◌==◌, [], ◌∷◌, Some, None}
+use Names.{subst, cases_lt, num, has_mark, Core, Dir, Msg, Shape, home, lines, DirState, Link, Sends, in_flight, History, Kind, AckOf}
+use Names.{Commits, among, passes, Grant, pair, Ways, wrote_line, Option, IfSome, Out, and_noted, insert_commit, KeptLoading, LoadOf}
+use Names.{CommitsAbove, due, after_move, share, is_applied, stores_at, names_line, is_some, line_of, CoreState, Phase, Running, World}
+use Names.{core_moves, dir_takes, KeptSharers, OneCore, acting, after_answer, out_taken, has_tid, ◌%◌, not, is_awaited, KeptHomes}
+use Names.{LoadingOf, InvOf, LinesAway}
+use proofs.Copies.LinesKept.{Before, new-of}
+use proofs.Copies.LinesStep.{writer-line, commit-passes}
+use proofs.Copies.PairCopies.{NewCommit}
+use proofs.Copies.TagsKept.{taken-commit, stored-home}
+use proofs.Copies.WroteLines.{applied-or, is_of, wrote-new, wrote-other, commit-sent, wrote-unknown}
+use proofs.Counts.Links.{live-sends, total-le, live-takes}
+use proofs.Counts.StepCases.{differ, either, moves-own, moves-other, pairs_dir}
+use proofs.Lines.CoreHolds.{Holds, ReadsValid}
+use proofs.Lines.CoreHoldsTakes.{HoldsTaken, Gone}
+use proofs.Lines.DirSharers.{Shares}
+use proofs.Marks.CoreAfter.{AfterStep}
+use proofs.Marks.DirRecords.{Records, Still, Came, Settles}
+use proofs.Marks.NamedKept.{lines-live}
+use proofs.Marks.ReadsKept.{KeptReads}
+use proofs.OneCore.CoreReads.{ValidOrPassed}
+use proofs.Serving.CommitSteps.{of-above}
+use proofs.Tids.TidSteps.{live-some}
+use proofs.Ways.CoreSkips.{TellsCommit}
+use proofs.Ways.ToldSteps.{Speaks}
 
 -- What each kind of event does, between a core and the line's home, to that a core which holds a line is one of its sharers.
 

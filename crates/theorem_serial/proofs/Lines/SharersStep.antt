@@ -1,38 +1,32 @@
 -- Every event keeps that a core which holds a line in memory is one of its sharers, each kind of event by itself.
-use Rattle.theorem_serial.proofs.Names.{ℕ, ◌≡◌, false, [], refl, Local, any_below, any_word, empty_cache, Shape, start, core_start}
-use Rattle.theorem_serial.proofs.Names.{KeptSharers}
-use Rattle.theorem_serial.proofs.Names.{keeps_unmodified, holds_line, live, pair, ◌<◌, ◌≤◌, ◌⊎◌, ◌==◌, ◌&&◌, true, List, ◌∷◌, Option, Some}
-use Rattle.theorem_serial.proofs.Names.{None, IfSome, arith, ap, sym, subst, ◌∙◌, inl, inr, Noted, Program, num, Core, Dir, Vendor, Msg}
-use Rattle.theorem_serial.proofs.Names.{TidGrant, Event, DirState, Sends, has_mark, cases_lt, in_flight, Out, core_exec, core_evict}
-use Rattle.theorem_serial.proofs.Names.{from_dir}
-use Rattle.theorem_serial.proofs.Names.{grant, Answer, Waits, Drops, Asks, Takes, dir_deliver, core_moves, core_takes, dir_takes, dir_asks}
-use Rattle.theorem_serial.proofs.Names.{History, and_noted, step, KeptNamed, KeptLoading, KeptHomes, LoadingOf, SharerOf, Kind, Commits}
-use Rattle.theorem_serial.proofs.Names.{GoneOf}
-use Rattle.theorem_serial.proofs.Names.{AckOf, Acks, InvOf, InvsAway, FillOf, among, passes, Grant, Pair, after_move, grant_taken}
-use Rattle.theorem_serial.proofs.Names.{back_taken}
-use Rattle.theorem_serial.proofs.Names.{after_answer, out_taken, after_grant, after_other_grant, is_applied, stores_at, Ways, Bool}
-use Rattle.theorem_serial.proofs.Copies.LinesKept.{Before}
-use Rattle.theorem_serial.proofs.Counts.Links.{live-sends, live-takes, none-taken}
-use Rattle.theorem_serial.proofs.Counts.StepCases.{back-own, back-away, pairs_grant, pairs_back, pairs_dir, pairs_asks, pairs_vendor}
-use Rattle.theorem_serial.proofs.Counts.StepCases.{OfAnswer}
-use Rattle.theorem_serial.proofs.Counts.StepCases.{step_cases}
-use Rattle.theorem_serial.proofs.Lines.CoreHolds.{Holds, holds-exec, holds-evict, holds-grant}
-use Rattle.theorem_serial.proofs.Lines.CoreHoldsTakes.{HoldsTaken, holds-back}
-use Rattle.theorem_serial.proofs.Lines.DirSharers.{Shares, SharesBy, dir-shares}
-use Rattle.theorem_serial.proofs.Lines.SharersKept.{sharer-answered, gone-ack, gone-acks, SharersAt, reads-valid, dir-sharers}
-use Rattle.theorem_serial.proofs.Lines.SharersKept.{moved-sharers}
-use Rattle.theorem_serial.proofs.Lines.SharersKept.{own-sharers, back-sharers}
-use Rattle.theorem_serial.proofs.Marks.CoreAfter.{AfterStep, Stays, after-exec, after-evict, after-grant, after-back}
-use Rattle.theorem_serial.proofs.Marks.DirRecords.{NoCommit, RecordsBy, dir-records}
-use Rattle.theorem_serial.proofs.Marks.NamedKept.{lines-among, acks-line}
-use Rattle.theorem_serial.proofs.Marks.ReadsKept.{KeptReads}
-use Rattle.theorem_serial.proofs.Serving.CommitOwners.{CommitsNoted, noted-exec, noted-evict}
-use Rattle.theorem_serial.proofs.Serving.CoreCommits.{Served, served-exec, served-evict, served-grant}
-use Rattle.theorem_serial.proofs.Serving.CoreDue.{CleanOut, clean-exec, clean-evict, clean-grant}
-use Rattle.theorem_serial.proofs.Tids.CoreTids.{KeepsPart, part-exec, part-evict}
-use Rattle.theorem_serial.proofs.Tids.TidSteps.{live-some}
-use Rattle.theorem_serial.proofs.Ways.CoreSkips.{Tells, tells-exec, tells-evict}
-use Rattle.theorem_serial.proofs.Ways.ToldSteps.{speaks, grant-speaks}
+use Rattle.theorem_serial.proofs
+use proofs.Names
+use Names.{ℕ, ◌≡◌, false, [], refl, Local, any_below, any_word, empty_cache, Shape, start, core_start, KeptSharers, keeps_unmodified}
+use Names.{holds_line, live, pair, ◌<◌, ◌≤◌, ◌⊎◌, ◌==◌, ◌&&◌, true, List, ◌∷◌, Option, Some, None, IfSome, arith, ap, sym, subst, ◌∙◌, inl}
+use Names.{inr, Noted, Program, num, Core, Dir, Vendor, Msg, TidGrant, Event, DirState, Sends, has_mark, cases_lt, in_flight, Out}
+use Names.{core_exec, core_evict, from_dir, grant, Answer, Waits, Drops, Asks, Takes, dir_deliver, core_moves, core_takes, dir_takes}
+use Names.{dir_asks, History, and_noted, step, KeptNamed, KeptLoading, KeptHomes, LoadingOf, SharerOf, Kind, Commits, GoneOf, AckOf, Acks}
+use Names.{InvOf, InvsAway, FillOf, among, passes, Grant, Pair, after_move, grant_taken, back_taken, after_answer, out_taken, after_grant}
+use Names.{after_other_grant, is_applied, stores_at, Ways, Bool}
+use proofs.Copies.LinesKept.{Before}
+use proofs.Counts.Links.{live-sends, live-takes, none-taken}
+use proofs.Counts.StepCases.{back-own, back-away, pairs_grant, pairs_back, pairs_dir, pairs_asks, pairs_vendor, OfAnswer, step_cases}
+use proofs.Lines.CoreHolds.{Holds, holds-exec, holds-evict, holds-grant}
+use proofs.Lines.CoreHoldsTakes.{HoldsTaken, holds-back}
+use proofs.Lines.DirSharers.{Shares, SharesBy, dir-shares}
+use proofs.Lines.SharersKept.{sharer-answered, gone-ack, gone-acks, SharersAt, reads-valid, dir-sharers, moved-sharers, own-sharers}
+use proofs.Lines.SharersKept.{back-sharers}
+use proofs.Marks.CoreAfter.{AfterStep, Stays, after-exec, after-evict, after-grant, after-back}
+use proofs.Marks.DirRecords.{NoCommit, RecordsBy, dir-records}
+use proofs.Marks.NamedKept.{lines-among, acks-line}
+use proofs.Marks.ReadsKept.{KeptReads}
+use proofs.Serving.CommitOwners.{CommitsNoted, noted-exec, noted-evict}
+use proofs.Serving.CoreCommits.{Served, served-exec, served-evict, served-grant}
+use proofs.Serving.CoreDue.{CleanOut, clean-exec, clean-evict, clean-grant}
+use proofs.Tids.CoreTids.{KeepsPart, part-exec, part-evict}
+use proofs.Tids.TidSteps.{live-some}
+use proofs.Ways.CoreSkips.{Tells, tells-exec, tells-evict}
+use proofs.Ways.ToldSteps.{speaks, grant-speaks}
 
 -- At the start no core holds a line.
 empty-keeps : (l : ℕ) → keeps_unmodified empty_cache l ≡ false

@@ -1,23 +1,18 @@
 -- Every event keeps that a core notes of each directory the greatest TID of its commits that stored there.
-use Rattle.theorem_serial.proofs.Names.{ℕ, max, cond, ◌≡◌, ◌<◌, ◌≤◌, ◌==◌, ◌&&◌, Bool, true, false, List, [], ◌∷◌, Contains, Option, Some}
-use Rattle.theorem_serial.proofs.Names.{None}
-use Rattle.theorem_serial.proofs.Names.{IfSome, nat_lt, if◌then◌else◌, arith, refl, ap, sym, subst, ◌∙◌, inl, inr, nat_tests, Noted}
-use Rattle.theorem_serial.proofs.Names.{Program}
-use Rattle.theorem_serial.proofs.Names.{Local, Core, Dir, Vendor, Event, Msg, Shape, DirState, World, Link, start, core_start, in_flight}
-use Rattle.theorem_serial.proofs.Names.{Sends}
-use Rattle.theorem_serial.proofs.Names.{Out, core_exec, core_evict, from_dir, grant, Answer, Waits, Drops, Asks, Takes, dir_deliver}
-use Rattle.theorem_serial.proofs.Names.{core_moves}
-use Rattle.theorem_serial.proofs.Names.{core_takes, dir_takes, step, and_noted, insert_commit, AfterOf, KeptAfter, KeptLoading}
-use Rattle.theorem_serial.proofs.Names.{stored_there}
-use Rattle.theorem_serial.proofs.Names.{LoadOf, LoadNot, live, KeptCores, Grant, AreGranted, holder, KeptOwners, LastGranted, Pair, pair}
-use Rattle.theorem_serial.proofs.Names.{after_move, stores_at, last_of}
-use Rattle.theorem_serial.proofs.Marks.CoreAfter.{no-load, Stays, Notes_commit, AfterStep, after-exec, after-evict, after-grant, after-back}
-use Rattle.theorem_serial.proofs.Tids.CoreOwners.{KeepsHolder, noted_tid, none, holder-exec, holder-evict}
-use Rattle.theorem_serial.proofs.Counts.Links.{live-sends, live-takes}
-use Rattle.theorem_serial.proofs.Serving.OwnerSteps.{holder-moved}
-use Rattle.theorem_serial.proofs.Counts.StepCases.{either, moves-own, moves-other, pairs_move, pairs_grant, pairs_back, pairs_dir}
-use Rattle.theorem_serial.proofs.Counts.StepCases.{pairs_asks}
-use Rattle.theorem_serial.proofs.Counts.StepCases.{pairs_vendor, OfAnswer, step_cases}
+use Rattle.theorem_serial.proofs
+use proofs.Names
+use Names.{ℕ, max, cond, ◌≡◌, ◌<◌, ◌≤◌, ◌==◌, ◌&&◌, Bool, true, false, List, [], ◌∷◌, Contains, Option, Some, None, IfSome, nat_lt}
+use Names.{if◌then◌else◌, arith, refl, ap, sym, subst, ◌∙◌, inl, inr, nat_tests, Noted, Program, Local, Core, Dir, Vendor, Event, Msg}
+use Names.{Shape, DirState, World, Link, start, core_start, in_flight, Sends, Out, core_exec, core_evict, from_dir, grant, Answer, Waits}
+use Names.{Drops, Asks, Takes, dir_deliver, core_moves, core_takes, dir_takes, step, and_noted, insert_commit, AfterOf, KeptAfter}
+use Names.{KeptLoading, stored_there, LoadOf, LoadNot, live, KeptCores, Grant, AreGranted, holder, KeptOwners, LastGranted, Pair, pair}
+use Names.{after_move, stores_at, last_of}
+use proofs.Marks.CoreAfter.{no-load, Stays, Notes_commit, AfterStep, after-exec, after-evict, after-grant, after-back}
+use proofs.Tids.CoreOwners.{KeepsHolder, noted_tid, none, holder-exec, holder-evict}
+use proofs.Counts.Links.{live-sends, live-takes}
+use proofs.Serving.OwnerSteps.{holder-moved}
+use proofs.Counts.StepCases.{either, moves-own, moves-other, pairs_move, pairs_grant, pairs_back, pairs_dir, pairs_asks, pairs_vendor}
+use proofs.Counts.StepCases.{OfAnswer, step_cases}
 
 pub last-insert : (p : Noted → Bool) (n : Noted) (cs : List Noted)
     → last_of p (insert_commit n cs) ≡ max (cond (p n) n.tid.0 0) (last_of p cs)

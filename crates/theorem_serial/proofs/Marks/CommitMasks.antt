@@ -1,27 +1,22 @@
 -- What a core has marked, or marks, by a TID that it commits is what the commit stored.
-use Rattle.theorem_serial.proofs.Names.{solo_marks_or_skip, solo_write_backs, solo_writes_at, modified_mask, commit_sends, written_mask}
-use Rattle.theorem_serial.proofs.Names.{IfSome}
-use Rattle.theorem_serial.proofs.Names.{is_modified, stores_line, stored_mask, solo_commit, solo_sends, is_written, core_evict, has_marked}
-use Rattle.theorem_serial.proofs.Names.{◌+◌}
-use Rattle.theorem_serial.proofs.Names.{nat_tests, any_below, writes_at, CoreState, core_exec, AnyCommit, marked_by, stores_in, stores_at}
-use Rattle.theorem_serial.proofs.Names.{Bool}
-use Rattle.theorem_serial.proofs.Names.{from_dir, CommitOf, MarkMask, Program, Spilled, Commits, OneCore, has_tid, nat_lt, Commit, commit}
-use Rattle.theorem_serial.proofs.Names.{true}
-use Rattle.theorem_serial.proofs.Names.{MarkOf, passes, false, arith, Noted, Shape, lines, Cache, Phase, Ready, noted, among, List, ◌==◌}
-use Rattle.theorem_serial.proofs.Names.{◌&&◌}
-use Rattle.theorem_serial.proofs.Names.{Some, refl, home, Solo, ◌≡◌, ◌≤◌, not, ◌∷◌, sym, ◌∙◌, ◌⊎◌, inl, inr, num, Dir, Msg, Out, [], ap, ℕ}
-use Rattle.theorem_serial.proofs.Serving.CoreCommits.{heard-free}
-use Rattle.theorem_serial.proofs.Counts.Links.{among-append, among-flat_map_none}
-use Rattle.theorem_serial.proofs.Serving.CommitOwners.{few-of}
-use Rattle.theorem_serial.proofs.Marks.CoreCounts.{is-commit, is-alone, has-solo}
-use Rattle.theorem_serial.proofs.Marks.CoreMarking.{mine, told-commit, has-ready}
-use Rattle.theorem_serial.proofs.Marks.CoreMarkingTakes.{unmarked}
-use Rattle.theorem_serial.proofs.Marks.ModifiedMasks.{own-mask, few-masked}
-use Rattle.theorem_serial.proofs.Marks.StoredMasks.{unspilled, stored-line, stored-any, stored-cases, modified-line, modified-stored}
-use Rattle.theorem_serial.proofs.Marks.StoredMasks.{written-line, written-stored}
-use Rattle.theorem_serial.proofs.OneCore.Said.{quiet, Empties}
-use Rattle.theorem_serial.proofs.OneCore.Outcomes.{Commits_now, Did, each-exec, out, each-evict, emptied, Ends_alone, after_end, each-back}
-use Rattle.theorem_serial.proofs.OneCore.Outcomes.{heard, said}
+use Rattle.theorem_serial.proofs
+use proofs.Names
+use Names.{solo_marks_or_skip, solo_write_backs, solo_writes_at, modified_mask, commit_sends, written_mask, IfSome, is_modified}
+use Names.{stores_line, stored_mask, solo_commit, solo_sends, is_written, core_evict, has_marked, ◌+◌, nat_tests, any_below, writes_at}
+use Names.{CoreState, core_exec, AnyCommit, marked_by, stores_in, stores_at, Bool, from_dir, CommitOf, MarkMask, Program, Spilled, Commits}
+use Names.{OneCore, has_tid, nat_lt, Commit, commit, true, MarkOf, passes, false, arith, Noted, Shape, lines, Cache, Phase, Ready, noted}
+use Names.{among, List, ◌==◌, ◌&&◌, Some, refl, home, Solo, ◌≡◌, ◌≤◌, not, ◌∷◌, sym, ◌∙◌, ◌⊎◌, inl, inr, num, Dir, Msg, Out, [], ap, ℕ}
+use proofs.Serving.CoreCommits.{heard-free}
+use proofs.Counts.Links.{among-append, among-flat_map_none}
+use proofs.Serving.CommitOwners.{few-of}
+use proofs.Marks.CoreCounts.{is-commit, is-alone, has-solo}
+use proofs.Marks.CoreMarking.{mine, told-commit, has-ready}
+use proofs.Marks.CoreMarkingTakes.{unmarked}
+use proofs.Marks.ModifiedMasks.{own-mask, few-masked}
+use proofs.Marks.StoredMasks.{unspilled, stored-line, stored-any, stored-cases, modified-line, modified-stored, written-line}
+use proofs.Marks.StoredMasks.{written-stored}
+use proofs.OneCore.Said.{quiet, Empties}
+use proofs.OneCore.Outcomes.{Commits_now, Did, each-exec, out, each-evict, emptied, Ends_alone, after_end, each-back, heard, said}
 
 -- A core notes a commit that stored at the directory, and what this stored are the masks of the Marks that it has sent, and of those that
 -- it sends with it.

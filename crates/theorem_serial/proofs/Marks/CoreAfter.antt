@@ -1,15 +1,14 @@
 -- What a core's step does to the TIDs that it notes of its last commit at each directory.
-use Rattle.theorem_serial.proofs.Names.{ℕ, ◌≡◌, ◌⊎◌, Bool, true, false, [], ◌∷◌, ◌==◌, Option, Some, None, IfSome, if◌then◌else◌, arith}
-use Rattle.theorem_serial.proofs.Names.{refl}
-use Rattle.theorem_serial.proofs.Names.{inl, inr, nat_tests, Noted, Program, word_of, num, line_of, Dir, Msg, LoadReq, Shape, home}
-use Rattle.theorem_serial.proofs.Names.{CoreState}
-use Rattle.theorem_serial.proofs.Names.{Awaited, Ready, Out, moves, commit, noted, with_last_commit, committed_core, solo_commit, core_exec}
-use Rattle.theorem_serial.proofs.Names.{core_evict, grant, from_dir, LoadOf, LoadNot, among, passes, OneCore, executes, stores_at}
-use Rattle.theorem_serial.proofs.Marks.StoredMasks.{stored-solo, stored-written}
-use Rattle.theorem_serial.proofs.OneCore.Said.{Empties, Flushes, Requests, Silent, Tells_alone, Tells_commit, quiet, say}
-use Rattle.theorem_serial.proofs.OneCore.Outcomes.{Commits_now, Did, Ends_alone, Given_none, Granted, Hands_out, Heard, Misses, Misses_anew}
-use Rattle.theorem_serial.proofs.OneCore.Outcomes.{after_end, each-back, each-evict, each-exec, each-grant, emptied, granted, granted_said}
-use Rattle.theorem_serial.proofs.OneCore.Outcomes.{heard, heard-quiet, out, said}
+use Rattle.theorem_serial.proofs
+use proofs.Names
+use Names.{ℕ, ◌≡◌, ◌⊎◌, Bool, true, false, [], ◌∷◌, ◌==◌, Option, Some, None, IfSome, if◌then◌else◌, arith, refl, inl, inr, nat_tests}
+use Names.{Noted, Program, word_of, num, line_of, Dir, Msg, LoadReq, Shape, home, CoreState, Awaited, Ready, Out, moves, commit, noted}
+use Names.{with_last_commit, committed_core, solo_commit, core_exec, core_evict, grant, from_dir, LoadOf, LoadNot, among, passes, OneCore}
+use Names.{executes, stores_at}
+use proofs.Marks.StoredMasks.{stored-solo, stored-written}
+use proofs.OneCore.Said.{Empties, Flushes, Requests, Silent, Tells_alone, Tells_commit, quiet, say}
+use proofs.OneCore.Outcomes.{Commits_now, Did, Ends_alone, Given_none, Granted, Hands_out, Heard, Misses, Misses_anew, after_end, each-back}
+use proofs.OneCore.Outcomes.{each-evict, each-exec, each-grant, emptied, granted, granted_said, heard, heard-quiet, out, said}
 
 -- without a request for a line there is none that carries something else
 pub no-load : (x : ℕ) (m : Msg) → ((l : ℕ) → num (passes (LoadOf l) m) ≡ 0) → num (passes (LoadNot x) m) ≡ 0

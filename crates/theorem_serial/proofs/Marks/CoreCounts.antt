@@ -1,22 +1,19 @@
 -- A Commit that a core sends counts the Marks that it has sent, or sends with it.
 use Rattle.base_lemmas.proofs.Lemmas.{eq-self}
-use Rattle.theorem_serial.proofs.Names.{ℕ, zero, suc, ◌+◌, ◌≡◌, ◌<◌, ◌≤◌, Bool, true, false, List, [], ◌∷◌, ◌++◌, ◌==◌, ◌&&◌, IfSome}
-use Rattle.theorem_serial.proofs.Names.{nat_lt}
-use Rattle.theorem_serial.proofs.Names.{if◌then◌else◌, flat_map, arith, refl, ◌∙◌, nat_tests, Program, num, those, count_below, Dir, Msg}
-use Rattle.theorem_serial.proofs.Names.{Skip}
-use Rattle.theorem_serial.proofs.Names.{Mark, Commit, WriteBack, Shape, home, lines, Cache, is_modified, writes_at, Spilled, holds}
-use Rattle.theorem_serial.proofs.Names.{spilled_mask, spilled_words, CoreState, Phase, Ready, Solo, Out, commit, commit_sends, solo_sends}
-use Rattle.theorem_serial.proofs.Names.{solo_marks_or_skip, solo_write_backs, solo_writes_at, is_written, written_mask, core_exec}
-use Rattle.theorem_serial.proofs.Names.{core_evict}
-use Rattle.theorem_serial.proofs.Names.{from_dir, sum_below, Kind, MarkOf, AnyCommit, CommitOf, among, passes, has_marked, stores_line}
-use Rattle.theorem_serial.proofs.Names.{marked_by, may_commit, has_tid, solo_commit}
-use Rattle.theorem_serial.proofs.Serving.CoreCommits.{heard-free}
-use Rattle.theorem_serial.proofs.Counts.Links.{among-append, total-same, among-fewer, among-flat_map_none}
-use Rattle.theorem_serial.proofs.Marks.CoreMarks.{one-mark, marks-only}
-use Rattle.theorem_serial.proofs.Marks.CoreMarking.{mine, told-commit, has-ready}
-use Rattle.theorem_serial.proofs.OneCore.Said.{quiet, Empties}
-use Rattle.theorem_serial.proofs.OneCore.Outcomes.{Commits_now, Did, each-exec, out, each-evict, emptied, Ends_alone, after_end, each-back}
-use Rattle.theorem_serial.proofs.OneCore.Outcomes.{heard, said}
+use Rattle.theorem_serial.proofs
+use proofs.Names
+use Names.{ℕ, zero, suc, ◌+◌, ◌≡◌, ◌<◌, ◌≤◌, Bool, true, false, List, [], ◌∷◌, ◌++◌, ◌==◌, ◌&&◌, IfSome, nat_lt, if◌then◌else◌, flat_map}
+use Names.{arith, refl, ◌∙◌, nat_tests, Program, num, those, count_below, Dir, Msg, Skip, Mark, Commit, WriteBack, Shape, home, lines}
+use Names.{Cache, is_modified, writes_at, Spilled, holds, spilled_mask, spilled_words, CoreState, Phase, Ready, Solo, Out, commit}
+use Names.{commit_sends, solo_sends, solo_marks_or_skip, solo_write_backs, solo_writes_at, is_written, written_mask, core_exec, core_evict}
+use Names.{from_dir, sum_below, Kind, MarkOf, AnyCommit, CommitOf, among, passes, has_marked, stores_line, marked_by, may_commit, has_tid}
+use Names.{solo_commit}
+use proofs.Serving.CoreCommits.{heard-free}
+use proofs.Counts.Links.{among-append, total-same, among-fewer, among-flat_map_none}
+use proofs.Marks.CoreMarks.{one-mark, marks-only}
+use proofs.Marks.CoreMarking.{mine, told-commit, has-ready}
+use proofs.OneCore.Said.{quiet, Empties}
+use proofs.OneCore.Outcomes.{Commits_now, Did, each-exec, out, each-evict, emptied, Ends_alone, after_end, each-back, heard, said}
 
 -- the Marks of a TID that a core has sent and sends
 abbrev marks_after : Shape → (dir tid : ℕ) → CoreState → Out → ℕ → ℕ

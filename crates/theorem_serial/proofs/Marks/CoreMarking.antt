@@ -1,22 +1,19 @@
 -- What each of a core's rules does to its Marks, Skips and the words on its TID.
 use Rattle.base_lemmas.proofs.Lemmas.{eq-self, num-most}
-use Rattle.theorem_serial.proofs.Names.{ℕ, ◌+◌, ◌≡◌, ◌≤◌, Bool, true, false, not, List, [], ◌∷◌, ◌++◌, ◌==◌, ◌&&◌, None, IfSome, nat_lt}
-use Rattle.theorem_serial.proofs.Names.{if◌then◌else◌, arith, refl, ap, ◌⊎◌, inl, inr, cases_eq, nat_tests, Program, num, any_word, Dir}
-use Rattle.theorem_serial.proofs.Names.{Msg}
-use Rattle.theorem_serial.proofs.Names.{InvAck, Shape, home, lines, Cache, writes_at, is_modified, CoreState, Phase, Running, AwaitTid}
-use Rattle.theorem_serial.proofs.Names.{Ready}
-use Rattle.theorem_serial.proofs.Names.{Overflowing, Solo, to, skip_all, abort_written, Out, commit, committed_core, phase_after_commit}
-use Rattle.theorem_serial.proofs.Names.{commit_sends, solo_sends, core_exec, core_evict, Resolves, Protocol, Marks, MarkOf, EmptyMarks}
-use Rattle.theorem_serial.proofs.Names.{Skips}
-use Rattle.theorem_serial.proofs.Names.{among, passes, has_marked, stores_line, marked_by, has_tid, opens, Outcome, moves, solo_commit}
-use Rattle.theorem_serial.proofs.Counts.Links.{among-append}
-use Rattle.theorem_serial.proofs.Tids.CoreProbing.{tid-after}
-use Rattle.theorem_serial.proofs.OneCore.Executes.{Steady, did-steady}
-use Rattle.theorem_serial.proofs.Marks.CoreMarks.{solo-mark, solo-full, solo-skips, solo-owned}
-use Rattle.theorem_serial.proofs.OneCore.Said.{Wants, say}
-use Rattle.theorem_serial.proofs.OneCore.Outcomes.{Acts, Commits_now, Did, each-exec, out, each-evict, emptied, Ends_alone, Ends_run}
-use Rattle.theorem_serial.proofs.OneCore.Outcomes.{Room_wanted, after_end}
-use Rattle.theorem_serial.proofs.OneCore.CoreSteps.{steady-emptied}
+use Rattle.theorem_serial.proofs
+use proofs.Names
+use Names.{ℕ, ◌+◌, ◌≡◌, ◌≤◌, Bool, true, false, not, List, [], ◌∷◌, ◌++◌, ◌==◌, ◌&&◌, None, IfSome, nat_lt, if◌then◌else◌, arith, refl, ap}
+use Names.{◌⊎◌, inl, inr, cases_eq, nat_tests, Program, num, any_word, Dir, Msg, InvAck, Shape, home, lines, Cache, writes_at, is_modified}
+use Names.{CoreState, Phase, Running, AwaitTid, Ready, Overflowing, Solo, to, skip_all, abort_written, Out, commit, committed_core}
+use Names.{phase_after_commit, commit_sends, solo_sends, core_exec, core_evict, Resolves, Protocol, Marks, MarkOf, EmptyMarks, Skips, among}
+use Names.{passes, has_marked, stores_line, marked_by, has_tid, opens, Outcome, moves, solo_commit}
+use proofs.Counts.Links.{among-append}
+use proofs.Tids.CoreProbing.{tid-after}
+use proofs.OneCore.Executes.{Steady, did-steady}
+use proofs.Marks.CoreMarks.{solo-mark, solo-full, solo-skips, solo-owned}
+use proofs.OneCore.Said.{Wants, say}
+use proofs.OneCore.Outcomes.{Acts, Commits_now, Did, each-exec, out, each-evict, emptied, Ends_alone, Ends_run, Room_wanted, after_end}
+use proofs.OneCore.CoreSteps.{steady-emptied}
 
 -- A core speaks only of its TID. While it keeps it, it has sent a Mark of each line that it has to; it marks a line once, only where
 -- the TID is open, and skips only where it has sent no Mark.

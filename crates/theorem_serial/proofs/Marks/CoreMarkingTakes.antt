@@ -1,25 +1,19 @@
 -- What each message to a core does to its Marks, Skips and the words on its TID.
 use Rattle.base_lemmas.proofs.Lemmas.{and-left, and-right, eq-self}
-use Rattle.theorem_serial.proofs.Names.{ℕ, ◌+◌, ◌≡◌, ◌<◌, ◌≤◌, Bool, true, false, not, List, [], ◌∷◌, ◌++◌, ◌==◌, ◌&&◌, Some, None, IfSome}
-use Rattle.theorem_serial.proofs.Names.{if◌then◌else◌, arith, refl, sym, ap, ◌∙◌, ◌⊎◌, inl, inr, cases_eq, nat_tests, put, num, any_below}
-use Rattle.theorem_serial.proofs.Names.{Dir}
-use Rattle.theorem_serial.proofs.Names.{Msg, InvAck, ProbeReply, Fill, DataReq, Inv, Shape, home, lines, Cache, is_modified, modified_mask}
-use Rattle.theorem_serial.proofs.Names.{written_lines, writes_at, CoreState, Phase, Running, AwaitTid, DoomedTid, Probing, Ready}
-use Rattle.theorem_serial.proofs.Names.{Overflowing}
-use Rattle.theorem_serial.proofs.Names.{Solo, to, marks_for, skip_all, abort_written, probe_all, Out, from_dir, all_replied, probe_reply}
-use Rattle.theorem_serial.proofs.Names.{fill}
-use Rattle.theorem_serial.proofs.Names.{data_request, invalidate, ignored, grant, grant_in_phase, grant_sends, is_probed, probing_or_ready}
-use Rattle.theorem_serial.proofs.Names.{Resolves, Marks, MarkOf, EmptyMarks, Skips, among, passes, has_marked, stores_line, marked_by}
-use Rattle.theorem_serial.proofs.Names.{has_tid}
-use Rattle.theorem_serial.proofs.Names.{opens, waits_for_tid}
-use Rattle.theorem_serial.proofs.Counts.Links.{among-append, num-one}
-use Rattle.theorem_serial.proofs.Marks.CoreMarking.{Marking, Unsaid, unsaid-nothing, unsaid-append, acked, silent, silent-none}
-use Rattle.theorem_serial.proofs.Marks.CoreMarking.{marking-steady}
-use Rattle.theorem_serial.proofs.Marks.CoreMarking.{last-words, is-tid, swap, mine, told-abort, told-skip, marked-same, stores-same}
-use Rattle.theorem_serial.proofs.Marks.CoreMarks.{marks-for, marks-only, full-for, stores-writes}
-use Rattle.theorem_serial.proofs.OneCore.CoreSteps.{fill-steady, data-steady, ignored-steady, Hurt, Unhurt, Rolled, Doomed, Aborted}
-use Rattle.theorem_serial.proofs.OneCore.CoreSteps.{Gave_up}
-use Rattle.theorem_serial.proofs.OneCore.CoreSteps.{Invalidated, invalidate-cases, Replied, Ignored, Probed, Left_alone, reply-cases}
+use Rattle.theorem_serial.proofs
+use proofs.Names
+use Names.{ℕ, ◌+◌, ◌≡◌, ◌<◌, ◌≤◌, Bool, true, false, not, List, [], ◌∷◌, ◌++◌, ◌==◌, ◌&&◌, Some, None, IfSome, if◌then◌else◌, arith, refl}
+use Names.{sym, ap, ◌∙◌, ◌⊎◌, inl, inr, cases_eq, nat_tests, put, num, any_below, Dir, Msg, InvAck, ProbeReply, Fill, DataReq, Inv, Shape}
+use Names.{home, lines, Cache, is_modified, modified_mask, written_lines, writes_at, CoreState, Phase, Running, AwaitTid, DoomedTid}
+use Names.{Probing, Ready, Overflowing, Solo, to, marks_for, skip_all, abort_written, probe_all, Out, from_dir, all_replied, probe_reply}
+use Names.{fill, data_request, invalidate, ignored, grant, grant_in_phase, grant_sends, is_probed, probing_or_ready, Resolves, Marks}
+use Names.{MarkOf, EmptyMarks, Skips, among, passes, has_marked, stores_line, marked_by, has_tid, opens, waits_for_tid}
+use proofs.Counts.Links.{among-append, num-one}
+use proofs.Marks.CoreMarking.{Marking, Unsaid, unsaid-nothing, unsaid-append, acked, silent, silent-none, marking-steady, last-words}
+use proofs.Marks.CoreMarking.{is-tid, swap, mine, told-abort, told-skip, marked-same, stores-same}
+use proofs.Marks.CoreMarks.{marks-for, marks-only, full-for, stores-writes}
+use proofs.OneCore.CoreSteps.{fill-steady, data-steady, ignored-steady, Hurt, Unhurt, Rolled, Doomed, Aborted, Gave_up, Invalidated}
+use proofs.OneCore.CoreSteps.{invalidate-cases, Replied, Ignored, Probed, Left_alone, reply-cases}
 
 -- before an acknowledgement
 append-told : (t l : ℕ) (a b : List Msg) → Unsaid t l b → (among EmptyMarks (a ++ b) ≡ among EmptyMarks a)

@@ -1,15 +1,13 @@
 -- A core sends a Mark of each line that it stores to a directory that replies, and Skips and Marks to none at once.
-use Rattle.theorem_serial.proofs.Names.{ℕ, zero, suc, ◌+◌, ◌≡◌, ◌<◌, ◌≤◌, Bool, true, false, List, [], ◌∷◌, ◌++◌, ◌==◌, ◌&&◌, ◌||◌, is_some}
-use Rattle.theorem_serial.proofs.Names.{nat_lt, if◌then◌else◌, flat_map, arith, refl, ◌⊎◌, inl, inr, cases_eq, nat_tests, flat_map-append}
-use Rattle.theorem_serial.proofs.Names.{num}
-use Rattle.theorem_serial.proofs.Names.{those, count_below, any_word, word_at, mask_of, Dir, Msg, Skip, Mark, Commit, WriteBack, Shape}
-use Rattle.theorem_serial.proofs.Names.{home}
-use Rattle.theorem_serial.proofs.Names.{lines, Cache, is_modified, modified_mask, written_lines, writes_at, Spilled, holds, spilled_mask}
-use Rattle.theorem_serial.proofs.Names.{spilled_words, any_below-at, any_below-found, marks_for, solo_sends, solo_marks_or_skip}
-use Rattle.theorem_serial.proofs.Names.{solo_write_backs, solo_writes_at, is_written, written_mask, Kind, Resolves, Marks, MarkOf}
-use Rattle.theorem_serial.proofs.Names.{EmptyMarks}
-use Rattle.theorem_serial.proofs.Names.{Skips, among, passes, stores_line}
-use Rattle.theorem_serial.proofs.Counts.Links.{among-append, among-flat_map_none}
+use Rattle.theorem_serial.proofs
+use proofs.Names
+use Names.{ℕ, zero, suc, ◌+◌, ◌≡◌, ◌<◌, ◌≤◌, Bool, true, false, List, [], ◌∷◌, ◌++◌, ◌==◌, ◌&&◌, ◌||◌, is_some, nat_lt, if◌then◌else◌}
+use Names.{flat_map, arith, refl, ◌⊎◌, inl, inr, cases_eq, nat_tests, flat_map-append, num, those, count_below, any_word, word_at, mask_of}
+use Names.{Dir, Msg, Skip, Mark, Commit, WriteBack, Shape, home, lines, Cache, is_modified, modified_mask, written_lines, writes_at}
+use Names.{Spilled, holds, spilled_mask, spilled_words, any_below-at, any_below-found, marks_for, solo_sends, solo_marks_or_skip}
+use Names.{solo_write_backs, solo_writes_at, is_written, written_mask, Kind, Resolves, Marks, MarkOf, EmptyMarks, Skips, among, passes}
+use Names.{stores_line}
+use proofs.Counts.Links.{among-append, among-flat_map_none}
 
 -- marks of some lines, one each
 pub one-mark : (p : ℕ → Bool) (f : ℕ → ℕ) (u t l n : ℕ)

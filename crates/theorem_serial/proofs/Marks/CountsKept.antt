@@ -1,37 +1,29 @@
 -- Every event keeps that a Commit counts its Marks, and that none is in flight while acknowledgements are owed.
-use Rattle.theorem_serial.proofs.Names.{after_other_grant, awaits_replies, after_answer, count_below, CountsMarks, grant_taken, dir_deliver}
-use Rattle.theorem_serial.proofs.Names.{ap}
-use Rattle.theorem_serial.proofs.Names.{KeptCounted, after_grant, EmptyMarks, after_move, core_evict, core_moves, core_takes, KeptOwners}
-use Rattle.theorem_serial.proofs.Names.{false}
-use Rattle.theorem_serial.proofs.Names.{back_taken, may_commit, nat_tests, writes_at, sum_below, marked_by, CountedOf, AnyCommit, dir_start}
-use Rattle.theorem_serial.proofs.Names.{[]}
-use Rattle.theorem_serial.proofs.Names.{in_flight, core_exec, dir_takes, KeptMarks, KeptCores, cases_lt, has_mark, DirState, sent_all}
-use Rattle.theorem_serial.proofs.Names.{Resolves}
-use Rattle.theorem_serial.proofs.Names.{CommitOf, marks_of, Contains, KeptTids, cases_eq, from_dir, dir_asks, KeptTold, MarksOf, handled}
-use Rattle.theorem_serial.proofs.Names.{arith}
-use Rattle.theorem_serial.proofs.Names.{Program, nat_lt, MarkOf, passes, nat_le, Option, IfSome, TidReq, Commit, Answer, Shape, lines}
-use Rattle.theorem_serial.proofs.Names.{among, ℕ}
-use Rattle.theorem_serial.proofs.Names.{Grant, opens, World, share, subst, Noted, Local, Event, Phase, start, Sends, grant, Waits, Drops}
-use Rattle.theorem_serial.proofs.Names.{Takes}
-use Rattle.theorem_serial.proofs.Names.{true, List, ◌++◌, ◌==◌, ◌&&◌, refl, Skip, Link, live, Pair, Kind, pair, part, Some, None, Core}
-use Rattle.theorem_serial.proofs.Names.{Asks}
-use Rattle.theorem_serial.proofs.Names.{step, Acks, Kept, skip, ◌+◌, ◌≡◌, ◌<◌, ◌≤◌, ◌∙◌, ◌⊎◌, inl, inr, num, Dir, Msg, Out, set}
-use Rattle.theorem_serial.proofs.Serving.CoreCommits.{granted-free}
-use Rattle.theorem_serial.proofs.Counts.Links.{live-sends, total-same, total-plus, total-le, live-fewer, live-takes}
-use Rattle.theorem_serial.proofs.Counts.StepCases.{dir-own, dir-other, asks-own, pairs_move, pairs_grant, pairs_back, pairs_dir, pairs_asks}
-use Rattle.theorem_serial.proofs.Counts.StepCases.{pairs_vendor, OfAnswer, step_cases}
-use Rattle.theorem_serial.proofs.Marks.CoreCounts.{Counts, CountsAll, total-num, few-any, counts-exec, counts-evict, counts-back}
-use Rattle.theorem_serial.proofs.Marks.CoreMarking.{Marking, marking-exec, marking-evict}
-use Rattle.theorem_serial.proofs.Marks.CoreMarkingTakes.{marking-back, granting}
-use Rattle.theorem_serial.proofs.Marks.DirMarks.{Marked, Stays, MarkedBy, dir-marked}
-use Rattle.theorem_serial.proofs.Marks.MarksKept.{holds, open-untold, taken-less, empty-one, skip-unmarked, only-there, no-request}
-use Rattle.theorem_serial.proofs.Marks.MarksKept.{no-empty}
-use Rattle.theorem_serial.proofs.Marks.MarksKept.{taken-back as back-marks, kinds}
-use Rattle.theorem_serial.proofs.Marks.OwesByCommit.{CountsMarked, OwesBy, dir-owes}
-use Rattle.theorem_serial.proofs.Serving.DirDue.{Due, DueBy, dir-due, still-due}
-use Rattle.theorem_serial.proofs.Serving.KeptSteps.{core_of_back, core_of_out, once_at, marks_home, acks_owed}
-use Rattle.theorem_serial.proofs.Tids.Commits.{granted-once}
-use Rattle.theorem_serial.proofs.Tids.TidSteps.{granted_waits, live-some}
+use Rattle.theorem_serial.proofs
+use proofs.Names
+use Names.{after_other_grant, awaits_replies, after_answer, count_below, CountsMarks, grant_taken, dir_deliver, ap, KeptCounted}
+use Names.{after_grant, EmptyMarks, after_move, core_evict, core_moves, core_takes, KeptOwners, false, back_taken, may_commit, nat_tests}
+use Names.{writes_at, sum_below, marked_by, CountedOf, AnyCommit, dir_start, [], in_flight, core_exec, dir_takes, KeptMarks, KeptCores}
+use Names.{cases_lt, has_mark, DirState, sent_all, Resolves, CommitOf, marks_of, Contains, KeptTids, cases_eq, from_dir, dir_asks, KeptTold}
+use Names.{MarksOf, handled, arith, Program, nat_lt, MarkOf, passes, nat_le, Option, IfSome, TidReq, Commit, Answer, Shape, lines, among, ℕ}
+use Names.{Grant, opens, World, share, subst, Noted, Local, Event, Phase, start, Sends, grant, Waits, Drops, Takes, true, List, ◌++◌, ◌==◌}
+use Names.{◌&&◌, refl, Skip, Link, live, Pair, Kind, pair, part, Some, None, Core, Asks, step, Acks, Kept, skip, ◌+◌, ◌≡◌, ◌<◌, ◌≤◌, ◌∙◌}
+use Names.{◌⊎◌, inl, inr, num, Dir, Msg, Out, set}
+use proofs.Serving.CoreCommits.{granted-free}
+use proofs.Counts.Links.{live-sends, total-same, total-plus, total-le, live-fewer, live-takes}
+use proofs.Counts.StepCases.{dir-own, dir-other, asks-own, pairs_move, pairs_grant, pairs_back, pairs_dir, pairs_asks, pairs_vendor}
+use proofs.Counts.StepCases.{OfAnswer, step_cases}
+use proofs.Marks.CoreCounts.{Counts, CountsAll, total-num, few-any, counts-exec, counts-evict, counts-back}
+use proofs.Marks.CoreMarking.{Marking, marking-exec, marking-evict}
+use proofs.Marks.CoreMarkingTakes.{marking-back, granting}
+use proofs.Marks.DirMarks.{Marked, Stays, MarkedBy, dir-marked}
+use proofs.Marks.MarksKept.{holds, open-untold, taken-less, empty-one, skip-unmarked, only-there, no-request, no-empty}
+use proofs.Marks.MarksKept.{taken-back as back-marks, kinds}
+use proofs.Marks.OwesByCommit.{CountsMarked, OwesBy, dir-owes}
+use proofs.Serving.DirDue.{Due, DueBy, dir-due, still-due}
+use proofs.Serving.KeptSteps.{core_of_back, core_of_out, once_at, marks_home, acks_owed}
+use proofs.Tids.Commits.{granted-once}
+use proofs.Tids.TidSteps.{granted_waits, live-some}
 
 -- How each kind of event keeps that a Commit counts its Marks, between a core and a directory.
 one-resolve : (t n : ℕ) (m : Msg) → num (passes (CommitOf t n) m) ≤ num (passes (Resolves t) m)

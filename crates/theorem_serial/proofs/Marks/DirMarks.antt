@@ -1,13 +1,12 @@
 -- What a directory's rules do to its marks: it marks a line by the served TID, and clears all marks where it moves on; a Skip
 -- moves it on without.
-use Rattle.theorem_serial.proofs.Names.{has_mark, ℕ, ◌≡◌, ◌<◌, Bool, true, false, ◌==◌, if◌then◌else◌, arith, refl, nat_tests, advance}
-use Rattle.theorem_serial.proofs.Names.{kept}
-use Rattle.theorem_serial.proofs.Names.{Msg, Skip, Mark, Shape, advance-rises, DirState, Answer, Waits, Drops, Asks, Takes, dir_deliver}
-use Rattle.theorem_serial.proofs.Names.{MarkOf}
-use Rattle.theorem_serial.proofs.Names.{passes, num, ◌≤◌, ◌+◌, ◌⊎◌, inl, inr, ◌∙◌, EmptyMarks, cases_eq, nat_lt, ◌&&◌}
-use Rattle.theorem_serial.proofs.Counts.DirOutcome.{Outcome, Waiting, Spent, AsksOwner, TakesSkip, TakesAbort, TakesMark, TakesCommit}
-use Rattle.theorem_serial.proofs.Counts.DirOutcome.{TakesAck}
-use Rattle.theorem_serial.proofs.Counts.DirOutcome.{TakesCopy, IsSpent, MarkPassed, CopyPassed, outcome}
+use Rattle.theorem_serial.proofs
+use proofs.Names
+use Names.{has_mark, ℕ, ◌≡◌, ◌<◌, Bool, true, false, ◌==◌, if◌then◌else◌, arith, refl, nat_tests, advance, kept, Msg, Skip, Mark, Shape}
+use Names.{advance-rises, DirState, Answer, Waits, Drops, Asks, Takes, dir_deliver, MarkOf, passes, num, ◌≤◌, ◌+◌, ◌⊎◌, inl, inr, ◌∙◌}
+use Names.{EmptyMarks, cases_eq, nat_lt, ◌&&◌}
+use proofs.Counts.DirOutcome.{Outcome, Waiting, Spent, AsksOwner, TakesSkip, TakesAbort, TakesMark, TakesCommit, TakesAck, TakesCopy}
+use proofs.Counts.DirOutcome.{IsSpent, MarkPassed, CopyPassed, outcome}
 
 -- a message that is no Mark
 abbrev NoMark : Msg → Type 0

@@ -1,13 +1,10 @@
 -- What a directory's rules do to the tags and owners of its lines: a Commit of the served TID takes the marked lines over, and the
 -- owner's words that come home leave their line without owner.
-use Rattle.theorem_serial.proofs.Names.{ℕ, ◌≡◌, ◌≤◌, Bool, true, false, ◌==◌, ◌&&◌, Some, None, if◌then◌else◌, arith, refl, nat_tests}
-use Rattle.theorem_serial.proofs.Names.{has_mark}
-use Rattle.theorem_serial.proofs.Names.{is_owner, Msg, Shape, DirState, Answer, Waits, Drops, Asks, Takes, dir_deliver, Commits, CopyOf}
-use Rattle.theorem_serial.proofs.Names.{passes}
-use Rattle.theorem_serial.proofs.Names.{is_this, ◌∙◌}
-use Rattle.theorem_serial.proofs.Counts.DirOutcome.{Outcome, Waiting, Spent, AsksOwner, TakesCommit, TakesCopy, IsSpent, CopyPassed}
-use Rattle.theorem_serial.proofs.Counts.DirOutcome.{outcome}
-use Rattle.theorem_serial.proofs.Marks.OwesByCommit.{CountsMarked}
+use Rattle.theorem_serial.proofs
+use proofs.Names.{ℕ, ◌≡◌, ◌≤◌, Bool, true, false, ◌==◌, ◌&&◌, Some, None, if◌then◌else◌, arith, refl, nat_tests, has_mark, is_owner, Msg}
+use proofs.Names.{Shape, DirState, Answer, Waits, Drops, Asks, Takes, dir_deliver, Commits, CopyOf, passes, is_this, ◌∙◌}
+use proofs.Counts.DirOutcome.{Outcome, Waiting, Spent, AsksOwner, TakesCommit, TakesCopy, IsSpent, CopyPassed, outcome}
+use proofs.Marks.OwesByCommit.{CountsMarked}
 
 abbrev pub NoCommit : Msg → Type 0
 NoCommit m = (t : ℕ) → passes (Commits t) m ≡ false

@@ -1,29 +1,25 @@
 -- Every event keeps that the Marks of a TID are those of the lines that its core stores.
 use Rattle.base_lemmas.proofs.Lemmas.{eq-self}
-use Rattle.theorem_serial.proofs.Names.{ℕ, ◌+◌, ◌≡◌, ◌<◌, ◌≤◌, Bool, true, false, List, ◌++◌, ◌==◌, ◌&&◌, Contains, Some, None, nat_lt}
-use Rattle.theorem_serial.proofs.Names.{nat_le}
-use Rattle.theorem_serial.proofs.Names.{slice_index_or, arith, refl, ap, subst, ◌⊎◌, inl, inr, cases_eq, cases_lt, nat_tests, num, has_mark}
-use Rattle.theorem_serial.proofs.Names.{Dir, Msg, TidGrant, Mark, Skip, Shape, writes_at, DirState, Link, Out, sent_all, Grants, Resolves}
-use Rattle.theorem_serial.proofs.Names.{Marks, MarkOf, EmptyMarks, Skips, live, among, passes, marks_of, MarksOf, Grant, Pair, after_move}
-use Rattle.theorem_serial.proofs.Names.{grant_taken, has_tid, opens, [], ◌∷◌, slice_set, ◌∙◌, Contains-append_left, Noted, Core, Vendor}
-use Rattle.theorem_serial.proofs.Names.{CoreState, World, in_flight, Kind, AnyResolve, has_marked, marked_by, KeptMarks, holder, KeptOwners}
-use Rattle.theorem_serial.proofs.Names.{pair, share, after_answer, after_grant, after_other_grant, part, handled, KeptTids, KeptTold}
-use Rattle.theorem_serial.proofs.Names.{Option}
-use Rattle.theorem_serial.proofs.Names.{IfSome, set, append-nil, Program, Local, no_lines, TidReq, Event, start, core_start, dir_start}
-use Rattle.theorem_serial.proofs.Names.{Sends}
-use Rattle.theorem_serial.proofs.Names.{core_exec, core_evict, from_dir, grant, Answer, Waits, Drops, Asks, Takes, dir_deliver, core_moves}
-use Rattle.theorem_serial.proofs.Names.{core_takes, dir_takes, dir_asks, step, granted_by, back_taken, Kept}
-use Rattle.theorem_serial.proofs.Counts.Links.{live-sends, live-takes, live-fewer, total-le, none-taken}
-use Rattle.theorem_serial.proofs.Counts.StepCases.{pairs_move, pairs_grant, pairs_back, pairs_dir, pairs_asks, pairs_vendor, OfAnswer}
-use Rattle.theorem_serial.proofs.Counts.StepCases.{step_cases}
-use Rattle.theorem_serial.proofs.Marks.CoreMarking.{Marking, few, at-most-one, marking-exec, marking-evict}
-use Rattle.theorem_serial.proofs.Marks.CoreMarkingTakes.{Granting, marking-back, granting}
-use Rattle.theorem_serial.proofs.Marks.CoreMarks.{stores-writes}
-use Rattle.theorem_serial.proofs.Marks.DirMarks.{Marked, Stays, MarkedBy, dir-marked, marks-grow, marks-count}
-use Rattle.theorem_serial.proofs.Serving.KeptSteps.{core_of_grant, core_of_back}
-use Rattle.theorem_serial.proofs.Serving.OwnerSteps.{grant-alone}
-use Rattle.theorem_serial.proofs.Tids.Commits.{granted-once}
-use Rattle.theorem_serial.proofs.Tids.TidSteps.{is_mine, not_mine, live-some, granted_waits}
+use Rattle.theorem_serial.proofs
+use proofs.Names
+use Names.{ℕ, ◌+◌, ◌≡◌, ◌<◌, ◌≤◌, Bool, true, false, List, ◌++◌, ◌==◌, ◌&&◌, Contains, Some, None, nat_lt, nat_le, slice_index_or, arith}
+use Names.{refl, ap, subst, ◌⊎◌, inl, inr, cases_eq, cases_lt, nat_tests, num, has_mark, Dir, Msg, TidGrant, Mark, Skip, Shape, writes_at}
+use Names.{DirState, Link, Out, sent_all, Grants, Resolves, Marks, MarkOf, EmptyMarks, Skips, live, among, passes, marks_of, MarksOf, Grant}
+use Names.{Pair, after_move, grant_taken, has_tid, opens, [], ◌∷◌, slice_set, ◌∙◌, Contains-append_left, Noted, Core, Vendor, CoreState}
+use Names.{World, in_flight, Kind, AnyResolve, has_marked, marked_by, KeptMarks, holder, KeptOwners, pair, share, after_answer, after_grant}
+use Names.{after_other_grant, part, handled, KeptTids, KeptTold, Option, IfSome, set, append-nil, Program, Local, no_lines, TidReq, Event}
+use Names.{start, core_start, dir_start, Sends, core_exec, core_evict, from_dir, grant, Answer, Waits, Drops, Asks, Takes, dir_deliver}
+use Names.{core_moves, core_takes, dir_takes, dir_asks, step, granted_by, back_taken, Kept}
+use proofs.Counts.Links.{live-sends, live-takes, live-fewer, total-le, none-taken}
+use proofs.Counts.StepCases.{pairs_move, pairs_grant, pairs_back, pairs_dir, pairs_asks, pairs_vendor, OfAnswer, step_cases}
+use proofs.Marks.CoreMarking.{Marking, few, at-most-one, marking-exec, marking-evict}
+use proofs.Marks.CoreMarkingTakes.{Granting, marking-back, granting}
+use proofs.Marks.CoreMarks.{stores-writes}
+use proofs.Marks.DirMarks.{Marked, Stays, MarkedBy, dir-marked, marks-grow, marks-count}
+use proofs.Serving.KeptSteps.{core_of_grant, core_of_back}
+use proofs.Serving.OwnerSteps.{grant-alone}
+use proofs.Tids.Commits.{granted-once}
+use proofs.Tids.TidSteps.{is_mine, not_mine, live-some, granted_waits}
 
 -- How each kind of event keeps what is known of the Marks between a core and a directory.
 one-kind : (t l : ℕ) (m : Msg) → (num (passes (MarkOf t l) m) ≤ num (passes (Marks t) m))

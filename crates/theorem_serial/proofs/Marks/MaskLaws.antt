@@ -1,20 +1,17 @@
 -- The laws on the marks of directories, from the invariants.
-use Rattle.theorem_serial.proofs.Names.{ℕ, zero, suc, ◌≡◌, ◌<◌, ◌≤◌, true, List, [], ◌∷◌, ◌==◌, Contains, Option, Some, None, IfSome}
-use Rattle.theorem_serial.proofs.Names.{length}
-use Rattle.theorem_serial.proofs.Names.{slice_index_or, nat_lt, nat_le, arith, sym, ap, subst, ◌∙◌, ◌⊎◌, inl, inr, cases_lt, nat_tests}
-use Rattle.theorem_serial.proofs.Names.{Noted}
-use Rattle.theorem_serial.proofs.Names.{num, count_below, modified_mask, has_mark, Core, Dir, Msg, Shape, lines, CoreState, World, Link}
-use Rattle.theorem_serial.proofs.Names.{start}
-use Rattle.theorem_serial.proofs.Names.{History, run, Any, Commits, CommitOf, live, passes, CountsMarks, KeptAll, Always, marks_of}
-use Rattle.theorem_serial.proofs.Names.{stores_line}
-use Rattle.theorem_serial.proofs.Names.{marked_by, KeptMarks, wrong_marks, KeptMasks, AlwaysSince, MarkedByServed, MarksOfCommits, Grant}
-use Rattle.theorem_serial.proofs.Names.{grants_from, IsRising, Pair, pair, stored_mask, stores_at, MarkedWith, KeptStored}
-use Rattle.theorem_serial.proofs.Counts.Links.{total-same, live-fewer}
-use Rattle.theorem_serial.proofs.Marks.CoreCounts.{total-num}
-use Rattle.theorem_serial.proofs.Marks.CountsKept.{none-away}
-use Rattle.theorem_serial.proofs.Marks.StoredKept.{taken-marks, one-commit}
-use Rattle.theorem_serial.proofs.Run.AllInvariants.{run-all}
-use Rattle.theorem_serial.proofs.Tids.TidSteps.{inside_from}
+use Rattle.theorem_serial.proofs
+use proofs.Names
+use Names.{ℕ, zero, suc, ◌≡◌, ◌<◌, ◌≤◌, true, List, [], ◌∷◌, ◌==◌, Contains, Option, Some, None, IfSome, length, slice_index_or, nat_lt}
+use Names.{nat_le, arith, sym, ap, subst, ◌∙◌, ◌⊎◌, inl, inr, cases_lt, nat_tests, Noted, num, count_below, modified_mask, has_mark, Core}
+use Names.{Dir, Msg, Shape, lines, CoreState, World, Link, start, History, run, Any, Commits, CommitOf, live, passes, CountsMarks, KeptAll}
+use Names.{Always, marks_of, stores_line, marked_by, KeptMarks, wrong_marks, KeptMasks, AlwaysSince, MarkedByServed, MarksOfCommits, Grant}
+use Names.{grants_from, IsRising, Pair, pair, stored_mask, stores_at, MarkedWith, KeptStored}
+use proofs.Counts.Links.{total-same, live-fewer}
+use proofs.Marks.CoreCounts.{total-num}
+use proofs.Marks.CountsKept.{none-away}
+use proofs.Marks.StoredKept.{taken-marks, one-commit}
+use proofs.Run.AllInvariants.{run-all}
+use proofs.Tids.TidSteps.{inside_from}
 
 -- a TID is that of one commit
 rising-at : (last k : ℕ) (cs : List Noted) (x : Noted) → IsRising last cs → k < length cs → slice_index_or cs k x ≡ x → last < x.tid.0

@@ -1,23 +1,20 @@
 -- The Marks that a core sends have as masks the words that it has modified, and these stay while it has its TID.
-use Rattle.theorem_serial.proofs.Names.{ℕ, ◌≡◌, ◌≤◌, Bool, true, false, List, [], ◌∷◌, ◌==◌, None, IfSome, if◌then◌else◌, arith, refl, ap}
-use Rattle.theorem_serial.proofs.Names.{◌⊎◌, inl, inr, nat_tests, Program, num, word_at, mask_of, Dir, Msg, InvAck, ProbeReply, Fill, Mark}
-use Rattle.theorem_serial.proofs.Names.{DataReq, Inv, Shape, home, Cache, modified_mask, written_lines, CoreState, Phase, Running, AwaitTid}
-use Rattle.theorem_serial.proofs.Names.{DoomedTid, Overflowing, Link, to, marks_for, Out, commit, committed_core, phase_after_commit}
-use Rattle.theorem_serial.proofs.Names.{core_exec}
-use Rattle.theorem_serial.proofs.Names.{core_evict, from_dir, probe_reply, fill, data_request, invalidate, ignored, MarkOf, MarkMask, live}
-use Rattle.theorem_serial.proofs.Names.{among, passes, has_marked, marked_by, has_tid, moves, solo_commit}
-use Rattle.theorem_serial.proofs.Counts.Links.{among-flat_map_none, among-fewer, live-fewer}
-use Rattle.theorem_serial.proofs.Tids.CoreProbing.{tid-after}
-use Rattle.theorem_serial.proofs.OneCore.Executes.{Steady, did-steady}
-use Rattle.theorem_serial.proofs.OneCore.CoreSteps.{fill-steady, data-steady, ignored-steady, Hurt, Unhurt, Rolled, Doomed, Aborted}
-use Rattle.theorem_serial.proofs.OneCore.CoreSteps.{Gave_up}
-use Rattle.theorem_serial.proofs.OneCore.CoreSteps.{Invalidated, invalidate-cases, Replied, Ignored, Probed, Left_alone, reply-cases}
-use Rattle.theorem_serial.proofs.OneCore.CoreSteps.{steady-emptied}
-use Rattle.theorem_serial.proofs.Marks.CoreMarking.{Unsaid, unsaid-quiet, unsaid-nothing, unsaid-append, acked, idle}
-use Rattle.theorem_serial.proofs.Marks.CoreMarkingTakes.{unmarked}
-use Rattle.theorem_serial.proofs.OneCore.Outcomes.{Commits_now, Did, each-exec, out, each-evict, emptied, Ends_alone, Ends_run, Room_wanted}
-use Rattle.theorem_serial.proofs.OneCore.Outcomes.{after_end}
-use Rattle.theorem_serial.proofs.OneCore.Said.{Wants, say}
+use Rattle.theorem_serial.proofs
+use proofs.Names
+use Names.{ℕ, ◌≡◌, ◌≤◌, Bool, true, false, List, [], ◌∷◌, ◌==◌, None, IfSome, if◌then◌else◌, arith, refl, ap, ◌⊎◌, inl, inr, nat_tests}
+use Names.{Program, num, word_at, mask_of, Dir, Msg, InvAck, ProbeReply, Fill, Mark, DataReq, Inv, Shape, home, Cache, modified_mask}
+use Names.{written_lines, CoreState, Phase, Running, AwaitTid, DoomedTid, Overflowing, Link, to, marks_for, Out, commit, committed_core}
+use Names.{phase_after_commit, core_exec, core_evict, from_dir, probe_reply, fill, data_request, invalidate, ignored, MarkOf, MarkMask}
+use Names.{live, among, passes, has_marked, marked_by, has_tid, moves, solo_commit}
+use proofs.Counts.Links.{among-flat_map_none, among-fewer, live-fewer}
+use proofs.Tids.CoreProbing.{tid-after}
+use proofs.OneCore.Executes.{Steady, did-steady}
+use proofs.OneCore.CoreSteps.{fill-steady, data-steady, ignored-steady, Hurt, Unhurt, Rolled, Doomed, Aborted, Gave_up, Invalidated}
+use proofs.OneCore.CoreSteps.{invalidate-cases, Replied, Ignored, Probed, Left_alone, reply-cases, steady-emptied}
+use proofs.Marks.CoreMarking.{Unsaid, unsaid-quiet, unsaid-nothing, unsaid-append, acked, idle}
+use proofs.Marks.CoreMarkingTakes.{unmarked}
+use proofs.OneCore.Outcomes.{Commits_now, Did, each-exec, out, each-evict, emptied, Ends_alone, Ends_run, Room_wanted, after_end}
+use proofs.OneCore.Said.{Wants, say}
 
 -- While a core keeps its TID, what it marks has the mask of the line's modified words, and these stay where it has marked.
 pub record Masking (sh : Shape) (d t l : ℕ) (s : CoreState) (o : Out) : Type 0 where

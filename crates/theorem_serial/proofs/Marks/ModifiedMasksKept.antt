@@ -1,28 +1,23 @@
 -- Every event keeps that the Marks of a core's TID have the words that the core has modified as their masks, and are of different lines.
 use Rattle.base_lemmas.proofs.Lemmas.{num-most}
-use Rattle.theorem_serial.proofs.Names.{ℕ, ◌+◌, ◌≡◌, ◌<◌, ◌≤◌, true, false, not, List, [], ◌==◌, ◌&&◌, Contains, Option, Some, None, IfSome}
-use Rattle.theorem_serial.proofs.Names.{nat_lt, set, arith, refl, ◌⊎◌, inl, inr, nat_tests, Noted, Program, Local, num, modified_mask}
-use Rattle.theorem_serial.proofs.Names.{has_mark}
-use Rattle.theorem_serial.proofs.Names.{Core, Dir, Vendor, Msg, TidGrant, Skip, Mark, Event, Shape, DirState, World, Link, start}
-use Rattle.theorem_serial.proofs.Names.{core_start}
-use Rattle.theorem_serial.proofs.Names.{in_flight, Sends, Out, core_exec, core_evict, from_dir, grant, Answer, Waits, Drops, Asks, Takes}
-use Rattle.theorem_serial.proofs.Names.{dir_deliver, core_moves, core_takes, dir_takes, step, Grants, MarkOf, MarkMask, live, passes}
-use Rattle.theorem_serial.proofs.Names.{marks_of}
-use Rattle.theorem_serial.proofs.Names.{marked_by, MarksOf, KeptMarks, wrong_marks, MaskedOf, KeptMasks, Grant, KeptOwners, Pair, pair}
-use Rattle.theorem_serial.proofs.Names.{after_move, grant_taken, after_answer, has_tid, Kept, KeptTold, cases_lt, no_lines, first_serving}
-use Rattle.theorem_serial.proofs.Names.{dir_start, among, OneMark}
-use Rattle.theorem_serial.proofs.Counts.Links.{live-sends, live-takes}
-use Rattle.theorem_serial.proofs.Counts.StepCases.{pairs_move, pairs_grant, pairs_back, pairs_dir, pairs_asks, pairs_vendor, OfAnswer}
-use Rattle.theorem_serial.proofs.Counts.StepCases.{step_cases}
-use Rattle.theorem_serial.proofs.Marks.CoreMarking.{Marking, marking-exec, marking-evict, few}
-use Rattle.theorem_serial.proofs.Marks.CoreMarkingTakes.{Granting, marking-back, granting}
-use Rattle.theorem_serial.proofs.Marks.ModifiedMasks.{Masking, live-masked, passes-masked, masking-exec, masking-evict, masking-back}
-use Rattle.theorem_serial.proofs.Marks.DirMarks.{Marked, Stays, MarkedBy, dir-marked, marks-grow}
-use Rattle.theorem_serial.proofs.Marks.MarksKept.{marks-granted, has-granted, is-granted, skip-unmarked, only-there, kinds, falls}
-use Rattle.theorem_serial.proofs.Marks.MarksKept.{taken-less}
-use Rattle.theorem_serial.proofs.Serving.KeptSteps.{core_of_back}
-use Rattle.theorem_serial.proofs.Serving.OwnerSteps.{grant-alone}
-use Rattle.theorem_serial.proofs.Tids.TidSteps.{granted_waits, live-some, is_mine}
+use Rattle.theorem_serial.proofs
+use proofs.Names
+use Names.{ℕ, ◌+◌, ◌≡◌, ◌<◌, ◌≤◌, true, false, not, List, [], ◌==◌, ◌&&◌, Contains, Option, Some, None, IfSome, nat_lt, set, arith, refl}
+use Names.{◌⊎◌, inl, inr, nat_tests, Noted, Program, Local, num, modified_mask, has_mark, Core, Dir, Vendor, Msg, TidGrant, Skip, Mark}
+use Names.{Event, Shape, DirState, World, Link, start, core_start, in_flight, Sends, Out, core_exec, core_evict, from_dir, grant, Answer}
+use Names.{Waits, Drops, Asks, Takes, dir_deliver, core_moves, core_takes, dir_takes, step, Grants, MarkOf, MarkMask, live, passes}
+use Names.{marks_of, marked_by, MarksOf, KeptMarks, wrong_marks, MaskedOf, KeptMasks, Grant, KeptOwners, Pair, pair, after_move}
+use Names.{grant_taken, after_answer, has_tid, Kept, KeptTold, cases_lt, no_lines, first_serving, dir_start, among, OneMark}
+use proofs.Counts.Links.{live-sends, live-takes}
+use proofs.Counts.StepCases.{pairs_move, pairs_grant, pairs_back, pairs_dir, pairs_asks, pairs_vendor, OfAnswer, step_cases}
+use proofs.Marks.CoreMarking.{Marking, marking-exec, marking-evict, few}
+use proofs.Marks.CoreMarkingTakes.{Granting, marking-back, granting}
+use proofs.Marks.ModifiedMasks.{Masking, live-masked, passes-masked, masking-exec, masking-evict, masking-back}
+use proofs.Marks.DirMarks.{Marked, Stays, MarkedBy, dir-marked, marks-grow}
+use proofs.Marks.MarksKept.{marks-granted, has-granted, is-granted, skip-unmarked, only-there, kinds, falls, taken-less}
+use proofs.Serving.KeptSteps.{core_of_back}
+use proofs.Serving.OwnerSteps.{grant-alone}
+use proofs.Tids.TidSteps.{granted_waits, live-some, is_mine}
 
 -- Every event keeps that the Marks of a core's TID have the words that the core has modified as their masks.
 

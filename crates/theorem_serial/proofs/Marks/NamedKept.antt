@@ -1,39 +1,30 @@
 -- Every event keeps that invalidations in flight name marked lines with their masks, once each.
 use Rattle.base_lemmas.proofs.Lemmas.{eq-self}
-use Rattle.theorem_serial.proofs.Names.{Contains-append_cases, flat_map-append, SparesCommitter, is_invalidated, if◌then◌else◌}
-use Rattle.theorem_serial.proofs.Names.{invalidations}
-use Rattle.theorem_serial.proofs.Names.{data_request, after_answer, probe_reply, dir_deliver, KeptCounted, grant_taken, ProbeReply}
-use Rattle.theorem_serial.proofs.Names.{invalidate}
-use Rattle.theorem_serial.proofs.Names.{core_evict, core_moves, core_takes, after_move, back_taken, append-nil, granted_by, home_words}
-use Rattle.theorem_serial.proofs.Names.{nat_tests, CoreState, in_flight, core_exec, dir_takes, KeptNamed, out_taken, flat_map, cases_eq}
-use Rattle.theorem_serial.proofs.Names.{has_mark, DirState, from_dir, InvsAway, Resolves, cases_lt, KeptTold, Contains, dir_asks, DataReq}
-use Rattle.theorem_serial.proofs.Names.{invs_to, InvMask, Program, NamedOf, handled, IfSome, nat_lt, InvAck, Answer, passes, Option, MarkOf}
-use Rattle.theorem_serial.proofs.Names.{false, arith, those, Lines, Shape, lines, Waits, Drops, Takes, InvOf, AckOf, among, subst, Local}
-use Rattle.theorem_serial.proofs.Names.{Event}
-use Rattle.theorem_serial.proofs.Names.{World, start, Sends, grant, share, Grant, zero, Bool, true, List, ◌==◌, ◌&&◌, Some, None, refl}
-use Rattle.theorem_serial.proofs.Names.{Core}
-use Rattle.theorem_serial.proofs.Names.{Fill, Mark, home, Link, fill, Asks, Invs, Acks, live, step, Pair, pair, Kept, ◌++◌, suc, ◌+◌, ◌≡◌}
-use Rattle.theorem_serial.proofs.Names.{◌≤◌}
-use Rattle.theorem_serial.proofs.Names.{◌∷◌, ◌⊎◌, inl, inr, num, Dir, Msg, Inv, Out, ◌<◌, set, sym, ◌∙◌, due, Any, [], to, ap, ℕ}
-use Rattle.theorem_serial.proofs.Counts.DirOutcome.{Outcome, Waiting, Spent, AsksOwner, TakesProbe, TakesLoad, TakesCommit, outcome}
-use Rattle.theorem_serial.proofs.Counts.DirOutcome.{none-to}
-use Rattle.theorem_serial.proofs.Counts.DirOutcome.{among-none}
-use Rattle.theorem_serial.proofs.Counts.Links.{among-append, among-flat_map_none, live-sends, live-takes, total-le, live-fewer, none-taken}
-use Rattle.theorem_serial.proofs.Counts.Links.{among-fewer}
-use Rattle.theorem_serial.proofs.Counts.StepCases.{dir-own, dir-other, pairs_move, pairs_grant, pairs_back, pairs_dir, pairs_asks}
-use Rattle.theorem_serial.proofs.Counts.StepCases.{pairs_vendor, OfAnswer, step_cases, asks-own}
-use Rattle.theorem_serial.proofs.Marks.DirMarks.{Marked, Stays, Clears, Skipped, Marks as IsMarked, MarkedBy, dir-marked}
-use Rattle.theorem_serial.proofs.Marks.MarksKept.{taken-less, is-mark}
-use Rattle.theorem_serial.proofs.Marks.OwesByCommit.{CountsMarked, OwesBy, dir-owes}
-use Rattle.theorem_serial.proofs.OneCore.CoreSteps.{fill-steady, data-steady, Invalidated, invalidate-cases, reply-cases}
-use Rattle.theorem_serial.proofs.Serving.CoreDue.{Clean, clean-hurt, clean-replied, clean-steady, CleanOut, clean-exec, clean-evict}
-use Rattle.theorem_serial.proofs.Serving.CoreDue.{clean-grant}
-use Rattle.theorem_serial.proofs.Serving.DirDue.{Due, DueBy, dir-due, still-due, none-quiet}
-use Rattle.theorem_serial.proofs.Serving.DirInvs.{Quiet}
-use Rattle.theorem_serial.proofs.Serving.KeptSteps.{core_of_out, once_at, marks_home, acks_owed, BackDue, back-due}
-use Rattle.theorem_serial.proofs.Tids.Commits.{only-one}
-use Rattle.theorem_serial.proofs.Tids.DirTids.{unserved}
-use Rattle.theorem_serial.proofs.Tids.TidSteps.{live-some}
+use Rattle.theorem_serial.proofs
+use proofs.Names.{Contains-append_cases, flat_map-append, SparesCommitter, is_invalidated, if◌then◌else◌, invalidations, data_request}
+use proofs.Names.{after_answer, probe_reply, dir_deliver, KeptCounted, grant_taken, ProbeReply, invalidate, core_evict, core_moves}
+use proofs.Names.{core_takes, after_move, back_taken, append-nil, granted_by, home_words, nat_tests, CoreState, in_flight, core_exec}
+use proofs.Names.{dir_takes, KeptNamed, out_taken, flat_map, cases_eq, has_mark, DirState, from_dir, InvsAway, Resolves, cases_lt, KeptTold}
+use proofs.Names.{Contains, dir_asks, DataReq, invs_to, InvMask, Program, NamedOf, handled, IfSome, nat_lt, InvAck, Answer, passes, Option}
+use proofs.Names.{MarkOf, false, arith, those, Lines, Shape, lines, Waits, Drops, Takes, InvOf, AckOf, among, subst, Local, Event, World}
+use proofs.Names.{start, Sends, grant, share, Grant, zero, Bool, true, List, ◌==◌, ◌&&◌, Some, None, refl, Core, Fill, Mark, home, Link}
+use proofs.Names.{fill, Asks, Invs, Acks, live, step, Pair, pair, Kept, ◌++◌, suc, ◌+◌, ◌≡◌, ◌≤◌, ◌∷◌, ◌⊎◌, inl, inr, num, Dir, Msg, Inv}
+use proofs.Names.{Out, ◌<◌, set, sym, ◌∙◌, due, Any, [], to, ap, ℕ}
+use proofs.Counts.DirOutcome.{Outcome, Waiting, Spent, AsksOwner, TakesProbe, TakesLoad, TakesCommit, outcome, none-to, among-none}
+use proofs.Counts.Links.{among-append, among-flat_map_none, live-sends, live-takes, total-le, live-fewer, none-taken, among-fewer}
+use proofs.Counts.StepCases.{dir-own, dir-other, pairs_move, pairs_grant, pairs_back, pairs_dir, pairs_asks, pairs_vendor, OfAnswer}
+use proofs.Counts.StepCases.{step_cases, asks-own}
+use proofs.Marks.DirMarks.{Marked, Stays, Clears, Skipped, Marks as IsMarked, MarkedBy, dir-marked}
+use proofs.Marks.MarksKept.{taken-less, is-mark}
+use proofs.Marks.OwesByCommit.{CountsMarked, OwesBy, dir-owes}
+use proofs.OneCore.CoreSteps.{fill-steady, data-steady, Invalidated, invalidate-cases, reply-cases}
+use proofs.Serving.CoreDue.{Clean, clean-hurt, clean-replied, clean-steady, CleanOut, clean-exec, clean-evict, clean-grant}
+use proofs.Serving.DirDue.{Due, DueBy, dir-due, still-due, none-quiet}
+use proofs.Serving.DirInvs.{Quiet}
+use proofs.Serving.KeptSteps.{core_of_out, once_at, marks_home, acks_owed, BackDue, back-due}
+use proofs.Tids.Commits.{only-one}
+use proofs.Tids.DirTids.{unserved}
+use proofs.Tids.TidSteps.{live-some}
 
 -- What nodes send of invalidations and acknowledgements, line by line.
 

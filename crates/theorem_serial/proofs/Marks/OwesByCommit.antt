@@ -1,7 +1,8 @@
 -- A directory owes more than it did only by a Commit that counts the lines that are marked.
-use Rattle.theorem_serial.proofs.Names.{ℕ, ◌≡◌, ◌≤◌, arith, refl, ◌⊎◌, inl, inr, count_below, has_mark, Msg, Commit, Shape, lines, DirState}
-use Rattle.theorem_serial.proofs.Names.{Answer, Asks, Takes, dir_deliver}
-use Rattle.theorem_serial.proofs.Counts.DirOutcome.{Outcome, Waiting, Spent, AsksOwner, TakesCommit, outcome}
+use Rattle.theorem_serial.proofs
+use proofs.Names.{ℕ, ◌≡◌, ◌≤◌, arith, refl, ◌⊎◌, inl, inr, count_below, has_mark, Msg, Commit, Shape, lines, DirState, Answer, Asks, Takes}
+use proofs.Names.{dir_deliver}
+use proofs.Counts.DirOutcome.{Outcome, Waiting, Spent, AsksOwner, TakesCommit, outcome}
 
 -- a Commit of the served TID that counts the marked lines
 abbrev pub CountsMarked : Shape → DirState → Msg → Type 0

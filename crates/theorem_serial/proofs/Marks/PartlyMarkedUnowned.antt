@@ -1,10 +1,9 @@
 -- Every event keeps that a line which is marked in part has no owner.
-use Rattle.theorem_serial.proofs.Names.{ℕ, IfSome, arith, refl, inr, nat_tests, Program, Local, no_lines, Event, Msg, Shape, DirState}
-use Rattle.theorem_serial.proofs.Names.{World}
-use Rattle.theorem_serial.proofs.Names.{start, dir_start, Answer, dir_deliver, step, WhollyOrHome, KeptWhole}
-use Rattle.theorem_serial.proofs.Counts.DirOutcome.{Outcome, Waiting, Spent, TakesAbort, TakesMark, TakesCommit, TakesAck, TakesCopy}
-use Rattle.theorem_serial.proofs.Counts.DirOutcome.{outcome}
-use Rattle.theorem_serial.proofs.Counts.StepCases.{Leaves, dirs_step}
+use Rattle.theorem_serial.proofs
+use proofs.Names.{ℕ, IfSome, arith, refl, inr, nat_tests, Program, Local, no_lines, Event, Msg, Shape, DirState, World, start, dir_start}
+use proofs.Names.{Answer, dir_deliver, step, WhollyOrHome, KeptWhole}
+use proofs.Counts.DirOutcome.{Outcome, Waiting, Spent, TakesAbort, TakesMark, TakesCommit, TakesAck, TakesCopy, outcome}
+use proofs.Counts.StepCases.{Leaves, dirs_step}
 
 dir-whole : (sh : Shape) (s : DirState) (c : ℕ) (m : Msg) → WhollyOrHome s → Leaves WhollyOrHome (dir_deliver sh s c m)
 dir-whole sh s c m h = go (outcome sh s c m)

@@ -1,19 +1,17 @@
 -- Every event keeps that a word which is marked read is valid, or its home has passed the core's TID.
-use Rattle.theorem_serial.proofs.Names.{ℕ, ◌≡◌, ◌<◌, ◌≤◌, ◌==◌, not, true, List, [], Contains, Option, Some, None, IfSome, is_some, arith}
-use Rattle.theorem_serial.proofs.Names.{◌⊎◌}
-use Rattle.theorem_serial.proofs.Names.{inl, inr, cases_eq, nat_tests, Noted, Program, Local, num, Core, Dir, Msg, Inv, Event, Shape, home}
-use Rattle.theorem_serial.proofs.Names.{empty_cache, CoreState, World, start, core_start, in_flight, Out, core_exec, core_evict, from_dir}
-use Rattle.theorem_serial.proofs.Names.{grant, Answer, Waits, Drops, Asks, Takes, dir_deliver, core_moves, core_takes, step, Invs, InvsNot}
-use Rattle.theorem_serial.proofs.Names.{passes, Kept, KeptTold, KeptCores, Grant, KeptOwners, LastGranted, SparesCommitter, holder, Pair}
-use Rattle.theorem_serial.proofs.Names.{pair}
-use Rattle.theorem_serial.proofs.Names.{IsBound, has_tid, IsPassed, ReadWords, sym, ◌∙◌}
-use Rattle.theorem_serial.proofs.Counts.StepCases.{pairs_move, pairs_grant, pairs_back, pairs_dir, pairs_asks, pairs_vendor, OfAnswer}
-use Rattle.theorem_serial.proofs.Counts.StepCases.{step_cases}
-use Rattle.theorem_serial.proofs.Marks.NamedKept.{passed-away}
-use Rattle.theorem_serial.proofs.OneCore.CoreReads.{Reading, ValidOrPassed, ReadOf, read-kept, reading-exec, reading-evict}
-use Rattle.theorem_serial.proofs.OneCore.CoreReadsTakes.{PassesTid, Admits, reading-grant, reads-back}
-use Rattle.theorem_serial.proofs.Serving.DirProbes.{RisesBy, dir-rises}
-use Rattle.theorem_serial.proofs.Tids.TidSteps.{live-some}
+use Rattle.theorem_serial.proofs
+use proofs.Names
+use Names.{ℕ, ◌≡◌, ◌<◌, ◌≤◌, ◌==◌, not, true, List, [], Contains, Option, Some, None, IfSome, is_some, arith, ◌⊎◌, inl, inr, cases_eq}
+use Names.{nat_tests, Noted, Program, Local, num, Core, Dir, Msg, Inv, Event, Shape, home, empty_cache, CoreState, World, start, core_start}
+use Names.{in_flight, Out, core_exec, core_evict, from_dir, grant, Answer, Waits, Drops, Asks, Takes, dir_deliver, core_moves, core_takes}
+use Names.{step, Invs, InvsNot, passes, Kept, KeptTold, KeptCores, Grant, KeptOwners, LastGranted, SparesCommitter, holder, Pair, pair}
+use Names.{IsBound, has_tid, IsPassed, ReadWords, sym, ◌∙◌}
+use proofs.Counts.StepCases.{pairs_move, pairs_grant, pairs_back, pairs_dir, pairs_asks, pairs_vendor, OfAnswer, step_cases}
+use proofs.Marks.NamedKept.{passed-away}
+use proofs.OneCore.CoreReads.{Reading, ValidOrPassed, ReadOf, read-kept, reading-exec, reading-evict}
+use proofs.OneCore.CoreReadsTakes.{PassesTid, Admits, reading-grant, reads-back}
+use proofs.Serving.DirProbes.{RisesBy, dir-rises}
+use proofs.Tids.TidSteps.{live-some}
 
 abbrev pub KeptReads : Shape → World → Type 0
 KeptReads sh w = (c d : ℕ) → d < sh.dirs → ReadOf sh d (w.dirs d).serving.serving (w.cores c)

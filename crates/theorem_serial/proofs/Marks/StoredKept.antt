@@ -1,44 +1,35 @@
 -- Every event keeps that a TID that commits has marked what its commit stored, also while acknowledgements of it are owed.
 use Rattle.base_lemmas.proofs.Lemmas.{num-most}
-use Rattle.theorem_serial.proofs.Names.{after_other_grant, slice_index_or, if◌then◌else◌, modified_mask, insert_commit, SettledCommit}
-use Rattle.theorem_serial.proofs.Names.{Contains}
-use Rattle.theorem_serial.proofs.Names.{after_answer, MarkedCommit, wrong_marks, grant_taken, stored_mask, count_below, dir_deliver}
-use Rattle.theorem_serial.proofs.Names.{EmptyMarks}
-use Rattle.theorem_serial.proofs.Names.{KeptCounted, after_grant, after_move, MarkedWith, core_evict, core_moves, core_takes, KeptOwners}
-use Rattle.theorem_serial.proofs.Names.{false}
-use Rattle.theorem_serial.proofs.Names.{back_taken, KeptStored, nat_tests, writes_at, and_noted, AnyCommit, marked_by, dir_start, in_flight}
-use Rattle.theorem_serial.proofs.Names.{[]}
-use Rattle.theorem_serial.proofs.Names.{core_exec, dir_takes, KeptMarks, KeptMasks, KeptCores, cases_lt, has_mark, DirState, sent_all}
-use Rattle.theorem_serial.proofs.Names.{Resolves}
-use Rattle.theorem_serial.proofs.Names.{MarkMask, marks_of, MaskedOf, StoredOf, from_dir, dir_asks, CommitOf, KeptTold, Commits, MarksOf}
-use Rattle.theorem_serial.proofs.Names.{arith}
-use Rattle.theorem_serial.proofs.Names.{Program, Option, length, nat_lt, MarkOf, passes, IfSome, TidReq, Commit, Answer, Noted, Shape}
-use Rattle.theorem_serial.proofs.Names.{among, ℕ}
-use Rattle.theorem_serial.proofs.Names.{Grant, opens, subst, Local, Event, lines, World, start, Sends, grant, Waits, Drops, Takes, zero}
-use Rattle.theorem_serial.proofs.Names.{Bool}
-use Rattle.theorem_serial.proofs.Names.{true, List, ◌++◌, Some, None, refl, Skip, Link, Kind, live, Pair, Core, Asks, step, Acks, pair}
-use Rattle.theorem_serial.proofs.Names.{Kept}
-use Rattle.theorem_serial.proofs.Names.{skip, suc, ◌+◌, ◌≡◌, ◌<◌, ◌≤◌, ◌∷◌, ◌∙◌, ◌⊎◌, inl, inr, num, Dir, Msg, Out, set, sym, ap}
-use Rattle.theorem_serial.proofs.Counts.Links.{live-sends, live-takes}
-use Rattle.theorem_serial.proofs.Counts.StepCases.{dir-own, dir-other, asks-own, pairs_move, pairs_grant, pairs_back, pairs_dir, pairs_asks}
-use Rattle.theorem_serial.proofs.Counts.StepCases.{pairs_vendor, OfAnswer, step_cases}
-use Rattle.theorem_serial.proofs.Marks.CommitMasks.{Storing, StoresAll, storing-exec, storing-evict, storing-back}
-use Rattle.theorem_serial.proofs.Serving.CoreCommits.{granted-free}
-use Rattle.theorem_serial.proofs.Marks.CoreMarking.{Marking, marking-exec, marking-evict}
-use Rattle.theorem_serial.proofs.Marks.CoreMarkingTakes.{marking-back, granting}
-use Rattle.theorem_serial.proofs.Marks.ModifiedMasks.{few-masked, passes-masked}
-use Rattle.theorem_serial.proofs.Marks.CountsKept.{none-sent, marks-stay, told-ahead, is-commit, none-away}
-use Rattle.theorem_serial.proofs.Marks.DirMarks.{Marked, Stays, MarkedBy, dir-marked}
-use Rattle.theorem_serial.proofs.Marks.MarksKept.{open-untold, taken-less, empty-one, skip-unmarked, only-there, no-request, no-empty}
-use Rattle.theorem_serial.proofs.Marks.MarksKept.{taken-back as back-marks}
-use Rattle.theorem_serial.proofs.Marks.ModifiedMasksKept.{wrong-few, wrong-falls, masked-there}
-use Rattle.theorem_serial.proofs.Marks.NamedKept.{marks-same}
-use Rattle.theorem_serial.proofs.Marks.OwesByCommit.{CountsMarked, OwesBy, dir-owes}
-use Rattle.theorem_serial.proofs.Serving.CommitOwners.{few-of}
-use Rattle.theorem_serial.proofs.Serving.CommitSteps.{ofs-resolve}
-use Rattle.theorem_serial.proofs.Serving.DirDue.{Due, DueBy, dir-due, still-due}
-use Rattle.theorem_serial.proofs.Serving.KeptSteps.{core_of_back, core_of_out, once_at, marks_home, acks_owed}
-use Rattle.theorem_serial.proofs.Tids.TidSteps.{granted_waits, live-some}
+use Rattle.theorem_serial.proofs
+use proofs.Names
+use Names.{after_other_grant, slice_index_or, if◌then◌else◌, modified_mask, insert_commit, SettledCommit, Contains, after_answer}
+use Names.{MarkedCommit, wrong_marks, grant_taken, stored_mask, count_below, dir_deliver, EmptyMarks, KeptCounted, after_grant, after_move}
+use Names.{MarkedWith, core_evict, core_moves, core_takes, KeptOwners, false, back_taken, KeptStored, nat_tests, writes_at, and_noted}
+use Names.{AnyCommit, marked_by, dir_start, in_flight, [], core_exec, dir_takes, KeptMarks, KeptMasks, KeptCores, cases_lt, has_mark}
+use Names.{DirState, sent_all, Resolves, MarkMask, marks_of, MaskedOf, StoredOf, from_dir, dir_asks, CommitOf, KeptTold, Commits, MarksOf}
+use Names.{arith, Program, Option, length, nat_lt, MarkOf, passes, IfSome, TidReq, Commit, Answer, Noted, Shape, among, ℕ, Grant, opens}
+use Names.{subst, Local, Event, lines, World, start, Sends, grant, Waits, Drops, Takes, zero, Bool, true, List, ◌++◌, Some, None, refl}
+use Names.{Skip, Link, Kind, live, Pair, Core, Asks, step, Acks, pair, Kept, skip, suc, ◌+◌, ◌≡◌, ◌<◌, ◌≤◌, ◌∷◌, ◌∙◌, ◌⊎◌, inl, inr, num}
+use Names.{Dir, Msg, Out, set, sym, ap}
+use proofs.Counts.Links.{live-sends, live-takes}
+use proofs.Counts.StepCases.{dir-own, dir-other, asks-own, pairs_move, pairs_grant, pairs_back, pairs_dir, pairs_asks, pairs_vendor}
+use proofs.Counts.StepCases.{OfAnswer, step_cases}
+use proofs.Marks.CommitMasks.{Storing, StoresAll, storing-exec, storing-evict, storing-back}
+use proofs.Serving.CoreCommits.{granted-free}
+use proofs.Marks.CoreMarking.{Marking, marking-exec, marking-evict}
+use proofs.Marks.CoreMarkingTakes.{marking-back, granting}
+use proofs.Marks.ModifiedMasks.{few-masked, passes-masked}
+use proofs.Marks.CountsKept.{none-sent, marks-stay, told-ahead, is-commit, none-away}
+use proofs.Marks.DirMarks.{Marked, Stays, MarkedBy, dir-marked}
+use proofs.Marks.MarksKept.{open-untold, taken-less, empty-one, skip-unmarked, only-there, no-request, no-empty, taken-back as back-marks}
+use proofs.Marks.ModifiedMasksKept.{wrong-few, wrong-falls, masked-there}
+use proofs.Marks.NamedKept.{marks-same}
+use proofs.Marks.OwesByCommit.{CountsMarked, OwesBy, dir-owes}
+use proofs.Serving.CommitOwners.{few-of}
+use proofs.Serving.CommitSteps.{ofs-resolve}
+use proofs.Serving.DirDue.{Due, DueBy, dir-due, still-due}
+use proofs.Serving.KeptSteps.{core_of_back, core_of_out, once_at, marks_home, acks_owed}
+use proofs.Tids.TidSteps.{granted_waits, live-some}
 
 -- How each kind of event keeps, between a core and a directory, that a Commit in flight is of a commit that stored what was marked.
 

@@ -1,14 +1,14 @@
 -- The masks of the words that an attempt's stores name are those of the words that are modified or spilled; so a core stores at a
 -- directory where its stores do.
 use Rattle.base_lemmas.proofs.Lemmas.{any_below-same, mask_of-none}
-use Rattle.theorem_serial.proofs.Names.{ℕ, zero, suc, ◌≡◌, ◌<◌, Bool, true, false, List, ◌==◌, ◌&&◌, ◌||◌, Option, None, is_some, nat_lt}
-use Rattle.theorem_serial.proofs.Names.{if◌then◌else◌, arith, refl, sym, ap, ◌∙◌, ◌⊎◌, inl, inr, nat_tests, Stored, num, any_below}
-use Rattle.theorem_serial.proofs.Names.{any_word}
-use Rattle.theorem_serial.proofs.Names.{word_at, mask_of, Shape, home, lines, Cache, is_modified, modified_mask, writes_at, Spilled, holds}
-use Rattle.theorem_serial.proofs.Names.{is_written, written_mask, solo_writes_at, Words, stores_in, stored_mask, stores_at, stores_word}
-use Rattle.theorem_serial.proofs.Names.{any_below-at, any_below-found}
-use Rattle.theorem_serial.proofs.Counts.Links.{num-same}
-use Rattle.theorem_serial.proofs.Marks.CoreMarks.{some-mask}
+use Rattle.theorem_serial.proofs
+use proofs.Names
+use Names.{ℕ, zero, suc, ◌≡◌, ◌<◌, Bool, true, false, List, ◌==◌, ◌&&◌, ◌||◌, Option, None, is_some, nat_lt, if◌then◌else◌, arith, refl}
+use Names.{sym, ap, ◌∙◌, ◌⊎◌, inl, inr, nat_tests, Stored, num, any_below, any_word, word_at, mask_of, Shape, home, lines, Cache}
+use Names.{is_modified, modified_mask, writes_at, Spilled, holds, is_written, written_mask, solo_writes_at, Words, stores_in, stored_mask}
+use Names.{stores_at, stores_word, any_below-at, any_below-found}
+use proofs.Counts.Links.{num-same}
+use proofs.Marks.CoreMarks.{some-mask}
 
 mask-any : (p : ℕ → Bool) → nat_lt 0 (mask_of p) ≡ any_below p 8
 mask-any p = go (any_below p 8) refl

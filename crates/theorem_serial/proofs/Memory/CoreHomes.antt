@@ -1,26 +1,20 @@
 -- What a core sends about lines goes to their homes, and names some word where it names words.
 use Rattle.base_lemmas.proofs.Lemmas.{and-both, eq-from}
-use Rattle.theorem_serial.proofs.Names.{ℕ, ◌%◌, ◌≡◌, ◌<◌, Bool, true, false, not, List, [], ◌∷◌, ◌++◌, ◌==◌, ◌&&◌, cond, Some, None, IfSome}
-use Rattle.theorem_serial.proofs.Names.{is_some, nat_lt, if◌then◌else◌, flat_map, arith, refl, any_below-found, nat_tests, Program, num}
-use Rattle.theorem_serial.proofs.Names.{those}
-use Rattle.theorem_serial.proofs.Names.{count_below, any_word, word_at, Dir, Msg, LoadReq, Skip, Mark, Commit, WriteBack, Flush, InvAck}
-use Rattle.theorem_serial.proofs.Names.{Shape}
-use Rattle.theorem_serial.proofs.Names.{home, lines, Cache, keeps, is_dirty, dirty_mask, dirty_copy, dirty_words, dirty_tag, is_modified}
-use Rattle.theorem_serial.proofs.Names.{modified_mask, written_lines, Spilled, holds, spilled_mask, spilled_words, CoreState, Sends}
-use Rattle.theorem_serial.proofs.Names.{to, flush_of, flush_line, write_back_line, marks_for, commit, solo_commit, solo_sends}
-use Rattle.theorem_serial.proofs.Names.{solo_marks_or_skip, solo_write_backs, solo_writes_at, is_written, written_mask, core_exec}
-use Rattle.theorem_serial.proofs.Names.{core_evict}
-use Rattle.theorem_serial.proofs.Names.{grant, from_dir, LinesAway, NoWord, among, passes}
 use Rattle.rules_tcc.specs.Sends.{write_back_of}
-use Rattle.theorem_serial.proofs.Counts.Links.{among-append}
-use Rattle.theorem_serial.proofs.Serving.CoreDue.{among-those_none}
-use Rattle.theorem_serial.proofs.Marks.CoreMarks.{some-mask, modified-full, written-full, holds-found}
-use Rattle.theorem_serial.proofs.OneCore.Said.{Aborts_all, Empties, Flushes, Marks_at, Requests, Said, Silent, Skips_all, Tells_alone}
-use Rattle.theorem_serial.proofs.OneCore.Said.{Wants}
-use Rattle.theorem_serial.proofs.OneCore.Said.{quiet, say}
-use Rattle.theorem_serial.proofs.OneCore.Outcomes.{Did, Given_none, Granted, Heard, Hurt_alone, Hurt_probing, Hurt_running, Hurt_waiting}
-use Rattle.theorem_serial.proofs.OneCore.Outcomes.{Room_wanted, Hurt_none, acked, each-back, each-evict, each-exec, each-grant, granted}
-use Rattle.theorem_serial.proofs.OneCore.Outcomes.{granted_said, heard, heard_said, out, said}
+use Rattle.theorem_serial.proofs
+use proofs.Names
+use Names.{ℕ, ◌%◌, ◌≡◌, ◌<◌, Bool, true, false, not, List, [], ◌∷◌, ◌++◌, ◌==◌, ◌&&◌, cond, Some, None, IfSome, is_some, nat_lt}
+use Names.{if◌then◌else◌, flat_map, arith, refl, any_below-found, nat_tests, Program, num, those, count_below, any_word, word_at, Dir, Msg}
+use Names.{LoadReq, Skip, Mark, Commit, WriteBack, Flush, InvAck, Shape, home, lines, Cache, keeps, is_dirty, dirty_mask, dirty_copy}
+use Names.{dirty_words, dirty_tag, is_modified, modified_mask, written_lines, Spilled, holds, spilled_mask, spilled_words, CoreState, Sends}
+use Names.{to, flush_of, flush_line, write_back_line, marks_for, commit, solo_commit, solo_sends, solo_marks_or_skip, solo_write_backs}
+use Names.{solo_writes_at, is_written, written_mask, core_exec, core_evict, grant, from_dir, LinesAway, NoWord, among, passes}
+use proofs.Counts.Links.{among-append}
+use proofs.Serving.CoreDue.{among-those_none}
+use proofs.Marks.CoreMarks.{some-mask, modified-full, written-full, holds-found}
+use proofs.OneCore.Said.{Aborts_all, Empties, Flushes, Marks_at, Requests, Said, Silent, Skips_all, Tells_alone, Wants, quiet, say}
+use proofs.OneCore.Outcomes.{Did, Given_none, Granted, Heard, Hurt_alone, Hurt_probing, Hurt_running, Hurt_waiting, Room_wanted, Hurt_none}
+use proofs.OneCore.Outcomes.{acked, each-back, each-evict, each-exec, each-grant, granted, granted_said, heard, heard_said, out, said}
 
 -- each of these messages to the directory is about a line at home there, if about any, and of some word, if of words
 pub record Homely (sh : Shape) (d : ℕ) (ms : List Msg) : Type 0 where

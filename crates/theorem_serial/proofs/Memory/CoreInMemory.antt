@@ -1,15 +1,14 @@
 -- Each of a core's rules keeps that its frames and what its attempt used lie in memory, where the next instruction's access does.
-use Rattle.theorem_serial.proofs.Names.{inl, inr, ◌⊎◌, ℕ, ◌≡◌, ◌<◌, Bool, true, false, ◌||◌, ◌==◌, List, [], ◌∷◌, ◌++◌, Option, IfSome}
-use Rattle.theorem_serial.proofs.Names.{if◌then◌else◌, arith, refl, nat_tests, Load, Stored, Program, Need, Loads, Stores, Changes, load_of}
-use Rattle.theorem_serial.proofs.Names.{word_of, line_of, Shape, set_of, lines, Cache, free_way, marked, stored, placed, placed_at}
-use Rattle.theorem_serial.proofs.Names.{committed}
-use Rattle.theorem_serial.proofs.Names.{words_dropped, CoreState, World, Out, noted, commit, committed_core, solo_commit, core_exec}
-use Rattle.theorem_serial.proofs.Names.{WordInMemory, NeedInMemory, StaysInMemory, FramesInMemory, AccessesInMemory, loads_word}
-use Rattle.theorem_serial.proofs.Names.{stores_word}
 use Rattle.rules_program.specs.Ram.{part}
-use Rattle.theorem_serial.proofs.OneCore.UsedWords.{loads_word-append, stores_word-append}
-use Rattle.theorem_serial.proofs.OneCore.Outcomes.{AccessAt, Acting, Buffers, Commits_now, Did, Ends_alone, Finds, Frames, Frames_anew}
-use Rattle.theorem_serial.proofs.OneCore.Outcomes.{Misses_anew, Reads, Storing, each-exec, out, stores-access}
+use Rattle.theorem_serial.proofs
+use proofs.Names
+use Names.{inl, inr, ◌⊎◌, ℕ, ◌≡◌, ◌<◌, Bool, true, false, ◌||◌, ◌==◌, List, [], ◌∷◌, ◌++◌, Option, IfSome, if◌then◌else◌, arith, refl}
+use Names.{nat_tests, Load, Stored, Program, Need, Loads, Stores, Changes, load_of, word_of, line_of, Shape, set_of, lines, Cache, free_way}
+use Names.{marked, stored, placed, placed_at, committed, words_dropped, CoreState, World, Out, noted, commit, committed_core, solo_commit}
+use Names.{core_exec, WordInMemory, NeedInMemory, StaysInMemory, FramesInMemory, AccessesInMemory, loads_word, stores_word}
+use proofs.OneCore.UsedWords.{loads_word-append, stores_word-append}
+use proofs.OneCore.Outcomes.{AccessAt, Acting, Buffers, Commits_now, Did, Ends_alone, Finds, Frames, Frames_anew, Misses_anew, Reads}
+use proofs.OneCore.Outcomes.{Storing, each-exec, out, stores-access}
 
 -- what a core holds lies in memory
 pub record CoreInMemory (sh : Shape) (s : CoreState) : Type 0 where

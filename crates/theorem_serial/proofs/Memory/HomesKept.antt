@@ -1,25 +1,19 @@
 -- Every event keeps that records and messages are at home.
-use Rattle.theorem_serial.proofs.Names.{ℕ, ◌%◌, ◌≡◌, ◌<◌, Bool, true, false, not, List, [], ◌∷◌, ◌++◌, ◌==◌, ◌&&◌, Option, Some, None}
-use Rattle.theorem_serial.proofs.Names.{IfSome}
-use Rattle.theorem_serial.proofs.Names.{nat_lt, if◌then◌else◌, arith, refl, inl, inr, cases_eq, nat_tests, Program, Local, num, Lines}
-use Rattle.theorem_serial.proofs.Names.{no_lines, Core, Dir, Event, Msg, Fill, ProbeReply, DataReq, Inv, Shape, home, lines, DirState}
-use Rattle.theorem_serial.proofs.Names.{World}
-use Rattle.theorem_serial.proofs.Names.{start, dir_start, in_flight, sent_all, Out, core_exec, core_evict, from_dir, grant, Sends, nothing}
-use Rattle.theorem_serial.proofs.Names.{to}
-use Rattle.theorem_serial.proofs.Names.{Answer, Waits, Drops, Asks, Takes, dir_deliver, invalidations, is_invalidated, invs_to, home_words}
-use Rattle.theorem_serial.proofs.Names.{core_moves, core_takes, dir_takes, step, IsUnknown, HomeOf, KeptHomes, LinesAway, NoWord, live}
-use Rattle.theorem_serial.proofs.Names.{among}
-use Rattle.theorem_serial.proofs.Names.{passes, Kept, Pair, pair, after_answer, out_taken}
-use Rattle.theorem_serial.proofs.Counts.DirOutcome.{Outcome, AsksOwner, TakesSkip, TakesAbort, TakesProbe, TakesLoad, TakesMark}
-use Rattle.theorem_serial.proofs.Counts.DirOutcome.{TakesCommit}
-use Rattle.theorem_serial.proofs.Counts.DirOutcome.{TakesAck, TakesCopy, Wants, ToLoad, ToMark, outcome}
-use Rattle.theorem_serial.proofs.Counts.Links.{live-sends, live-takes, none-taken}
-use Rattle.theorem_serial.proofs.Counts.StepCases.{pairs_move, pairs_grant, pairs_back, pairs_dir, pairs_asks, pairs_vendor, OfAnswer}
-use Rattle.theorem_serial.proofs.Counts.StepCases.{step_cases}
-use Rattle.theorem_serial.proofs.Memory.CoreHomes.{Homely, HomelyOut, homely-none, homely-those, homes-exec, homes-evict, homes-grant}
-use Rattle.theorem_serial.proofs.Memory.CoreHomes.{homes-back}
-use Rattle.theorem_serial.proofs.Serving.DirDue.{at-home}
-use Rattle.theorem_serial.proofs.Serving.KeptSteps.{core_of_out}
+use Rattle.theorem_serial.proofs
+use proofs.Names
+use Names.{ℕ, ◌%◌, ◌≡◌, ◌<◌, Bool, true, false, not, List, [], ◌∷◌, ◌++◌, ◌==◌, ◌&&◌, Option, Some, None, IfSome, nat_lt, if◌then◌else◌}
+use Names.{arith, refl, inl, inr, cases_eq, nat_tests, Program, Local, num, Lines, no_lines, Core, Dir, Event, Msg, Fill, ProbeReply}
+use Names.{DataReq, Inv, Shape, home, lines, DirState, World, start, dir_start, in_flight, sent_all, Out, core_exec, core_evict, from_dir}
+use Names.{grant, Sends, nothing, to, Answer, Waits, Drops, Asks, Takes, dir_deliver, invalidations, is_invalidated, invs_to, home_words}
+use Names.{core_moves, core_takes, dir_takes, step, IsUnknown, HomeOf, KeptHomes, LinesAway, NoWord, live, among, passes, Kept, Pair, pair}
+use Names.{after_answer, out_taken}
+use proofs.Counts.DirOutcome.{Outcome, AsksOwner, TakesSkip, TakesAbort, TakesProbe, TakesLoad, TakesMark, TakesCommit, TakesAck, TakesCopy}
+use proofs.Counts.DirOutcome.{Wants, ToLoad, ToMark, outcome}
+use proofs.Counts.Links.{live-sends, live-takes, none-taken}
+use proofs.Counts.StepCases.{pairs_move, pairs_grant, pairs_back, pairs_dir, pairs_asks, pairs_vendor, OfAnswer, step_cases}
+use proofs.Memory.CoreHomes.{Homely, HomelyOut, homely-none, homely-those, homes-exec, homes-evict, homes-grant, homes-back}
+use proofs.Serving.DirDue.{at-home}
+use proofs.Serving.KeptSteps.{core_of_out}
 
 -- what a directory knows is of lines at home there, and of cores that the machine has
 pub record LinesHome (sh : Shape) (d : ℕ) (ls : Lines) : Type 0 where

@@ -1,34 +1,22 @@
 -- Along every run of a program whose accesses lie in memory, frames and what was loaded and stored lie there too.
-use Rattle.theorem_serial.proofs.Names.{ready_once_replied, solo_once_replied, violated_in_phase, words_invalidated, AccessesInMemory}
-use Rattle.theorem_serial.proofs.Names.{AwaitTid}
-use Rattle.theorem_serial.proofs.Names.{write_back_line, CommitsInMemory, grant_in_phase, reply_in_phase, if◌then◌else◌, StaysInMemory}
-use Rattle.theorem_serial.proofs.Names.{DataReq}
-use Rattle.theorem_serial.proofs.Names.{read_cleared, evicted_line, fill_awaited, data_request, acknowledged, vendor_gives, next_history}
-use Rattle.theorem_serial.proofs.Names.{false}
-use Rattle.theorem_serial.proofs.Names.{invalidated, rolled_back, Overflowing, probe_reply, all_replied, if_violated, is_violated}
-use Rattle.theorem_serial.proofs.Names.{dir_deliver}
-use Rattle.theorem_serial.proofs.Names.{empty_cache, first_state, ProbeReply, spill_line, core_evict, evict_line, is_awaited, invalidate}
-use Rattle.theorem_serial.proofs.Names.{Shape}
-use Rattle.theorem_serial.proofs.Names.{core_moves, core_takes, core_start, nat_tests, is_marked, CoreState, DoomedTid, marks_for}
-use Rattle.theorem_serial.proofs.Names.{roll_back, ℕ}
-use Rattle.theorem_serial.proofs.Names.{core_exec, in_flight, dir_takes, KeptCores, and_noted, from_dir, DirState, sent_all, Contains}
-use Rattle.theorem_serial.proofs.Names.{dir_asks}
-use Rattle.theorem_serial.proofs.Names.{recorded, and_then, run_from, cleaned, evicted, Awaited, Running, Probing, nothing, is_solo}
-use Rattle.theorem_serial.proofs.Names.{ignored}
-use Rattle.theorem_serial.proofs.Names.{replied, Program, Stepped, History, Option, IfSome, filled, Halted, Answer, CopyOf, Cache, Phase}
-use Rattle.theorem_serial.proofs.Names.{Ready}
-use Rattle.theorem_serial.proofs.Names.{moves, grant, arith, Local, Event, lines, World, start, Waits, Drops, Takes, Sends, subst, Noted}
-use Rattle.theorem_serial.proofs.Names.{Bool}
-use Rattle.theorem_serial.proofs.Names.{true, ◌&&◌, ◌||◌, ◌==◌, List, Some, None, refl, Fill, Solo, fill, ◌++◌, Core, Asks, step, live}
-use Rattle.theorem_serial.proofs.Names.{Pair}
-use Rattle.theorem_serial.proofs.Names.{pair, ◌≡◌, not, Dir, Msg, Inv, ◌≤◌, Out, ◌∷◌, ◌⊎◌, inl, inr, run, to, []}
-use Rattle.theorem_serial.proofs.Counts.Links.{live-sends, live-takes}
-use Rattle.theorem_serial.proofs.Counts.StepCases.{pairs_move, pairs_grant, pairs_back, pairs_dir, pairs_asks, pairs_vendor, OfAnswer}
-use Rattle.theorem_serial.proofs.Counts.StepCases.{step_cases}
-use Rattle.theorem_serial.proofs.Memory.CoreInMemory.{CoreInMemory, OutInMemory, same-memory, nothing-used, CoresInMemory, exec-memory}
-use Rattle.theorem_serial.proofs.Memory.MemorySends.{SendsInMemory, exec-sends, evict-sends, grant-sent, back-sends}
-use Rattle.theorem_serial.proofs.OneCore.CoreAlone.{step-cores, start-cores}
-use Rattle.theorem_serial.proofs.Tids.Commits.{inserted}
+use Rattle.theorem_serial.proofs
+use proofs.Names
+use Names.{ready_once_replied, solo_once_replied, violated_in_phase, words_invalidated, AccessesInMemory, AwaitTid, write_back_line}
+use Names.{CommitsInMemory, grant_in_phase, reply_in_phase, if◌then◌else◌, StaysInMemory, DataReq, read_cleared, evicted_line, fill_awaited}
+use Names.{data_request, acknowledged, vendor_gives, next_history, false, invalidated, rolled_back, Overflowing, probe_reply, all_replied}
+use Names.{if_violated, is_violated, dir_deliver, empty_cache, first_state, ProbeReply, spill_line, core_evict, evict_line, is_awaited}
+use Names.{invalidate, Shape, core_moves, core_takes, core_start, nat_tests, is_marked, CoreState, DoomedTid, marks_for, roll_back, ℕ}
+use Names.{core_exec, in_flight, dir_takes, KeptCores, and_noted, from_dir, DirState, sent_all, Contains, dir_asks, recorded, and_then}
+use Names.{run_from, cleaned, evicted, Awaited, Running, Probing, nothing, is_solo, ignored, replied, Program, Stepped, History, Option}
+use Names.{IfSome, filled, Halted, Answer, CopyOf, Cache, Phase, Ready, moves, grant, arith, Local, Event, lines, World, start, Waits}
+use Names.{Drops, Takes, Sends, subst, Noted, Bool, true, ◌&&◌, ◌||◌, ◌==◌, List, Some, None, refl, Fill, Solo, fill, ◌++◌, Core, Asks}
+use Names.{step, live, Pair, pair, ◌≡◌, not, Dir, Msg, Inv, ◌≤◌, Out, ◌∷◌, ◌⊎◌, inl, inr, run, to, []}
+use proofs.Counts.Links.{live-sends, live-takes}
+use proofs.Counts.StepCases.{pairs_move, pairs_grant, pairs_back, pairs_dir, pairs_asks, pairs_vendor, OfAnswer, step_cases}
+use proofs.Memory.CoreInMemory.{CoreInMemory, OutInMemory, same-memory, nothing-used, CoresInMemory, exec-memory}
+use proofs.Memory.MemorySends.{SendsInMemory, exec-sends, evict-sends, grant-sent, back-sends}
+use proofs.OneCore.CoreAlone.{step-cores, start-cores}
+use proofs.Tids.Commits.{inserted}
 
 -- Evict and messages keep that a core's frames and what its attempt used lie in memory.
 evicted-frames : (x y : ℕ) (c : Cache) (k : ℕ) → (evicted x y c).held k ≡ true → c.held k ≡ true

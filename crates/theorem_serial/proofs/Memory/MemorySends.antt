@@ -1,25 +1,20 @@
 -- A core whose frames are of lines of memory sends words home of such lines alone; and what lies in memory is found at its home.
-use Rattle.theorem_serial.proofs.Names.{ℕ, suc, ◌≡◌, ◌<◌, ◌==◌, ◌&&◌, ◌||◌, Bool, true, false, List, [], ◌∷◌, is_some, arith, refl, sym}
-use Rattle.theorem_serial.proofs.Names.{◌∙◌}
-use Rattle.theorem_serial.proofs.Names.{nat_tests, Noted, Stored, any_below, any_word, line_of, place_of, word_at, Shape, home, lines}
-use Rattle.theorem_serial.proofs.Names.{is_modified, writes_at, reads_at, any_below-found, any_below-at, AccessesAtHomes, MarksAtHomes}
-use Rattle.theorem_serial.proofs.Names.{WrittenInMemory, WordInMemory, CommitsInMemory, stores_at, loads_word, stores_word, loads_at}
-use Rattle.theorem_serial.proofs.Names.{names_line, wrote, wrote_line, zero, ◌≤◌, ◌++◌, cond, Some, None, IfSome, nat_lt, if◌then◌else◌}
-use Rattle.theorem_serial.proofs.Names.{flat_map, flat_map-append, Program, those, count_below, Dir, Msg, Skip, Mark, Commit, WriteBack}
-use Rattle.theorem_serial.proofs.Names.{Cache}
-use Rattle.theorem_serial.proofs.Names.{IsCache, is_dirty, dirty_mask, dirty_copy, dirty_words, dirty_tag, Spilled, holds, spilled_mask}
-use Rattle.theorem_serial.proofs.Names.{spilled_words, CoreState, Sends, nothing, flush_of, flush_line, write_back_line, commit}
-use Rattle.theorem_serial.proofs.Names.{solo_commit}
-use Rattle.theorem_serial.proofs.Names.{solo_sends, solo_marks_or_skip, solo_write_backs, solo_writes_at, is_written, written_mask}
-use Rattle.theorem_serial.proofs.Names.{core_exec}
-use Rattle.theorem_serial.proofs.Names.{core_evict, grant, from_dir, CopyOf, among, passes, FramesInMemory}
 use Rattle.rules_tcc.specs.Sends.{write_back_of}
-use Rattle.theorem_serial.proofs.Counts.Links.{among-append, among-flat_map_none}
-use Rattle.theorem_serial.proofs.Marks.StoredMasks.{stored-any, stored-line}
-use Rattle.theorem_serial.proofs.OneCore.Said.{Empties, Flushes, Said, Tells_alone, Wants, quiet, say}
-use Rattle.theorem_serial.proofs.OneCore.Outcomes.{Did, Given_none, Granted, Hands_out, Heard, Room_wanted, each-back, each-evict}
-use Rattle.theorem_serial.proofs.OneCore.Outcomes.{each-exec}
-use Rattle.theorem_serial.proofs.OneCore.Outcomes.{each-grant, granted, granted_said, heard, heard-quiet, out, said}
+use Rattle.theorem_serial.proofs
+use proofs.Names
+use Names.{ℕ, suc, ◌≡◌, ◌<◌, ◌==◌, ◌&&◌, ◌||◌, Bool, true, false, List, [], ◌∷◌, is_some, arith, refl, sym, ◌∙◌, nat_tests, Noted, Stored}
+use Names.{any_below, any_word, line_of, place_of, word_at, Shape, home, lines, is_modified, writes_at, reads_at, any_below-found}
+use Names.{any_below-at, AccessesAtHomes, MarksAtHomes, WrittenInMemory, WordInMemory, CommitsInMemory, stores_at, loads_word, stores_word}
+use Names.{loads_at, names_line, wrote, wrote_line, zero, ◌≤◌, ◌++◌, cond, Some, None, IfSome, nat_lt, if◌then◌else◌, flat_map}
+use Names.{flat_map-append, Program, those, count_below, Dir, Msg, Skip, Mark, Commit, WriteBack, Cache, IsCache, is_dirty, dirty_mask}
+use Names.{dirty_copy, dirty_words, dirty_tag, Spilled, holds, spilled_mask, spilled_words, CoreState, Sends, nothing, flush_of, flush_line}
+use Names.{write_back_line, commit, solo_commit, solo_sends, solo_marks_or_skip, solo_write_backs, solo_writes_at, is_written, written_mask}
+use Names.{core_exec, core_evict, grant, from_dir, CopyOf, among, passes, FramesInMemory}
+use proofs.Counts.Links.{among-append, among-flat_map_none}
+use proofs.Marks.StoredMasks.{stored-any, stored-line}
+use proofs.OneCore.Said.{Empties, Flushes, Said, Tells_alone, Wants, quiet, say}
+use proofs.OneCore.Outcomes.{Did, Given_none, Granted, Hands_out, Heard, Room_wanted, each-back, each-evict, each-exec, each-grant, granted}
+use proofs.OneCore.Outcomes.{granted_said, heard, heard-quiet, out, said}
 
 -- What lies in memory is found at its home.
 

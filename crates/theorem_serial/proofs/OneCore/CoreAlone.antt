@@ -1,16 +1,14 @@
 -- Every event keeps what holds of each core by itself, and so does every run.
-use Rattle.theorem_serial.proofs.Names.{ℕ, ◌==◌, true, false, List, [], ◌∷◌, Option, Some, None, IfSome, if◌then◌else◌, refl, Program}
-use Rattle.theorem_serial.proofs.Names.{Local}
-use Rattle.theorem_serial.proofs.Names.{Dir, Event, Shape, empty_cache, none_spilled, empty-keeps, CoreState, World, start, core_start, Out}
-use Rattle.theorem_serial.proofs.Names.{core_exec, core_evict, from_dir, grant, Answer, Waits, dir_deliver, core_moves, core_takes}
-use Rattle.theorem_serial.proofs.Names.{dir_takes}
-use Rattle.theorem_serial.proofs.Names.{dir_asks, vendor_gives, Stepped, step, History, and_noted, recorded, next_history, and_then}
-use Rattle.theorem_serial.proofs.Names.{run_from}
-use Rattle.theorem_serial.proofs.Names.{run, OneCore, KeptCores, Always}
-use Rattle.theorem_serial.proofs.Counts.StepCases.{OfAnswer, step_cases}
-use Rattle.theorem_serial.proofs.OneCore.WordsKept.{words-none}
-use Rattle.theorem_serial.proofs.OneCore.OneCoreExec.{exec_one}
-use Rattle.theorem_serial.proofs.OneCore.OneCoreTakes.{evict_one, grant_one, back_one}
+use Rattle.theorem_serial.proofs
+use proofs.Names
+use Names.{ℕ, ◌==◌, true, false, List, [], ◌∷◌, Option, Some, None, IfSome, if◌then◌else◌, refl, Program, Local, Dir, Event, Shape}
+use Names.{empty_cache, none_spilled, empty-keeps, CoreState, World, start, core_start, Out, core_exec, core_evict, from_dir, grant, Answer}
+use Names.{Waits, dir_deliver, core_moves, core_takes, dir_takes, dir_asks, vendor_gives, Stepped, step, History, and_noted, recorded}
+use Names.{next_history, and_then, run_from, run, OneCore, KeptCores, Always}
+use proofs.Counts.StepCases.{OfAnswer, step_cases}
+use proofs.OneCore.WordsKept.{words-none}
+use proofs.OneCore.OneCoreExec.{exec_one}
+use proofs.OneCore.OneCoreTakes.{evict_one, grant_one, back_one}
 
 -- one core has changed
 put_one : (sh : Shape) (w : World) (c : ℕ) (s : CoreState) → KeptCores sh w → OneCore sh s → (j : ℕ)

@@ -1,17 +1,13 @@
 -- What a core's step does to its load requests and to the line that it awaits.
-use Rattle.theorem_serial.proofs.Names.{ℕ, ◌+◌, ◌≡◌, ◌≤◌, Bool, false, List, [], ◌∷◌, ◌==◌, ◌&&◌, Option, Some, None, IfSome}
-use Rattle.theorem_serial.proofs.Names.{if◌then◌else◌, arith, refl, nat_tests, Program, word_of, num, line_of, Dir, Msg, LoadReq, Fill, Inv}
-use Rattle.theorem_serial.proofs.Names.{Shape, home, CoreState, Awaited, nothing, Out, moves, commit, committed_core, solo_commit}
-use Rattle.theorem_serial.proofs.Names.{core_exec}
-use Rattle.theorem_serial.proofs.Names.{core_evict, is_awaited, grant, from_dir, staled, LoadOf, FillOf, among, passes}
-use Rattle.theorem_serial.proofs.OneCore.Said.{Empties, Requests, Silent, quiet, say}
-use Rattle.theorem_serial.proofs.OneCore.Outcomes.{Did, Fills, Fills_none, Given_none, Granted, Heard, Hurt_alone, Hurt_probing}
-use Rattle.theorem_serial.proofs.OneCore.Outcomes.{Hurt_running}
-use Rattle.theorem_serial.proofs.OneCore.Outcomes.{Hurt_waiting, Ignores_fill, Misses, Misses_anew, Hurt_none, awaiting, each-back}
-use Rattle.theorem_serial.proofs.OneCore.Outcomes.{each-evict}
-use Rattle.theorem_serial.proofs.OneCore.Outcomes.{each-exec, each-grant, emptied, given, granted, granted_said, heard, heard-quiet}
-use Rattle.theorem_serial.proofs.OneCore.Outcomes.{message}
-use Rattle.theorem_serial.proofs.OneCore.Outcomes.{out, said}
+use Rattle.theorem_serial.proofs
+use proofs.Names
+use Names.{ℕ, ◌+◌, ◌≡◌, ◌≤◌, Bool, false, List, [], ◌∷◌, ◌==◌, ◌&&◌, Option, Some, None, IfSome, if◌then◌else◌, arith, refl, nat_tests}
+use Names.{Program, word_of, num, line_of, Dir, Msg, LoadReq, Fill, Inv, Shape, home, CoreState, Awaited, nothing, Out, moves, commit}
+use Names.{committed_core, solo_commit, core_exec, core_evict, is_awaited, grant, from_dir, staled, LoadOf, FillOf, among, passes}
+use proofs.OneCore.Said.{Empties, Requests, Silent, quiet, say}
+use proofs.OneCore.Outcomes.{Did, Fills, Fills_none, Given_none, Granted, Heard, Hurt_alone, Hurt_probing, Hurt_running, Hurt_waiting}
+use proofs.OneCore.Outcomes.{Ignores_fill, Misses, Misses_anew, Hurt_none, awaiting, each-back, each-evict, each-exec, each-grant, emptied}
+use proofs.OneCore.Outcomes.{given, granted, granted_said, heard, heard-quiet, message, out, said}
 
 -- the core awaits the line, whose home is the directory
 abbrev pub awaits_at : Shape → (dir line : ℕ) → Option Awaited → ℕ

@@ -1,13 +1,12 @@
 -- A core's event leaves its checkpoint and its end, or commits an attempt that the plain machine gives over its view.
-use Rattle.theorem_serial.proofs.Names.{arith, ◌+◌, ℕ, suc, ◌≡◌, Option, Some, None, IfSome, IsSomeAnd, refl, subst, ◌⊎◌, inl, inr, Attempt}
-use Rattle.theorem_serial.proofs.Names.{Goes, begun, steps, then_step, when_going, plain_step, Program, Need, Ends, Halts, Traps, Shape}
-use Rattle.theorem_serial.proofs.Names.{CoreState, Ready, Solo, Out, finished, one_more_instruction, noted, commit, committed_core}
-use Rattle.theorem_serial.proofs.Names.{solo_commit}
-use Rattle.theorem_serial.proofs.Names.{phase_after_commit}
-use Rattle.theorem_serial.proofs.Names.{ended_after_commit, core_exec, Uses, Agrees, IsSmall, Reaches, EndFits, HasEnded, FollowsIn}
-use Rattle.theorem_serial.proofs.Names.{end_after}
 use Rattle.theorem_attempt.specs.Follows.{Follows}
-use Rattle.theorem_serial.proofs.OneCore.Outcomes.{Commits_now, Did, Ends_alone, Ends_run, IsEnd, Room_wanted, after_end, each-exec, out}
+use Rattle.theorem_serial.proofs
+use proofs.Names
+use Names.{arith, ◌+◌, ℕ, suc, ◌≡◌, Option, Some, None, IfSome, IsSomeAnd, refl, subst, ◌⊎◌, inl, inr, Attempt, Goes, begun, steps}
+use Names.{then_step, when_going, plain_step, Program, Need, Ends, Halts, Traps, Shape, CoreState, Ready, Solo, Out, finished}
+use Names.{one_more_instruction, noted, commit, committed_core, solo_commit, phase_after_commit, ended_after_commit, core_exec, Uses}
+use Names.{Agrees, IsSmall, Reaches, EndFits, HasEnded, FollowsIn, end_after}
+use proofs.OneCore.Outcomes.{Commits_now, Did, Ends_alone, Ends_run, IsEnd, Room_wanted, after_end, each-exec, out}
 
 -- how the plain machine's transaction leaves the core
 pub record Gives (r : CoreState) (a : Attempt) : Type 0 where

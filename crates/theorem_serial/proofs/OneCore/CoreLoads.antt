@@ -1,15 +1,15 @@
 -- Each of a core's rules keeps that the words which its attempt loaded are marked read or modified, unless it is alone.
-use Rattle.theorem_serial.proofs.Names.{solo_commit, ℕ, ◌≡◌, Bool, true, false, ◌||◌, ◌==◌, [], ◌∷◌, ◌++◌, Some, IfSome, is_some, arith}
-use Rattle.theorem_serial.proofs.Names.{refl}
-use Rattle.theorem_serial.proofs.Names.{◌∙◌, ◌⊎◌, inl, inr, nat_tests, Load, Program, load_of, word_of, line_of, Shape, Cache, is_marked}
-use Rattle.theorem_serial.proofs.Names.{marked, stored, placed, CoreState, Phase, is_running, is_solo, commit, committed_core}
-use Rattle.theorem_serial.proofs.Names.{core_exec, core_evict, OneCore, loads_word, LoadsMarked}
 use Rattle.rules_program.specs.Ram.{part}
-use Rattle.theorem_serial.proofs.OneCore.CoreSteps.{evicted-modified}
-use Rattle.theorem_serial.proofs.OneCore.UsedWords.{loads_word-append}
-use Rattle.theorem_serial.proofs.OneCore.WordsKept.{placed-marks}
-use Rattle.theorem_serial.proofs.OneCore.Outcomes.{Acts, Buffers, Commits_now, Did, Ends_alone, Ends_run, Finds, Frames, Frames_anew}
-use Rattle.theorem_serial.proofs.OneCore.Outcomes.{Misses_anew, Reads, Room_wanted, Storing, each-evict, each-exec, emptied, out}
+use Rattle.theorem_serial.proofs
+use proofs.Names
+use Names.{solo_commit, ℕ, ◌≡◌, Bool, true, false, ◌||◌, ◌==◌, [], ◌∷◌, ◌++◌, Some, IfSome, is_some, arith, refl, ◌∙◌, ◌⊎◌, inl, inr}
+use Names.{nat_tests, Load, Program, load_of, word_of, line_of, Shape, Cache, is_marked, marked, stored, placed, CoreState, Phase}
+use Names.{is_running, is_solo, commit, committed_core, core_exec, core_evict, OneCore, loads_word, LoadsMarked}
+use proofs.OneCore.CoreSteps.{evicted-modified}
+use proofs.OneCore.UsedWords.{loads_word-append}
+use proofs.OneCore.WordsKept.{placed-marks}
+use proofs.OneCore.Outcomes.{Acts, Buffers, Commits_now, Did, Ends_alone, Ends_run, Finds, Frames, Frames_anew, Misses_anew, Reads}
+use proofs.OneCore.Outcomes.{Room_wanted, Storing, each-evict, each-exec, emptied, out}
 
 -- the word is marked read or modified
 abbrev pub touched : Cache → ℕ → Bool

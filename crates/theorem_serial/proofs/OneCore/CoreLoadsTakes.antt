@@ -1,9 +1,9 @@
 -- Each message keeps that the words which a core's attempt loaded are marked read or modified, unless it is alone.
-use Rattle.theorem_serial.proofs.Names.{invalidated, filled, cleaned, ℕ, IfSome, refl, Msg, Shape, CoreState, grant, from_dir, LoadsMarked}
-use Rattle.theorem_serial.proofs.OneCore.CoreLoads.{Loading, Empty, Alone_now, loads-marked, kept, either-way}
-use Rattle.theorem_serial.proofs.OneCore.Outcomes.{Last_probing, Last_room, Given, Given_doomed, Given_none, Given_room, Granted, Heard}
-use Rattle.theorem_serial.proofs.OneCore.Outcomes.{Hurt_alone, Hurt_probing, Hurt_running, Hurt_waiting, each-back, each-grant, granted}
-use Rattle.theorem_serial.proofs.OneCore.Outcomes.{heard}
+use Rattle.theorem_serial.proofs
+use proofs.Names.{invalidated, filled, cleaned, ℕ, IfSome, refl, Msg, Shape, CoreState, grant, from_dir, LoadsMarked}
+use proofs.OneCore.CoreLoads.{Loading, Empty, Alone_now, loads-marked, kept, either-way}
+use proofs.OneCore.Outcomes.{Last_probing, Last_room, Given, Given_doomed, Given_none, Given_room, Granted, Heard, Hurt_alone, Hurt_probing}
+use proofs.OneCore.Outcomes.{Hurt_running, Hurt_waiting, each-back, each-grant, granted, heard}
 
 pub loads-grant : (sh : Shape) (u : ℕ) (s : CoreState) → LoadsMarked sh s → LoadsMarked sh (grant sh u s).core
 loads-grant sh u s k = each-grant sh u s (λ o. LoadsMarked sh o.core) (λ x. loads-marked sh s (granted x).core k (go x))

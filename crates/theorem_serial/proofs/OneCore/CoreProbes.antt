@@ -1,19 +1,16 @@
 -- What a core's rules do to what it knows of the directories that it asked.
-use Rattle.theorem_serial.proofs.Names.{ℕ, ◌≡◌, ◌<◌, ◌≤◌, Bool, true, false, ◌==◌, ◌&&◌, ◌||◌, Option, Some, None, IfSome, nat_lt}
-use Rattle.theorem_serial.proofs.Names.{if◌then◌else◌, arith, refl, sym, ap₂, ◌∙◌, nat_tests, put, Program, Outcome, HaltedWith}
-use Rattle.theorem_serial.proofs.Names.{TrappedWith}
-use Rattle.theorem_serial.proofs.Names.{any_below, any_below-at, Msg, Fill, ProbeReply, DataReq, Inv, Shape, Cache, writes_at, reads_at}
-use Rattle.theorem_serial.proofs.Names.{CoreState, Phase, Running, AwaitTid, DoomedTid, Probing, Ready, Overflowing, Solo, Halted, Out}
-use Rattle.theorem_serial.proofs.Names.{commit}
-use Rattle.theorem_serial.proofs.Names.{committed_core, phase_after_commit, core_exec, core_evict, grant, grant_in_phase, from_dir}
-use Rattle.theorem_serial.proofs.Names.{probing_or_ready, is_probed, probe_reply, all_replied, fill, data_request, invalidate, RepliesAbove}
-use Rattle.theorem_serial.proofs.Names.{passes, tid_of, asks_dir, may_commit, Reached, solo_commit}
-use Rattle.theorem_serial.proofs.OneCore.Executes.{Steady, did-steady}
-use Rattle.theorem_serial.proofs.OneCore.CoreSteps.{reads_at-same, fill-steady, data-steady, Hurt, Unhurt, Rolled, Doomed, Aborted, Gave_up}
-use Rattle.theorem_serial.proofs.OneCore.CoreSteps.{Invalidated, invalidate-cases, Replied, Ignored, Probed, Left_alone, reply-cases}
-use Rattle.theorem_serial.proofs.OneCore.CoreSteps.{steady-emptied}
-use Rattle.theorem_serial.proofs.OneCore.Outcomes.{Acts, Commits_now, Did, each-exec, out, each-evict, emptied, writes_at-same, Ends_alone}
-use Rattle.theorem_serial.proofs.OneCore.Outcomes.{Ends_run, Room_wanted}
+use Rattle.theorem_serial.proofs
+use proofs.Names
+use Names.{ℕ, ◌≡◌, ◌<◌, ◌≤◌, Bool, true, false, ◌==◌, ◌&&◌, ◌||◌, Option, Some, None, IfSome, nat_lt, if◌then◌else◌, arith, refl, sym, ap₂}
+use Names.{◌∙◌, nat_tests, put, Program, Outcome, HaltedWith, TrappedWith, any_below, any_below-at, Msg, Fill, ProbeReply, DataReq, Inv}
+use Names.{Shape, Cache, writes_at, reads_at, CoreState, Phase, Running, AwaitTid, DoomedTid, Probing, Ready, Overflowing, Solo, Halted}
+use Names.{Out, commit, committed_core, phase_after_commit, core_exec, core_evict, grant, grant_in_phase, from_dir, probing_or_ready}
+use Names.{is_probed, probe_reply, all_replied, fill, data_request, invalidate, RepliesAbove, passes, tid_of, asks_dir, may_commit, Reached}
+use Names.{solo_commit}
+use proofs.OneCore.Executes.{Steady, did-steady}
+use proofs.OneCore.CoreSteps.{reads_at-same, fill-steady, data-steady, Hurt, Unhurt, Rolled, Doomed, Aborted, Gave_up, Invalidated}
+use proofs.OneCore.CoreSteps.{invalidate-cases, Replied, Ignored, Probed, Left_alone, reply-cases, steady-emptied}
+use proofs.OneCore.Outcomes.{Acts, Commits_now, Did, each-exec, out, each-evict, emptied, writes_at-same, Ends_alone, Ends_run, Room_wanted}
 
 -- a core in this phase asks none
 pub none-asked : (sh : Shape) (d x : ℕ) (s : CoreState) (q : Phase) → s.phase ≡ q → ((b : Bool) → asks_dir q b ≡ false)

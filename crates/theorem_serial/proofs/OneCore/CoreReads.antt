@@ -1,13 +1,12 @@
 -- What each of a core's rules does to the words that are marked read: they are valid, or as they were, or their marks are cleared.
-use Rattle.theorem_serial.proofs.Names.{ℕ, ◌≡◌, ◌<◌, Bool, true, false, not, ◌||◌, ◌==◌, Option, Some, None, IfSome, is_some, if◌then◌else◌}
-use Rattle.theorem_serial.proofs.Names.{arith, refl, sym, subst, ◌∙◌, ◌⊎◌, inl, inr, nat_tests, Program, word_of, line_of, Shape, home}
-use Rattle.theorem_serial.proofs.Names.{Cache}
-use Rattle.theorem_serial.proofs.Names.{marked, stored, placed, evicted, evicted_line, committed, value-placed, read-placed, CoreState}
-use Rattle.theorem_serial.proofs.Names.{Phase}
-use Rattle.theorem_serial.proofs.Names.{Running, commit, committed_core, solo_commit, core_exec, core_evict, has_tid}
-use Rattle.theorem_serial.proofs.OneCore.Outcomes.{Commits_now, Did, Ends_alone, Ends_run, Frames, Frames_anew, Misses_anew, Reads}
-use Rattle.theorem_serial.proofs.OneCore.Outcomes.{Room_wanted}
-use Rattle.theorem_serial.proofs.OneCore.Outcomes.{each-evict, each-exec, out}
+use Rattle.theorem_serial.proofs
+use proofs.Names
+use Names.{ℕ, ◌≡◌, ◌<◌, Bool, true, false, not, ◌||◌, ◌==◌, Option, Some, None, IfSome, is_some, if◌then◌else◌, arith, refl, sym, subst}
+use Names.{◌∙◌, ◌⊎◌, inl, inr, nat_tests, Program, word_of, line_of, Shape, home, Cache, marked, stored, placed, evicted, evicted_line}
+use Names.{committed, value-placed, read-placed, CoreState, Phase, Running, commit, committed_core, solo_commit, core_exec, core_evict}
+use Names.{has_tid}
+use proofs.OneCore.Outcomes.{Commits_now, Did, Ends_alone, Ends_run, Frames, Frames_anew, Misses_anew, Reads, Room_wanted, each-evict}
+use proofs.OneCore.Outcomes.{each-exec, out}
 
 -- a word that is marked read in the cache d is valid there, or it is marked and valid in d as it was in c
 abbrev pub StillRead : (c d : Cache) → (word : ℕ) → Type 0

@@ -1,19 +1,16 @@
 -- What each message to a core does to the words that are marked read.
 use Rattle.base_lemmas.proofs.Lemmas.{hit-line}
-use Rattle.theorem_serial.proofs.Names.{put, inl, inr, filled, cleaned, invalidated, OneCore, ℕ, ◌≡◌, ◌<◌, ◌≤◌, Bool, true, false, not}
-use Rattle.theorem_serial.proofs.Names.{◌&&◌}
-use Rattle.theorem_serial.proofs.Names.{◌==◌, List, Some, None, IfSome, is_some, unwrap_or, get_or, if◌then◌else◌, arith, refl, ◌⊎◌}
-use Rattle.theorem_serial.proofs.Names.{nat_tests}
-use Rattle.theorem_serial.proofs.Names.{line_of, place_of, hit, Msg, Inv, Shape, home, Cache, rolled_back, read_cleared, CoreState, Phase}
-use Rattle.theorem_serial.proofs.Names.{AwaitTid, DoomedTid, Probing, Ready, Overflowing, Solo, grant, is_violated, may_be_above}
-use Rattle.theorem_serial.proofs.Names.{words_invalidated, from_dir, has_tid, hit-reads}
 use Rattle.rules_maps.specs.CacheLook.{reads_masked}
-use Rattle.theorem_serial.proofs.OneCore.CoreReads.{StillRead, Reading, ValidOrPassed, ReadOf, read-kept, reads-same, as-before, tid-kept}
-use Rattle.theorem_serial.proofs.OneCore.CoreReads.{no-tid}
-use Rattle.theorem_serial.proofs.OneCore.Outcomes.{Last_probing, Last_room, Fills, Given, Given_doomed, Given_none, Given_room, Granted}
-use Rattle.theorem_serial.proofs.OneCore.Outcomes.{Hands_out, Heard, Hurt_alone, Hurt_probing, Hurt_running, Hurt_waiting, Hurt_none}
-use Rattle.theorem_serial.proofs.OneCore.Outcomes.{each-back}
-use Rattle.theorem_serial.proofs.OneCore.Outcomes.{each-grant, given, granted, heard, message}
+use Rattle.theorem_serial.proofs
+use proofs.Names
+use Names.{put, inl, inr, filled, cleaned, invalidated, OneCore, ℕ, ◌≡◌, ◌<◌, ◌≤◌, Bool, true, false, not, ◌&&◌, ◌==◌, List, Some, None}
+use Names.{IfSome, is_some, unwrap_or, get_or, if◌then◌else◌, arith, refl, ◌⊎◌, nat_tests, line_of, place_of, hit, Msg, Inv, Shape, home}
+use Names.{Cache, rolled_back, read_cleared, CoreState, Phase, AwaitTid, DoomedTid, Probing, Ready, Overflowing, Solo, grant, is_violated}
+use Names.{may_be_above, words_invalidated, from_dir, has_tid, hit-reads}
+use proofs.OneCore.CoreReads.{StillRead, Reading, ValidOrPassed, ReadOf, read-kept, reads-same, as-before, tid-kept, no-tid}
+use proofs.OneCore.Outcomes.{Last_probing, Last_room, Fills, Given, Given_doomed, Given_none, Given_room, Granted, Hands_out, Heard}
+use proofs.OneCore.Outcomes.{Hurt_alone, Hurt_probing, Hurt_running, Hurt_waiting, Hurt_none, each-back, each-grant, given, granted, heard}
+use proofs.OneCore.Outcomes.{message}
 
 pub reading-grant : (sh : Shape) (u : ℕ) (s : CoreState) → Reading s (grant sh u s).core
 unfolding has_tid

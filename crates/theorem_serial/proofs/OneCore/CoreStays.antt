@@ -1,9 +1,9 @@
 -- What comes to a core leaves its checkpoint and its end, and so does an eviction: only an instruction commits.
-use Rattle.theorem_serial.proofs.Names.{ℕ, ◌≡◌, Bool, None, IfSome, refl, any_below, Msg, Shape, CoreState, AwaitTid, Out, arith}
-use Rattle.theorem_serial.proofs.Names.{core_evict, grant, from_dir, probing_or_ready, is_probed, end_after, inl, inr, nat_tests}
-use Rattle.theorem_serial.proofs.OneCore.Outcomes.{Last_probing, Last_room, Given, Given_doomed, Given_none, Given_room, Granted, Heard}
-use Rattle.theorem_serial.proofs.OneCore.Outcomes.{Hurt_alone, Hurt_probing, Hurt_running, Hurt_waiting, each-back, each-evict, each-grant}
-use Rattle.theorem_serial.proofs.OneCore.Outcomes.{granted, heard}
+use Rattle.theorem_serial.proofs
+use proofs.Names.{ℕ, ◌≡◌, Bool, None, IfSome, refl, any_below, Msg, Shape, CoreState, AwaitTid, Out, arith, core_evict, grant, from_dir}
+use proofs.Names.{probing_or_ready, is_probed, end_after, inl, inr, nat_tests}
+use proofs.OneCore.Outcomes.{Last_probing, Last_room, Given, Given_doomed, Given_none, Given_room, Granted, Heard, Hurt_alone, Hurt_probing}
+use proofs.OneCore.Outcomes.{Hurt_running, Hurt_waiting, each-back, each-evict, each-grant, granted, heard}
 
 pub record CheckpointStays (s : CoreState) (o : Out) : Type 0 where
   pub commit : o.commit ≡ None

@@ -1,21 +1,16 @@
 -- What a core's rules leave alone: evictions, fills, data requests, invalidations.
-use Rattle.theorem_serial.proofs.Names.{write_back_line, if◌then◌else◌, abort_written, evicted_line, read_cleared, any_below-at}
-use Rattle.theorem_serial.proofs.Names.{fill_awaited}
-use Rattle.theorem_serial.proofs.Names.{data_request, invalidated, Overflowing, probe_reply, all_replied, flush_line, core_evict}
-use Rattle.theorem_serial.proofs.Names.{is_awaited}
-use Rattle.theorem_serial.proofs.Names.{invalidate, ProbeReply, nat_tests, any_below, is_marked, CoreState, DoomedTid, marks_for, any_word}
-use Rattle.theorem_serial.proofs.Names.{reads_at, AwaitTid, skip_all, Protocol, line_of, evicted, cleaned, Awaited, Running, Probing}
-use Rattle.theorem_serial.proofs.Names.{nothing}
-use Rattle.theorem_serial.proofs.Names.{is_solo, ignored, IfSome, Vendor, InvAck, filled, passes, false, arith, Shape, lines, Cache, keeps}
-use Rattle.theorem_serial.proofs.Names.{Phase, Ready, Sends, moves, among, Bool, true, List, ◌++◌, ◌==◌, ◌&&◌, ◌||◌, Some, None, refl, Node}
-use Rattle.theorem_serial.proofs.Names.{home, Solo, fill, ◌+◌, ◌≡◌, ◌*◌, ◌%◌, ◌∷◌, sym, ◌⊎◌, put, Dir, Out, Inv, Msg, [], ap, to, ℕ}
-use Rattle.theorem_serial.proofs.OneCore.Executes.{Steady}
-use Rattle.theorem_serial.proofs.OneCore.Said.{quiet, Empties, Aborts_all, Said, Silent, Skips_all, say, Flushes}
-use Rattle.theorem_serial.proofs.OneCore.Outcomes.{Acts, acked, each-evict, emptied, Heard, Hurt_alone, Hurt_none, Hurt_probing}
-use Rattle.theorem_serial.proofs.OneCore.Outcomes.{Hurt_running}
-use Rattle.theorem_serial.proofs.OneCore.Outcomes.{Hurt_waiting, Ignores_reply, Last_probing, Last_room, Reply_probing, Reply_room}
-use Rattle.theorem_serial.proofs.OneCore.Outcomes.{each-back}
-use Rattle.theorem_serial.proofs.OneCore.Outcomes.{heard, message}
+use Rattle.theorem_serial.proofs
+use proofs.Names
+use Names.{write_back_line, if◌then◌else◌, abort_written, evicted_line, read_cleared, any_below-at, fill_awaited, data_request, invalidated}
+use Names.{Overflowing, probe_reply, all_replied, flush_line, core_evict, is_awaited, invalidate, ProbeReply, nat_tests, any_below}
+use Names.{is_marked, CoreState, DoomedTid, marks_for, any_word, reads_at, AwaitTid, skip_all, Protocol, line_of, evicted, cleaned, Awaited}
+use Names.{Running, Probing, nothing, is_solo, ignored, IfSome, Vendor, InvAck, filled, passes, false, arith, Shape, lines, Cache, keeps}
+use Names.{Phase, Ready, Sends, moves, among, Bool, true, List, ◌++◌, ◌==◌, ◌&&◌, ◌||◌, Some, None, refl, Node, home, Solo, fill, ◌+◌, ◌≡◌}
+use Names.{◌*◌, ◌%◌, ◌∷◌, sym, ◌⊎◌, put, Dir, Out, Inv, Msg, [], ap, to, ℕ}
+use proofs.OneCore.Executes.{Steady}
+use proofs.OneCore.Said.{quiet, Empties, Aborts_all, Said, Silent, Skips_all, say, Flushes}
+use proofs.OneCore.Outcomes.{Acts, acked, each-evict, emptied, Heard, Hurt_alone, Hurt_none, Hurt_probing, Hurt_running, Hurt_waiting}
+use proofs.OneCore.Outcomes.{Ignores_reply, Last_probing, Last_room, Reply_probing, Reply_room, each-back, heard, message}
 
 -- written and read directories depend on the modified and the read words alone
 pub reads_at-same : (sh : Shape) (a b : Cache) (d : ℕ) → ((v : ℕ) → a.read v ≡ b.read v) → reads_at sh a d ≡ reads_at sh b d

@@ -1,9 +1,10 @@
 -- What Exec may come to, as far as TIDs and messages about them go.
-use Rattle.theorem_serial.proofs.Names.{ℕ, ◌≡◌, [], None, refl, Program, word_of, line_of, Dir, Vendor, Shape, CoreState, flush_line}
-use Rattle.theorem_serial.proofs.Names.{Out, moves, Protocol, among, passes}
-use Rattle.theorem_serial.proofs.OneCore.Said.{quiet, Flushes, Requests, Said, Silent, Unheard, say}
-use Rattle.theorem_serial.proofs.OneCore.Outcomes.{Acts, Buffers, Commits_now, Did, Ends_alone, Ends_run, Finds, Frames, Frames_anew, Idles}
-use Rattle.theorem_serial.proofs.OneCore.Outcomes.{Misses, Misses_anew, Reads, Room_wanted, out}
+use Rattle.theorem_serial.proofs
+use proofs.Names.{ℕ, ◌≡◌, [], None, refl, Program, word_of, line_of, Dir, Vendor, Shape, CoreState, flush_line, Out, moves, Protocol, among}
+use proofs.Names.{passes}
+use proofs.OneCore.Said.{quiet, Flushes, Requests, Said, Silent, Unheard, say}
+use proofs.OneCore.Outcomes.{Acts, Buffers, Commits_now, Did, Ends_alone, Ends_run, Finds, Frames, Frames_anew, Idles, Misses, Misses_anew}
+use proofs.OneCore.Outcomes.{Reads, Room_wanted, out}
 
 -- nothing changes that TIDs and messages about them go by; where the core executes it may have marked further words
 pub record Steady (s : CoreState) (o : Out) : Type 0 where

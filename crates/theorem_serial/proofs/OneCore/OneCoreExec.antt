@@ -1,17 +1,15 @@
 -- Executing an instruction keeps what holds of a core by itself.
-use Rattle.theorem_serial.proofs.Names.{awaits_replies, load_of, ◌⊎◌, put, stored, marked, IsCache, ℕ, ◌+◌, ◌≡◌, Bool, true, false, Option}
-use Rattle.theorem_serial.proofs.Names.{Some, None, IfSome, is_some, arith, refl, sym, ap, subst, ◌∙◌, nat_tests, Program, Need, Loads}
-use Rattle.theorem_serial.proofs.Names.{word_of}
-use Rattle.theorem_serial.proofs.Names.{line_of, Shape, set_of, Cache, free_way, placed, placed_at, committed, words_dropped, none_spilled}
-use Rattle.theorem_serial.proofs.Names.{words_dropped-keeps, CoreState, Awaited, Phase, Running, AwaitTid, Ready, Overflowing, Solo}
-use Rattle.theorem_serial.proofs.Names.{is_running}
-use Rattle.theorem_serial.proofs.Names.{is_solo, commit, committed_core, phase_after_commit, solo_commit, core_exec, Words, OneCore, Empty}
-use Rattle.theorem_serial.proofs.Names.{executes, rests}
 use Rattle.rules_program.specs.Ram.{part}
-use Rattle.theorem_serial.proofs.OneCore.Outcomes.{Acts, awaiting, Acting, Buffers, Commits_now, Did, Ends_alone, Ends_run, Finds, Frames}
-use Rattle.theorem_serial.proofs.OneCore.Outcomes.{Frames_anew, Idles, Misses, Misses_anew, Reads, Room_wanted, after_end, after_load}
-use Rattle.theorem_serial.proofs.OneCore.Outcomes.{after_store, each-exec, out}
-use Rattle.theorem_serial.proofs.OneCore.WordsKept.{words-marked, words-placed, words-stored, words-buffered, words-committed}
+use Rattle.theorem_serial.proofs
+use proofs.Names
+use Names.{awaits_replies, load_of, ◌⊎◌, put, stored, marked, IsCache, ℕ, ◌+◌, ◌≡◌, Bool, true, false, Option, Some, None, IfSome, is_some}
+use Names.{arith, refl, sym, ap, subst, ◌∙◌, nat_tests, Program, Need, Loads, word_of, line_of, Shape, set_of, Cache, free_way, placed}
+use Names.{placed_at, committed, words_dropped, none_spilled, words_dropped-keeps, CoreState, Awaited, Phase, Running, AwaitTid, Ready}
+use Names.{Overflowing, Solo, is_running, is_solo, commit, committed_core, phase_after_commit, solo_commit, core_exec, Words, OneCore}
+use Names.{Empty, executes, rests}
+use proofs.OneCore.Outcomes.{Acts, awaiting, Acting, Buffers, Commits_now, Did, Ends_alone, Ends_run, Finds, Frames, Frames_anew, Idles}
+use proofs.OneCore.Outcomes.{Misses, Misses_anew, Reads, Room_wanted, after_end, after_load, after_store, each-exec, out}
+use proofs.OneCore.WordsKept.{words-marked, words-placed, words-stored, words-buffered, words-committed}
 
 acts-execute : (q : Phase) → Acts q → executes q ≡ true
 acts-execute b a = grind (arith, nat_tests)

@@ -1,21 +1,17 @@
 -- Evictions and messages keep what holds of a core by itself.
-use Rattle.theorem_serial.proofs.Names.{put, ◌⊎◌, inl, inr, Cache, Spilled, none_spilled, cleaned, ℕ, ◌≡◌, ◌<◌, ◌≤◌, Bool, true, false}
-use Rattle.theorem_serial.proofs.Names.{◌==◌}
-use Rattle.theorem_serial.proofs.Names.{[], Option, Some, None, IfSome, nat_lt, arith, refl, sym, ap, subst, ◌∙◌, cases_lt, nat_tests}
-use Rattle.theorem_serial.proofs.Names.{any_below, Msg, Shape, is_marked, evicted, evicted_line, filled, invalidated, rolled_back}
-use Rattle.theorem_serial.proofs.Names.{CoreState}
-use Rattle.theorem_serial.proofs.Names.{Awaited, Phase, Running, AwaitTid, DoomedTid, Probing, Ready, Overflowing, is_solo, core_evict}
-use Rattle.theorem_serial.proofs.Names.{is_awaited, grant, is_probed, probing_or_ready, all_replied, words_invalidated, staled, from_dir}
-use Rattle.theorem_serial.proofs.Names.{Words}
-use Rattle.theorem_serial.proofs.Names.{OneCore, executes, awaits_replies, rests}
-use Rattle.theorem_serial.proofs.OneCore.CoreProbes.{none-below, all-replied}
-use Rattle.theorem_serial.proofs.OneCore.WordsKept.{words-evicted, words-evicted_unmarked, words-filled, words-invalidated, words-cleaned}
-use Rattle.theorem_serial.proofs.OneCore.WordsKept.{words-rolled, words-alone}
-use Rattle.theorem_serial.proofs.OneCore.Outcomes.{Reply_probing, Last_probing, Given_doomed, Hurt_probing, Hurt_running, Hurt_waiting}
-use Rattle.theorem_serial.proofs.OneCore.Outcomes.{Granted}
-use Rattle.theorem_serial.proofs.OneCore.Outcomes.{Fills_none, Given_none, Given_room, Hurt_alone, Reply_room, each-evict, each-grant}
-use Rattle.theorem_serial.proofs.OneCore.Outcomes.{granted}
-use Rattle.theorem_serial.proofs.OneCore.Outcomes.{Last_room, Hands_out, Hurt_none, each-back, rolled, Fills, Given, Heard, heard}
+use Rattle.theorem_serial.proofs
+use proofs.Names
+use Names.{put, ◌⊎◌, inl, inr, Cache, Spilled, none_spilled, cleaned, ℕ, ◌≡◌, ◌<◌, ◌≤◌, Bool, true, false, ◌==◌, [], Option, Some, None}
+use Names.{IfSome, nat_lt, arith, refl, sym, ap, subst, ◌∙◌, cases_lt, nat_tests, any_below, Msg, Shape, is_marked, evicted, evicted_line}
+use Names.{filled, invalidated, rolled_back, CoreState, Awaited, Phase, Running, AwaitTid, DoomedTid, Probing, Ready, Overflowing, is_solo}
+use Names.{core_evict, is_awaited, grant, is_probed, probing_or_ready, all_replied, words_invalidated, staled, from_dir, Words, OneCore}
+use Names.{executes, awaits_replies, rests}
+use proofs.OneCore.CoreProbes.{none-below, all-replied}
+use proofs.OneCore.WordsKept.{words-evicted, words-evicted_unmarked, words-filled, words-invalidated, words-cleaned, words-rolled}
+use proofs.OneCore.WordsKept.{words-alone}
+use proofs.OneCore.Outcomes.{Reply_probing, Last_probing, Given_doomed, Hurt_probing, Hurt_running, Hurt_waiting, Granted, Fills_none}
+use proofs.OneCore.Outcomes.{Given_none, Given_room, Hurt_alone, Reply_room, each-evict, each-grant, granted, Last_room, Hands_out}
+use proofs.OneCore.Outcomes.{Hurt_none, each-back, rolled, Fills, Given, Heard, heard}
 
 -- a line that isn't awaited keeps its frame where another is emptied
 evicted-held : (c : Cache) (s y l m : ℕ) → c.at s y ≡ Some l → (m == l) ≡ false → c.held m ≡ true → (evicted s y c).held m ≡ true

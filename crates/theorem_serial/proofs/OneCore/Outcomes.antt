@@ -1,41 +1,26 @@
 -- What an event of a core comes to: one constructor for each outcome, with the whole new state and what is sent. Each rule of a core is
 -- walked here once; a fact about all events of a core is proved from their outcomes.
-use Rattle.theorem_serial.proofs.Names.{one_more_instruction, ready_once_replied, solo_once_replied, violated_in_phase, words_invalidated}
-use Rattle.theorem_serial.proofs.Names.{Kind}
-use Rattle.theorem_serial.proofs.Names.{stored_in_buffer, probing_or_ready, any_below-found, stored_in_frame, end_transaction}
-use Rattle.theorem_serial.proofs.Names.{unless_awaiting}
-use Rattle.theorem_serial.proofs.Names.{with_read_mark, change_spilled, grant_in_phase, reply_in_phase, if◌then◌else◌, abort_written}
-use Rattle.theorem_serial.proofs.Names.{nat_tests}
-use Rattle.theorem_serial.proofs.Names.{partial_store, exec_in_phase, waits_for_tid, read_cleared, none_spilled, request_line, load_spilled}
-use Rattle.theorem_serial.proofs.Names.{[]}
-use Rattle.theorem_serial.proofs.Names.{change_valid, execute_need, fill_awaited, data_request, acknowledged, is_modified, invalidated}
-use Rattle.theorem_serial.proofs.Names.{is_some}
-use Rattle.theorem_serial.proofs.Names.{rolled_back, Overflowing, solo_commit, probe_reply, all_replied, if_violated, is_violated}
-use Rattle.theorem_serial.proofs.Names.{TrappedWith}
-use Rattle.theorem_serial.proofs.Names.{HaltedWith, ProbeReply, all_marked, spill_line, flush_line, is_running, load_valid, word_store}
-use Rattle.theorem_serial.proofs.Names.{Program}
-use Rattle.theorem_serial.proofs.Names.{marks_read, core_evict, evict_line, is_awaited, invalidate, any_below, is_marked, writes_at}
-use Rattle.theorem_serial.proofs.Names.{CoreState}
-use Rattle.theorem_serial.proofs.Names.{DoomedTid, marks_for, roll_back, core_exec, is_probed, store_of, any_word, free_way, AwaitTid}
-use Rattle.theorem_serial.proofs.Names.{finished}
-use Rattle.theorem_serial.proofs.Names.{new_word, overflow, full_set, from_dir, Nothing, Changes, Outcome, load_of, word_of, line_of}
-use Rattle.theorem_serial.proofs.Names.{DataReq}
-use Rattle.theorem_serial.proofs.Names.{evicted, cleaned, Spilled, Awaited, Running, Probing, nothing, to_dirs, is_solo, execute, replied}
-use Rattle.theorem_serial.proofs.Names.{Bool}
-use Rattle.theorem_serial.proofs.Names.{ignored, passes, Option, IfSome, nat_lt, Stored, Stores, Prints, InvAck, set_of, marked, stored}
-use Rattle.theorem_serial.proofs.Names.{placed}
-use Rattle.theorem_serial.proofs.Names.{filled, commit, staled, among, false, arith, subst, Local, Loads, Halts, Traps, Ended, Abort, Shape}
-use Rattle.theorem_serial.proofs.Names.{ap}
-use Rattle.theorem_serial.proofs.Names.{lines, Cache, keeps, holds, Phase, Ready, Sends, moves, place, grant, rests, true, List, ◌++◌, ◌==◌}
-use Rattle.theorem_serial.proofs.Names.{to}
-use Rattle.theorem_serial.proofs.Names.{◌&&◌, ◌||◌, Some, None, refl, Load, Size, Byte, Half, Word, Need, Ends, Goes, Fill, home, Solo}
-use Rattle.theorem_serial.proofs.Names.{when, ℕ}
-use Rattle.theorem_serial.proofs.Names.{miss, load, fill, ◌+◌, ◌*◌, ◌≡◌, not, ◌∷◌, sym, inl, inr, put, Dir, Msg, Inv, Out, ◌⊎◌}
 use Rattle.rules_program.specs.Program.{unreserved}
 use Rattle.rules_program.specs.Ram.{part}
 use Rattle.rules_tcc.specs.Sends.{then_send}
-use Rattle.theorem_serial.proofs.OneCore.Said.{Silent, Flushes, Empties, Requests, Wants, say, Aborts_all, Answers, Marks_at, Probes_all}
-use Rattle.theorem_serial.proofs.OneCore.Said.{Skips_all, Said, Tells_alone, Tells_commit, Unheard, acked-quiet, quiet}
+use Rattle.theorem_serial.proofs
+use proofs.Names
+use Names.{one_more_instruction, ready_once_replied, solo_once_replied, violated_in_phase, words_invalidated, Kind, stored_in_buffer}
+use Names.{probing_or_ready, any_below-found, stored_in_frame, end_transaction, unless_awaiting, with_read_mark, change_spilled}
+use Names.{grant_in_phase, reply_in_phase, if◌then◌else◌, abort_written, nat_tests, partial_store, exec_in_phase, waits_for_tid}
+use Names.{read_cleared, none_spilled, request_line, load_spilled, [], change_valid, execute_need, fill_awaited, data_request, acknowledged}
+use Names.{is_modified, invalidated, is_some, rolled_back, Overflowing, solo_commit, probe_reply, all_replied, if_violated, is_violated}
+use Names.{TrappedWith, HaltedWith, ProbeReply, all_marked, spill_line, flush_line, is_running, load_valid, word_store, Program, marks_read}
+use Names.{core_evict, evict_line, is_awaited, invalidate, any_below, is_marked, writes_at, CoreState, DoomedTid, marks_for, roll_back}
+use Names.{core_exec, is_probed, store_of, any_word, free_way, AwaitTid, finished, new_word, overflow, full_set, from_dir, Nothing, Changes}
+use Names.{Outcome, load_of, word_of, line_of, DataReq, evicted, cleaned, Spilled, Awaited, Running, Probing, nothing, to_dirs, is_solo}
+use Names.{execute, replied, Bool, ignored, passes, Option, IfSome, nat_lt, Stored, Stores, Prints, InvAck, set_of, marked, stored, placed}
+use Names.{filled, commit, staled, among, false, arith, subst, Local, Loads, Halts, Traps, Ended, Abort, Shape, ap, lines, Cache, keeps}
+use Names.{holds, Phase, Ready, Sends, moves, place, grant, rests, true, List, ◌++◌, ◌==◌, to, ◌&&◌, ◌||◌, Some, None, refl, Load, Size}
+use Names.{Byte, Half, Word, Need, Ends, Goes, Fill, home, Solo, when, ℕ, miss, load, fill, ◌+◌, ◌*◌, ◌≡◌, not, ◌∷◌, sym, inl, inr, put}
+use Names.{Dir, Msg, Inv, Out, ◌⊎◌}
+use proofs.OneCore.Said.{Silent, Flushes, Empties, Requests, Wants, say, Aborts_all, Answers, Marks_at, Probes_all, Skips_all, Said}
+use proofs.OneCore.Said.{Tells_alone, Tells_commit, Unheard, acked-quiet, quiet}
 
 -- what holds under a condition holds where the condition does
 pub given : (a : Option Out) (H : Type 0) (R : Out → Type 0) → IfSome a (λ o. H → R o) → H → IfSome a R

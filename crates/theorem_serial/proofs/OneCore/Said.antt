@@ -1,15 +1,15 @@
 -- What a core sends with one event, and that nothing of a kind is among it where no message of its forms is of that kind.
 use Rattle.base_lemmas.proofs.Lemmas.{neither}
-use Rattle.theorem_serial.proofs.Names.{ℕ, ◌≡◌, Bool, true, false, not, List, [], ◌∷◌, ◌++◌, ◌==◌, ◌&&◌, ◌||◌, Option, Some, None, nat_lt}
-use Rattle.theorem_serial.proofs.Names.{if◌then◌else◌, flat_map, arith, refl, those, count_below, Dir, Vendor, Tagged, Msg, TidReq, LoadReq}
-use Rattle.theorem_serial.proofs.Names.{Skip, Probe, Mark, Commit, Abort, WriteBack, Flush, InvAck, Shape, home, lines, is_modified}
-use Rattle.theorem_serial.proofs.Names.{nat_tests}
-use Rattle.theorem_serial.proofs.Names.{modified_mask, written_lines, writes_at, reads_at, dirty_copy, holds, spilled_mask, spilled_words}
-use Rattle.theorem_serial.proofs.Names.{CoreState, Sends, nothing, to, flush_of, flush_line, write_back_line, skip_all, probe_all}
-use Rattle.theorem_serial.proofs.Names.{abort_written, marks_for, commit_sends, solo_sends, solo_marks_or_skip, solo_write_backs}
-use Rattle.theorem_serial.proofs.Names.{solo_writes_at, is_written, written_mask, grant_sends, Kind, among, passes}
 use Rattle.rules_tcc.specs.Sends.{write_back_of}
-use Rattle.theorem_serial.proofs.Counts.Links.{among-append, among-flat_map_none}
+use Rattle.theorem_serial.proofs
+use proofs.Names
+use Names.{ℕ, ◌≡◌, Bool, true, false, not, List, [], ◌∷◌, ◌++◌, ◌==◌, ◌&&◌, ◌||◌, Option, Some, None, nat_lt, if◌then◌else◌, flat_map}
+use Names.{arith, refl, those, count_below, Dir, Vendor, Tagged, Msg, TidReq, LoadReq, Skip, Probe, Mark, Commit, Abort, WriteBack, Flush}
+use Names.{InvAck, Shape, home, lines, is_modified, nat_tests, modified_mask, written_lines, writes_at, reads_at, dirty_copy, holds}
+use Names.{spilled_mask, spilled_words, CoreState, Sends, nothing, to, flush_of, flush_line, write_back_line, skip_all, probe_all}
+use Names.{abort_written, marks_for, commit_sends, solo_sends, solo_marks_or_skip, solo_write_backs, solo_writes_at, is_written}
+use Names.{written_mask, grant_sends, Kind, among, passes}
+use proofs.Counts.Links.{among-append, among-flat_map_none}
 
 -- what a core sends with one event
 pub data Said : Type 0 where

@@ -1,9 +1,10 @@
 -- An attempt whose view is current is sound, and else it is doomed.
-use Rattle.theorem_serial.proofs.Names.{ℕ, ◌≡◌, ◌<◌, ◌≤◌, ◌⊎◌, List, [], ◌∷◌, Option, Some, None, IsSomeAnd, arith, refl, sym, inl, inr}
-use Rattle.theorem_serial.proofs.Names.{Noted}
-use Rattle.theorem_serial.proofs.Names.{begun, steps, Program, line_of, Shape, home, CoreState, Phase, Halted, World, Uses, Agrees, IsSmall}
-use Rattle.theorem_serial.proofs.Names.{Reaches, FollowsIn, holder, pair, IsBound, value_at, IsDoomed, EachUse}
 use Rattle.theorem_serial.specs.Sound.{values_for, Doomed, SoundOrDoomed, AttemptsSound}
+use Rattle.theorem_serial.proofs
+use proofs.Names
+use Names.{ℕ, ◌≡◌, ◌<◌, ◌≤◌, ◌⊎◌, List, [], ◌∷◌, Option, Some, None, IsSomeAnd, arith, refl, sym, inl, inr, Noted, begun, steps, Program}
+use Names.{line_of, Shape, home, CoreState, Phase, Halted, World, Uses, Agrees, IsSmall, Reaches, FollowsIn, holder, pair, IsBound}
+use Names.{value_at, IsDoomed, EachUse}
 
 -- the bound is the core's alone
 bound-at : (w : World) (c d e : ℕ) (b : Option ℕ) → IsBound b (pair w c d) → IsBound b (pair w c e)

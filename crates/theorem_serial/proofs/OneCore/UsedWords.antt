@@ -1,17 +1,13 @@
 -- Instructions over two memories that agree on the words used give the same, and name these words.
-use Rattle.theorem_serial.proofs.Names.{ℕ, zero, suc, ◌≡◌, ◌<◌, ◌%◌, ◌^◌, Bool, true, false, not, ◌&&◌, ◌||◌, ◌==◌, List, [], ◌∷◌, ◌++◌}
-use Rattle.theorem_serial.proofs.Names.{Option}
-use Rattle.theorem_serial.proofs.Names.{Some, None, MatchOption, if◌then◌else◌, arith, refl, ap, sym, ◌∙◌, nat_tests, Size, Word, Stored}
-use Rattle.theorem_serial.proofs.Names.{Local}
-use Rattle.theorem_serial.proofs.Names.{Need, Nothing, Loads, Stores, Changes, Ends, Program, Attempt, Outcome, Goes, steps, begun}
-use Rattle.theorem_serial.proofs.Names.{plain_step}
-use Rattle.theorem_serial.proofs.Names.{when_going, then_step, store_of, word_of, unit_of, patched, loaded, stores_word, stores_whole}
-use Rattle.theorem_serial.proofs.Names.{is_whole}
-use Rattle.theorem_serial.proofs.Names.{reads_word, uses_next, uses, AlignedNeed, Aligned, IsMemory, SameAttempt, AgreeOnUsed, IfSome, Load}
-use Rattle.theorem_serial.proofs.Names.{loads_word, patched-small}
 use Rattle.tcc_base.specs.Bytes.{bytes_of}
 use Rattle.rules_program.specs.Plain.{stepped}
 use Rattle.rules_program.specs.Ram.{stored}
+use Rattle.theorem_serial.proofs
+use proofs.Names.{ℕ, zero, suc, ◌≡◌, ◌<◌, ◌%◌, ◌^◌, Bool, true, false, not, ◌&&◌, ◌||◌, ◌==◌, List, [], ◌∷◌, ◌++◌, Option, Some, None}
+use proofs.Names.{MatchOption, if◌then◌else◌, arith, refl, ap, sym, ◌∙◌, nat_tests, Size, Word, Stored, Local, Need, Nothing, Loads, Stores}
+use proofs.Names.{Changes, Ends, Program, Attempt, Outcome, Goes, steps, begun, plain_step, when_going, then_step, store_of, word_of}
+use proofs.Names.{unit_of, patched, loaded, stores_word, stores_whole, is_whole, reads_word, uses_next, uses, AlignedNeed, Aligned}
+use proofs.Names.{IsMemory, SameAttempt, AgreeOnUsed, IfSome, Load, loads_word, patched-small}
 
 -- Instructions over two memories that agree on the words used give the same.
 

@@ -1,15 +1,15 @@
 -- What each change of a cache or of the overflow buffer does to the words of an attempt.
 use Rattle.base_lemmas.proofs.Lemmas.{held_valued, or-left}
-use Rattle.theorem_serial.proofs.Names.{ℕ, ◌+◌, ◌*◌, ◌%◌, ◌≡◌, Bool, true, false, not, ◌&&◌, ◌||◌, ◌==◌, List, [], ◌∷◌, ◌++◌, Option, Some}
-use Rattle.theorem_serial.proofs.Names.{None, is_some, unwrap_or, if◌then◌else◌, arith, refl, sym, ap, ◌∙◌, nat_tests, put, Stored, word_of}
-use Rattle.theorem_serial.proofs.Names.{line_of, any_word, any_below, Shape, set_of, Cache, IsCache, free_way, is_marked, marked, stored}
-use Rattle.theorem_serial.proofs.Names.{placed, placed_at, filled, invalidated, cleaned, evicted, evicted_line, rolled_back, read_cleared}
-use Rattle.theorem_serial.proofs.Names.{committed, Spilled, spill_line, holds, any_below-at, marked-keeps, stored-keeps, placed-keeps}
-use Rattle.theorem_serial.proofs.Names.{filled-keeps, invalidated-keeps, cleaned-keeps, evicted-keeps, rolled_back-keeps}
-use Rattle.theorem_serial.proofs.Names.{read_cleared-keeps}
-use Rattle.theorem_serial.proofs.Names.{committed-keeps, stores_word, Words, hit}
-use Rattle.theorem_serial.proofs.OneCore.UsedWords.{stores_word-append}
-use Rattle.theorem_serial.proofs.OneCore.CoreSteps.{unmarked-word}
+use Rattle.theorem_serial.proofs
+use proofs.Names
+use Names.{ℕ, ◌+◌, ◌*◌, ◌%◌, ◌≡◌, Bool, true, false, not, ◌&&◌, ◌||◌, ◌==◌, List, [], ◌∷◌, ◌++◌, Option, Some, None, is_some, unwrap_or}
+use Names.{if◌then◌else◌, arith, refl, sym, ap, ◌∙◌, nat_tests, put, Stored, word_of, line_of, any_word, any_below, Shape, set_of, Cache}
+use Names.{IsCache, free_way, is_marked, marked, stored, placed, placed_at, filled, invalidated, cleaned, evicted, evicted_line}
+use Names.{rolled_back, read_cleared, committed, Spilled, spill_line, holds, any_below-at, marked-keeps, stored-keeps, placed-keeps}
+use Names.{filled-keeps, invalidated-keeps, cleaned-keeps, evicted-keeps, rolled_back-keeps, read_cleared-keeps, committed-keeps}
+use Names.{stores_word, Words, hit}
+use proofs.OneCore.UsedWords.{stores_word-append}
+use proofs.OneCore.CoreSteps.{unmarked-word}
 
 -- a line of which nothing is spilled
 unspilled : (sp : Spilled) (l v : ℕ) → holds sp l ≡ false → line_of v ≡ l → is_some (sp v) ≡ true → ⊥

@@ -1,18 +1,16 @@
 -- A serial execution in two parts, and one more transaction between them.
-use Rattle.theorem_serial.proofs.Names.{ℕ, ◌≡◌, ◌≢◌, Bool, true, false, ◌||◌, ◌==◌, List, [], ◌∷◌, Option, Some, None, MatchOption, IfSome}
-use Rattle.theorem_serial.proofs.Names.{nat_lt, if◌then◌else◌, arith, refl, sym, subst, ◌∙◌, nat_tests, put, CoreEnd, Run, Halt, Trap}
-use Rattle.theorem_serial.proofs.Names.{Local}
-use Rattle.theorem_serial.proofs.Names.{Program, Attempt, Outcome, Goes, Ended, Trapped, steps, begun, Plain, closed, end_of, close_if}
-use Rattle.theorem_serial.proofs.Names.{if_runs}
-use Rattle.theorem_serial.proofs.Names.{transaction, Order, commit_of, and_commit, after_order, serial, loads_word, stores_word, uses}
-use Rattle.theorem_serial.proofs.Names.{Aligned}
-use Rattle.theorem_serial.proofs.Names.{IsMemory, SameAttempt, AgreeOnUsed, commits_store, commits_touch, orders_core, Again, ◌<◌, ◌++◌, ap}
-use Rattle.theorem_serial.proofs.Names.{last_tid, IsBelow, Inserted, CanInsert}
 use Rattle.tcc_base.specs.declared.access.Commit.{Commit}
 use Rattle.base_lemmas.proofs.Lemmas.{neither, or-left}
 use Rattle.rules_program.proofs.Lemmas.{serial-append}
 use Rattle.rules_program.specs.Plain.{Halted, close}
-use Rattle.theorem_serial.proofs.OneCore.UsedWords.{steps_same, steps-memory, uses-named}
+use Rattle.theorem_serial.proofs
+use proofs.Names
+use Names.{ℕ, ◌≡◌, ◌≢◌, Bool, true, false, ◌||◌, ◌==◌, List, [], ◌∷◌, Option, Some, None, MatchOption, IfSome, nat_lt, if◌then◌else◌, arith}
+use Names.{refl, sym, subst, ◌∙◌, nat_tests, put, CoreEnd, Run, Halt, Trap, Local, Program, Attempt, Outcome, Goes, Ended, Trapped, steps}
+use Names.{begun, Plain, closed, end_of, close_if, if_runs, transaction, Order, commit_of, and_commit, after_order, serial, loads_word}
+use Names.{stores_word, uses, Aligned, IsMemory, SameAttempt, AgreeOnUsed, commits_store, commits_touch, orders_core, Again, ◌<◌, ◌++◌, ap}
+use Names.{last_tid, IsBelow, Inserted, CanInsert}
+use proofs.OneCore.UsedWords.{steps_same, steps-memory, uses-named}
 
 -- The same orders from another machine that agrees on the cores and words that they touch.
 

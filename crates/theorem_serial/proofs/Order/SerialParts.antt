@@ -1,20 +1,17 @@
 -- The serial execution that gave the commits, cut in two at a TID, and what a core sees there that may commit.
-use Rattle.theorem_serial.proofs.Names.{ℕ, suc, ◌≡◌, ◌<◌, ◌≤◌, Bool, true, false, ◌==◌, ◌||◌, List, [], ◌∷◌, ◌++◌, map, Contains, nat_lt}
-use Rattle.theorem_serial.proofs.Names.{if◌then◌else◌, arith, refl, ap, nat_tests, Noted, num, order_of_commit, insert_commit}
-use Rattle.theorem_serial.proofs.Names.{commits_touch}
-use Rattle.theorem_serial.proofs.Names.{orders_core, IsBelow, IsRising, times, loads_word, stores_word, zero, Option, Some, None, IfSome}
-use Rattle.theorem_serial.proofs.Names.{ap₂}
-use Rattle.theorem_serial.proofs.Names.{sym, ◌∙◌, Size, Stored, Word, CoreEnd, Run, last_tid, Attempt, Plain, Order, Outcome, Goes}
-use Rattle.theorem_serial.proofs.Names.{store_of}
-use Rattle.theorem_serial.proofs.Names.{begun, steps, then_step, when_going, plain_step, transaction, close_if, closed, end_of, if_runs}
-use Rattle.theorem_serial.proofs.Names.{commit_of, and_commit, after_order, serial, Local, Program, Need, Stores, Changes, word_of, patched}
-use Rattle.theorem_serial.proofs.Names.{loaded, after_stores, ◌⊎◌, inl, inr, line_of, Msg, Shape, home, DirState, World, Uses, Agrees}
-use Rattle.theorem_serial.proofs.Names.{InvBelow}
-use Rattle.theorem_serial.proofs.Names.{InvsNot, live, passes, pair, is_applied, counts, after_commits, value_at, IsDoomed, EachUse}
 use Rattle.rules_program.specs.Plain.{stepped, close}
 use Rattle.rules_program.specs.Ram.{stored}
-use Rattle.theorem_serial.proofs.Counts.Links.{live-fewer}
-use Rattle.theorem_serial.proofs.OneCore.UsedWords.{stored-put}
+use Rattle.theorem_serial.proofs
+use proofs.Names
+use Names.{ℕ, suc, ◌≡◌, ◌<◌, ◌≤◌, Bool, true, false, ◌==◌, ◌||◌, List, [], ◌∷◌, ◌++◌, map, Contains, nat_lt, if◌then◌else◌, arith, refl, ap}
+use Names.{nat_tests, Noted, num, order_of_commit, insert_commit, commits_touch, orders_core, IsBelow, IsRising, times, loads_word}
+use Names.{stores_word, zero, Option, Some, None, IfSome, ap₂, sym, ◌∙◌, Size, Stored, Word, CoreEnd, Run, last_tid, Attempt, Plain, Order}
+use Names.{Outcome, Goes, store_of, begun, steps, then_step, when_going, plain_step, transaction, close_if, closed, end_of, if_runs}
+use Names.{commit_of, and_commit, after_order, serial, Local, Program, Need, Stores, Changes, word_of, patched, loaded, after_stores, ◌⊎◌}
+use Names.{inl, inr, line_of, Msg, Shape, home, DirState, World, Uses, Agrees, InvBelow, InvsNot, live, passes, pair, is_applied, counts}
+use Names.{after_commits, value_at, IsDoomed, EachUse}
+use proofs.Counts.Links.{live-fewer}
+use proofs.OneCore.UsedWords.{stored-put}
 
 -- The commits cut at a TID: those before it and those behind it, and a commit of this TID between them.
 unfoldable pub before : (tid : ℕ) → List Noted → List Noted

@@ -1,32 +1,26 @@
 -- Each event keeps the commits serial: an instruction that commits inserts its transaction, and no other event commits.
-use Rattle.theorem_serial.proofs.Names.{phase_after_commit, ended_after_commit, EventsKeepSerial, order_of_commit, insert_commit}
-use Rattle.theorem_serial.proofs.Names.{commits_touch}
-use Rattle.theorem_serial.proofs.Names.{MarkedAtHomes, if◌then◌else◌, CommitsSerial, next_history, vendor_gives, TrappedWith, transaction}
-use Rattle.theorem_serial.proofs.Names.{orders_core, stores_word, UsedAtHomes, plain_start, AlignedNeed, is_given_up, dir_deliver}
-use Rattle.theorem_serial.proofs.Names.{CoresSerial}
-use Rattle.theorem_serial.proofs.Names.{map-append, HaltedWith, Invariants, may_commit, loads_word, core_evict, core_moves, core_takes}
-use Rattle.theorem_serial.proofs.Names.{CoreSerial, IsSomeAnd, commit_of, CoreState, end_after, CanInsert, nat_tests, writes_at, UsesStand}
-use Rattle.theorem_serial.proofs.Names.{worked_at, in_flight, core_exec, and_noted, dir_takes, last_tid, HasEnded, Inserted, IsMemory}
-use Rattle.theorem_serial.proofs.Names.{Contains}
-use Rattle.theorem_serial.proofs.Names.{reads_at, NeedFits, AllStand, asks_dir, live_way, TidGrant, from_dir, recorded, dir_asks, IsSerial}
-use Rattle.theorem_serial.proofs.Names.{CoreEnd, Attempt, Outcome, Program, Aligned, Changes, line_of, is_solo, History, has_tid, EachUse}
-use Rattle.theorem_serial.proofs.Names.{Stepped, Option, closed, end_of, serial, Stores, Agrees, holder, tid_of, Untold, IfSome, Vendor}
-use Rattle.theorem_serial.proofs.Names.{TidReq}
-use Rattle.theorem_serial.proofs.Names.{Answer, false, subst, Noted, Plain, Order, Ended, begun, steps, Local, noted, Again, times, arith}
-use Rattle.theorem_serial.proofs.Names.{Loads, Shape, Phase, Ready, World, Suits, Grant, grant, Waits, Drops, Takes, true, List, ◌++◌, Some}
-use Rattle.theorem_serial.proofs.Names.{None, refl, Halt, Trap, Goes, Bool, ◌==◌, ◌||◌, Need, home, Solo, Uses, Fits, pair, Ways, Core}
-use Rattle.theorem_serial.proofs.Names.{Asks}
-use Rattle.theorem_serial.proofs.Names.{step, ◌≡◌, ◌≤◌, ◌≢◌, ◌∷◌, map, sym, ◌∙◌, Run, ◌<◌, ◌⊎◌, inl, inr, num, Out, Dir, Msg, ap, [], ℕ}
-use Rattle.theorem_serial.proofs.Counts.StepCases.{given, OfAnswer, step_cases}
-use Rattle.theorem_serial.proofs.Memory.MemorySends.{accesses_at_homes, marks_at_homes}
-use Rattle.theorem_serial.proofs.OneCore.CoreCloses.{Gives, Closing, Leaves, Stays, Closes, exec-leaves}
-use Rattle.theorem_serial.proofs.OneCore.CoreStays.{CheckpointStays, evict-stays, grant-stays, back-stays}
-use Rattle.theorem_serial.proofs.Order.InsertedOrders.{order_inserted, put-same, serial_again, serial-memory}
-use Rattle.theorem_serial.proofs.Order.SerialParts.{before, behind, cut-inserted, behind-below, before-smaller, last-below, SerialCut}
-use Rattle.theorem_serial.proofs.Order.SerialParts.{home-below, agrees-before, cut-joined, Each, each-listed, each-behind, each-both}
-use Rattle.theorem_serial.proofs.Order.SerialParts.{each-then}
-use Rattle.theorem_serial.proofs.Order.SerialParts.{behind-larger, orders-another, touch-none, serial-cut, serial-holds, all_stores}
-use Rattle.theorem_serial.proofs.Tids.Commits.{numbered-least, granted-at}
+use Rattle.theorem_serial.proofs
+use proofs.Names
+use Names.{phase_after_commit, ended_after_commit, EventsKeepSerial, order_of_commit, insert_commit, commits_touch, MarkedAtHomes}
+use Names.{if◌then◌else◌, CommitsSerial, next_history, vendor_gives, TrappedWith, transaction, orders_core, stores_word, UsedAtHomes}
+use Names.{plain_start, AlignedNeed, is_given_up, dir_deliver, CoresSerial, map-append, HaltedWith, Invariants, may_commit, loads_word}
+use Names.{core_evict, core_moves, core_takes, CoreSerial, IsSomeAnd, commit_of, CoreState, end_after, CanInsert, nat_tests, writes_at}
+use Names.{UsesStand, worked_at, in_flight, core_exec, and_noted, dir_takes, last_tid, HasEnded, Inserted, IsMemory, Contains, reads_at}
+use Names.{NeedFits, AllStand, asks_dir, live_way, TidGrant, from_dir, recorded, dir_asks, IsSerial, CoreEnd, Attempt, Outcome, Program}
+use Names.{Aligned, Changes, line_of, is_solo, History, has_tid, EachUse, Stepped, Option, closed, end_of, serial, Stores, Agrees, holder}
+use Names.{tid_of, Untold, IfSome, Vendor, TidReq, Answer, false, subst, Noted, Plain, Order, Ended, begun, steps, Local, noted, Again}
+use Names.{times, arith, Loads, Shape, Phase, Ready, World, Suits, Grant, grant, Waits, Drops, Takes, true, List, ◌++◌, Some, None, refl}
+use Names.{Halt, Trap, Goes, Bool, ◌==◌, ◌||◌, Need, home, Solo, Uses, Fits, pair, Ways, Core, Asks, step, ◌≡◌, ◌≤◌, ◌≢◌, ◌∷◌, map, sym}
+use Names.{◌∙◌, Run, ◌<◌, ◌⊎◌, inl, inr, num, Out, Dir, Msg, ap, [], ℕ}
+use proofs.Counts.StepCases.{given, OfAnswer, step_cases}
+use proofs.Memory.MemorySends.{accesses_at_homes, marks_at_homes}
+use proofs.OneCore.CoreCloses.{Gives, Closing, Leaves, Stays, Closes, exec-leaves}
+use proofs.OneCore.CoreStays.{CheckpointStays, evict-stays, grant-stays, back-stays}
+use proofs.Order.InsertedOrders.{order_inserted, put-same, serial_again, serial-memory}
+use proofs.Order.SerialParts.{before, behind, cut-inserted, behind-below, before-smaller, last-below, SerialCut, home-below, agrees-before}
+use proofs.Order.SerialParts.{cut-joined, Each, each-listed, each-behind, each-both, each-then, behind-larger, orders-another, touch-none}
+use proofs.Order.SerialParts.{serial-cut, serial-holds, all_stores}
+use proofs.Tids.Commits.{numbered-least, granted-at}
 
 -- The transaction of a core that commits, inserted into the serial execution at its TID.
 

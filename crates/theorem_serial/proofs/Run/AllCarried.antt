@@ -1,23 +1,21 @@
 -- The whole list along every run, from what each event keeps of it; and so every run is serial.
-use Rattle.theorem_serial.proofs.Names.{◌≡◌, List, [], ◌∷◌, ◌++◌, Option, Some, None, refl, ap, subst, sym, ◌∙◌, append_assoc, append-nil}
-use Rattle.theorem_serial.proofs.Names.{Program, Event, Shape, History, next_history, and_then, run_from, Views, views_after, views_from}
-use Rattle.theorem_serial.proofs.Names.{granted_by, grants_from, Ways, sent_by, ways_after, ways_from, ℕ, flat_map, inl, serial, Local}
-use Rattle.theorem_serial.proofs.Names.{is_skipped, first_serving, empty_cache, no_lines, Copy, seen, home_copy, copies, copies_of}
-use Rattle.theorem_serial.proofs.Names.{copies_on}
-use Rattle.theorem_serial.proofs.Names.{newest, numbers, core_start, dir_start, vendor_start, start, ReadFits, CoresSerial, SeenSerial}
-use Rattle.theorem_serial.proofs.Names.{plain_start, live, Carried, StartHasAll, first_state, marks_of, pair, first_ways, run, HomeWords}
-use Rattle.theorem_serial.proofs.Names.{CopiesAbove, UnmodifiedWords, FilledWords, CopiesHave, value_at, after_commits, start-follows}
-use Rattle.theorem_serial.proofs.Names.{IfSome}
-use Rattle.theorem_serial.proofs.Names.{Plain, no_views, Suits, AllHold, IsSerialExecution, RunsAreSerial, CarriedInMemory, CarriedViews}
-use Rattle.theorem_serial.proofs.Names.{Invariants, Grant, IsSerial, ViewedWords, HaltedUsesNone}
 use Rattle.theorem_serial.specs.KeepsHomes.{HomesHold}
-use Rattle.theorem_serial.proofs.Memory.InMemoryKept.{start-memory}
-use Rattle.theorem_serial.proofs.Order.SerialSteps.{events_serial}
-use Rattle.theorem_serial.proofs.Run.FactsOfRuns.{runs_carry, carried-memory, runs_stay_in_memory, runs_carry_views}
-use Rattle.theorem_serial.proofs.Values.FramedSteps.{words_kept}
-use Rattle.theorem_serial.proofs.Values.HomeWordsKept.{homes_kept}
-use Rattle.theorem_serial.proofs.Values.SeenWords.{seen_follows}
-use Rattle.theorem_serial.proofs.Views.ViewsKept.{keeps_views}
+use Rattle.theorem_serial.proofs
+use proofs.Names
+use Names.{◌≡◌, List, [], ◌∷◌, ◌++◌, Option, Some, None, refl, ap, subst, sym, ◌∙◌, append_assoc, append-nil, Program, Event, Shape}
+use Names.{History, next_history, and_then, run_from, Views, views_after, views_from, granted_by, grants_from, Ways, sent_by, ways_after}
+use Names.{ways_from, ℕ, flat_map, inl, serial, Local, is_skipped, first_serving, empty_cache, no_lines, Copy, seen, home_copy, copies}
+use Names.{copies_of, copies_on, newest, numbers, core_start, dir_start, vendor_start, start, ReadFits, CoresSerial, SeenSerial}
+use Names.{plain_start, live, Carried, StartHasAll, first_state, marks_of, pair, first_ways, run, HomeWords, CopiesAbove, UnmodifiedWords}
+use Names.{FilledWords, CopiesHave, value_at, after_commits, start-follows, IfSome, Plain, no_views, Suits, AllHold, IsSerialExecution}
+use Names.{RunsAreSerial, CarriedInMemory, CarriedViews, Invariants, Grant, IsSerial, ViewedWords, HaltedUsesNone}
+use proofs.Memory.InMemoryKept.{start-memory}
+use proofs.Order.SerialSteps.{events_serial}
+use proofs.Run.FactsOfRuns.{runs_carry, carried-memory, runs_stay_in_memory, runs_carry_views}
+use proofs.Values.FramedSteps.{words_kept}
+use proofs.Values.HomeWordsKept.{homes_kept}
+use proofs.Values.SeenWords.{seen_follows}
+use proofs.Views.ViewsKept.{keeps_views}
 
 -- A run with one more event behind it: the state, the grants, the ways and the views are those of the run, and then the event's.
 

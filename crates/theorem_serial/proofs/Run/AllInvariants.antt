@@ -1,27 +1,25 @@
 -- All invariants together, through every event and along every run.
-use Rattle.theorem_serial.proofs.Names.{SparesItsCommitter, SparesCommitter, KeptCommitting, MarksAreStored, append_assoc, next_history}
-use Rattle.theorem_serial.proofs.Names.{Option}
-use Rattle.theorem_serial.proofs.Names.{KeptCounted, then_grants, grants_from, LastGranted, append-nil, core_start, KeptStored, granted_by}
-use Rattle.theorem_serial.proofs.Names.{◌∷◌}
-use Rattle.theorem_serial.proofs.Names.{KeptOwners, and_noted, KeptWhole, KeptNamed, KeptMarks, KeptMasks, KeptCores, HoldsLast, recorded}
-use Rattle.theorem_serial.proofs.Names.{List}
-use Rattle.theorem_serial.proofs.Names.{and_then, run_from, KeptTold, Program, Stepped, History, has_tid, KeptAll, IfSome, Always, arith}
-use Rattle.theorem_serial.proofs.Names.{Local}
-use Rattle.theorem_serial.proofs.Names.{Event, Shape, World, start, Grant, ◌++◌, Some, None, refl, step, live, pair, Kept, sym, run, [], ℕ}
 use Rattle.theorem_serial.specs.Asked.{KeptAsked}
 use Rattle.theorem_serial.specs.Probing.{KeptProbing, OneProbe}
-use Rattle.theorem_serial.proofs.Lines.AskedKept.{step-asked, start-asked}
-use Rattle.theorem_serial.proofs.Marks.CountsKept.{step-counted, start-counted}
-use Rattle.theorem_serial.proofs.Marks.MarksKept.{step-marks, start-marks}
-use Rattle.theorem_serial.proofs.Marks.ModifiedMasksKept.{step-masks, start-masks}
-use Rattle.theorem_serial.proofs.Marks.NamedKept.{step-named, start-named}
-use Rattle.theorem_serial.proofs.Marks.PartlyMarkedUnowned.{step-whole, start-whole}
-use Rattle.theorem_serial.proofs.Marks.StoredKept.{step-stored, start-stored}
-use Rattle.theorem_serial.proofs.OneCore.CoreAlone.{step-cores, start-cores}
-use Rattle.theorem_serial.proofs.Serving.CommitSteps.{step-committing, start-committing, step-spared}
-use Rattle.theorem_serial.proofs.Serving.KeptSteps.{step-kept, start-all}
-use Rattle.theorem_serial.proofs.Serving.OwnerSteps.{step-owners, start-owners, step-last}
-use Rattle.theorem_serial.proofs.Serving.ProbingSteps.{step-probing}
+use Rattle.theorem_serial.proofs
+use proofs.Names
+use Names.{SparesItsCommitter, SparesCommitter, KeptCommitting, MarksAreStored, append_assoc, next_history, Option, KeptCounted}
+use Names.{then_grants, grants_from, LastGranted, append-nil, core_start, KeptStored, granted_by, ◌∷◌, KeptOwners, and_noted, KeptWhole}
+use Names.{KeptNamed, KeptMarks, KeptMasks, KeptCores, HoldsLast, recorded, List, and_then, run_from, KeptTold, Program, Stepped, History}
+use Names.{has_tid, KeptAll, IfSome, Always, arith, Local, Event, Shape, World, start, Grant, ◌++◌, Some, None, refl, step, live, pair}
+use Names.{Kept, sym, run, [], ℕ}
+use proofs.Lines.AskedKept.{step-asked, start-asked}
+use proofs.Marks.CountsKept.{step-counted, start-counted}
+use proofs.Marks.MarksKept.{step-marks, start-marks}
+use proofs.Marks.ModifiedMasksKept.{step-masks, start-masks}
+use proofs.Marks.NamedKept.{step-named, start-named}
+use proofs.Marks.PartlyMarkedUnowned.{step-whole, start-whole}
+use proofs.Marks.StoredKept.{step-stored, start-stored}
+use proofs.OneCore.CoreAlone.{step-cores, start-cores}
+use proofs.Serving.CommitSteps.{step-committing, start-committing, step-spared}
+use proofs.Serving.KeptSteps.{step-kept, start-all}
+use proofs.Serving.OwnerSteps.{step-owners, start-owners, step-last}
+use proofs.Serving.ProbingSteps.{step-probing}
 
 start-probing : (entries : ℕ → Local) (ram : ℕ → ℕ) → KeptProbing (start entries ram)
 unfolding start core_start pair live has_tid

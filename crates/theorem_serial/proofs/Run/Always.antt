@@ -1,12 +1,11 @@
 -- The laws of every run, from the invariants.
-use Rattle.theorem_serial.proofs.Names.{ℕ, ◌≡◌, ◌<◌, ◌≤◌, ◌==◌, ◌&&◌, ◌||◌, Bool, true, false, Option, Some, None, IfSome, nat_lt, arith}
-use Rattle.theorem_serial.proofs.Names.{refl}
-use Rattle.theorem_serial.proofs.Names.{nat_tests, num, Shape, writes_at, reads_at, World, start, Phase, Probing, Ready, Overflowing, Solo}
-use Rattle.theorem_serial.proofs.Names.{History, run, pair, share, opens, part, handled, ResolvedAt, Kept, Always, OneWay, OneRequest}
-use Rattle.theorem_serial.proofs.Names.{Passed}
-use Rattle.theorem_serial.proofs.Names.{NeverPasses, OwedInFlight, Served, tid_of, asks_dir, KeptOwed}
-use Rattle.theorem_serial.proofs.Counts.Links.{total-le}
-use Rattle.theorem_serial.proofs.Serving.KeptSteps.{run-kept}
+use Rattle.theorem_serial.proofs
+use proofs.Names
+use Names.{ℕ, ◌≡◌, ◌<◌, ◌≤◌, ◌==◌, ◌&&◌, ◌||◌, Bool, true, false, Option, Some, None, IfSome, nat_lt, arith, refl, nat_tests, num, Shape}
+use Names.{writes_at, reads_at, World, start, Phase, Probing, Ready, Overflowing, Solo, History, run, pair, share, opens, part, handled}
+use Names.{ResolvedAt, Kept, Always, OneWay, OneRequest, Passed, NeverPasses, OwedInFlight, Served, tid_of, asks_dir, KeptOwed}
+use proofs.Counts.Links.{total-le}
+use proofs.Serving.KeptSteps.{run-kept}
 
 from_kept : (P : Shape → World → Type 0) → ((sh : Shape) (w : World) → Kept sh w → P sh w) → Always P
 from_kept P f sh p entries ram es = go (run sh p (start entries ram) es) (run-kept sh p entries ram es)

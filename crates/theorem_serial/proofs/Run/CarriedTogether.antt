@@ -1,30 +1,30 @@
 -- What is carried along every run together with all else.
-use Rattle.theorem_serial.proofs.Names.{ℕ, List, [], ◌++◌, Option, Some, None, IfSome, Program, Local, Event, Shape, Stepped, step, History}
-use Rattle.theorem_serial.proofs.Names.{and_noted, recorded, run_from, run, KeptHomes, KeptLineOwners, KeptLoading, KeptAfter, first_state}
-use Rattle.theorem_serial.proofs.Names.{KeptAll, KeptTold, OneMark, Grant, granted_by, grants_from, ◌<◌, ◌≡◌, true, false, ◌∷◌, sym}
-use Rattle.theorem_serial.proofs.Names.{append_assoc, append-nil, start, next_history, and_then, KeptTags, KeptGets, KeptSharers}
-use Rattle.theorem_serial.proofs.Names.{is_applied}
-use Rattle.theorem_serial.proofs.Names.{stores_at, Noted, KeptRun, then_grants, Ways, ways_after, sent_by, then_ways, ways_from, first_ways}
-use Rattle.theorem_serial.proofs.Copies.CopyFacts.{start-lines}
-use Rattle.theorem_serial.proofs.Copies.LinesKept.{KeptLines}
-use Rattle.theorem_serial.proofs.Copies.LinesStep.{step-lines}
-use Rattle.theorem_serial.proofs.Copies.TagsKept.{TagStep, tag-step, tags-out, start-tags}
-use Rattle.theorem_serial.proofs.Copies.WroteLines.{new-commit, on-its-way}
-use Rattle.theorem_serial.proofs.Lines.GetsKept.{step-gets, start-gets}
-use Rattle.theorem_serial.proofs.Lines.LineOwnersKept.{step-line-owners, start-line-owners}
-use Rattle.theorem_serial.proofs.Lines.LoadsKept.{step-loading, start-loading}
-use Rattle.theorem_serial.proofs.Lines.SharersStep.{step-sharers, start-sharers}
-use Rattle.theorem_serial.proofs.Marks.AfterKept.{step-after, start-after}
-use Rattle.theorem_serial.proofs.Marks.ModifiedMasksKept.{step-one-mark, start-one-mark}
-use Rattle.theorem_serial.proofs.Marks.NamedKept.{KeptUnacked, step-unacked, start-unacked}
-use Rattle.theorem_serial.proofs.Marks.ReadsKept.{KeptReads, step-reads, start-reads}
-use Rattle.theorem_serial.proofs.Memory.HomesKept.{step-homes, start-homes}
-use Rattle.theorem_serial.proofs.Run.AllInvariants.{step-all, run-all}
-use Rattle.theorem_serial.proofs.Serving.OwingKept.{KeptOwing, step-owing, start-owing}
-use Rattle.theorem_serial.proofs.Serving.ProbingSteps.{KeptProbed, step-probed, start-probed}
-use Rattle.theorem_serial.proofs.Ways.ByCore.{ByCore}
-use Rattle.theorem_serial.proofs.Ways.ToldSteps.{Speaks, step-speaks}
-use Rattle.theorem_serial.proofs.Ways.WayFacts.{step-run, start-run}
+use Rattle.theorem_serial.proofs
+use proofs.Names
+use Names.{ℕ, List, [], ◌++◌, Option, Some, None, IfSome, Program, Local, Event, Shape, Stepped, step, History, and_noted, recorded}
+use Names.{run_from, run, KeptHomes, KeptLineOwners, KeptLoading, KeptAfter, first_state, KeptAll, KeptTold, OneMark, Grant, granted_by}
+use Names.{grants_from, ◌<◌, ◌≡◌, true, false, ◌∷◌, sym, append_assoc, append-nil, start, next_history, and_then, KeptTags, KeptGets}
+use Names.{KeptSharers, is_applied, stores_at, Noted, KeptRun, then_grants, Ways, ways_after, sent_by, then_ways, ways_from, first_ways}
+use proofs.Copies.CopyFacts.{start-lines}
+use proofs.Copies.LinesKept.{KeptLines}
+use proofs.Copies.LinesStep.{step-lines}
+use proofs.Copies.TagsKept.{TagStep, tag-step, tags-out, start-tags}
+use proofs.Copies.WroteLines.{new-commit, on-its-way}
+use proofs.Lines.GetsKept.{step-gets, start-gets}
+use proofs.Lines.LineOwnersKept.{step-line-owners, start-line-owners}
+use proofs.Lines.LoadsKept.{step-loading, start-loading}
+use proofs.Lines.SharersStep.{step-sharers, start-sharers}
+use proofs.Marks.AfterKept.{step-after, start-after}
+use proofs.Marks.ModifiedMasksKept.{step-one-mark, start-one-mark}
+use proofs.Marks.NamedKept.{KeptUnacked, step-unacked, start-unacked}
+use proofs.Marks.ReadsKept.{KeptReads, step-reads, start-reads}
+use proofs.Memory.HomesKept.{step-homes, start-homes}
+use proofs.Run.AllInvariants.{step-all, run-all}
+use proofs.Serving.OwingKept.{KeptOwing, step-owing, start-owing}
+use proofs.Serving.ProbingSteps.{KeptProbed, step-probed, start-probed}
+use proofs.Ways.ByCore.{ByCore}
+use proofs.Ways.ToldSteps.{Speaks, step-speaks}
+use proofs.Ways.WayFacts.{step-run, start-run}
 
 pub record KeptMore (sh : Shape) (gs : List Grant) (h : History) : Type 0 where
   pub all : KeptAll sh gs h

@@ -1,10 +1,10 @@
 -- The program that counts suits, and its run is computed by the definitions alone.
-use Rattle.theorem_serial.proofs.Names.{ℕ, arith, refl, word_of, NeedFits, NeedInMemory}
 use Rattle.rules_program.specs.Cores.{printed}
 use Rattle.theorem_serial.specs.Counter.{two_cores, Inst, Gets, Puts, PutsBeside, at_pc, register, inst_need, counting, CountingSuits}
 use Rattle.theorem_serial.specs.Counter.{GoesAlone, HasRead, IsViolated, CountsOn, NothingIsLeft}
 use Rattle.theorem_serial.specs.Shown.{changed, shown}
 use Rattle.rules_tcc.proofs.Lemmas.{computed}
+use Rattle.theorem_serial.proofs.Names.{ℕ, arith, refl, word_of, NeedFits, NeedInMemory}
 
 inst-fits : (i : Inst) (value : ℕ) → NeedFits (inst_need i value)
 inst-fits Gets y = refl

@@ -1,31 +1,26 @@
 -- The facts of the list that are proved of every run, from what is carried together along it.
-use Rattle.theorem_serial.proofs.Names.{ℕ, ◌+◌, ◌≡◌, ◌<◌, ◌≤◌, ◌==◌, ◌&&◌, Bool, true, false, not, List, Contains, Option, Some, None}
-use Rattle.theorem_serial.proofs.Names.{IfSome}
-use Rattle.theorem_serial.proofs.Names.{nat_le, arith, refl, nat_tests, Local, Program, Event, num, Shape, home, Cache, IsCache, has_mark}
-use Rattle.theorem_serial.proofs.Names.{CoreState, Halted, World, start, History, run, IsApart, PhaseFits, Grants, Marks, MarkOf, Probes}
-use Rattle.theorem_serial.proofs.Names.{Replies, live, Carried, RunsCarry, first_state, KeptAll, marks_of, marked_by, has_marked}
-use Rattle.theorem_serial.proofs.Names.{stores_line}
-use Rattle.theorem_serial.proofs.Names.{OneCore, Empty, Grant, grants_from, times, holder, pair, share, CommitsStand, MarksWait}
-use Rattle.theorem_serial.proofs.Names.{MarkedByServed}
-use Rattle.theorem_serial.proofs.Names.{MarksOfCommits, Ways, first_ways, ways_from, UntoldWhereOpen, UntoldIsLive, AllWaysFit, GivenUpOnce}
-use Rattle.theorem_serial.proofs.Names.{LiveIsOpen, CommittedWhereStored, SmallerAreGivenUp, WorkIsReached, ◌||◌, is_some, sym, ◌∙◌, inl}
-use Rattle.theorem_serial.proofs.Names.{inr}
-use Rattle.theorem_serial.proofs.Names.{cases_lt, lines, Awaited, is_awaited, AttemptInMemory, LoadsInMemory, CopiesInMemory}
-use Rattle.theorem_serial.proofs.Names.{CarriedInMemory}
-use Rattle.theorem_serial.proofs.Names.{RunsStayInMemory, Uses, MarksFit, AttemptFits, Views, no_views, views_from, attempts-fit, ReadFits}
-use Rattle.theorem_serial.proofs.Names.{CarriedViews, RunsCarryViews}
-use Rattle.theorem_serial.proofs.Copies.CopyFacts.{above-from, owned-from}
-use Rattle.theorem_serial.proofs.Copies.WroteLines.{on-its-way}
-use Rattle.theorem_serial.proofs.Counts.Links.{total-le}
-use Rattle.theorem_serial.proofs.Marks.MaskLaws.{marked_by_served, marks_of_commits}
-use Rattle.theorem_serial.proofs.Marks.ReadsKept.{read-words}
-use Rattle.theorem_serial.proofs.Memory.InMemoryKept.{KeptInMemory, run-memory}
-use Rattle.theorem_serial.proofs.Run.AllInvariants.{one_probe_from}
-use Rattle.theorem_serial.proofs.Run.Always.{passed, owed_from, served_from}
-use Rattle.theorem_serial.proofs.Run.CarriedTogether.{KeptCopies, run-copies, KeptMore}
-use Rattle.theorem_serial.proofs.Serving.CommitSteps.{commits_served}
-use Rattle.theorem_serial.proofs.Ways.WayFacts.{told_from, smaller_are_given_up, work_is_reached, untold_where_open, untold_is_live}
-use Rattle.theorem_serial.proofs.Ways.WayFacts.{all_ways_fit, given_up_once, live_is_open, committed_where_stored}
+use Rattle.theorem_serial.proofs
+use proofs.Names
+use Names.{ℕ, ◌+◌, ◌≡◌, ◌<◌, ◌≤◌, ◌==◌, ◌&&◌, Bool, true, false, not, List, Contains, Option, Some, None, IfSome, nat_le, arith, refl}
+use Names.{nat_tests, Local, Program, Event, num, Shape, home, Cache, IsCache, has_mark, CoreState, Halted, World, start, History, run}
+use Names.{IsApart, PhaseFits, Grants, Marks, MarkOf, Probes, Replies, live, Carried, RunsCarry, first_state, KeptAll, marks_of, marked_by}
+use Names.{has_marked, stores_line, OneCore, Empty, Grant, grants_from, times, holder, pair, share, CommitsStand, MarksWait, MarkedByServed}
+use Names.{MarksOfCommits, Ways, first_ways, ways_from, UntoldWhereOpen, UntoldIsLive, AllWaysFit, GivenUpOnce, LiveIsOpen}
+use Names.{CommittedWhereStored, SmallerAreGivenUp, WorkIsReached, ◌||◌, is_some, sym, ◌∙◌, inl, inr, cases_lt, lines, Awaited, is_awaited}
+use Names.{AttemptInMemory, LoadsInMemory, CopiesInMemory, CarriedInMemory, RunsStayInMemory, Uses, MarksFit, AttemptFits, Views, no_views}
+use Names.{views_from, attempts-fit, ReadFits, CarriedViews, RunsCarryViews}
+use proofs.Copies.CopyFacts.{above-from, owned-from}
+use proofs.Copies.WroteLines.{on-its-way}
+use proofs.Counts.Links.{total-le}
+use proofs.Marks.MaskLaws.{marked_by_served, marks_of_commits}
+use proofs.Marks.ReadsKept.{read-words}
+use proofs.Memory.InMemoryKept.{KeptInMemory, run-memory}
+use proofs.Run.AllInvariants.{one_probe_from}
+use proofs.Run.Always.{passed, owed_from, served_from}
+use proofs.Run.CarriedTogether.{KeptCopies, run-copies, KeptMore}
+use proofs.Serving.CommitSteps.{commits_served}
+use proofs.Ways.WayFacts.{told_from, smaller_are_given_up, work_is_reached, untold_where_open, untold_is_live, all_ways_fit, given_up_once}
+use proofs.Ways.WayFacts.{live_is_open, committed_where_stored}
 
 -- one core
 apart : (sh : Shape) (c : Cache) → IsCache sh c → IsApart c

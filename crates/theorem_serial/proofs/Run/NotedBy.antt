@@ -1,16 +1,15 @@
 -- Every commit is by a core of the machine.
-use Rattle.theorem_serial.proofs.Names.{ℕ, ◌≡◌, ◌<◌, Bool, true, false, List, [], ◌∷◌, Option, Some, None, IfSome, nat_lt, if◌then◌else◌}
-use Rattle.theorem_serial.proofs.Names.{arith}
-use Rattle.theorem_serial.proofs.Names.{nat_tests, Noted, Program, Event, TidGrant, Shape, CoreState, World, start, Out, core_exec}
-use Rattle.theorem_serial.proofs.Names.{core_evict}
-use Rattle.theorem_serial.proofs.Names.{from_dir, grant, Answer, Waits, Drops, Asks, Takes, dir_deliver, Stepped, step, History}
-use Rattle.theorem_serial.proofs.Names.{insert_commit}
-use Rattle.theorem_serial.proofs.Names.{and_noted, recorded, next_history, and_then, run_from, run, Kept}
 use Rattle.rules_program.specs.Cores.{AreBy}
 use Rattle.theorem_serial.specs.NotedBy.{is_core, AreByCores, CommitsAreByCores}
-use Rattle.theorem_serial.proofs.Tids.CoreOwners.{KeepsHolder, holder-exec, holder-evict, holder-grant, holder-back}
-use Rattle.theorem_serial.proofs.Serving.KeptSteps.{core_of_grant, core_of_back, step-kept, start-all}
-use Rattle.theorem_serial.proofs.Counts.StepCases.{OfAnswer, step_cases}
+use Rattle.theorem_serial.proofs
+use proofs.Names
+use Names.{ℕ, ◌≡◌, ◌<◌, Bool, true, false, List, [], ◌∷◌, Option, Some, None, IfSome, nat_lt, if◌then◌else◌, arith, nat_tests, Noted}
+use Names.{Program, Event, TidGrant, Shape, CoreState, World, start, Out, core_exec, core_evict, from_dir, grant, Answer, Waits, Drops}
+use Names.{Asks, Takes, dir_deliver, Stepped, step, History, insert_commit, and_noted, recorded, next_history, and_then, run_from, run}
+use Names.{Kept}
+use proofs.Tids.CoreOwners.{KeepsHolder, holder-exec, holder-evict, holder-grant, holder-back}
+use proofs.Serving.KeptSteps.{core_of_grant, core_of_back, step-kept, start-all}
+use proofs.Counts.StepCases.{OfAnswer, step_cases}
 
 -- what a step notes is by a core of the machine
 abbrev NotedByCore : Shape → Option Noted → Type 0

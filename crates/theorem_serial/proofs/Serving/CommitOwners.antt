@@ -1,14 +1,14 @@
 -- What a core sends a Commit of is what it notes the commit of.
-use Rattle.theorem_serial.proofs.Names.{ℕ, ◌≡◌, ◌≤◌, List, ◌==◌, IfSome, arith, refl, nat_tests, Program, num, Dir, Msg, Shape, Cache}
-use Rattle.theorem_serial.proofs.Names.{Spilled}
-use Rattle.theorem_serial.proofs.Names.{CoreState, Out, commit, commit_sends, noted, solo_sends, solo_marks_or_skip, solo_write_backs}
-use Rattle.theorem_serial.proofs.Names.{core_exec, core_evict, grant, from_dir, Commits, AnyCommit, among, passes, solo_commit}
-use Rattle.theorem_serial.proofs.Serving.CoreCommits.{heard-free, granted-free}
-use Rattle.theorem_serial.proofs.Counts.Links.{among-append, among-fewer, among-flat_map_none}
-use Rattle.theorem_serial.proofs.Tids.CoreOwners.{noted_tid}
-use Rattle.theorem_serial.proofs.OneCore.Said.{quiet, Empties}
-use Rattle.theorem_serial.proofs.OneCore.Outcomes.{Commits_now, Did, each-exec, out, each-evict, emptied, Ends_alone, each-back, heard}
-use Rattle.theorem_serial.proofs.OneCore.Outcomes.{said}
+use Rattle.theorem_serial.proofs
+use proofs.Names
+use Names.{ℕ, ◌≡◌, ◌≤◌, List, ◌==◌, IfSome, arith, refl, nat_tests, Program, num, Dir, Msg, Shape, Cache, Spilled, CoreState, Out, commit}
+use Names.{commit_sends, noted, solo_sends, solo_marks_or_skip, solo_write_backs, core_exec, core_evict, grant, from_dir, Commits}
+use Names.{AnyCommit, among, passes, solo_commit}
+use proofs.Serving.CoreCommits.{heard-free, granted-free}
+use proofs.Counts.Links.{among-append, among-fewer, among-flat_map_none}
+use proofs.Tids.CoreOwners.{noted_tid}
+use proofs.OneCore.Said.{quiet, Empties}
+use proofs.OneCore.Outcomes.{Commits_now, Did, each-exec, out, each-evict, emptied, Ends_alone, each-back, heard, said}
 
 -- a Commit is sent of no TID but the one noted
 abbrev pub CommitsNoted : Out → Type 0

@@ -1,35 +1,26 @@
 -- Every event keeps that a Commit in flight is of the served TID, and that no invalidation goes to the core that committed.
 use Rattle.base_lemmas.proofs.Lemmas.{eq-self}
-use Rattle.theorem_serial.proofs.Names.{Contains-append_cases, Contains-append_left, CommitsAreServed, SparesCommitter, slice_index_or}
-use Rattle.theorem_serial.proofs.Names.{Program}
-use Rattle.theorem_serial.proofs.Names.{KeptCommitting, grant_in_phase, next_history, CommitsAbove, after_answer, CommittingOf}
-use Rattle.theorem_serial.proofs.Names.{vendor_gives, ℕ}
-use Rattle.theorem_serial.proofs.Names.{cases_order, dir_deliver, grant_taken, Overflowing, core_evict, core_moves, core_takes, after_move}
-use Rattle.theorem_serial.proofs.Names.{◌≡◌}
-use Rattle.theorem_serial.proofs.Names.{back_taken, append-nil, granted_by, IsNumbered, KeptOwners, nat_tests, in_flight, core_exec}
-use Rattle.theorem_serial.proofs.Names.{dir_takes}
-use Rattle.theorem_serial.proofs.Names.{and_noted, out_taken, CoreState, DoomedTid, DirState, from_dir, recorded, and_then, run_from}
-use Rattle.theorem_serial.proofs.Names.{Resolves}
-use Rattle.theorem_serial.proofs.Names.{Contains, cases_lt, AwaitTid, sent_all, dir_asks, KeptTold, SparedOf, cases_eq, Stepped, History}
-use Rattle.theorem_serial.proofs.Names.{arith}
-use Rattle.theorem_serial.proofs.Names.{Commits, handled, Running, Probing, InvsNot, Option, IfSome, nat_lt, Answer, passes, Always, Halted}
-use Rattle.theorem_serial.proofs.Names.{[]}
-use Rattle.theorem_serial.proofs.Names.{holder, Local, Event, Shape, World, start, Sends, grant, Waits, Drops, Takes, share, Noted, Phase}
-use Rattle.theorem_serial.proofs.Names.{List}
-use Rattle.theorem_serial.proofs.Names.{Ready, among, Grant, Some, None, refl, Core, Link, Asks, step, live, Pair, pair, part, Kept, true}
-use Rattle.theorem_serial.proofs.Names.{◌++◌}
-use Rattle.theorem_serial.proofs.Names.{Solo, Invs, Acks, ◌<◌, ◌≤◌, ◌∷◌, ◌⊎◌, inl, inr, num, Dir, Msg, Out, run, sym, ◌∙◌, due, ap}
-use Rattle.theorem_serial.proofs.Counts.Links.{live-sends, live-takes, total-le, live-fewer}
-use Rattle.theorem_serial.proofs.Counts.StepCases.{pairs_move, pairs_grant, pairs_back, pairs_dir, pairs_asks, pairs_vendor, OfAnswer}
-use Rattle.theorem_serial.proofs.Counts.StepCases.{step_cases, given}
-use Rattle.theorem_serial.proofs.Serving.CommitOwners.{CommitsNoted, noted-exec, noted-evict, noted-grant, noted-back}
-use Rattle.theorem_serial.proofs.Serving.CoreCommits.{Served, served-exec, served-evict, served-grant, served-back, fewer-above}
-use Rattle.theorem_serial.proofs.Serving.DirDue.{Due, DueBy, dir-due, still-due, none-quiet}
-use Rattle.theorem_serial.proofs.Serving.DirInvs.{SparesOwn, SparesBy, dir-spares}
-use Rattle.theorem_serial.proofs.Serving.DirProbes.{Rises, RisesBy, dir-rises, rises-still}
-use Rattle.theorem_serial.proofs.Serving.KeptSteps.{step-kept, start-all, marks_home, acks_owed, invs-few, core_of_out, once_at}
-use Rattle.theorem_serial.proofs.Tids.Commits.{granted-once, only-one}
-use Rattle.theorem_serial.proofs.Tids.CoreOwners.{KeepsHolder, noted_tid, none, holder-exec, holder-evict, holder-back}
+use Rattle.theorem_serial.proofs
+use proofs.Names
+use Names.{Contains-append_cases, Contains-append_left, CommitsAreServed, SparesCommitter, slice_index_or, Program, KeptCommitting}
+use Names.{grant_in_phase, next_history, CommitsAbove, after_answer, CommittingOf, vendor_gives, ℕ, cases_order, dir_deliver, grant_taken}
+use Names.{Overflowing, core_evict, core_moves, core_takes, after_move, ◌≡◌, back_taken, append-nil, granted_by, IsNumbered, KeptOwners}
+use Names.{nat_tests, in_flight, core_exec, dir_takes, and_noted, out_taken, CoreState, DoomedTid, DirState, from_dir, recorded, and_then}
+use Names.{run_from, Resolves, Contains, cases_lt, AwaitTid, sent_all, dir_asks, KeptTold, SparedOf, cases_eq, Stepped, History, arith}
+use Names.{Commits, handled, Running, Probing, InvsNot, Option, IfSome, nat_lt, Answer, passes, Always, Halted, [], holder, Local, Event}
+use Names.{Shape, World, start, Sends, grant, Waits, Drops, Takes, share, Noted, Phase, List, Ready, among, Grant, Some, None, refl, Core}
+use Names.{Link, Asks, step, live, Pair, pair, part, Kept, true, ◌++◌, Solo, Invs, Acks, ◌<◌, ◌≤◌, ◌∷◌, ◌⊎◌, inl, inr, num, Dir, Msg, Out}
+use Names.{run, sym, ◌∙◌, due, ap}
+use proofs.Counts.Links.{live-sends, live-takes, total-le, live-fewer}
+use proofs.Counts.StepCases.{pairs_move, pairs_grant, pairs_back, pairs_dir, pairs_asks, pairs_vendor, OfAnswer, step_cases, given}
+use proofs.Serving.CommitOwners.{CommitsNoted, noted-exec, noted-evict, noted-grant, noted-back}
+use proofs.Serving.CoreCommits.{Served, served-exec, served-evict, served-grant, served-back, fewer-above}
+use proofs.Serving.DirDue.{Due, DueBy, dir-due, still-due, none-quiet}
+use proofs.Serving.DirInvs.{SparesOwn, SparesBy, dir-spares}
+use proofs.Serving.DirProbes.{Rises, RisesBy, dir-rises, rises-still}
+use proofs.Serving.KeptSteps.{step-kept, start-all, marks_home, acks_owed, invs-few, core_of_out, once_at}
+use proofs.Tids.Commits.{granted-once, only-one}
+use proofs.Tids.CoreOwners.{KeepsHolder, noted_tid, none, holder-exec, holder-evict, holder-back}
 
 -- Every event keeps that a Commit in flight is of the served TID, and so does every run.
 committing-moved : (v : Pair) (o : Out) (d : ℕ) → Served d v.dir.serving.serving o → CommittingOf v → CommittingOf (after_move v o d)

@@ -1,12 +1,13 @@
 -- A core sends a Commit only to directories that have reached its TID.
-use Rattle.theorem_serial.proofs.Names.{ℕ, ◌≡◌, ◌<◌, ◌≤◌, true, false, List, IfSome, nat_lt, arith, refl, nat_tests, Program, num, Dir, Msg}
-use Rattle.theorem_serial.proofs.Names.{Shape, Cache, writes_at, CoreState, Ready, Link, Out, commit, commit_sends, solo_sends, core_exec}
-use Rattle.theorem_serial.proofs.Names.{core_evict, grant, from_dir, CommitsAbove, AnyCommit, among, live, passes, Reached, cases_lt}
-use Rattle.theorem_serial.proofs.Names.{inl, inr, solo_commit, ◌⊎◌}
-use Rattle.theorem_serial.proofs.Counts.Links.{among-fewer, live-fewer}
-use Rattle.theorem_serial.proofs.OneCore.Said.{quiet, Empties, Flushes, Silent, Tells_alone, say}
-use Rattle.theorem_serial.proofs.OneCore.Outcomes.{Commits_now, Did, each-exec, out, each-evict, emptied, Ends_alone, Given_none, Granted}
-use Rattle.theorem_serial.proofs.OneCore.Outcomes.{Hands_out, Heard, each-back, each-grant, granted, granted_said, heard, heard-quiet, said}
+use Rattle.theorem_serial.proofs
+use proofs.Names
+use Names.{ℕ, ◌≡◌, ◌<◌, ◌≤◌, true, false, List, IfSome, nat_lt, arith, refl, nat_tests, Program, num, Dir, Msg, Shape, Cache, writes_at}
+use Names.{CoreState, Ready, Link, Out, commit, commit_sends, solo_sends, core_exec, core_evict, grant, from_dir, CommitsAbove, AnyCommit}
+use Names.{among, live, passes, Reached, cases_lt, inl, inr, solo_commit, ◌⊎◌}
+use proofs.Counts.Links.{among-fewer, live-fewer}
+use proofs.OneCore.Said.{quiet, Empties, Flushes, Silent, Tells_alone, say}
+use proofs.OneCore.Outcomes.{Commits_now, Did, each-exec, out, each-evict, emptied, Ends_alone, Given_none, Granted, Hands_out, Heard}
+use proofs.OneCore.Outcomes.{each-back, each-grant, granted, granted_said, heard, heard-quiet, said}
 
 -- no Commit of a TID above x
 abbrev pub Served : (dir x : ℕ) → Out → Type 0

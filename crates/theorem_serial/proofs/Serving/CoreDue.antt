@@ -1,22 +1,18 @@
 -- A core acknowledges nothing but an invalidation, and marks lines at their homes alone.
-use Rattle.theorem_serial.proofs.Names.{ℕ, zero, suc, ◌≡◌, ◌≤◌, ◌%◌, Bool, true, false, List, [], ◌∷◌, ◌++◌, ◌==◌, ◌&&◌, None, IfSome}
-use Rattle.theorem_serial.proofs.Names.{nat_lt}
-use Rattle.theorem_serial.proofs.Names.{cond, if◌then◌else◌, flat_map, arith, refl, nat_tests, flat_map-append, Program, num, those}
-use Rattle.theorem_serial.proofs.Names.{count_below, Dir, Msg, Fill, Skip, ProbeReply, Mark, Commit, WriteBack, DataReq, Inv, InvAck, Shape}
-use Rattle.theorem_serial.proofs.Names.{home, lines, Cache, is_modified, modified_mask, written_lines, Spilled, holds, spilled_mask}
-use Rattle.theorem_serial.proofs.Names.{spilled_words, CoreState, Phase, AwaitTid, DoomedTid, Overflowing, Sends, to, marks_for, skip_all}
-use Rattle.theorem_serial.proofs.Names.{probe_all, abort_written, Out, commit, commit_sends, solo_sends, solo_marks_or_skip}
-use Rattle.theorem_serial.proofs.Names.{solo_write_backs}
-use Rattle.theorem_serial.proofs.Names.{solo_writes_at, is_written, written_mask, core_exec, core_evict, grant, grant_in_phase, grant_sends}
-use Rattle.theorem_serial.proofs.Names.{from_dir, probe_reply, ignored, fill, data_request, invalidate, Kind, Acks, MarksAway, AnyResolve}
-use Rattle.theorem_serial.proofs.Names.{Protocol, among, passes, solo_commit}
-use Rattle.theorem_serial.proofs.Counts.Links.{among-append, among-flat_map_none}
-use Rattle.theorem_serial.proofs.OneCore.Executes.{Steady, did-steady}
-use Rattle.theorem_serial.proofs.OneCore.CoreSteps.{ignored-steady, fill-steady, data-steady, Hurt, Unhurt, Rolled, Doomed, Aborted}
-use Rattle.theorem_serial.proofs.OneCore.CoreSteps.{Gave_up}
-use Rattle.theorem_serial.proofs.OneCore.CoreSteps.{Invalidated, invalidate-cases, Replied, Ignored, Probed, Left_alone, reply-cases}
-use Rattle.theorem_serial.proofs.OneCore.CoreSteps.{steady-emptied}
-use Rattle.theorem_serial.proofs.OneCore.Outcomes.{Commits_now, Did, each-exec, out, each-evict, emptied, Ends_alone, Ends_run, Room_wanted}
+use Rattle.theorem_serial.proofs
+use proofs.Names
+use Names.{ℕ, zero, suc, ◌≡◌, ◌≤◌, ◌%◌, Bool, true, false, List, [], ◌∷◌, ◌++◌, ◌==◌, ◌&&◌, None, IfSome, nat_lt, cond, if◌then◌else◌}
+use Names.{flat_map, arith, refl, nat_tests, flat_map-append, Program, num, those, count_below, Dir, Msg, Fill, Skip, ProbeReply, Mark}
+use Names.{Commit, WriteBack, DataReq, Inv, InvAck, Shape, home, lines, Cache, is_modified, modified_mask, written_lines, Spilled, holds}
+use Names.{spilled_mask, spilled_words, CoreState, Phase, AwaitTid, DoomedTid, Overflowing, Sends, to, marks_for, skip_all, probe_all}
+use Names.{abort_written, Out, commit, commit_sends, solo_sends, solo_marks_or_skip, solo_write_backs, solo_writes_at, is_written}
+use Names.{written_mask, core_exec, core_evict, grant, grant_in_phase, grant_sends, from_dir, probe_reply, ignored, fill, data_request}
+use Names.{invalidate, Kind, Acks, MarksAway, AnyResolve, Protocol, among, passes, solo_commit}
+use proofs.Counts.Links.{among-append, among-flat_map_none}
+use proofs.OneCore.Executes.{Steady, did-steady}
+use proofs.OneCore.CoreSteps.{ignored-steady, fill-steady, data-steady, Hurt, Unhurt, Rolled, Doomed, Aborted, Gave_up, Invalidated}
+use proofs.OneCore.CoreSteps.{invalidate-cases, Replied, Ignored, Probed, Left_alone, reply-cases, steady-emptied}
+use proofs.OneCore.Outcomes.{Commits_now, Did, each-exec, out, each-evict, emptied, Ends_alone, Ends_run, Room_wanted}
 
 -- no acknowledgement, no mark of a line that is at home elsewhere, and no word on a TID to a directory that the machine
 -- doesn't have

@@ -1,21 +1,17 @@
 -- What a directory's rules do to what it is owed and to what it sends about marked lines.
 use Rattle.base_lemmas.proofs.Lemmas.{eq-self}
-use Rattle.theorem_serial.proofs.Names.{ℕ, zero, suc, ◌+◌, ◌-◌, ◌≡◌, ◌≤◌, ◌%◌, Bool, true, false, not, List, [], ◌∷◌, ◌==◌, cond}
-use Rattle.theorem_serial.proofs.Names.{if◌then◌else◌}
-use Rattle.theorem_serial.proofs.Names.{flat_map, arith, refl, ◌⊎◌, inl, inr, nat_tests, flat_map-append, num, count_below, those, Lines}
-use Rattle.theorem_serial.proofs.Names.{has_mark, advance, kept, Core, Msg, Fill, Skip, ProbeReply, Commit, Abort, DataReq, Inv, Shape}
-use Rattle.theorem_serial.proofs.Names.{home}
-use Rattle.theorem_serial.proofs.Names.{lines, DirState, Sends, nothing, sum_below, Answer, Waits, Drops, Asks, Takes, dir_deliver}
-use Rattle.theorem_serial.proofs.Names.{invalidation_count, invalidations, invs_to, is_invalidated, home_words, Invs, InvsNot, InvsAway}
-use Rattle.theorem_serial.proofs.Names.{Acks}
-use Rattle.theorem_serial.proofs.Names.{MarksAway, Resolves, among, passes}
-use Rattle.theorem_serial.proofs.Counts.DirOutcome.{Outcome, Waiting, Spent, AsksOwner, TakesSkip, TakesAbort, TakesProbe, TakesLoad}
-use Rattle.theorem_serial.proofs.Counts.DirOutcome.{TakesMark}
-use Rattle.theorem_serial.proofs.Counts.DirOutcome.{TakesCommit, TakesAck, TakesCopy, IsSpent, NoneOwed, CopyPassed, outcome, among-none}
-use Rattle.theorem_serial.proofs.Counts.DirOutcome.{none-to}
-use Rattle.theorem_serial.proofs.Counts.Links.{among-append, total-zero, total-same, among-fewer, among-flat_map_none}
-use Rattle.theorem_serial.proofs.Serving.CoreDue.{among-those_none}
-use Rattle.theorem_serial.proofs.Tids.DirTids.{OnceAt, unserved}
+use Rattle.theorem_serial.proofs
+use proofs.Names
+use Names.{ℕ, zero, suc, ◌+◌, ◌-◌, ◌≡◌, ◌≤◌, ◌%◌, Bool, true, false, not, List, [], ◌∷◌, ◌==◌, cond, if◌then◌else◌, flat_map, arith, refl}
+use Names.{◌⊎◌, inl, inr, nat_tests, flat_map-append, num, count_below, those, Lines, has_mark, advance, kept, Core, Msg, Fill, Skip}
+use Names.{ProbeReply, Commit, Abort, DataReq, Inv, Shape, home, lines, DirState, Sends, nothing, sum_below, Answer, Waits, Drops, Asks}
+use Names.{Takes, dir_deliver, invalidation_count, invalidations, invs_to, is_invalidated, home_words, Invs, InvsNot, InvsAway, Acks}
+use Names.{MarksAway, Resolves, among, passes}
+use proofs.Counts.DirOutcome.{Outcome, Waiting, Spent, AsksOwner, TakesSkip, TakesAbort, TakesProbe, TakesLoad, TakesMark, TakesCommit}
+use proofs.Counts.DirOutcome.{TakesAck, TakesCopy, IsSpent, NoneOwed, CopyPassed, outcome, among-none, none-to}
+use proofs.Counts.Links.{among-append, total-zero, total-same, among-fewer, among-flat_map_none}
+use proofs.Serving.CoreDue.{among-those_none}
+use proofs.Tids.DirTids.{OnceAt, unserved}
 
 -- the invalidations in what is sent to all cores
 abbrev pub invs_sent : Shape → Sends → ℕ

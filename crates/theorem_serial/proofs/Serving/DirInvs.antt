@@ -1,11 +1,11 @@
 -- A directory sends invalidations only where it takes the Commit of the served TID, and none to the core that commits.
 use Rattle.base_lemmas.proofs.Lemmas.{eq-self, those-empty}
-use Rattle.theorem_serial.proofs.Names.{ℕ, ◌≡◌, Bool, true, false, not, ◌==◌, ◌&&◌, nat_lt, arith, refl, ◌⊎◌, inl, inr, nat_tests, Lines}
-use Rattle.theorem_serial.proofs.Names.{has_mark, Core, Msg, Fill, ProbeReply, DataReq, Shape, lines, DirState, Sends, Answer, Asks, Takes}
-use Rattle.theorem_serial.proofs.Names.{dir_deliver, invalidations, invs_to, is_invalidated, home_words, Invs, Commits, among, passes}
-use Rattle.theorem_serial.proofs.Counts.DirOutcome.{Outcome, Waiting, Spent, AsksOwner, TakesProbe, TakesLoad, TakesCommit, outcome}
-use Rattle.theorem_serial.proofs.Counts.DirOutcome.{among-none}
-use Rattle.theorem_serial.proofs.Counts.DirOutcome.{none-to}
+use Rattle.theorem_serial.proofs
+use proofs.Names
+use Names.{ℕ, ◌≡◌, Bool, true, false, not, ◌==◌, ◌&&◌, nat_lt, arith, refl, ◌⊎◌, inl, inr, nat_tests, Lines, has_mark, Core, Msg, Fill}
+use Names.{ProbeReply, DataReq, Shape, lines, DirState, Sends, Answer, Asks, Takes, dir_deliver, invalidations, invs_to, is_invalidated}
+use Names.{home_words, Invs, Commits, among, passes}
+use proofs.Counts.DirOutcome.{Outcome, Waiting, Spent, AsksOwner, TakesProbe, TakesLoad, TakesCommit, outcome, among-none, none-to}
 
 -- no invalidation, or those of a Commit of the served TID, none of them to its core
 abbrev pub Quiet : Sends → Type 0

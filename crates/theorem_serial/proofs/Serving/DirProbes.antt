@@ -1,11 +1,12 @@
 -- The served TID only rises, and a directory replies to a probe once it has reached its TID.
-use Rattle.theorem_serial.proofs.Names.{ℕ, ◌≡◌, ◌≤◌, Bool, [], if◌then◌else◌, arith, refl, nat_tests, num, advance, kept}
-use Rattle.theorem_serial.proofs.Names.{advance-rises, Core, Msg, Fill, ProbeReply, DataReq, Shape, DirState, Link, Sends, nothing, Answer}
-use Rattle.theorem_serial.proofs.Names.{Asks, Takes, dir_deliver, home_words, RepliesAbove, among, live, passes, Serving}
-use Rattle.theorem_serial.proofs.Counts.DirOutcome.{Outcome, AsksOwner, TakesSkip, TakesAbort, TakesProbe, TakesLoad, TakesMark}
-use Rattle.theorem_serial.proofs.Counts.DirOutcome.{TakesCommit}
-use Rattle.theorem_serial.proofs.Counts.DirOutcome.{TakesAck, TakesCopy, outcome, among-none, none-to, none-invalidations}
-use Rattle.theorem_serial.proofs.Counts.Links.{live-fewer}
+use Rattle.theorem_serial.proofs
+use proofs.Names
+use Names.{ℕ, ◌≡◌, ◌≤◌, Bool, [], if◌then◌else◌, arith, refl, nat_tests, num, advance, kept, advance-rises, Core, Msg, Fill, ProbeReply}
+use Names.{DataReq, Shape, DirState, Link, Sends, nothing, Answer, Asks, Takes, dir_deliver, home_words, RepliesAbove, among, live, passes}
+use Names.{Serving}
+use proofs.Counts.DirOutcome.{Outcome, AsksOwner, TakesSkip, TakesAbort, TakesProbe, TakesLoad, TakesMark, TakesCommit, TakesAck, TakesCopy}
+use proofs.Counts.DirOutcome.{outcome, among-none, none-to, none-invalidations}
+use proofs.Counts.Links.{live-fewer}
 
 -- no reply of a TID above the served one
 pub record Rises (s new : DirState) (sends : Sends) : Type 0 where

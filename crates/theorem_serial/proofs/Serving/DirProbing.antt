@@ -1,11 +1,11 @@
 -- A directory replies to a probe where it takes it, and to nothing else.
 use Rattle.base_lemmas.proofs.Lemmas.{eq-self}
-use Rattle.theorem_serial.proofs.Names.{ℕ, ◌≡◌, false, [], refl, num, Core, Msg, LoadReq, Fill, ProbeReply, DataReq, Shape, DirState, Sends}
-use Rattle.theorem_serial.proofs.Names.{nothing, Answer, Waits, Drops, Asks, Takes, dir_deliver, home_words, Probes, Replies, among, passes}
-use Rattle.theorem_serial.proofs.Counts.DirOutcome.{Outcome, Waiting, Spent, AsksOwner, TakesProbe, TakesLoad, TakesCommit, TakesCopy}
-use Rattle.theorem_serial.proofs.Counts.DirOutcome.{IsSpent}
-use Rattle.theorem_serial.proofs.Counts.DirOutcome.{CopyPassed, outcome, among-to, among-none, none-to, none-invalidations}
-use Rattle.theorem_serial.proofs.Counts.StepCases.{differ}
+use Rattle.theorem_serial.proofs
+use proofs.Names.{ℕ, ◌≡◌, false, [], refl, num, Core, Msg, LoadReq, Fill, ProbeReply, DataReq, Shape, DirState, Sends, nothing, Answer}
+use proofs.Names.{Waits, Drops, Asks, Takes, dir_deliver, home_words, Probes, Replies, among, passes}
+use proofs.Counts.DirOutcome.{Outcome, Waiting, Spent, AsksOwner, TakesProbe, TakesLoad, TakesCommit, TakesCopy, IsSpent, CopyPassed}
+use proofs.Counts.DirOutcome.{outcome, among-to, among-none, none-to, none-invalidations}
+use proofs.Counts.StepCases.{differ}
 
 -- the reply to a probe that was taken, to its core alone
 pub record Replying (m : Msg) (c : ℕ) (sends : Sends) : Type 0 where

@@ -1,36 +1,28 @@
 -- Every event keeps the invariants on TIDs, probes and what is owed, and so does every run.
 use Rattle.base_lemmas.proofs.Lemmas.{eq-self}
-use Rattle.theorem_serial.proofs.Names.{ℕ, ◌+◌, ◌≡◌, ◌<◌, ◌≤◌, ◌%◌, true, false, List, ◌++◌, ◌==◌, Option, Some, None, IfSome}
-use Rattle.theorem_serial.proofs.Names.{slice_index_or}
-use Rattle.theorem_serial.proofs.Names.{arith, refl, sym, ◌∙◌, ◌⊎◌, inl, inr, cases_lt, cases_eq, nat_tests, Local, num, no_lines, Core}
-use Rattle.theorem_serial.proofs.Names.{Dir}
-use Rattle.theorem_serial.proofs.Names.{Vendor, Msg, TidReq, TidGrant, Fill, ProbeReply, DataReq, Inv, Shape, home, CoreState, DirState}
-use Rattle.theorem_serial.proofs.Names.{World}
-use Rattle.theorem_serial.proofs.Names.{Link, start, dir_start, in_flight, sent_all, Sends, Out, from_dir, core_moves, core_takes}
-use Rattle.theorem_serial.proofs.Names.{dir_takes}
-use Rattle.theorem_serial.proofs.Names.{dir_asks, vendor_gives, Invs, InvsNot, InvsAway, Acks, MarksAway, AnyResolve, Any, live, among}
-use Rattle.theorem_serial.proofs.Names.{passes}
-use Rattle.theorem_serial.proofs.Names.{Pair, pair, after_move, grant_taken, back_taken, after_answer, out_taken, after_grant}
-use Rattle.theorem_serial.proofs.Names.{after_other_grant, share, KeptTids, due, OwedAt, AtHomeOf, KeptOwed, Running, core_start}
-use Rattle.theorem_serial.proofs.Names.{RepliesAbove}
-use Rattle.theorem_serial.proofs.Names.{Reached, ReachedOf, KeptProbes, [], ◌∷◌, Program, Serving, Event, core_exec, core_evict, grant}
-use Rattle.theorem_serial.proofs.Names.{Answer}
-use Rattle.theorem_serial.proofs.Names.{Waits, Drops, Asks, Takes, dir_deliver, Stepped, step, History, and_noted, recorded, next_history}
-use Rattle.theorem_serial.proofs.Names.{and_then, run_from, run, Resolves, handled, KeptTold, Kept}
-use Rattle.theorem_serial.proofs.Counts.Inside.{AnswersInside, dir-inside}
-use Rattle.theorem_serial.proofs.Counts.Links.{live-sends, live-takes, total-le, total-zero, live-fewer, none-taken}
-use Rattle.theorem_serial.proofs.Counts.StepCases.{differ, given, pairs_move, pairs_grant, pairs_back, pairs_dir, pairs_asks}
-use Rattle.theorem_serial.proofs.Counts.StepCases.{pairs_vendor, sum_move, sum_grant, sum_back, sum_back_away, sum_dir, sum_dir_away}
-use Rattle.theorem_serial.proofs.Counts.StepCases.{sum_asks_here, sum_asks_away, sum_vendor, OfAnswer, step_cases}
-use Rattle.theorem_serial.proofs.OneCore.CoreProbes.{StaysReached, none-asked, asked-back, asked-exec, asked-evict, asked-grant}
-use Rattle.theorem_serial.proofs.Serving.CoreDue.{Clean, CleanOut, AcksHome, acks-back, clean-exec, clean-evict, clean-grant}
-use Rattle.theorem_serial.proofs.Serving.DirDue.{Due, nots-invs, at-home, DueBy, dir-due, still-due}
-use Rattle.theorem_serial.proofs.Serving.DirProbes.{Rises, fewer-above, RisesBy, dir-rises, rises-still}
-use Rattle.theorem_serial.proofs.Tids.CoreRequests.{KeepsRequests, requests-exec, requests-evict, requests-back}
-use Rattle.theorem_serial.proofs.Tids.CoreTids.{KeepsPart, part-exec, part-evict, part-back}
-use Rattle.theorem_serial.proofs.Tids.DirTids.{HandledBy, OnceAt, dir-handled, skipped-above}
-use Rattle.theorem_serial.proofs.Tids.TidSteps.{move-kept, grant-kept, back-kept, dir-kept, asks-kept, vendor-kept, start-kept, inside_from}
-use Rattle.theorem_serial.proofs.Tids.TidSteps.{any-one, live-some, once-there, no_sends}
+use Rattle.theorem_serial.proofs
+use proofs.Names
+use Names.{ℕ, ◌+◌, ◌≡◌, ◌<◌, ◌≤◌, ◌%◌, true, false, List, ◌++◌, ◌==◌, Option, Some, None, IfSome, slice_index_or, arith, refl, sym, ◌∙◌}
+use Names.{◌⊎◌, inl, inr, cases_lt, cases_eq, nat_tests, Local, num, no_lines, Core, Dir, Vendor, Msg, TidReq, TidGrant, Fill, ProbeReply}
+use Names.{DataReq, Inv, Shape, home, CoreState, DirState, World, Link, start, dir_start, in_flight, sent_all, Sends, Out, from_dir}
+use Names.{core_moves, core_takes, dir_takes, dir_asks, vendor_gives, Invs, InvsNot, InvsAway, Acks, MarksAway, AnyResolve, Any, live}
+use Names.{among, passes, Pair, pair, after_move, grant_taken, back_taken, after_answer, out_taken, after_grant, after_other_grant, share}
+use Names.{KeptTids, due, OwedAt, AtHomeOf, KeptOwed, Running, core_start, RepliesAbove, Reached, ReachedOf, KeptProbes, [], ◌∷◌, Program}
+use Names.{Serving, Event, core_exec, core_evict, grant, Answer, Waits, Drops, Asks, Takes, dir_deliver, Stepped, step, History, and_noted}
+use Names.{recorded, next_history, and_then, run_from, run, Resolves, handled, KeptTold, Kept}
+use proofs.Counts.Inside.{AnswersInside, dir-inside}
+use proofs.Counts.Links.{live-sends, live-takes, total-le, total-zero, live-fewer, none-taken}
+use proofs.Counts.StepCases.{differ, given, pairs_move, pairs_grant, pairs_back, pairs_dir, pairs_asks, pairs_vendor, sum_move, sum_grant}
+use proofs.Counts.StepCases.{sum_back, sum_back_away, sum_dir, sum_dir_away, sum_asks_here, sum_asks_away, sum_vendor, OfAnswer, step_cases}
+use proofs.OneCore.CoreProbes.{StaysReached, none-asked, asked-back, asked-exec, asked-evict, asked-grant}
+use proofs.Serving.CoreDue.{Clean, CleanOut, AcksHome, acks-back, clean-exec, clean-evict, clean-grant}
+use proofs.Serving.DirDue.{Due, nots-invs, at-home, DueBy, dir-due, still-due}
+use proofs.Serving.DirProbes.{Rises, fewer-above, RisesBy, dir-rises, rises-still}
+use proofs.Tids.CoreRequests.{KeepsRequests, requests-exec, requests-evict, requests-back}
+use proofs.Tids.CoreTids.{KeepsPart, part-exec, part-evict, part-back}
+use proofs.Tids.DirTids.{HandledBy, OnceAt, dir-handled, skipped-above}
+use proofs.Tids.TidSteps.{move-kept, grant-kept, back-kept, dir-kept, asks-kept, vendor-kept, start-kept, inside_from, any-one, live-some}
+use proofs.Tids.TidSteps.{once-there, no_sends}
 
 -- Each kind of event keeps what is owed equal to what is in flight.
 due-moved : (sh : Shape) (v : Pair) (o : Out) (d : ℕ) → Clean sh d (o.sends (Dir d)) → due (after_move v o d) + 0 ≡ due v + 0

@@ -1,22 +1,19 @@
 -- Every event keeps which directories owe a core replies: those that it asked, while it waits, and then some does.
-use Rattle.theorem_serial.proofs.Names.{ℕ, ◌≡◌, ◌<◌, ◌==◌, ◌&&◌, ◌||◌, Bool, true, false, Option, Some, None, IfSome, nat_lt, if◌then◌else◌}
-use Rattle.theorem_serial.proofs.Names.{arith, refl, ap₂, nat_tests, Program, Local, Outcome, any_below, Dir, Event, Msg, Fill, ProbeReply}
-use Rattle.theorem_serial.proofs.Names.{DataReq, Inv, Shape, writes_at, reads_at, any_below-at, CoreState, World, Phase, Running, AwaitTid}
-use Rattle.theorem_serial.proofs.Names.{DoomedTid, Probing, Ready, Overflowing, Solo, start, core_start, Out, commit, committed_core}
-use Rattle.theorem_serial.proofs.Names.{phase_after_commit, core_exec, core_evict, from_dir, grant, grant_in_phase, is_probed}
-use Rattle.theorem_serial.proofs.Names.{probing_or_ready}
-use Rattle.theorem_serial.proofs.Names.{all_replied, fill, data_request, invalidate, probe_reply, Answer, Waits, dir_deliver, core_moves}
-use Rattle.theorem_serial.proofs.Names.{core_takes, dir_takes, dir_asks, vendor_gives, step, OwingFits, awaits_replies, asks_dir}
-use Rattle.theorem_serial.proofs.Names.{solo_commit}
 use Rattle.rules_maps.specs.Words.{put}
-use Rattle.theorem_serial.proofs.OneCore.CoreProbes.{none-below, all-replied}
-use Rattle.theorem_serial.proofs.OneCore.CoreSteps.{reads_at-same, fill-steady, data-steady, Hurt, Unhurt, Rolled, Doomed, Aborted, Gave_up}
-use Rattle.theorem_serial.proofs.OneCore.CoreSteps.{Invalidated, invalidate-cases, Replied, Ignored, Probed, Left_alone, reply-cases}
-use Rattle.theorem_serial.proofs.OneCore.CoreSteps.{steady-emptied}
-use Rattle.theorem_serial.proofs.OneCore.Executes.{Steady, did-steady}
-use Rattle.theorem_serial.proofs.Counts.StepCases.{OfAnswer, step_cases}
-use Rattle.theorem_serial.proofs.OneCore.Outcomes.{Acts, Commits_now, Did, each-exec, out, each-evict, emptied, writes_at-same, Ends_alone}
-use Rattle.theorem_serial.proofs.OneCore.Outcomes.{Ends_run, Room_wanted}
+use Rattle.theorem_serial.proofs
+use proofs.Names
+use Names.{ℕ, ◌≡◌, ◌<◌, ◌==◌, ◌&&◌, ◌||◌, Bool, true, false, Option, Some, None, IfSome, nat_lt, if◌then◌else◌, arith, refl, ap₂, nat_tests}
+use Names.{Program, Local, Outcome, any_below, Dir, Event, Msg, Fill, ProbeReply, DataReq, Inv, Shape, writes_at, reads_at, any_below-at}
+use Names.{CoreState, World, Phase, Running, AwaitTid, DoomedTid, Probing, Ready, Overflowing, Solo, start, core_start, Out, commit}
+use Names.{committed_core, phase_after_commit, core_exec, core_evict, from_dir, grant, grant_in_phase, is_probed, probing_or_ready}
+use Names.{all_replied, fill, data_request, invalidate, probe_reply, Answer, Waits, dir_deliver, core_moves, core_takes, dir_takes}
+use Names.{dir_asks, vendor_gives, step, OwingFits, awaits_replies, asks_dir, solo_commit}
+use proofs.OneCore.CoreProbes.{none-below, all-replied}
+use proofs.OneCore.CoreSteps.{reads_at-same, fill-steady, data-steady, Hurt, Unhurt, Rolled, Doomed, Aborted, Gave_up, Invalidated}
+use proofs.OneCore.CoreSteps.{invalidate-cases, Replied, Ignored, Probed, Left_alone, reply-cases, steady-emptied}
+use proofs.OneCore.Executes.{Steady, did-steady}
+use proofs.Counts.StepCases.{OfAnswer, step_cases}
+use proofs.OneCore.Outcomes.{Acts, Commits_now, Did, each-exec, out, each-evict, emptied, writes_at-same, Ends_alone, Ends_run, Room_wanted}
 
 abbrev pub KeptOwing : Shape → World → Type 0
 KeptOwing sh w = (c : ℕ) → OwingFits sh (w.cores c)

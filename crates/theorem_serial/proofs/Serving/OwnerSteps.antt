@@ -1,26 +1,21 @@
 -- Each kind of event keeps who has which TID, and the list of commits.
-use Rattle.theorem_serial.proofs.Names.{Contains-append_right, Contains-append_cases, Contains-append_left, after_other_grant}
-use Rattle.theorem_serial.proofs.Names.{slice_index_or}
-use Rattle.theorem_serial.proofs.Names.{length-append, waits_for_tid, append_assoc, vendor_start, vendor_gives, next_history, dir_deliver}
-use Rattle.theorem_serial.proofs.Names.{grant_taken, after_grant, then_grants, grants_from, LastGranted, append-nil, core_start, core_evict}
-use Rattle.theorem_serial.proofs.Names.{core_moves, core_takes, after_move, granted_by, IsNumbered, AreGranted, KeptOwners, nat_tests}
-use Rattle.theorem_serial.proofs.Names.{in_flight, core_exec, dir_takes, and_noted, RequestOf, Contains, cases_eq, TidGrant, DirState}
-use Rattle.theorem_serial.proofs.Names.{from_dir}
-use Rattle.theorem_serial.proofs.Names.{dir_asks, recorded, and_then, run_from, KeptTids, IsRising, AnyGrant, Program, Stepped, History}
-use Rattle.theorem_serial.proofs.Names.{has_tid, AsksTid, Option, IfSome, nat_le, Vendor, TidReq, Answer, Grants, passes, sum_of, holder}
-use Rattle.theorem_serial.proofs.Names.{false}
-use Rattle.theorem_serial.proofs.Names.{arith, subst, Noted, Local, Event, Shape, World, start, Sends, grant, Waits, Drops, Takes, among}
-use Rattle.theorem_serial.proofs.Names.{share}
-use Rattle.theorem_serial.proofs.Names.{Grant, times, Phase, ◌==◌, List, ◌++◌, Some, None, refl, Core, Asks, step, live, Pair, pair, Kept}
-use Rattle.theorem_serial.proofs.Names.{Bool}
-use Rattle.theorem_serial.proofs.Names.{true, Link, ◌+◌, ◌≡◌, ◌<◌, ◌≤◌, ◌∷◌, sym, ◌∙◌, ◌⊎◌, inl, inr, num, Dir, Out, run, Msg, [], ap, ℕ}
-use Rattle.theorem_serial.proofs.Counts.Links.{live-sends, live-takes, total-le, total-zero, total-same, live-fewer}
-use Rattle.theorem_serial.proofs.Counts.StepCases.{OfAnswer, step_cases, given, pairs_move, pairs_grant, pairs_back, pairs_vendor, sum_move}
-use Rattle.theorem_serial.proofs.Counts.StepCases.{sum_grant, sum_back, sum_back_away, sum_vendor, pairs_dir, pairs_asks}
-use Rattle.theorem_serial.proofs.Serving.KeptSteps.{core_of_grant, core_of_back, core_of_ask, step-kept, start-all}
-use Rattle.theorem_serial.proofs.Tids.Commits.{times-insert, insert-rising, insert-granted, granted-more, numbered-more, numbered-least}
-use Rattle.theorem_serial.proofs.Tids.Commits.{numbered-most, only-one}
-use Rattle.theorem_serial.proofs.Tids.CoreOwners.{KeepsHolder, noted_tid, none, holder-exec, holder-evict, holder-grant, holder-back}
+use Rattle.theorem_serial.proofs
+use proofs.Names
+use Names.{Contains-append_right, Contains-append_cases, Contains-append_left, after_other_grant, slice_index_or, length-append}
+use Names.{waits_for_tid, append_assoc, vendor_start, vendor_gives, next_history, dir_deliver, grant_taken, after_grant, then_grants}
+use Names.{grants_from, LastGranted, append-nil, core_start, core_evict, core_moves, core_takes, after_move, granted_by, IsNumbered}
+use Names.{AreGranted, KeptOwners, nat_tests, in_flight, core_exec, dir_takes, and_noted, RequestOf, Contains, cases_eq, TidGrant, DirState}
+use Names.{from_dir, dir_asks, recorded, and_then, run_from, KeptTids, IsRising, AnyGrant, Program, Stepped, History, has_tid, AsksTid}
+use Names.{Option, IfSome, nat_le, Vendor, TidReq, Answer, Grants, passes, sum_of, holder, false, arith, subst, Noted, Local, Event, Shape}
+use Names.{World, start, Sends, grant, Waits, Drops, Takes, among, share, Grant, times, Phase, ◌==◌, List, ◌++◌, Some, None, refl, Core}
+use Names.{Asks, step, live, Pair, pair, Kept, Bool, true, Link, ◌+◌, ◌≡◌, ◌<◌, ◌≤◌, ◌∷◌, sym, ◌∙◌, ◌⊎◌, inl, inr, num, Dir, Out, run, Msg}
+use Names.{[], ap, ℕ}
+use proofs.Counts.Links.{live-sends, live-takes, total-le, total-zero, total-same, live-fewer}
+use proofs.Counts.StepCases.{OfAnswer, step_cases, given, pairs_move, pairs_grant, pairs_back, pairs_vendor, sum_move, sum_grant, sum_back}
+use proofs.Counts.StepCases.{sum_back_away, sum_vendor, pairs_dir, pairs_asks}
+use proofs.Serving.KeptSteps.{core_of_grant, core_of_back, core_of_ask, step-kept, start-all}
+use proofs.Tids.Commits.{times-insert, insert-rising, insert-granted, granted-more, numbered-more, numbered-least, numbered-most, only-one}
+use proofs.Tids.CoreOwners.{KeepsHolder, noted_tid, none, holder-exec, holder-evict, holder-grant, holder-back}
 
 -- a core's part after its step
 pub holder-moved : (v : Pair) (o : Out) (d t c : ℕ) → KeepsHolder c none v.core o

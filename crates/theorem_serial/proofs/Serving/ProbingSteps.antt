@@ -1,31 +1,23 @@
 -- Every event keeps that one probe or reply is in flight for each directory that owes one, and of whose TID it is.
-use Rattle.theorem_serial.proofs.Names.{Contains-append_left, after_other_grant, slice_index_or, if◌then◌else◌, data_request, after_answer}
-use Rattle.theorem_serial.proofs.Names.{probe_reply, dir_deliver, Overflowing, all_replied, grant_taken, after_grant, append-nil}
-use Rattle.theorem_serial.proofs.Names.{ProbeReply}
-use Rattle.theorem_serial.proofs.Names.{core_evict, invalidate, core_moves, core_takes, granted_by, KeptOwners, after_move, back_taken}
-use Rattle.theorem_serial.proofs.Names.{nat_tests, CoreState, in_flight, core_exec, marks_for, dir_takes, out_taken, KeptCores, Contains}
-use Rattle.theorem_serial.proofs.Names.{cases_eq, TidGrant, sent_all, from_dir, DirState, Program, DataReq, ignored, Replies, Probing}
-use Rattle.theorem_serial.proofs.Names.{has_tid}
-use Rattle.theorem_serial.proofs.Names.{OneCore, Option, IfSome, Vendor, Answer, Grants, Probes, passes, holder, nat_le, arith, Noted}
-use Rattle.theorem_serial.proofs.Names.{Local}
-use Rattle.theorem_serial.proofs.Names.{Event, Shape, World, start, grant, Waits, Drops, Takes, among, Grant, false, subst, Phase, Ready}
-use Rattle.theorem_serial.proofs.Names.{Sends}
-use Rattle.theorem_serial.proofs.Names.{◌==◌, List, ◌++◌, Some, None, refl, Core, Fill, fill, Asks, step, live, Kept, Pair, pair, Bool}
-use Rattle.theorem_serial.proofs.Names.{true}
-use Rattle.theorem_serial.proofs.Names.{Solo, ◌+◌, ◌≡◌, ◌≤◌, ◌∷◌, sym, ◌⊎◌, inl, inr, num, Dir, Msg, Inv, Out, ◌∙◌, put, [], ap, ℕ}
 use Rattle.theorem_serial.specs.Probing.{ProbingOf, KeptProbing}
-use Rattle.theorem_serial.proofs.Counts.Links.{live-sends, live-takes}
-use Rattle.theorem_serial.proofs.Counts.StepCases.{pairs_move, pairs_grant, pairs_back, pairs_dir, pairs_asks, pairs_vendor, OfAnswer}
-use Rattle.theorem_serial.proofs.Counts.StepCases.{step_cases}
-use Rattle.theorem_serial.proofs.OneCore.CoreSteps.{fill-steady, data-steady, invalidate-cases, Replied, Ignored, Probed, Left_alone}
-use Rattle.theorem_serial.proofs.OneCore.CoreSteps.{reply-cases}
-use Rattle.theorem_serial.proofs.Serving.DirProbing.{RepliesBy, dir-replies, none-replied, Replying}
-use Rattle.theorem_serial.proofs.Serving.KeptSteps.{core_of_grant}
-use Rattle.theorem_serial.proofs.Serving.OwnerSteps.{grant-alone}
-use Rattle.theorem_serial.proofs.Tids.CoreProbing.{Unprobed, unprobed-steady, unprobed-exec, unprobed-evict, unprobed-hurt, granted}
-use Rattle.theorem_serial.proofs.Tids.CoreProbing.{none-marks}
-use Rattle.theorem_serial.proofs.Tids.CoreProbing.{none-to, Granted}
-use Rattle.theorem_serial.proofs.Tids.TidSteps.{granted_waits, live-some, is_mine, not_mine}
+use Rattle.theorem_serial.proofs
+use proofs.Names
+use Names.{Contains-append_left, after_other_grant, slice_index_or, if◌then◌else◌, data_request, after_answer, probe_reply, dir_deliver}
+use Names.{Overflowing, all_replied, grant_taken, after_grant, append-nil, ProbeReply, core_evict, invalidate, core_moves, core_takes}
+use Names.{granted_by, KeptOwners, after_move, back_taken, nat_tests, CoreState, in_flight, core_exec, marks_for, dir_takes, out_taken}
+use Names.{KeptCores, Contains, cases_eq, TidGrant, sent_all, from_dir, DirState, Program, DataReq, ignored, Replies, Probing, has_tid}
+use Names.{OneCore, Option, IfSome, Vendor, Answer, Grants, Probes, passes, holder, nat_le, arith, Noted, Local, Event, Shape, World, start}
+use Names.{grant, Waits, Drops, Takes, among, Grant, false, subst, Phase, Ready, Sends, ◌==◌, List, ◌++◌, Some, None, refl, Core, Fill}
+use Names.{fill, Asks, step, live, Kept, Pair, pair, Bool, true, Solo, ◌+◌, ◌≡◌, ◌≤◌, ◌∷◌, sym, ◌⊎◌, inl, inr, num, Dir, Msg, Inv, Out, ◌∙◌}
+use Names.{put, [], ap, ℕ}
+use proofs.Counts.Links.{live-sends, live-takes}
+use proofs.Counts.StepCases.{pairs_move, pairs_grant, pairs_back, pairs_dir, pairs_asks, pairs_vendor, OfAnswer, step_cases}
+use proofs.OneCore.CoreSteps.{fill-steady, data-steady, invalidate-cases, Replied, Ignored, Probed, Left_alone, reply-cases}
+use proofs.Serving.DirProbing.{RepliesBy, dir-replies, none-replied, Replying}
+use proofs.Serving.KeptSteps.{core_of_grant}
+use proofs.Serving.OwnerSteps.{grant-alone}
+use proofs.Tids.CoreProbing.{Unprobed, unprobed-steady, unprobed-exec, unprobed-evict, unprobed-hurt, granted, none-marks, none-to, Granted}
+use proofs.Tids.TidSteps.{granted_waits, live-some, is_mine, not_mine}
 
 -- Every event keeps that a probe or reply in flight is of a TID that was granted to its core.
 

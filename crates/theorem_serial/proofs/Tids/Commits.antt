@@ -1,9 +1,9 @@
 -- A further commit in the list of commits, and a further grant; which commits are listed, and the greatest of their TIDs.
-use Rattle.theorem_serial.proofs.Names.{ℕ, zero, suc, ◌+◌, ◌≡◌, ◌<◌, ◌≤◌, Bool, true, false, ◌==◌, List, [], ◌∷◌, ◌++◌, length, Contains}
-use Rattle.theorem_serial.proofs.Names.{slice_index_or, nat_lt, if◌then◌else◌, arith, refl, sym, ap, ◌∙◌, nat_tests, Contains-append_left}
-use Rattle.theorem_serial.proofs.Names.{Noted, num, insert_commit, Grant, IsNumbered, IsRising, AreGranted, times, ◌⊎◌, inl, inr, World}
-use Rattle.theorem_serial.proofs.Names.{Shape}
-use Rattle.theorem_serial.proofs.Names.{holder, KeptOwners, pair, has_tid, max, cond, last_of}
+use Rattle.theorem_serial.proofs
+use proofs.Names
+use Names.{ℕ, zero, suc, ◌+◌, ◌≡◌, ◌<◌, ◌≤◌, Bool, true, false, ◌==◌, List, [], ◌∷◌, ◌++◌, length, Contains, slice_index_or, nat_lt}
+use Names.{if◌then◌else◌, arith, refl, sym, ap, ◌∙◌, nat_tests, Contains-append_left, Noted, num, insert_commit, Grant, IsNumbered}
+use Names.{IsRising, AreGranted, times, ◌⊎◌, inl, inr, World, Shape, holder, KeptOwners, pair, has_tid, max, cond, last_of}
 
 -- A further commit in the list of commits, and a further grant.
 pub times-insert : (t : ℕ) (n : Noted) (cs : List Noted) → times t (insert_commit n cs) ≡ times t cs + num (n.tid.0 == t)

@@ -1,14 +1,12 @@
 -- A core has no TID but one that it was granted, and what it commits is the TID that it had.
-use Rattle.theorem_serial.proofs.Names.{ℕ, ◌+◌, ◌≡◌, ◌≤◌, true, ◌==◌, Option, Some, None, IfSome, arith, refl, nat_tests, Noted, Program}
-use Rattle.theorem_serial.proofs.Names.{num}
-use Rattle.theorem_serial.proofs.Names.{any_below, Msg, Shape, CoreState, Phase, AwaitTid, DoomedTid, Overflowing, Out, commit}
-use Rattle.theorem_serial.proofs.Names.{committed_core}
-use Rattle.theorem_serial.proofs.Names.{noted, phase_after_commit, core_exec, core_evict, grant, grant_in_phase, from_dir, is_probed}
-use Rattle.theorem_serial.proofs.Names.{ignored}
-use Rattle.theorem_serial.proofs.Names.{has_tid, solo_commit}
-use Rattle.theorem_serial.proofs.Tids.CoreProbing.{tid-after, tid-probing}
-use Rattle.theorem_serial.proofs.OneCore.Outcomes.{Commits_now, Did, each-exec, out, each-evict, Ends_alone, Heard, Last_probing, Last_room}
-use Rattle.theorem_serial.proofs.OneCore.Outcomes.{after_end, each-back, heard}
+use Rattle.theorem_serial.proofs
+use proofs.Names
+use Names.{ℕ, ◌+◌, ◌≡◌, ◌≤◌, true, ◌==◌, Option, Some, None, IfSome, arith, refl, nat_tests, Noted, Program, num, any_below, Msg, Shape}
+use Names.{CoreState, Phase, AwaitTid, DoomedTid, Overflowing, Out, commit, committed_core, noted, phase_after_commit, core_exec}
+use Names.{core_evict, grant, grant_in_phase, from_dir, is_probed, ignored, has_tid, solo_commit}
+use proofs.Tids.CoreProbing.{tid-after, tid-probing}
+use proofs.OneCore.Outcomes.{Commits_now, Did, each-exec, out, each-evict, Ends_alone, Heard, Last_probing, Last_room, after_end, each-back}
+use proofs.OneCore.Outcomes.{heard}
 
 -- the TID of a commit
 abbrev pub noted_tid : ℕ → Option Noted → ℕ

@@ -1,17 +1,16 @@
 -- A core sends a probe only where it takes a grant, and to each directory that owes a reply from then on.
-use Rattle.theorem_serial.proofs.Names.{ℕ, ◌≡◌, ◌≤◌, Bool, true, false, List, [], ◌∷◌, ◌==◌, ◌&&◌, Some, None, IfSome, nat_lt, arith, refl}
-use Rattle.theorem_serial.proofs.Names.{sym}
-use Rattle.theorem_serial.proofs.Names.{ap, ◌∙◌, nat_tests, Program, Outcome, num, any_below, Dir, Msg, Mark, InvAck, Shape, home, Cache}
-use Rattle.theorem_serial.proofs.Names.{modified_mask, written_lines, CoreState, Phase, Running, AwaitTid, DoomedTid, Overflowing, to}
-use Rattle.theorem_serial.proofs.Names.{marks_for, probe_all, Out, commit, committed_core, phase_after_commit, core_exec, core_evict, grant}
-use Rattle.theorem_serial.proofs.Names.{grant_in_phase, grant_sends, is_probed, probing_or_ready, Probes, Protocol, among, passes, has_tid}
-use Rattle.theorem_serial.proofs.Names.{waits_for_tid, moves, solo_commit}
-use Rattle.theorem_serial.proofs.Counts.Links.{among-append, among-fewer, among-flat_map_none}
-use Rattle.theorem_serial.proofs.OneCore.Executes.{Steady}
-use Rattle.theorem_serial.proofs.OneCore.CoreSteps.{Hurt, Unhurt, Rolled, Doomed, Aborted, Gave_up, Invalidated, steady-emptied}
-use Rattle.theorem_serial.proofs.OneCore.Said.{quiet, Aborts_all, Skips_all, Tells_alone, Tells_commit, Wants, say}
-use Rattle.theorem_serial.proofs.OneCore.Outcomes.{Commits_now, Did, each-exec, out, each-evict, emptied, Ends_alone, Ends_run, Room_wanted}
-use Rattle.theorem_serial.proofs.OneCore.Outcomes.{after_end, said}
+use Rattle.theorem_serial.proofs
+use proofs.Names
+use Names.{ℕ, ◌≡◌, ◌≤◌, Bool, true, false, List, [], ◌∷◌, ◌==◌, ◌&&◌, Some, None, IfSome, nat_lt, arith, refl, sym, ap, ◌∙◌, nat_tests}
+use Names.{Program, Outcome, num, any_below, Dir, Msg, Mark, InvAck, Shape, home, Cache, modified_mask, written_lines, CoreState, Phase}
+use Names.{Running, AwaitTid, DoomedTid, Overflowing, to, marks_for, probe_all, Out, commit, committed_core, phase_after_commit, core_exec}
+use Names.{core_evict, grant, grant_in_phase, grant_sends, is_probed, probing_or_ready, Probes, Protocol, among, passes, has_tid}
+use Names.{waits_for_tid, moves, solo_commit}
+use proofs.Counts.Links.{among-append, among-fewer, among-flat_map_none}
+use proofs.OneCore.Executes.{Steady}
+use proofs.OneCore.CoreSteps.{Hurt, Unhurt, Rolled, Doomed, Aborted, Gave_up, Invalidated, steady-emptied}
+use proofs.OneCore.Said.{quiet, Aborts_all, Skips_all, Tells_alone, Tells_commit, Wants, say}
+use proofs.OneCore.Outcomes.{Commits_now, Did, each-exec, out, each-evict, emptied, Ends_alone, Ends_run, Room_wanted, after_end, said}
 
 -- no probe is sent, and a TID that the core has then it had before, owed the same replies
 pub record Unprobed (s : CoreState) (o : Out) : Type 0 where

@@ -1,19 +1,15 @@
 -- What a core's rules do to its requests for a TID.
-use Rattle.theorem_serial.proofs.Names.{arith, nat_tests, ℕ, ◌+◌, ◌≡◌, Bool, true, false, None, IfSome, refl, inl, inr, Program, Outcome}
-use Rattle.theorem_serial.proofs.Names.{num}
-use Rattle.theorem_serial.proofs.Names.{any_below, Vendor, Msg, Shape, CoreState, Phase, AwaitTid, DoomedTid, Overflowing, skip_all}
-use Rattle.theorem_serial.proofs.Names.{probe_all}
-use Rattle.theorem_serial.proofs.Names.{Out, commit, committed_core, commit_sends, phase_after_commit, solo_sends, core_exec, core_evict}
-use Rattle.theorem_serial.proofs.Names.{grant}
-use Rattle.theorem_serial.proofs.Names.{grant_in_phase, grant_sends, from_dir, probing_or_ready, is_probed, among, passes, waits_for_tid}
-use Rattle.theorem_serial.proofs.Names.{abort_written, flush_line, solo_commit}
 use Rattle.theorem_serial.specs.Count.{Asks}
-use Rattle.theorem_serial.proofs.OneCore.Executes.{Steady}
-use Rattle.theorem_serial.proofs.OneCore.CoreSteps.{steady-emptied}
-use Rattle.theorem_serial.proofs.OneCore.Outcomes.{Commits_now, Did, each-exec, out, each-evict, emptied, Ends_alone, Ends_run, Heard}
-use Rattle.theorem_serial.proofs.OneCore.Outcomes.{Hurt_alone, Hurt_probing, Hurt_running, Hurt_waiting, Last_probing, Last_room}
-use Rattle.theorem_serial.proofs.OneCore.Outcomes.{Room_wanted}
-use Rattle.theorem_serial.proofs.OneCore.Outcomes.{each-back, heard}
+use Rattle.theorem_serial.proofs
+use proofs.Names
+use Names.{arith, nat_tests, ℕ, ◌+◌, ◌≡◌, Bool, true, false, None, IfSome, refl, inl, inr, Program, Outcome, num, any_below, Vendor, Msg}
+use Names.{Shape, CoreState, Phase, AwaitTid, DoomedTid, Overflowing, skip_all, probe_all, Out, commit, committed_core, commit_sends}
+use Names.{phase_after_commit, solo_sends, core_exec, core_evict, grant, grant_in_phase, grant_sends, from_dir, probing_or_ready, is_probed}
+use Names.{among, passes, waits_for_tid, abort_written, flush_line, solo_commit}
+use proofs.OneCore.Executes.{Steady}
+use proofs.OneCore.CoreSteps.{steady-emptied}
+use proofs.OneCore.Outcomes.{Commits_now, Did, each-exec, out, each-evict, emptied, Ends_alone, Ends_run, Heard, Hurt_alone, Hurt_probing}
+use proofs.OneCore.Outcomes.{Hurt_running, Hurt_waiting, Last_probing, Last_room, Room_wanted, each-back, heard}
 
 -- a core's step with `got` grants taken keeps its requests
 abbrev pub KeepsRequests : (got : ℕ) → CoreState → Out → Type 0

@@ -1,23 +1,17 @@
 -- What a core's rules do to its part of a TID.
-use Rattle.theorem_serial.proofs.Names.{phase_after_commit, probing_or_ready, committed_core, grant_in_phase, if◌then◌else◌, waits_for_tid}
-use Rattle.theorem_serial.proofs.Names.{◌+◌}
-use Rattle.theorem_serial.proofs.Names.{data_request, Overflowing, probe_reply, all_replied, solo_commit, ProbeReply, core_evict}
-use Rattle.theorem_serial.proofs.Names.{invalidate, ℕ}
-use Rattle.theorem_serial.proofs.Names.{any_below, writes_at, CoreState, DoomedTid, marks_for, core_exec, is_probed, nat_tests, AwaitTid}
-use Rattle.theorem_serial.proofs.Names.{false}
-use Rattle.theorem_serial.proofs.Names.{from_dir, Resolves, Program, Outcome, DataReq, Running, Probing, ignored, IfSome, InvAck, commit}
-use Rattle.theorem_serial.proofs.Names.{arith}
-use Rattle.theorem_serial.proofs.Names.{passes, Shape, Phase, Ready, Sends, grant, among, opens, Bool, true, List, ◌==◌, ◌&&◌, Some, None}
-use Rattle.theorem_serial.proofs.Names.{refl}
-use Rattle.theorem_serial.proofs.Names.{Fill, home, Solo, fill, ◌≡◌, ◌<◌, ◌∷◌, ◌⊎◌, inl, inr, num, Dir, Msg, Inv, Out, put, [], to}
-use Rattle.theorem_serial.proofs.Counts.Links.{among-append, resolves-commit_sends, resolves-abort_written, resolves-skip_all}
-use Rattle.theorem_serial.proofs.Counts.Links.{resolves-probe_all, resolves-grant_sends, resolves-marks_for, resolves-solo_sends}
-use Rattle.theorem_serial.proofs.Counts.Links.{among-quiet}
-use Rattle.theorem_serial.proofs.OneCore.Executes.{Steady, did-steady}
-use Rattle.theorem_serial.proofs.OneCore.CoreSteps.{ignored-steady, fill-steady, data-steady, Hurt, Invalidated, invalidate-cases}
-use Rattle.theorem_serial.proofs.OneCore.CoreSteps.{steady-emptied, Ignored, Left_alone, Probed, Replied, reply-cases}
-use Rattle.theorem_serial.proofs.OneCore.Outcomes.{Acts, Commits_now, Did, each-exec, out, each-evict, emptied, writes_at-same, Ends_alone}
-use Rattle.theorem_serial.proofs.OneCore.Outcomes.{Ends_run, Room_wanted}
+use Rattle.theorem_serial.proofs
+use proofs.Names
+use Names.{phase_after_commit, probing_or_ready, committed_core, grant_in_phase, if◌then◌else◌, waits_for_tid, ◌+◌, data_request}
+use Names.{Overflowing, probe_reply, all_replied, solo_commit, ProbeReply, core_evict, invalidate, ℕ, any_below, writes_at, CoreState}
+use Names.{DoomedTid, marks_for, core_exec, is_probed, nat_tests, AwaitTid, false, from_dir, Resolves, Program, Outcome, DataReq, Running}
+use Names.{Probing, ignored, IfSome, InvAck, commit, arith, passes, Shape, Phase, Ready, Sends, grant, among, opens, Bool, true, List, ◌==◌}
+use Names.{◌&&◌, Some, None, refl, Fill, home, Solo, fill, ◌≡◌, ◌<◌, ◌∷◌, ◌⊎◌, inl, inr, num, Dir, Msg, Inv, Out, put, [], to}
+use proofs.Counts.Links.{among-append, resolves-commit_sends, resolves-abort_written, resolves-skip_all, resolves-probe_all}
+use proofs.Counts.Links.{resolves-grant_sends, resolves-marks_for, resolves-solo_sends, among-quiet}
+use proofs.OneCore.Executes.{Steady, did-steady}
+use proofs.OneCore.CoreSteps.{ignored-steady, fill-steady, data-steady, Hurt, Invalidated, invalidate-cases, steady-emptied, Ignored}
+use proofs.OneCore.CoreSteps.{Left_alone, Probed, Replied, reply-cases}
+use proofs.OneCore.Outcomes.{Acts, Commits_now, Did, each-exec, out, each-evict, emptied, writes_at-same, Ends_alone, Ends_run, Room_wanted}
 
 -- a core's step with `got` of the TID taken from the vendor's link keeps its part of it
 abbrev pub KeepsPart : Shape → (dir tid got : ℕ) → CoreState → Out → Type 0

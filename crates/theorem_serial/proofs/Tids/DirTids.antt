@@ -1,14 +1,13 @@
 -- What a directory's rules do to the TIDs that it has handled.
 use Rattle.base_lemmas.proofs.Lemmas.{eq-self}
-use Rattle.theorem_serial.proofs.Names.{ℕ, ◌+◌, ◌-◌, ◌≡◌, ◌<◌, ◌≤◌, Bool, true, false, ◌==◌, nat_lt, if◌then◌else◌, arith, refl, nat_tests}
-use Rattle.theorem_serial.proofs.Names.{num}
-use Rattle.theorem_serial.proofs.Names.{count_below, has_mark, Serving, advance, kept, is_skipped, Msg, Skip, Commit, Abort, Shape, lines}
-use Rattle.theorem_serial.proofs.Names.{advance-rises, advance-past, advance-stops, advance-keeps, kept-skips, DirState, Answer, Waits}
-use Rattle.theorem_serial.proofs.Names.{Drops}
-use Rattle.theorem_serial.proofs.Names.{Asks, Takes, dir_deliver, invalidation_count, Resolves, passes, handled}
-use Rattle.theorem_serial.proofs.Counts.DirOutcome.{Outcome, Waiting, Spent, TakesSkip, TakesAbort, TakesCommit, TakesAck, TakesCopy}
-use Rattle.theorem_serial.proofs.Counts.DirOutcome.{IsSpent}
-use Rattle.theorem_serial.proofs.Counts.DirOutcome.{SkipPassed, AbortPassed, CopyPassed, outcome}
+use Rattle.theorem_serial.proofs
+use proofs.Names
+use Names.{ℕ, ◌+◌, ◌-◌, ◌≡◌, ◌<◌, ◌≤◌, Bool, true, false, ◌==◌, nat_lt, if◌then◌else◌, arith, refl, nat_tests, num, count_below, has_mark}
+use Names.{Serving, advance, kept, is_skipped, Msg, Skip, Commit, Abort, Shape, lines, advance-rises, advance-past, advance-stops}
+use Names.{advance-keeps, kept-skips, DirState, Answer, Waits, Drops, Asks, Takes, dir_deliver, invalidation_count, Resolves, passes}
+use Names.{handled}
+use proofs.Counts.DirOutcome.{Outcome, Waiting, Spent, TakesSkip, TakesAbort, TakesCommit, TakesAck, TakesCopy, IsSpent, SkipPassed}
+use proofs.Counts.DirOutcome.{AbortPassed, CopyPassed, outcome}
 
 pub skipped-above : (s : Serving) (t : ℕ) → is_skipped s t ≡ true → s.serving < t
 unfolding is_skipped

@@ -1,19 +1,18 @@
 -- Each kind of event keeps the invariants.
 use Rattle.base_lemmas.proofs.Lemmas.{eq-self}
-use Rattle.theorem_serial.proofs.Names.{after_other_grant, slice_index_or, first_serving, waits_for_tid, vendor_start, vendor_gives}
-use Rattle.theorem_serial.proofs.Names.{after_answer, first-skips, grant_taken, after_grant, core_start, core_moves, core_takes, after_move}
-use Rattle.theorem_serial.proofs.Names.{back_taken, ResolvedAt, nat_tests, dir_start, in_flight, sum_below, dir_takes, out_taken, RequestOf}
-use Rattle.theorem_serial.proofs.Names.{cases_lt, cases_eq, no_lines, TidGrant, DirState, dir_asks, AnyGrant, Resolves, InsideOf, KeptTids}
-use Rattle.theorem_serial.proofs.Names.{AsksTid, handled, nat_le, Vendor, TidReq, Grants, passes, false, arith, subst, Local, Shape, World}
-use Rattle.theorem_serial.proofs.Names.{start, Sends, grant, among, share, opens, Bool, true, List, ◌==◌, Some, None, refl, Core, Link}
-use Rattle.theorem_serial.proofs.Names.{Kind}
-use Rattle.theorem_serial.proofs.Names.{live, Pair, pair, part, ◌+◌, ◌≡◌, ◌<◌, ◌≤◌, ◌∷◌, sym, ◌⊎◌, inl, inr, num, Dir, Msg, Out, Any, [], ℕ}
-use Rattle.theorem_serial.proofs.Counts.Links.{live-sends, live-takes, total-le, total-zero}
-use Rattle.theorem_serial.proofs.Counts.StepCases.{sum_back_away, pairs_vendor, sum_dir_away, pairs_grant, pairs_move, pairs_back}
-use Rattle.theorem_serial.proofs.Counts.StepCases.{pairs_asks}
-use Rattle.theorem_serial.proofs.Counts.StepCases.{sum_vendor, pairs_dir, sum_grant, sum_move, sum_back, sum_asks, sum_dir, differ, given}
-use Rattle.theorem_serial.proofs.Tids.CoreRequests.{KeepsRequests, requests-grant}
-use Rattle.theorem_serial.proofs.Tids.CoreTids.{KeepsPart, part-grant}
+use Rattle.theorem_serial.proofs
+use proofs.Names
+use Names.{after_other_grant, slice_index_or, first_serving, waits_for_tid, vendor_start, vendor_gives, after_answer, first-skips}
+use Names.{grant_taken, after_grant, core_start, core_moves, core_takes, after_move, back_taken, ResolvedAt, nat_tests, dir_start}
+use Names.{in_flight, sum_below, dir_takes, out_taken, RequestOf, cases_lt, cases_eq, no_lines, TidGrant, DirState, dir_asks, AnyGrant}
+use Names.{Resolves, InsideOf, KeptTids, AsksTid, handled, nat_le, Vendor, TidReq, Grants, passes, false, arith, subst, Local, Shape, World}
+use Names.{start, Sends, grant, among, share, opens, Bool, true, List, ◌==◌, Some, None, refl, Core, Link, Kind, live, Pair, pair, part}
+use Names.{◌+◌, ◌≡◌, ◌<◌, ◌≤◌, ◌∷◌, sym, ◌⊎◌, inl, inr, num, Dir, Msg, Out, Any, [], ℕ}
+use proofs.Counts.Links.{live-sends, live-takes, total-le, total-zero}
+use proofs.Counts.StepCases.{sum_back_away, pairs_vendor, sum_dir_away, pairs_grant, pairs_move, pairs_back, pairs_asks, sum_vendor}
+use proofs.Counts.StepCases.{pairs_dir, sum_grant, sum_move, sum_back, sum_asks, sum_dir, differ, given}
+use proofs.Tids.CoreRequests.{KeepsRequests, requests-grant}
+use proofs.Tids.CoreTids.{KeepsPart, part-grant}
 
 -- a message in flight is counted
 pub live-some : (k : Kind) (l : Link) (i : ℕ) (m : Msg) → slice_index_or l i None ≡ Some m → num (passes k m) ≤ live k l

@@ -1,16 +1,17 @@
 -- What a commit does to one word: where it didn't store it nothing; where it did, the frame's word is dirty with the commit's TID, or
 -- the spilled word is sent with it, as they were.
 use Rattle.base_lemmas.proofs.Lemmas.{eight-at, word_at-own}
-use Rattle.theorem_serial.proofs.Names.{solo_commit, ℕ, ◌≡◌, ◌==◌, ◌&&◌, ◌||◌, Bool, true, false, not, Option, Some, None, IfSome, is_some}
-use Rattle.theorem_serial.proofs.Names.{unwrap_or, get_or, if◌then◌else◌, arith, refl, ap, sym, ◌∙◌, nat_tests, Noted, Program, line_of}
-use Rattle.theorem_serial.proofs.Names.{place_of, word_at, has, hit, Dir, Skip, Mark, Commit, WriteBack, Shape, Cache, IsCache, committed}
-use Rattle.theorem_serial.proofs.Names.{words_dropped, Spilled, spilled_mask, spilled_words, has-mask_of, CoreState, Out, is_solo, noted}
-use Rattle.theorem_serial.proofs.Names.{committed_core, commit, solo_sends, solo_marks_or_skip, solo_write_backs, core_exec, Kind, CopyWord}
-use Rattle.theorem_serial.proofs.Names.{CopyNot, among, passes, mark, skip}
-use Rattle.theorem_serial.proofs.Copies.CopySends.{commit-copies}
-use Rattle.theorem_serial.proofs.Counts.Links.{among-append, among-flat_map_none}
-use Rattle.theorem_serial.proofs.Values.WordCopies.{among-words, among-others}
-use Rattle.theorem_serial.proofs.OneCore.Outcomes.{Commits_now, Did, Ends_alone, after_end, each-exec, out}
+use Rattle.theorem_serial.proofs
+use proofs.Names
+use Names.{solo_commit, ℕ, ◌≡◌, ◌==◌, ◌&&◌, ◌||◌, Bool, true, false, not, Option, Some, None, IfSome, is_some, unwrap_or, get_or}
+use Names.{if◌then◌else◌, arith, refl, ap, sym, ◌∙◌, nat_tests, Noted, Program, line_of, place_of, word_at, has, hit, Dir, Skip, Mark}
+use Names.{Commit, WriteBack, Shape, Cache, IsCache, committed, words_dropped, Spilled, spilled_mask, spilled_words, has-mask_of, CoreState}
+use Names.{Out, is_solo, noted, committed_core, commit, solo_sends, solo_marks_or_skip, solo_write_backs, core_exec, Kind, CopyWord}
+use Names.{CopyNot, among, passes, mark, skip}
+use proofs.Copies.CopySends.{commit-copies}
+use proofs.Counts.Links.{among-append, among-flat_map_none}
+use proofs.Values.WordCopies.{among-words, among-others}
+use proofs.OneCore.Outcomes.{Commits_now, Did, Ends_alone, after_end, each-exec, out}
 
 pub record CommitsWord (sh : Shape) (x t : ℕ) (c : Cache) (sp : Spilled) (o : Out) : Type 0 where
   pub left : c.modified x ≡ false → sp x ≡ None

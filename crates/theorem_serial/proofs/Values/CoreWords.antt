@@ -1,16 +1,16 @@
 -- What a core's instructions and evictions do to a word's copies: where nothing is committed they are as many as before, with their values.
 use Rattle.base_lemmas.proofs.Lemmas.{unheld-clean}
-use Rattle.theorem_serial.proofs.Names.{word_of, stored, solo_commit, marked, ℕ, ◌≡◌, ◌==◌, Bool, true, false, Some, None, IfSome, is_some}
-use Rattle.theorem_serial.proofs.Names.{if◌then◌else◌, arith, refl, ap, ◌∙◌, nat_tests, Program, line_of, Dir, Shape, home, IsCache, placed}
-use Rattle.theorem_serial.proofs.Names.{dirty-evicted, value-evicted, CoreState, nothing, flush_line, Out, moves, commit}
-use Rattle.theorem_serial.proofs.Names.{core_exec}
-use Rattle.theorem_serial.proofs.Names.{core_evict, CopyOf, among, passes, Cache}
-use Rattle.theorem_serial.proofs.Copies.CoreCopies.{framed-dirty}
-use Rattle.theorem_serial.proofs.Values.WordCopies.{Carries, word-still, word-sent, flushed-words, back-home-words}
-use Rattle.theorem_serial.proofs.OneCore.Said.{Requests, Silent, quiet, say}
-use Rattle.theorem_serial.proofs.OneCore.Outcomes.{Commits_now, Did, Ends_alone, Frames, Frames_anew, Misses_anew, after_store, awaiting}
-use Rattle.theorem_serial.proofs.OneCore.Outcomes.{each-evict, each-exec, emptied, out, said}
 use Rattle.rules_maps.proofs.Lemmas.{dirty-placed, value-placed}
+use Rattle.theorem_serial.proofs
+use proofs.Names
+use Names.{word_of, stored, solo_commit, marked, ℕ, ◌≡◌, ◌==◌, Bool, true, false, Some, None, IfSome, is_some, if◌then◌else◌, arith, refl}
+use Names.{ap, ◌∙◌, nat_tests, Program, line_of, Dir, Shape, home, IsCache, placed, dirty-evicted, value-evicted, CoreState, nothing}
+use Names.{flush_line, Out, moves, commit, core_exec, core_evict, CopyOf, among, passes, Cache}
+use proofs.Copies.CoreCopies.{framed-dirty}
+use proofs.Values.WordCopies.{Carries, word-still, word-sent, flushed-words, back-home-words}
+use proofs.OneCore.Said.{Requests, Silent, quiet, say}
+use proofs.OneCore.Outcomes.{Commits_now, Did, Ends_alone, Frames, Frames_anew, Misses_anew, after_store, awaiting, each-evict, each-exec}
+use proofs.OneCore.Outcomes.{emptied, out, said}
 
 -- no dirty word changes, and no copy is sent
 pub carries-still : (sh : Shape) (s : CoreState) (o : Out) → ((v : ℕ) → o.core.cache.dirty v ≡ s.cache.dirty v)

@@ -1,19 +1,16 @@
 -- What a message does to a word's copies at the core that takes it: it keeps them, or is an invalidation of the word's line, which may
 -- take the word from the frame.
-use Rattle.theorem_serial.proofs.Names.{invalidated, moves, ℕ, ◌≡◌, ◌⊎◌, ◌==◌, ◌&&◌, Bool, true, false, not, List, Option, Some, None}
-use Rattle.theorem_serial.proofs.Names.{IfSome}
-use Rattle.theorem_serial.proofs.Names.{is_some, unwrap_or, get_or, if◌then◌else◌, refl, sym, ◌∙◌, inl, inr, cases_eq, line_of, place_of}
-use Rattle.theorem_serial.proofs.Names.{hit}
-use Rattle.theorem_serial.proofs.Names.{Dir, Msg, Inv, Shape, home, IsCache, filled, cleaned, rolled_back, read_cleared, CoreState, nothing}
-use Rattle.theorem_serial.proofs.Names.{Out, grant, from_dir, CopyOf, among, passes, ap, arith, nat_tests}
-use Rattle.theorem_serial.proofs.Copies.CopyRules.{missed}
-use Rattle.theorem_serial.proofs.Values.CoreWords.{carries-still}
-use Rattle.theorem_serial.proofs.Values.WordCopies.{WordCarried, Carries, word-still, word-sent, flushed-words}
-use Rattle.theorem_serial.proofs.OneCore.Said.{Flushes, Silent, Unheard, quiet, say}
-use Rattle.theorem_serial.proofs.OneCore.Outcomes.{Fills, Given_none, Granted, Hands_out, Heard, Hurt_alone, Hurt_probing, Hurt_running}
-use Rattle.theorem_serial.proofs.OneCore.Outcomes.{Hurt_waiting, Hurt_none, each-back, each-grant, granted, granted_said, heard}
-use Rattle.theorem_serial.proofs.OneCore.Outcomes.{heard-quiet}
-use Rattle.theorem_serial.proofs.OneCore.Outcomes.{heard_said, hears_ack, message}
+use Rattle.theorem_serial.proofs
+use proofs.Names
+use Names.{invalidated, moves, ℕ, ◌≡◌, ◌⊎◌, ◌==◌, ◌&&◌, Bool, true, false, not, List, Option, Some, None, IfSome, is_some, unwrap_or}
+use Names.{get_or, if◌then◌else◌, refl, sym, ◌∙◌, inl, inr, cases_eq, line_of, place_of, hit, Dir, Msg, Inv, Shape, home, IsCache, filled}
+use Names.{cleaned, rolled_back, read_cleared, CoreState, nothing, Out, grant, from_dir, CopyOf, among, passes, ap, arith, nat_tests}
+use proofs.Copies.CopyRules.{missed}
+use proofs.Values.CoreWords.{carries-still}
+use proofs.Values.WordCopies.{WordCarried, Carries, word-still, word-sent, flushed-words}
+use proofs.OneCore.Said.{Flushes, Silent, Unheard, quiet, say}
+use proofs.OneCore.Outcomes.{Fills, Given_none, Granted, Hands_out, Heard, Hurt_alone, Hurt_probing, Hurt_running, Hurt_waiting, Hurt_none}
+use proofs.OneCore.Outcomes.{each-back, each-grant, granted, granted_said, heard, heard-quiet, heard_said, hears_ack, message}
 
 pub words-grant : (sh : Shape) (u : ℕ) (s : CoreState) → Carries sh s (grant sh u s)
 unfolding passes

@@ -1,15 +1,16 @@
 -- A core's events and the words in its frames and in the Filled to it: what fades keeps its value, an invalidation takes its words, and
 -- a Fill brings what was on its way.
 use Rattle.base_lemmas.proofs.Lemmas.{hit-line}
-use Rattle.theorem_serial.proofs.Names.{ℕ, ◌≡◌, ◌≤◌, ◌⊎◌, Bool, true, false, ◌==◌, ◌&&◌, List, Option, Some, None, set, get_or, arith, refl}
-use Rattle.theorem_serial.proofs.Names.{inl, inr, nat_tests, num, line_of, place_of, hit, Msg, Fill, Inv, Shape, home, Awaited, Out, staled}
-use Rattle.theorem_serial.proofs.Names.{is_awaited, LoadingOf, FillOf, FillNot, InvWord, live, passes, Pair, after_move, back_taken}
-use Rattle.theorem_serial.proofs.Names.{is_stale}
-use Rattle.theorem_serial.proofs.Counts.Links.{live-takes}
-use Rattle.theorem_serial.proofs.Tids.TidSteps.{live-some}
-use Rattle.theorem_serial.proofs.Values.FramedWords.{HeldOf, few-not}
-use Rattle.theorem_serial.proofs.Values.FramedCores.{Fading}
-use Rattle.theorem_serial.proofs.Values.FramedBacks.{Invalidates, Filled}
+use Rattle.theorem_serial.proofs
+use proofs.Names
+use Names.{ℕ, ◌≡◌, ◌≤◌, ◌⊎◌, Bool, true, false, ◌==◌, ◌&&◌, List, Option, Some, None, set, get_or, arith, refl, inl, inr, nat_tests, num}
+use Names.{line_of, place_of, hit, Msg, Fill, Inv, Shape, home, Awaited, Out, staled, is_awaited, LoadingOf, FillOf, FillNot, InvWord, live}
+use Names.{passes, Pair, after_move, back_taken, is_stale}
+use proofs.Counts.Links.{live-takes}
+use proofs.Tids.TidSteps.{live-some}
+use proofs.Values.FramedWords.{HeldOf, few-not}
+use proofs.Values.FramedCores.{Fading}
+use proofs.Values.FramedBacks.{Invalidates, Filled}
 
 -- the frames fade, and the link from the home stays
 pub held-fades : (x y : ℕ) (v w : Pair) → w.back ≡ v.back → Fading v.core w.core → HeldOf x y v → HeldOf x y w

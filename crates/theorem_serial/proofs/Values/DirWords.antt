@@ -1,9 +1,9 @@
 -- What a directory's rules do to a home word: it stays, and no copy of it is consumed; or a copy with its line's tag comes home.
 use Rattle.base_lemmas.proofs.Lemmas.{hit-line}
-use Rattle.theorem_serial.proofs.Names.{ℕ, ◌≡◌, Bool, true, false, not, List, ◌==◌, get_or, if◌then◌else◌, arith, refl, ◌∙◌, nat_tests}
-use Rattle.theorem_serial.proofs.Names.{line_of}
-use Rattle.theorem_serial.proofs.Names.{place_of, hit, Msg, Shape, DirState, Answer, Asks, Takes, dir_deliver, CopyWord, CopyNot, passes}
-use Rattle.theorem_serial.proofs.Counts.DirOutcome.{Outcome, Waiting, Spent, AsksOwner, TakesCopy, IsCopy, outcome}
+use Rattle.theorem_serial.proofs
+use proofs.Names.{ℕ, ◌≡◌, Bool, true, false, not, List, ◌==◌, get_or, if◌then◌else◌, arith, refl, ◌∙◌, nat_tests, line_of, place_of, hit}
+use proofs.Names.{Msg, Shape, DirState, Answer, Asks, Takes, dir_deliver, CopyWord, CopyNot, passes}
+use proofs.Counts.DirOutcome.{Outcome, Waiting, Spent, AsksOwner, TakesCopy, IsCopy, outcome}
 
 pub data HomeBy (s : DirState) (m : Msg) (x : ℕ) (new : DirState) : Type 0 where
   Left : new.words x ≡ s.words x → ((t : ℕ) → passes (CopyWord x t) m ≡ false) → HomeBy s m x new

@@ -1,23 +1,20 @@
 -- Where a directory takes a message, each word in a frame or a Fill has its value still, or is invalidated.
 use Rattle.base_lemmas.proofs.Lemmas.{eq-self as same}
-use Rattle.theorem_serial.proofs.Names.{ℕ, ◌+◌, ◌≡◌, ◌<◌, ◌≤◌, Bool, true, false, not, ◌==◌, ◌&&◌, List, [], Contains, Option, Some, None}
-use Rattle.theorem_serial.proofs.Names.{arith, refl, ap, subst, ◌∙◌, inl, inr, nat_tests, Noted, num, line_of, IsCache, Msg, Core, Dir}
-use Rattle.theorem_serial.proofs.Names.{LoadReq}
-use Rattle.theorem_serial.proofs.Names.{Shape, home, lines, DirState, World, in_flight, Sends, Answer, Waits, Drops, Asks, Takes, dir_takes}
-use Rattle.theorem_serial.proofs.Names.{dir_asks, KeptAfter, KeptOwned, stored_there, FillOf, FillNot, LoadOf, LoadNot, Commits, live}
-use Rattle.theorem_serial.proofs.Names.{among}
-use Rattle.theorem_serial.proofs.Names.{passes, CommitsInMemory, LoadsInMemory, pair, is_this, is_applied, CommitsStand, stores_at}
-use Rattle.theorem_serial.proofs.Names.{stores_word}
-use Rattle.theorem_serial.proofs.Names.{counts, value_at, word_copies, HomeWords, last_of}
-use Rattle.theorem_serial.proofs.Counts.StepCases.{differ, either, asks-own, OfAnswer}
-use Rattle.theorem_serial.proofs.Lines.LoadsKept.{FillsBy}
-use Rattle.theorem_serial.proofs.Memory.MemorySends.{accesses_at_homes}
-use Rattle.theorem_serial.proofs.Tids.Commits.{last-least}
-use Rattle.theorem_serial.proofs.Tids.TidSteps.{live-some}
-use Rattle.theorem_serial.proofs.Values.FramedWords.{KeptHeld, few-sent, held-answered, value-stays, FillsHome, value-taken, steady-taken}
-use Rattle.theorem_serial.proofs.Values.FramedWords.{held-taken, held-asked}
-use Rattle.theorem_serial.proofs.Values.ValueAt.{IsAlike, value-alike}
-use Rattle.theorem_serial.proofs.Values.WordCopies.{few-copies}
+use Rattle.theorem_serial.proofs
+use proofs.Names
+use Names.{ℕ, ◌+◌, ◌≡◌, ◌<◌, ◌≤◌, Bool, true, false, not, ◌==◌, ◌&&◌, List, [], Contains, Option, Some, None, arith, refl, ap, subst, ◌∙◌}
+use Names.{inl, inr, nat_tests, Noted, num, line_of, IsCache, Msg, Core, Dir, LoadReq, Shape, home, lines, DirState, World, in_flight}
+use Names.{Sends, Answer, Waits, Drops, Asks, Takes, dir_takes, dir_asks, KeptAfter, KeptOwned, stored_there, FillOf, FillNot, LoadOf}
+use Names.{LoadNot, Commits, live, among, passes, CommitsInMemory, LoadsInMemory, pair, is_this, is_applied, CommitsStand, stores_at}
+use Names.{stores_word, counts, value_at, word_copies, HomeWords, last_of}
+use proofs.Counts.StepCases.{differ, either, asks-own, OfAnswer}
+use proofs.Lines.LoadsKept.{FillsBy}
+use proofs.Memory.MemorySends.{accesses_at_homes}
+use proofs.Tids.Commits.{last-least}
+use proofs.Tids.TidSteps.{live-some}
+use proofs.Values.FramedWords.{KeptHeld, few-sent, held-answered, value-stays, FillsHome, value-taken, steady-taken, held-taken, held-asked}
+use proofs.Values.ValueAt.{IsAlike, value-alike}
+use proofs.Values.WordCopies.{few-copies}
 
 -- messages that are neither a load request nor a Commit
 none-among : (x y : ℕ) → among (FillNot x y) [] ≡ 0

@@ -1,13 +1,13 @@
 -- What each message to a core does to the words in its frames: a Fill brings those that aren't valid, an invalidation takes those of its
 -- mask that aren't modified, and no other changes any.
-use Rattle.theorem_serial.proofs.Names.{ℕ, ◌≡◌, ◌⊎◌, Bool, true, false, not, ◌&&◌, ◌==◌, List, Option, Some, None, IfSome, unwrap_or}
-use Rattle.theorem_serial.proofs.Names.{get_or, if◌then◌else◌, refl, sym, subst, ◌∙◌, inl, inr, line_of, place_of, hit, Msg, Fill}
-use Rattle.theorem_serial.proofs.Names.{Inv, Shape, Cache, filled, cleaned, invalidated, rolled_back, read_cleared, CoreState, Awaited, Out}
-use Rattle.theorem_serial.proofs.Names.{grant, staled, from_dir, InvWord, passes, is_stale, arith, nat_tests}
-use Rattle.theorem_serial.proofs.Values.FramedCores.{Fades, Fading, fades-same, fading}
-use Rattle.theorem_serial.proofs.OneCore.Outcomes.{Last_room, Fills, Fills_none, Given_none, Granted, Hands_out, Heard, Hurt_alone}
-use Rattle.theorem_serial.proofs.OneCore.Outcomes.{Hurt_probing, Hurt_running, Hurt_waiting, Ignores_fill, Hurt_none, each-back, each-grant}
-use Rattle.theorem_serial.proofs.OneCore.Outcomes.{granted, heard, message}
+use Rattle.theorem_serial.proofs
+use proofs.Names
+use Names.{ℕ, ◌≡◌, ◌⊎◌, Bool, true, false, not, ◌&&◌, ◌==◌, List, Option, Some, None, IfSome, unwrap_or, get_or, if◌then◌else◌, refl, sym}
+use Names.{subst, ◌∙◌, inl, inr, line_of, place_of, hit, Msg, Fill, Inv, Shape, Cache, filled, cleaned, invalidated, rolled_back}
+use Names.{read_cleared, CoreState, Awaited, Out, grant, staled, from_dir, InvWord, passes, is_stale, arith, nat_tests}
+use proofs.Values.FramedCores.{Fades, Fading, fades-same, fading}
+use proofs.OneCore.Outcomes.{Last_room, Fills, Fills_none, Given_none, Granted, Hands_out, Heard, Hurt_alone, Hurt_probing, Hurt_running}
+use proofs.OneCore.Outcomes.{Hurt_waiting, Ignores_fill, Hurt_none, each-back, each-grant, granted, heard, message}
 
 -- a core that commits nothing, in which words fade
 abbrev pub OnlyFades : CoreState → Out → Type 0

@@ -1,12 +1,12 @@
 -- What each of a core's rules does to the words in its frames: no valid word that isn't modified gets another value, but where the core
 -- commits, and where a Fill comes.
-use Rattle.theorem_serial.proofs.Names.{ℕ, ◌≡◌, ◌⊎◌, Bool, true, false, ◌==◌, Option, Some, None, IfSome, is_some, if◌then◌else◌, refl, sym}
-use Rattle.theorem_serial.proofs.Names.{◌∙◌, inl, inr, true≢false, Program, word_of, line_of, Shape, set_of, Cache, free_way, marked}
-use Rattle.theorem_serial.proofs.Names.{stored}
-use Rattle.theorem_serial.proofs.Names.{placed, placed_at, evicted, evicted_line, committed, words_dropped, CoreState, Ready, Solo, Out}
-use Rattle.theorem_serial.proofs.Names.{is_solo, noted, commit, committed_core, solo_commit, core_exec, core_evict, is_stale}
-use Rattle.theorem_serial.proofs.OneCore.Outcomes.{Commits_now, Did, Ends_alone, Frames, Frames_anew, Misses, Misses_anew, Reads, after_end}
-use Rattle.theorem_serial.proofs.OneCore.Outcomes.{each-evict, each-exec, out}
+use Rattle.theorem_serial.proofs
+use proofs.Names
+use Names.{ℕ, ◌≡◌, ◌⊎◌, Bool, true, false, ◌==◌, Option, Some, None, IfSome, is_some, if◌then◌else◌, refl, sym, ◌∙◌, inl, inr, true≢false}
+use Names.{Program, word_of, line_of, Shape, set_of, Cache, free_way, marked, stored, placed, placed_at, evicted, evicted_line, committed}
+use Names.{words_dropped, CoreState, Ready, Solo, Out, is_solo, noted, commit, committed_core, solo_commit, core_exec, core_evict, is_stale}
+use proofs.OneCore.Outcomes.{Commits_now, Did, Ends_alone, Frames, Frames_anew, Misses, Misses_anew, Reads, after_end, each-evict}
+use proofs.OneCore.Outcomes.{each-exec, out}
 
 -- a valid word that isn't modified is as it was
 abbrev pub Fades : (c d : Cache) → (word : ℕ) → Type 0

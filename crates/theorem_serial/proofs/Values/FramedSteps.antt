@@ -1,29 +1,27 @@
 -- Each event keeps that words in frames and Fills have their values, or are invalidated.
-use Rattle.theorem_serial.proofs.Names.{ℕ, ◌≡◌, ◌<◌, ◌≤◌, ◌⊎◌, Bool, true, false, ◌==◌, ◌||◌, ◌++◌, List, Option, Some, None, IfSome}
-use Rattle.theorem_serial.proofs.Names.{is_some}
-use Rattle.theorem_serial.proofs.Names.{nat_lt, get_or, arith, refl, sym, ap, subst, ◌∙◌, inl, inr, nat_tests, Noted, Plain, Local, Program}
-use Rattle.theorem_serial.proofs.Names.{line_of, Core, Dir, Vendor, Msg, LoadReq, Fill, Commit, Event, Shape, home, Awaited, CoreState}
-use Rattle.theorem_serial.proofs.Names.{DirState, Phase, Ready, Solo, World, Out, is_solo, noted, from_dir, grant, core_evict, is_awaited}
-use Rattle.theorem_serial.proofs.Names.{core_exec, dir_deliver, in_flight, History, Stepped, step, next_history, recorded, and_noted}
-use Rattle.theorem_serial.proofs.Names.{insert_commit, core_moves, core_takes, Uses, Suits, LoadingOf, LinesAway, LoadOf, InvWord}
-use Rattle.theorem_serial.proofs.Names.{Commits, live, passes, Carried, Invariants, executes, Grant, granted_by, Pair, pair, after_move}
-use Rattle.theorem_serial.proofs.Names.{back_taken, grant_taken, after_grant, after_other_grant, is_applied, CommitsStand, stores_word}
-use Rattle.theorem_serial.proofs.Names.{after_stores, counts, value_at, UnmodifiedWords, FilledWords, Ways, ways_after, sent_by, Contains}
 use Rattle.theorem_serial.specs.KeepsWords.{EventsKeepWords}
-use Rattle.theorem_serial.proofs.Counts.StepCases.{either, moves-own, moves-other, pairs_move, pairs_grant, pairs_back, pairs_vendor}
-use Rattle.theorem_serial.proofs.Counts.StepCases.{OfAnswer}
-use Rattle.theorem_serial.proofs.Counts.StepCases.{node_cases}
-use Rattle.theorem_serial.proofs.Lines.LoadsKept.{dir-fills}
-use Rattle.theorem_serial.proofs.Values.CoresKeepFramed.{no-fill, held-fades, held-quietly, held-invalid, held-filled, held-elsewhere}
-use Rattle.theorem_serial.proofs.Values.DirsKeepFramed.{answered-quietly, answered-load}
-use Rattle.theorem_serial.proofs.Values.FramedBacks.{Coming, Quiet, Takes, Brings, OnlyFades, comes-back, fading-grant}
-use Rattle.theorem_serial.proofs.Values.FramedCores.{Closing, Framing, Stays, Closes, fades-same, fading, framing-exec, fading-evict}
-use Rattle.theorem_serial.proofs.Values.FramedWords.{HeldOf, HeldAt, KeptHeld, few-not, load-home, answered-commit, commit-invalidates}
-use Rattle.theorem_serial.proofs.Values.ModifiedWords.{stored-served, stored-seen, Serves}
-use Rattle.theorem_serial.proofs.Values.ValueAt.{IsSilent, with_commit, value-skip, value-insert}
-use Rattle.theorem_serial.proofs.Order.SerialSteps.{Stand, stand}
-use Rattle.theorem_serial.proofs.Tids.TidSteps.{live-some}
 use Rattle.theorem_attempt.proofs.Lemmas.{sees-modified}
+use Rattle.theorem_serial.proofs
+use proofs.Names
+use Names.{ℕ, ◌≡◌, ◌<◌, ◌≤◌, ◌⊎◌, Bool, true, false, ◌==◌, ◌||◌, ◌++◌, List, Option, Some, None, IfSome, is_some, nat_lt, get_or, arith}
+use Names.{refl, sym, ap, subst, ◌∙◌, inl, inr, nat_tests, Noted, Plain, Local, Program, line_of, Core, Dir, Vendor, Msg, LoadReq, Fill}
+use Names.{Commit, Event, Shape, home, Awaited, CoreState, DirState, Phase, Ready, Solo, World, Out, is_solo, noted, from_dir, grant}
+use Names.{core_evict, is_awaited, core_exec, dir_deliver, in_flight, History, Stepped, step, next_history, recorded, and_noted}
+use Names.{insert_commit, core_moves, core_takes, Uses, Suits, LoadingOf, LinesAway, LoadOf, InvWord, Commits, live, passes, Carried}
+use Names.{Invariants, executes, Grant, granted_by, Pair, pair, after_move, back_taken, grant_taken, after_grant, after_other_grant}
+use Names.{is_applied, CommitsStand, stores_word, after_stores, counts, value_at, UnmodifiedWords, FilledWords, Ways, ways_after, sent_by}
+use Names.{Contains}
+use proofs.Counts.StepCases.{either, moves-own, moves-other, pairs_move, pairs_grant, pairs_back, pairs_vendor, OfAnswer, node_cases}
+use proofs.Lines.LoadsKept.{dir-fills}
+use proofs.Values.CoresKeepFramed.{no-fill, held-fades, held-quietly, held-invalid, held-filled, held-elsewhere}
+use proofs.Values.DirsKeepFramed.{answered-quietly, answered-load}
+use proofs.Values.FramedBacks.{Coming, Quiet, Takes, Brings, OnlyFades, comes-back, fading-grant}
+use proofs.Values.FramedCores.{Closing, Framing, Stays, Closes, fades-same, fading, framing-exec, fading-evict}
+use proofs.Values.FramedWords.{HeldOf, HeldAt, KeptHeld, few-not, load-home, answered-commit, commit-invalidates}
+use proofs.Values.ModifiedWords.{stored-served, stored-seen, Serves}
+use proofs.Values.ValueAt.{IsSilent, with_commit, value-skip, value-insert}
+use proofs.Order.SerialSteps.{Stand, stand}
+use proofs.Tids.TidSteps.{live-some}
 
 -- a core commits
 

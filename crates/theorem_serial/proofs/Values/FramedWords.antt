@@ -1,38 +1,27 @@
 -- A word in a core's frames and in the Fills on their way to the core: it has its value, or an invalidation of it is on its way too.
 use Rattle.base_lemmas.proofs.Lemmas.{eight-at, eq-self as same}
-use Rattle.theorem_serial.proofs.Names.{moved_on_if_settled, owned_by_committer, invalidation_count, load_unless_owned, keeps_unmodified}
-use Rattle.theorem_serial.proofs.Names.{false}
-use Rattle.theorem_serial.proofs.Names.{CommitsAreServed, CommitsInMemory, flat_map-append, is_invalidated, if◌then◌else◌, invalidations}
-use Rattle.theorem_serial.proofs.Names.{arith}
-use Rattle.theorem_serial.proofs.Names.{SettledCommit, any_below-at, after_answer, CommitsStand, load_request, stores_word, count_below}
-use Rattle.theorem_serial.proofs.Names.{Option}
-use Rattle.theorem_serial.proofs.Names.{has-mask_of, KeptLoading, KeptSharers, CommitsLine, KeptCounted, stored_mask, is_applied}
-use Rattle.theorem_serial.proofs.Names.{with_asked, ℕ}
-use Rattle.theorem_serial.proofs.Names.{home_words, holds_line, KeptStored, nat_tests, stores_at, in_flight, ask_owner, dir_takes}
-use Rattle.theorem_serial.proofs.Names.{stores_in}
-use Rattle.theorem_serial.proofs.Names.{Contains, place_of, any_word, DirState, value_at, is_stale, has_mark, dir_asks, flat_map, cases_eq}
-use Rattle.theorem_serial.proofs.Names.{◌≡◌}
-use Rattle.theorem_serial.proofs.Names.{SharerOf, is_fresh, IsRising, is_some, line_of, word_at, FillNot, InvWord, Commits, is_this}
-use Rattle.theorem_serial.proofs.Names.{DataReq}
-use Rattle.theorem_serial.proofs.Names.{mask_of, Awaited, invs_to, FillOf, passes, counts, get_or, nat_le, Answer, nat_lt, Commit, LoadOf}
-use Rattle.theorem_serial.proofs.Names.{Bool}
-use Rattle.theorem_serial.proofs.Names.{Noted, Shape, World, among, subst, Sends, Waits, Drops, Takes, those, Lines, lines, true}
-use Rattle.theorem_serial.proofs.Names.{◌&&◌}
-use Rattle.theorem_serial.proofs.Names.{◌||◌, List, Some, None, refl, Core, home, Link, live, Pair, pair, zero, ◌==◌, Fill, Asks, cond}
-use Rattle.theorem_serial.proofs.Names.{Kind}
-use Rattle.theorem_serial.proofs.Names.{◌<◌, ◌≤◌, ◌⊎◌, not, inl, inr, num, Msg, Dir, suc, ◌∷◌, set, ◌∙◌, ◌+◌, sym, has, hit, Inv, [], ap}
-use Rattle.theorem_serial.proofs.Names.{to}
 use Rattle.rules_tcc.specs.DirDeliver.{dir_commit}
-use Rattle.theorem_serial.proofs.Counts.Links.{live-sends, live-fewer, among-fewer, num-same, live-takes, among-append}
-use Rattle.theorem_serial.proofs.Counts.StepCases.{either, dir-own, dir-other, pairs_dir, pairs_asks, differ, OfAnswer}
-use Rattle.theorem_serial.proofs.Lines.LoadsKept.{FillsBy}
-use Rattle.theorem_serial.proofs.Marks.CoreMarks.{some-mask}
-use Rattle.theorem_serial.proofs.Marks.MaskLaws.{same-commit}
-use Rattle.theorem_serial.proofs.Marks.OwesByCommit.{CountsMarked}
-use Rattle.theorem_serial.proofs.Marks.StoredKept.{taken-stored}
-use Rattle.theorem_serial.proofs.Memory.MemorySends.{accesses_at_homes}
-use Rattle.theorem_serial.proofs.Tids.TidSteps.{live-some}
-use Rattle.theorem_serial.proofs.Values.ValueAt.{IsAlike, value-alike}
+use Rattle.theorem_serial.proofs
+use proofs.Names
+use Names.{moved_on_if_settled, owned_by_committer, invalidation_count, load_unless_owned, keeps_unmodified, false, CommitsAreServed}
+use Names.{CommitsInMemory, flat_map-append, is_invalidated, if◌then◌else◌, invalidations, arith, SettledCommit, any_below-at, after_answer}
+use Names.{CommitsStand, load_request, stores_word, count_below, Option, has-mask_of, KeptLoading, KeptSharers, CommitsLine, KeptCounted}
+use Names.{stored_mask, is_applied, with_asked, ℕ, home_words, holds_line, KeptStored, nat_tests, stores_at, in_flight, ask_owner}
+use Names.{dir_takes, stores_in, Contains, place_of, any_word, DirState, value_at, is_stale, has_mark, dir_asks, flat_map, cases_eq, ◌≡◌}
+use Names.{SharerOf, is_fresh, IsRising, is_some, line_of, word_at, FillNot, InvWord, Commits, is_this, DataReq, mask_of, Awaited, invs_to}
+use Names.{FillOf, passes, counts, get_or, nat_le, Answer, nat_lt, Commit, LoadOf, Bool, Noted, Shape, World, among, subst, Sends, Waits}
+use Names.{Drops, Takes, those, Lines, lines, true, ◌&&◌, ◌||◌, List, Some, None, refl, Core, home, Link, live, Pair, pair, zero, ◌==◌}
+use Names.{Fill, Asks, cond, Kind, ◌<◌, ◌≤◌, ◌⊎◌, not, inl, inr, num, Msg, Dir, suc, ◌∷◌, set, ◌∙◌, ◌+◌, sym, has, hit, Inv, [], ap, to}
+use proofs.Counts.Links.{live-sends, live-fewer, among-fewer, num-same, live-takes, among-append}
+use proofs.Counts.StepCases.{either, dir-own, dir-other, pairs_dir, pairs_asks, differ, OfAnswer}
+use proofs.Lines.LoadsKept.{FillsBy}
+use proofs.Marks.CoreMarks.{some-mask}
+use proofs.Marks.MaskLaws.{same-commit}
+use proofs.Marks.OwesByCommit.{CountsMarked}
+use proofs.Marks.StoredKept.{taken-stored}
+use proofs.Memory.MemorySends.{accesses_at_homes}
+use proofs.Tids.TidSteps.{live-some}
+use proofs.Values.ValueAt.{IsAlike, value-alike}
 
 -- the word x has the value y, or an invalidation of it is on its way
 pub record HeldOf (x y : ℕ) (v : Pair) : Type 0 where

@@ -1,35 +1,33 @@
 -- Every event keeps the values of home words and of copies on their way home.
-use Rattle.theorem_serial.proofs.Names.{ℕ, ◌≡◌, Noted, ◌<◌, ◌++◌, List, Option, Some, None, IfSome, refl, inl, inr, Plain, Local, Program}
-use Rattle.theorem_serial.proofs.Names.{Dir}
-use Rattle.theorem_serial.proofs.Names.{Event, Shape, CoreState, World, Out, core_exec, core_evict, from_dir, dir_deliver, History, Stepped}
-use Rattle.theorem_serial.proofs.Names.{step, next_history, recorded, and_noted, core_moves, core_takes, Uses, Suits, Carried, Invariants}
-use Rattle.theorem_serial.proofs.Names.{Grant, granted_by, Ways, ways_after, sent_by, zero, suc, ◌||◌, Bool, true, false, cond, is_some}
-use Rattle.theorem_serial.proofs.Names.{unwrap_or, arith, ap, sym, subst, ◌∙◌, nat_tests, num, line_of, Core, home, lines, DirState, noted}
-use Rattle.theorem_serial.proofs.Names.{insert_commit, sees, copies_with, AboveOf, CopyWord, CopyNot, Commits, live, among, Pair, pair}
-use Rattle.theorem_serial.proofs.Names.{after_move, is_this, is_applied, stores_word, after_stores, counts, word_copies, CopiesHave}
-use Rattle.theorem_serial.proofs.Names.{wrote_line}
-use Rattle.theorem_serial.proofs.Names.{Vendor, Msg, in_flight, grant, CommitsStand}
 use Rattle.theorem_serial.specs.KeepsHomes.{HomesHold, EventsKeepHomes}
-use Rattle.theorem_serial.proofs.Copies.TagsKept.{untagged}
-use Rattle.theorem_serial.proofs.Counts.Links.{live-sends}
-use Rattle.theorem_serial.proofs.Counts.StepCases.{either, moves-own, moves-other, node_cases}
-use Rattle.theorem_serial.proofs.Marks.DirRecords.{dir-records}
-use Rattle.theorem_serial.proofs.OneCore.CoreStays.{CheckpointStays, grant-stays, back-stays}
-use Rattle.theorem_serial.proofs.Order.SerialParts.{each-listed}
-use Rattle.theorem_serial.proofs.Order.SerialSteps.{Stand, stand}
-use Rattle.theorem_serial.proofs.Values.CommitWords.{CommitsWord, CommitsWords, commits-exec}
-use Rattle.theorem_serial.proofs.Values.CoreWords.{Uncommitted, Quietly, words-exec, words-evict}
-use Rattle.theorem_serial.proofs.Values.CoreWordsTakes.{WordBack, words-grant, words-back}
-use Rattle.theorem_serial.proofs.Values.DirWords.{dir-words}
-use Rattle.theorem_serial.proofs.Values.FramedCores.{Closing, Framing, Stays, Closes, framing-exec}
-use Rattle.theorem_serial.proofs.Values.FramedSteps.{value-own, value-else}
-use Rattle.theorem_serial.proofs.Values.HomesAnswered.{answered, granted, known}
-use Rattle.theorem_serial.proofs.Values.ModifiedWords.{Serves, stored-served, stored-seen, times-listed}
-use Rattle.theorem_serial.proofs.Values.SeenWords.{wrote-none, unwritten-none}
-use Rattle.theorem_serial.proofs.Values.ValueAt.{IsSilent, value-skip}
-use Rattle.theorem_serial.proofs.Values.WordCopies.{among-others, few-others, none-copied}
-use Rattle.theorem_serial.proofs.Values.WordValues.{value_of, tag_of, ValuesAt, KeptValues, values-of, Known, from-values}
-use Rattle.theorem_serial.proofs.Values.WordsMoved.{Alike, moved-alike, granted-alike, taken-alike, alike-keeps}
+use Rattle.theorem_serial.proofs
+use proofs.Names
+use Names.{ℕ, ◌≡◌, Noted, ◌<◌, ◌++◌, List, Option, Some, None, IfSome, refl, inl, inr, Plain, Local, Program, Dir, Event, Shape, CoreState}
+use Names.{World, Out, core_exec, core_evict, from_dir, dir_deliver, History, Stepped, step, next_history, recorded, and_noted, core_moves}
+use Names.{core_takes, Uses, Suits, Carried, Invariants, Grant, granted_by, Ways, ways_after, sent_by, zero, suc, ◌||◌, Bool, true, false}
+use Names.{cond, is_some, unwrap_or, arith, ap, sym, subst, ◌∙◌, nat_tests, num, line_of, Core, home, lines, DirState, noted, insert_commit}
+use Names.{sees, copies_with, AboveOf, CopyWord, CopyNot, Commits, live, among, Pair, pair, after_move, is_this, is_applied, stores_word}
+use Names.{after_stores, counts, word_copies, CopiesHave, wrote_line, Vendor, Msg, in_flight, grant, CommitsStand}
+use proofs.Copies.TagsKept.{untagged}
+use proofs.Counts.Links.{live-sends}
+use proofs.Counts.StepCases.{either, moves-own, moves-other, node_cases}
+use proofs.Marks.DirRecords.{dir-records}
+use proofs.OneCore.CoreStays.{CheckpointStays, grant-stays, back-stays}
+use proofs.Order.SerialParts.{each-listed}
+use proofs.Order.SerialSteps.{Stand, stand}
+use proofs.Values.CommitWords.{CommitsWord, CommitsWords, commits-exec}
+use proofs.Values.CoreWords.{Uncommitted, Quietly, words-exec, words-evict}
+use proofs.Values.CoreWordsTakes.{WordBack, words-grant, words-back}
+use proofs.Values.DirWords.{dir-words}
+use proofs.Values.FramedCores.{Closing, Framing, Stays, Closes, framing-exec}
+use proofs.Values.FramedSteps.{value-own, value-else}
+use proofs.Values.HomesAnswered.{answered, granted, known}
+use proofs.Values.ModifiedWords.{Serves, stored-served, stored-seen, times-listed}
+use proofs.Values.SeenWords.{wrote-none, unwritten-none}
+use proofs.Values.ValueAt.{IsSilent, value-skip}
+use proofs.Values.WordCopies.{among-others, few-others, none-copied}
+use proofs.Values.WordValues.{value_of, tag_of, ValuesAt, KeptValues, values-of, Known, from-values}
+use proofs.Values.WordsMoved.{Alike, moved-alike, granted-alike, taken-alike, alike-keeps}
 
 -- A core's commit keeps the values of home words and of copies: its new copies have the words as their core sees them.
 

@@ -1,34 +1,30 @@
 -- What a directory or the vendor does keeps the values of home words and of copies on their way home.
 use Rattle.base_lemmas.proofs.Lemmas.{and-false}
-use Rattle.theorem_serial.proofs.Names.{ℕ, ◌+◌, ◌≡◌, ◌<◌, ◌≤◌, ◌⊎◌, ◌==◌, ◌&&◌, ◌||◌, Bool, true, false, cond, nat_lt, List, Contains}
-use Rattle.theorem_serial.proofs.Names.{Option}
-use Rattle.theorem_serial.proofs.Names.{Some, None, if◌then◌else◌, arith, refl, ap, sym, ◌∙◌, inl, inr, cases_eq, cases_lt, nat_tests}
-use Rattle.theorem_serial.proofs.Names.{Noted}
-use Rattle.theorem_serial.proofs.Names.{Stored, num, count_below, line_of, place_of, word_at, has_mark, has, full, mask_of, Core, Dir, Msg}
-use Rattle.theorem_serial.proofs.Names.{Shape, home, lines, has-mask_of, World, in_flight, History, copies_with, AboveOf, Commits, CommitOf}
-use Rattle.theorem_serial.proofs.Names.{CopyOf, CopyWord, CopyNot, live, passes, pair, is_applied, MarkedCommit, stores_at, stores_in}
-use Rattle.theorem_serial.proofs.Names.{is_this}
-use Rattle.theorem_serial.proofs.Names.{stored_mask, stores_word, counts, word_copies, CopiesHave, names_line, wrote, wrote_line}
-use Rattle.theorem_serial.proofs.Names.{wrote_mask}
-use Rattle.theorem_serial.proofs.Names.{[], subst, Plain, Program, Local, DirState, Sends, Answer, Waits, Drops, Asks, Takes, dir_takes}
-use Rattle.theorem_serial.proofs.Names.{dir_asks, vendor_gives, Uses, Invariants, Grant, CommitsStand, Ways}
-use Rattle.theorem_serial.proofs.Copies.LinesStep.{marked-line, writer-line, other-writer, commit-passes}
-use Rattle.theorem_serial.proofs.Copies.TagsKept.{tag-below, applied-owed, TakenCommit, takes-consumes}
-use Rattle.theorem_serial.proofs.Copies.WroteLines.{wrote-at}
-use Rattle.theorem_serial.proofs.Counts.Links.{num-same}
-use Rattle.theorem_serial.proofs.Counts.StepCases.{given, OfAnswer}
-use Rattle.theorem_serial.proofs.Marks.DirRecords.{NoCopy, Stays, Records, Still, Came, Settles, Dropped, RecordsBy}
-use Rattle.theorem_serial.proofs.Marks.MaskLaws.{same-commit}
-use Rattle.theorem_serial.proofs.Marks.OwesByCommit.{CountsMarked}
-use Rattle.theorem_serial.proofs.Marks.StoredMasks.{stored-line, stored-cases}
-use Rattle.theorem_serial.proofs.Memory.MemorySends.{line-has}
-use Rattle.theorem_serial.proofs.Tids.TidSteps.{live-some}
-use Rattle.theorem_serial.proofs.Values.DirWords.{HomeBy, Left, Home, WordsBy}
-use Rattle.theorem_serial.proofs.Values.ValueAt.{value-alike, rising-above}
-use Rattle.theorem_serial.proofs.Values.WordCopies.{none-copied, copy-has, word-line, few-copies}
-use Rattle.theorem_serial.proofs.Values.WordValues.{Known, Answers, unconsumed, value_of, tag_of, ValuesAt, have-still, same-value}
-use Rattle.theorem_serial.proofs.Values.WordValues.{stored-at-home, quiet-keep, taken-values, dropped-values, away-values, KeptValues}
-use Rattle.theorem_serial.proofs.Values.WordValues.{values-of, same-values, SameCommits, same-copies}
+use Rattle.theorem_serial.proofs
+use proofs.Names
+use Names.{ℕ, ◌+◌, ◌≡◌, ◌<◌, ◌≤◌, ◌⊎◌, ◌==◌, ◌&&◌, ◌||◌, Bool, true, false, cond, nat_lt, List, Contains, Option, Some, None, if◌then◌else◌}
+use Names.{arith, refl, ap, sym, ◌∙◌, inl, inr, cases_eq, cases_lt, nat_tests, Noted, Stored, num, count_below, line_of, place_of, word_at}
+use Names.{has_mark, has, full, mask_of, Core, Dir, Msg, Shape, home, lines, has-mask_of, World, in_flight, History, copies_with, AboveOf}
+use Names.{Commits, CommitOf, CopyOf, CopyWord, CopyNot, live, passes, pair, is_applied, MarkedCommit, stores_at, stores_in, is_this}
+use Names.{stored_mask, stores_word, counts, word_copies, CopiesHave, names_line, wrote, wrote_line, wrote_mask, [], subst, Plain, Program}
+use Names.{Local, DirState, Sends, Answer, Waits, Drops, Asks, Takes, dir_takes, dir_asks, vendor_gives, Uses, Invariants, Grant}
+use Names.{CommitsStand, Ways}
+use proofs.Copies.LinesStep.{marked-line, writer-line, other-writer, commit-passes}
+use proofs.Copies.TagsKept.{tag-below, applied-owed, TakenCommit, takes-consumes}
+use proofs.Copies.WroteLines.{wrote-at}
+use proofs.Counts.Links.{num-same}
+use proofs.Counts.StepCases.{given, OfAnswer}
+use proofs.Marks.DirRecords.{NoCopy, Stays, Records, Still, Came, Settles, Dropped, RecordsBy}
+use proofs.Marks.MaskLaws.{same-commit}
+use proofs.Marks.OwesByCommit.{CountsMarked}
+use proofs.Marks.StoredMasks.{stored-line, stored-cases}
+use proofs.Memory.MemorySends.{line-has}
+use proofs.Tids.TidSteps.{live-some}
+use proofs.Values.DirWords.{HomeBy, Left, Home, WordsBy}
+use proofs.Values.ValueAt.{value-alike, rising-above}
+use proofs.Values.WordCopies.{none-copied, copy-has, word-line, few-copies}
+use proofs.Values.WordValues.{Known, Answers, unconsumed, value_of, tag_of, ValuesAt, have-still, same-value, stored-at-home, quiet-keep}
+use proofs.Values.WordValues.{taken-values, dropped-values, away-values, KeptValues, values-of, same-values, SameCommits, same-copies}
 
 -- A Commit that a directory handles keeps the values of each word: its core's copies have the stored words as they are from now on for
 -- all, and the words of a marked line that it didn't store are at home.

@@ -1,21 +1,18 @@
 -- What a core that may commit has made of a word: its stores over the word as the core sees it.
-use Rattle.theorem_serial.proofs.Names.{ℕ, suc, ◌+◌, ◌≡◌, ◌<◌, ◌≤◌, ◌⊎◌, Bool, true, false, ◌==◌, ◌||◌, List, [], ◌∷◌, map, length}
-use Rattle.theorem_serial.proofs.Names.{slice_index_or, Contains, Option, Some, None, IfSome, IsSomeAnd, is_some, arith, sym, subst, ◌∙◌}
-use Rattle.theorem_serial.proofs.Names.{inl}
-use Rattle.theorem_serial.proofs.Names.{inr, cases_eq, cases_lt, nat_tests, Noted, order_of_commit, Attempt, Plain, serial, begun, steps}
-use Rattle.theorem_serial.proofs.Names.{Local}
-use Rattle.theorem_serial.proofs.Names.{Program, num, line_of, writes_at, Shape, home, CoreState, DirState, Phase, Ready, Solo, Halted}
-use Rattle.theorem_serial.proofs.Names.{is_solo}
-use Rattle.theorem_serial.proofs.Names.{History, Uses, Agrees, Reaches, sees, Suits, MarkedAtHomes, plain_start, Invariants, Grant, times}
-use Rattle.theorem_serial.proofs.Names.{pair}
-use Rattle.theorem_serial.proofs.Names.{is_applied, opens, stores_word, IsMemory, after_stores, counts, value_at, Settled, Ways, ap}
-use Rattle.theorem_serial.proofs.Memory.MemorySends.{marks_at_homes}
-use Rattle.theorem_serial.proofs.OneCore.SoundAttempts.{follows-in}
-use Rattle.theorem_serial.proofs.Order.InsertedOrders.{serial-memory}
-use Rattle.theorem_serial.proofs.Order.SerialParts.{home-below, agrees-before, value-before, before, behind, cut-joined, SerialCut, Holds}
-use Rattle.theorem_serial.proofs.Order.SerialParts.{serial-cut, serial-holds, steps-hold, all_stores}
-use Rattle.theorem_serial.proofs.Order.SerialSteps.{May, may-bound, may-commits, Stand, stand, view-stands, uses-reached, fits-aligned}
-use Rattle.theorem_serial.proofs.Values.ValueAt.{value-alike}
+use Rattle.theorem_serial.proofs
+use proofs.Names
+use Names.{ℕ, suc, ◌+◌, ◌≡◌, ◌<◌, ◌≤◌, ◌⊎◌, Bool, true, false, ◌==◌, ◌||◌, List, [], ◌∷◌, map, length, slice_index_or, Contains, Option}
+use Names.{Some, None, IfSome, IsSomeAnd, is_some, arith, sym, subst, ◌∙◌, inl, inr, cases_eq, cases_lt, nat_tests, Noted, order_of_commit}
+use Names.{Attempt, Plain, serial, begun, steps, Local, Program, num, line_of, writes_at, Shape, home, CoreState, DirState, Phase, Ready}
+use Names.{Solo, Halted, is_solo, History, Uses, Agrees, Reaches, sees, Suits, MarkedAtHomes, plain_start, Invariants, Grant, times, pair}
+use Names.{is_applied, opens, stores_word, IsMemory, after_stores, counts, value_at, Settled, Ways, ap}
+use proofs.Memory.MemorySends.{marks_at_homes}
+use proofs.OneCore.SoundAttempts.{follows-in}
+use proofs.Order.InsertedOrders.{serial-memory}
+use proofs.Order.SerialParts.{home-below, agrees-before, value-before, before, behind, cut-joined, SerialCut, Holds, serial-cut}
+use proofs.Order.SerialParts.{serial-holds, steps-hold, all_stores}
+use proofs.Order.SerialSteps.{May, may-bound, may-commits, Stand, stand, view-stands, uses-reached, fits-aligned}
+use proofs.Values.ValueAt.{value-alike}
 
 -- the home of a word that the core stored serves its TID, and is owed nothing
 opens-may : (t : ℕ) (q : Phase) (b : Bool) → May t q → (is_solo q ≡ false → b ≡ true) → opens q b t ≡ true

@@ -1,10 +1,10 @@
 -- What is seen of a word is the value of its copies with the greatest tag, where they all have one value.
-use Rattle.theorem_serial.proofs.Names.{ℕ, zero, suc, ◌+◌, ◌≡◌, ◌<◌, ◌≤◌, Bool, true, false, not, ◌==◌, ◌&&◌, List, [], ◌∷◌, ◌++◌, get_or}
-use Rattle.theorem_serial.proofs.Names.{Option, Some, None, unwrap_or, nat_le, if◌then◌else◌, flat_map, arith, refl, ap, ◌⊎◌, inl, inr}
-use Rattle.theorem_serial.proofs.Names.{nat_tests, flat_map-append, num, those, line_of, place_of, hit, Core, Dir, Msg, WriteBack, Flush}
-use Rattle.theorem_serial.proofs.Names.{Shape}
-use Rattle.theorem_serial.proofs.Names.{home, World, Link, Copy, numbers, copy_of, copies_on, copy_in, copies_of, copies, newest, home_copy}
-use Rattle.theorem_serial.proofs.Names.{seen, CopyWord, CopyNot, live, passes, pair, is_this, word_copies, CopiesHave}
+use Rattle.theorem_serial.proofs
+use proofs.Names
+use Names.{ℕ, zero, suc, ◌+◌, ◌≡◌, ◌<◌, ◌≤◌, Bool, true, false, not, ◌==◌, ◌&&◌, List, [], ◌∷◌, ◌++◌, get_or, Option, Some, None, unwrap_or}
+use Names.{nat_le, if◌then◌else◌, flat_map, arith, refl, ap, ◌⊎◌, inl, inr, nat_tests, flat_map-append, num, those, line_of, place_of, hit}
+use Names.{Core, Dir, Msg, WriteBack, Flush, Shape, home, World, Link, Copy, numbers, copy_of, copies_on, copy_in, copies_of, copies}
+use Names.{newest, home_copy, seen, CopyWord, CopyNot, live, passes, pair, is_this, word_copies, CopiesHave}
 
 -- no copy has a greater tag, and those with this one have the value
 unfoldable Top : (tag value : ℕ) → List Copy → Type 0

@@ -1,26 +1,22 @@
 -- What is seen of a word is its value after all commits: its copy with the greatest tag is of the commit whose Commit is in flight, if any.
 use Rattle.base_lemmas.proofs.Lemmas.{word_at-own}
-use Rattle.theorem_serial.proofs.Names.{ℕ, zero, suc, ◌≡◌, ◌<◌, ◌≤◌, Bool, true, false, cond, max, ◌==◌, ◌&&◌, ◌||◌, List, [], ◌∷◌}
-use Rattle.theorem_serial.proofs.Names.{length}
-use Rattle.theorem_serial.proofs.Names.{Contains, Option, Some, None, slice_index_or, is_some, if◌then◌else◌, arith, refl, sym, ap, ◌∙◌}
-use Rattle.theorem_serial.proofs.Names.{◌⊎◌}
-use Rattle.theorem_serial.proofs.Names.{inl, inr, nat_tests, Noted, num, line_of, place_of, word_at, has, hit, Msg}
-use Rattle.theorem_serial.proofs.Names.{Shape, IsCache, is_dirty, dirty_tag, dirty_mask, has-mask_of, DirState, AboveOf, CopyMask, CopyWord}
-use Rattle.theorem_serial.proofs.Names.{passes, IsRising, Pair, is_this, stores_word, after_stores, counts, after_commits, word_copies}
-use Rattle.theorem_serial.proofs.Names.{wrote}
-use Rattle.theorem_serial.proofs.Names.{wrote_mask, last_of, ◌+◌, map, nat_lt, nat_le, subst, order_of_commit, Core, Dir, home, lines, seen}
-use Rattle.theorem_serial.proofs.Names.{World, History, plain_start, copies_with, settled_in_line, Commits, CopyOf, live, Carried}
-use Rattle.theorem_serial.proofs.Names.{CarriedInMemory, Grant, pair, SeenFollows, is_settled, is_applied, MarkedCommit, stores_at}
-use Rattle.theorem_serial.proofs.Names.{value_at}
-use Rattle.theorem_serial.proofs.Names.{CopiesHave, HomeWords, CopiesAbove, Ways, Committed, names_line, wrote_line}
-use Rattle.theorem_serial.proofs.Copies.DirtyFrames.{some-dirty, tag-of}
-use Rattle.theorem_serial.proofs.Counts.Links.{live-fewer}
-use Rattle.theorem_serial.proofs.Memory.MemorySends.{accesses_at_homes, line-has}
-use Rattle.theorem_serial.proofs.Order.SerialParts.{Each, all_stores, home-below, each-listed, serial-holds}
-use Rattle.theorem_serial.proofs.Tids.Commits.{numbered-least, granted-once, granted-at}
-use Rattle.theorem_serial.proofs.Values.NewestCopy.{Greatest, seen-greatest}
-use Rattle.theorem_serial.proofs.Values.ValueAt.{after_stores-other}
-use Rattle.theorem_serial.proofs.Values.WordCopies.{few-words, none-copied, few-copies, copy-has}
+use Rattle.theorem_serial.proofs
+use proofs.Names
+use Names.{ℕ, zero, suc, ◌≡◌, ◌<◌, ◌≤◌, Bool, true, false, cond, max, ◌==◌, ◌&&◌, ◌||◌, List, [], ◌∷◌, length, Contains, Option, Some, None}
+use Names.{slice_index_or, is_some, if◌then◌else◌, arith, refl, sym, ap, ◌∙◌, ◌⊎◌, inl, inr, nat_tests, Noted, num, line_of, place_of}
+use Names.{word_at, has, hit, Msg, Shape, IsCache, is_dirty, dirty_tag, dirty_mask, has-mask_of, DirState, AboveOf, CopyMask, CopyWord}
+use Names.{passes, IsRising, Pair, is_this, stores_word, after_stores, counts, after_commits, word_copies, wrote, wrote_mask, last_of, ◌+◌}
+use Names.{map, nat_lt, nat_le, subst, order_of_commit, Core, Dir, home, lines, seen, World, History, plain_start, copies_with}
+use Names.{settled_in_line, Commits, CopyOf, live, Carried, CarriedInMemory, Grant, pair, SeenFollows, is_settled, is_applied, MarkedCommit}
+use Names.{stores_at, value_at, CopiesHave, HomeWords, CopiesAbove, Ways, Committed, names_line, wrote_line}
+use proofs.Copies.DirtyFrames.{some-dirty, tag-of}
+use proofs.Counts.Links.{live-fewer}
+use proofs.Memory.MemorySends.{accesses_at_homes, line-has}
+use proofs.Order.SerialParts.{Each, all_stores, home-below, each-listed, serial-holds}
+use proofs.Tids.Commits.{numbered-least, granted-once, granted-at}
+use proofs.Values.NewestCopy.{Greatest, seen-greatest}
+use proofs.Values.ValueAt.{after_stores-other}
+use proofs.Values.WordCopies.{few-words, none-copied, few-copies, copy-has}
 
 -- Facts on one word for what is seen of it: which commits stored it, and what its copies say of them.
 

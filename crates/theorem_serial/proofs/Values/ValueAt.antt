@@ -1,8 +1,9 @@
 -- What a word's value becomes where commits count otherwise, and where one more is inserted.
-use Rattle.theorem_serial.proofs.Names.{ℕ, zero, suc, ◌≡◌, ◌<◌, ◌⊎◌, Bool, true, false, ◌==◌, ◌||◌, List, [], ◌∷◌, length, Contains, Option}
-use Rattle.theorem_serial.proofs.Names.{slice_index_or, nat_lt, if◌then◌else◌, arith, refl, sym, ap, ◌∙◌, nat_tests, Noted, Stored, word_of}
-use Rattle.theorem_serial.proofs.Names.{patched, DirState, insert_commit, IsRising, stores_word, after_stores, counts, after_commits}
-use Rattle.theorem_serial.proofs.Names.{value_at}
+use Rattle.theorem_serial.proofs
+use proofs.Names
+use Names.{ℕ, zero, suc, ◌≡◌, ◌<◌, ◌⊎◌, Bool, true, false, ◌==◌, ◌||◌, List, [], ◌∷◌, length, Contains, Option, slice_index_or, nat_lt}
+use Names.{if◌then◌else◌, arith, refl, sym, ap, ◌∙◌, nat_tests, Noted, Stored, word_of, patched, DirState, insert_commit, IsRising}
+use Names.{stores_word, after_stores, counts, after_commits, value_at}
 
 -- stores that don't name the word leave it
 pub after_stores-other : (base : ℕ) (ss : List Stored) (x y : ℕ) → stores_word base ss x ≡ false → after_stores base ss x y ≡ y

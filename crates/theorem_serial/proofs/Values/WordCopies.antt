@@ -1,15 +1,15 @@
 -- The copies of a word: no more than those of its line, and those that leave a frame go home as they are.
 use Rattle.base_lemmas.proofs.Lemmas.{eight-at, word_at-own}
-use Rattle.theorem_serial.proofs.Names.{ℕ, ◌+◌, ◌≡◌, ◌≤◌, ◌==◌, ◌&&◌, Bool, true, false, not, List, [], ◌∷◌, Option, Some, None, is_some}
-use Rattle.theorem_serial.proofs.Names.{arith}
-use Rattle.theorem_serial.proofs.Names.{refl, sym, ◌∙◌, nat_tests, num, line_of, place_of, word_at, has, hit, Msg, WriteBack, Flush, Shape}
-use Rattle.theorem_serial.proofs.Names.{Cache, IsCache, is_dirty, dirty_tag, dirty_mask, has-mask_of, Link, copies_with, CopyOf, CopyMask}
-use Rattle.theorem_serial.proofs.Names.{CopyWord, CopyNot, live, among, passes, Pair, is_this, word_copies, CopiesHave, ◌⊎◌, cond}
-use Rattle.theorem_serial.proofs.Names.{unwrap_or, get_or, if◌then◌else◌, inl, inr, cases_eq, eight, Dir, home, dirty_words, dirty_copy}
-use Rattle.theorem_serial.proofs.Names.{CoreState, Out, to, flush_of, flush_line, write_back_line}
 use Rattle.rules_tcc.specs.Sends.{write_back_of}
-use Rattle.theorem_serial.proofs.Copies.DirtyFrames.{some-dirty, tag-of}
-use Rattle.theorem_serial.proofs.Counts.Links.{live-fewer, among-fewer}
+use Rattle.theorem_serial.proofs
+use proofs.Names
+use Names.{ℕ, ◌+◌, ◌≡◌, ◌≤◌, ◌==◌, ◌&&◌, Bool, true, false, not, List, [], ◌∷◌, Option, Some, None, is_some, arith, refl, sym, ◌∙◌}
+use Names.{nat_tests, num, line_of, place_of, word_at, has, hit, Msg, WriteBack, Flush, Shape, Cache, IsCache, is_dirty, dirty_tag}
+use Names.{dirty_mask, has-mask_of, Link, copies_with, CopyOf, CopyMask, CopyWord, CopyNot, live, among, passes, Pair, is_this, word_copies}
+use Names.{CopiesHave, ◌⊎◌, cond, unwrap_or, get_or, if◌then◌else◌, inl, inr, cases_eq, eight, Dir, home, dirty_words, dirty_copy}
+use Names.{CoreState, Out, to, flush_of, flush_line, write_back_line}
+use proofs.Copies.DirtyFrames.{some-dirty, tag-of}
+use proofs.Counts.Links.{live-fewer, among-fewer}
 
 -- The copies of a word: no more than those of its line, and all of them where the copies have the word in their mask.
 

@@ -1,21 +1,19 @@
 -- The values of one word at its home and in its copies, and what keeps them.
-use Rattle.theorem_serial.proofs.Names.{ℕ, ◌≡◌, ◌<◌, ◌≤◌, Bool, true, false, List, Contains, Option, Some, None, arith, refl, ap, sym, ◌∙◌}
-use Rattle.theorem_serial.proofs.Names.{Noted, line_of, Core, Dir, Shape, home, World, Kind, Commits, CopyWord, CopyNot, live}
-use Rattle.theorem_serial.proofs.Names.{CommitsInMemory}
-use Rattle.theorem_serial.proofs.Names.{Pair, pair, CommitsStand, stores_at, stores_word, counts, value_at, word_copies, CopiesHave}
-use Rattle.theorem_serial.proofs.Names.{HomeWords}
-use Rattle.theorem_serial.proofs.Names.{CopiesAbove, names_line, ◌==◌, ◌&&◌, nat_tests, num, Msg, IsCache, in_flight, History}
-use Rattle.theorem_serial.proofs.Names.{CommitsAreServed}
-use Rattle.theorem_serial.proofs.Names.{copies_with, KeptTags, KeptAbove, KeptOwned, Invs, CopyOf, passes, CopiesInMemory, OwedInFlight}
-use Rattle.theorem_serial.proofs.Names.{KeptNamed, MarksOfCommits, IsRising, KeptWhole, is_this, KeptStored, ◌⊎◌, inl, inr, is_applied}
-use Rattle.theorem_serial.proofs.Copies.TagsKept.{stored-home, Consumes}
-use Rattle.theorem_serial.proofs.Counts.Links.{num-same}
-use Rattle.theorem_serial.proofs.Marks.DirRecords.{NoCommit, Dropped}
-use Rattle.theorem_serial.proofs.Memory.MemorySends.{line-has}
-use Rattle.theorem_serial.proofs.Tids.TidSteps.{live-some}
-use Rattle.theorem_serial.proofs.Values.DirWords.{HomeBy, Left, Home}
-use Rattle.theorem_serial.proofs.Values.ValueAt.{value-alike}
-use Rattle.theorem_serial.proofs.Values.WordCopies.{word-line}
+use Rattle.theorem_serial.proofs
+use proofs.Names
+use Names.{ℕ, ◌≡◌, ◌<◌, ◌≤◌, Bool, true, false, List, Contains, Option, Some, None, arith, refl, ap, sym, ◌∙◌, Noted, line_of, Core, Dir}
+use Names.{Shape, home, World, Kind, Commits, CopyWord, CopyNot, live, CommitsInMemory, Pair, pair, CommitsStand, stores_at, stores_word}
+use Names.{counts, value_at, word_copies, CopiesHave, HomeWords, CopiesAbove, names_line, ◌==◌, ◌&&◌, nat_tests, num, Msg, IsCache}
+use Names.{in_flight, History, CommitsAreServed, copies_with, KeptTags, KeptAbove, KeptOwned, Invs, CopyOf, passes, CopiesInMemory}
+use Names.{OwedInFlight, KeptNamed, MarksOfCommits, IsRising, KeptWhole, is_this, KeptStored, ◌⊎◌, inl, inr, is_applied}
+use proofs.Copies.TagsKept.{stored-home, Consumes}
+use proofs.Counts.Links.{num-same}
+use proofs.Marks.DirRecords.{NoCommit, Dropped}
+use proofs.Memory.MemorySends.{line-has}
+use proofs.Tids.TidSteps.{live-some}
+use proofs.Values.DirWords.{HomeBy, Left, Home}
+use proofs.Values.ValueAt.{value-alike}
+use proofs.Values.WordCopies.{word-line}
 
 -- one word, at its home
 

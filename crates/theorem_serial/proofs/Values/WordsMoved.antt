@@ -1,20 +1,18 @@
 -- What a core's event does to the values of a word, where nothing is committed: its copies with the line's tag or a larger one stay.
-use Rattle.theorem_serial.proofs.Names.{ℕ, ◌+◌, ◌%◌, ◌≡◌, ◌<◌, ◌≤◌, ◌==◌, ◌++◌, Bool, true, false, not, List, Option, Some, None, arith}
-use Rattle.theorem_serial.proofs.Names.{refl}
-use Rattle.theorem_serial.proofs.Names.{ap, sym, subst, ◌∙◌, nat_tests, Noted, num, line_of, has_mark, Core, Dir, Vendor, Msg, Inv, Shape}
-use Rattle.theorem_serial.proofs.Names.{home}
-use Rattle.theorem_serial.proofs.Names.{lines, World, in_flight, sent_all, Out, History, core_moves, core_takes, CopyOf, CopyWord, CopyNot}
-use Rattle.theorem_serial.proofs.Names.{Invs, InvOf, InvsAway, live, among, passes, due, Pair, pair, share, after_move, grant_taken}
-use Rattle.theorem_serial.proofs.Names.{back_taken}
-use Rattle.theorem_serial.proofs.Names.{is_this, SettledCommit, value_at, word_copies, CopiesHave, copies_with}
-use Rattle.theorem_serial.proofs.Copies.TagsKept.{inv-tag-of, Invalidating}
-use Rattle.theorem_serial.proofs.Counts.Links.{live-sends, total-le}
-use Rattle.theorem_serial.proofs.Counts.StepCases.{AllPairs, pairs_move, pairs_grant, pairs_back}
-use Rattle.theorem_serial.proofs.Tids.TidSteps.{live-some}
-use Rattle.theorem_serial.proofs.Values.CoreWordsTakes.{WordBack, Carried, Lost}
-use Rattle.theorem_serial.proofs.Values.HomesAnswered.{mask-inside}
-use Rattle.theorem_serial.proofs.Values.WordCopies.{few-copies, among-words, among-others, WordCarried, Carries}
-use Rattle.theorem_serial.proofs.Values.WordValues.{Known, value_of, tag_of, KeptValues}
+use Rattle.theorem_serial.proofs
+use proofs.Names
+use Names.{ℕ, ◌+◌, ◌%◌, ◌≡◌, ◌<◌, ◌≤◌, ◌==◌, ◌++◌, Bool, true, false, not, List, Option, Some, None, arith, refl, ap, sym, subst, ◌∙◌}
+use Names.{nat_tests, Noted, num, line_of, has_mark, Core, Dir, Vendor, Msg, Inv, Shape, home, lines, World, in_flight, sent_all, Out}
+use Names.{History, core_moves, core_takes, CopyOf, CopyWord, CopyNot, Invs, InvOf, InvsAway, live, among, passes, due, Pair, pair, share}
+use Names.{after_move, grant_taken, back_taken, is_this, SettledCommit, value_at, word_copies, CopiesHave, copies_with}
+use proofs.Copies.TagsKept.{inv-tag-of, Invalidating}
+use proofs.Counts.Links.{live-sends, total-le}
+use proofs.Counts.StepCases.{AllPairs, pairs_move, pairs_grant, pairs_back}
+use proofs.Tids.TidSteps.{live-some}
+use proofs.Values.CoreWordsTakes.{WordBack, Carried, Lost}
+use proofs.Values.HomesAnswered.{mask-inside}
+use proofs.Values.WordCopies.{few-copies, among-words, among-others, WordCarried, Carries}
+use proofs.Values.WordValues.{Known, value_of, tag_of, KeptValues}
 
 -- the word has as many copies with tag g, and each copy its value
 pub record Alike (x g : ℕ) (a b : Pair) : Type 0 where

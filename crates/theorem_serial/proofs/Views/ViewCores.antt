@@ -1,16 +1,16 @@
 -- What each of a core's rules does to its TID, its halt and its view.
-use Rattle.theorem_serial.proofs.Names.{line_of, word_of, moves, solo_commit, ℕ, ◌+◌, ◌≡◌, ◌⊎◌, ◌==◌, Bool, true, false, [], ◌∷◌, ◌++◌}
-use Rattle.theorem_serial.proofs.Names.{Option, Some, None, IfSome, arith, refl, ap, sym, ◌∙◌, inl, inr, Noted, Byte, Half, Program, Need}
-use Rattle.theorem_serial.proofs.Names.{Loads, Stores, Changes, num, any_below, Msg, Inv, Shape, CoreState, Phase, Running, AwaitTid}
-use Rattle.theorem_serial.proofs.Names.{DoomedTid, Ready, Overflowing, Solo, Halted, Out, commit, noted, core_exec, core_evict, grant}
-use Rattle.theorem_serial.proofs.Names.{grant_in_phase, probing_or_ready, is_probed, from_dir, is_violated, Uses, used_in, used_at, used_by}
-use Rattle.theorem_serial.proofs.Names.{uses_delivered, rolls_back, has_tid, waits_for_tid, EachUse, cond, rests, ◌&&◌}
-use Rattle.theorem_serial.proofs.Tids.CoreProbing.{tid-probing}
-use Rattle.theorem_serial.proofs.OneCore.Outcomes.{Acts, Buffers, Commits_now, Did, Ends_alone, Ends_run, Finds, Frames, Frames_anew, Idles}
-use Rattle.theorem_serial.proofs.OneCore.Outcomes.{Misses, Misses_anew, Reads, Room_wanted, after_end, each-exec, out, Heard, Hurt_alone}
-use Rattle.theorem_serial.proofs.OneCore.Outcomes.{Hurt_none, Hurt_probing, Hurt_running, Hurt_waiting, Last_probing, Last_room, each-back}
-use Rattle.theorem_serial.proofs.OneCore.Outcomes.{each-evict, heard, message}
-use Rattle.theorem_serial.proofs.OneCore.Said.{Flushes, Requests, Said, Silent, say}
+use Rattle.theorem_serial.proofs
+use proofs.Names
+use Names.{line_of, word_of, moves, solo_commit, ℕ, ◌+◌, ◌≡◌, ◌⊎◌, ◌==◌, Bool, true, false, [], ◌∷◌, ◌++◌, Option, Some, None, IfSome}
+use Names.{arith, refl, ap, sym, ◌∙◌, inl, inr, Noted, Byte, Half, Program, Need, Loads, Stores, Changes, num, any_below, Msg, Inv, Shape}
+use Names.{CoreState, Phase, Running, AwaitTid, DoomedTid, Ready, Overflowing, Solo, Halted, Out, commit, noted, core_exec, core_evict}
+use Names.{grant, grant_in_phase, probing_or_ready, is_probed, from_dir, is_violated, Uses, used_in, used_at, used_by, uses_delivered}
+use Names.{rolls_back, has_tid, waits_for_tid, EachUse, cond, rests, ◌&&◌}
+use proofs.Tids.CoreProbing.{tid-probing}
+use proofs.OneCore.Outcomes.{Acts, Buffers, Commits_now, Did, Ends_alone, Ends_run, Finds, Frames, Frames_anew, Idles, Misses, Misses_anew}
+use proofs.OneCore.Outcomes.{Reads, Room_wanted, after_end, each-exec, out, Heard, Hurt_alone, Hurt_none, Hurt_probing, Hurt_running}
+use proofs.OneCore.Outcomes.{Hurt_waiting, Last_probing, Last_room, each-back, each-evict, heard, message}
+use proofs.OneCore.Said.{Flushes, Requests, Said, Silent, say}
 
 -- the core has the TID that it had, and halts only where it had halted
 pub record Keeps (s r : CoreState) : Type 0 where

@@ -1,32 +1,27 @@
 -- What a directory takes leaves every core's view near: each used word has its value, or it is doomed.
 use Rattle.base_lemmas.proofs.Lemmas.{eq-self}
-use Rattle.theorem_serial.proofs.Names.{ℕ, zero, suc, ◌+◌, ◌≡◌, ◌<◌, ◌≤◌, ◌⊎◌, Bool, true, cond, [], ◌∷◌, Option, Some, None, flat_map}
-use Rattle.theorem_serial.proofs.Names.{arith}
-use Rattle.theorem_serial.proofs.Names.{refl, inl, inr, cases_eq, flat_map-append, num, line_of, those, hit, Msg, Inv, Kind, passes, among}
-use Rattle.theorem_serial.proofs.Names.{is_below, dooms, ◌==◌, ◌&&◌, ◌||◌, not, false, List, Contains, is_some, nat_lt, set, ap, sym, subst}
-use Rattle.theorem_serial.proofs.Names.{◌∙◌, true≢false, nat_tests, Noted, place_of, word_at, any_word, count_below, has_mark, Core, Dir}
-use Rattle.theorem_serial.proofs.Names.{Shape}
-use Rattle.theorem_serial.proofs.Names.{home, lines, any_below-at, DirState, World, in_flight, is_invalidated, invs_to, invalidations}
-use Rattle.theorem_serial.proofs.Names.{Sends}
-use Rattle.theorem_serial.proofs.Names.{History, dir_takes, keeps_unmodified, holds_line, Commits, CommitOf, live, CommitsInMemory, Carried}
-use Rattle.theorem_serial.proofs.Names.{Grant, Pair, pair, is_applied, is_this, CommitsStand, stored_mask, stores_in, MarkedCommit}
-use Rattle.theorem_serial.proofs.Names.{stores_word}
-use Rattle.theorem_serial.proofs.Names.{counts, value_at, Ways, if◌then◌else◌, TidReq, TidGrant, Fill, ProbeReply, Commit, DataReq, Answer}
-use Rattle.theorem_serial.proofs.Names.{Waits, Drops, Asks, Takes, moved_on_if_settled, owned_by_committer, invalidation_count, dir_deliver}
-use Rattle.theorem_serial.proofs.Names.{dir_asks, Uses, out_taken, EachUse, has-mask_of, CommitsLine, IsPassed}
 use Rattle.rules_tcc.specs.DirDeliver.{dir_commit}
-use Rattle.theorem_serial.proofs.Counts.Links.{among-append, live-takes}
-use Rattle.theorem_serial.proofs.Counts.StepCases.{dir-own, dir-other, either, AllPairs, pairs_dir, pairs_asks, asks-own, OfAnswer}
-use Rattle.theorem_serial.proofs.Counts.StepCases.{differ}
-use Rattle.theorem_serial.proofs.Marks.MaskLaws.{same-commit}
-use Rattle.theorem_serial.proofs.Tids.Commits.{granted-once, granted-at}
-use Rattle.theorem_serial.proofs.Tids.TidSteps.{live-some}
-use Rattle.theorem_serial.proofs.Values.FramedWords.{dirs-taken}
-use Rattle.theorem_serial.proofs.Values.ValueAt.{value-alike, IsAlike}
-use Rattle.theorem_serial.proofs.Values.WordValues.{stored-at-home}
-use Rattle.theorem_serial.proofs.Views.ViewFacts.{IsSeen, applied-same, bound-own, solo-tid, solo-holds, solo-served}
-use Rattle.theorem_serial.proofs.Views.ViewPairs.{StaysOrDooms, ViewOf, view-answers, bound-out, view-out}
-use Rattle.theorem_serial.proofs.Marks.StoredMasks.{stored-line}
+use Rattle.theorem_serial.proofs
+use proofs.Names
+use Names.{ℕ, zero, suc, ◌+◌, ◌≡◌, ◌<◌, ◌≤◌, ◌⊎◌, Bool, true, cond, [], ◌∷◌, Option, Some, None, flat_map, arith, refl, inl, inr, cases_eq}
+use Names.{flat_map-append, num, line_of, those, hit, Msg, Inv, Kind, passes, among, is_below, dooms, ◌==◌, ◌&&◌, ◌||◌, not, false, List}
+use Names.{Contains, is_some, nat_lt, set, ap, sym, subst, ◌∙◌, true≢false, nat_tests, Noted, place_of, word_at, any_word, count_below}
+use Names.{has_mark, Core, Dir, Shape, home, lines, any_below-at, DirState, World, in_flight, is_invalidated, invs_to, invalidations, Sends}
+use Names.{History, dir_takes, keeps_unmodified, holds_line, Commits, CommitOf, live, CommitsInMemory, Carried, Grant, Pair, pair}
+use Names.{is_applied, is_this, CommitsStand, stored_mask, stores_in, MarkedCommit, stores_word, counts, value_at, Ways, if◌then◌else◌}
+use Names.{TidReq, TidGrant, Fill, ProbeReply, Commit, DataReq, Answer, Waits, Drops, Asks, Takes, moved_on_if_settled, owned_by_committer}
+use Names.{invalidation_count, dir_deliver, dir_asks, Uses, out_taken, EachUse, has-mask_of, CommitsLine, IsPassed}
+use proofs.Counts.Links.{among-append, live-takes}
+use proofs.Counts.StepCases.{dir-own, dir-other, either, AllPairs, pairs_dir, pairs_asks, asks-own, OfAnswer, differ}
+use proofs.Marks.MaskLaws.{same-commit}
+use proofs.Tids.Commits.{granted-once, granted-at}
+use proofs.Tids.TidSteps.{live-some}
+use proofs.Values.FramedWords.{dirs-taken}
+use proofs.Values.ValueAt.{value-alike, IsAlike}
+use proofs.Values.WordValues.{stored-at-home}
+use proofs.Views.ViewFacts.{IsSeen, applied-same, bound-own, solo-tid, solo-holds, solo-served}
+use proofs.Views.ViewPairs.{StaysOrDooms, ViewOf, view-answers, bound-out, view-out}
+use proofs.Marks.StoredMasks.{stored-line}
 
 -- Where a directory takes a Commit, a use of a stored word by another core is doomed, unless the core's bound is below the commit.
 

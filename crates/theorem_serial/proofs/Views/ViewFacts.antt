@@ -1,18 +1,14 @@
 -- What the proof on views asks of a state, and where a word keeps its value for a core.
-use Rattle.theorem_serial.proofs.Names.{ℕ, ◌≡◌, ◌<◌, ◌≤◌, ◌⊎◌, ◌==◌, Bool, true, false, List, [], ◌∷◌, Contains, Option, Some, None}
-use Rattle.theorem_serial.proofs.Names.{is_some}
-use Rattle.theorem_serial.proofs.Names.{arith, refl, ap, inl, inr, cases_lt, nat_tests, num, line_of, Core, Dir, Msg, Cache, writes_at}
-use Rattle.theorem_serial.proofs.Names.{Shape}
-use Rattle.theorem_serial.proofs.Names.{home, Phase, DoomedTid, Probing, Ready, Overflowing, Solo, Halted, Link, World, is_solo, History}
-use Rattle.theorem_serial.proofs.Names.{Uses}
-use Rattle.theorem_serial.proofs.Names.{AllStand, UsesStand, Invs, InvsNot, InvWord, InvBelow, passes, live, Carried, due, Grant, times}
-use Rattle.theorem_serial.proofs.Names.{holder}
-use Rattle.theorem_serial.proofs.Names.{pair, share, IsBound, is_applied, has_tid, opens, dooms, EachUse, IsPassed, IsDoomed, Ways, Settled}
-use Rattle.theorem_serial.proofs.Names.{suc, ◌+◌, ◌||◌, length, slice_index_or, Noted, DirState, Commits, is_this, CommitsStand, stores_at}
-use Rattle.theorem_serial.proofs.Names.{counts, value_at}
-use Rattle.theorem_serial.proofs.Counts.Links.{live-fewer, total-le}
-use Rattle.theorem_serial.proofs.Tids.Commits.{numbered-least, numbered-most, granted-at}
-use Rattle.theorem_serial.proofs.Values.ValueAt.{value-alike}
+use Rattle.theorem_serial.proofs
+use proofs.Names
+use Names.{ℕ, ◌≡◌, ◌<◌, ◌≤◌, ◌⊎◌, ◌==◌, Bool, true, false, List, [], ◌∷◌, Contains, Option, Some, None, is_some, arith, refl, ap, inl, inr}
+use Names.{cases_lt, nat_tests, num, line_of, Core, Dir, Msg, Cache, writes_at, Shape, home, Phase, DoomedTid, Probing, Ready, Overflowing}
+use Names.{Solo, Halted, Link, World, is_solo, History, Uses, AllStand, UsesStand, Invs, InvsNot, InvWord, InvBelow, passes, live, Carried}
+use Names.{due, Grant, times, holder, pair, share, IsBound, is_applied, has_tid, opens, dooms, EachUse, IsPassed, IsDoomed, Ways, Settled}
+use Names.{suc, ◌+◌, ◌||◌, length, slice_index_or, Noted, DirState, Commits, is_this, CommitsStand, stores_at, counts, value_at}
+use proofs.Counts.Links.{live-fewer, total-le}
+use proofs.Tids.Commits.{numbered-least, numbered-most, granted-at}
+use proofs.Values.ValueAt.{value-alike}
 
 -- What the proof on views asks of a state: the bound of a core, directories that serve an open TID, and what dooms a viewed word.
 

@@ -1,16 +1,14 @@
 -- What each kind of event does to a core's view, as a pair of the core and a directory sees it.
-use Rattle.theorem_serial.proofs.Names.{after_other_grant, slice_index_or, after_answer, grant_taken, after_grant, after_move, back_taken}
-use Rattle.theorem_serial.proofs.Names.{◌==◌}
-use Rattle.theorem_serial.proofs.Names.{nat_tests, CoreState, out_taken, TidGrant, DirState, sent_all, value_at, line_of, IsBound, has_tid}
-use Rattle.theorem_serial.proofs.Names.{◌+◌}
-use Rattle.theorem_serial.proofs.Names.{EachUse, Option, Halted, Grants, passes, holder, false, arith, Noted, Shape, among, dooms, ◌++◌}
-use Rattle.theorem_serial.proofs.Names.{List}
-use Rattle.theorem_serial.proofs.Names.{Some, None, refl, home, Uses, live, Pair, ◌≡◌, ◌<◌, ◌≤◌, ◌⊎◌, ◌∙◌, inl, inr, num, Msg, Out, [], ap}
-use Rattle.theorem_serial.proofs.Names.{ℕ}
-use Rattle.theorem_serial.proofs.Counts.Links.{live-sends, live-takes}
-use Rattle.theorem_serial.proofs.Serving.OwnerSteps.{holder-given}
-use Rattle.theorem_serial.proofs.Views.ViewCores.{Keeps}
-use Rattle.theorem_serial.proofs.Views.ViewFacts.{IsNear, IsSeen, each-one, each-two}
+use Rattle.theorem_serial.proofs
+use proofs.Names
+use Names.{after_other_grant, slice_index_or, after_answer, grant_taken, after_grant, after_move, back_taken, ◌==◌, nat_tests, CoreState}
+use Names.{out_taken, TidGrant, DirState, sent_all, value_at, line_of, IsBound, has_tid, ◌+◌, EachUse, Option, Halted, Grants, passes}
+use Names.{holder, false, arith, Noted, Shape, among, dooms, ◌++◌, List, Some, None, refl, home, Uses, live, Pair, ◌≡◌, ◌<◌, ◌≤◌, ◌⊎◌, ◌∙◌}
+use Names.{inl, inr, num, Msg, Out, [], ap, ℕ}
+use proofs.Counts.Links.{live-sends, live-takes}
+use proofs.Serving.OwnerSteps.{holder-given}
+use proofs.Views.ViewCores.{Keeps}
+use proofs.Views.ViewFacts.{IsNear, IsSeen, each-one, each-two}
 
 -- each use is near the value that it has for the core at its bound
 abbrev pub NearAt : Shape → (ℕ → ℕ) → List Noted → (core dir : ℕ) → (bound : Option ℕ) → Pair → (word had : ℕ) → Type 0

@@ -1,24 +1,21 @@
 -- What a core does, and what the vendor grants, leaves every core's view near: each used word has its value, or it is doomed.
 use Rattle.base_lemmas.proofs.Lemmas.{eq-self}
-use Rattle.theorem_serial.proofs.Names.{nat_tests, ℕ, ◌≡◌, ◌<◌, ◌≤◌, ◌⊎◌, ◌==◌, ◌&&◌, Bool, true, false, List, [], ◌++◌, Option, Some, None}
-use Rattle.theorem_serial.proofs.Names.{IfSome, arith, refl, sym, subst, ◌∙◌, inl, inr, put, Noted, Program, line_of, writes_at, Shape}
-use Rattle.theorem_serial.proofs.Names.{home}
-use Rattle.theorem_serial.proofs.Names.{CoreState, Phase, Running, AwaitTid, DoomedTid, Probing, Ready, Overflowing, Solo, Halted, World}
-use Rattle.theorem_serial.proofs.Names.{Out}
-use Rattle.theorem_serial.proofs.Names.{core_exec, core_evict, History, core_moves, and_noted, insert_commit, Uses, Views, uses_executed}
-use Rattle.theorem_serial.proofs.Names.{InvWord, live, Carried, CarriedInMemory, Grant, holder, Pair, pair, after_move, may_commit, IsBound}
-use Rattle.theorem_serial.proofs.Names.{is_applied, has_tid, opens, waits_for_tid, RequestOf, stores_word, is_below, counts, value_at}
-use Rattle.theorem_serial.proofs.Names.{dooms}
-use Rattle.theorem_serial.proofs.Names.{UnmodifiedWords, Ways}
-use Rattle.theorem_serial.proofs.OneCore.Outcomes.{Acts}
-use Rattle.theorem_serial.proofs.Serving.OwnerSteps.{grant-any}
-use Rattle.theorem_serial.proofs.Memory.MemorySends.{marks_at_homes}
-use Rattle.theorem_serial.proofs.Counts.StepCases.{differ, either, pairs_move, new_uses}
-use Rattle.theorem_serial.proofs.Values.ValueAt.{IsSilent, value-skip}
-use Rattle.theorem_serial.proofs.Views.ViewCores.{Keeps, Exec, Goes, Commits, exec-view, used-each, each-append, evict-view}
-use Rattle.theorem_serial.proofs.Views.ViewDirs.{AllNear}
-use Rattle.theorem_serial.proofs.Views.ViewFacts.{bound-own, open-served, served-unapplied, solo-holds, solo-undoomed, each-one, solo-value}
-use Rattle.theorem_serial.proofs.Views.ViewPairs.{NearAt, ViewOf, view-empty, view-moves}
+use Rattle.theorem_serial.proofs
+use proofs.Names
+use Names.{nat_tests, ℕ, ◌≡◌, ◌<◌, ◌≤◌, ◌⊎◌, ◌==◌, ◌&&◌, Bool, true, false, List, [], ◌++◌, Option, Some, None, IfSome, arith, refl, sym}
+use Names.{subst, ◌∙◌, inl, inr, put, Noted, Program, line_of, writes_at, Shape, home, CoreState, Phase, Running, AwaitTid, DoomedTid}
+use Names.{Probing, Ready, Overflowing, Solo, Halted, World, Out, core_exec, core_evict, History, core_moves, and_noted, insert_commit}
+use Names.{Uses, Views, uses_executed, InvWord, live, Carried, CarriedInMemory, Grant, holder, Pair, pair, after_move, may_commit, IsBound}
+use Names.{is_applied, has_tid, opens, waits_for_tid, RequestOf, stores_word, is_below, counts, value_at, dooms, UnmodifiedWords, Ways}
+use proofs.OneCore.Outcomes.{Acts}
+use proofs.Serving.OwnerSteps.{grant-any}
+use proofs.Memory.MemorySends.{marks_at_homes}
+use proofs.Counts.StepCases.{differ, either, pairs_move, new_uses}
+use proofs.Values.ValueAt.{IsSilent, value-skip}
+use proofs.Views.ViewCores.{Keeps, Exec, Goes, Commits, exec-view, used-each, each-append, evict-view}
+use proofs.Views.ViewDirs.{AllNear}
+use proofs.Views.ViewFacts.{bound-own, open-served, served-unapplied, solo-holds, solo-undoomed, each-one, solo-value}
+use proofs.Views.ViewPairs.{NearAt, ViewOf, view-empty, view-moves}
 
 -- the views where one core's has changed
 pub put-own : (vs : Views) (c : ℕ) (us : Uses) → put vs c us c ≡ us

@@ -1,31 +1,26 @@
 -- Every event keeps that a viewed word has the value that it has for its core, or that the attempt is doomed.
 use Rattle.base_lemmas.proofs.Lemmas.{hit-line}
-use Rattle.theorem_serial.proofs.Names.{ℕ, ◌≡◌, ◌<◌, ◌≤◌, ◌⊎◌, ◌&&◌, Bool, true, false, List, [], Option, Some, None, IfSome, nat_lt, arith}
-use Rattle.theorem_serial.proofs.Names.{refl, ap, sym, subst, ◌∙◌, inl, inr, nat_tests, num, hit, Core, Dir, Vendor, Msg, TidReq, TidGrant}
-use Rattle.theorem_serial.proofs.Names.{Inv}
-use Rattle.theorem_serial.proofs.Names.{Shape, put, DoomedTid, in_flight, Out, from_dir, grant, is_violated, may_be_above, History}
-use Rattle.theorem_serial.proofs.Names.{core_takes}
-use Rattle.theorem_serial.proofs.Names.{vendor_gives, and_noted, Uses, Views, uses_delivered, Invs, InvWord, passes, live, Carried, Grant}
-use Rattle.theorem_serial.proofs.Names.{Pair}
-use Rattle.theorem_serial.proofs.Names.{pair, after_move, grant_taken, back_taken, IsBound, value_at, dooms, Ways, hit-reads}
-use Rattle.theorem_serial.proofs.Names.{◌++◌}
-use Rattle.theorem_serial.proofs.Names.{Program, line_of, home, core_exec, core_evict, Answer, Waits, Drops, Asks, Takes, dir_deliver}
-use Rattle.theorem_serial.proofs.Names.{Stepped}
-use Rattle.theorem_serial.proofs.Names.{core_moves, dir_takes, dir_asks, step, next_history, recorded, UsesStand, uses_executed}
-use Rattle.theorem_serial.proofs.Names.{views_after}
-use Rattle.theorem_serial.proofs.Names.{CarriedViews, granted_by, IsDoomed, ViewedWords, HaltedUsesNone, sent_by, ways_after}
 use Rattle.rules_maps.specs.CacheLook.{reads_masked}
 use Rattle.theorem_serial.specs.KeepsViews.{KeepsViews}
-use Rattle.theorem_serial.proofs.Counts.StepCases.{AllPairs, given, OfAnswer, new_uses, event_cases, pairs_grant, pairs_back, pairs_vendor}
-use Rattle.theorem_serial.proofs.OneCore.CoreReadsTakes.{tid-ahead}
-use Rattle.theorem_serial.proofs.Serving.OwnerSteps.{asking-none}
-use Rattle.theorem_serial.proofs.Tids.TidSteps.{live-some, granted_waits}
-use Rattle.theorem_serial.proofs.Views.ViewCores.{Keeps, Gets, grant-view, Spares, Back, Empties, Stays, back-view}
-use Rattle.theorem_serial.proofs.Views.ViewDirs.{AllNear, AllSeen, NearAfter, answered-views}
-use Rattle.theorem_serial.proofs.Views.ViewFacts.{IsSeen, doomed-again, uses-seen, each-two, each-one, bound-own, few-doom, solo-undoomed}
-use Rattle.theorem_serial.proofs.Views.ViewFacts.{value-bounded, listed-below, word-next}
-use Rattle.theorem_serial.proofs.Views.ViewPairs.{NearAt, ViewOf, view-empty, view-moves, view-takes, view-grants, view-other, view-given}
-use Rattle.theorem_serial.proofs.Views.ViewSteps.{put-own, near-put, exec-views, evict-views}
+use Rattle.theorem_serial.proofs
+use proofs.Names
+use Names.{ℕ, ◌≡◌, ◌<◌, ◌≤◌, ◌⊎◌, ◌&&◌, Bool, true, false, List, [], Option, Some, None, IfSome, nat_lt, arith, refl, ap, sym, subst, ◌∙◌}
+use Names.{inl, inr, nat_tests, num, hit, Core, Dir, Vendor, Msg, TidReq, TidGrant, Inv, Shape, put, DoomedTid, in_flight, Out, from_dir}
+use Names.{grant, is_violated, may_be_above, History, core_takes, vendor_gives, and_noted, Uses, Views, uses_delivered, Invs, InvWord}
+use Names.{passes, live, Carried, Grant, Pair, pair, after_move, grant_taken, back_taken, IsBound, value_at, dooms, Ways, hit-reads, ◌++◌}
+use Names.{Program, line_of, home, core_exec, core_evict, Answer, Waits, Drops, Asks, Takes, dir_deliver, Stepped, core_moves, dir_takes}
+use Names.{dir_asks, step, next_history, recorded, UsesStand, uses_executed, views_after, CarriedViews, granted_by, IsDoomed, ViewedWords}
+use Names.{HaltedUsesNone, sent_by, ways_after}
+use proofs.Counts.StepCases.{AllPairs, given, OfAnswer, new_uses, event_cases, pairs_grant, pairs_back, pairs_vendor}
+use proofs.OneCore.CoreReadsTakes.{tid-ahead}
+use proofs.Serving.OwnerSteps.{asking-none}
+use proofs.Tids.TidSteps.{live-some, granted_waits}
+use proofs.Views.ViewCores.{Keeps, Gets, grant-view, Spares, Back, Empties, Stays, back-view}
+use proofs.Views.ViewDirs.{AllNear, AllSeen, NearAfter, answered-views}
+use proofs.Views.ViewFacts.{IsSeen, doomed-again, uses-seen, each-two, each-one, bound-own, few-doom, solo-undoomed, value-bounded}
+use proofs.Views.ViewFacts.{listed-below, word-next}
+use proofs.Views.ViewPairs.{NearAt, ViewOf, view-empty, view-moves, view-takes, view-grants, view-other, view-given}
+use proofs.Views.ViewSteps.{put-own, near-put, exec-views, evict-views}
 
 -- What a core takes from the vendor and from directories, and what the vendor grants, leaves every core's view near.
 

@@ -1,12 +1,11 @@
 -- A step by what it does to the cores: it leaves them as they are, or one core moves, sends and perhaps commits.
-use Rattle.theorem_serial.proofs.Names.{ℕ, ◌≡◌, ◌<◌, ◌==◌, Option, Some, None, IfSome, if◌then◌else◌, refl, Program, Core, Dir, Vendor, Msg}
-use Rattle.theorem_serial.proofs.Names.{TidGrant, Event, Shape, World, in_flight, Sends, nothing, Out, core_exec, core_evict, from_dir}
-use Rattle.theorem_serial.proofs.Names.{grant}
-use Rattle.theorem_serial.proofs.Names.{Answer, Waits, dir_deliver, core_moves, core_takes, dir_takes, dir_asks, vendor_gives, Stepped}
-use Rattle.theorem_serial.proofs.Names.{step}
-use Rattle.theorem_serial.proofs.Names.{KeptTids, sent_by}
-use Rattle.theorem_serial.proofs.Counts.StepCases.{OfAnswer, sent_cases}
-use Rattle.theorem_serial.proofs.Serving.KeptSteps.{core_of_grant, core_of_back}
+use Rattle.theorem_serial.proofs
+use proofs.Names
+use Names.{ℕ, ◌≡◌, ◌<◌, ◌==◌, Option, Some, None, IfSome, if◌then◌else◌, refl, Program, Core, Dir, Vendor, Msg, TidGrant, Event, Shape}
+use Names.{World, in_flight, Sends, nothing, Out, core_exec, core_evict, from_dir, grant, Answer, Waits, dir_deliver, core_moves}
+use Names.{core_takes, dir_takes, dir_asks, vendor_gives, Stepped, step, KeptTids, sent_by}
+use proofs.Counts.StepCases.{OfAnswer, sent_cases}
+use proofs.Serving.KeptSteps.{core_of_grant, core_of_back}
 
 -- L holds of what the core does
 pub data ByCore (sh : Shape) (w : World) (L : ℕ → Out → Type 0) (x : Sends) (o : Stepped) : Type 0 where

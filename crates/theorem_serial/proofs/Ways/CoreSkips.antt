@@ -1,26 +1,21 @@
 -- What each of a core's rules says of its TID: where it goes on with it, it has skipped it at directories where it writes nothing;
 -- and where it commits, it has spoken at each directory.
-use Rattle.theorem_serial.proofs.Names.{ℕ, ◌≡◌, ◌<◌, ◌≤◌, Bool, true, false, not, ◌==◌, ◌&&◌, Some, None, IfSome, if◌then◌else◌, arith}
-use Rattle.theorem_serial.proofs.Names.{refl}
-use Rattle.theorem_serial.proofs.Names.{sym, ◌⊎◌, inl, inr, nat_tests, Noted, Program, Outcome, any_below, Dir, Msg, Fill, ProbeReply}
-use Rattle.theorem_serial.proofs.Names.{DataReq}
-use Rattle.theorem_serial.proofs.Names.{Inv, Shape, Cache, writes_at, CoreState, Phase, Running, AwaitTid, DoomedTid, Probing, Ready}
-use Rattle.theorem_serial.proofs.Names.{Overflowing, Solo, Out, commit, committed_core, noted, phase_after_commit, core_exec, core_evict}
-use Rattle.theorem_serial.proofs.Names.{grant}
-use Rattle.theorem_serial.proofs.Names.{grant_in_phase, grant_sends, from_dir, probing_or_ready, is_probed, probe_reply, ignored}
-use Rattle.theorem_serial.proofs.Names.{all_replied}
-use Rattle.theorem_serial.proofs.Names.{fill, data_request, invalidate, put, Skips, among, passes, Words, OneCore, has_tid, Untold, told_by}
-use Rattle.theorem_serial.proofs.Names.{live_way, commit_way, Local, moves, solo_commit}
-use Rattle.theorem_serial.proofs.OneCore.Executes.{Steady, did-steady}
-use Rattle.theorem_serial.proofs.OneCore.CoreSteps.{ignored-steady, fill-steady, data-steady, Hurt, Unhurt, Rolled, Doomed, Aborted}
-use Rattle.theorem_serial.proofs.OneCore.CoreSteps.{Gave_up}
-use Rattle.theorem_serial.proofs.OneCore.CoreSteps.{Invalidated, invalidate-cases, Replied, Ignored, Probed, Left_alone, reply-cases}
-use Rattle.theorem_serial.proofs.OneCore.CoreSteps.{steady-emptied}
-use Rattle.theorem_serial.proofs.Ways.CoreTells.{solo-told, ready-told}
-use Rattle.theorem_serial.proofs.Marks.StoredMasks.{stored-solo, stored-written}
-use Rattle.theorem_serial.proofs.OneCore.Said.{Wants, say}
-use Rattle.theorem_serial.proofs.OneCore.Outcomes.{Acts, Commits_now, Did, each-exec, out, each-evict, emptied, writes_at-same, Ends_alone}
-use Rattle.theorem_serial.proofs.OneCore.Outcomes.{Ends_run, Room_wanted, after_end}
+use Rattle.theorem_serial.proofs
+use proofs.Names
+use Names.{ℕ, ◌≡◌, ◌<◌, ◌≤◌, Bool, true, false, not, ◌==◌, ◌&&◌, Some, None, IfSome, if◌then◌else◌, arith, refl, sym, ◌⊎◌, inl, inr}
+use Names.{nat_tests, Noted, Program, Outcome, any_below, Dir, Msg, Fill, ProbeReply, DataReq, Inv, Shape, Cache, writes_at, CoreState}
+use Names.{Phase, Running, AwaitTid, DoomedTid, Probing, Ready, Overflowing, Solo, Out, commit, committed_core, noted, phase_after_commit}
+use Names.{core_exec, core_evict, grant, grant_in_phase, grant_sends, from_dir, probing_or_ready, is_probed, probe_reply, ignored}
+use Names.{all_replied, fill, data_request, invalidate, put, Skips, among, passes, Words, OneCore, has_tid, Untold, told_by, live_way}
+use Names.{commit_way, Local, moves, solo_commit}
+use proofs.OneCore.Executes.{Steady, did-steady}
+use proofs.OneCore.CoreSteps.{ignored-steady, fill-steady, data-steady, Hurt, Unhurt, Rolled, Doomed, Aborted, Gave_up, Invalidated}
+use proofs.OneCore.CoreSteps.{invalidate-cases, Replied, Ignored, Probed, Left_alone, reply-cases, steady-emptied}
+use proofs.Ways.CoreTells.{solo-told, ready-told}
+use proofs.Marks.StoredMasks.{stored-solo, stored-written}
+use proofs.OneCore.Said.{Wants, say}
+use proofs.OneCore.Outcomes.{Acts, Commits_now, Did, each-exec, out, each-evict, emptied, writes_at-same, Ends_alone, Ends_run, Room_wanted}
+use proofs.OneCore.Outcomes.{after_end}
 
 -- a core in this phase has skipped its TID where it writes nothing
 abbrev pub skips_here : Phase → (written : Bool) → ℕ → Bool

@@ -1,12 +1,11 @@
 -- What a core with a TID says of it: it skips it at directories where it writes nothing, and commits it where it has stored.
-use Rattle.theorem_serial.proofs.Names.{ℕ, ◌≡◌, ◌<◌, List, ◌==◌, ◌&&◌, if◌then◌else◌, arith, refl, nat_tests, num, count_below, Dir, Skip}
-use Rattle.theorem_serial.proofs.Names.{Mark}
-use Rattle.theorem_serial.proofs.Names.{Commit, WriteBack, Shape, home, lines, Cache, writes_at, Spilled, commit_sends, solo_sends}
-use Rattle.theorem_serial.proofs.Names.{solo_marks_or_skip, solo_write_backs, solo_writes_at, is_written, Kind, Skips, Aborts, Commits}
-use Rattle.theorem_serial.proofs.Names.{among}
-use Rattle.theorem_serial.proofs.Names.{passes, Way, Untold, Skipped, Committed, told_by}
-use Rattle.theorem_serial.proofs.Counts.Links.{among-append, among-flat_map_none}
-use Rattle.theorem_serial.proofs.Ways.WayParts.{told-skip, told-commit}
+use Rattle.theorem_serial.proofs
+use proofs.Names
+use Names.{ℕ, ◌≡◌, ◌<◌, List, ◌==◌, ◌&&◌, if◌then◌else◌, arith, refl, nat_tests, num, count_below, Dir, Skip, Mark, Commit, WriteBack}
+use Names.{Shape, home, lines, Cache, writes_at, Spilled, commit_sends, solo_sends, solo_marks_or_skip, solo_write_backs, solo_writes_at}
+use Names.{is_written, Kind, Skips, Aborts, Commits, among, passes, Way, Untold, Skipped, Committed, told_by}
+use proofs.Counts.Links.{among-append, among-flat_map_none}
+use proofs.Ways.WayParts.{told-skip, told-commit}
 
 -- what it sends as it commits
 

@@ -1,15 +1,13 @@
 -- What a directory keeps as skipped is a TID of which a Skip or an Abort came, and it is owed acknowledgements only for one whose
 -- Commit came.
 use Rattle.base_lemmas.proofs.Lemmas.{eq-self}
-use Rattle.theorem_serial.proofs.Names.{invalidation_count, if◌then◌else◌, advance-rises, dir_deliver, is_skipped, kept-skips, nat_tests}
-use Rattle.theorem_serial.proofs.Names.{false}
-use Rattle.theorem_serial.proofs.Names.{DirState, Resolves, Serving, advance, Commits, nat_lt, InvAck, Answer, Aborts, passes, arith, Abort}
-use Rattle.theorem_serial.proofs.Names.{ℕ}
-use Rattle.theorem_serial.proofs.Names.{Shape, Takes, Skips, Bool, true, ◌==◌, ◌&&◌, refl, kept, Skip, Asks, ◌+◌, ◌-◌, ◌≡◌, ◌<◌, ◌≤◌, num}
-use Rattle.theorem_serial.proofs.Names.{Msg}
-use Rattle.theorem_serial.proofs.Counts.DirOutcome.{Outcome, Waiting, Spent, AsksOwner, TakesSkip, TakesAbort, TakesCommit, TakesAck}
-use Rattle.theorem_serial.proofs.Counts.DirOutcome.{outcome}
-use Rattle.theorem_serial.proofs.Tids.DirTids.{OnceAt, unserved, advance-count}
+use Rattle.theorem_serial.proofs
+use proofs.Names
+use Names.{invalidation_count, if◌then◌else◌, advance-rises, dir_deliver, is_skipped, kept-skips, nat_tests, false, DirState, Resolves}
+use Names.{Serving, advance, Commits, nat_lt, InvAck, Answer, Aborts, passes, arith, Abort, ℕ, Shape, Takes, Skips, Bool, true, ◌==◌, ◌&&◌}
+use Names.{refl, kept, Skip, Asks, ◌+◌, ◌-◌, ◌≡◌, ◌<◌, ◌≤◌, num, Msg}
+use proofs.Counts.DirOutcome.{Outcome, Waiting, Spent, AsksOwner, TakesSkip, TakesAbort, TakesCommit, TakesAck, outcome}
+use proofs.Tids.DirTids.{OnceAt, unserved, advance-count}
 
 -- the directory serves the TID, and is owed acknowledgements for it
 abbrev pub owes : DirState → (tid : ℕ) → ℕ

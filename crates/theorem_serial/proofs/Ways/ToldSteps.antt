@@ -1,23 +1,21 @@
 -- Every event keeps what the ways say of a core's TID, and of a committed one.
-use Rattle.theorem_serial.proofs.Names.{ℕ, ◌≡◌, ◌<◌, ◌≤◌, Bool, true, false, List, Contains, Option, Some, None, IfSome, nat_lt}
-use Rattle.theorem_serial.proofs.Names.{if◌then◌else◌}
-use Rattle.theorem_serial.proofs.Names.{arith, refl, sym, ◌∙◌, ◌⊎◌, inl, inr, nat_tests, Noted, Program, Core, Dir, Vendor, Msg, TidGrant}
-use Rattle.theorem_serial.proofs.Names.{Event, writes_at, Shape, Phase, Probing, Ready, Overflowing, Solo, World, in_flight, Sends, Out}
-use Rattle.theorem_serial.proofs.Names.{core_exec, core_evict, from_dir, grant, Stepped, step, and_noted, Grants, Resolves, Skips, Aborts}
-use Rattle.theorem_serial.proofs.Names.{Commits, among, passes, KeptCores, Grant, times, KeptOwners, pair, share, has_tid, opens}
-use Rattle.theorem_serial.proofs.Names.{ResolvedAt}
-use Rattle.theorem_serial.proofs.Names.{KeptTids, Way, Untold, Skipped, Aborted, Committed, Ways, told_by, ways_after, sent_by, part_in}
-use Rattle.theorem_serial.proofs.Names.{WayAt}
-use Rattle.theorem_serial.proofs.Names.{KeptWays, stores_at, live_way, KeptLive, commit_way, KeptCommitted, ◌==◌, ap, num}
-use Rattle.theorem_serial.proofs.Counts.Links.{total-le}
-use Rattle.theorem_serial.proofs.Serving.CommitOwners.{CommitsNoted, noted-exec, noted-evict, noted-grant, noted-back}
-use Rattle.theorem_serial.proofs.Tids.Commits.{inserted, positive-held, positive-committed}
-use Rattle.theorem_serial.proofs.Tids.CoreTids.{KeepsPart, part-exec, part-evict, part-grant, part-back}
-use Rattle.theorem_serial.proofs.Tids.TidSteps.{granted_waits, live-some}
-use Rattle.theorem_serial.proofs.Ways.ByCore.{ByCore, Still, Moved, by_core}
-use Rattle.theorem_serial.proofs.Ways.CoreSkips.{skips_here, Tells, TellsCommit, tells-exec, tells-evict, tells-grant, tells-back}
-use Rattle.theorem_serial.proofs.Ways.WayParts.{in-way, told-none, told-skip, told-nothing}
-use Rattle.theorem_serial.proofs.Serving.OwnerSteps.{times-noted}
+use Rattle.theorem_serial.proofs
+use proofs.Names
+use Names.{ℕ, ◌≡◌, ◌<◌, ◌≤◌, Bool, true, false, List, Contains, Option, Some, None, IfSome, nat_lt, if◌then◌else◌, arith, refl, sym, ◌∙◌}
+use Names.{◌⊎◌, inl, inr, nat_tests, Noted, Program, Core, Dir, Vendor, Msg, TidGrant, Event, writes_at, Shape, Phase, Probing, Ready}
+use Names.{Overflowing, Solo, World, in_flight, Sends, Out, core_exec, core_evict, from_dir, grant, Stepped, step, and_noted, Grants}
+use Names.{Resolves, Skips, Aborts, Commits, among, passes, KeptCores, Grant, times, KeptOwners, pair, share, has_tid, opens, ResolvedAt}
+use Names.{KeptTids, Way, Untold, Skipped, Aborted, Committed, Ways, told_by, ways_after, sent_by, part_in, WayAt, KeptWays, stores_at}
+use Names.{live_way, KeptLive, commit_way, KeptCommitted, ◌==◌, ap, num}
+use proofs.Counts.Links.{total-le}
+use proofs.Serving.CommitOwners.{CommitsNoted, noted-exec, noted-evict, noted-grant, noted-back}
+use proofs.Tids.Commits.{inserted, positive-held, positive-committed}
+use proofs.Tids.CoreTids.{KeepsPart, part-exec, part-evict, part-grant, part-back}
+use proofs.Tids.TidSteps.{granted_waits, live-some}
+use proofs.Ways.ByCore.{ByCore, Still, Moved, by_core}
+use proofs.Ways.CoreSkips.{skips_here, Tells, TellsCommit, tells-exec, tells-evict, tells-grant, tells-back}
+use proofs.Ways.WayParts.{in-way, told-none, told-skip, told-nothing}
+use proofs.Serving.OwnerSteps.{times-noted}
 
 -- what a core's rule says, and of which TIDs it speaks
 pub record Speaks (sh : Shape) (w : World) (c : ℕ) (y : Out) : Type 0 where

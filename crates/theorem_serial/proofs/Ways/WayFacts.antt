@@ -1,27 +1,24 @@
 -- The ways in which each TID was given to each directory along every run, and what the invariants on them say in words.
-use Rattle.theorem_serial.proofs.Names.{ℕ, List, [], ◌∷◌, ◌++◌, Option, Some, None, IfSome, arith, sym, append_assoc, append-nil, Program}
-use Rattle.theorem_serial.proofs.Names.{Local, Event, Shape, start, core_start, Stepped, step, History, and_noted, recorded, next_history}
-use Rattle.theorem_serial.proofs.Names.{and_then, run_from, run, KeptTold, KeptAll, KeptRun, Grant, granted_by, then_grants, grants_from}
-use Rattle.theorem_serial.proofs.Names.{has_tid, loads_word, Ways, ways_after, sent_by, then_ways, ways_from, first_ways, KeptWays}
-use Rattle.theorem_serial.proofs.Names.{AlwaysTold}
-use Rattle.theorem_serial.proofs.Names.{zero, suc, ◌+◌, ◌≡◌, ◌<◌, ◌≤◌, Bool, true, false, ◌==◌, ◌&&◌, nat_lt, nat_le, refl, ap, ◌⊎◌, inl}
-use Rattle.theorem_serial.proofs.Names.{inr}
-use Rattle.theorem_serial.proofs.Names.{nat_tests, num, Core, Dir, is_skipped, writes_at, sum_below, Phase, World, Commits, live, holder}
-use Rattle.theorem_serial.proofs.Names.{pair}
-use Rattle.theorem_serial.proofs.Names.{share, sum_of, opens, ResolvedAt, Way, Untold, Skipped, Aborted, Committed, part_in, kept_in, WayAt}
-use Rattle.theorem_serial.proofs.Names.{is_untold, is_given_up, UntoldWhereOpen, UntoldIsLive, Settled, WaysFit, AllWaysFit, given_up_by}
-use Rattle.theorem_serial.proofs.Names.{GivenUpOnce, LiveIsOpen, CommittedWhereStored, Contains, Noted, CommitsAreServed, times}
-use Rattle.theorem_serial.proofs.Names.{SmallerAreResolved, SmallerAreGivenUp, WorkIsReached, worked_at}
-use Rattle.theorem_serial.proofs.Counts.Links.{total-le, total-zero, num-one}
-use Rattle.theorem_serial.proofs.Run.AllInvariants.{step-all, all-at-start}
-use Rattle.theorem_serial.proofs.Serving.CommitSteps.{commits_served}
-use Rattle.theorem_serial.proofs.Tids.Commits.{positive-granted}
-use Rattle.theorem_serial.proofs.Tids.DirTids.{skipped-above}
-use Rattle.theorem_serial.proofs.Ways.ByCore.{ByCore}
-use Rattle.theorem_serial.proofs.Ways.ToldSteps.{Speaks, step-speaks, step-live-out, step-committed-out}
-use Rattle.theorem_serial.proofs.Ways.WayParts.{parts_in, resolved-split, in-way}
-use Rattle.theorem_serial.proofs.Ways.WaySteps.{step-ways, start-ways}
-use Rattle.theorem_serial.proofs.Ways.WorkedSteps.{Loads, Later, step-loads, step-later, loads-out, worked-out}
+use Rattle.theorem_serial.proofs
+use proofs.Names
+use Names.{ℕ, List, [], ◌∷◌, ◌++◌, Option, Some, None, IfSome, arith, sym, append_assoc, append-nil, Program, Local, Event, Shape, start}
+use Names.{core_start, Stepped, step, History, and_noted, recorded, next_history, and_then, run_from, run, KeptTold, KeptAll, KeptRun}
+use Names.{Grant, granted_by, then_grants, grants_from, has_tid, loads_word, Ways, ways_after, sent_by, then_ways, ways_from, first_ways}
+use Names.{KeptWays, AlwaysTold, zero, suc, ◌+◌, ◌≡◌, ◌<◌, ◌≤◌, Bool, true, false, ◌==◌, ◌&&◌, nat_lt, nat_le, refl, ap, ◌⊎◌, inl, inr}
+use Names.{nat_tests, num, Core, Dir, is_skipped, writes_at, sum_below, Phase, World, Commits, live, holder, pair, share, sum_of, opens}
+use Names.{ResolvedAt, Way, Untold, Skipped, Aborted, Committed, part_in, kept_in, WayAt, is_untold, is_given_up, UntoldWhereOpen}
+use Names.{UntoldIsLive, Settled, WaysFit, AllWaysFit, given_up_by, GivenUpOnce, LiveIsOpen, CommittedWhereStored, Contains, Noted}
+use Names.{CommitsAreServed, times, SmallerAreResolved, SmallerAreGivenUp, WorkIsReached, worked_at}
+use proofs.Counts.Links.{total-le, total-zero, num-one}
+use proofs.Run.AllInvariants.{step-all, all-at-start}
+use proofs.Serving.CommitSteps.{commits_served}
+use proofs.Tids.Commits.{positive-granted}
+use proofs.Tids.DirTids.{skipped-above}
+use proofs.Ways.ByCore.{ByCore}
+use proofs.Ways.ToldSteps.{Speaks, step-speaks, step-live-out, step-committed-out}
+use proofs.Ways.WayParts.{parts_in, resolved-split, in-way}
+use proofs.Ways.WaySteps.{step-ways, start-ways}
+use proofs.Ways.WorkedSteps.{Loads, Later, step-loads, step-later, loads-out, worked-out}
 
 -- The ways in which each TID was given to each directory, through every event and along every run.
 pub step-run : (sh : Shape) (p : Program) (gs : List Grant) (ys : Ways) (h : History) (e : Event) → KeptRun sh gs ys h

@@ -1,9 +1,10 @@
 -- Where a TID is, split by the ways, and what its core's messages make of it.
-use Rattle.theorem_serial.proofs.Names.{ℕ, zero, suc, ◌+◌, ◌≡◌, ◌≤◌, Bool, true, false, List, [], ◌∷◌, ◌==◌, ◌&&◌, Some, None, nat_lt}
-use Rattle.theorem_serial.proofs.Names.{nat_le}
-use Rattle.theorem_serial.proofs.Names.{if◌then◌else◌, arith, refl, nat_tests, num, is_skipped, Msg, Shape, sum_below, World, Link, Kind}
-use Rattle.theorem_serial.proofs.Names.{Resolves, Skips, Aborts, Commits, live, among, passes, Pair, pair, share, sum_of, part, handled}
-use Rattle.theorem_serial.proofs.Names.{ResolvedAt, Way, Untold, Skipped, Aborted, Committed, told_by, part_in, kept_in, WayAt}
+use Rattle.theorem_serial.proofs
+use proofs.Names
+use Names.{ℕ, zero, suc, ◌+◌, ◌≡◌, ◌≤◌, Bool, true, false, List, [], ◌∷◌, ◌==◌, ◌&&◌, Some, None, nat_lt, nat_le, if◌then◌else◌, arith}
+use Names.{refl, nat_tests, num, is_skipped, Msg, Shape, sum_below, World, Link, Kind, Resolves, Skips, Aborts, Commits, live, among}
+use Names.{passes, Pair, pair, share, sum_of, part, handled, ResolvedAt, Way, Untold, Skipped, Aborted, Committed, told_by, part_in}
+use Names.{kept_in, WayAt}
 
 -- a word on a TID is a Skip, an Abort or a Commit
 one-said : (t : ℕ) (m : Msg) → num (passes (Resolves t) m) ≡ num (passes (Skips t) m) + num (passes (Aborts t) m) + num

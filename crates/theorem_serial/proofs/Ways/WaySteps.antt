@@ -1,25 +1,22 @@
 -- Every event keeps that each TID is where its way puts it.
 use Rattle.base_lemmas.proofs.Lemmas.{eq-self}
-use Rattle.theorem_serial.proofs.Names.{ℕ, ◌+◌, ◌≡◌, ◌<◌, true, List, [], ◌==◌, Option, Some, None, IfSome, nat_le, slice_index_or, arith}
-use Rattle.theorem_serial.proofs.Names.{refl}
-use Rattle.theorem_serial.proofs.Names.{sym, subst, ◌⊎◌, inl, inr, cases_eq, nat_tests, Program, Local, num, Core, Dir, Vendor, Msg, TidReq}
-use Rattle.theorem_serial.proofs.Names.{TidGrant, Event, Shape, DirState, World, start, core_start, vendor_start, in_flight, Sends, nothing}
-use Rattle.theorem_serial.proofs.Names.{Out, core_exec, core_evict, from_dir, grant, Answer, Waits, Drops, Asks, Takes, dir_deliver}
-use Rattle.theorem_serial.proofs.Names.{sum_below}
-use Rattle.theorem_serial.proofs.Names.{core_moves, core_takes, dir_takes, dir_asks, vendor_gives, step, Skips, Aborts, Commits, live}
-use Rattle.theorem_serial.proofs.Names.{among}
-use Rattle.theorem_serial.proofs.Names.{passes, Pair, pair, after_move, grant_taken, back_taken, after_answer, out_taken, after_grant}
-use Rattle.theorem_serial.proofs.Names.{after_other_grant, share, opens, ResolvedAt, Kept, KeptTold, Way, Untold, Skipped, Aborted}
-use Rattle.theorem_serial.proofs.Names.{Committed}
-use Rattle.theorem_serial.proofs.Names.{Ways, told_by, ways_after, sent_by, first_ways, part_in, kept_in, WayAt, KeptWays}
-use Rattle.theorem_serial.proofs.Counts.Links.{live-sends, live-takes, total-zero}
-use Rattle.theorem_serial.proofs.Counts.StepCases.{differ, given, sum_move, sum_grant, sum_back, sum_back_away, sum_dir, sum_dir_away}
-use Rattle.theorem_serial.proofs.Counts.StepCases.{sum_asks, sum_vendor, OfAnswer, sent_cases}
-use Rattle.theorem_serial.proofs.Serving.KeptSteps.{core_of_grant, core_of_back, core_of_out, core_of_ask, once_at}
-use Rattle.theorem_serial.proofs.Tids.CoreTids.{KeepsPart, part-exec, part-evict, part-grant, part-back}
-use Rattle.theorem_serial.proofs.Tids.TidSteps.{granted_waits}
-use Rattle.theorem_serial.proofs.Ways.DirWays.{Heard, HeardBy, heard-still, dir-heard}
-use Rattle.theorem_serial.proofs.Ways.WayParts.{parts_in, resolved-split, gained, lost, told-moved, told-nothing}
+use Rattle.theorem_serial.proofs
+use proofs.Names
+use Names.{ℕ, ◌+◌, ◌≡◌, ◌<◌, true, List, [], ◌==◌, Option, Some, None, IfSome, nat_le, slice_index_or, arith, refl, sym, subst, ◌⊎◌, inl}
+use Names.{inr, cases_eq, nat_tests, Program, Local, num, Core, Dir, Vendor, Msg, TidReq, TidGrant, Event, Shape, DirState, World, start}
+use Names.{core_start, vendor_start, in_flight, Sends, nothing, Out, core_exec, core_evict, from_dir, grant, Answer, Waits, Drops, Asks}
+use Names.{Takes, dir_deliver, sum_below, core_moves, core_takes, dir_takes, dir_asks, vendor_gives, step, Skips, Aborts, Commits, live}
+use Names.{among, passes, Pair, pair, after_move, grant_taken, back_taken, after_answer, out_taken, after_grant, after_other_grant, share}
+use Names.{opens, ResolvedAt, Kept, KeptTold, Way, Untold, Skipped, Aborted, Committed, Ways, told_by, ways_after, sent_by, first_ways}
+use Names.{part_in, kept_in, WayAt, KeptWays}
+use proofs.Counts.Links.{live-sends, live-takes, total-zero}
+use proofs.Counts.StepCases.{differ, given, sum_move, sum_grant, sum_back, sum_back_away, sum_dir, sum_dir_away, sum_asks, sum_vendor}
+use proofs.Counts.StepCases.{OfAnswer, sent_cases}
+use proofs.Serving.KeptSteps.{core_of_grant, core_of_back, core_of_out, core_of_ask, once_at}
+use proofs.Tids.CoreTids.{KeepsPart, part-exec, part-evict, part-grant, part-back}
+use proofs.Tids.TidSteps.{granted_waits}
+use proofs.Ways.DirWays.{Heard, HeardBy, heard-still, dir-heard}
+use proofs.Ways.WayParts.{parts_in, resolved-split, gained, lost, told-moved, told-nothing}
 
 -- a core's step
 part-moved : (sh : Shape) (d t : ℕ) (v : Pair) (o : Out) → KeepsPart sh d t 0 v.core o → (z : Way)

@@ -1,24 +1,21 @@
 -- Every event keeps that a directory where a commit loaded or stored has reached its TID.
-use Rattle.theorem_serial.proofs.Names.{◌∙◌, ℕ, ◌≡◌, ◌<◌, ◌≤◌, Bool, true, false, ◌&&◌, ◌||◌, ◌==◌, List, Contains, Option, Some, None}
-use Rattle.theorem_serial.proofs.Names.{IfSome}
-use Rattle.theorem_serial.proofs.Names.{if◌then◌else◌, arith, refl, ◌⊎◌, inl, inr, nat_tests, Noted, Program, any_below, any_word, word_at}
-use Rattle.theorem_serial.proofs.Names.{Dir}
-use Rattle.theorem_serial.proofs.Names.{Msg, Event, Shape, home, lines, writes_at, reads_at, is_modified, any_below-at, any_below-found}
-use Rattle.theorem_serial.proofs.Names.{CoreState, DirState, Ready, World, Out, Sends, commit, noted, core_exec, core_evict, grant}
-use Rattle.theorem_serial.proofs.Names.{from_dir}
-use Rattle.theorem_serial.proofs.Names.{Answer, Waits, Drops, Asks, Takes, dir_deliver, core_moves, core_takes, dir_takes, dir_asks}
-use Rattle.theorem_serial.proofs.Names.{vendor_gives, Stepped, step, and_noted, Kept, OneCore, KeptCores, pair, Reached, stores_at}
-use Rattle.theorem_serial.proofs.Names.{loads_word}
-use Rattle.theorem_serial.proofs.Names.{sent_by, LoadsMarked, KeptLoads, loads_at, worked_at, KeptWorked, solo_commit}
-use Rattle.theorem_serial.proofs.Ways.ByCore.{ByCore, Still, Moved, by_core}
-use Rattle.theorem_serial.proofs.OneCore.CoreLoads.{loads-exec, loads-evict}
-use Rattle.theorem_serial.proofs.OneCore.CoreLoadsTakes.{loads-grant, loads-back}
-use Rattle.theorem_serial.proofs.Marks.StoredMasks.{stored-written}
-use Rattle.theorem_serial.proofs.Serving.DirProbes.{RisesBy, dir-rises}
-use Rattle.theorem_serial.proofs.Tids.Commits.{inserted}
-use Rattle.theorem_serial.proofs.Counts.StepCases.{OfAnswer, step_cases}
-use Rattle.theorem_serial.proofs.OneCore.Outcomes.{Commits_now, Did, each-exec, out, each-evict, Ends_alone, Given_none, Granted, Hands_out}
-use Rattle.theorem_serial.proofs.OneCore.Outcomes.{Heard, each-back, each-grant, granted, heard}
+use Rattle.theorem_serial.proofs
+use proofs.Names
+use Names.{◌∙◌, ℕ, ◌≡◌, ◌<◌, ◌≤◌, Bool, true, false, ◌&&◌, ◌||◌, ◌==◌, List, Contains, Option, Some, None, IfSome, if◌then◌else◌, arith}
+use Names.{refl, ◌⊎◌, inl, inr, nat_tests, Noted, Program, any_below, any_word, word_at, Dir, Msg, Event, Shape, home, lines, writes_at}
+use Names.{reads_at, is_modified, any_below-at, any_below-found, CoreState, DirState, Ready, World, Out, Sends, commit, noted, core_exec}
+use Names.{core_evict, grant, from_dir, Answer, Waits, Drops, Asks, Takes, dir_deliver, core_moves, core_takes, dir_takes, dir_asks}
+use Names.{vendor_gives, Stepped, step, and_noted, Kept, OneCore, KeptCores, pair, Reached, stores_at, loads_word, sent_by, LoadsMarked}
+use Names.{KeptLoads, loads_at, worked_at, KeptWorked, solo_commit}
+use proofs.Ways.ByCore.{ByCore, Still, Moved, by_core}
+use proofs.OneCore.CoreLoads.{loads-exec, loads-evict}
+use proofs.OneCore.CoreLoadsTakes.{loads-grant, loads-back}
+use proofs.Marks.StoredMasks.{stored-written}
+use proofs.Serving.DirProbes.{RisesBy, dir-rises}
+use proofs.Tids.Commits.{inserted}
+use proofs.Counts.StepCases.{OfAnswer, step_cases}
+use proofs.OneCore.Outcomes.{Commits_now, Did, each-exec, out, each-evict, Ends_alone, Given_none, Granted, Hands_out, Heard, each-back}
+use proofs.OneCore.Outcomes.{each-grant, granted, heard}
 
 -- a core that loaded a word of a line has marked words at its home
 loaded-touches : (sh : Shape) (s : CoreState) (d : ℕ)
