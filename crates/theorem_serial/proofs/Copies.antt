@@ -2,12 +2,8 @@
 pub mod WroteLines
 pub mod TagsKept
 pub mod DirtyFrames
-pub mod CopyFacts
 pub mod LinesStep
 pub mod LinesKept
-pub mod AnswerCopies
-pub mod DirCopies
 pub mod PairCopies
 pub mod CopyRules
-pub mod CoreCopies
 pub mod CopySends

@@ -2,4 +2,3 @@
 pub mod Links
 pub mod StepCases
 pub mod DirOutcome
-pub mod Inside

@@ -1,4 +1,5 @@
 -- The proofs of this crate, by subject; each folder stands on those above it.
+mod Phrases
 mod Names
 mod Counts
 mod OneCore

@@ -3,4 +3,3 @@ pub mod CoreHomes
 pub mod HomesKept
 pub mod CoreInMemory
 pub mod InMemoryKept
-pub mod MemorySends

@@ -6,6 +6,7 @@ pub use Rattle.std.specs.List.{flat_map}
 pub use Rattle.std.proofs.Common.{refl, arith, inl, inr, ◌⊎◌, ◌∙◌, sym, ap, subst, append_assoc, true≢false, ap₂}
 pub use Rattle.std.proofs.lemmas.Bool.{cases_eq, cases_lt, cases_order}
 pub use Rattle.std.proofs.lemmas.Bool.Decides.{nat_tests}
+pub use Rattle.std.proofs.lemmas.Option.{IfSome_then}
 pub use Rattle.std.proofs.lemmas.Grind.{flat_map-append}
 pub use Rattle.std.proofs.lemmas.List.{append-nil, length-append, map-append}
 pub use Rattle.std.proofs.lemmas.List.Elements.{Contains-append_left, Contains-append_cases, Contains-append_right}
@@ -90,6 +91,7 @@ unfoldable pub use Rattle.theorem_attempt.specs.Follows.{sees}
 pub use Rattle.theorem_attempt.specs.Marks.{UsesStand, AllStand, AttemptFits, MarksFit}
 pub use Rattle.theorem_attempt.specs.Views.{Views, uses_delivered, views_after, uses_executed, no_views, rolls_back, uses_violated}
 unfoldable pub use Rattle.theorem_attempt.specs.Views.{views_from}
+pub use Rattle.theorem_serial.proofs.Phrases.{nats, home_of, tid_at, to_dir, to_core, FromCore, FromDir}
 pub use Rattle.theorem_serial.specs.Theorem.{Suits, AllHold, IsSerialExecution, RunsAreSerial}
 pub use Rattle.theorem_serial.specs.Alone.{ReadFits, IsApart, OwingFits, PhaseFits}
 pub use Rattle.theorem_serial.specs.AtHomes.{MarkedAtHomes, AccessesAtHomes, MarksAtHomes, UsedAtHomes, WrittenInMemory}

@@ -6,4 +6,3 @@ pub mod FactsOfRuns
 pub mod AllCarried
 pub mod TriedRun
 pub mod CounterRun
-pub mod NotedBy

@@ -1,13 +1,9 @@
 -- Which TID a directory serves, what it is owed, and the probes, replies and commits of the TIDs that it has reached.
-pub mod DirProbes
 pub mod KeptSteps
 pub mod CoreDue
 pub mod DirDue
 pub mod ProbingSteps
-pub mod DirProbing
 pub mod OwingKept
 pub mod CoreCommits
 pub mod CommitSteps
-pub mod CommitOwners
-pub mod DirInvs
 pub mod OwnerSteps

@@ -3,6 +3,4 @@ pub mod Commits
 pub mod CoreTids
 pub mod DirTids
 pub mod TidSteps
-pub mod CoreRequests
 pub mod CoreProbing
-pub mod CoreOwners

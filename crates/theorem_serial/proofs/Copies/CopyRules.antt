@@ -5,15 +5,14 @@ use Rattle.theorem_serial.proofs
 use proofs.Names
 use Names.{committed_core, if◌then◌else◌, modified_mask, words_dropped, dirty-evicted, spilled_mask, any_below-at, commit_sends}
 use Names.{written_mask, read_cleared, is_modified, solo_commit, invalidated, rolled_back, committed, is_written, names_line, core_evict}
-use Names.{CoreState, stores_in, nat_tests, core_exec, any_word, cases_eq, ◌≡◌, from_dir, is_some, word_at, mask_of, Spilled, OneCore}
-use Names.{Program, word_of, line_of, IsCache, cleaned, ◌<◌, nothing, is_solo, Option, commit, IfSome, filled, CopyOf, passes, stored}
-use Names.{marked, placed, false, arith, Shape, lines, Cache, holds, Ready, noted, Words, moves, grant, among, ◌==◌, ◌&&◌, ◌||◌, Bool, true}
-use Names.{not, Some, None, refl, home, sym, ◌∙◌, num, Dir, ◌+◌, ◌≤◌, ◌⊎◌, inl, inr, hit, Msg, Inv, Out, ℕ}
-use proofs.Copies.CopySends.{few-masks, commit-copies, solo-copies, solo-wrong, flushed-leaves, back-home-leaves}
-use proofs.Copies.CoreCopies.{Conserves, conserves-still, conserves-sent, framed-dirty}
+use Names.{CoreState, stores_in, core_exec, any_word, cases_eq, ◌≡◌, from_dir, is_some, word_at, mask_of, Spilled, OneCore, Program}
+use Names.{word_of, line_of, IsCache, cleaned, ◌<◌, nothing, is_solo, Option, commit, IfSome, filled, CopyOf, passes, stored, marked}
+use Names.{placed, false, arith, Shape, lines, Cache, holds, Ready, noted, Words, moves, grant, among, ◌==◌, ◌&&◌, ◌||◌, Bool, true, not}
+use Names.{Some, None, refl, home, sym, ◌∙◌, num, Dir, ◌+◌, ◌≤◌, ◌⊎◌, inl, inr, hit, Msg, Inv, Out, ℕ, nats}
+use proofs.Copies.CopySends.{few-masks, commit-copies, solo-copies, solo-wrong, flushed-leaves, back-home-leaves, Conserves}
+use proofs.Copies.CopySends.{conserves-still, conserves-sent, framed-dirty}
 use proofs.Copies.DirtyFrames.{wrong-copy, IsClean, clean-frame, committed-frame, frame_copy, fewer-frame}
-use proofs.Marks.CoreMarks.{holds-found}
-use proofs.Marks.StoredMasks.{unspilled, modified-line, modified-stored, written-line, written-stored}
+use proofs.Marks.CoreMarks.{holds-found, unspilled, modified-line, modified-stored, written-line, written-stored}
 use proofs.OneCore.Said.{Flushes, Requests, Silent, Unheard, quiet, say}
 use proofs.OneCore.Outcomes.{Commits_now, Did, Ends_alone, Frames, Frames_anew, Given_none, Granted, Hands_out, Heard, Hurt_alone}
 use proofs.OneCore.Outcomes.{Hurt_probing, Hurt_running, Hurt_waiting, Misses_anew, Hurt_none, after_end, after_store, awaiting, each-back}
@@ -79,7 +78,7 @@ unspilled-mask c sp l h =
     ) refl)
   where
     or-none : (b : Bool) → (b || false) ≡ b
-    or-none a = grind (arith, nat_tests)
+    or-none a = grind nats
 
 spilled-only : (c : Cache) (sp : Spilled) (l : ℕ) → ((k : ℕ) → k < 8 → c.modified (word_at l k) ≡ false)
     → written_mask c sp l ≡ spilled_mask sp l
@@ -111,10 +110,10 @@ alone-copies sh b l id u s i j h = go (holds s.spilled l) refl
     mask = written-stored sh.base s.cache s.spilled s.stores l (h.named)
 
     or-last : (a c : Bool) → c ≡ true → (a || c) ≡ true
-    or-last a c e = grind (arith, nat_tests)
+    or-last a c e = grind nats
 
     or-none : (a c : Bool) → c ≡ false → (a || c) ≡ a
-    or-none a c e = grind (arith, nat_tests)
+    or-none a c e = grind nats
 
     go : (b : Bool) → holds s.spilled l ≡ b → Conserves sh l s (solo_commit sh id u s)
     go false q =
@@ -164,7 +163,7 @@ alone-copies sh b l id u s i j h = go (holds s.spilled l) refl
 
             none : (a : Bool) (m : Bool) (d : Option ℕ) → m ≡ false → d ≡ None
                 → (if (if a then false else m) then Some u else (if a then None else d)) ≡ None
-            none a m d e f = grind (arith, nat_tests)
+            none a m d e f = grind nats
 
             gone : IsClean after l
             gone k i = none (is_some (s.spilled (word_at l k))) (s.cache.modified (word_at l k)) (s.cache.dirty (word_at l k))
@@ -224,7 +223,7 @@ copies-evict sh l x y s =
 -- a word of another line isn't hit
 pub missed : (k m l w : ℕ) → line_of w ≡ l → (k ≡ l → ⊥) → hit k m w ≡ false
 unfolding hit
-missed k m l w e n = let z : (k == line_of w) ≡ false = rw e (grind (arith, nat_tests)) in rw z refl
+missed k m l w e n = let z : (k == line_of w) ≡ false = rw e (grind nats) in rw z refl
 
 pub copies-grant : (sh : Shape) (l u : ℕ) (s : CoreState) → Conserves sh l s (grant sh u s)
 unfolding passes
@@ -251,7 +250,7 @@ copies-back sh l e s m h = each-back sh e s (BackStep sh l s) go m
         none (hit k m (word_at l j)) (s.cache.modified (word_at l j)) (missed k m l (word_at l j) z n)
       where
         none : (a b : Bool) → a ≡ false → (if a && not b then None else s.cache.dirty (word_at l j)) ≡ s.cache.dirty (word_at l j)
-        none a b e = grind (arith, nat_tests)
+        none a b e = grind nats
 
     here : (k m j : ℕ) → j < 8 → ((invalidated k m s.cache).dirty (word_at l j) ≡ None)
         ⊎ ((invalidated k m s.cache).dirty (word_at l j) ≡ s.cache.dirty (word_at l j))

@@ -2,9 +2,9 @@
 use Rattle.base_lemmas.proofs.Lemmas.{line_of-word_at}
 use Rattle.theorem_serial.proofs
 use proofs.Names
-use Names.{nat_tests, ℕ, ◌+◌, ◌≡◌, ◌<◌, ◌≤◌, ◌⊎◌, ◌==◌, ◌&&◌, ◌||◌, Bool, true, false, not, Option, Some, None, is_some, unwrap_or}
-use Names.{if◌then◌else◌, arith, refl, sym, ◌∙◌, inl, inr, num, any_below, any_word, word_at, or_else, mask_of, Shape, Cache, IsCache}
-use Names.{is_dirty, is_modified, dirty_tag, dirty_mask, modified_mask, first_of_line, any_below-found, any_below-at}
+use Names.{ℕ, ◌+◌, ◌≡◌, ◌<◌, ◌≤◌, ◌⊎◌, ◌==◌, ◌&&◌, ◌||◌, Bool, true, false, not, Option, Some, None, is_some, unwrap_or, if◌then◌else◌}
+use Names.{arith, refl, sym, ◌∙◌, inl, inr, num, any_below, any_word, word_at, or_else, mask_of, Shape, Cache, IsCache, is_dirty}
+use Names.{is_modified, dirty_tag, dirty_mask, modified_mask, first_of_line, any_below-found, any_below-at, nats}
 
 -- 1 where the line's frame is dirty with this tag, and where it is so with another mask
 unfoldable pub frame_copy : Cache → (line tag : ℕ) → ℕ
@@ -15,7 +15,7 @@ frame_wrong c l t n = num ((is_dirty c l && dirty_tag c l == t) && not (dirty_ma
 
 pub wrong-copy : (c : Cache) (l t n : ℕ) → frame_wrong c l t n ≤ frame_copy c l t
 unfolding frame_copy frame_wrong
-wrong-copy c l t n = grind (arith, nat_tests)
+wrong-copy c l t n = grind nats
 
 -- the line's words are as dirty as those of the other cache
 abbrev pub SameDirty : Cache → Cache → (line : ℕ) → Type 0
@@ -185,7 +185,7 @@ dirty-modified c e l u h = (
 )
   where
     of : (b : Bool) → is_some (if b then Some u else None) ≡ b
-    of a = grind (arith, nat_tests)
+    of a = grind nats
 
     one : (k : ℕ) → k < 8 → is_some (e.dirty (word_at l k)) ≡ c.modified (word_at l k)
     one k i = rw (h k i) (of (c.modified (word_at l k)))
@@ -200,7 +200,7 @@ committed-frame sh c e l u h f = go (is_modified c l) refl
     tag m d = let x = dirty-found e l d in is (c.modified (word_at l x.0)) (sym (new-dirty sh c e l u h f m x.0 (x.1)) ∙ x.2)
       where
         is : (b : Bool) → (if b then Some u else None) ≡ Some (dirty_tag e l) → dirty_tag e l ≡ u
-        is a q = grind (arith, nat_tests)
+        is a q = grind nats
 
     clean : is_modified c l ≡ true → is_dirty c l ≡ false
     clean m = clean-dirty c l (no-dirty sh c l h m)

@@ -1,22 +1,28 @@
 -- Every event keeps the copies of each line in memory: the owner's one with the line's tag, and those of commits on their way with a
--- larger one.
+-- larger one. The facts of the list on copies follow from these, and the start has them.
 use Rattle.theorem_serial.proofs
 use proofs.Names
-use Names.{ℕ, ◌+◌, ◌≡◌, ◌<◌, ◌≤◌, ◌==◌, false, List, Option, Some, None, IfSome, arith, refl, ap, sym, subst, inl, inr, nat_tests, Noted}
-use Names.{num, Core, Dir, Shape, home, lines, World, Out, core_moves, History, and_noted, insert_commit, KeptTags, KeptLineOwners, Commits}
-use Names.{live, among, KeptRun, Grant, times, Pair, pair, after_move, share, part, Ways, part_in}
+use Names.{ℕ, ◌+◌, ◌≡◌, ◌<◌, ◌≤◌, ◌==◌, false, List, Option, Some, None, IfSome, arith, refl, ap, sym, subst, inl, inr, Noted, num, Dir}
+use Names.{Shape, home, lines, World, Out, core_moves, History, and_noted, insert_commit, KeptTags, KeptLineOwners, Commits, live, among}
+use Names.{KeptRun, Grant, times, Pair, pair, after_move, share, part, Ways, part_in, nats, to_dir, true, [], Local, any_below, any_word}
+use Names.{Cache, empty_cache, is_dirty, dirty_tag, dirty_mask, no_lines, start, core_start, dir_start, copies_with, AboveOf, KeptAbove}
+use Names.{OwnedOf, KeptOwned, wrote, wrote_line, wrote_mask}
 use proofs.Serving.CommitSteps.{ofs-resolve}
-use proofs.Marks.CoreAfter.{AfterStep}
-use proofs.Copies.CoreCopies.{Conserves}
+use proofs.Marks.AfterKept.{AfterStep}
+use proofs.Copies.CopySends.{Conserves}
 use proofs.Ways.CoreSkips.{TellsCommit}
 use proofs.Copies.CopyRules.{InMemory}
 use proofs.Copies.TagsKept.{untagged, stored-home}
 use proofs.Counts.Links.{total-le}
 use proofs.Tids.Commits.{positive-held}
 use proofs.Copies.WroteLines.{uncommitted, commit-sent, few-resolves, SameWrote, wrote-other}
-use proofs.Copies.PairCopies.{LineCopies, copies-moved, NewCommit, copies-committed}
+use proofs.Copies.PairCopies.{LineCopies, copies-moved, NewCommit, copies-committed, line_copies, line_wrong}
 use proofs.Counts.StepCases.{either, moves-own, moves-other}
 use proofs.Ways.ToldSteps.{Speaks}
+use proofs.Copies.DirtyFrames.{frame_copy, frame_wrong}
+
+-- Every event keeps the copies of each line in memory: the owner's one with the line's tag, and those of commits on their way with a
+-- larger one.
 
 -- the copies of a line between a core and a directory, where it is a line in memory and at home there
 abbrev pub CopiesAt : Shape → List Noted → (core dir : ℕ) → Pair → Type 0
@@ -68,11 +74,11 @@ new-of sh gs ys h c d l o n b cl dl ll e q r u = record {
     fresh : times n.tid.0 h.commits ≡ 0
     fresh = uncommitted sh gs ys h c n.tid.0 b.told cl (tells.has)
 
-    sent : 1 ≤ among (Commits n.tid.0) (o.sends (Dir d)) → live (Commits n.tid.0) (h.world.net (Core c) (Dir d)) + among (Commits n.tid.0)
+    sent : 1 ≤ among (Commits n.tid.0) (o.sends (Dir d)) → live (Commits n.tid.0) (to_dir h.world c d) + among (Commits n.tid.0)
         (o.sends (Dir d)) ≡ 1
     sent s =
         let z : among (Commits n.tid.0) (o.sends (Dir d)) ≤ num (n.tid.0 == n.tid.0) = rw q at (u.noted d n.tid.0) in
-        let y : num (n.tid.0 == n.tid.0) ≡ 1 = grind (arith, nat_tests) in
+        let y : num (n.tid.0 == n.tid.0) ≡ 1 = grind nats in
         omega (
           arith,
           s,
@@ -82,7 +88,7 @@ new-of sh gs ys h c d l o n b cl dl ll e q r u = record {
           u.untold d n.tid.0 dl,
           total-le (share (part sh d n.tid.0) h.world d) sh.cores c cl,
           b.told.all.kept.told.tids.resolved d n.tid.0 dl,
-          ofs-resolve n.tid.0 (h.world.net (Core c) (Dir d)),
+          ofs-resolve n.tid.0 (to_dir h.world c d),
         )
 
 in-memory : (sh : Shape) (d l : ℕ) → d < sh.dirs → l < lines sh → home sh l ≡ d → InMemory sh l
@@ -117,7 +123,7 @@ other-lines : (sh : Shape) (h : History) (c j d : ℕ) (o : Out) → (j ≡ c �
     → AfterStep sh c (h.world.cores c) o → CopiesAt sh (and_noted o.commit h.commits) j d (pair h.world j d)
 other-lines sh h c j d o n k (inl x) = subst (λ a. CopiesAt sh (and_noted a h.commits) j d (pair h.world j d)) (sym (x.commit)) (k j d)
 other-lines sh h c j d o n k (inr x) = subst (λ a. CopiesAt sh (and_noted a h.commits) j d (pair h.world j d)) (sym (x.commit))
-    (λ l cl dl ll e. more-lines sh.base x.noted h.commits j l (pair h.world j d) (let y = x.core in grind (arith, nat_tests))
+    (λ l cl dl ll e. more-lines sh.base x.noted h.commits j l (pair h.world j d) (let y = x.core in grind nats)
     (k j d l cl dl ll e))
 
 pub moved-lines : (sh : Shape) (gs : List Grant) (ys : Ways) (h : History) (c : ℕ) (o : Out) → Before sh gs ys h → Acts sh h.world c o
@@ -127,3 +133,46 @@ moved-lines sh gs ys h c o b a j d = either j c
     (subst (CopiesAt sh (and_noted o.commit h.commits) c d) (sym (moves-own h.world c o d)) (own-lines sh gs ys h c d o b a)))
     (λ n. subst (CopiesAt sh (and_noted o.commit h.commits) j d) (sym (moves-other h.world c o j d n))
     (other-lines sh h c j d o n b.lines (a.after)))
+
+-- The facts of the list on copies, from what is kept of each line in memory; and that the start has it.
+
+-- no frame that is dirty with the tag has another mask
+right-mask : (c : Cache) (l t n : ℕ) → frame_wrong c l t n ≡ 0 → is_dirty c l ≡ true → dirty_tag c l ≡ t → dirty_mask c l ≡ n
+unfolding frame_wrong
+right-mask c l t n z d e = grind nats
+
+above-one : (base : ℕ) (cs : List Noted) (c l t : ℕ) (v : Pair) → LineCopies base cs c l v → v.dir.lines.tag l < t → AboveOf base cs c l t v
+unfolding copies_with line_copies line_wrong frame_copy
+above-one base cs c l t v h i = record {
+  one = h.above t i;
+  framed = right-mask v.core.cache l t (wrote_mask base cs c t l) (omega (arith, h.masks t i));
+  sent = omega (arith, h.masks t i);
+}
+
+owned-one : (base : ℕ) (cs : List Noted) (c l : ℕ) (v : Pair) → LineCopies base cs c l v → OwnedOf c l v
+unfolding copies_with line_copies frame_copy
+owned-one base cs c l v h = h.owned
+
+pub above-from : (sh : Shape) (cs : List Noted) (w : World) → KeptLines sh cs w → KeptAbove sh w cs
+unfolding pair
+above-from sh cs w k c d l t cl dl ll e i = above-one sh.base cs c l t (pair w c d) (k c d l cl dl ll e) i
+
+pub owned-from : (sh : Shape) (cs : List Noted) (w : World) → KeptLines sh cs w → KeptOwned sh w
+owned-from sh cs w k c d l cl dl ll e = owned-one sh.base cs c l (pair w c d) (k c d l cl dl ll e)
+
+-- at the start
+no-line : (base c t l : ℕ) → wrote_line base [] c t l ≡ false
+unfolding wrote_line any_word any_below wrote
+no-line base c t l = refl
+
+clean : (l : ℕ) → is_dirty empty_cache l ≡ false
+unfolding is_dirty empty_cache any_word any_below
+clean l = refl
+
+pub start-lines : (sh : Shape) (entries : ℕ → Local) (ram : ℕ → ℕ) → KeptLines sh [] (start entries ram)
+unfolding start core_start dir_start no_lines pair line_copies line_wrong frame_copy frame_wrong live
+start-lines sh entries ram c d l cl dl ll e = record {
+  owned = rw (clean l) refl;
+  above = λ t i. rw (clean l, no-line sh.base c t l) refl;
+  masks = λ t i. rw (clean l) refl;
+}

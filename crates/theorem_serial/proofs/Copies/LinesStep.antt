@@ -3,25 +3,23 @@ use Rattle.base_lemmas.proofs.Lemmas.{eq-self}
 use Rattle.theorem_serial.proofs
 use proofs.Names
 use Names.{ℕ, ◌%◌, ◌≡◌, ◌<◌, ◌≤◌, ◌⊎◌, ◌==◌, Bool, true, false, not, cond, List, Option, Some, None, arith, refl, ap, sym, ◌∙◌, inl, inr}
-use Names.{cases_lt, nat_tests, Noted, num, Core, Dir, Msg, Inv, Shape, home, lines, in_flight, Out, History, Commits, InvsAway, live}
-use Names.{among, passes, Grant, Pair, pair, after_move, Ways, wrote_line, ◌+◌, ◌&&◌, nat_lt, [], Contains, subst, cases_eq, has_mark}
-use Names.{DirState, Sends, dir_takes, dir_asks, CopyOf, after_answer, out_taken, is_applied, names_line, IfSome, Program, Vendor, Event}
-use Names.{core_exec, core_evict, from_dir, grant, Answer, Waits, Drops, Asks, Takes, dir_deliver, core_moves, core_takes, and_noted, step}
-use Names.{grant_taken, back_taken, after_grant, after_other_grant, is_this}
-use proofs.Copies.AnswerCopies.{Answered, none-passes, still-similar, dropped-similar, came-similar}
-use proofs.Copies.CopyRules.{BackStep, Kept, Invalidates, InMemory, copies-exec, copies-evict, copies-grant, copies-back}
-use proofs.Copies.CoreCopies.{Conserves}
-use proofs.Copies.DirCopies.{similar-copies, taken-copies}
-use proofs.Copies.LinesKept.{Before, CopiesAt, KeptLines, moved-lines}
+use Names.{cases_lt, Noted, num, Core, Dir, Msg, Inv, Shape, home, lines, Out, History, Commits, InvsAway, live, among, passes, Grant, Pair}
+use Names.{pair, after_move, Ways, wrote_line, ◌+◌, ◌&&◌, nat_lt, [], Contains, subst, cases_eq, has_mark, DirState, Sends, dir_takes}
+use Names.{dir_asks, CopyOf, after_answer, out_taken, is_applied, names_line, IfSome, Program, Vendor, Event, core_exec, core_evict}
+use Names.{from_dir, grant, Answer, Waits, Drops, Asks, Takes, dir_deliver, core_moves, core_takes, and_noted, step, grant_taken}
+use Names.{back_taken, after_grant, after_other_grant, is_this, nats, tid_at, to_dir, to_core, FromCore, FromDir}
+use proofs.Copies.PairCopies.{Answered, none-passes, still-similar, dropped-similar, came-similar, similar-copies, taken-copies}
 use proofs.Copies.PairCopies.{line_copies, LineCopies, copies-moved, copies-lost}
+use proofs.Copies.CopyRules.{BackStep, Kept, Invalidates, InMemory, copies-exec, copies-evict, copies-grant, copies-back}
+use proofs.Copies.CopySends.{Conserves}
+use proofs.Copies.LinesKept.{Before, CopiesAt, KeptLines, moved-lines}
 use proofs.Copies.TagsKept.{inv-tag, tag-below, stored-home, stored-in, TakenCommit, taken-commit, Invalidating}
 use proofs.Copies.WroteLines.{on-its-way, wrote-listed, no-writer}
 use proofs.Counts.Links.{live-takes}
 use proofs.Counts.StepCases.{differ, pairs_dir, pairs_asks, pairs_grant, pairs_back, pairs_vendor, OfAnswer, step_cases}
-use proofs.Marks.CoreAfter.{AfterStep, Stays as AfterStays, after-exec, after-evict, after-grant, after-back}
-use proofs.Marks.DirRecords.{Stays, Records, Still, Came, Settles, Dropped, RecordsBy, dir-records}
-use proofs.Marks.OwesByCommit.{CountsMarked}
-use proofs.Serving.CommitOwners.{CommitsNoted, noted-exec, noted-evict, noted-grant, noted-back}
+use proofs.Marks.AfterKept.{AfterStep, Stays as AfterStays, after-exec, after-evict, after-grant, after-back}
+use proofs.Marks.DirRecords.{Stays, Records, Still, Came, Settles, Dropped, RecordsBy, dir-records, CountsMarked}
+use proofs.Serving.CoreCommits.{CommitsNoted, noted-exec, noted-evict, noted-grant, noted-back}
 use proofs.Serving.CommitSteps.{commits_served}
 use proofs.Serving.KeptSteps.{core_of_back}
 use proofs.Tids.Commits.{positive-committed}
@@ -46,21 +44,21 @@ kept-copies base cs c l v w e f g = similar-copies base cs c l v w (record {
 
 -- no Commit of a TID above the served one is in flight
 pub none-later : (sh : Shape) (gs : List Grant) (ys : Ways) (h : History) (c d t : ℕ) → Before sh gs ys h → c < sh.cores → d < sh.dirs
-    → (h.world.dirs d).serving.serving < t → live (Commits t) (h.world.net (Core c) (Dir d)) ≡ 0
-none-later sh gs ys h c d t b cl dl l = go (cases_lt 0 (live (Commits t) (h.world.net (Core c) (Dir d))))
+    → tid_at h.world d < t → live (Commits t) (to_dir h.world c d) ≡ 0
+none-later sh gs ys h c d t b cl dl l = go (cases_lt 0 (live (Commits t) (to_dir h.world c d)))
   where
-    go : (0 < live (Commits t) (h.world.net (Core c) (Dir d))) ⊎ (live (Commits t) (h.world.net (Core c) (Dir d)) ≤ 0)
-        → live (Commits t) (h.world.net (Core c) (Dir d)) ≡ 0
+    go : (0 < live (Commits t) (to_dir h.world c d)) ⊎ (live (Commits t) (to_dir h.world c d) ≤ 0)
+        → live (Commits t) (to_dir h.world c d) ≡ 0
     go (inl x) = absurd (let y = commits_served sh h.world b.told.all.kept b.told.all.committing c d t cl dl (omega (arith, x)) in
         omega (arith, y, l))
     go (inr x) = omega (arith, x)
 
 pub cond-none : (b : Bool) (x : ℕ) → x ≡ 0 → cond b x 0 ≡ 0
-cond-none a x e = grind (arith, nat_tests)
+cond-none a x e = grind nats
 
 -- a core to which an invalidation of the line is in flight has no copy that counts
 none-counted : (sh : Shape) (gs : List Grant) (ys : Ways) (h : History) (c d k l m u t : ℕ) → Before sh gs ys h → c < sh.cores → d < sh.dirs
-    → l < lines sh → home sh l ≡ d → in_flight h.world.net (Dir d) (Core c) k ≡ Some (Inv l m u) → (h.world.dirs d).lines.tag l ≤ t
+    → l < lines sh → home sh l ≡ d → FromDir h.world d c k (Inv l m u) → (h.world.dirs d).lines.tag l ≤ t
     → line_copies l t (pair h.world c d) ≡ 0
 unfolding pair
 none-counted sh gs ys h c d k l m u t b cl dl ll e i le = go (cases_lt ((h.world.dirs d).lines.tag l) t)
@@ -74,35 +72,35 @@ none-counted sh gs ys h c d k l m u t b cl dl ll e i le = go (cases_lt ((h.world
       where
         which : (y : Bool) → (o == c) ≡ y → num y ≡ 0
         which false r = refl
-        which true r = absurd (let z : o ≡ c = grind (arith, nat_tests) in let w = b.owners d l c (q ∙ ap (λ n. Some n) z) in
+        which true r = absurd (let z : o ≡ c = grind nats in let w = b.owners d l c (q ∙ ap (λ n. Some n) z) in
             omega (arith, x.sent, (b.told.all.spared c d).own dl (rw x.tag at w)))
 
     go : ((h.world.dirs d).lines.tag l < t) ⊎ (t ≤ (h.world.dirs d).lines.tag l) → line_copies l t (pair h.world c d) ≡ 0
     go (inl y) = (b.lines c d l cl dl ll e).above t y ∙ cond-none (wrote_line sh.base h.commits c t l)
-        (live (Commits t) (h.world.net (Core c) (Dir d))) (none-later sh gs ys h c d t b cl dl (omega (arith, y, x.tag)))
+        (live (Commits t) (to_dir h.world c d)) (none-later sh gs ys h c d t b cl dl (omega (arith, y, x.tag)))
     go (inr y) = let z : t ≡ (h.world.dirs d).lines.tag l = omega (arith, le, y) in
         rw z ((b.lines c d l cl dl ll e).owned ∙ mine ((h.world.dirs d).lines.owner l) refl)
 
 -- an invalidation comes from the line's home
 inv-home : (sh : Shape) (gs : List Grant) (ys : Ways) (h : History) (c e k l m u : ℕ) → Before sh gs ys h
-    → in_flight h.world.net (Dir e) (Core c) k ≡ Some (Inv l m u) → home sh l ≡ e
+    → FromDir h.world e c k (Inv l m u) → home sh l ≡ e
 unfolding pair passes
 inv-home sh gs ys h c e k l m u b i = go (home sh l == e) refl
   where
     go : (y : Bool) → (home sh l == e) ≡ y → home sh l ≡ e
-    go true q = grind (arith, nat_tests)
+    go true q = grind nats
     go false q =
         absurd (let n : num (not ((l % sh.dirs) == e)) ≡ 1 = rw q refl in
         omega (
           arith,
           n,
-          live-some (InvsAway sh.dirs e) (h.world.net (Dir e) (Core c)) k (Inv l m u) i,
+          live-some (InvsAway sh.dirs e) (to_core h.world e c) k (Inv l m u) i,
           (b.told.all.kept.told.owed.at_home c e).invs,
         ))
 
 -- a core takes a message of directory e; v is the pair, with the message or without
 pub back-copies : (sh : Shape) (gs : List Grant) (ys : Ways) (h : History) (c e d k l : ℕ) (m : Msg) (v : Pair) (o : Out)
-    → Before sh gs ys h → c < sh.cores → d < sh.dirs → l < lines sh → home sh l ≡ d → in_flight h.world.net (Dir e) (Core c) k ≡ Some m
+    → Before sh gs ys h → c < sh.cores → d < sh.dirs → l < lines sh → home sh l ≡ d → FromDir h.world e c k m
     → v.core ≡ (pair h.world c d).core → v.dir ≡ (pair h.world c d).dir → v.out ≡ (pair h.world c d).out → o.commit ≡ None
     → ((t : ℕ) → among (Commits t) (o.sends (Dir d)) ≡ 0) → BackStep sh l (h.world.cores c) m o
     → LineCopies sh.base h.commits c l (after_move v o d)
@@ -111,9 +109,9 @@ back-copies sh gs ys h c e d k l m v o b cl dl ll q i vc vd vo n z (Kept x) =
     copies-moved sh h.commits c d l v o q n z (rw vc x)
     (kept-copies sh.base h.commits c l (pair h.world c d) v vc vd vo (b.lines c d l cl dl ll q))
 back-copies sh gs ys h c e d k l m v o b cl dl ll q i vc vd vo n z (Invalidates x u r a f) =
-    let j : in_flight h.world.net (Dir e) (Core c) k ≡ Some (Inv l x u) = i ∙ ap (λ y. Some y) r in
+    let j : FromDir h.world e c k (Inv l x u) = i ∙ ap (λ y. Some y) r in
     let w : d ≡ e = sym q ∙ inv-home sh gs ys h c e k l x u b j in
-    let p : in_flight h.world.net (Dir d) (Core c) k ≡ Some (Inv l x u) = rw w j in
+    let p : FromDir h.world d c k (Inv l x u) = rw w j in
     copies-lost sh h.commits c d l v o q z (λ t. rw vc (f t))
     (λ t g. rw (vc, vo) (none-counted sh gs ys h c d k l x u t b cl dl ll q p (rw vd at g)))
     (kept-copies sh.base h.commits c l (pair h.world c d) v vc vd vo (b.lines c d l cl dl ll q))
@@ -129,7 +127,7 @@ marked-line sh h c d l ll e t = stored-in sh d l t.settled.commit ll e ∙ ap (n
 
 -- of the core that committed; no other core has a commit with this TID
 pub writer-line : (sh : Shape) (h : History) (c d l : ℕ) → l < lines sh → home sh l ≡ d → TakenCommit sh h.commits h.world c d
-    → wrote_line sh.base h.commits c (h.world.dirs d).serving.serving l ≡ has_mark (h.world.dirs d).lines l
+    → wrote_line sh.base h.commits c (tid_at h.world d) l ≡ has_mark (h.world.dirs d).lines l
 writer-line sh h c d l ll e t =
     let n = t.settled.commit in
     let x = wrote-listed sh.base h.commits n l (t.settled.noted)
@@ -139,34 +137,34 @@ writer-line sh h c d l ll e t =
     (x.line ∙ marked-line sh h c d l ll e t))
   where
     tids : (y : Noted) (a b : Bool) → (y.tid.0 == t.settled.commit.tid.0) ≡ b → (a && b) ≡ true → t.settled.commit.tid.0 ≡ y.tid.0
-    tids y true true q o = grind (arith, nat_tests)
+    tids y true true q o = grind nats
     tids y true false q o = absurd (cc)
     tids y false b q o = absurd (cc)
 
 pub other-writer : (sh : Shape) (h : History) (c j d l : ℕ) → (j ≡ c → ⊥) → TakenCommit sh h.commits h.world c d
-    → wrote_line sh.base h.commits j (h.world.dirs d).serving.serving l ≡ false
-other-writer sh h c j d l n t = no-writer sh.base h.commits j (h.world.dirs d).serving.serving l
-    (λ x k. go x k (x.core.0 == j) (x.tid.0 == (h.world.dirs d).serving.serving) refl refl)
+    → wrote_line sh.base h.commits j (tid_at h.world d) l ≡ false
+other-writer sh h c j d l n t = no-writer sh.base h.commits j (tid_at h.world d) l
+    (λ x k. go x k (x.core.0 == j) (x.tid.0 == tid_at h.world d) refl refl)
   where
-    go : (x : Noted) → Contains h.commits x → (a b : Bool) → (x.core.0 == j) ≡ a → (x.tid.0 == (h.world.dirs d).serving.serving) ≡ b
+    go : (x : Noted) → Contains h.commits x → (a b : Bool) → (x.core.0 == j) ≡ a → (x.tid.0 == tid_at h.world d) ≡ b
         → (a && b) ≡ false
     go x k true true q r =
-        absurd (let y : (h.world.dirs d).serving.serving ≡ x.tid.0 = grind (arith, nat_tests) in
+        absurd (let y : tid_at h.world d ≡ x.tid.0 = grind nats in
         let z : x.core.0 ≡ t.settled.commit.core.0 = ap (λ u. u.core.0) (t.only x k y) in
-        let w : x.core.0 ≡ j = grind (arith, nat_tests) in n (sym w ∙ z ∙ t.core))
+        let w : x.core.0 ≡ j = grind nats in n (sym w ∙ z ∙ t.core))
     go x k true false q r = refl
     go x k false b q r = refl
 
 -- just one Commit of it is in flight
 one-commit : (sh : Shape) (gs : List Grant) (ys : Ways) (h : History) (c d l : ℕ) → Before sh gs ys h → d < sh.dirs → l < lines sh
     → home sh l ≡ d → (t : TakenCommit sh h.commits h.world c d) → names_line sh.base t.settled.commit.stores l ≡ true
-    → live (Commits (h.world.dirs d).serving.serving) (h.world.net (Core c) (Dir d)) ≡ 1
+    → live (Commits (tid_at h.world d)) (to_dir h.world c d) ≡ 1
 one-commit sh gs ys h c d l b dl ll e t s =
     let n = t.settled.commit in
-    let x : live (Commits n.tid.0) (h.world.net (Core n.core.0) (Dir d)) + num (is_applied (h.world.dirs d) n.tid.0) ≡ 1 =
+    let x : live (Commits n.tid.0) (to_dir h.world n.core.0 d) + num (is_applied (h.world.dirs d) n.tid.0) ≡ 1 =
     on-its-way sh gs ys h b.told n d (t.settled.noted) dl (stored-home sh d l n ll e s) in
-    let y : live (Commits (h.world.dirs d).serving.serving) (h.world.net (Core c) (Dir d)) + num
-    (is_applied (h.world.dirs d) (h.world.dirs d).serving.serving) ≡ 1 = rw (t.settled.tid, t.core) at x in
+    let y : live (Commits (tid_at h.world d)) (to_dir h.world c d) + num
+    (is_applied (h.world.dirs d) (tid_at h.world d)) ≡ 1 = rw (t.settled.tid, t.core) at x in
     omega (arith, y, t.sent)
 
 pub commit-passes : (sh : Shape) (s : DirState) (m : Msg) (x : ℕ) → CountsMarked sh s m → passes (Commits x) m ≡ (s.serving.serving == x)
@@ -175,7 +173,7 @@ commit-passes sh s m x q = rw q refl
 
 -- the directory's answer as core j sees it; mine: the message was j's
 answer-lines : (sh : Shape) (gs : List Grant) (ys : Ways) (h : History) (c d k j l : ℕ) (mine : Bool) (m : Msg) (s : DirState) (w : Pair)
-    → Before sh gs ys h → in_flight h.world.net (Core c) (Dir d) k ≡ Some m → (j == c) ≡ mine → j < sh.cores → d < sh.dirs → l < lines sh
+    → Before sh gs ys h → FromCore h.world c d k m → (j == c) ≡ mine → j < sh.cores → d < sh.dirs → l < lines sh
     → home sh l ≡ d → Answered mine m s (pair h.world j d) w → Records sh (h.world.dirs d) c m s → LineCopies sh.base h.commits j l w
 unfolding pair
 answer-lines sh gs ys h c d k j l mine m s w b i z jl dl ll e a (Still y n q) =
@@ -188,7 +186,7 @@ answer-lines sh gs ys h c d k j l mine m s w b i z jl dl ll e a (Came x p o g f 
 answer-lines sh gs ys h c d k j l mine m s w b i z jl dl ll e a (Settles q g f n) = go (has_mark (h.world.dirs d).lines l) refl
   where
     u : ℕ
-    u = (h.world.dirs d).serving.serving
+    u = (tid_at h.world d)
 
     t : TakenCommit sh h.commits h.world c d
     t = taken-commit sh gs h c d k m b.told.all dl i q
@@ -201,18 +199,18 @@ answer-lines sh gs ys h c d k j l mine m s w b i z jl dl ll e a (Settles q g f n
         which : (p v : Bool) → (j == c) ≡ p → (u == x) ≡ v → p ≡ mine → num (mine && passes (Commits x) m) ≡ 0
         which false v e0 e1 e2 = rw (sym e2) refl
         which true false e0 e1 e2 = none-passes mine (Commits x) m (commit-passes sh (h.world.dirs d) m x q ∙ e1)
-        which true true e0 e1 e2 = absurd (let v : j ≡ c = grind (arith, nat_tests) in let y' : u ≡ x = grind (arith, nat_tests) in
+        which true true e0 e1 e2 = absurd (let v : j ≡ c = grind nats in let y' : u ≡ x = grind nats in
             let o : wrote_line sh.base h.commits c u l ≡ true = rw (v, sym y') at y in let p = writer-line sh h c d l ll e t in cc)
 
     writer : has_mark (h.world.dirs d).lines l ≡ true → (j ≡ c) ⊎ (j ≡ c → ⊥)
-        → cond (wrote_line sh.base h.commits j u l) (live (Commits u) (h.world.net (Core j) (Dir d))) 0 ≡ num (c == j)
+        → cond (wrote_line sh.base h.commits j u l) (live (Commits u) (to_dir h.world j d)) 0 ≡ num (c == j)
     writer r (inl x) =
         let y : wrote_line sh.base h.commits j u l ≡ true = rw x (writer-line sh h c d l ll e t ∙ r) in
-        let n : live (Commits u) (h.world.net (Core j) (Dir d)) ≡ 1 =
+        let n : live (Commits u) (to_dir h.world j d) ≡ 1 =
         rw x (one-commit sh gs ys h c d l b dl ll e t (marked-line sh h c d l ll e t ∙ r)) in
-        let p : (c == j) ≡ true = grind (arith, nat_tests) in
+        let p : (c == j) ≡ true = grind nats in
         rw (y, p) n
-    writer r (inr x) = let y : (c == j) ≡ false = grind (arith, nat_tests) in rw (other-writer sh h c j d l x t, y) refl
+    writer r (inr x) = let y : (c == j) ≡ false = grind nats in rw (other-writer sh h c j d l x t, y) refl
 
     go : (r : Bool) → has_mark (h.world.dirs d).lines l ≡ r → LineCopies sh.base h.commits j l w
     go false r =
@@ -234,18 +232,18 @@ answer-lines sh gs ys h c d k j l mine m s w b i z jl dl ll e a (Settles q g f n
 
 -- with the world's frames
 pub dir-lines : (sh : Shape) (gs : List Grant) (ys : Ways) (h : History) (c d k : ℕ) (m : Msg) (s : DirState) (sends : Sends)
-    → Before sh gs ys h → in_flight h.world.net (Core c) (Dir d) k ≡ Some m → Records sh (h.world.dirs d) c m s
+    → Before sh gs ys h → FromCore h.world c d k m → Records sh (h.world.dirs d) c m s
     → KeptLines sh h.commits (dir_takes h.world c d k s sends)
 unfolding pair
 dir-lines sh gs ys h c d k m s sends b i r = pairs_dir (CopiesAt sh h.commits) h.world c d k s sends
     (λ l cl dl ll e. answer-lines sh gs ys h c d k c l true m s (after_answer (out_taken (pair h.world c d) k) s (sends (Core c))) b i
-    (eq-self c) cl dl ll e (record { cache = refl; dir = refl; lives = λ q. live-takes q (h.world.net (Core c) (Dir d)) k m i }) r)
+    (eq-self c) cl dl ll e (record { cache = refl; dir = refl; lives = λ q. live-takes q (to_dir h.world c d) k m i }) r)
     (λ j n l jl dl ll e. answer-lines sh gs ys h c d k j l false m s (after_answer (pair h.world j d) s (sends (Core j))) b i
     (differ j c n) jl dl ll e (record { cache = refl; dir = refl; lives = λ q. omega arith }) r)
     b.lines
 
 pub drop-lines : (sh : Shape) (gs : List Grant) (ys : Ways) (h : History) (c d k : ℕ) (m : Msg) → Before sh gs ys h
-    → in_flight h.world.net (Core c) (Dir d) k ≡ Some m → Dropped (h.world.dirs d) c m
+    → FromCore h.world c d k m → Dropped (h.world.dirs d) c m
     → KeptLines sh h.commits (dir_takes h.world c d k (h.world.dirs d) (λ dst. []))
 unfolding pair
 drop-lines sh gs ys h c d k m b i u = pairs_dir (CopiesAt sh h.commits) h.world c d k (h.world.dirs d) (λ dst. [])
@@ -253,7 +251,7 @@ drop-lines sh gs ys h c d k m b i u = pairs_dir (CopiesAt sh h.commits) h.world 
     (after_answer (out_taken (pair h.world c d) k) (h.world.dirs d) [])
     (dropped-similar sh.base h.commits c l true m (pair h.world c d)
     (after_answer (out_taken (pair h.world c d) k) (h.world.dirs d) [])
-    (record { cache = refl; dir = refl; lives = λ q. live-takes q (h.world.net (Core c) (Dir d)) k m i }) (u.commit)
+    (record { cache = refl; dir = refl; lives = λ q. live-takes q (to_dir h.world c d) k m i }) (u.commit)
     (λ t x y. u.late l t y) (λ x y. u.other l y) (b.lines c d l cl dl ll e)) (b.lines c d l cl dl ll e))
     (λ j n l jl dl ll e. similar-copies sh.base h.commits j l (pair h.world j d) (after_answer (pair h.world j d) (h.world.dirs d) [])
     (dropped-similar sh.base h.commits j l false m (pair h.world j d) (after_answer (pair h.world j d) (h.world.dirs d) [])
@@ -321,7 +319,7 @@ step-lines sh p gs ys h e b = step_cases sh p h.world e (λ g o. KeptLines sh (a
         (kept-copies sh.base h.commits c l (pair h.world c d) (grant_taken (pair h.world c d) k) refl refl refl
         (b.lines c d l cl dl ll q))) b.lines)
 
-    taken : (c d k : ℕ) (m : Msg) → c < sh.cores → in_flight h.world.net (Dir d) (Core c) k ≡ Some m → (x : Option Out)
+    taken : (c d k : ℕ) (m : Msg) → c < sh.cores → FromDir h.world d c k m → (x : Option Out)
         → ((l : ℕ) → IfSome x (BackStep sh l (h.world.cores c) m)) → IfSome x (λ o. CommitsNoted o)
         → IfSome x (λ o. AfterStays (h.world.cores c) o)
         → IfSome x (λ o. KeptLines sh (and_noted o.commit h.commits) (core_takes h.world (Dir d) c k o))
@@ -334,7 +332,7 @@ step-lines sh p gs ys h e b = step_cases sh p h.world e (λ g o. KeptLines sh (a
         (none-sent o n (a.commit) x) (f l))
         b.lines)
 
-    answered : (c d k : ℕ) (m : Msg) → in_flight h.world.net (Core c) (Dir d) k ≡ Some m → (a : Answer)
+    answered : (c d k : ℕ) (m : Msg) → FromCore h.world c d k m → (a : Answer)
         → RecordsBy sh (h.world.dirs d) c m a → OfAnswer h.world c d k (λ v. KeptLines sh h.commits v) a
     answered c d k m i Waits u = tt
     answered c d k m i Drops u = drop-lines sh gs ys h c d k m b i u

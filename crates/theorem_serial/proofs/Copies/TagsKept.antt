@@ -3,20 +3,20 @@ use Rattle.base_lemmas.proofs.Lemmas.{and-false}
 use Rattle.theorem_serial.proofs
 use proofs.Names
 use Names.{ℕ, ◌+◌, ◌≡◌, ◌<◌, ◌≤◌, ◌⊎◌, ◌==◌, ◌&&◌, Bool, true, false, nat_lt, List, [], Contains, Option, Some, None, IfSome, max, cond}
-use Names.{set, if◌then◌else◌, arith, refl, ap, sym, ◌∙◌, cases_eq, nat_tests, Noted, Program, Local, num, any_word, has_mark, no_lines}
-use Names.{Core, Dir, Msg, Event, Shape, home, lines, any_below-at, DirState, World, start, dir_start, in_flight, Sends, Out, core_exec}
-use Names.{core_evict, from_dir, Answer, Waits, Drops, Asks, Takes, dir_deliver, core_moves, core_takes, dir_takes, dir_asks, vendor_gives}
-use Names.{History, Stepped, and_noted, step, settled_in_line, KeptTags, Kind, Commits, live, passes, KeptAll, KeptRun, pair, Grant}
-use Names.{is_settled, is_applied, CommitsStand, stored_mask, stores_at, SettledCommit, stores_word, Ways, names_line, last_of, ◌∷◌}
-use Names.{cases_lt, Inv, Invs, InvOf, KeptNamed, due, OwedAt, times, share, KeptStored, inl, inr, ◌-◌, subst, insert_commit}
+use Names.{set, if◌then◌else◌, arith, refl, ap, sym, ◌∙◌, cases_eq, Noted, Program, Local, num, any_word, has_mark, no_lines, Core, Dir}
+use Names.{Msg, Event, Shape, home, lines, any_below-at, DirState, World, start, dir_start, Sends, Out, core_exec, core_evict, from_dir}
+use Names.{Answer, Waits, Drops, Asks, Takes, dir_deliver, core_moves, core_takes, dir_takes, dir_asks, vendor_gives, History, Stepped}
+use Names.{and_noted, step, settled_in_line, KeptTags, Kind, Commits, live, passes, KeptAll, KeptRun, pair, Grant, is_settled, is_applied}
+use Names.{CommitsStand, stored_mask, stores_at, SettledCommit, stores_word, Ways, names_line, last_of, ◌∷◌, cases_lt, Inv, Invs, InvOf}
+use Names.{KeptNamed, due, OwedAt, times, share, KeptStored, inl, inr, ◌-◌, subst, insert_commit, nats, tid_at, to_dir, to_core, FromCore}
+use Names.{FromDir}
 use proofs.Copies.WroteLines.{on-its-way, applied-or}
 use proofs.Counts.Links.{num-same, live-takes, total-le}
 use proofs.Counts.StepCases.{OfAnswer, step_cases}
-use proofs.Marks.DirRecords.{NoCommit, Records, Still, Came, Settles, RecordsBy, dir-records}
+use proofs.Marks.DirRecords.{NoCommit, Records, Still, Came, Settles, RecordsBy, dir-records, CountsMarked}
 use proofs.Marks.MaskLaws.{same-commit}
-use proofs.Marks.OwesByCommit.{CountsMarked}
 use proofs.Marks.StoredKept.{noted-keeps, taken-stored, noted-has}
-use proofs.Marks.StoredMasks.{stored-line}
+use proofs.Marks.CoreMarks.{stored-line}
 use proofs.Serving.KeptSteps.{core_of_out}
 use proofs.Tids.Commits.{granted-once, last-same, last-most, last-least, granted-at}
 use proofs.Tids.TidSteps.{live-some}
@@ -26,28 +26,28 @@ use proofs.Marks.AfterKept.{last-insert}
 
 -- a message of core c to directory d is consumed, and the messages to directories are the others still
 abbrev pub Consumes : World → (core dir : ℕ) → Msg → World → Type 0
-Consumes w c d m v = (k : Kind) (j e : ℕ) → live k (v.net (Core j) (Dir e)) + num ((j == c && e == d) && passes k m) ≡ live k
-    (w.net (Core j) (Dir e))
+Consumes w c d m v = (k : Kind) (j e : ℕ) → live k (to_dir v j e) + num ((j == c && e == d) && passes k m) ≡ live k
+    (to_dir w j e)
 
 -- the tags stay, and no Commit is consumed; or a Commit is, and the marked lines have its TID
 pub data TagStep (sh : Shape) (w : World) (o : Stepped) : Type 0 where
   Unheard : o.world.dirs ≡ w.dirs → TagStep sh w o
   Heard : o.noted ≡ None → ((e l : ℕ) → (o.world.dirs e).lines.tag l ≡ (w.dirs e).lines.tag l)
-      → ((t j e : ℕ) → live (Commits t) (o.world.net (Core j) (Dir e)) ≡ live (Commits t) (w.net (Core j) (Dir e))) → TagStep sh w o
-  Taken : (c d k : ℕ) (m : Msg) → o.noted ≡ None → in_flight w.net (Core c) (Dir d) k ≡ Some m → CountsMarked sh (w.dirs d) m
+      → ((t j e : ℕ) → live (Commits t) (to_dir o.world j e) ≡ live (Commits t) (to_dir w j e)) → TagStep sh w o
+  Taken : (c d k : ℕ) (m : Msg) → o.noted ≡ None → FromCore w c d k m → CountsMarked sh (w.dirs d) m
       → ((e l : ℕ)
-      → (o.world.dirs e).lines.tag l ≡ (if e == d && has_mark (w.dirs d).lines l then (w.dirs d).serving.serving
+      → (o.world.dirs e).lines.tag l ≡ (if e == d && has_mark (w.dirs d).lines l then tid_at w d
       else (w.dirs e).lines.tag l)) → Consumes w c d m o.world → TagStep sh w o
 
-pub takes-consumes : (w : World) (c d k : ℕ) (m : Msg) (s : DirState) (sends : Sends) → in_flight w.net (Core c) (Dir d) k ≡ Some m
+pub takes-consumes : (w : World) (c d k : ℕ) (m : Msg) (s : DirState) (sends : Sends) → FromCore w c d k m
     → Consumes w c d m (dir_takes w c d k s sends)
 unfolding dir_takes
 takes-consumes w c d k m s sends i q j e = go (j == c) (e == d) refl refl
   where
     go : (a b : Bool) → (j == c) ≡ a → (e == d) ≡ b
-        → live q (if a && b then set (w.net (Core j) (Dir e)) k None else w.net (Core j) (Dir e)) + num ((a && b) && passes q m) ≡ live q
-        (w.net (Core j) (Dir e))
-    go a b x y = grind (arith, nat_tests, live-takes)
+        → live q (if a && b then set (to_dir w j e) k None else to_dir w j e) + num ((a && b) && passes q m) ≡ live q
+        (to_dir w j e)
+    go a b x y = grind (nats, live-takes)
 
 pub tag-step : (sh : Shape) (p : Program) (w : World) (e : Event) → IfSome (step sh p w e) (TagStep sh w)
 unfolding core_moves core_takes vendor_gives dir_asks dir_takes
@@ -69,29 +69,29 @@ tag-step sh p w e = step_cases sh p w e (λ g o. TagStep sh w o)
 
     same-tags : (d e l : ℕ) (s : DirState) → ((l : ℕ) → s.lines.tag l ≡ (w.dirs d).lines.tag l)
         → (if e == d then s else w.dirs e).lines.tag l ≡ (w.dirs e).lines.tag l
-    same-tags d e l s h = grind (arith, nat_tests)
+    same-tags d e l s h = grind nats
 
-    same-commits : (c d k : ℕ) (m : Msg) (s : DirState) (sends : Sends) → in_flight w.net (Core c) (Dir d) k ≡ Some m → NoCommit m
-        → (t j e : ℕ) → live (Commits t) ((dir_takes w c d k s sends).net (Core j) (Dir e)) ≡ live (Commits t) (w.net (Core j) (Dir e))
+    same-commits : (c d k : ℕ) (m : Msg) (s : DirState) (sends : Sends) → FromCore w c d k m → NoCommit m
+        → (t j e : ℕ) → live (Commits t) ((dir_takes w c d k s sends).net (Core j) (Dir e)) ≡ live (Commits t) (to_dir w j e)
     same-commits c d k m s sends i n t j e =
         omega (arith, takes-consumes w c d k m s sends i (Commits t) j e, none (j == c && e == d) (n t))
       where
         none : (b : Bool) → passes (Commits t) m ≡ false → num (b && passes (Commits t) m) ≡ 0
-        none a h = grind (arith, nat_tests)
+        none a h = grind nats
 
     new-tags : (d e l : ℕ) (s : DirState)
-        → ((l : ℕ) → s.lines.tag l ≡ (if has_mark (w.dirs d).lines l then (w.dirs d).serving.serving else (w.dirs d).lines.tag l))
-        → (if e == d then s else w.dirs e).lines.tag l ≡ (if e == d && has_mark (w.dirs d).lines l then (w.dirs d).serving.serving
+        → ((l : ℕ) → s.lines.tag l ≡ (if has_mark (w.dirs d).lines l then tid_at w d else (w.dirs d).lines.tag l))
+        → (if e == d then s else w.dirs e).lines.tag l ≡ (if e == d && has_mark (w.dirs d).lines l then tid_at w d
         else (w.dirs e).lines.tag l)
-    new-tags d e l s h = grind (arith, nat_tests)
+    new-tags d e l s h = grind nats
 
-    takes : (c d k : ℕ) (m : Msg) (s : DirState) (sends : Sends) → in_flight w.net (Core c) (Dir d) k ≡ Some m → Records sh (w.dirs d) c m s
+    takes : (c d k : ℕ) (m : Msg) (s : DirState) (sends : Sends) → FromCore w c d k m → Records sh (w.dirs d) c m s
         → TagStep sh w (record { world = dir_takes w c d k s sends; noted = None })
     takes c d k m s sends i (Still y n q) = Heard refl (λ e l. same-tags d e l s (y.tags)) (same-commits c d k m s sends i n)
     takes c d k m s sends i (Came x q o g a n) = Heard refl (λ e l. same-tags d e l s g) (same-commits c d k m s sends i n)
     takes c d k m s sends i (Settles q g a n) = Taken c d k m refl i q (λ e l. new-tags d e l s g) (takes-consumes w c d k m s sends i)
 
-    answered : (c d k : ℕ) (m : Msg) → in_flight w.net (Core c) (Dir d) k ≡ Some m → (a : Answer) → RecordsBy sh (w.dirs d) c m a
+    answered : (c d k : ℕ) (m : Msg) → FromCore w c d k m → (a : Answer) → RecordsBy sh (w.dirs d) c m a
         → OfAnswer w c d k (λ v. TagStep sh w (record { world = v; noted = None })) a
     answered c d k m i Waits u = tt
     answered c d k m i Drops u = Heard refl (λ e l. same-tags d e l (w.dirs d) (λ x. refl))
@@ -104,8 +104,8 @@ pub stored-in : (sh : Shape) (d l : ℕ) (n : Noted) → l < lines sh → home s
     → names_line sh.base n.stores l ≡ nat_lt 0 (stored_mask sh d n.stores l)
 unfolding names_line
 stored-in sh d l n i e =
-    let a : nat_lt l (lines sh) ≡ true = grind (arith, nat_tests) in
-    let b : (d == home sh l) ≡ true = rw e (grind (arith, nat_tests)) in
+    let a : nat_lt l (lines sh) ≡ true = grind nats in
+    let b : (d == home sh l) ≡ true = rw e (grind nats) in
     num-same (any_word (stores_word sh.base n.stores) l) (nat_lt 0 (stored_mask sh d n.stores l))
     (rw (a, b) at (stored-line sh d n.stores l))
 
@@ -117,7 +117,7 @@ stored-home sh d l n i e s = any_below-at (λ k. nat_lt 0 (stored_mask sh d n.st
 
 -- tests of a commit that stored in a line or not
 same-test : (a b s : Bool) → (s ≡ true → a ≡ b) → (a && s) ≡ (b && s)
-same-test a b d h = grind (arith, nat_tests)
+same-test a b d h = grind nats
 
 -- where no directory changes, a commit is settled as before, and a new one isn't
 unheard-tags : (sh : Shape) (w v : World) (cs : List Noted) (a : Option Noted) → CommitsStand sh w cs → CommitsStand sh v (and_noted a cs)
@@ -132,9 +132,9 @@ unheard-tags sh w v cs a b z e f h d l dl i q = rw e (h d l dl i q ∙ go a refl
 
     one : (x : Noted) → Contains cs x → settled_in_line sh v d l x ≡ settled_in_line sh w d l x
     one x k = same-test (is_settled v d x) (is_settled w d x) (names_line sh.base x.stores l) (λ s.
-        let n : live (Commits x.tid.0) (v.net (Core x.core.0) (Dir d)) + num (is_applied (w.dirs d) x.tid.0) ≡ 1 =
+        let n : live (Commits x.tid.0) (to_dir v x.core.0 d) + num (is_applied (w.dirs d) x.tid.0) ≡ 1 =
         rw e at (z x d (noted-keeps a cs x k) dl (here x s)) in
-        let y : live (Commits x.tid.0) (v.net (Core x.core.0) (Dir d)) ≡ live (Commits x.tid.0) (w.net (Core x.core.0) (Dir d)) =
+        let y : live (Commits x.tid.0) (to_dir v x.core.0 d) ≡ live (Commits x.tid.0) (to_dir w x.core.0 d) =
         omega (arith, n, b x d k dl (here x s)) in
         rw y refl)
 
@@ -144,10 +144,10 @@ unheard-tags sh w v cs a b z e f h d l dl i q = rw e (h d l dl i q ∙ go a refl
         go : (s : Bool) → names_line sh.base n.stores l ≡ s → settled_in_line sh v d l n ≡ false
         go false s = rw s (grind arith)
         go true s =
-            let y : live (Commits n.tid.0) (v.net (Core n.core.0) (Dir d)) + num (is_applied (w.dirs d) n.tid.0) ≡ 1 =
+            let y : live (Commits n.tid.0) (to_dir v n.core.0 d) + num (is_applied (w.dirs d) n.tid.0) ≡ 1 =
             rw e at (z n d k dl (here n s)) in
             let u : num (is_applied (w.dirs d) n.tid.0) ≡ 0 = ap num (f n d r dl (here n s)) in
-            let x : live (Commits n.tid.0) (v.net (Core n.core.0) (Dir d)) ≡ 1 = omega (arith, y, u) in
+            let x : live (Commits n.tid.0) (to_dir v n.core.0 d) ≡ 1 = omega (arith, y, u) in
             rw x refl
 
     go : (b : Option Noted) → a ≡ b → last_of (settled_in_line sh w d l) cs ≡ last_of (settled_in_line sh v d l) (and_noted b cs)
@@ -164,24 +164,24 @@ unheard-tags sh w v cs a b z e f h d l dl i q = rw e (h d l dl i q ∙ go a refl
 
 -- where the tags stay, and no Commit is consumed
 heard-tags : (sh : Shape) (w v : World) (cs : List Noted) → ((e l : ℕ) → (v.dirs e).lines.tag l ≡ (w.dirs e).lines.tag l)
-    → ((t j e : ℕ) → live (Commits t) (v.net (Core j) (Dir e)) ≡ live (Commits t) (w.net (Core j) (Dir e))) → KeptTags sh w cs
+    → ((t j e : ℕ) → live (Commits t) (to_dir v j e) ≡ live (Commits t) (to_dir w j e)) → KeptTags sh w cs
     → KeptTags sh v cs
 unfolding settled_in_line is_settled
 heard-tags sh w v cs f g h d l dl i q = f d l ∙ h d l dl i q
     ∙ sym (last-same (settled_in_line sh v d l) (settled_in_line sh w d l) cs (λ x k. rw (g x.tid.0 x.core.0 d) refl))
 
 pub applied-served : (s : DirState) (t : ℕ) → 1 ≤ num (is_applied s t) → t ≤ s.serving.serving
-applied-served s t l = grind (arith, nat_tests, applied-or)
+applied-served s t l = grind (nats, applied-or)
 
 -- a Commit that a directory takes is of a commit of the served TID, by the core that sent it
 pub record TakenCommit (sh : Shape) (cs : List Noted) (w : World) (c d : ℕ) : Type 0 where
   pub settled : SettledCommit sh cs d (w.dirs d)
   pub core : settled.commit.core.0 ≡ c
-  pub only : (x : Noted) → Contains cs x → (w.dirs d).serving.serving ≡ x.tid.0 → x ≡ settled.commit
-  pub sent : 1 ≤ live (Commits (w.dirs d).serving.serving) (w.net (Core c) (Dir d))
+  pub only : (x : Noted) → Contains cs x → tid_at w d ≡ x.tid.0 → x ≡ settled.commit
+  pub sent : 1 ≤ live (Commits (tid_at w d)) (to_dir w c d)
 
 pub taken-commit : (sh : Shape) (gs : List Grant) (h : History) (c d k : ℕ) (m : Msg) → KeptAll sh gs h → d < sh.dirs
-    → in_flight h.world.net (Core c) (Dir d) k ≡ Some m → CountsMarked sh (h.world.dirs d) m → TakenCommit sh h.commits h.world c d
+    → FromCore h.world c d k m → CountsMarked sh (h.world.dirs d) m → TakenCommit sh h.commits h.world c d
 unfolding pair passes
 taken-commit sh gs h c d k m r dl i q =
     record {
@@ -192,7 +192,7 @@ taken-commit sh gs h c d k m r dl i q =
     }
   where
     u : ℕ
-    u = (h.world.dirs d).serving.serving
+    u = (tid_at h.world d)
 
     cl : c < sh.cores
     cl = core_of_out sh h.world c d k m r.kept.told.tids i
@@ -200,9 +200,9 @@ taken-commit sh gs h c d k m r dl i q =
     n : SettledCommit sh h.commits d (h.world.dirs d)
     n = taken-stored sh h.world h.commits c d k m r.counted r.stored cl dl i q
 
-    sent : 1 ≤ live (Commits u) (h.world.net (Core c) (Dir d))
-    sent = let one : num (passes (Commits u) m) ≡ 1 = rw q (grind (arith, nat_tests)) in
-        omega (arith, one, live-some (Commits u) (h.world.net (Core c) (Dir d)) k m i)
+    sent : 1 ≤ live (Commits u) (to_dir h.world c d)
+    sent = let one : num (passes (Commits u) m) ≡ 1 = rw q (grind nats) in
+        omega (arith, one, live-some (Commits u) (to_dir h.world c d) k m i)
 
     core : n.commit.core.0 ≡ c
     core =
@@ -213,11 +213,11 @@ taken-commit sh gs h c d k m r dl i q =
 still-settled : (w v : World) (c d : ℕ) (m : Msg) (x : Noted) (e : ℕ) → Consumes w c d m v
     → ((x.core.0 == c && e == d) ≡ false) ⊎ (passes (Commits x.tid.0) m ≡ false) → is_settled v e x ≡ is_settled w e x
 unfolding is_settled
-still-settled w v c d m x e b f = grind (arith, nat_tests)
+still-settled w v c d m x e b f = grind nats
 
-pub none-sent : (w : World) (d : ℕ) (x : Noted) → is_settled w d x ≡ true → live (Commits x.tid.0) (w.net (Core x.core.0) (Dir d)) ≡ 0
+pub none-sent : (w : World) (d : ℕ) (x : Noted) → is_settled w d x ≡ true → live (Commits x.tid.0) (to_dir w x.core.0 d) ≡ 0
 unfolding is_settled
-none-sent w d x y = grind (arith, nat_tests)
+none-sent w d x y = grind nats
 
 -- the commit is settled once its Commit is taken
 settled-now : (sh : Shape) (cs : List Noted) (w v : World) (c d : ℕ) (m : Msg) → CommitsStand sh w cs → d < sh.dirs
@@ -226,23 +226,23 @@ settled-now : (sh : Shape) (cs : List Noted) (w v : World) (c d : ℕ) (m : Msg)
 unfolding is_settled passes
 settled-now sh cs w v c d m a dl q b t st =
     let x = t.settled.commit in
-    let e : x.tid.0 ≡ (w.dirs d).serving.serving = t.settled.tid in
-    let one : num ((x.core.0 == c && d == d) && passes (Commits x.tid.0) m) ≡ 1 = rw (q, t.core, e) (grind (arith, nat_tests)) in
-    let before : 1 ≤ live (Commits x.tid.0) (w.net (Core x.core.0) (Dir d)) = rw (t.core, e) (t.sent) in
-    let z : live (Commits x.tid.0) (v.net (Core x.core.0) (Dir d)) ≡ 0 =
+    let e : x.tid.0 ≡ tid_at w d = t.settled.tid in
+    let one : num ((x.core.0 == c && d == d) && passes (Commits x.tid.0) m) ≡ 1 = rw (q, t.core, e) (grind nats) in
+    let before : 1 ≤ live (Commits x.tid.0) (to_dir w x.core.0 d) = rw (t.core, e) (t.sent) in
+    let z : live (Commits x.tid.0) (to_dir v x.core.0 d) ≡ 0 =
     omega (arith, one, before, b (Commits x.tid.0) x.core.0 d, a x d (t.settled.noted) dl st) in
     rw z refl
 
 -- where a Commit is taken, each line of its commit has its TID, which is the greatest that is settled
 taken-here : (sh : Shape) (cs : List Noted) (w v : World) (c d l : ℕ) (m : Msg) → CommitsStand sh w cs → d < sh.dirs → l < lines sh
     → home sh l ≡ d → CountsMarked sh (w.dirs d) m → Consumes w c d m v → TakenCommit sh cs w c d
-    → (v.dirs d).lines.tag l ≡ (if has_mark (w.dirs d).lines l then (w.dirs d).serving.serving else (w.dirs d).lines.tag l)
+    → (v.dirs d).lines.tag l ≡ (if has_mark (w.dirs d).lines l then tid_at w d else (w.dirs d).lines.tag l)
     → (w.dirs d).lines.tag l ≡ last_of (settled_in_line sh w d l) cs → (v.dirs d).lines.tag l ≡ last_of (settled_in_line sh v d l) cs
 unfolding settled_in_line passes
 taken-here sh cs w v c d l m a dl i e q b t g h = go (has_mark (w.dirs d).lines l) refl g
   where
     u : ℕ
-    u = (w.dirs d).serving.serving
+    u = (tid_at w d)
 
     n : Noted
     n = t.settled.commit
@@ -259,7 +259,7 @@ taken-here sh cs w v c d l m a dl i e q b t g h = go (has_mark (w.dirs d).lines 
       where
         below : (y f : Bool) → (u == x.tid.0) ≡ y → is_settled w d x ≡ f → (o : Bool) → names_line sh.base x.stores l ≡ o → (p : Bool)
             → is_settled v d x ≡ p → (p && o) ≡ true → x.tid.0 ≤ u
-        below true f z k o r p r' s = grind (arith, nat_tests)
+        below true f z k o r p r' s = grind nats
         below false f z k false r true r' s = absurd (cc)
         below false f z k o r false r' s = absurd (cc)
         below false false z k true r true r' s = absurd (let y = other x z in cc)
@@ -280,22 +280,22 @@ taken-here sh cs w v c d l m a dl i e q b t g h = go (has_mark (w.dirs d).lines 
           where
             tid : (y : Bool) → (u == x.tid.0) ≡ y → names_line sh.base x.stores l ≡ true → is_settled v d x ≡ is_settled w d x
             tid false z s = other x z
-            tid true z s = absurd (let o : u ≡ x.tid.0 = grind (arith, nat_tests) in let p : x ≡ n = t.only x j o in
+            tid true z s = absurd (let o : u ≡ x.tid.0 = grind nats in let p : x ≡ n = t.only x j o in
                 let r : names_line sh.base n.stores l ≡ true = rw p at s in let k = line in cc)
 
 taken-tags : (sh : Shape) (cs : List Noted) (w v : World) (c d : ℕ) (m : Msg) → CommitsStand sh w cs
     → (d < sh.dirs → TakenCommit sh cs w c d) → CountsMarked sh (w.dirs d) m
     → ((e l : ℕ)
-    → (v.dirs e).lines.tag l ≡ (if e == d && has_mark (w.dirs d).lines l then (w.dirs d).serving.serving
+    → (v.dirs e).lines.tag l ≡ (if e == d && has_mark (w.dirs d).lines l then tid_at w d
     else (w.dirs e).lines.tag l)) → Consumes w c d m v → KeptTags sh w cs → KeptTags sh v cs
 unfolding settled_in_line
 taken-tags sh cs w v c d m a t q g b h e l el i k = go (cases_eq e d)
   where
     go : (e ≡ d) ⊎ (e ≡ d → ⊥) → (v.dirs e).lines.tag l ≡ last_of (settled_in_line sh v e l) cs
     go (inl p) = subst (λ e. (v.dirs e).lines.tag l ≡ last_of (settled_in_line sh v e l) cs) (sym p)
-        (let dl = rw p at el in let y : (d == d) ≡ true = grind (arith, nat_tests) in
+        (let dl = rw p at el in let y : (d == d) ≡ true = grind nats in
         taken-here sh cs w v c d l m a dl i (k ∙ p) q b (t dl) (rw y at (g d l)) (h d l dl i (k ∙ p)))
-    go (inr p) = let y : (e == d) ≡ false = grind (arith, nat_tests) in (rw y at (g e l)) ∙ h e l el i k
+    go (inr p) = let y : (e == d) ≡ false = grind nats in (rw y at (g e l)) ∙ h e l el i k
         ∙ sym (last-same (settled_in_line sh v e l) (settled_in_line sh w e l) cs
         (λ x j. rw (still-settled w v c d m x e b (inl (rw y (and-false (x.core.0 == c))))) refl))
 
@@ -323,7 +323,7 @@ last-listed p (x ∷ cs) t e l = go (p x) e (cases_lt (last_of p cs) t) (λ q. l
   where
     go : (b : Bool) → max (cond b x.tid.0 0) (last_of p cs) ≡ t → (last_of p cs < t) ⊎ (t ≤ last_of p cs)
         → (last_of p cs ≡ t → 1 ≤ times t cs) → 1 ≤ num (x.tid.0 == t) + times t cs
-    go a e b f = grind (arith, nat_tests)
+    go a e b f = grind nats
 
 -- a TID that no commit has is no line's tag
 pub untagged : (sh : Shape) (h : History) (d l t : ℕ) → KeptTags sh h.world h.commits → d < sh.dirs → l < lines sh → home sh l ≡ d → 1 ≤ t
@@ -333,29 +333,29 @@ untagged sh h d l t k dl ll e p z q =
 
 -- the tag isn't above the served TID
 tag-served : (sh : Shape) (w : World) (cs : List Noted) (d l : ℕ) → CommitsStand sh w cs → KeptTags sh w cs → d < sh.dirs → l < lines sh
-    → home sh l ≡ d → (w.dirs d).lines.tag l ≤ (w.dirs d).serving.serving
+    → home sh l ≡ d → (w.dirs d).lines.tag l ≤ tid_at w d
 unfolding settled_in_line
 tag-served sh w cs d l a k dl ll e =
-    rw (k d l dl ll e) (last-most (settled_in_line sh w d l) cs (w.dirs d).serving.serving
+    rw (k d l dl ll e) (last-most (settled_in_line sh w d l) cs (tid_at w d)
     (λ x j s. one x j (is_settled w d x) (names_line sh.base x.stores l) refl refl s))
   where
     one : (x : Noted) → Contains cs x → (b s : Bool) → is_settled w d x ≡ b → names_line sh.base x.stores l ≡ s → (b && s) ≡ true
-        → x.tid.0 ≤ (w.dirs d).serving.serving
+        → x.tid.0 ≤ (tid_at w d)
     one x j true true q r f = applied-served (w.dirs d) x.tid.0 (omega (arith, a x d j dl (stored-home sh d l x ll e r), none-sent w d x q))
     one x j true false q r f = absurd (cc)
     one x j false s q r f = absurd (cc)
 
 -- while a Commit of the served TID is in flight the tag is below it
 pub tag-below : (sh : Shape) (h : History) (c d l : ℕ) → CommitsStand sh h.world h.commits → KeptTags sh h.world h.commits → d < sh.dirs
-    → l < lines sh → home sh l ≡ d → 1 ≤ (h.world.dirs d).serving.serving
-    → ((x : Noted) → Contains h.commits x → x.tid.0 ≡ (h.world.dirs d).serving.serving → x.core.0 ≡ c)
-    → 1 ≤ live (Commits (h.world.dirs d).serving.serving) (h.world.net (Core c) (Dir d))
-    → (h.world.dirs d).lines.tag l < (h.world.dirs d).serving.serving
+    → l < lines sh → home sh l ≡ d → 1 ≤ tid_at h.world d
+    → ((x : Noted) → Contains h.commits x → x.tid.0 ≡ tid_at h.world d → x.core.0 ≡ c)
+    → 1 ≤ live (Commits (tid_at h.world d)) (to_dir h.world c d)
+    → (h.world.dirs d).lines.tag l < tid_at h.world d
 unfolding settled_in_line
-tag-below sh h c d l a k dl ll e p own s = go (h.world.dirs d).serving.serving refl
+tag-below sh h c d l a k dl ll e p own s = go (tid_at h.world d) refl
   where
     u : ℕ
-    u = (h.world.dirs d).serving.serving
+    u = (tid_at h.world d)
 
     one : (v : ℕ) → u ≡ v + 1 → (x : Noted) → Contains h.commits x → (b s : Bool) → is_settled h.world d x ≡ b
         → names_line sh.base x.stores l ≡ s → (b && s) ≡ true → x.tid.0 ≤ v
@@ -368,7 +368,7 @@ tag-below sh h c d l a k dl ll e p own s = go (h.world.dirs d).serving.serving r
         below (inr z) = z
         below (inl z) =
             absurd (let i : x.tid.0 ≡ u = omega (arith, z, most, y) in
-            let n : live (Commits u) (h.world.net (Core c) (Dir d)) ≡ 0 = rw (i, own x j i) at (none-sent h.world d x q) in
+            let n : live (Commits u) (to_dir h.world c d) ≡ 0 = rw (i, own x j i) at (none-sent h.world d x q) in
             omega (arith, s, n))
     one v y x j true false q r f = absurd (cc)
     one v y x j false s q r f = absurd (cc)
@@ -380,16 +380,16 @@ tag-below sh h c d l a k dl ll e p own s = go (h.world.dirs d).serving.serving r
 
 pub applied-owed : (s : DirState) (t : ℕ) → t ≡ s.serving.serving → 1 ≤ s.owed → is_applied s t ≡ true
 unfolding is_applied
-applied-owed s t e o = grind (arith, nat_tests)
+applied-owed s t e o = grind nats
 
 -- while an invalidation of the line is in flight its tag is the served TID
 pub record Invalidating (sh : Shape) (h : History) (c d l : ℕ) : Type 0 where
-  pub tag : (h.world.dirs d).lines.tag l ≡ (h.world.dirs d).serving.serving
+  pub tag : (h.world.dirs d).lines.tag l ≡ (tid_at h.world d)
   pub sent : 1 ≤ live Invs (pair h.world c d).back
 
 pub inv-tag-of : (sh : Shape) (h : History) (c d k l m u : ℕ) → ((d : ℕ) → OwedAt sh h.world d) → KeptNamed sh h.world
     → KeptStored sh h.commits h.world → CommitsStand sh h.world h.commits → KeptTags sh h.world h.commits → c < sh.cores → d < sh.dirs
-    → l < lines sh → home sh l ≡ d → in_flight h.world.net (Dir d) (Core c) k ≡ Some (Inv l m u) → Invalidating sh h c d l
+    → l < lines sh → home sh l ≡ d → FromDir h.world d c k (Inv l m u) → Invalidating sh h c d l
 unfolding pair passes due share settled_in_line is_settled
 inv-tag-of sh h c d k l m u owes named stored a g cl dl ll e i =
     let most : s.lines.tag l ≤ s.serving.serving = tag-served sh w h.commits d l a g dl ll e in
@@ -401,17 +401,17 @@ inv-tag-of sh h c d k l m u owes named stored a g cl dl ll e i =
     s : DirState
     s = w.dirs d
 
-    invs : 1 ≤ live Invs (w.net (Dir d) (Core c))
-    invs = omega (arith, live-some Invs (w.net (Dir d) (Core c)) k (Inv l m u) i)
+    invs : 1 ≤ live Invs (to_core w d c)
+    invs = omega (arith, live-some Invs (to_core w d c) k (Inv l m u) i)
 
     owed : 1 ≤ s.owed
     owed = omega (arith, invs, owes d, total-le (share due w d) sh.cores c cl)
 
     marked : (b : Bool) → has_mark s.lines l ≡ b → b ≡ true
     marked true q = refl
-    marked false q = absurd (let y : (l == l) ≡ true = grind (arith, nat_tests) in let z : num (l == l) ≡ 1 = rw y refl in
+    marked false q = absurd (let y : (l == l) ≡ true = grind nats in let z : num (l == l) ≡ 1 = rw y refl in
         let n : num (has_mark s.lines l) ≡ 0 = ap num q in
-        omega (arith, z, n, live-some (InvOf l) (w.net (Dir d) (Core c)) k (Inv l m u) i, (named c d l cl dl).one))
+        omega (arith, z, n, live-some (InvOf l) (to_core w d c) k (Inv l m u) i, (named c d l cl dl).one))
 
     n : SettledCommit sh h.commits d s
     n = (stored 0 d 0).settled dl owed
@@ -424,7 +424,7 @@ inv-tag-of sh h c d k l m u owes named stored a g cl dl ll e i =
 
     settled : settled_in_line sh w d l n.commit ≡ true
     settled = let y : num (is_applied s n.commit.tid.0) ≡ 1 = ap num applied in
-        let z : live (Commits n.commit.tid.0) (w.net (Core n.commit.core.0) (Dir d)) ≡ 0 =
+        let z : live (Commits n.commit.tid.0) (to_dir w n.commit.core.0 d) ≡ 0 =
         omega (arith, y, a n.commit d (n.noted) dl (stored-home sh d l n.commit ll e line)) in rw (z, line) refl
 
     least : s.serving.serving ≤ s.lines.tag l
@@ -432,5 +432,5 @@ inv-tag-of sh h c d k l m u owes named stored a g cl dl ll e i =
 
 pub inv-tag : (sh : Shape) (gs : List Grant) (h : History) (c d k l m u : ℕ) → KeptAll sh gs h → CommitsStand sh h.world h.commits
     → KeptTags sh h.world h.commits → c < sh.cores → d < sh.dirs → l < lines sh → home sh l ≡ d
-    → in_flight h.world.net (Dir d) (Core c) k ≡ Some (Inv l m u) → Invalidating sh h c d l
+    → FromDir h.world d c k (Inv l m u) → Invalidating sh h c d l
 inv-tag sh gs h c d k l m u r = inv-tag-of sh h c d k l m u r.kept.told.owed.owed r.named r.stored

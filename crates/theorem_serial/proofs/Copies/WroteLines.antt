@@ -2,18 +2,17 @@
 use Rattle.theorem_serial.proofs
 use proofs.Names
 use Names.{ℕ, zero, suc, ◌≡◌, ◌<◌, ◌==◌, ◌&&◌, ◌||◌, Bool, true, false, List, [], ◌∷◌, length, Contains, slice_index_or, nat_lt}
-use Names.{if◌then◌else◌, arith, refl, ap, ◌∙◌, nat_tests, Noted, num, any_below, any_word, word_at, mask_of, insert_commit, times}
-use Names.{stores_in, stores_word, names_line, wrote, wrote_line, wrote_mask, ◌+◌, ◌≤◌, ◌⊎◌, sym, subst, inl, inr, cases_eq, cases_lt, Core}
-use Names.{Dir, Shape, sum_below, DirState, History, Commits, live, KeptRun, Grant, pair, share, is_applied, CommitsStand, stores_at}
-use Names.{Skipped, Committed, Ways, part_in, kept_in, WayAt, Some, writes_at, Msg, Out, Sends, Stepped, Resolves, among, holder, has_tid}
-use Names.{part, handled, live_way, Option, IfSome}
+use Names.{if◌then◌else◌, arith, refl, ap, ◌∙◌, Noted, num, any_below, any_word, word_at, mask_of, insert_commit, times, stores_in}
+use Names.{stores_word, names_line, wrote, wrote_line, wrote_mask, ◌+◌, ◌≤◌, ◌⊎◌, sym, subst, inl, inr, cases_eq, cases_lt, Dir, Shape}
+use Names.{sum_below, DirState, History, Commits, live, KeptRun, Grant, pair, share, is_applied, CommitsStand, stores_at, Skipped}
+use Names.{Committed, Ways, part_in, kept_in, WayAt, Some, writes_at, Msg, Out, Sends, Stepped, Resolves, among, holder, has_tid, part}
+use Names.{handled, live_way, Option, IfSome, nats, to_dir}
 use proofs.Counts.Links.{total-zero, total-le}
 use proofs.Marks.MaskLaws.{few-any}
 use proofs.Serving.CommitSteps.{of-resolves}
 use proofs.Tids.Commits.{granted-once, granted-at, positive-committed}
-use proofs.Ways.ByCore.{ByCore, Still, Moved}
+use proofs.Ways.ToldSteps.{ByCore, Still, Moved, Speaks, told-committed}
 use proofs.Ways.CoreSkips.{TellsCommit}
-use proofs.Ways.ToldSteps.{Speaks, told-committed}
 
 -- Which lines a core's commit with a TID stored, by the list of commits.
 
@@ -33,7 +32,7 @@ wrote-insert base n (x ∷ cs) c t w = go (nat_lt n.tid.0 x.tid.0) (wrote-insert
         → wrote base (if b then n ∷ x ∷ cs else x ∷ insert_commit n cs) c t w
         ≡ (((n.core.0 == c) && ((n.tid.0 == t) && stores_word base n.stores w))
         || (((x.core.0 == c) && ((x.tid.0 == t) && stores_word base x.stores w)) || wrote base cs c t w))
-    go a e = grind (arith, nat_tests)
+    go a e = grind nats
 
 -- a TID that no commit has
 wrote-none : (base : ℕ) (cs : List Noted) (c t w : ℕ) → times t cs ≡ 0 → wrote base cs c t w ≡ false
@@ -42,7 +41,7 @@ wrote-none base [] c t w e = refl
 wrote-none base (x ∷ cs) c t w e = rw (wrote-none base cs c t w (omega (arith, e))) (go (x.core.0 == c) (x.tid.0 == t) refl)
   where
     go : (a b : Bool) → (x.tid.0 == t) ≡ b → ((a && (b && stores_word base x.stores w)) || false) ≡ false
-    go a b q = grind (arith, nat_tests)
+    go a b q = grind nats
 
 same-line : (f g : ℕ → Bool) → ((w : ℕ) → f w ≡ g w) → (l : ℕ) → any_word f l ≡ any_word g l
 same-line f g h l = ap {A = ℕ → Bool} (λ p. any_word p l) (λ i w. h w i)
@@ -68,7 +67,7 @@ wrote-all base cs c t l n h =
 pub wrote-new : (base : ℕ) (n : Noted) (cs : List Noted) (c t l : ℕ) → n.core.0 ≡ c → n.tid.0 ≡ t → times t cs ≡ 0
     → Wrote base (insert_commit n cs) c t l n
 wrote-new base n cs c t l e f z =
-    let own : (b : Bool) → (((c == c) && ((t == t) && b)) || false) ≡ b = λ b. grind (arith, nat_tests) in
+    let own : (b : Bool) → (((c == c) && ((t == t) && b)) || false) ≡ b = λ b. grind nats in
     wrote-all base (insert_commit n cs) c t l n
     (λ w. wrote-insert base n cs c t w ∙ rw (wrote-none base cs c t w z, e, f) (own (stores_word base n.stores w)))
 
@@ -86,7 +85,7 @@ wrote-other base n cs c t l e =
     }
   where
     one : (w : ℕ) → wrote base (insert_commit n cs) c t w ≡ wrote base cs c t w
-    one w = grind (arith, nat_tests, wrote-insert)
+    one w = grind (nats, wrote-insert)
 
 -- where no commit of the list is this core's with this TID, nothing is stored; where one is, its words are
 wrote-never : (base : ℕ) (cs : List Noted) (c t w : ℕ) → ((x : Noted) → Contains cs x → is_of c t x ≡ false) → wrote base cs c t w ≡ false
@@ -96,7 +95,7 @@ wrote-never base (x ∷ cs) c t w h = rw (wrote-never base cs c t w (λ y k. h y
     (go (x.core.0 == c) (x.tid.0 == t) (h x (0, omega arith, refl)))
   where
     go : (a b : Bool) → (a && b) ≡ false → ((a && (b && stores_word base x.stores w)) || false) ≡ false
-    go a b q = grind (arith, nat_tests)
+    go a b q = grind nats
 
 line-never : (base : ℕ) (cs : List Noted) (c t l : ℕ) → ((w : ℕ) → wrote base cs c t w ≡ false) → wrote_line base cs c t l ≡ false
 unfolding wrote_line any_word any_below
@@ -123,13 +122,13 @@ pub wrote-at : (base : ℕ) (cs : List Noted) (n : Noted) (w k : ℕ) → stores
     → slice_index_or cs k n ≡ n → wrote base cs n.core.0 n.tid.0 w ≡ true
 unfolding wrote
 wrote-at base [] n w k s i e = absurd (omega (arith, i))
-wrote-at base (x ∷ cs) n w zero s i e = grind (arith, nat_tests)
+wrote-at base (x ∷ cs) n w zero s i e = grind nats
 wrote-at base (x ∷ cs) n w (suc k) s i e =
     rw (wrote-at base cs n w k s (omega (arith, i)) e)
     (go ((x.core.0 == n.core.0) && ((x.tid.0 == n.tid.0) && stores_word base x.stores w)))
   where
     go : (b : Bool) → (b || true) ≡ true
-    go a = grind (arith, nat_tests)
+    go a = grind nats
 
 -- where the only commit by this core with this TID didn't store the word, none did
 wrote-only : (base : ℕ) (cs : List Noted) (n : Noted) (c t w : ℕ) → stores_word base n.stores w ≡ false
@@ -140,14 +139,14 @@ wrote-only base (x ∷ cs) n c t w s h = rw (wrote-only base cs n c t w s (λ y 
     (go (x.core.0 == c) (x.tid.0 == t) (h x (0, omega arith, refl)))
   where
     go : (a b : Bool) → ((a && b) ≡ true → x ≡ n) → ((a && (b && stores_word base x.stores w)) || false) ≡ false
-    go a b q = grind (arith, nat_tests)
+    go a b q = grind nats
 
 pub wrote-listed : (base : ℕ) (cs : List Noted) (n : Noted) (l : ℕ) → Contains cs n
     → ((x : Noted) → Contains cs x → is_of n.core.0 n.tid.0 x ≡ true → x ≡ n) → Wrote base cs n.core.0 n.tid.0 l n
 wrote-listed base cs n l k h = wrote-all base cs n.core.0 n.tid.0 l n (λ w. go w (stores_word base n.stores w) refl)
   where
     go : (w : ℕ) (b : Bool) → stores_word base n.stores w ≡ b → wrote base cs n.core.0 n.tid.0 w ≡ b
-    go w a s = grind (arith, nat_tests, wrote-at, wrote-only)
+    go w a s = grind (nats, wrote-at, wrote-only)
 
 -- A commit is on its way to each directory where it stored, or applied there.
 
@@ -158,12 +157,12 @@ total-only f zero c h z = sym (z (omega arith))
 total-only f (suc n) c h z = go (cases_eq n c) (λ g. total-only f n c (λ j l i. h j (omega arith) i) g)
   where
     go : (n ≡ c) ⊎ (n ≡ c → ⊥) → ((n ≤ c → f c ≡ 0) → sum_below f n ≡ f c) → sum_below f n + f n ≡ f c
-    go a g = grind (arith, nat_tests, total-zero)
+    go a g = grind (nats, total-zero)
 
 pub applied-or : (s : DirState) (t : ℕ)
     → num (is_applied s t) ≡ num (nat_lt t s.serving.serving) + num ((t == s.serving.serving) && nat_lt 0 s.owed)
 unfolding is_applied
-applied-or s t = grind (arith, nat_tests)
+applied-or s t = grind nats
 
 pub on-its-way : (sh : Shape) (gs : List Grant) (ys : Ways) (h : History) → KeptRun sh gs ys h → CommitsStand sh h.world h.commits
 unfolding share part_in kept_in pair
@@ -180,19 +179,19 @@ on-its-way sh gs ys h k n d i dl s = omega (arith, place, one, applied-or (h.wor
     place : WayAt sh h.world d t Committed
     place = subst (WayAt sh h.world d t) way (k.ways d t dl (positive-committed sh gs h.world h.commits n k.all.owners i))
 
-    other : (j : ℕ) → (j ≡ n.core.0 → ⊥) → live (Commits t) (h.world.net (Core j) (Dir d)) ≡ 0
-    other j e = go (cases_lt 0 (live (Commits t) (h.world.net (Core j) (Dir d))))
+    other : (j : ℕ) → (j ≡ n.core.0 → ⊥) → live (Commits t) (to_dir h.world j d) ≡ 0
+    other j e = go (cases_lt 0 (live (Commits t) (to_dir h.world j d)))
       where
-        go : (0 < live (Commits t) (h.world.net (Core j) (Dir d))) ⊎ (live (Commits t) (h.world.net (Core j) (Dir d)) ≤ 0)
-            → live (Commits t) (h.world.net (Core j) (Dir d)) ≡ 0
+        go : (0 < live (Commits t) (to_dir h.world j d)) ⊎ (live (Commits t) (to_dir h.world j d) ≤ 0)
+            → live (Commits t) (to_dir h.world j d) ≡ 0
         go (inl l) =
             absurd (e (granted-once 1 gs t j n.core.0 (k.all.owners.numbered) ((k.all.spared j d).owner t (omega (arith, l)))
             (granted-at gs h.commits n (k.all.owners.granted) i)))
         go (inr l) = omega (arith, l)
 
-    one : sum_below (share (part_in Committed sh d t) h.world d) sh.cores ≡ live (Commits t) (h.world.net (Core n.core.0) (Dir d))
+    one : sum_below (share (part_in Committed sh d t) h.world d) sh.cores ≡ live (Commits t) (to_dir h.world n.core.0 d)
     one = total-only (share (part_in Committed sh d t) h.world d) sh.cores n.core.0 (λ j l e. other j e)
-        (λ l. omega (arith, (k.all.kept.told.tids.inside n.core.0 d).out l, few-any t (h.world.net (Core n.core.0) (Dir d))))
+        (λ l. omega (arith, (k.all.kept.told.tids.inside n.core.0 d).out l, few-any t (to_dir h.world n.core.0 d)))
 
 -- A commit that is noted by an event isn't applied anywhere yet.
 pub few-resolves : (t : ℕ) (ms : List Msg) → among (Commits t) ms ≤ among (Resolves t) ms

@@ -1,14 +1,15 @@
 -- What a directory does with a message: each outcome with the whole new state and what is sent. All else about its rules is shown of these.
 use Rattle.rules_tcc.specs.DirDeliver.{dir_commit}
+use Rattle.base_lemmas.proofs.Lemmas.{those-empty}
 use Rattle.theorem_serial.proofs
 use proofs.Names
 use Names.{ℕ, ◌-◌, ◌≡◌, ◌<◌, ◌≤◌, ◌⊎◌, Bool, true, false, List, [], ◌∷◌, get_or, ◌==◌, ◌&&◌, ◌||◌, not, Option, Some, None, nat_lt, nat_le}
-use Names.{if◌then◌else◌, arith, refl, inl, inr, nat_tests, num, count_below, those, place_of, hit, full, Lines, has_mark, with_asked}
-use Names.{with_mark, with_sharer, with_owner, unmarked, judge, is_owner, Current, Outdated, TooEarly, advance, skipped, kept, Core, Msg}
-use Names.{LoadReq, Fill, Skip, Probe, ProbeReply, Mark, Commit, Abort, WriteBack, Flush, DataReq, Inv, InvAck, Shape, lines, DirState}
-use Names.{nothing, to, Answer, Waits, Drops, Asks, Takes, skip, abort, acknowledgement, dir_deliver, moved_on, moved_on_if_settled}
-use Names.{owned_by_committer, invalidation_count, invalidations, invs_to, is_invalidated, unless_keeps, ask_owner, load_unless_owned}
-use Names.{load_request, home_words, mark_taken, mark_unless_owned, mark, judged, write_back, came_home, probe, Kind, among, passes}
+use Names.{if◌then◌else◌, arith, refl, inl, inr, num, count_below, those, place_of, hit, full, Lines, has_mark, with_asked, with_mark}
+use Names.{with_sharer, with_owner, unmarked, judge, is_owner, Current, Outdated, TooEarly, advance, skipped, kept, Core, Msg, LoadReq}
+use Names.{Fill, Skip, Probe, ProbeReply, Mark, Commit, Abort, WriteBack, Flush, DataReq, Inv, InvAck, Shape, lines, DirState, nothing, to}
+use Names.{Answer, Waits, Drops, Asks, Takes, skip, abort, acknowledgement, dir_deliver, moved_on, moved_on_if_settled, owned_by_committer}
+use Names.{invalidation_count, invalidations, invs_to, is_invalidated, unless_keeps, ask_owner, load_unless_owned, load_request, home_words}
+use Names.{mark_taken, mark_unless_owned, mark, judged, write_back, came_home, probe, Kind, among, passes, nats, Sends, Any}
 use proofs.Counts.Links.{among-flat_map_none}
 
 -- a WriteBack or Flush, which count alike
@@ -101,8 +102,8 @@ skip-outcome sh s c t = go (nat_lt t s.serving.serving) refl (s.serving.serving 
         → Outcome sh s c (Skip t)
         (if a then Drops else Takes (record s { serving = (if a then s.serving else (if b then advance s.serving else kept t s.serving)) })
         nothing)
-    go true p b q = Spent (Skip t) (SkipPassed t (grind (arith, nat_tests)))
-    go false p b q = TakesSkip t b q (grind (arith, nat_tests))
+    go true p b q = Spent (Skip t) (SkipPassed t (grind nats))
+    go false p b q = TakesSkip t b q (grind nats)
 
 abort-outcome : (sh : Shape) (s : DirState) (c t : ℕ) → Outcome sh s c (Abort t) (abort t s)
 unfolding abort moved_on unmarked
@@ -111,9 +112,9 @@ abort-outcome sh s c t = go (nat_lt t s.serving.serving) refl (s.serving.serving
     go : (a : Bool) → nat_lt t s.serving.serving ≡ a → (b : Bool) → (s.serving.serving == t) ≡ b
         → Outcome sh s c (Abort t)
         (if a then Drops else (if b then Takes (moved_on s) nothing else Takes (record s { serving = kept t s.serving }) nothing))
-    go true p b q = Spent (Abort t) (AbortPassed t (grind (arith, nat_tests)))
-    go false p true q = TakesAbort t true q (grind (arith, nat_tests))
-    go false p false q = TakesAbort t false q (grind (arith, nat_tests))
+    go true p b q = Spent (Abort t) (AbortPassed t (grind nats))
+    go false p true q = TakesAbort t true q (grind nats)
+    go false p false q = TakesAbort t false q (grind nats)
 
 probe-outcome : (sh : Shape) (s : DirState) (c t : ℕ) → Outcome sh s c (Probe t) (probe c t s)
 unfolding probe
@@ -122,7 +123,7 @@ probe-outcome sh s c t = go (nat_lt s.serving.serving t) refl
     go : (b : Bool) → nat_lt s.serving.serving t ≡ b
         → Outcome sh s c (Probe t) (if b then Waits else Takes s (to (Core c) (ProbeReply t s.serving.serving ∷ [])))
     go true q = Waiting (Probe t)
-    go false q = TakesProbe t (grind (arith, nat_tests))
+    go false q = TakesProbe t (grind nats)
 
 load-outcome : (sh : Shape) (s : DirState) (c l a : ℕ) → Outcome sh s c (LoadReq l a) (load_request c l a s)
 unfolding load_request with_sharer
@@ -133,22 +134,22 @@ load-outcome sh s c l a = go (nat_le s.serving.serving a) (has_mark s.lines l) (
     go true x o p q r = Waiting (LoadReq l a)
     go false true o p q r = Waiting (LoadReq l a)
     go false false (Some o) p q r = ask-outcome sh s c l o (LoadReq l a) (ToLoad a) r
-    go false false None p q r = TakesLoad l a (grind (arith, nat_tests)) q r
+    go false false None p q r = TakesLoad l a (grind nats) q r
 
 mark-outcome : (sh : Shape) (s : DirState) (c l k t : ℕ) → Outcome sh s c (Mark l k t) (mark l k t s)
 unfolding mark with_mark
 mark-outcome sh s c l k t = go (nat_lt t s.serving.serving) (nat_lt s.serving.serving t) (k == full) (s.lines.owner l) refl refl refl refl
   where
     served : nat_lt t s.serving.serving ≡ false → nat_lt s.serving.serving t ≡ false → s.serving.serving ≡ t
-    served p q = grind (arith, nat_tests)
+    served p q = grind nats
 
     go : (a b x : Bool) (o : Option ℕ) → nat_lt t s.serving.serving ≡ a → nat_lt s.serving.serving t ≡ b → (k == full) ≡ x
         → s.lines.owner l ≡ o
         → Outcome sh s c (Mark l k t)
         (if a then Drops else (if b then Waits else (if x then mark_taken l k s else mark_unless_owned l k s o)))
-    go true b x o p q r e = Spent (Mark l k t) (MarkPassed l k t (grind (arith, nat_tests)))
+    go true b x o p q r e = Spent (Mark l k t) (MarkPassed l k t (grind nats))
     go false true x o p q r e = Waiting (Mark l k t)
-    go false false true o p q r e = rw (← (served p q)) (TakesMark l k (inl (grind (arith, nat_tests))))
+    go false false true o p q r e = rw (← (served p q)) (TakesMark l k (inl (grind nats)))
     go false false false None p q r e = rw (← (served p q)) (TakesMark l k (inr e))
     go false false false (Some o) p q r e = rw (← (served p q)) (ask-outcome sh s c l o (Mark l k s.serving.serving) (ToMark k) e)
 
@@ -173,8 +174,8 @@ commit-outcome sh s c t n = go (s.serving.serving == t) (count_below (has_mark s
     go false b p q = Waiting (Commit t n)
     go true false p q = Waiting (Commit t n)
     go true true p q =
-        let e : s.serving.serving ≡ t = grind (arith, nat_tests) in
-        let f : count_below (has_mark s.lines) (lines sh) ≡ n = grind (arith, nat_tests) in
+        let e : s.serving.serving ≡ t = grind nats in
+        let f : count_below (has_mark s.lines) (lines sh) ≡ n = grind nats in
         rw (← e, ← f) (next (invalidation_count sh s.lines c == 0) refl)
 
 ack-outcome : (sh : Shape) (s : DirState) (c l : ℕ) (b : Bool) → Outcome sh s c (InvAck l b) (acknowledgement c l b s)
@@ -193,8 +194,8 @@ ack-outcome sh s c l b = go (s.owed == 0) refl
     go : (a : Bool) → (s.owed == 0) ≡ a
         → Outcome sh s c (InvAck l b)
         (if a then Drops else Takes (moved_on_if_settled (record s { lines = unless_keeps b c l s.lines; owed = s.owed - 1 })) nothing)
-    go true p = Spent (InvAck l b) (NoneOwed l b (grind (arith, nat_tests)))
-    go false p = next b (s.owed - 1 == 0) refl (grind (arith, nat_tests))
+    go true p = Spent (InvAck l b) (NoneOwed l b (grind nats))
+    go false p = next b (s.owed - 1 == 0) refl (grind nats)
 
 back-outcome : (sh : Shape) (s : DirState) (c l k : ℕ) (ws : List ℕ) (g : ℕ) (m : Msg) → IsCopy m l k ws g
     → Outcome sh s c m (write_back c l k ws g s)
@@ -202,14 +203,14 @@ unfolding write_back came_home with_asked with_owner judge
 back-outcome sh s c l k ws g m y = go (nat_lt (s.lines.tag l) g) (s.lines.tag l == g) (is_owner (s.lines.owner l) c) refl refl refl
   where
     own : (o : Option ℕ) → is_owner o c ≡ true → o ≡ Some c
-    own a h = grind (arith, nat_tests)
+    own a h = grind nats
 
     go : (a b x : Bool) → nat_lt (s.lines.tag l) g ≡ a → (s.lines.tag l == g) ≡ b → is_owner (s.lines.owner l) c ≡ x
         → Outcome sh s c m (judged l k ws s (if a then TooEarly else (if b && x then Current else Outdated)))
     go true b x p q r = Waiting m
-    go false true true p q r = TakesCopy m l k ws g y (grind (arith, nat_tests)) (own (s.lines.owner l) r)
-    go false true false p q r = Spent m (CopyPassed m l k ws g y (grind (arith, nat_tests)) (rw (q, r) refl))
-    go false false x p q r = Spent m (CopyPassed m l k ws g y (grind (arith, nat_tests)) (rw q refl))
+    go false true true p q r = TakesCopy m l k ws g y (grind nats) (own (s.lines.owner l) r)
+    go false true false p q r = Spent m (CopyPassed m l k ws g y (grind nats) (rw (q, r) refl))
+    go false false x p q r = Spent m (CopyPassed m l k ws g y (grind nats) (rw q refl))
 
 flush-alike : (q : Kind) (l k : ℕ) (ws : List ℕ) (g : ℕ) → passes q (Flush l k ws g) ≡ passes q (WriteBack l k ws g)
 unfolding passes
@@ -247,3 +248,50 @@ unfolding invalidations invs_to among
 none-invalidations q e sh ls c t j =
     let one : (l : ℕ) → among q (Inv l (ls.mark l) t ∷ []) ≡ 0 = λ l. rw (e l (ls.mark l) t) refl in
     among-flat_map_none q (λ l. Inv l (ls.mark l) t ∷ []) (λ l. one l) (those (is_invalidated sh ls c j) (lines sh))
+
+-- No message goes to a core that the machine doesn't have, and none of them owns a line.
+
+-- owners are cores of the machine
+abbrev pub OwnersInside : Shape → DirState → Type 0
+OwnersInside sh s = (l o : ℕ) → s.lines.owner l ≡ Some o → o < sh.cores
+
+-- nothing is sent to others
+abbrev pub SendsInside : Shape → Sends → Type 0
+SendsInside sh sends = (j : ℕ) → sh.cores ≤ j → among Any (sends (Core j)) ≡ 0
+
+abbrev pub AnswersInside : Shape → Answer → Type 0
+AnswersInside sh (Asks new sends) = SendsInside sh sends × OwnersInside sh new
+AnswersInside sh (Takes new sends) = SendsInside sh sends × OwnersInside sh new
+AnswersInside sh _ = Unit {0}
+
+quiet-inside : (sh : Shape) → SendsInside sh nothing
+unfolding among
+quiet-inside sh j l = refl
+
+to-inside : (sh : Shape) (c : ℕ) (m : Msg) → c < sh.cores → SendsInside sh (to (Core c) (m ∷ []))
+unfolding among
+to-inside sh c m h j l = let e : (j == c) ≡ false = grind nats in rw e refl
+
+is_invalidated-outside : (sh : Shape) (ls : Lines) (c j k : ℕ) → nat_lt j sh.cores ≡ false → is_invalidated sh ls c j k ≡ false
+unfolding is_invalidated
+is_invalidated-outside sh ls c j k e = rw e refl
+
+invalidations-inside : (sh : Shape) (ls : Lines) (c t : ℕ) → SendsInside sh (invalidations sh ls c t)
+unfolding invalidations invs_to among
+invalidations-inside sh ls c t j l =
+    let outside : nat_lt j sh.cores ≡ false = grind nats in
+    let none : (k : ℕ) → is_invalidated sh ls c j k ≡ false = λ k. is_invalidated-outside sh ls c j k outside in
+    rw (those-empty (is_invalidated sh ls c j) (lines sh) (λ k. none k)) refl
+
+pub dir-inside : (sh : Shape) (s : DirState) (c : ℕ) (m : Msg) → c < sh.cores → OwnersInside sh s → AnswersInside sh (dir_deliver sh s c m)
+dir-inside sh s c m l h = go (outcome sh s c m)
+  where
+    go : {m : Msg} {a : Answer} → Outcome sh s c m a → AnswersInside sh a
+    go (Waiting m) = tt
+    go (Spent m i) = tt
+    go (AsksOwner m k o w e) = (to-inside sh o (DataReq k) (h k o e), h)
+    go (TakesProbe t i) = (to-inside sh c (ProbeReply t s.serving.serving) l, h)
+    go (TakesLoad k x i e o) = (to-inside sh c (Fill k (home_words s k)) l, h)
+    go (TakesCommit b e) = (invalidations-inside sh s.lines c s.serving.serving, λ x o q. grind (nats, h x o))
+    go (TakesCopy m k n ws g y e o) = (quiet-inside sh, λ x o q. grind (nats, h x o))
+    go _ = (quiet-inside sh, h)

@@ -2,15 +2,15 @@
 use Rattle.theorem_serial.proofs
 use proofs.Names
 use Names.{◌≡◌, ◌≤◌, Bool, true, false, arith, refl, num, ℕ, zero, suc, ◌+◌, ◌<◌, ◌≢◌, List, [], ◌∷◌, ◌++◌, set, get_or, Some, None, ap}
-use Names.{◌⊎◌, cases_eq, Msg, Link, sent_all, sum_below, Kind, live, among, passes, ◌==◌, ◌&&◌, flat_map, nat_tests, Dir, Mark, Shape}
-use Names.{Cache, writes_at, modified_mask, written_lines, Spilled, skip_all, probe_all, abort_written, marks_for, commit_sends, solo_sends}
-use Names.{solo_marks_or_skip, solo_write_backs, grant_sends, Resolves, Protocol}
+use Names.{◌⊎◌, cases_eq, Msg, Link, sent_all, sum_below, Kind, live, among, passes, ◌==◌, ◌&&◌, flat_map, Dir, Mark, Shape, Cache}
+use Names.{writes_at, modified_mask, written_lines, Spilled, skip_all, probe_all, abort_written, marks_for, commit_sends, solo_sends}
+use Names.{solo_marks_or_skip, solo_write_backs, grant_sends, Resolves, Protocol, nats}
 
 pub num-one : (b : Bool) → 1 ≤ num b → b ≡ true
-num-one a h = grind (arith, nat_tests)
+num-one a h = grind nats
 
 pub num-same : (a b : Bool) → num a ≡ num b → a ≡ b
-num-same a b h = grind (arith, nat_tests)
+num-same a b h = grind nats
 
 -- What sending and taking do to the number of messages of a kind.
 pub live-append : (k : Kind) (l m : Link) → live k (l ++ m) ≡ live k l + live k m
@@ -77,7 +77,7 @@ total-le f zero j l = absurd (omega arith)
 total-le f (suc n) j l = go (cases_eq j n) (total-le f n j)
   where
     go : (j ≡ n) ⊎ (j ≡ n → ⊥) → (j < n → f j ≤ sum_below f n) → f j ≤ sum_below f n + f n
-    go a r = grind (arith, nat_tests)
+    go a r = grind nats
 
 pub total-at : (f g : ℕ → ℕ) (n c : ℕ) → c < n → ((j : ℕ) → j ≢ c → f j ≡ g j) → sum_below f n + g c ≡ sum_below g n + f c
 unfolding sum_below
@@ -85,7 +85,7 @@ total-at f g zero c l h = absurd (omega arith)
 total-at f g (suc n) c l h = go (cases_eq c n) (λ k. total-at f g n c k h)
   where
     go : (c ≡ n) ⊎ (c ≡ n → ⊥) → (c < n → sum_below f n + g c ≡ sum_below g n + f c) → sum_below f n + f n + g c ≡ sum_below g n + g n + f c
-    go a r = grind (arith, nat_tests, total-same)
+    go a r = grind (nats, total-same)
 
 pub total-zero : (f : ℕ → ℕ) (n : ℕ) → ((j : ℕ) → j < n → f j ≡ 0) → sum_below f n ≡ 0
 unfolding sum_below
@@ -100,7 +100,7 @@ among-flat_map_none k f h (x ∷ xs) = omega (arith, among-append k (f x) (flat_
 
 pub passes-protocol : (t : ℕ) (m : Msg) → num (passes (Resolves t) m) ≤ num (passes Protocol m)
 unfolding passes
-passes-protocol t m = grind (arith, nat_tests)
+passes-protocol t m = grind nats
 
 pub among-quiet : (t : ℕ) (ms : List Msg) → among (Resolves t) ms ≤ among Protocol ms
 among-quiet t ms = among-fewer (Resolves t) Protocol (passes-protocol t) ms
@@ -108,25 +108,25 @@ among-quiet t ms = among-fewer (Resolves t) Protocol (passes-protocol t) ms
 pub resolves-commit_sends : (sh : Shape) (c : Cache) (u d t : ℕ) → d < sh.dirs
     → among (Resolves t) (commit_sends sh c u (Dir d)) ≡ num ((u == t) && writes_at sh c d)
 unfolding commit_sends among passes
-resolves-commit_sends sh c u d t l = grind (arith, nat_tests)
+resolves-commit_sends sh c u d t l = grind nats
 
 pub resolves-abort_written : (sh : Shape) (c : Cache) (u d t : ℕ) → d < sh.dirs
     → among (Resolves t) (abort_written sh c u (Dir d)) ≡ num ((u == t) && writes_at sh c d)
 unfolding abort_written among passes
-resolves-abort_written sh c u d t l = grind (arith, nat_tests)
+resolves-abort_written sh c u d t l = grind nats
 
 pub resolves-skip_all : (sh : Shape) (u d t : ℕ) → d < sh.dirs → among (Resolves t) (skip_all sh u (Dir d)) ≡ num (u == t)
 unfolding skip_all among passes
-resolves-skip_all sh u d t l = grind (arith, nat_tests)
+resolves-skip_all sh u d t l = grind nats
 
 pub resolves-probe_all : (sh : Shape) (u d t : ℕ) → among (Resolves t) (probe_all sh u (Dir d)) ≡ 0
 unfolding probe_all among passes
-resolves-probe_all sh u d t = grind (arith, nat_tests)
+resolves-probe_all sh u d t = grind nats
 
 pub resolves-grant_sends : (sh : Shape) (c : Cache) (u d t : ℕ) → d < sh.dirs
     → among (Resolves t) (grant_sends sh c u (Dir d)) + num ((u == t) && writes_at sh c d) ≡ num (u == t)
 unfolding grant_sends among passes
-resolves-grant_sends sh c u d t l = grind (arith, nat_tests)
+resolves-grant_sends sh c u d t l = grind nats
 
 pub resolves-marks_for : (sh : Shape) (c : Cache) (u e t : ℕ) → among (Resolves t) (marks_for sh c u e) ≡ 0
 unfolding marks_for among passes
@@ -135,4 +135,4 @@ resolves-marks_for sh c u e t = among-flat_map_none (Resolves t) (λ l. Mark l (
 pub resolves-solo_sends : (sh : Shape) (c : Cache) (sp : Spilled) (u d t : ℕ) → d < sh.dirs
     → among (Resolves t) (solo_sends sh c sp u (Dir d)) ≡ num (u == t)
 unfolding solo_sends solo_marks_or_skip solo_write_backs among passes
-resolves-solo_sends sh c sp u d t l = grind (arith, nat_tests, among-flat_map_none, among-append)
+resolves-solo_sends sh c sp u d t l = grind (nats, among-flat_map_none, among-append)

@@ -4,17 +4,17 @@ use Rattle.rules_tcc.specs.VendorDeliver.{Granted}
 use Rattle.theorem_serial.proofs
 use proofs.Names
 use Names.{DirState, from_dir, ℕ, ◌+◌, ◌≡◌, ◌<◌, Bool, true, false, List, [], ◌∷◌, ◌++◌, ◌==◌, ◌&&◌, arith, refl, ap, sym, subst, ◌∙◌, inl}
-use Names.{inr, nat_tests, cases_eq, Node, Core, Dir, Vendor, Msg, TidGrant, sum_below, World, Link, sent_all, to, Out, core_moves}
-use Names.{core_takes, dir_takes, dir_asks, vendor_gives, Pair, pair, after_move, grant_taken, back_taken, after_answer, out_taken}
-use Names.{after_grant, after_other_grant, share, sum_of, Option, Some, None, IfSome, nat_lt, if◌then◌else◌, Program, Event, Exec, Evict}
-use Names.{Deliver, TidReq, Shape, in_flight, Sends, nothing, core_exec, core_evict, core_deliver, grant, Answer, Waits, Drops, Asks, Takes}
+use Names.{inr, cases_eq, Node, Core, Dir, Vendor, Msg, TidGrant, sum_below, World, Link, sent_all, to, Out, core_moves, core_takes}
+use Names.{dir_takes, dir_asks, vendor_gives, Pair, pair, after_move, grant_taken, back_taken, after_answer, out_taken, after_grant}
+use Names.{after_other_grant, share, sum_of, Option, Some, None, IfSome, nat_lt, if◌then◌else◌, Program, Event, Exec, Evict, Deliver}
+use Names.{TidReq, Shape, in_flight, Sends, nothing, core_exec, core_evict, core_deliver, grant, Answer, Waits, Drops, Asks, Takes}
 use Names.{dir_deliver, Stepped, step, if_core_moves, if_core_takes, answered, delivered, if_in_flight, happens, names_nodes, is_node}
 use Names.{Grant, grant_for, granted_by, sends_of, sends_for, sent_by, Uses, used_by, Views, uses_executed, uses_delivered, views_after}
-use Names.{put}
+use Names.{put, nats, FromCore, FromDir}
 use proofs.Counts.Links.{total-same, total-at, total-plus}
 
 pub differ : (j c : ℕ) → (j ≡ c → ⊥) → (j == c) ≡ false
-differ j c h = grind (arith, nat_tests)
+differ j c h = grind nats
 
 append-none : (l : Link) → l ++ [] ≡ l
 append-none [] = refl
@@ -251,11 +251,11 @@ new_uses sh p w c = used_by sh.base (w.cores c) (p.need (w.cores c).local)
 
 -- what a directory's answers have to give: with the nodes of the machine, and without
 abbrev pub Answering : Shape → World → (World → Type 0) → Type 0
-Answering sh w R = (c d k : ℕ) (m : Msg) → c < sh.cores → d < sh.dirs → in_flight w.net (Core c) (Dir d) k ≡ Some m
+Answering sh w R = (c d k : ℕ) (m : Msg) → c < sh.cores → d < sh.dirs → FromCore w c d k m
     → OfAnswer w c d k R (dir_deliver sh (w.dirs d) c m)
 
 abbrev pub AnsweringAll : Shape → World → (World → Type 0) → Type 0
-AnsweringAll sh w R = (c d k : ℕ) (m : Msg) → in_flight w.net (Core c) (Dir d) k ≡ Some m
+AnsweringAll sh w R = (c d k : ℕ) (m : Msg) → FromCore w c d k m
     → OfAnswer w c d k R (dir_deliver sh (w.dirs d) c m)
 
 -- G from each kind of event by itself; R takes the views after it, what the event's core sends, what is granted, and the state after it
@@ -271,7 +271,7 @@ FromEvents sh p w vs R Dirs G =
     → ((c k t : ℕ) → in_flight w.net Vendor (Core c) k ≡ Some (TidGrant t)
     → R (put vs c (vs c)) (grant sh t (w.cores c)).sends []
     (record { world = core_takes w Vendor c k (grant sh t (w.cores c)); noted = (grant sh t (w.cores c)).commit }))
-    → ((c d k : ℕ) (m : Msg) → in_flight w.net (Dir d) (Core c) k ≡ Some m
+    → ((c d k : ℕ) (m : Msg) → FromDir w d c k m
     → IfSome (from_dir sh d (w.cores c) m)
     (λ o. R (put vs c (uses_delivered (w.cores c) m (vs c))) o.sends []
     (record { world = core_takes w (Dir d) c k o; noted = o.commit })))
@@ -291,13 +291,13 @@ event_cases sh p w vs (Exec c) R ex ev gr fr di ve = go (nat_lt c sh.cores) refl
     go : (b : Bool) → nat_lt c sh.cores ≡ b → IfSome (if b then if_core_moves w c (core_exec sh p c (w.cores c)) else None)
         (T (core_exec sh p c (w.cores c)))
     go false q = tt
-    go true q = step_moved w c T (core_exec sh p c (w.cores c)) (ex c (grind (arith, nat_tests)))
+    go true q = step_moved w c T (core_exec sh p c (w.cores c)) (ex c (grind nats))
 event_cases sh p w vs (Evict c x y) R ex ev gr fr di ve = go (nat_lt c sh.cores) refl (nat_lt x sh.sets && nat_lt y sh.ways)
   where
     go : (b : Bool) → nat_lt c sh.cores ≡ b → (d : Bool)
         → IfSome (if b && d then if_core_moves w c (core_evict sh x y (w.cores c)) else None)
         (R vs (sends_of (core_evict sh x y (w.cores c))) [])
-    go true q true = step_moved w c (λ o. R vs (sends_of o) []) (core_evict sh x y (w.cores c)) (ev c x y (grind (arith, nat_tests)))
+    go true q true = step_moved w c (λ o. R vs (sends_of o) []) (core_evict sh x y (w.cores c)) (ev c x y (grind nats))
     go true q false = tt
     go false q d = tt
 event_cases sh p w vs (Deliver src dst k) R ex ev gr fr di ve = guarded (is_node sh src && is_node sh dst) refl
@@ -322,7 +322,7 @@ event_cases sh p w vs (Deliver src dst k) R ex ev gr fr di ve = guarded (is_node
         (fr c d k m q))
     go Vendor (Core c) (Some m) n q = rw q (vendor_core c m q)
     go (Core c) (Dir d) (Some m) n q = step_answer w c d k (R vs nothing []) (dir_deliver sh (w.dirs d) c m)
-        (di c d k m (grind (arith, nat_tests)) (grind (arith, nat_tests)) q)
+        (di c d k m (grind nats) (grind nats) q)
     go (Core c) Vendor (Some m) n q = rw q (core_vendor c m q)
     go src dst x n q = tt
 
@@ -354,7 +354,7 @@ Leaves P (Takes new sends) = P new
 Leaves P _ = Unit {0}
 
 pub dirs_step : (sh : Shape) (p : Program) (w : World) (e : Event) (P : DirState → Type 0) → ((d : ℕ) → P (w.dirs d))
-    → ((c d k : ℕ) (m : Msg) → in_flight w.net (Core c) (Dir d) k ≡ Some m → Leaves P (dir_deliver sh (w.dirs d) c m))
+    → ((c d k : ℕ) (m : Msg) → FromCore w c d k m → Leaves P (dir_deliver sh (w.dirs d) c m))
     → IfSome (step sh p w e) (λ o. (d : ℕ) → P (o.world.dirs d))
 unfolding core_moves core_takes dir_takes dir_asks vendor_gives
 dirs_step sh p w e P h f = step_cases sh p w e (λ g o. (d : ℕ) → P (o.world.dirs d))

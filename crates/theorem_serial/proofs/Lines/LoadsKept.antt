@@ -3,9 +3,9 @@ use Rattle.base_lemmas.proofs.Lemmas.{eq-self}
 use Rattle.theorem_serial.proofs
 use proofs.Names
 use Names.{ℕ, ◌≡◌, Bool, false, [], ◌==◌, ◌&&◌, Option, Some, None, IfSome, arith, refl, Program, Local, num, Core, Dir, Event, Msg, Fill}
-use Names.{ProbeReply, DataReq, Shape, DirState, World, start, core_start, in_flight, Out, core_exec, core_evict, from_dir, grant, Answer}
-use Names.{Waits, Drops, Asks, Takes, dir_deliver, home_words, core_moves, core_takes, step, LoadingOf, KeptLoading, LoadOf, FillOf, live}
-use Names.{among, passes, Pair, pair, nat_tests}
+use Names.{ProbeReply, DataReq, Shape, DirState, World, start, core_start, Out, core_exec, core_evict, from_dir, grant, Answer, Waits}
+use Names.{Drops, Asks, Takes, dir_deliver, home_words, core_moves, core_takes, step, LoadingOf, KeptLoading, LoadOf, FillOf, live, among}
+use Names.{passes, Pair, pair, nats, to_dir, to_core, FromCore, FromDir}
 use proofs.Counts.DirOutcome.{Outcome, Waiting, Spent, AsksOwner, TakesProbe, TakesLoad, TakesCommit, TakesCopy, IsSpent, CopyPassed}
 use proofs.Counts.DirOutcome.{outcome, among-none, among-to, none-to, none-invalidations}
 use proofs.Counts.Links.{live-sends, live-takes}
@@ -21,7 +21,7 @@ FillsBy c m (Asks new sends) = (l j : ℕ) → among (FillOf l) (sends (Core j))
 FillsBy c m (Takes new sends) = (l j : ℕ) → among (FillOf l) (sends (Core j)) ≡ num (j == c && passes (LoadOf l) m)
 
 and-none : (a b : Bool) → b ≡ false → num (a && b) ≡ 0
-and-none a b h = grind (arith, nat_tests)
+and-none a b h = grind nats
 
 -- where nothing is sent for a message that is no load request
 quiet : (c : ℕ) (m : Msg) (l j : ℕ) → passes (LoadOf l) m ≡ false → among (FillOf l) [] ≡ num (j == c && passes (LoadOf l) m)
@@ -64,11 +64,11 @@ step-loading sh p w e h = step_cases sh p w e (λ g o. KeptLoading sh o.world)
       arith,
       h c d l,
       loads-grant sh u (w.cores c) d l,
-      live-sends (LoadOf l) (w.net (Core c) (Dir d))
+      live-sends (LoadOf l) (to_dir w c d)
           ((grant sh u (w.cores c)).sends (Dir d)),
     )) h)
     (λ c d k m i. taken c d k m i (from_dir sh d (w.cores c) m)
-    (loads-back sh d (w.cores c) m (λ l. omega (arith, h c d l, live-some (FillOf l) (w.net (Dir d) (Core c)) k m i))))
+    (loads-back sh d (w.cores c) m (λ l. omega (arith, h c d l, live-some (FillOf l) (to_core w d c) k m i))))
     (λ c d k m i. answered c d k m i (dir_deliver sh (w.dirs d) c m) (dir-fills sh (w.dirs d) c m))
     (λ c k i. pairs_vendor P w c k (λ d l. h c d l) (λ j d n l. h j d l))
   where
@@ -78,7 +78,7 @@ step-loading sh p w e h = step_cases sh p w e (λ g o. KeptLoading sh o.world)
     moved : (c : ℕ) (x : Option Out) → IfSome x (λ o. LoadsStep sh (w.cores c) o) → IfSome x (λ o. KeptLoading sh (core_moves w c o))
     moved c None a = tt
     moved c (Some o) a =
-        pairs_move P w c o (λ d l. omega (arith, h c d l, a d l, live-sends (LoadOf l) (w.net (Core c) (Dir d)) (o.sends (Dir d)))) h
+        pairs_move P w c o (λ d l. omega (arith, h c d l, a d l, live-sends (LoadOf l) (to_dir w c d) (o.sends (Dir d)))) h
 
     self : (d : ℕ) (b : Bool) → num (d == d && b) ≡ num b
     self d b = rw (eq-self d) refl
@@ -86,7 +86,7 @@ step-loading sh p w e h = step_cases sh p w e (λ g o. KeptLoading sh o.world)
     other : (d e : ℕ) (b : Bool) → (d ≡ e → ⊥) → num (d == e && b) ≡ 0
     other d e b n = rw (differ d e n) refl
 
-    taken : (c d k : ℕ) (m : Msg) → in_flight w.net (Dir d) (Core c) k ≡ Some m → (x : Option Out)
+    taken : (c d k : ℕ) (m : Msg) → FromDir w d c k m → (x : Option Out)
         → IfSome x (λ o. LoadsBack sh d (w.cores c) m o) → IfSome x (λ o. KeptLoading sh (core_takes w (Dir d) c k o))
     taken c d k m i None a = tt
     taken c d k m i (Some o) a = pairs_back P w d c k o
@@ -95,19 +95,19 @@ step-loading sh p w e h = step_cases sh p w e (λ g o. KeptLoading sh o.world)
           h c d l,
           a d l,
           self d (passes (FillOf l) m),
-          live-sends (LoadOf l) (w.net (Core c) (Dir d)) (o.sends (Dir d)),
-          live-takes (FillOf l) (w.net (Dir d) (Core c)) k m i,
+          live-sends (LoadOf l) (to_dir w c d) (o.sends (Dir d)),
+          live-takes (FillOf l) (to_core w d c) k m i,
         ))
         (λ b n l. omega (
           arith,
           h c b l,
           a b l,
           other b d (passes (FillOf l) m) n,
-          live-sends (LoadOf l) (w.net (Core c) (Dir b))
+          live-sends (LoadOf l) (to_dir w c b)
               (o.sends (Dir b)),
         )) h
 
-    answered : (c d k : ℕ) (m : Msg) → in_flight w.net (Core c) (Dir d) k ≡ Some m → (a : Answer) → FillsBy c m a
+    answered : (c d k : ℕ) (m : Msg) → FromCore w c d k m → (a : Answer) → FillsBy c m a
         → OfAnswer w c d k (λ v. KeptLoading sh v) a
     answered c d k m i Waits u = tt
     answered c d k m i Drops u = pairs_dir P w c d k (w.dirs d) (λ dst. [])
@@ -116,28 +116,28 @@ step-loading sh p w e h = step_cases sh p w e (λ g o. KeptLoading sh o.world)
           arith,
           h c d l,
           z,
-          live-takes (LoadOf l) (w.net (Core c) (Dir d)) k m i,
-          live-sends (FillOf l) (w.net (Dir d) (Core c)) [],
+          live-takes (LoadOf l) (to_dir w c d) k m i,
+          live-sends (FillOf l) (to_core w d c) [],
           none-fills l,
         ))
-        (λ j n l. omega (arith, h j d l, live-sends (FillOf l) (w.net (Dir d) (Core j)) [], none-fills l)) h
+        (λ j n l. omega (arith, h j d l, live-sends (FillOf l) (to_core w d j) [], none-fills l)) h
     answered c d k m i (Asks s sends) u =
-        pairs_asks P w d s sends (λ j l. omega (arith, h j d l, u l j, live-sends (FillOf l) (w.net (Dir d) (Core j)) (sends (Core j)))) h
+        pairs_asks P w d s sends (λ j l. omega (arith, h j d l, u l j, live-sends (FillOf l) (to_core w d j) (sends (Core j)))) h
     answered c d k m i (Takes s sends) u = pairs_dir P w c d k s sends
         (λ l. omega (
           arith,
           h c d l,
           u l c,
           self c (passes (LoadOf l) m),
-          live-takes (LoadOf l) (w.net (Core c) (Dir d)) k m i,
-          live-sends (FillOf l) (w.net (Dir d) (Core c)) (sends (Core c)),
+          live-takes (LoadOf l) (to_dir w c d) k m i,
+          live-sends (FillOf l) (to_core w d c) (sends (Core c)),
         ))
         (λ j n l. omega (
           arith,
           h j d l,
           u l j,
           other j c (passes (LoadOf l) m) n,
-          live-sends (FillOf l) (w.net (Dir d) (Core j))
+          live-sends (FillOf l) (to_core w d j)
               (sends (Core j)),
         )) h
 

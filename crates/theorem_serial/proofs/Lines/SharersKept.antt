@@ -2,13 +2,13 @@
 use Rattle.base_lemmas.proofs.Lemmas.{eq-self as same}
 use Rattle.theorem_serial.proofs
 use proofs.Names
-use Names.{ℕ, ◌≡◌, ◌≤◌, ◌⊎◌, ◌&&◌, ◌||◌, Bool, true, false, nat_lt, List, arith, refl, ap, sym, ◌∙◌, inl, inr, nat_tests, Noted}
-use Names.{keeps_unmodified, is_fresh, holds_line, CommitsLine, SharerOf, FillOf, GoneOf, live, Pair, ◌+◌, ◌<◌, ◌==◌, [], ◌∷◌, Some, None}
-use Names.{subst, cases_lt, num, has_mark, Core, Dir, Msg, Shape, home, lines, DirState, Link, Sends, in_flight, History, Kind, AckOf}
-use Names.{Commits, among, passes, Grant, pair, Ways, wrote_line, Option, IfSome, Out, and_noted, insert_commit, KeptLoading, LoadOf}
-use Names.{CommitsAbove, due, after_move, share, is_applied, stores_at, names_line, is_some, line_of, CoreState, Phase, Running, World}
-use Names.{core_moves, dir_takes, KeptSharers, OneCore, acting, after_answer, out_taken, has_tid, ◌%◌, not, is_awaited, KeptHomes}
-use Names.{LoadingOf, InvOf, LinesAway}
+use Names.{ℕ, ◌≡◌, ◌≤◌, ◌⊎◌, ◌&&◌, ◌||◌, Bool, true, false, nat_lt, List, arith, refl, ap, sym, ◌∙◌, inl, inr, Noted, keeps_unmodified}
+use Names.{is_fresh, holds_line, CommitsLine, SharerOf, FillOf, GoneOf, live, Pair, ◌+◌, ◌<◌, ◌==◌, [], ◌∷◌, Some, None, subst, cases_lt}
+use Names.{num, has_mark, Core, Dir, Msg, Shape, home, lines, DirState, Link, Sends, History, Kind, AckOf, Commits, among, passes, Grant}
+use Names.{pair, Ways, wrote_line, Option, IfSome, Out, and_noted, insert_commit, KeptLoading, LoadOf, CommitsAbove, due, after_move, share}
+use Names.{is_applied, stores_at, names_line, is_some, CoreState, Phase, Running, World, core_moves, dir_takes, KeptSharers, OneCore}
+use Names.{acting, after_answer, out_taken, has_tid, ◌%◌, not, is_awaited, KeptHomes, LoadingOf, InvOf, LinesAway, nats, home_of, tid_at}
+use Names.{to_dir, to_core, FromCore, FromDir}
 use proofs.Copies.LinesKept.{Before, new-of}
 use proofs.Copies.LinesStep.{writer-line, commit-passes}
 use proofs.Copies.PairCopies.{NewCommit}
@@ -16,11 +16,9 @@ use proofs.Copies.TagsKept.{taken-commit, stored-home}
 use proofs.Copies.WroteLines.{applied-or, is_of, wrote-new, wrote-other, commit-sent, wrote-unknown}
 use proofs.Counts.Links.{live-sends, total-le, live-takes}
 use proofs.Counts.StepCases.{differ, either, moves-own, moves-other, pairs_dir}
-use proofs.Lines.CoreHolds.{Holds, ReadsValid}
-use proofs.Lines.CoreHoldsTakes.{HoldsTaken, Gone}
-use proofs.Lines.DirSharers.{Shares}
-use proofs.Marks.CoreAfter.{AfterStep}
-use proofs.Marks.DirRecords.{Records, Still, Came, Settles}
+use proofs.Lines.CoreHolds.{Holds, ReadsValid, HoldsTaken, Gone}
+use proofs.Marks.DirRecords.{Shares, Records, Still, Came, Settles}
+use proofs.Marks.AfterKept.{AfterStep}
 use proofs.Marks.NamedKept.{lines-live}
 use proofs.Marks.ReadsKept.{KeptReads}
 use proofs.OneCore.CoreReads.{ValidOrPassed}
@@ -40,7 +38,7 @@ holds-cases l v q = go (keeps_unmodified v.core.cache l) (is_fresh v.core.awaite
     go : (a b c : Bool) → nat_lt 0 (live (FillOf l) v.back) ≡ c → (a || (b && c)) ≡ true
         → (a ≡ true) ⊎ ((b ≡ true) × (1 ≤ live (FillOf l) v.back))
     go true b c r q = inl refl
-    go false true true r q = inr (refl, grind (arith, nat_tests))
+    go false true true r q = inr (refl, grind nats)
     go false true false r q = absurd (cc)
     go false false c r q = absurd (cc)
 
@@ -50,7 +48,7 @@ holds-kept l v q = rw q refl
 
 pub holds-fill : (l : ℕ) (v : Pair) → is_fresh v.core.awaited ≡ true → 1 ≤ live (FillOf l) v.back → holds_line l v ≡ true
 unfolding holds_line
-holds-fill l v q i = grind (arith, nat_tests)
+holds-fill l v q i = grind nats
 
 -- a core's event: what it holds it held before, or it has committed the line and has acknowledged nothing of it
 pub sharer-moved : (base : ℕ) (cs ds : List Noted) (c l : ℕ) (v w : Pair) → w.dir ≡ v.dir
@@ -66,7 +64,7 @@ sharer-moved base cs ds c l v w e f g u h = record { shares = λ q. shares (f q)
 
     stays : holds_line l w ≡ true → (holds_line l v ≡ true) ⊎ (CommitsLine base ds c l w × (live (GoneOf l) v.out ≡ 0))
         → live (GoneOf l) w.out ≡ 0
-    stays q a = grind (arith, nat_tests)
+    stays q a = grind nats
 
 -- a directory's answer, as a core sees it
 pub record SharerStep (base : ℕ) (cs : List Noted) (c l : ℕ) (v w : Pair) : Type 0 where
@@ -102,12 +100,12 @@ sharer-answered base cs c l v w s h = record { shares = λ q. shares (held q); s
     shares (inr x) = inl (x.0)
 
     stays : (holds_line l v ≡ true) ⊎ ((w.dir.lines.sharers l c ≡ true) × (live (GoneOf l) v.out ≡ 0)) → live (GoneOf l) w.out ≡ 0
-    stays a = grind (arith, nat_tests)
+    stays a = grind nats
 
 -- Every answer of a directory keeps that a core which holds a line is one of its sharers, or its Commit of the line is in flight.
 pub gone-ack : (l : ℕ) (m : Msg) → num (passes (GoneOf l) m) ≤ num (passes (AckOf l) m)
 unfolding passes
-gone-ack l m = grind (arith, nat_tests)
+gone-ack l m = grind nats
 
 pub gone-acks : (l : ℕ) (k : Link) → live (GoneOf l) k ≤ live (AckOf l) k
 unfolding live
@@ -124,7 +122,7 @@ pub record Seen (mine : Bool) (j : ℕ) (m : Msg) (s : DirState) (sends : Sends)
 
 -- a Commit that the directory takes is of the lines that are marked
 takes-commits : (sh : Shape) (gs : List Grant) (ys : Ways) (h : History) (c d k j l : ℕ) (mine : Bool) (m : Msg) (s : DirState)
-    (sends : Sends) (w : Pair) → Before sh gs ys h → in_flight h.world.net (Core c) (Dir d) k ≡ Some m → (j == c) ≡ mine → d < sh.dirs
+    (sends : Sends) (w : Pair) → Before sh gs ys h → FromCore h.world c d k m → (j == c) ≡ mine → d < sh.dirs
     → l < lines sh → home sh l ≡ d → Seen mine j m s sends (pair h.world j d) w → Records sh (h.world.dirs d) c m s
     → Shares sh (h.world.dirs d) c m s sends
     → CommitsLine sh.base h.commits j l (pair h.world j d) → (w.dir.lines.sharers l j ≡ true) ⊎ CommitsLine sh.base h.commits j l w
@@ -134,21 +132,21 @@ takes-commits sh gs ys h c d k j l mine m s sends w b i z dl ll e a r f x = go r
     same n = inr (record { tid = x.tid; sent = omega (arith, x.sent, n, a.lives (Commits x.tid)); line = x.line })
 
     none : (y : Bool) → passes (Commits x.tid) m ≡ false → num (y && passes (Commits x.tid) m) ≡ 0
-    none a n = grind (arith, nat_tests)
+    none a n = grind nats
 
     go : Records sh (h.world.dirs d) c m s → (w.dir.lines.sharers l j ≡ true) ⊎ CommitsLine sh.base h.commits j l w
     go (Still y n q) = same (none mine (n x.tid))
     go (Came y p o g q n) = same (none mine (n x.tid))
-    go (Settles q g o n) = cases (j == c) ((h.world.dirs d).serving.serving == x.tid) refl refl
+    go (Settles q g o n) = cases (j == c) (tid_at h.world d == x.tid) refl refl
       where
-        cases : (p v : Bool) → (j == c) ≡ p → ((h.world.dirs d).serving.serving == x.tid) ≡ v
+        cases : (p v : Bool) → (j == c) ≡ p → (tid_at h.world d == x.tid) ≡ v
             → (w.dir.lines.sharers l j ≡ true) ⊎ CommitsLine sh.base h.commits j l w
         cases false v e0 e1 = same (rw (sym z ∙ e0) refl)
         cases true false e0 e1 = same (none mine (commit-passes sh (h.world.dirs d) m x.tid q ∙ e1))
         cases true true e0 e1 =
-            let y : j ≡ c = grind (arith, nat_tests) in
-            let t : (h.world.dirs d).serving.serving ≡ x.tid = grind (arith, nat_tests) in
-            let n' : wrote_line sh.base h.commits c (h.world.dirs d).serving.serving l ≡ true =
+            let y : j ≡ c = grind nats in
+            let t : tid_at h.world d ≡ x.tid = grind nats in
+            let n' : wrote_line sh.base h.commits c (tid_at h.world d) l ≡ true =
             subst (λ p. wrote_line sh.base h.commits c p l ≡ true) (sym t)
             (subst (λ p. wrote_line sh.base h.commits p x.tid l ≡ true) y x.line) in
             let o' : has_mark (h.world.dirs d).lines l ≡ true =
@@ -156,7 +154,7 @@ takes-commits sh gs ys h c d k j l mine m s sends w b i z dl ll e a r f x = go r
             inl (ap (λ u. u.lines.sharers l j) (a.dir) ∙ ap (λ u. s.lines.sharers l u) y ∙ f.taken l q o')
 
 pub answer-sharers : (sh : Shape) (gs : List Grant) (ys : Ways) (h : History) (c d k j l : ℕ) (mine : Bool) (m : Msg) (s : DirState)
-    (sends : Sends) (w : Pair) → Before sh gs ys h → in_flight h.world.net (Core c) (Dir d) k ≡ Some m → (j == c) ≡ mine → j < sh.cores
+    (sends : Sends) (w : Pair) → Before sh gs ys h → FromCore h.world c d k m → (j == c) ≡ mine → j < sh.cores
     → d < sh.dirs → l < lines sh → home sh l ≡ d → Seen mine j m s sends (pair h.world j d) w → Records sh (h.world.dirs d) c m s
     → Shares sh (h.world.dirs d) c m s sends
     → SharerOf sh.base h.commits j l (pair h.world j d) → SharerOf sh.base h.commits j l w
@@ -171,19 +169,19 @@ answer-sharers sh gs ys h c d k j l mine m s sends w b i z jl dl ll e a r f =
     })
   where
     kept : (s.lines.sharers l j ≡ true) ⊎ ((j ≡ c) × (passes (GoneOf l) m ≡ true))
-        → (w.dir.lines.sharers l j ≡ true) ⊎ (1 ≤ live (GoneOf l) (h.world.net (Core j) (Dir d)))
+        → (w.dir.lines.sharers l j ≡ true) ⊎ (1 ≤ live (GoneOf l) (to_dir h.world j d))
     kept (inl q) = inl (ap (λ u. u.lines.sharers l j) (a.dir) ∙ q)
-    kept (inr q) = let y : mine ≡ true = sym z ∙ (let p = q.0 in grind (arith, nat_tests)) in
+    kept (inr q) = let y : mine ≡ true = sym z ∙ (let p = q.0 in grind nats) in
         let n : num (mine && passes (GoneOf l) m) ≡ 1 = rw (y, q.1) refl in inr (omega (arith, n, a.lives (GoneOf l)))
 
     filled : (0 < among (FillOf l) (sends (Core j))) ⊎ (among (FillOf l) (sends (Core j)) ≤ 0)
-        → (live (FillOf l) w.back ≤ live (FillOf l) (h.world.net (Dir d) (Core j)))
-        ⊎ ((w.dir.lines.sharers l j ≡ true) × (live (GoneOf l) (h.world.net (Core j) (Dir d)) ≡ 0))
+        → (live (FillOf l) w.back ≤ live (FillOf l) (to_core h.world d j))
+        ⊎ ((w.dir.lines.sharers l j ≡ true) × (live (GoneOf l) (to_dir h.world j d) ≡ 0))
     filled (inr q) = inl (omega (arith, q, a.back (FillOf l)))
     filled (inl q) = let x = f.filled l j (omega (arith, q)) in let n : num (has_mark (h.world.dirs d).lines l) ≡ 0 = ap num (x.1) in
         inr (
           ap (λ u. u.lines.sharers l j) (a.dir) ∙ x.0,
-          omega (arith, n, (b.told.all.named j d l jl dl).one, gone-acks l (h.world.net (Core j) (Dir d))),
+          omega (arith, n, (b.told.all.named j d l jl dl).one, gone-acks l (to_dir h.world j d)),
         )
 
 -- Every event of a core keeps that a core which holds a line is one of its sharers, or its Commit of the line is in flight.
@@ -198,19 +196,19 @@ pub record Sharing (sh : Shape) (w : History) (c d l : ℕ) (o : Out) : Type 0 w
   pub speaks : Speaks sh w.world c o
   pub after : AfterStep sh c (w.world.cores c) o
   pub quiet : among (GoneOf l) (o.sends (Dir d)) ≡ 0
-  pub reached : among (CommitsAbove (w.world.dirs d).serving.serving) (o.sends (Dir d)) ≡ 0
+  pub reached : among (CommitsAbove (tid_at w.world d)) (o.sends (Dir d)) ≡ 0
   pub unapplied : (n : Noted) → o.commit ≡ Some n → stores_at sh d n.stores ≡ true → is_applied (w.world.dirs d) n.tid.0 ≡ false
 
 -- a directory that isn't owed anything has none acknowledged
 unowed : (sh : Shape) (gs : List Grant) (ys : Ways) (h : History) (c d l : ℕ) → Before sh gs ys h → c < sh.cores → (h.world.dirs d).owed ≡ 0
-    → live (GoneOf l) (h.world.net (Core c) (Dir d)) ≡ 0
+    → live (GoneOf l) (to_dir h.world c d) ≡ 0
 unfolding share due pair
 unowed sh gs ys h c d l b cl z =
     omega (
       arith,
       z,
-      gone-acks l (h.world.net (Core c) (Dir d)),
-      (lines-live l 0 (h.world.net (Core c) (Dir d))).2,
+      gone-acks l (to_dir h.world c d),
+      (lines-live l 0 (to_dir h.world c d)).2,
       b.told.all.kept.told.owed.owed d,
       total-le (share due h.world d) sh.cores c cl,
     )
@@ -220,7 +218,7 @@ served-owed s t l e = go (nat_lt t s.serving.serving) (t == s.serving.serving) (
   where
     go : (a b c : Bool) → nat_lt t s.serving.serving ≡ a → (t == s.serving.serving) ≡ b → nat_lt 0 s.owed ≡ c
         → num (is_applied s t) ≡ num a + num (b && c) → s.owed ≡ 0
-    go a b d p q r x = grind (arith, nat_tests)
+    go a b d p q r x = grind nats
 
 pub own-sharers : (sh : Shape) (gs : List Grant) (ys : Ways) (h : History) (c d l : ℕ) (o : Out) → Before sh gs ys h
     → KeptLoading sh h.world → c < sh.cores → d < sh.dirs → l < lines sh → home sh l ≡ d → Sharing sh h c d l o
@@ -261,17 +259,17 @@ own-sharers sh gs ys h c d l o b ld cl dl ll e s k = sharer-moved sh.base h.comm
             let same : Some x.noted ≡ Some n → n.core.0 ≡ c = λ z. let p : x.noted ≡ n = cc in rw p at (x.core) in
             same (sym (x.commit) ∙ q)
 
-        below : n.tid.0 ≤ (h.world.dirs d).serving.serving
-        below = go (cases_lt (h.world.dirs d).serving.serving n.tid.0)
+        below : n.tid.0 ≤ (tid_at h.world d)
+        below = go (cases_lt (tid_at h.world d) n.tid.0)
           where
-            go : ((h.world.dirs d).serving.serving < n.tid.0) ⊎ (n.tid.0 ≤ (h.world.dirs d).serving.serving)
-                → n.tid.0 ≤ (h.world.dirs d).serving.serving
+            go : (tid_at h.world d < n.tid.0) ⊎ (n.tid.0 ≤ tid_at h.world d)
+                → n.tid.0 ≤ (tid_at h.world d)
             go (inr z) = z
             go (inl z) =
                 absurd (omega (
                   arith,
                   s.reached,
-                  above-sent (h.world.dirs d).serving.serving n.tid.0 (o.sends (Dir d)) z,
+                  above-sent (tid_at h.world d) n.tid.0 (o.sends (Dir d)) z,
                   commit-sent sh gs ys h c d o n b.told cl (tells o.commit q (s.speaks.tells.commits)) dl
                       (stored-home sh d l n ll e i),
                 ))
@@ -300,7 +298,7 @@ own-sharers sh gs ys h c d l o b ld cl dl ll e s k = sharer-moved sh.base h.comm
             let y = wrote-unknown sh.base h.commits c x.tid l (rw t at ((new n q r).fresh)) in let u = x.line in cc)
           where
             tids : (a b : Bool) → (n.tid.0 == x.tid) ≡ b → (a && b) ≡ true → n.tid.0 ≡ x.tid
-            tids true true p f = grind (arith, nat_tests)
+            tids true true p f = grind nats
             tids true false p f = absurd (cc)
             tids false b p f = absurd (cc)
 
@@ -319,18 +317,18 @@ reads-valid sh w c h k n q x r = go (w.cores c).phase refl
     s : CoreState
     s = w.cores c
 
-    valid : s.phase ≡ Running → ValidOrPassed (s.cache.value x) s.phase (w.dirs (home sh (line_of x))).serving.serving
+    valid : s.phase ≡ Running → ValidOrPassed (s.cache.value x) s.phase (tid_at w (home_of sh x))
         → is_some (s.cache.value x) ≡ true
-    valid e a = grind (arith, nat_tests)
+    valid e a = grind nats
 
     go : (p : Phase) → s.phase ≡ p → is_some (s.cache.value x) ≡ true
-    go m e = grind (arith, nat_tests)
+    go m e = grind nats
 
 abbrev pub SharersAt : Shape → List Noted → (core dir : ℕ) → Pair → Type 0
 SharersAt sh cs c d v = (l : ℕ) → c < sh.cores → d < sh.dirs → l < lines sh → home sh l ≡ d → SharerOf sh.base cs c l v
 
 pub dir-sharers : (sh : Shape) (gs : List Grant) (ys : Ways) (h : History) (c d k : ℕ) (m : Msg) (s : DirState) (sends : Sends)
-    → Before sh gs ys h → KeptSharers sh h.world h.commits → in_flight h.world.net (Core c) (Dir d) k ≡ Some m
+    → Before sh gs ys h → KeptSharers sh h.world h.commits → FromCore h.world c d k m
     → Records sh (h.world.dirs d) c m s → Shares sh (h.world.dirs d) c m s sends → (j e : ℕ)
     → SharersAt sh h.commits j e (pair (dir_takes h.world c d k s sends) j e)
 unfolding pair
@@ -339,8 +337,8 @@ dir-sharers sh gs ys h c d k m s sends b t i r f = pairs_dir (SharersAt sh h.com
     i (same c) cl dl ll e (record {
       core = refl;
       dir = refl;
-      lives = λ q. live-takes q (h.world.net (Core c) (Dir d)) k m i;
-      back = λ q. live-sends q (h.world.net (Dir d) (Core c)) (sends (Core c));
+      lives = λ q. live-takes q (to_dir h.world c d) k m i;
+      back = λ q. live-sends q (to_core h.world d c) (sends (Core c));
     }) r f (t c d l cl dl ll e))
     (λ j n l jl dl ll e. answer-sharers sh gs ys h c d k j l false m s sends (after_answer (pair h.world j d) s (sends (Core j))) b i
     (differ j c n) jl dl ll e
@@ -348,7 +346,7 @@ dir-sharers sh gs ys h c d k m s sends b t i r f = pairs_dir (SharersAt sh h.com
       core = refl;
       dir = refl;
       lives = λ q. omega arith;
-      back = λ q. live-sends q (h.world.net (Dir d) (Core j)) (sends (Core j));
+      back = λ q. live-sends q (to_core h.world d j) (sends (Core j));
     }) r f (t j d l jl dl ll e))
     (λ j e l jl el ll q. t j e l jl el ll q)
 
@@ -380,27 +378,27 @@ moved-sharers sh gs ys h c o b ld t a f j d = either j c
     (λ l jl dl ll e. other-sharers sh.base o.commit h.commits j l (pair h.world j d) (λ x q. unlike x q n a) (t j d l jl dl ll e)))
   where
     unlike : (x : Noted) → o.commit ≡ Some x → (j ≡ c → ⊥) → AfterStep sh c (h.world.cores c) o → (x.core.0 == j) ≡ false
-    unlike x q n a = grind (arith, nat_tests)
+    unlike x q n a = grind nats
 
 -- A message that a core takes keeps that a core which holds a line is one of its sharers, or its Commit of the line is in flight.
 fill-away : (n e l : ℕ) (m : Msg) → passes (FillOf l) m ≡ true → passes (LinesAway n e) m ≡ not ((l % n) == e)
 unfolding passes
-fill-away n e l a q = grind (arith, nat_tests)
+fill-away n e l a q = grind nats
 
 -- a Fill comes from the line's home
-fill-home : (sh : Shape) (w : World) (c e k l : ℕ) (m : Msg) → KeptHomes sh w → in_flight w.net (Dir e) (Core c) k ≡ Some m
+fill-home : (sh : Shape) (w : World) (c e k l : ℕ) (m : Msg) → KeptHomes sh w → FromDir w e c k m
     → passes (FillOf l) m ≡ true → home sh l ≡ e
 unfolding pair
 fill-home sh w c e k l m h i q = go (home sh l == e) refl
   where
     go : (y : Bool) → (home sh l == e) ≡ y → home sh l ≡ e
-    go true p = grind (arith, nat_tests)
+    go true p = grind nats
     go false p = absurd (let n : num (passes (LinesAway sh.dirs e) m) ≡ 1 = ap num (fill-away sh.dirs e l m q) ∙ rw p refl in
-        omega (arith, n, live-some (LinesAway sh.dirs e) (w.net (Dir e) (Core c)) k m i, (h c e l).back))
+        omega (arith, n, live-some (LinesAway sh.dirs e) (to_core w e c) k m i, (h c e l).back))
 
 -- v is the core's pair, with the message or without
 pub back-sharers : (sh : Shape) (w : World) (cs : List Noted) (c e d k l : ℕ) (m : Msg) (v : Pair) (o : Out) → KeptHomes sh w
-    → home sh l ≡ d → in_flight w.net (Dir e) (Core c) k ≡ Some m
+    → home sh l ≡ d → FromDir w e c k m
     → v.core ≡ (pair w c d).core → v.dir ≡ (pair w c d).dir → v.out ≡ (pair w c d).out
     → live (FillOf l) v.back ≤ live (FillOf l) (pair w c d).back → HoldsTaken sh l (w.cores c) m o
     → (passes (InvOf l) m ≡ false → among (GoneOf l) (o.sends (Dir d)) ≡ 0) → LoadingOf sh d l (after_move v o d)
@@ -426,8 +424,8 @@ back-sharers sh w cs c e d k l m v o h q i vc vd vo vb f g ld t =
         kept (inr y) =
             let z : e ≡ d = sym (fill-home sh w c e k l m h i (y.0)) ∙ q in
             let n : num (passes (FillOf l) m) ≡ 1 = ap num (y.0) in
-            let p : 1 ≤ live (FillOf l) (w.net (Dir d) (Core c)) =
-            rw (sym z) (omega (arith, n, live-some (FillOf l) (w.net (Dir e) (Core c)) k m i)) in
+            let p : 1 ≤ live (FillOf l) (to_core w d c) =
+            rw (sym z) (omega (arith, n, live-some (FillOf l) (to_core w e c) k m i)) in
             holds-fill l u (y.1) p
 
     more : CommitsLine sh.base cs c l u → CommitsLine sh.base cs c l x

@@ -7,21 +7,18 @@ use Names.{inr, Noted, Program, num, Core, Dir, Vendor, Msg, TidGrant, Event, Di
 use Names.{core_exec, core_evict, from_dir, grant, Answer, Waits, Drops, Asks, Takes, dir_deliver, core_moves, core_takes, dir_takes}
 use Names.{dir_asks, History, and_noted, step, KeptNamed, KeptLoading, KeptHomes, LoadingOf, SharerOf, Kind, Commits, GoneOf, AckOf, Acks}
 use Names.{InvOf, InvsAway, FillOf, among, passes, Grant, Pair, after_move, grant_taken, back_taken, after_answer, out_taken, after_grant}
-use Names.{after_other_grant, is_applied, stores_at, Ways, Bool}
+use Names.{after_other_grant, is_applied, stores_at, Ways, Bool, tid_at, to_dir, to_core, FromCore, FromDir}
 use proofs.Copies.LinesKept.{Before}
 use proofs.Counts.Links.{live-sends, live-takes, none-taken}
 use proofs.Counts.StepCases.{back-own, back-away, pairs_grant, pairs_back, pairs_dir, pairs_asks, pairs_vendor, OfAnswer, step_cases}
-use proofs.Lines.CoreHolds.{Holds, holds-exec, holds-evict, holds-grant}
-use proofs.Lines.CoreHoldsTakes.{HoldsTaken, holds-back}
-use proofs.Lines.DirSharers.{Shares, SharesBy, dir-shares}
+use proofs.Lines.CoreHolds.{Holds, holds-exec, holds-evict, holds-grant, HoldsTaken, holds-back}
+use proofs.Marks.DirRecords.{Shares, SharesBy, dir-shares, NoCommit, RecordsBy, dir-records}
 use proofs.Lines.SharersKept.{sharer-answered, gone-ack, gone-acks, SharersAt, reads-valid, dir-sharers, moved-sharers, own-sharers}
 use proofs.Lines.SharersKept.{back-sharers}
-use proofs.Marks.CoreAfter.{AfterStep, Stays, after-exec, after-evict, after-grant, after-back}
-use proofs.Marks.DirRecords.{NoCommit, RecordsBy, dir-records}
+use proofs.Marks.AfterKept.{AfterStep, Stays, after-exec, after-evict, after-grant, after-back}
 use proofs.Marks.NamedKept.{lines-among, acks-line}
 use proofs.Marks.ReadsKept.{KeptReads}
-use proofs.Serving.CommitOwners.{CommitsNoted, noted-exec, noted-evict}
-use proofs.Serving.CoreCommits.{Served, served-exec, served-evict, served-grant}
+use proofs.Serving.CoreCommits.{CommitsNoted, noted-exec, noted-evict, Served, served-exec, served-evict, served-grant}
 use proofs.Serving.CoreDue.{CleanOut, clean-exec, clean-evict, clean-grant}
 use proofs.Tids.CoreTids.{KeepsPart, part-exec, part-evict}
 use proofs.Tids.TidSteps.{live-some}
@@ -81,7 +78,7 @@ same-sharers base cs c l v w e f g i h =
     }) h
 
 dropped-sharers : (sh : Shape) (h : History) (c d k : ℕ) (m : Msg) → KeptSharers sh h.world h.commits
-    → in_flight h.world.net (Core c) (Dir d) k ≡ Some m → NoCommit m
+    → FromCore h.world c d k m → NoCommit m
     → KeptSharers sh (dir_takes h.world c d k (h.world.dirs d) (λ dst. [])) h.commits
 unfolding pair
 dropped-sharers sh h c d k m t i u = pairs_dir (SharersAt sh h.commits) h.world c d k (h.world.dirs d) (λ dst. [])
@@ -93,18 +90,18 @@ dropped-sharers sh h c d k m t i u = pairs_dir (SharersAt sh h.commits) h.world 
       commits = λ x. inr (record {
         tid = x.tid;
         sent = (let z : num (passes (Commits x.tid) m) ≡ 0 = ap num (u x.tid) in
-            omega (arith, x.sent, z, live-takes (Commits x.tid) (h.world.net (Core c) (Dir d)) k m i));
+            omega (arith, x.sent, z, live-takes (Commits x.tid) (to_dir h.world c d) k m i));
         line = x.line;
       });
-      filled = inl (omega (arith, live-sends (FillOf l) (h.world.net (Dir d) (Core c)) [], none l));
-      gone = omega (arith, live-takes (GoneOf l) (h.world.net (Core c) (Dir d)) k m i);
+      filled = inl (omega (arith, live-sends (FillOf l) (to_core h.world d c) [], none l));
+      gone = omega (arith, live-takes (GoneOf l) (to_dir h.world c d) k m i);
     }) (t c d l cl dl ll q))
     (λ j n l jl dl ll q. sharer-answered sh.base h.commits j l (pair h.world j d) (after_answer (pair h.world j d) (h.world.dirs d) [])
     (record {
       core = refl;
       kept = inl;
       commits = λ x. inr (record { tid = x.tid; sent = x.sent; line = x.line });
-      filled = inl (omega (arith, live-sends (FillOf l) (h.world.net (Dir d) (Core j)) [], none l));
+      filled = inl (omega (arith, live-sends (FillOf l) (to_core h.world d j) [], none l));
       gone = omega arith;
     })
     (t j d l jl dl ll q))
@@ -114,7 +111,7 @@ dropped-sharers sh h c d k m t i u = pairs_dir (SharersAt sh h.commits) h.world 
     none l = no-message (FillOf l)
 
 asked-sharers : (sh : Shape) (h : History) (c d k : ℕ) (m : Msg) (s : DirState) (sends : Sends) → KeptNamed sh h.world
-    → KeptSharers sh h.world h.commits → in_flight h.world.net (Core c) (Dir d) k ≡ Some m → Shares sh (h.world.dirs d) c m s sends
+    → KeptSharers sh h.world h.commits → FromCore h.world c d k m → Shares sh (h.world.dirs d) c m s sends
     → KeptSharers sh (dir_asks h.world d s sends) h.commits
 unfolding pair
 asked-sharers sh h c d k m s sends g t i f = pairs_asks (SharersAt sh h.commits) h.world d s sends
@@ -129,17 +126,17 @@ asked-sharers sh h c d k m s sends g t i f = pairs_asks (SharersAt sh h.commits)
     (λ j x l jl dl ll q. t j x l jl dl ll q)
   where
     kept : (j l : ℕ) → (s.lines.sharers l j ≡ true) ⊎ ((j ≡ c) × (passes (GoneOf l) m ≡ true))
-        → (s.lines.sharers l j ≡ true) ⊎ (1 ≤ live (GoneOf l) (h.world.net (Core j) (Dir d)))
+        → (s.lines.sharers l j ≡ true) ⊎ (1 ≤ live (GoneOf l) (to_dir h.world j d))
     kept j l (inl x) = inl x
     kept j l (inr x) = let n : num (passes (GoneOf l) m) ≡ 1 = ap num (x.1) in
-        inr (rw (x.0) (omega (arith, n, live-some (GoneOf l) (h.world.net (Core c) (Dir d)) k m i)))
+        inr (rw (x.0) (omega (arith, n, live-some (GoneOf l) (to_dir h.world c d) k m i)))
 
     filled : (j l : ℕ) → j < sh.cores → d < sh.dirs → (0 < among (FillOf l) (sends (Core j))) ⊎ (among (FillOf l) (sends (Core j)) ≤ 0)
-        → (live (FillOf l) (after_answer (pair h.world j d) s (sends (Core j))).back ≤ live (FillOf l) (h.world.net (Dir d) (Core j)))
-        ⊎ ((s.lines.sharers l j ≡ true) × (live (GoneOf l) (h.world.net (Core j) (Dir d)) ≡ 0))
-    filled j l jl dl (inr x) = inl (omega (arith, x, live-sends (FillOf l) (h.world.net (Dir d) (Core j)) (sends (Core j))))
+        → (live (FillOf l) (after_answer (pair h.world j d) s (sends (Core j))).back ≤ live (FillOf l) (to_core h.world d j))
+        ⊎ ((s.lines.sharers l j ≡ true) × (live (GoneOf l) (to_dir h.world j d) ≡ 0))
+    filled j l jl dl (inr x) = inl (omega (arith, x, live-sends (FillOf l) (to_core h.world d j) (sends (Core j))))
     filled j l jl dl (inl x) = let y = f.filled l j (omega (arith, x)) in let n : num (has_mark (h.world.dirs d).lines l) ≡ 0 =
-        ap num (y.1) in inr (y.0, omega (arith, n, (g j d l jl dl).one, gone-acks l (h.world.net (Core j) (Dir d))))
+        ap num (y.1) in inr (y.0, omega (arith, n, (g j d l jl dl).one, gone-acks l (to_dir h.world j d)))
 
 pub step-sharers : (sh : Shape) (p : Program) (gs : List Grant) (ys : Ways) (h : History) (e : Event) → Before sh gs ys h
     → KeptLoading sh h.world → KeptHomes sh h.world → KeptReads sh h.world → KeptSharers sh h.world h.commits
@@ -158,11 +155,11 @@ step-sharers sh p gs ys h e b ld hm rd t =
     (λ d u i. part-exec sh p c d u (h.world.cores c) i) (tells-exec sh p c (h.world.cores c) (b.told.all.cores c))
     (noted-exec sh p c (h.world.cores c)) (after-exec sh p c (h.world.cores c) (b.told.all.cores c))
     (clean-exec sh p c (h.world.cores c))
-    (λ d. served-exec sh p c d (h.world.dirs d).serving.serving (h.world.cores c) ((b.told.all.kept.probes c d).core)))
+    (λ d. served-exec sh p c d (tid_at h.world d) (h.world.cores c) ((b.told.all.kept.probes c d).core)))
     (λ c x y l. moved c (core_evict sh x y (h.world.cores c)) (λ k n. holds-evict sh k x y (h.world.cores c))
     (λ d u i. part-evict sh x y d u (h.world.cores c)) (tells-evict sh x y (h.world.cores c)) (noted-evict sh x y (h.world.cores c))
     (after-evict sh c x y (h.world.cores c)) (clean-evict sh x y (h.world.cores c))
-    (λ d. served-evict sh x y d (h.world.dirs d).serving.serving (h.world.cores c)))
+    (λ d. served-evict sh x y d (tid_at h.world d) (h.world.cores c)))
     (λ c k u i n a. granted c k u i)
     (λ c d k m i. taken c d k m i (from_dir sh d (h.world.cores c) m) (λ l. holds-back sh l d (h.world.cores c) m)
     (λ b l. acks-line sh d b l (h.world.cores c) m (not-away c d k m i)) (after-back sh d (h.world.cores c) m))
@@ -176,7 +173,7 @@ step-sharers sh p gs ys h e b ld hm rd t =
     moved : (c : ℕ) (x : Option Out) → ((l : ℕ) → 1 ≤ sh.dirs → IfSome x (Holds sh l (h.world.cores c)))
         → ((d u : ℕ) → d < sh.dirs → IfSome x (λ o. KeepsPart sh d u 0 (h.world.cores c) o)) → IfSome x (λ o. Tells sh (h.world.cores c) o)
         → IfSome x (λ o. CommitsNoted o) → IfSome x (λ o. AfterStep sh c (h.world.cores c) o) → IfSome x (λ o. CleanOut sh o)
-        → ((d : ℕ) → IfSome x (λ o. Served d (h.world.dirs d).serving.serving o))
+        → ((d : ℕ) → IfSome x (λ o. Served d (tid_at h.world d) o))
         → IfSome x (λ o. KeptLoading sh (core_moves h.world c o)
         → ((n : Noted) (d : ℕ) → o.commit ≡ Some n → d < sh.dirs → stores_at sh d n.stores ≡ true
         → is_applied (h.world.dirs d) n.tid.0 ≡ false) → KeptSharers sh (core_moves h.world c o) (and_noted o.commit h.commits))
@@ -205,16 +202,16 @@ step-sharers sh p gs ys h e b ld hm rd t =
           speaks = grant-speaks sh h.world c k u b.told.all.kept.told.tids i;
           after = inl a;
           quiet = none-gone l (o.sends (Dir d)) ((clean-grant sh u (h.world.cores c) d).acks);
-          reached = served-grant sh u d (h.world.dirs d).serving.serving (h.world.cores c);
+          reached = served-grant sh u d (tid_at h.world d) (h.world.cores c);
           unapplied = λ n q s. absurd (let y = sym (a.commit) ∙ q in cc);
         }) (t c d l cl dl ll q)))
         (λ j d l jl dl ll q. subst (λ n. SharerOf sh.base (and_noted n h.commits) j l (pair h.world j d)) (sym (a.commit))
         (t j d l jl dl ll q))
 
-    not-away : (c d k : ℕ) (m : Msg) → in_flight h.world.net (Dir d) (Core c) k ≡ Some m → passes (InvsAway sh.dirs d) m ≡ false
-    not-away c d k m i = none-taken (InvsAway sh.dirs d) (h.world.net (Dir d) (Core c)) k m i ((b.told.all.kept.told.owed.at_home c d).invs)
+    not-away : (c d k : ℕ) (m : Msg) → FromDir h.world d c k m → passes (InvsAway sh.dirs d) m ≡ false
+    not-away c d k m i = none-taken (InvsAway sh.dirs d) (to_core h.world d c) k m i ((b.told.all.kept.told.owed.at_home c d).invs)
 
-    taken : (c d k : ℕ) (m : Msg) → in_flight h.world.net (Dir d) (Core c) k ≡ Some m → (x : Option Out)
+    taken : (c d k : ℕ) (m : Msg) → FromDir h.world d c k m → (x : Option Out)
         → ((l : ℕ) → IfSome x (HoldsTaken sh l (h.world.cores c) m))
         → ((b l : ℕ) → IfSome x (λ o. among (AckOf l) (o.sends (Dir b)) ≤ num ((b == d) && passes (InvOf l) m)))
         → IfSome x (λ o. Stays (h.world.cores c) o)
@@ -226,7 +223,7 @@ step-sharers sh p gs ys h e b ld hm rd t =
     taken c d k m i (Some o) f g a = λ n u. subst (λ x. KeptSharers sh (core_takes h.world (Dir d) c k o) (and_noted x h.commits))
         (sym a.commit) (pairs_back (SharersAt sh h.commits) h.world d c k o
         (λ l cl dl ll q. back-sharers sh h.world h.commits c d d k l m (back_taken (pair h.world c d) k) o hm q i refl refl refl
-        (omega (arith, live-takes (FillOf l) (h.world.net (Dir d) (Core c)) k m i)) (f l) (λ r. quiet d l r)
+        (omega (arith, live-takes (FillOf l) (to_core h.world d c) k m i)) (f l) (λ r. quiet d l r)
         (subst (LoadingOf sh d l) (back-own h.world c k o d) (n c d l)) (t c d l cl dl ll q))
         (λ x r l cl dl ll q. back-sharers sh h.world h.commits c d x k l m (pair h.world c x) o hm q i refl refl refl (omega arith) (f l)
         (λ r. quiet x l r) (subst (LoadingOf sh x l) (back-away h.world d c k o x r) (n c x l)) (t c x l cl dl ll q))
@@ -240,7 +237,7 @@ step-sharers sh p gs ys h e b ld hm rd t =
             none true = refl
             none false = refl
 
-    answered : (c d k : ℕ) (m : Msg) → in_flight h.world.net (Core c) (Dir d) k ≡ Some m → (a : Answer)
+    answered : (c d k : ℕ) (m : Msg) → FromCore h.world c d k m → (a : Answer)
         → RecordsBy sh (h.world.dirs d) c m a → SharesBy sh (h.world.dirs d) c m a
         → OfAnswer h.world c d k
         (λ v. KeptLoading sh v

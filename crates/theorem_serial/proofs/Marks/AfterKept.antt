@@ -1,18 +1,118 @@
 -- Every event keeps that a core notes of each directory the greatest TID of its commits that stored there.
 use Rattle.theorem_serial.proofs
 use proofs.Names
-use Names.{ℕ, max, cond, ◌≡◌, ◌<◌, ◌≤◌, ◌==◌, ◌&&◌, Bool, true, false, List, [], ◌∷◌, Contains, Option, Some, None, IfSome, nat_lt}
-use Names.{if◌then◌else◌, arith, refl, ap, sym, subst, ◌∙◌, inl, inr, nat_tests, Noted, Program, Local, Core, Dir, Vendor, Event, Msg}
-use Names.{Shape, DirState, World, Link, start, core_start, in_flight, Sends, Out, core_exec, core_evict, from_dir, grant, Answer, Waits}
-use Names.{Drops, Asks, Takes, dir_deliver, core_moves, core_takes, dir_takes, step, and_noted, insert_commit, AfterOf, KeptAfter}
-use Names.{KeptLoading, stored_there, LoadOf, LoadNot, live, KeptCores, Grant, AreGranted, holder, KeptOwners, LastGranted, Pair, pair}
-use Names.{after_move, stores_at, last_of}
-use proofs.Marks.CoreAfter.{no-load, Stays, Notes_commit, AfterStep, after-exec, after-evict, after-grant, after-back}
-use proofs.Tids.CoreOwners.{KeepsHolder, noted_tid, none, holder-exec, holder-evict}
+use Names.{ℕ, ◌≡◌, ◌⊎◌, Bool, true, false, [], ◌∷◌, ◌==◌, Option, Some, None, IfSome, if◌then◌else◌, arith, refl, inl, inr, Noted, Program}
+use Names.{word_of, num, line_of, Dir, Msg, LoadReq, Shape, home, CoreState, Awaited, Ready, Out, moves, commit, noted, with_last_commit}
+use Names.{committed_core, solo_commit, core_exec, core_evict, grant, from_dir, LoadOf, LoadNot, among, passes, OneCore, executes}
+use Names.{stores_at, nats, max, cond, ◌<◌, ◌≤◌, ◌&&◌, List, Contains, nat_lt, ap, sym, subst, ◌∙◌, Local, Vendor, Event, DirState, World}
+use Names.{Link, start, core_start, Sends, Answer, Waits, Drops, Asks, Takes, dir_deliver, core_moves, core_takes, dir_takes, step}
+use Names.{and_noted, insert_commit, AfterOf, KeptAfter, KeptLoading, stored_there, live, KeptCores, Grant, AreGranted, holder, KeptOwners}
+use Names.{LastGranted, Pair, pair, after_move, last_of, to_dir, FromCore, FromDir}
+use proofs.Marks.CoreMarks.{stored-solo, stored-written}
+use proofs.OneCore.Said.{Empties, Flushes, Requests, Silent, Tells_alone, Tells_commit, quiet, say}
+use proofs.OneCore.Outcomes.{Commits_now, Did, Ends_alone, Given_none, Granted, Hands_out, Heard, Misses, Misses_anew, after_end, each-back}
+use proofs.OneCore.Outcomes.{each-evict, each-exec, each-grant, emptied, granted, granted_said, heard, heard-quiet, out, said}
+use proofs.Tids.CoreProbing.{KeepsHolder, noted_tid, none, holder-exec, holder-evict}
 use proofs.Counts.Links.{live-sends, live-takes}
 use proofs.Serving.OwnerSteps.{holder-moved}
 use proofs.Counts.StepCases.{either, moves-own, moves-other, pairs_move, pairs_grant, pairs_back, pairs_dir, pairs_asks, pairs_vendor}
 use proofs.Counts.StepCases.{OfAnswer, step_cases}
+
+-- What a core's step does to the TIDs that it notes of its last commit at each directory.
+
+-- without a request for a line there is none that carries something else
+pub no-load : (x : ℕ) (m : Msg) → ((l : ℕ) → num (passes (LoadOf l) m) ≡ 0) → num (passes (LoadNot x) m) ≡ 0
+unfolding passes
+no-load x (LoadReq k a) f =
+    absurd (let y = f k in let z : (k == k) ≡ true = grind nats in let q : num (k == k) ≡ 1 = rw z refl in
+    omega (arith, y, q))
+no-load x _ f = refl
+
+-- nothing is committed, and a load request carries what the core notes of the line's home
+pub record Stays (s : CoreState) (o : Out) : Type 0 where
+  pub after : o.core.last_commit ≡ s.last_commit
+  pub carries : (d : ℕ) → among (LoadNot (s.last_commit d)) (o.sends (Dir d)) ≡ 0
+  pub commit : o.commit ≡ None
+
+-- the core commits: it notes the commit's TID of each directory where the commit stored
+pub record Notes_commit (sh : Shape) (c : ℕ) (s : CoreState) (o : Out) : Type 0 where
+  pub noted : Noted
+  pub commit : o.commit ≡ Some noted
+  pub core : noted.core.0 ≡ c
+  pub after : (d : ℕ) → o.core.last_commit d ≡ (if stores_at sh d noted.stores then noted.tid.0 else s.last_commit d)
+  pub quiet : (d x : ℕ) → among (LoadNot x) (o.sends (Dir d)) ≡ 0
+  pub idle : s.awaited ≡ None
+
+abbrev pub AfterStep : Shape → (core : ℕ) → CoreState → Out → Type 0
+AfterStep sh c s o = Stays s o ⊎ Notes_commit sh c s o
+
+-- no load request is sent, and the core notes what it did
+stays : (s : CoreState) (o : Out) → ((d x : ℕ) → among (LoadNot x) (o.sends (Dir d)) ≡ 0) → o.core.last_commit ≡ s.last_commit
+    → o.commit ≡ None → Stays s o
+stays s o f e c = record { after = e; carries = λ d. f d (s.last_commit d); commit = c }
+
+-- a request carries what the core notes of the line's home
+asked : (sh : Shape) (k : ℕ) (s r : CoreState) → r.last_commit ≡ s.last_commit → Stays s (moves r (say sh s (Requests k)))
+unfolding among passes
+asked sh k s r e = record { after = e; carries = λ d. go d (d == home sh k) refl; commit = refl }
+  where
+    go : (d : ℕ) (b : Bool) → (d == home sh k) ≡ b
+        → among (LoadNot (s.last_commit d)) (if b then LoadReq k (s.last_commit (home sh k)) ∷ [] else []) ≡ 0
+    go d a q = grind nats
+
+-- a core whose directories are all ready awaits nothing and has spilled nothing
+pub after-exec : (sh : Shape) (p : Program) (c : ℕ) (s : CoreState) → OneCore sh s → IfSome (core_exec sh p c s) (λ o. AfterStep sh c s o)
+unfolding passes commit solo_commit committed_core noted with_last_commit
+after-exec sh p c s h = each-exec sh p c s (AfterStep sh c s) go
+  where
+    rests : (t : ℕ) → s.phase ≡ Ready t → (a : Option Awaited) → s.awaited ≡ a → a ≡ None
+    rests t q None e = refl
+    rests t q (Some a) e = let x = (h.awaited a e).0 in absurd (let y : executes s.phase ≡ false = rw q refl in cc)
+
+    go : (x : Did sh p c s) → AfterStep sh c s (out x)
+    go (Misses a n g i q) = inl (asked sh (line_of (word_of sh.base a)) s _ refl)
+    go (Misses_anew a n g i q f) = inl (asked sh (line_of (word_of sh.base a)) s _ refl)
+    go (Ends_alone t l e f r i) = inr (record {
+      noted = noted t c (after_end s l e);
+      commit = refl;
+      core = refl;
+      after = λ d. rw (stored-solo sh s.cache s.spilled s.stores d (λ w. h.words.named w)) refl;
+      quiet = λ d x. quiet sh s (LoadNot x) (Tells_alone t) (λ y. refl) d;
+      idle = i;
+    })
+    go (Commits_now t e) = inr (record {
+      noted = noted t c s;
+      commit = refl;
+      core = refl;
+      after = λ d. rw (stored-written sh s.cache s.spilled s.stores d (rw e at (h.words))) refl;
+      quiet = λ d x. quiet sh s (LoadNot x) (Tells_commit t) (λ y. refl) d;
+      idle = rests t e s.awaited refl;
+    })
+    go x = inl (stays s (out x) (λ d y. quiet sh s (LoadNot y) (said x) (λ z. refl) d) refl refl)
+
+pub after-evict : (sh : Shape) (c x y : ℕ) (s : CoreState) → IfSome (core_evict sh x y s) (λ o. AfterStep sh c s o)
+unfolding passes
+after-evict sh c x y s =
+    each-evict sh x y s (AfterStep sh c s)
+    (λ k e a m. inl (stays s (emptied sh x y k s) (λ d y. quiet sh s (LoadNot y) (Empties k) (λ z. refl) d) refl refl))
+
+pub after-grant : (sh : Shape) (t : ℕ) (s : CoreState) → Stays s (grant sh t s)
+unfolding passes
+after-grant sh t s = each-grant sh t s (Stays s) go
+  where
+    go : (x : Granted sh t s) → Stays s (granted x)
+    go (Given_none e) = stays s _ (λ d y. quiet sh s (LoadNot y) Silent (λ z. refl) d) refl refl
+    go x = stays s (granted x) (λ d y. quiet sh s (LoadNot y) (granted_said x) (λ z. refl) d) refl refl
+
+pub after-back : (sh : Shape) (e : ℕ) (s : CoreState) (m : Msg) → IfSome (from_dir sh e s m) (λ o. Stays s o)
+unfolding passes
+after-back sh e s m = each-back sh e s (λ m o. Stays s o) go m
+  where
+    go : (x : Heard sh e s) → Stays s (heard x)
+    go (Hands_out k) = stays s _ (λ d y. quiet sh s (LoadNot y) (Flushes k) (λ z. refl) d) refl refl
+    go x = stays s (heard x) (λ d y. heard-quiet (LoadNot y) x (λ z. refl) (λ b. refl) d) refl refl
+
+-- Every event keeps that a core notes of each directory the greatest TID of its commits that stored there.
 
 pub last-insert : (p : Noted → Bool) (n : Noted) (cs : List Noted)
     → last_of p (insert_commit n cs) ≡ max (cond (p n) n.tid.0 0) (last_of p cs)
@@ -23,7 +123,7 @@ last-insert p n (m ∷ cs) = go (nat_lt n.tid.0 m.tid.0) (last-insert p n cs)
     go : (b : Bool) → last_of p (insert_commit n cs) ≡ max (cond (p n) n.tid.0 0) (last_of p cs)
         → last_of p (if b then n ∷ m ∷ cs else m ∷ insert_commit n cs) ≡ max (cond (p n) n.tid.0 0)
         (max (cond (p m) m.tid.0 0) (last_of p cs))
-    go a e = grind (arith, nat_tests)
+    go a e = grind nats
 
 -- all commits of a core are below its TID
 last-below : (sh : Shape) (gs : List Grant) (c d t : ℕ) (cs : List Noted) → AreGranted gs cs
@@ -34,7 +134,7 @@ last-below sh gs c d t (m ∷ cs) a f = go (m.core.0 == c) refl (stores_at sh d 
   where
     go : (b : Bool) → (m.core.0 == c) ≡ b → (y : Bool) → last_of (stored_there sh c d) cs ≤ t
         → max (cond (b && y) m.tid.0 0) (last_of (stored_there sh c d) cs) ≤ t
-    go true q true l = let e : m.core.0 ≡ c = grind (arith, nat_tests) in let x = f m.tid.0 (rw (sym e) (a.0)) in omega arith
+    go true q true l = let e : m.core.0 ≡ c = grind nats in let x = f m.tid.0 (rw (sym e) (a.0)) in omega arith
     go true q false l = omega arith
     go false q y l = omega arith
 
@@ -70,7 +170,7 @@ commits-after sh cs c d v o y b n h = record {
 }
   where
     own : (y.noted.core.0 == c) ≡ true
-    own = let e = y.core in grind (arith, nat_tests)
+    own = let e = y.core in grind nats
 
     at-most : (x l : ℕ) → l ≤ x → x ≡ max x l
     at-most x l i = omega arith
@@ -81,7 +181,7 @@ commits-after sh cs c d v o y b n h = record {
     go : (x : Bool) → stores_at sh d y.noted.stores ≡ x
         → (if x then y.noted.tid.0 else v.core.last_commit d) ≡ max
         (cond ((y.noted.core.0 == c) && stores_at sh d y.noted.stores) y.noted.tid.0 0) (last_of (stored_there sh c d) cs)
-    go a q = grind (arith, nat_tests)
+    go a q = grind nats
 
 -- another core's commit
 other-after : (sh : Shape) (cs : List Noted) (n : Noted) (j d : ℕ) (v : Pair) → (n.core.0 == j) ≡ false → AfterOf sh cs j d v
@@ -111,7 +211,7 @@ step-after sh p gs w cs e y k g ld h = step_cases sh p w e (λ x o. KeptAfter sh
     P c d v = c < sh.cores → d < sh.dirs → AfterOf sh cs c d v
 
     -- no load request is in flight from a core that awaits nothing
-    idle : (c d : ℕ) → (w.cores c).awaited ≡ None → (l : ℕ) → live (LoadOf l) (w.net (Core c) (Dir d)) ≡ 0
+    idle : (c d : ℕ) → (w.cores c).awaited ≡ None → (l : ℕ) → live (LoadOf l) (to_dir w c d) ≡ 0
     idle c d n l = let x = ld c d l in omega (arith, rw n at x)
 
     lower : (c t : ℕ) → 1 ≤ holder t (pair w c 0) → (d : ℕ) → last_of (stored_there sh c d) cs ≤ t
@@ -126,10 +226,10 @@ step-after sh p gs w cs e y k g ld h = step_cases sh p w e (λ x o. KeptAfter sh
         (other-after sh cs q.noted j d (pair w j d) (away j n) (h j d cl dl)))
       where
         away : (j : ℕ) → (j ≡ c → ⊥) → (q.noted.core.0 == j) ≡ false
-        away j n = grind (arith, nat_tests)
+        away j n = grind nats
 
     noted-one : (n : Noted) → noted_tid n.tid.0 (Some n) ≡ 1
-    noted-one n = let z : (n.tid.0 == n.tid.0) ≡ true = grind (arith, nat_tests) in rw z refl
+    noted-one n = let z : (n.tid.0 == n.tid.0) ≡ true = grind nats in rw z refl
 
     moved : (c : ℕ) → c < sh.cores → (x : Option Out) → IfSome x (λ o. AfterStep sh c (w.cores c) o)
         → IfSome x (λ o. KeepsHolder c none (w.cores c) o) → IfSome x (λ o. KeptAfter sh (core_moves w c o) (and_noted o.commit cs))
@@ -148,7 +248,7 @@ step-after sh p gs w cs e y k g ld h = step_cases sh p w e (λ x o. KeptAfter sh
         (λ d cl dl. let z = stays-after sh cs c d (pair w c d) (grant sh u (w.cores c)) a (h c d cl dl) in
         record { last = z.last; carried = z.carried }) h)
 
-    taken : (c d i : ℕ) (m : Msg) → in_flight w.net (Dir d) (Core c) i ≡ Some m → (x : Option Out) → IfSome x (λ o. Stays (w.cores c) o)
+    taken : (c d i : ℕ) (m : Msg) → FromDir w d c i m → (x : Option Out) → IfSome x (λ o. Stays (w.cores c) o)
         → IfSome x (λ o. KeptAfter sh (core_takes w (Dir d) c i o) (and_noted o.commit cs))
     taken c d i m q None a = tt
     taken c d i m q (Some o) a = subst (λ n. KeptAfter sh (core_takes w (Dir d) c i o) (and_noted n cs)) (sym a.commit)
@@ -156,7 +256,7 @@ step-after sh p gs w cs e y k g ld h = step_cases sh p w e (λ x o. KeptAfter sh
         (λ cl dl. let z = stays-after sh cs c d (pair w c d) o a (h c d cl dl) in record { last = z.last; carried = z.carried })
         (λ b n cl dl. let z = stays-after sh cs c b (pair w c b) o a (h c b cl dl) in record { last = z.last; carried = z.carried }) h)
 
-    takes : (c d i : ℕ) (m : Msg) (s : DirState) (sends : Sends) → in_flight w.net (Core c) (Dir d) i ≡ Some m
+    takes : (c d i : ℕ) (m : Msg) (s : DirState) (sends : Sends) → FromCore w c d i m
         → KeptAfter sh (dir_takes w c d i s sends) cs
     takes c d i m s sends q = pairs_dir P w c d i s sends
         (λ cl dl. record {
@@ -165,12 +265,12 @@ step-after sh p gs w cs e y k g ld h = step_cases sh p w e (λ x o. KeptAfter sh
             arith,
             (h c d cl dl).carried,
             live-takes (LoadNot ((w.cores c).last_commit d))
-                (w.net (Core c) (Dir d)) i m q,
+                (to_dir w c d) i m q,
           );
         })
         (λ j n cl dl. record { last = (h j d cl dl).last; carried = (h j d cl dl).carried }) h
 
-    answered : (c d i : ℕ) (m : Msg) → in_flight w.net (Core c) (Dir d) i ≡ Some m → (a : Answer)
+    answered : (c d i : ℕ) (m : Msg) → FromCore w c d i m → (a : Answer)
         → OfAnswer w c d i (λ v. KeptAfter sh v cs) a
     answered c d i m q Waits = tt
     answered c d i m q Drops = takes c d i m (w.dirs d) (λ dst. []) q

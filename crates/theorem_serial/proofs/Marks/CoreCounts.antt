@@ -3,11 +3,11 @@ use Rattle.base_lemmas.proofs.Lemmas.{eq-self}
 use Rattle.theorem_serial.proofs
 use proofs.Names
 use Names.{ℕ, zero, suc, ◌+◌, ◌≡◌, ◌<◌, ◌≤◌, Bool, true, false, List, [], ◌∷◌, ◌++◌, ◌==◌, ◌&&◌, IfSome, nat_lt, if◌then◌else◌, flat_map}
-use Names.{arith, refl, ◌∙◌, nat_tests, Program, num, those, count_below, Dir, Msg, Skip, Mark, Commit, WriteBack, Shape, home, lines}
-use Names.{Cache, is_modified, writes_at, Spilled, holds, spilled_mask, spilled_words, CoreState, Phase, Ready, Solo, Out, commit}
-use Names.{commit_sends, solo_sends, solo_marks_or_skip, solo_write_backs, solo_writes_at, is_written, written_mask, core_exec, core_evict}
-use Names.{from_dir, sum_below, Kind, MarkOf, AnyCommit, CommitOf, among, passes, has_marked, stores_line, marked_by, may_commit, has_tid}
-use Names.{solo_commit}
+use Names.{arith, refl, ◌∙◌, Program, num, those, count_below, Dir, Msg, Skip, Mark, Commit, WriteBack, Shape, home, lines, Cache}
+use Names.{is_modified, writes_at, Spilled, holds, spilled_mask, spilled_words, CoreState, Phase, Ready, Solo, Out, commit, commit_sends}
+use Names.{solo_sends, solo_marks_or_skip, solo_write_backs, solo_writes_at, is_written, written_mask, core_exec, core_evict, from_dir}
+use Names.{sum_below, Kind, MarkOf, AnyCommit, CommitOf, among, passes, has_marked, stores_line, marked_by, may_commit, has_tid}
+use Names.{solo_commit, nats}
 use proofs.Serving.CoreCommits.{heard-free}
 use proofs.Counts.Links.{among-append, total-same, among-fewer, among-flat_map_none}
 use proofs.Marks.CoreMarks.{one-mark, marks-only}
@@ -43,15 +43,15 @@ counts-lines sh d t n s o p h e f = record {
 }
   where
     few : (a b : Bool) → num (a && b) ≤ num a
-    few a b = grind (arith, nat_tests)
+    few a b = grind nats
 
     below : (l : ℕ) → l < lines sh → num (nat_lt l (lines sh) && p l) ≡ num (p l)
-    below l x = let b : nat_lt l (lines sh) ≡ true = grind (arith, nat_tests) in rw b refl
+    below l x = let b : nat_lt l (lines sh) ≡ true = grind nats in rw b refl
 
 -- none is sent
 of-any : (t n : ℕ) (m : Msg) → num (passes (CommitOf t n) m) ≤ num (passes AnyCommit m)
 unfolding passes
-of-any t n m = grind (arith, nat_tests)
+of-any t n m = grind nats
 
 pub few-any : (t n : ℕ) (ms : List Msg) → among (CommitOf t n) ms ≤ among AnyCommit ms
 few-any t n ms = among-fewer (CommitOf t n) AnyCommit (of-any t n) ms
@@ -70,9 +70,9 @@ is-commit sh c u d t n x =
         → 1 ≤ among (CommitOf t n)
         (if a then (if b then Commit u (count_below (λ l. d == home sh l && is_modified c l) (lines sh)) ∷ [] else []) else [])
         → (u ≡ t) × (count_below (λ l. d == home sh l && is_modified c l) (lines sh) ≡ n)
-    go true true true true p q y = (grind (arith, nat_tests), grind (arith, nat_tests))
-    go true true true false p q y = absurd (grind (arith, nat_tests))
-    go true true false f p q y = absurd (grind (arith, nat_tests))
+    go true true true true p q y = (grind nats, grind nats)
+    go true true true false p q y = absurd (grind nats)
+    go true true false f p q y = absurd (grind nats)
     go true false e f p q y = absurd (omega (arith, y))
     go false b e f p q y = absurd (omega (arith, y))
 
@@ -122,12 +122,12 @@ is-alone sh c sp u d t n x = go (nat_lt d sh.dirs) (solo_writes_at sh c sp d) x
     skipped = rw (among-append, backs (CommitOf t n) (λ x m ws. refl)) (omega arith)
 
     marked : u ≡ t → (l : ℕ) → among (MarkOf t l) (sends true true) ≡ num (nat_lt l (lines sh) && p l)
-    marked e l = let b : (u == t) ≡ true = grind (arith, nat_tests) in
+    marked e l = let b : (u == t) ≡ true = grind nats in
         rw (among-append, among-append, one-mark p (written_mask c sp) u t l (lines sh), backs (MarkOf t l) (λ x m ws. refl), b)
         (omega arith)
 
     both : (e f : Bool) → (u == t) ≡ e → (count_below p (lines sh) == n) ≡ f → 1 ≤ num (e && f) → (u ≡ t) × (count_below p (lines sh) ≡ n)
-    both true true q r y = (grind (arith, nat_tests), grind (arith, nat_tests))
+    both true true q r y = (grind nats, grind nats)
     both true false q r y = absurd (omega (arith, y))
     both false f q r y = absurd (omega (arith, y))
 

@@ -3,17 +3,16 @@ use Rattle.base_lemmas.proofs.Lemmas.{eq-self, num-most}
 use Rattle.theorem_serial.proofs
 use proofs.Names
 use Names.{ℕ, ◌+◌, ◌≡◌, ◌≤◌, Bool, true, false, not, List, [], ◌∷◌, ◌++◌, ◌==◌, ◌&&◌, None, IfSome, nat_lt, if◌then◌else◌, arith, refl, ap}
-use Names.{◌⊎◌, inl, inr, cases_eq, nat_tests, Program, num, any_word, Dir, Msg, InvAck, Shape, home, lines, Cache, writes_at, is_modified}
-use Names.{CoreState, Phase, Running, AwaitTid, Ready, Overflowing, Solo, to, skip_all, abort_written, Out, commit, committed_core}
-use Names.{phase_after_commit, commit_sends, solo_sends, core_exec, core_evict, Resolves, Protocol, Marks, MarkOf, EmptyMarks, Skips, among}
-use Names.{passes, has_marked, stores_line, marked_by, has_tid, opens, Outcome, moves, solo_commit}
+use Names.{◌⊎◌, inl, inr, cases_eq, Program, num, any_word, Dir, Msg, InvAck, Shape, home, lines, Cache, writes_at, is_modified, CoreState}
+use Names.{Phase, Running, AwaitTid, Ready, Overflowing, Solo, to, skip_all, abort_written, Out, commit, committed_core, phase_after_commit}
+use Names.{commit_sends, solo_sends, core_exec, core_evict, Resolves, Protocol, Marks, MarkOf, EmptyMarks, Skips, among, passes, has_marked}
+use Names.{stores_line, marked_by, has_tid, opens, Outcome, moves, solo_commit, nats}
 use proofs.Counts.Links.{among-append}
 use proofs.Tids.CoreProbing.{tid-after}
-use proofs.OneCore.Executes.{Steady, did-steady}
+use proofs.OneCore.CoreSteps.{Steady, did-steady, steady-emptied}
 use proofs.Marks.CoreMarks.{solo-mark, solo-full, solo-skips, solo-owned}
 use proofs.OneCore.Said.{Wants, say}
 use proofs.OneCore.Outcomes.{Acts, Commits_now, Did, each-exec, out, each-evict, emptied, Ends_alone, Ends_run, Room_wanted, after_end}
-use proofs.OneCore.CoreSteps.{steady-emptied}
 
 -- A core speaks only of its TID. While it keeps it, it has sent a Mark of each line that it has to; it marks a line once, only where
 -- the TID is open, and skips only where it has sent no Mark.
@@ -31,19 +30,19 @@ pub record Marking (sh : Shape) (d t l : ℕ) (s : CoreState) (o : Out) : Type 0
 one-protocol : (t l : ℕ) (m : Msg) → num (passes (Marks t) m) + num (passes (Resolves t) m) + num (passes EmptyMarks m) ≤ num
     (passes Protocol m) + num (passes EmptyMarks m)
 unfolding passes
-one-protocol t l m = grind (arith, nat_tests)
+one-protocol t l m = grind nats
 
 two-protocol : (t l : ℕ) (m : Msg) → num (passes EmptyMarks m) ≤ num (passes Protocol m)
 unfolding passes
-two-protocol t l m = grind (arith, nat_tests)
+two-protocol t l m = grind nats
 
 of-mark : (t l : ℕ) (m : Msg) → num (passes (MarkOf t l) m) ≤ num (passes (Marks t) m)
 unfolding passes
-of-mark t l m = grind (arith, nat_tests)
+of-mark t l m = grind nats
 
 of-skip : (t : ℕ) (m : Msg) → num (passes (Skips t) m) ≤ num (passes (Resolves t) m)
 unfolding passes
-of-skip t m = grind (arith, nat_tests)
+of-skip t m = grind nats
 
 -- none of these
 pub record Unsaid (t l : ℕ) (ms : List Msg) : Type 0 where
@@ -104,7 +103,7 @@ stores-same sh a b d l h = ap (λ m. nat_lt l (lines sh) && (d == home sh l && a
 pub marked-same : (sh : Shape) (s r : CoreState) (d l : ℕ) → r.phase ≡ s.phase → r.owing d ≡ s.owing d
     → (has_marked s.phase ≡ true → stores_line sh r.cache d l ≡ stores_line sh s.cache d l) → marked_by sh s d l ≡ marked_by sh r d l
 unfolding marked_by
-marked-same sh s r d l p q h = grind (arith, nat_tests)
+marked-same sh s r d l p q h = grind nats
 
 pub idle : (q : Phase) → has_marked q ≡ true → Acts q → ⊥
 unfolding has_marked
@@ -142,12 +141,12 @@ last-words sh d t l u s o q e h f w m a k = record {
   where
     own : 1 ≤ among (Marks t) (o.sends (Dir d)) + among (Resolves t) (o.sends (Dir d))
         → (among (Marks t) (o.sends (Dir d)) + among (Resolves t) (o.sends (Dir d)) ≡ 0) ⊎ (u ≡ t) → has_tid s.phase t ≡ true
-    own x a = grind (arith, nat_tests)
+    own x a = grind nats
 
 -- the words on a TID
 pub is-tid : (u t : ℕ) (a : ℕ) → (u ≡ t → ⊥) ⊎ (u ≡ t) → (((u == t) ≡ false) → a ≡ 0) → (a ≡ 0) ⊎ (u ≡ t)
 is-tid u t a (inr e) f = inr e
-is-tid u t a (inl n) f = inl (f (grind (arith, nat_tests)))
+is-tid u t a (inl n) f = inl (f (grind nats))
 
 pub swap : {A B : Type 0} → A ⊎ B → B ⊎ A
 swap (inl a) = inr a
@@ -189,7 +188,7 @@ has-ready u q e = rw e (eq-self u)
 
 solo-opens : (u t : ℕ) (w : Bool) (q : Phase) → q ≡ Solo u → u ≡ t → opens q w t ≡ true
 unfolding opens
-solo-opens u t w q e h = rw e (grind (arith, nat_tests))
+solo-opens u t w q e h = rw e (grind nats)
 
 marking-alone : (sh : Shape) (d t l u : ℕ) (s : CoreState) (o : Out) (e : Outcome) → s.phase ≡ Solo u → o.core.phase ≡ phase_after_commit e
     → o.sends ≡ solo_sends sh s.cache s.spilled u → Marking sh d t l s o
@@ -210,14 +209,14 @@ marking-alone sh d t l u s o e q ph se = record {
     own : 1 ≤ among (Marks t) (solo_sends sh s.cache s.spilled u (Dir d)) + among (Resolves t) (solo_sends sh s.cache s.spilled u (Dir d))
         → (among (Marks t) (solo_sends sh s.cache s.spilled u (Dir d)) + among (Resolves t) (solo_sends sh s.cache s.spilled u (Dir d)) ≡ 0)
         ⊎ (u ≡ t) → has_tid s.phase t ≡ true
-    own x a = grind (arith, nat_tests)
+    own x a = grind nats
 
     skipped : 1 ≤ among (Skips t) (solo_sends sh s.cache s.spilled u (Dir d))
         → 1 ≤ among (Marks t) (solo_sends sh s.cache s.spilled u (Dir d)) + among (Resolves t) (solo_sends sh s.cache s.spilled u (Dir d))
     skipped x = omega (arith, x, (few t l (solo_sends sh s.cache s.spilled u (Dir d))).3)
 
     one : 1 ≤ among (MarkOf t l) (solo_sends sh s.cache s.spilled u (Dir d)) → (u ≡ t) ⊎ (u ≡ t → ⊥) → u ≡ t
-    one x a = grind (arith, nat_tests, solo-mark)
+    one x a = grind (nats, solo-mark)
 
 pub marking-exec : (sh : Shape) (p : Program) (c d t l : ℕ) (s : CoreState) → IfSome (core_exec sh p c s) (λ o. Marking sh d t l s o)
 unfolding commit solo_commit committed_core has_tid

@@ -3,11 +3,11 @@ use Rattle.base_lemmas.proofs.Lemmas.{and-left, and-right, eq-self}
 use Rattle.theorem_serial.proofs
 use proofs.Names
 use Names.{ℕ, ◌+◌, ◌≡◌, ◌<◌, ◌≤◌, Bool, true, false, not, List, [], ◌∷◌, ◌++◌, ◌==◌, ◌&&◌, Some, None, IfSome, if◌then◌else◌, arith, refl}
-use Names.{sym, ap, ◌∙◌, ◌⊎◌, inl, inr, cases_eq, nat_tests, put, num, any_below, Dir, Msg, InvAck, ProbeReply, Fill, DataReq, Inv, Shape}
-use Names.{home, lines, Cache, is_modified, modified_mask, written_lines, writes_at, CoreState, Phase, Running, AwaitTid, DoomedTid}
-use Names.{Probing, Ready, Overflowing, Solo, to, marks_for, skip_all, abort_written, probe_all, Out, from_dir, all_replied, probe_reply}
-use Names.{fill, data_request, invalidate, ignored, grant, grant_in_phase, grant_sends, is_probed, probing_or_ready, Resolves, Marks}
-use Names.{MarkOf, EmptyMarks, Skips, among, passes, has_marked, stores_line, marked_by, has_tid, opens, waits_for_tid}
+use Names.{sym, ap, ◌∙◌, ◌⊎◌, inl, inr, cases_eq, put, num, any_below, Dir, Msg, InvAck, ProbeReply, Fill, DataReq, Inv, Shape, home, lines}
+use Names.{Cache, is_modified, modified_mask, written_lines, writes_at, CoreState, Phase, Running, AwaitTid, DoomedTid, Probing, Ready}
+use Names.{Overflowing, Solo, to, marks_for, skip_all, abort_written, probe_all, Out, from_dir, all_replied, probe_reply, fill}
+use Names.{data_request, invalidate, ignored, grant, grant_in_phase, grant_sends, is_probed, probing_or_ready, Resolves, Marks, MarkOf}
+use Names.{EmptyMarks, Skips, among, passes, has_marked, stores_line, marked_by, has_tid, opens, waits_for_tid, nats}
 use proofs.Counts.Links.{among-append, num-one}
 use proofs.Marks.CoreMarking.{Marking, Unsaid, unsaid-nothing, unsaid-append, acked, silent, silent-none, marking-steady, last-words}
 use proofs.Marks.CoreMarking.{is-tid, swap, mine, told-abort, told-skip, marked-same, stores-same}
@@ -28,18 +28,18 @@ append-told t l a b u = (
 
 has-of : (u : ℕ) (q : Phase) → ((q ≡ Probing u) ⊎ (q ≡ Ready u)) ⊎ ((q ≡ Overflowing (Some u)) ⊎ (q ≡ Solo u)) → has_tid q u ≡ true
 unfolding has_tid
-has-of u q a = grind (arith, nat_tests)
+has-of u q a = grind nats
 
 silent-alone : (u : ℕ) (q : Phase) → (q ≡ Overflowing (Some u)) ⊎ (q ≡ Solo u) → has_marked q ≡ false
 unfolding has_marked
-silent-alone u q a = grind (arith, nat_tests)
+silent-alone u q a = grind nats
 
 pub unmarked : (sh : Shape) (s : CoreState) (d l : ℕ) → has_marked s.phase ≡ false → marked_by sh s d l ≡ 0
 unfolding marked_by
 unmarked sh s d l e = rw e refl
 
 skips-mine : (u t : ℕ) (a b : ℕ) → 1 ≤ a → a ≤ b → (b ≡ 0) ⊎ (u ≡ t) → u ≡ t
-skips-mine u t a b x y d = grind (arith, nat_tests)
+skips-mine u t a b x y d = grind nats
 
 skips-resolves : (sh : Shape) (u d t : ℕ) → among (Skips t) (skip_all sh u (Dir d)) ≤ among (Marks t) (skip_all sh u (Dir d)) + among
     (Resolves t) (skip_all sh u (Dir d))
@@ -98,31 +98,31 @@ marking-hurt sh x d t l s o i = go i.hurt
 -- a reply
 last-tid : (b : Bool) (u t : ℕ) → has_tid (if b then Ready u else Probing u) t ≡ true → u ≡ t
 unfolding has_tid
-last-tid a u t x = grind (arith, nat_tests)
+last-tid a u t x = grind nats
 
 last-alone : (b : Bool) (u t : ℕ) → has_tid (if b then Solo u else Overflowing (Some u)) t ≡ true → u ≡ t
 unfolding has_tid
-last-alone a u t x = grind (arith, nat_tests)
+last-alone a u t x = grind nats
 
 both-marked : (b : Bool) (u : ℕ) → has_marked (if b then Ready u else Probing u) ≡ true
 unfolding has_marked
-both-marked a u = grind (arith, nat_tests)
+both-marked a u = grind nats
 
 none-marked : (b : Bool) (u : ℕ) → has_marked (if b then Solo u else Overflowing (Some u)) ≡ false
 unfolding has_marked
-none-marked a u = grind (arith, nat_tests)
+none-marked a u = grind nats
 
 put_same : (e : ℕ) (f : ℕ → Bool) → put f e false e ≡ false
 put_same e f = let b : (e == e) ≡ true = eq-self e in rw b refl
 
 put_other : (e d : ℕ) (f : ℕ → Bool) → (d ≡ e → ⊥) → put f e false d ≡ f d
-put_other e d f n = let b : (d == e) ≡ false = grind (arith, nat_tests) in rw b refl
+put_other e d f n = let b : (d == e) ≡ false = grind nats in rw b refl
 
 nothing-more : (a b : Bool) → num (true && b) + num (a && (not true && b)) ≡ num (true && (not false && b))
-nothing-more a b = grind (arith, nat_tests)
+nothing-more a b = grind nats
 
 no-more : (a b c : Bool) → num a + num (b && (not true && c)) ≤ 1
-no-more a b c = grind (arith, nat_tests)
+no-more a b c = grind nats
 
 opens-probing : (u t : ℕ) (w : Bool) → (u == t) ≡ true → w ≡ true → opens (Probing u) w t ≡ true
 unfolding opens
@@ -176,7 +176,7 @@ marking-here sh e u t l s o ph ow ph' ow' ca se = record {
 
     after : u ≡ t → num ((u == t) && stores_line sh s.cache e l) + num (has_marked (Probing u) && (not true && stores_line sh s.cache e l))
         ≡ num (has_marked o.core.phase && (not (o.core.owing e) && stores_line sh s.cache e l))
-    after y = let b : (u == t) ≡ true = grind (arith, nat_tests) in
+    after y = let b : (u == t) ≡ true = grind nats in
         rw (b, marked, free) (nothing-more (has_marked (Probing u)) (stores_line sh s.cache e l))
 
     opening : 1 ≤ among (MarkOf t l) (marks_for sh s.cache u e) → opens s.phase (writes_at sh s.cache e) t ≡ true
@@ -216,7 +216,7 @@ marking-replied sh e u d t l s o (Probed ph ow ph' ow' ca se cm) = go (cases_eq 
     here = let b : (e == e) ≡ true = eq-self e in rw b refl
 
     away : (d ≡ e → ⊥) → to (Dir e) (marks_for sh s.cache u e) (Dir d) ≡ []
-    away n = let b : (d == e) ≡ false = grind (arith, nat_tests) in rw b refl
+    away n = let b : (d == e) ≡ false = grind nats in rw b refl
 
     go : (d ≡ e) ⊎ (d ≡ e → ⊥) → Marking sh d t l s o
     go (inl q) = rw q (marking-here sh e u t l s o ph ow ph' ow' ca (ap (λ f. f (Dir e)) se ∙ here))
@@ -251,25 +251,25 @@ told-probe sh u d t l = (grind arith, grind arith, grind arith)
 
 tid-probing : (b : Bool) (u t : ℕ) → has_tid (probing_or_ready b u) t ≡ true → u ≡ t
 unfolding has_tid
-tid-probing a u t x = grind (arith, nat_tests)
+tid-probing a u t x = grind nats
 
 unprobed-stores : (sh : Shape) (c : Cache) (d l : ℕ) → d < sh.dirs → is_probed sh c d ≡ false → stores_line sh c d l ≡ false
 unfolding is_probed
-unprobed-stores sh c d l x q = grind (arith, nat_tests, stores-writes)
+unprobed-stores sh c d l x q = grind (nats, stores-writes)
 
 pub granting : (sh : Shape) (u d t l : ℕ) (s : CoreState) → waits_for_tid s.phase ≡ true → Granting sh u d t l (grant sh u s)
 unfolding grant waits_for_tid has_tid has_marked marked_by
 granting sh u d t l s w = go s.phase w
   where
     other : (u ≡ t → ⊥) → (u == t) ≡ false
-    other n = grind (arith, nat_tests)
+    other n = grind nats
 
     same : (u == t) ≡ true → u ≡ t
-    same e = grind (arith, nat_tests)
+    same e = grind nats
 
     quiet : (q : Phase) (b : Bool) → d < sh.dirs → is_probed sh s.cache d ≡ b
         → num (has_marked q && (not b && stores_line sh s.cache d l)) ≡ 0
-    quiet q a x e = grind (arith, nat_tests, unprobed-stores)
+    quiet q a x e = grind (nats, unprobed-stores)
 
     go : (q : Phase) → waits_for_tid q ≡ true → Granting sh u d t l (grant_in_phase sh u s q)
     go AwaitTid h = let f = told-grant sh s.cache u d t l in

@@ -1,25 +1,28 @@
--- A core sends a Mark of each line that it stores to a directory that replies, and Skips and Marks to none at once.
+-- What a core marks: a line that it stores gets a Mark at a directory that replies, with the words that its stores name.
+use Rattle.base_lemmas.proofs.Lemmas.{any_below-same, mask_of-none}
 use Rattle.theorem_serial.proofs
 use proofs.Names
 use Names.{ℕ, zero, suc, ◌+◌, ◌≡◌, ◌<◌, ◌≤◌, Bool, true, false, List, [], ◌∷◌, ◌++◌, ◌==◌, ◌&&◌, ◌||◌, is_some, nat_lt, if◌then◌else◌}
-use Names.{flat_map, arith, refl, ◌⊎◌, inl, inr, cases_eq, nat_tests, flat_map-append, num, those, count_below, any_word, word_at, mask_of}
-use Names.{Dir, Msg, Skip, Mark, Commit, WriteBack, Shape, home, lines, Cache, is_modified, modified_mask, written_lines, writes_at}
-use Names.{Spilled, holds, spilled_mask, spilled_words, any_below-at, any_below-found, marks_for, solo_sends, solo_marks_or_skip}
-use Names.{solo_write_backs, solo_writes_at, is_written, written_mask, Kind, Resolves, Marks, MarkOf, EmptyMarks, Skips, among, passes}
-use Names.{stores_line}
-use proofs.Counts.Links.{among-append, among-flat_map_none}
+use Names.{flat_map, arith, refl, ◌⊎◌, inl, inr, cases_eq, flat_map-append, num, those, count_below, any_word, word_at, mask_of, Dir, Msg}
+use Names.{Skip, Mark, Commit, WriteBack, Shape, home, lines, Cache, is_modified, modified_mask, written_lines, writes_at, Spilled, holds}
+use Names.{spilled_mask, spilled_words, any_below-at, any_below-found, marks_for, solo_sends, solo_marks_or_skip, solo_write_backs}
+use Names.{solo_writes_at, is_written, written_mask, Kind, Resolves, Marks, MarkOf, EmptyMarks, Skips, among, passes, stores_line, nats}
+use Names.{Option, None, sym, ap, ◌∙◌, Stored, any_below, Words, stores_in, stored_mask, stores_at, stores_word}
+use proofs.Counts.Links.{among-append, among-flat_map_none, num-same}
+
+-- A core sends a Mark of each line that it stores to a directory that replies, and Skips and Marks to none at once.
 
 -- marks of some lines, one each
 pub one-mark : (p : ℕ → Bool) (f : ℕ → ℕ) (u t l n : ℕ)
     → among (MarkOf t l) (flat_map (λ k. Mark k (f k) u ∷ []) (those p n)) ≡ num ((u == t) && (nat_lt l n && p l))
 unfolding among passes those
-one-mark p f u t l zero = grind (arith, nat_tests)
+one-mark p f u t l zero = grind nats
 one-mark p f u t l (suc n) = rw (flat_map-append, among-append, one-mark p f u t l n) (go (p n) refl)
   where
     go : (b : Bool) → p n ≡ b
         → num ((u == t) && (nat_lt l n && p l)) + among (MarkOf t l) (flat_map (λ k. Mark k (f k) u ∷ []) (if b then n ∷ [] else [])) ≡ num
         ((u == t) && (nat_lt l (suc n) && p l))
-    go b q = grind (arith, nat_tests)
+    go b q = grind nats
 
 -- and none of another kind
 pub marks-only : (k : Kind) (p : ℕ → Bool) (f : ℕ → ℕ) (u n : ℕ) → ((l x : ℕ) → num (passes k (Mark l x u)) ≡ 0)
@@ -35,7 +38,7 @@ full-marks p f u zero h = refl
 full-marks p f u (suc n) h = rw (flat_map-append, among-append, full-marks p f u n h) (go (p n) refl)
   where
     go : (b : Bool) → p n ≡ b → 0 + among EmptyMarks (flat_map (λ k. Mark k (f k) u ∷ []) (if b then n ∷ [] else [])) ≡ 0
-    go a q = grind (arith, nat_tests)
+    go a q = grind nats
 
 -- a mask of places of which one has p
 pub some-mask : (p : ℕ → Bool) (k : ℕ) → k < 8 → p k ≡ true → 0 < mask_of p
@@ -82,7 +85,7 @@ full-for sh c u e =
 
 pub stores-writes : (sh : Shape) (c : Cache) (d l : ℕ) → stores_line sh c d l ≡ true → writes_at sh c d ≡ true
 unfolding stores_line writes_at
-stores-writes sh c d l q = any_below-at (λ k. d == home sh k && is_modified c k) (lines sh) l (grind (arith, nat_tests)) (grind arith)
+stores-writes sh c d l q = any_below-at (λ k. d == home sh k && is_modified c k) (lines sh) l (grind nats) (grind arith)
 
 -- alone: marks and a Commit, or a Skip
 pub solo-mark : (sh : Shape) (c : Cache) (sp : Spilled) (u d t l : ℕ) → among (MarkOf t l) (solo_sends sh c sp u (Dir d)) ≤ num (u == t)
@@ -97,7 +100,7 @@ solo-mark sh c sp u d t l = go (nat_lt d sh.dirs) (solo_writes_at sh c sp d)
         (λ k. refl) (those (λ k. d == home sh k && holds sp k) (lines sh))
 
     few : (b : Bool) → num ((u == t) && b) ≤ num (u == t)
-    few b = grind (arith, nat_tests)
+    few b = grind nats
 
     go : (a w : Bool)
         → among (MarkOf t l) (if a
@@ -136,7 +139,7 @@ solo-full sh c sp u d = go (nat_lt d sh.dirs) (solo_writes_at sh c sp d)
 pub solo-skips : (sh : Shape) (c : Cache) (sp : Spilled) (u d t l : ℕ) → 1 ≤ among (Skips t) (solo_sends sh c sp u (Dir d))
     → among (MarkOf t l) (solo_sends sh c sp u (Dir d)) ≡ 0
 unfolding solo_sends solo_marks_or_skip solo_write_backs among passes
-solo-skips sh c sp u d t l h = grind (arith, nat_tests, among-flat_map_none, among-append, marks-only)
+solo-skips sh c sp u d t l h = grind (nats, among-flat_map_none, among-append, marks-only)
 
 pub solo-owned : (sh : Shape) (c : Cache) (sp : Spilled) (u d t : ℕ)
     → among (Marks t) (solo_sends sh c sp u (Dir d)) + among (Resolves t) (solo_sends sh c sp u (Dir d)) ≡ 0 ⊎ (u ≡ t)
@@ -175,4 +178,95 @@ solo-owned sh c sp u d t = go (cases_eq u t)
         → (among (Marks t) (sends (nat_lt d sh.dirs) (solo_writes_at sh c sp d)) + among (Resolves t)
         (sends (nat_lt d sh.dirs) (solo_writes_at sh c sp d)) ≡ 0) ⊎ (u ≡ t)
     go (inl e) = inr e
-    go (inr n) = inl (none (grind (arith, nat_tests)) (nat_lt d sh.dirs) (solo_writes_at sh c sp d))
+    go (inr n) = inl (none (grind nats) (nat_lt d sh.dirs) (solo_writes_at sh c sp d))
+
+-- The masks of the words that an attempt's stores name are those of the words that are modified or spilled; so a core stores at a
+-- directory where its stores do.
+
+mask-any : (p : ℕ → Bool) → nat_lt 0 (mask_of p) ≡ any_below p 8
+mask-any p = go (any_below p 8) refl
+  where
+    none : any_below p 8 ≡ false → (k : ℕ) → k < 8 → p k ≡ false
+    none e k l = one (p k) refl
+      where
+        one : (b : Bool) → p k ≡ b → p k ≡ false
+        one false q = q
+        one true q = let a : any_below p 8 ≡ true = any_below-at p 8 k l q in absurd (cc)
+
+    go : (b : Bool) → any_below p 8 ≡ b → nat_lt 0 (mask_of p) ≡ any_below p 8
+    go true e = let r = any_below-found p 8 e in let n : 0 < mask_of p = some-mask p (r.0) (r.1) (r.2) in rw e (grind nats)
+    go false e = rw (e, mask_of-none p (none e)) refl
+
+any-or : (p q : ℕ → Bool) (n : ℕ) → any_below (λ k. p k || q k) n ≡ (any_below p n || any_below q n)
+unfolding any_below
+any-or p q zero = refl
+any-or p q (suc n) = rw (any-or p q n) (go (any_below p n) (any_below q n) (p n) (q n))
+  where
+    go : (a b c d : Bool) → ((a || b) || (c || d)) ≡ ((a || c) || (b || d))
+    go a b c d = grind nats
+
+-- a line at home at the directory has a stored word exactly where its mask has one
+pub stored-line : (sh : Shape) (d : ℕ) (ss : List Stored) (l : ℕ)
+    → num (nat_lt l (lines sh) && (d == home sh l && any_word (stores_word sh.base ss) l)) ≡ num (nat_lt 0 (stored_mask sh d ss l))
+unfolding stored_mask stores_in any_word
+stored-line sh d ss l = grind (nats, mask-any)
+
+pub stored-any : (sh : Shape) (d : ℕ) (ss : List Stored) (p : ℕ → Bool)
+    → ((l : ℕ) → num (nat_lt l (lines sh) && p l) ≡ num (nat_lt 0 (stored_mask sh d ss l))) → any_below p (lines sh) ≡ stores_at sh d ss
+unfolding stores_at
+stored-any sh d ss p h = grind (nats, any_below-same, num-same)
+
+-- where just the words that the stores name are modified
+pub modified-line : (base : ℕ) (c : Cache) (ss : List Stored) (l : ℕ) → ((w : ℕ) → c.modified w ≡ stores_word base ss w)
+    → is_modified c l ≡ any_word (stores_word base ss) l
+unfolding is_modified
+modified-line base c ss l h = ap {A = ℕ → Bool} (λ f. any_word f l) (λ i w. h w i)
+
+pub modified-stored : (base : ℕ) (c : Cache) (ss : List Stored) (l : ℕ) → ((w : ℕ) → c.modified w ≡ stores_word base ss w)
+    → stores_in base ss l ≡ modified_mask c l
+unfolding modified_mask stores_in
+modified-stored base c ss l h = sym (ap {A = ℕ → Bool} (λ f. mask_of (λ k. f (word_at l k))) (λ i w. h w i))
+
+-- where they are modified or spilled
+pub written-line : (base : ℕ) (c : Cache) (sp : Spilled) (ss : List Stored) (l : ℕ)
+    → ((w : ℕ) → (c.modified w || is_some (sp w)) ≡ stores_word base ss w) → is_written c sp l ≡ any_word (stores_word base ss) l
+unfolding is_written is_modified holds any_word
+written-line base c sp ss l h = sym (any-or (λ k. c.modified (word_at l k)) (λ k. is_some (sp (word_at l k))) 8)
+    ∙ ap {A = ℕ → Bool} (λ f. any_below (λ k. f (word_at l k)) 8) (λ i w. h w i)
+
+pub written-stored : (base : ℕ) (c : Cache) (sp : Spilled) (ss : List Stored) (l : ℕ)
+    → ((w : ℕ) → (c.modified w || is_some (sp w)) ≡ stores_word base ss w) → stores_in base ss l ≡ written_mask c sp l
+unfolding written_mask stores_in
+written-stored base c sp ss l h = sym (ap {A = ℕ → Bool} (λ f. mask_of (λ k. f (word_at l k))) (λ i w. h w i))
+
+-- the mask is that of the stored words where the line is at home there, and else empty
+pub stored-cases : (sh : Shape) (d : ℕ) (ss : List Stored) (l : ℕ) → (stored_mask sh d ss l ≡ stores_in sh.base ss l)
+    ⊎ (stored_mask sh d ss l ≡ 0)
+unfolding stored_mask
+stored-cases sh d ss l = go (nat_lt l (lines sh) && d == home sh l)
+  where
+    go : (b : Bool) → ((if b then stores_in sh.base ss l else 0) ≡ stores_in sh.base ss l) ⊎ ((if b then stores_in sh.base ss l else 0) ≡ 0)
+    go true = inl refl
+    go false = inr refl
+
+-- where a core stores
+pub stored-solo : (sh : Shape) (c : Cache) (sp : Spilled) (ss : List Stored) (d : ℕ)
+    → ((w : ℕ) → (c.modified w || is_some (sp w)) ≡ stores_word sh.base ss w) → solo_writes_at sh c sp d ≡ stores_at sh d ss
+unfolding solo_writes_at
+stored-solo sh c sp ss d h = ap {A = ℕ → Bool} (λ f. any_below (λ l. d == home sh l && f l) (lines sh))
+    (λ i l. written-line sh.base c sp ss l h i) ∙ stored-any sh d ss (λ l. d == home sh l && any_word (stores_word sh.base ss) l)
+    (stored-line sh d ss)
+
+-- one that isn't alone has spilled nothing
+pub unspilled : (sh : Shape) (c : Cache) (sp : Spilled) (ss : List Stored) → Words sh false c sp ss → (w : ℕ)
+    → c.modified w ≡ stores_word sh.base ss w
+unspilled sh c sp ss h w =
+    let none : (x : Option ℕ) (b : Bool) → x ≡ None → b ≡ (b || is_some x) = λ x b e. rw e (grind arith) in
+    none (sp w) (c.modified w) (h.spilled_alone refl w) ∙ h.named w
+
+pub stored-written : (sh : Shape) (c : Cache) (sp : Spilled) (ss : List Stored) (d : ℕ) → Words sh false c sp ss
+    → writes_at sh c d ≡ stores_at sh d ss
+unfolding writes_at
+stored-written sh c sp ss d h = ap {A = ℕ → Bool} (λ f. any_below (λ l. d == home sh l && f l) (lines sh))
+    (λ i l. modified-line sh.base c ss l (unspilled sh c sp ss h) i)
+    ∙ stored-any sh d ss (λ l. d == home sh l && any_word (stores_word sh.base ss) l) (stored-line sh d ss)

@@ -2,13 +2,13 @@
 use Rattle.theorem_serial.proofs
 use proofs.Names
 use Names.{after_other_grant, awaits_replies, after_answer, count_below, CountsMarks, grant_taken, dir_deliver, ap, KeptCounted}
-use Names.{after_grant, EmptyMarks, after_move, core_evict, core_moves, core_takes, KeptOwners, false, back_taken, may_commit, nat_tests}
-use Names.{writes_at, sum_below, marked_by, CountedOf, AnyCommit, dir_start, [], in_flight, core_exec, dir_takes, KeptMarks, KeptCores}
-use Names.{cases_lt, has_mark, DirState, sent_all, Resolves, CommitOf, marks_of, Contains, KeptTids, cases_eq, from_dir, dir_asks, KeptTold}
-use Names.{MarksOf, handled, arith, Program, nat_lt, MarkOf, passes, nat_le, Option, IfSome, TidReq, Commit, Answer, Shape, lines, among, ℕ}
-use Names.{Grant, opens, World, share, subst, Noted, Local, Event, Phase, start, Sends, grant, Waits, Drops, Takes, true, List, ◌++◌, ◌==◌}
-use Names.{◌&&◌, refl, Skip, Link, live, Pair, Kind, pair, part, Some, None, Core, Asks, step, Acks, Kept, skip, ◌+◌, ◌≡◌, ◌<◌, ◌≤◌, ◌∙◌}
-use Names.{◌⊎◌, inl, inr, num, Dir, Msg, Out, set}
+use Names.{after_grant, EmptyMarks, after_move, core_evict, core_moves, core_takes, KeptOwners, false, back_taken, may_commit, writes_at}
+use Names.{sum_below, marked_by, CountedOf, AnyCommit, dir_start, [], core_exec, dir_takes, KeptMarks, KeptCores, cases_lt, has_mark}
+use Names.{DirState, sent_all, Resolves, CommitOf, marks_of, Contains, KeptTids, cases_eq, from_dir, dir_asks, KeptTold, MarksOf, handled}
+use Names.{arith, Program, nat_lt, MarkOf, passes, nat_le, Option, IfSome, TidReq, Commit, Answer, Shape, lines, among, ℕ, Grant, opens}
+use Names.{World, share, subst, Noted, Local, Event, Phase, start, Sends, grant, Waits, Drops, Takes, true, List, ◌++◌, ◌==◌, ◌&&◌, refl}
+use Names.{Skip, Link, live, Pair, Kind, pair, part, Some, None, Core, Asks, step, Acks, Kept, skip, ◌+◌, ◌≡◌, ◌<◌, ◌≤◌, ◌∙◌, ◌⊎◌, inl, inr}
+use Names.{num, Dir, Msg, Out, set, nats, tid_at, to_dir, FromCore}
 use proofs.Serving.CoreCommits.{granted-free}
 use proofs.Counts.Links.{live-sends, total-same, total-plus, total-le, live-fewer, live-takes}
 use proofs.Counts.StepCases.{dir-own, dir-other, asks-own, pairs_move, pairs_grant, pairs_back, pairs_dir, pairs_asks, pairs_vendor}
@@ -19,7 +19,7 @@ use proofs.Marks.CoreMarkingTakes.{marking-back, granting}
 use proofs.Marks.DirMarks.{Marked, Stays, MarkedBy, dir-marked}
 use proofs.Marks.MarksKept.{holds, open-untold, taken-less, empty-one, skip-unmarked, only-there, no-request, no-empty}
 use proofs.Marks.MarksKept.{taken-back as back-marks, kinds}
-use proofs.Marks.OwesByCommit.{CountsMarked, OwesBy, dir-owes}
+use proofs.Marks.DirRecords.{CountsMarked, OwesBy, dir-owes}
 use proofs.Serving.DirDue.{Due, DueBy, dir-due, still-due}
 use proofs.Serving.KeptSteps.{core_of_back, core_of_out, once_at, marks_home, acks_owed}
 use proofs.Tids.Commits.{granted-once}
@@ -28,7 +28,7 @@ use proofs.Tids.TidSteps.{granted_waits, live-some}
 -- How each kind of event keeps that a Commit counts its Marks, between a core and a directory.
 one-resolve : (t n : ℕ) (m : Msg) → num (passes (CommitOf t n) m) ≤ num (passes (Resolves t) m)
 unfolding passes
-one-resolve t n m = grind (arith, nat_tests)
+one-resolve t n m = grind nats
 
 -- a Commit is a word on its TID
 pub is-word : (t n : ℕ) (k : Link) → live (CommitOf t n) k ≤ live (Resolves t) k
@@ -71,11 +71,11 @@ counted-moved sh gs c d t v o cl y k m free unowed h = record {
   where
     quiet : (l : ℕ) → d < sh.dirs → 1 ≤ v.dir.owed → (0 < among (MarkOf v.dir.serving.serving l) (o.sends (Dir d)))
         ⊎ (among (MarkOf v.dir.serving.serving l) (o.sends (Dir d)) ≤ 0) → among (MarkOf v.dir.serving.serving l) (o.sends (Dir d)) ≡ 0
-    quiet l dl x a = grind (arith, nat_tests)
+    quiet l dl x a = grind nats
 
     told : (n l : ℕ) → d < sh.dirs → 1 ≤ live (CommitOf t n) v.out → (0 < among (MarkOf t l) (o.sends (Dir d)))
         ⊎ (among (MarkOf t l) (o.sends (Dir d)) ≤ 0) → among (MarkOf t l) (o.sends (Dir d)) ≡ 0
-    told n l dl x a = grind (arith, nat_tests, is-word)
+    told n l dl x a = grind (nats, is-word)
 
     sums : (n : ℕ) → d < sh.dirs → Counts sh d t n v.core o → CountsMarks sh n t (after_move v o d)
     sums n dl a = record {
@@ -113,7 +113,7 @@ none-away sh l v h = go (cases_lt l (lines sh))
     u = v.dir.serving.serving
 
     self : (u == u) ≡ true
-    self = grind (arith, nat_tests)
+    self = grind nats
 
     split : (x : ℕ) → x < lines sh → live (MarkOf u x) v.out + num (u == u && has_mark v.dir.lines x) ≡ live (MarkOf u x) v.out + num
         (has_mark v.dir.lines x)
@@ -127,38 +127,38 @@ none-away sh l v h = go (cases_lt l (lines sh))
 
     go : (l < lines sh) ⊎ (lines sh ≤ l) → live (MarkOf u l) v.out ≡ 0
     go (inl z) = omega (arith, sum, total-le (λ x. live (MarkOf u x) v.out) (lines sh) l z)
-    go (inr z) = let b : num (nat_lt l (lines sh)) ≡ 0 = grind (arith, nat_tests) in omega (arith, b, h.each l)
+    go (inr z) = let b : num (nat_lt l (lines sh)) ≡ 0 = grind nats in omega (arith, b, h.each l)
 
 -- a TID that a core has open isn't owed anything for
 pub open-unowed : (sh : Shape) (w : World) (c d : ℕ) → KeptTids sh w → c < sh.cores → d < sh.dirs
-    → opens (w.cores c).phase (writes_at sh (w.cores c).cache d) (w.dirs d).serving.serving ≡ true → (w.dirs d).owed ≡ 0
+    → opens (w.cores c).phase (writes_at sh (w.cores c).cache d) (tid_at w d) ≡ true → (w.dirs d).owed ≡ 0
 unfolding share part pair handled
 open-unowed sh w c d k l x h = go (cases_lt 0 (w.dirs d).owed)
   where
     t : ℕ
-    t = (w.dirs d).serving.serving
+    t = (tid_at w d)
 
     go : (0 < (w.dirs d).owed) ⊎ ((w.dirs d).owed ≤ 0) → (w.dirs d).owed ≡ 0
     go (inr q) = omega (arith, q)
     go (inl q) =
         let n : num (opens (w.cores c).phase (writes_at sh (w.cores c).cache d) t) ≡ 1 = ap num h in
-        let b : num ((t == t) && nat_lt 0 (w.dirs d).owed) ≡ 1 = grind (arith, nat_tests) in
+        let b : num ((t == t) && nat_lt 0 (w.dirs d).owed) ≡ 1 = grind nats in
         absurd (omega (arith, n, b, k.resolved d t x, total-le (share (part sh d t) w d) sh.cores c l))
 
 -- a TID of which a word is in flight isn't passed
 pub told-ahead : (sh : Shape) (w : World) (c d t : ℕ) → KeptTids sh w → c < sh.cores → d < sh.dirs → 1 ≤ live (Resolves t) (pair w c d).out
     → (pair w c d).dir.serving.serving ≤ t
 unfolding share part pair handled
-told-ahead sh w c d t k l x h = go (cases_lt t (w.dirs d).serving.serving)
+told-ahead sh w c d t k l x h = go (cases_lt t (tid_at w d))
   where
-    go : (t < (w.dirs d).serving.serving) ⊎ ((w.dirs d).serving.serving ≤ t) → (w.dirs d).serving.serving ≤ t
+    go : (t < tid_at w d) ⊎ (tid_at w d ≤ t) → tid_at w d ≤ t
     go (inr q) = q
     go (inl q) =
-        let b : num (nat_lt t (w.dirs d).serving.serving) ≡ 1 = grind (arith, nat_tests) in
+        let b : num (nat_lt t (tid_at w d)) ≡ 1 = grind nats in
         absurd (omega (arith, h, b, k.resolved d t x, total-le (share (part sh d t) w d) sh.cores c l))
 
 below-one : (sh : Shape) (n t l : ℕ) (v : Pair) → CountsMarks sh n t v → marks_of t l v ≤ 1
-below-one sh n t l v h = grind (arith, nat_tests)
+below-one sh n t l v h = grind nats
 
 -- what a directory's answer does to a pair
 pub counted-answered : (sh : Shape) (gs : List Grant) (j d t : ℕ) (v : Pair) (m : Msg) (s : DirState) (ms : List Msg) (k : Link)
@@ -186,7 +186,7 @@ counted-answered sh gs j d t v m s ms k y less eqn skip nonempty ahead serves ow
     settled : (l : ℕ) → d < sh.dirs → 1 ≤ s.owed → (s.serving.serving ≡ v.dir.serving.serving) ⊎ (s.owed ≡ 0)
         → (1 ≤ s.owed → 1 ≤ v.dir.owed) ⊎ ((l : ℕ) → d < sh.dirs → live (MarkOf v.dir.serving.serving l) v.out ≡ 0)
         → live (MarkOf s.serving.serving l) k ≡ 0
-    settled l dl x a r = grind (arith, nat_tests)
+    settled l dl x a r = grind nats
 
 none-granted : (t l d k : ℕ) (v : Pair) (o : Out) → among (MarkOf t l) (o.sends (Dir d)) ≡ 0
     → marks_of t l (after_move (grant_taken v k) o d) ≡ marks_of t l v
@@ -211,50 +211,50 @@ counted-granted sh d t k v o f z h = record {
 
 pub is-commit : (u n : ℕ) → num (passes (CommitOf u n) (Commit u n)) ≡ 1
 unfolding passes
-is-commit u n = grind (arith, nat_tests)
+is-commit u n = grind nats
 
 -- a directory that takes a Commit has all its Marks
 none-left : (sh : Shape) (gs : List Grant) (w : World) (cs : List Noted) (c j d k : ℕ) (m : Msg) → KeptOwners sh gs w cs → KeptMarks sh gs w
-    → KeptCounted sh w → c < sh.cores → in_flight w.net (Core c) (Dir d) k ≡ Some m → CountsMarked sh (w.dirs d) m → (l : ℕ) → d < sh.dirs
-    → live (MarkOf (w.dirs d).serving.serving l) (w.net (Core j) (Dir d)) ≡ 0
+    → KeptCounted sh w → c < sh.cores → FromCore w c d k m → CountsMarked sh (w.dirs d) m → (l : ℕ) → d < sh.dirs
+    → live (MarkOf (tid_at w d) l) (to_dir w j d) ≡ 0
 unfolding pair
 none-left sh gs w cs c j d k m y a h cl i q l dl = go (cases_eq j c)
   where
     u : ℕ
-    u = (w.dirs d).serving.serving
+    u = (tid_at w d)
 
     n : ℕ
     n = count_below (has_mark (w.dirs d).lines) (lines sh)
 
-    sent : 1 ≤ live (CommitOf u n) (w.net (Core c) (Dir d))
-    sent = omega (arith, live-some (CommitOf u n) (w.net (Core c) (Dir d)) k (Commit u n) (i ∙ ap (λ x. Some x) q), is-commit u n)
+    sent : 1 ≤ live (CommitOf u n) (to_dir w c d)
+    sent = omega (arith, live-some (CommitOf u n) (to_dir w c d) k (Commit u n) (i ∙ ap (λ x. Some x) q), is-commit u n)
 
-    own : live (MarkOf u l) (w.net (Core c) (Dir d)) ≡ 0
+    own : live (MarkOf u l) (to_dir w c d) ≡ 0
     own = none-away sh l (pair w c d) ((h c d u cl).counted n dl sent)
 
-    other : (j ≡ c → ⊥) → (0 < live (MarkOf u l) (w.net (Core j) (Dir d))) ⊎ (live (MarkOf u l) (w.net (Core j) (Dir d)) ≤ 0)
-        → live (MarkOf u l) (w.net (Core j) (Dir d)) ≡ 0
+    other : (j ≡ c → ⊥) → (0 < live (MarkOf u l) (to_dir w j d)) ⊎ (live (MarkOf u l) (to_dir w j d) ≤ 0)
+        → live (MarkOf u l) (to_dir w j d) ≡ 0
     other e (inr z) = omega (arith, z)
     other e (inl z) =
-        absurd (e (granted-once 1 gs u j c (y.numbered) ((a j d u l).owner (omega (arith, z, (kinds u l (w.net (Core j) (Dir d))).0)))
-        ((a c d u l).owner (omega (arith, sent, is-word u n (w.net (Core c) (Dir d)))))))
+        absurd (e (granted-once 1 gs u j c (y.numbered) ((a j d u l).owner (omega (arith, z, (kinds u l (to_dir w j d)).0)))
+        ((a c d u l).owner (omega (arith, sent, is-word u n (to_dir w c d))))))
 
-    go : (j ≡ c) ⊎ (j ≡ c → ⊥) → live (MarkOf u l) (w.net (Core j) (Dir d)) ≡ 0
+    go : (j ≡ c) ⊎ (j ≡ c → ⊥) → live (MarkOf u l) (to_dir w j d) ≡ 0
     go (inl e) = rw e own
-    go (inr e) = other e (cases_lt 0 (live (MarkOf u l) (w.net (Core j) (Dir d))))
+    go (inr e) = other e (cases_lt 0 (live (MarkOf u l) (to_dir w j d)))
 
 dir-counted : (sh : Shape) (gs : List Grant) (w : World) (cs : List Noted) (c d k ack : ℕ) (m : Msg) (s : DirState) (sends : Sends)
     → KeptTold sh w → KeptOwners sh gs w cs → KeptMarks sh gs w → KeptCounted sh w → KeptTold sh (dir_takes w c d k s sends) → c < sh.cores
-    → in_flight w.net (Core c) (Dir d) k ≡ Some m → Marked (w.dirs d) m s → Due sh d (w.dirs d) ack s sends
+    → FromCore w c d k m → Marked (w.dirs d) m s → Due sh d (w.dirs d) ack s sends
     → (s.owed ≤ (w.dirs d).owed) ⊎ CountsMarked sh (w.dirs d) m → KeptCounted sh (dir_takes w c d k s sends)
 unfolding pair
 dir-counted sh gs w cs c d k ack m s sends b y a h z cl i u p o =
     pairs_dir (λ j e v. (t : ℕ) → j < sh.cores → CountedOf sh e t v) w c d k s sends
-    (λ t x. counted-answered sh gs c d t (pair w c d) m s (sends (Core c)) (set (w.net (Core c) (Dir d)) k None) u
-    (λ q. taken-less k q (w.net (Core c) (Dir d)) m i) (λ l q. live-takes (MarkOf t l) (w.net (Core c) (Dir d)) k m i) skip nonempty
+    (λ t x. counted-answered sh gs c d t (pair w c d) m s (sends (Core c)) (set (to_dir w c d) k None) u
+    (λ q. taken-less k q (to_dir w c d) m i) (λ l q. live-takes (MarkOf t l) (to_dir w c d) k m i) skip nonempty
     (λ dl. subst (λ v. 1 ≤ live (Resolves t) v.out → v.dir.serving.serving ≤ t) (dir-own w c d k s sends)
     (told-ahead sh new c d t (z.tids) x dl)) (serves p.served) (owes c o) (a c d t 0) (h c d t x))
-    (λ j n t x. counted-answered sh gs j d t (pair w j d) m s (sends (Core j)) (w.net (Core j) (Dir d)) u (λ q. omega arith)
+    (λ j n t x. counted-answered sh gs j d t (pair w j d) m s (sends (Core j)) (to_dir w j d) u (λ q. omega arith)
     (λ l. only-there sh gs w cs c j d k t l m y a i n) skip nonempty
     (λ dl. subst (λ v. 1 ≤ live (Resolves t) v.out → v.dir.serving.serving ≤ t) (dir-other w c d k s sends j n)
     (told-ahead sh new j d t (z.tids) x dl)) (serves p.served) (owes j o) (a j d t 0) (h j d t x))
@@ -263,29 +263,29 @@ dir-counted sh gs w cs c d k ack m s sends b y a h z cl i u p o =
     new : World
     new = dir_takes w c d k s sends
 
-    skip : (l : ℕ) → m ≡ Skip (w.dirs d).serving.serving → has_mark (w.dirs d).lines l ≡ false
+    skip : (l : ℕ) → m ≡ Skip (tid_at w d) → has_mark (w.dirs d).lines l ≡ false
     skip l = skip-unmarked sh gs w c d k m l b a i
 
     nonempty : passes EmptyMarks m ≡ false
-    nonempty = empty-one (w.net (Core c) (Dir d)) k m i ((a c d 0 0).words)
+    nonempty = empty-one (to_dir w c d) k m i ((a c d 0 0).words)
 
-    serves : {B : Type 0} → ((s.serving.serving ≡ (w.dirs d).serving.serving) × B) ⊎ (s.owed ≡ 0)
-        → (s.serving.serving ≡ (w.dirs d).serving.serving) ⊎ (s.owed ≡ 0)
+    serves : {B : Type 0} → ((s.serving.serving ≡ tid_at w d) × B) ⊎ (s.owed ≡ 0)
+        → (s.serving.serving ≡ tid_at w d) ⊎ (s.owed ≡ 0)
     serves (inl q) = inl (q.0)
     serves (inr q) = inr q
 
     owes : (j : ℕ) → (s.owed ≤ (w.dirs d).owed) ⊎ CountsMarked sh (w.dirs d) m
         → (1 ≤ s.owed → 1 ≤ (w.dirs d).owed)
-        ⊎ ((l : ℕ) → d < sh.dirs → live (MarkOf (w.dirs d).serving.serving l) (w.net (Core j) (Dir d)) ≡ 0)
+        ⊎ ((l : ℕ) → d < sh.dirs → live (MarkOf (tid_at w d) l) (to_dir w j d) ≡ 0)
     owes j (inl q) = inl (λ x. omega (arith, q, x))
     owes j (inr q) = inr (none-left sh gs w cs c j d k m y a h cl i q)
 
 asks-counted : (sh : Shape) (gs : List Grant) (w : World) (d : ℕ) (s : DirState) (sends : Sends) → KeptMarks sh gs w → KeptCounted sh w
-    → KeptTold sh (dir_asks w d s sends) → (s.serving.serving ≡ (w.dirs d).serving.serving)
+    → KeptTold sh (dir_asks w d s sends) → (s.serving.serving ≡ tid_at w d)
     × ((l : ℕ) → s.lines.mark l ≡ (w.dirs d).lines.mark l) → s.owed ≤ (w.dirs d).owed → KeptCounted sh (dir_asks w d s sends)
 unfolding pair
 asks-counted sh gs w d s sends a h z u o = pairs_asks (λ j e v. (t : ℕ) → j < sh.cores → CountedOf sh e t v) w d s sends
-    (λ j t x. counted-answered sh gs j d t (pair w j d) TidReq s (sends (Core j)) (w.net (Core j) (Dir d))
+    (λ j t x. counted-answered sh gs j d t (pair w j d) TidReq s (sends (Core j)) (to_dir w j d)
     (Stays (u.0) (u.1) (λ b e q. let f = no-request b e in absurd (cc))) (λ q. omega arith)
     (λ l q. rw (no-request t l) (omega arith)) (λ l e. absurd (cc)) no-empty
     (λ dl. subst (λ v. 1 ≤ live (Resolves t) v.out → v.dir.serving.serving ≤ t) (asks-own w d s sends j)
@@ -296,7 +296,7 @@ asks-counted sh gs w d s sends a h z u o = pairs_asks (λ j e v. (t : ℕ) → j
     new = dir_asks w d s sends
 
 waits-not : (q : Phase) → may_commit q ≡ true → awaits_replies q ≡ false
-waits-not a e = grind (arith, nat_tests)
+waits-not a e = grind nats
 
 taken-back : (sh : Shape) (d t k : ℕ) (v : Pair) → CountedOf sh d t v → CountedOf sh d t (back_taken v k)
 unfolding marks_of
@@ -371,7 +371,7 @@ step-counted sh p gs w cs e z y x a h = step_cases sh p w e (λ g o. KeptTold sh
     taken c d k cl None u f = tt
     taken c d k cl (Some o) u f = λ n. pairs_back P w d c k o (λ t l. back c d k t o cl u (f d t)) (λ b r t l. own c b t o cl u (f b t)) h
 
-    answered : (c d k : ℕ) (m : Msg) → in_flight w.net (Core c) (Dir d) k ≡ Some m → c < sh.cores → (b : Answer) → MarkedBy (w.dirs d) m b
+    answered : (c d k : ℕ) (m : Msg) → FromCore w c d k m → c < sh.cores → (b : Answer) → MarkedBy (w.dirs d) m b
         → OwesBy sh (w.dirs d) m b → DueBy sh d (w.dirs d) (num (passes Acks m)) b
         → OfAnswer w c d k (λ v. KeptTold sh v → KeptCounted sh v) b
     answered c d k m i cl Waits u o p = tt

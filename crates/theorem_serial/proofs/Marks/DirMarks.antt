@@ -2,9 +2,9 @@
 -- moves it on without.
 use Rattle.theorem_serial.proofs
 use proofs.Names
-use Names.{has_mark, ℕ, ◌≡◌, ◌<◌, Bool, true, false, ◌==◌, if◌then◌else◌, arith, refl, nat_tests, advance, kept, Msg, Skip, Mark, Shape}
-use Names.{advance-rises, DirState, Answer, Waits, Drops, Asks, Takes, dir_deliver, MarkOf, passes, num, ◌≤◌, ◌+◌, ◌⊎◌, inl, inr, ◌∙◌}
-use Names.{EmptyMarks, cases_eq, nat_lt, ◌&&◌}
+use Names.{has_mark, ℕ, ◌≡◌, ◌<◌, Bool, true, false, ◌==◌, if◌then◌else◌, arith, refl, advance, kept, Msg, Skip, Mark, Shape, advance-rises}
+use Names.{DirState, Answer, Waits, Drops, Asks, Takes, dir_deliver, MarkOf, passes, num, ◌≤◌, ◌+◌, ◌⊎◌, inl, inr, ◌∙◌, EmptyMarks}
+use Names.{cases_eq, nat_lt, ◌&&◌, nats}
 use proofs.Counts.DirOutcome.{Outcome, Waiting, Spent, AsksOwner, TakesSkip, TakesAbort, TakesMark, TakesCommit, TakesAck, TakesCopy}
 use proofs.Counts.DirOutcome.{IsSpent, MarkPassed, CopyPassed, outcome}
 
@@ -36,7 +36,7 @@ dir-marked sh s c m = go (outcome sh s c m)
     none m n t l q = let x = n t l in absurd (cc)
 
     spent : {m : Msg} → IsSpent s c m → (t l : ℕ) → passes (MarkOf t l) m ≡ true → t < s.serving.serving
-    spent (MarkPassed k n u i) t l q = grind (arith, nat_tests)
+    spent (MarkPassed k n u i) t l q = grind nats
     spent (CopyPassed m k n ws g y i e) t l q = none m (λ t l. y.alike (MarkOf t l)) t l q
     spent _ t l q = absurd (cc)
 
@@ -49,7 +49,7 @@ dir-marked sh s c m = go (outcome sh s c m)
     go (Waiting m) = tt
     go (Spent m i) = spent i
     go (AsksOwner m l o w e) = (refl, λ x. refl)
-    go (TakesSkip u true e h) = let i : s.serving.serving ≡ u = grind (arith, nat_tests) in Skipped (rw i refl) (λ x. refl)
+    go (TakesSkip u true e h) = let i : s.serving.serving ≡ u = grind nats in Skipped (rw i refl) (λ x. refl)
     go (TakesAbort u true e h) = settled true (λ t x. refl) _ refl (λ x. refl)
     go (TakesMark l k h) = Marks l k refl refl (λ x. refl)
     go (TakesCommit b e) = settled b (λ t x. refl) _ refl (λ x. refl)
@@ -71,7 +71,7 @@ marks-grow f s new m t l n z (Marks a i e g h) k w = rw (g, h l) (go (l == a) re
     go false p y q b r = omega arith
     go true p false q b r = omega arith
     go true p true q false r = rw r (omega arith)
-    go true p true q true r = let c : a ≡ l = grind (arith, nat_tests) in let d : s.serving.serving ≡ t = grind (arith, nat_tests) in
+    go true p true q true r = let c : a ≡ l = grind nats in let d : s.serving.serving ≡ t = grind nats in
         rw r (omega (arith, w i (e ∙ rw (c, d) refl) r))
 
 -- All its Marks are counted, unless the TID is passed, or the message is the Mark.
@@ -94,13 +94,13 @@ marks-count s new m t l (Clears e f g) k w = rw (f l, g t l) (go (cases_eq s.ser
         → (num (new.serving.serving == t && nat_lt 0 0) ≡ num (s.serving.serving == t && has_mark s.lines l) + 0)
         ⊎ ((t < new.serving.serving) ⊎ A)
     go (inl p) = inr (inl (omega (arith, e, p)))
-    go (inr p) = inl (grind (arith, nat_tests))
+    go (inr p) = inl (grind nats)
 marks-count s new m t l (Skipped e f) k w = inl (rw (f l, k e, e) (grind arith))
 marks-count s new m t l (Marks a i e g f) k w = rw (g, f l, e) (go (rw e at w) (l == a) refl (s.serving.serving == t) refl)
   where
     go : (i == 0) ≡ false → (x : Bool) → (l == a) ≡ x → (y : Bool) → (s.serving.serving == t) ≡ y
         → (num (y && nat_lt 0 (if x then i else s.lines.mark l)) ≡ num (y && has_mark s.lines l) + num (y && (a == l)))
         ⊎ ((t < s.serving.serving) ⊎ ((num (y && nat_lt 0 (if x then i else s.lines.mark l)) ≡ 1) × (num (y && (a == l)) ≡ 1)))
-    go v false p true q = inl (grind (arith, nat_tests))
-    go v true p true q = inr (inr (grind (arith, nat_tests), grind (arith, nat_tests)))
+    go v false p true q = inl (grind nats)
+    go v true p true q = inr (inr (grind nats, grind nats))
     go v x p false q = inl (omega arith)

@@ -1,10 +1,36 @@
+-- What a directory's rules do to what it records of its lines: tags, owners and sharers, and what it owes.
+use Rattle.base_lemmas.proofs.Lemmas.{eq-self}
+use Rattle.theorem_serial.proofs
+use proofs.Names
+use Names.{ℕ, ◌≡◌, ◌≤◌, arith, refl, ◌⊎◌, inl, inr, count_below, has_mark, Msg, Commit, Shape, lines, DirState, Answer, Asks, Takes}
+use Names.{dir_deliver, Bool, true, false, ◌==◌, ◌&&◌, Some, None, if◌then◌else◌, is_owner, Waits, Drops, Commits, CopyOf, passes, is_this}
+use Names.{◌∙◌, nats, [], num, Core, Fill, ProbeReply, DataReq, Sends, home_words, FillOf, GoneOf, among, AnyCommit}
+use proofs.Counts.DirOutcome.{Outcome, Waiting, Spent, AsksOwner, TakesCommit, outcome, TakesCopy, IsSpent, CopyPassed, TakesProbe}
+use proofs.Counts.DirOutcome.{TakesLoad, TakesAck, ToLoad, ToMark, among-to, among-none, none-to, none-invalidations}
+
+-- A directory owes more than it did only by a Commit that counts the lines that are marked.
+
+-- a Commit of the served TID that counts the marked lines
+abbrev pub CountsMarked : Shape → DirState → Msg → Type 0
+CountsMarked sh s m = m ≡ Commit s.serving.serving (count_below (has_mark s.lines) (lines sh))
+
+abbrev pub OwesBy : Shape → DirState → Msg → Answer → Type 0
+OwesBy sh s m (Asks new sends) = new.owed ≤ s.owed
+OwesBy sh s m (Takes new sends) = (new.owed ≤ s.owed) ⊎ CountsMarked sh s m
+OwesBy sh s m _ = Unit {0}
+
+pub dir-owes : (sh : Shape) (s : DirState) (c : ℕ) (m : Msg) → OwesBy sh s m (dir_deliver sh s c m)
+dir-owes sh s c m = go (outcome sh s c m)
+  where
+    go : {m : Msg} {a : Answer} → Outcome sh s c m a → OwesBy sh s m a
+    go (Waiting m) = tt
+    go (Spent m i) = tt
+    go (AsksOwner m l o w e) = omega arith
+    go (TakesCommit b e) = inr refl
+    go _ = inl (omega arith)
+
 -- What a directory's rules do to the tags and owners of its lines: a Commit of the served TID takes the marked lines over, and the
 -- owner's words that come home leave their line without owner.
-use Rattle.theorem_serial.proofs
-use proofs.Names.{ℕ, ◌≡◌, ◌≤◌, Bool, true, false, ◌==◌, ◌&&◌, Some, None, if◌then◌else◌, arith, refl, nat_tests, has_mark, is_owner, Msg}
-use proofs.Names.{Shape, DirState, Answer, Waits, Drops, Asks, Takes, dir_deliver, Commits, CopyOf, passes, is_this, ◌∙◌}
-use proofs.Counts.DirOutcome.{Outcome, Waiting, Spent, AsksOwner, TakesCommit, TakesCopy, IsSpent, CopyPassed, outcome}
-use proofs.Marks.OwesByCommit.{CountsMarked}
 
 abbrev pub NoCommit : Msg → Type 0
 NoCommit m = (t : ℕ) → passes (Commits t) m ≡ false
@@ -56,10 +82,10 @@ dir-records sh s c m = go (outcome sh s c m)
     -- a copy with the line's tag isn't the owner's
     other : (k l g : ℕ) (b : Bool) → (k == l) ≡ b → (b && (g == s.lines.tag l)) ≡ true
         → ((s.lines.tag k == g) && is_owner (s.lines.owner k) c) ≡ false → is_this (s.lines.owner l) c ≡ false
-    other k l g a z y e = grind (arith, nat_tests)
+    other k l g a z y e = grind nats
 
     late : (k l t g : ℕ) (b : Bool) → (k == l) ≡ b → (b && (g == t)) ≡ true → g ≤ s.lines.tag k → t ≤ s.lines.tag l
-    late k l t g a z y h = grind (arith, nat_tests)
+    late k l t g a z y h = grind nats
 
     spent : {m : Msg} → IsSpent s c m → Dropped s c m
     spent (CopyPassed m k n ws g y i e) = record {
@@ -76,3 +102,60 @@ dir-records sh s c m = go (outcome sh s c m)
     go (TakesCommit b e) = Settles refl (λ x. refl) (λ x. refl) (λ x t. refl)
     go (TakesCopy m k n ws g y e o) = Came k (λ l t. y.alike (CopyOf l t) ∙ rw e refl) o (λ x. refl) (λ x. refl) (λ t. y.alike (Commits t))
     go _ = Still (same-records (λ x. refl) (λ x. refl)) (λ t. refl) (λ x t. refl)
+
+-- What a directory's rules do to the sharers of its lines: a Fill goes to a sharer, a commit is one of its lines, and a core is a sharer
+-- no more only where it says that it keeps no word.
+
+pub record Shares (sh : Shape) (s : DirState) (c : ℕ) (m : Msg) (new : DirState) (sends : Sends) : Type 0 where
+  pub kept : (l j : ℕ) → s.lines.sharers l j ≡ true → (new.lines.sharers l j ≡ true) ⊎ ((j ≡ c) × (passes (GoneOf l) m ≡ true))
+  pub filled : (l j : ℕ) → 1 ≤ among (FillOf l) (sends (Core j)) → (new.lines.sharers l j ≡ true) × (has_mark s.lines l ≡ false)
+  pub taken : (l : ℕ) → CountsMarked sh s m → has_mark s.lines l ≡ true → new.lines.sharers l c ≡ true
+
+abbrev pub SharesBy : Shape → DirState → (core : ℕ) → Msg → Answer → Type 0
+SharesBy sh s c m (Asks new sends) = Shares sh s c m new sends
+SharesBy sh s c m (Takes new sends) = Shares sh s c m new sends
+SharesBy sh s c m _ = Unit {0}
+
+pub dir-shares : (sh : Shape) (s : DirState) (c : ℕ) (m : Msg) → SharesBy sh s c m (dir_deliver sh s c m)
+unfolding passes
+dir-shares sh s c m = go (outcome sh s c m)
+  where
+    none : (l j : ℕ) → among (FillOf l) [] ≡ 0
+    none l j = among-none (FillOf l)
+
+    -- no sharer changes and no Fill is sent
+    same-shares : {m : Msg} {new : DirState} {sends : Sends} → ((l j : ℕ) → new.lines.sharers l j ≡ s.lines.sharers l j)
+        → ((l j : ℕ) → among (FillOf l) (sends (Core j)) ≡ 0) → (CountsMarked sh s m → ⊥) → Shares sh s c m new sends
+    same-shares h z n = record {
+      kept = λ l j e. inl (rw (h l j) e);
+      filled = λ l j x. absurd (omega (arith, x, z l j));
+      taken = λ l q e. absurd (n q);
+    }
+
+    go : {m : Msg} {a : Answer} → Outcome sh s c m a → SharesBy sh s c m a
+    go (Waiting m) = tt
+    go (Spent m i) = tt
+    go (AsksOwner m l o (ToLoad a) e) = same-shares (λ x j. refl) (λ x j. none-to (FillOf x) o j (DataReq l) refl) (λ q. absurd (cc))
+    go (AsksOwner m l o (ToMark k) e) = same-shares (λ x j. refl) (λ x j. none-to (FillOf x) o j (DataReq l) refl) (λ q. absurd (cc))
+    go (TakesProbe t h) = same-shares (λ x j. refl) (λ x j. none-to (FillOf x) c j (ProbeReply t s.serving.serving) refl) (λ q. absurd (cc))
+    go (TakesLoad l k h e o) = record {
+      kept = λ x j q. inl (grind (nats, q));
+      filled = λ x j q. let n : 1 ≤ num (j == c && l == x) = rw (among-to (FillOf x) c j (Fill l (home_words s l))) at q in
+          (grind nats, grind (nats, e));
+      taken = λ x q r. absurd (cc);
+    }
+    go (TakesCommit b e) = record {
+      kept = λ x j q. inl (grind (nats, q));
+      filled = λ x j q. absurd (omega (arith, q, none-invalidations (FillOf x) (λ l k t. refl) sh s.lines c s.serving.serving j));
+      taken = λ x q r. rw (r, eq-self c) refl;
+    }
+    go (TakesAck l k b h e) = record {
+      kept = λ x j q. grind (nats, q);
+      filled = λ x j q. absurd (omega (arith, q, none x j));
+      taken = λ x q r. absurd (cc);
+    }
+    go (TakesCopy m l k ws g y e o) = same-shares (λ x j. refl) none (λ q. absurd (not_counts q (y.alike AnyCommit)))
+      where
+        not_counts : {m : Msg} → CountsMarked sh s m → passes AnyCommit m ≡ false → ⊥
+        not_counts q f = absurd (cc)
+    go _ = same-shares (λ x j. refl) none (λ q. absurd (cc))

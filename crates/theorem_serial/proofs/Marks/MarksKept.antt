@@ -3,13 +3,13 @@ use Rattle.base_lemmas.proofs.Lemmas.{eq-self}
 use Rattle.theorem_serial.proofs
 use proofs.Names
 use Names.{ℕ, ◌+◌, ◌≡◌, ◌<◌, ◌≤◌, Bool, true, false, List, ◌++◌, ◌==◌, ◌&&◌, Contains, Some, None, nat_lt, nat_le, slice_index_or, arith}
-use Names.{refl, ap, subst, ◌⊎◌, inl, inr, cases_eq, cases_lt, nat_tests, num, has_mark, Dir, Msg, TidGrant, Mark, Skip, Shape, writes_at}
-use Names.{DirState, Link, Out, sent_all, Grants, Resolves, Marks, MarkOf, EmptyMarks, Skips, live, among, passes, marks_of, MarksOf, Grant}
-use Names.{Pair, after_move, grant_taken, has_tid, opens, [], ◌∷◌, slice_set, ◌∙◌, Contains-append_left, Noted, Core, Vendor, CoreState}
-use Names.{World, in_flight, Kind, AnyResolve, has_marked, marked_by, KeptMarks, holder, KeptOwners, pair, share, after_answer, after_grant}
+use Names.{refl, ap, subst, ◌⊎◌, inl, inr, cases_eq, cases_lt, num, has_mark, Dir, Msg, TidGrant, Mark, Skip, Shape, writes_at, DirState}
+use Names.{Link, Out, sent_all, Grants, Resolves, Marks, MarkOf, EmptyMarks, Skips, live, among, passes, marks_of, MarksOf, Grant, Pair}
+use Names.{after_move, grant_taken, has_tid, opens, [], ◌∷◌, slice_set, ◌∙◌, Contains-append_left, Noted, Core, Vendor, CoreState, World}
+use Names.{in_flight, Kind, AnyResolve, has_marked, marked_by, KeptMarks, holder, KeptOwners, pair, share, after_answer, after_grant}
 use Names.{after_other_grant, part, handled, KeptTids, KeptTold, Option, IfSome, set, append-nil, Program, Local, no_lines, TidReq, Event}
 use Names.{start, core_start, dir_start, Sends, core_exec, core_evict, from_dir, grant, Answer, Waits, Drops, Asks, Takes, dir_deliver}
-use Names.{core_moves, core_takes, dir_takes, dir_asks, step, granted_by, back_taken, Kept}
+use Names.{core_moves, core_takes, dir_takes, dir_asks, step, granted_by, back_taken, Kept, nats, tid_at, to_dir, FromCore}
 use proofs.Counts.Links.{live-sends, live-takes, live-fewer, total-le, none-taken}
 use proofs.Counts.StepCases.{pairs_move, pairs_grant, pairs_back, pairs_dir, pairs_asks, pairs_vendor, OfAnswer, step_cases}
 use proofs.Marks.CoreMarking.{Marking, few, at-most-one, marking-exec, marking-evict}
@@ -25,7 +25,7 @@ use proofs.Tids.TidSteps.{is_mine, not_mine, live-some, granted_waits}
 one-kind : (t l : ℕ) (m : Msg) → (num (passes (MarkOf t l) m) ≤ num (passes (Marks t) m))
     × (num (passes (Skips t) m) ≤ num (passes (Resolves t) m))
 unfolding passes
-one-kind t l m = (grind (arith, nat_tests), grind (arith, nat_tests))
+one-kind t l m = (grind nats, grind nats)
 
 -- a Mark of a line is a Mark, and a Skip a word on its TID
 pub kinds : (t l : ℕ) (k : Link) → (live (MarkOf t l) k ≤ live (Marks t) k) × (live (Skips t) k ≤ live (Resolves t) k)
@@ -150,11 +150,11 @@ marks-granted sh gs c d t l k u v o i one mine y h = go (cases_eq u t)
 -- a directory answers
 pub is-skip : (u : ℕ) → num (passes (Skips u) (Skip u)) ≡ 1
 unfolding passes
-is-skip u = grind (arith, nat_tests)
+is-skip u = grind nats
 
 pub is-mark : (t a b : ℕ) → num (passes (MarkOf t a) (Mark a b t)) ≡ 1
 unfolding passes
-is-mark t a b = grind (arith, nat_tests)
+is-mark t a b = grind nats
 
 -- none of the Marks of a line before, so none after
 pub falls : (s new : DirState) (m : Msg) (t l x y : ℕ) → Marked s m new → y + num (passes (MarkOf t l) m) ≡ x
@@ -182,13 +182,13 @@ holds s new m t l x y b h q k nonempty once reached z = go (marks-count s new m 
     go (inl e) o = omega (arith, e, q, z)
     go (inr (inr e)) o = omega (arith, e.0, e.1, q, z, once)
     go (inr (inl e)) (inl o) = absurd (omega (arith, e, reached (omega (arith, o))))
-    go (inr (inl e)) (inr o) = let r : (new.serving.serving == t) ≡ false = grind (arith, nat_tests) in rw r (omega (arith, q, z, o))
+    go (inr (inl e)) (inr o) = let r : (new.serving.serving == t) ≡ false = grind nats in rw r (omega (arith, q, z, o))
 
 -- a line is marked by a core only where its TID is open
 marked-opens : (sh : Shape) (s : CoreState) (d t l : ℕ) → has_tid s.phase t ≡ true → 1 ≤ marked_by sh s d l
     → opens s.phase (writes_at sh s.cache d) t ≡ true
 unfolding marked_by has_marked has_tid opens
-marked-opens sh s d t l h m = grind (arith, nat_tests, stores-writes)
+marked-opens sh s d t l h m = grind (nats, stores-writes)
 
 -- what a directory's answer does to a pair: what is in flight to it is what was, but for m perhaps
 pub marks-answered : (sh : Shape) (gs : List Grant) (j d t l : ℕ) (v : Pair) (m : Msg) (s : DirState) (ms : List Msg) (k : Link)
@@ -231,7 +231,7 @@ unfolding marks_of passes among
 marks-given sh gs hs c d t l k v h = record {
   owner = λ x. Contains-append_left gs hs (record { tid = t; core = c }) (h.owner x);
   words = h.words;
-  fresh = λ x. h.fresh (let b : num (nat_le v.next t) ≡ num (nat_le (v.next + 1) t) + num (v.next == t) = grind (arith, nat_tests) in
+  fresh = λ x. h.fresh (let b : num (nat_le v.next t) ≡ num (nat_le (v.next + 1) t) + num (v.next == t) = grind nats in
       omega (arith, x, b, live-sends (Grants t) v.grants (TidGrant v.next ∷ [])));
   skipped = h.skipped;
   held = h.held;
@@ -243,7 +243,7 @@ unfolding marks_of
 marks-next sh gs hs c d t l v h = record {
   owner = λ x. Contains-append_left gs hs (record { tid = t; core = c }) (h.owner x);
   words = h.words;
-  fresh = λ x. h.fresh (let b : num (nat_le (v.next + 1) t) ≤ num (nat_le v.next t) = grind (arith, nat_tests) in omega (arith, x, b));
+  fresh = λ x. h.fresh (let b : num (nat_le (v.next + 1) t) ≤ num (nat_le v.next t) = grind nats in omega (arith, x, b));
   skipped = h.skipped;
   held = h.held;
 }
@@ -265,21 +265,21 @@ pub has-granted : (sh : Shape) (gs : List Grant) (w : World) (cs : List Noted) (
 has-granted sh gs w cs c t k h = let n : num (has_tid (w.cores c).phase t) ≡ 1 = ap num h in is-granted sh gs w cs c t k (omega (arith, n))
 
 pub open-untold : (sh : Shape) (w : World) (c d t : ℕ) → KeptTids sh w → c < sh.cores → d < sh.dirs
-    → opens (w.cores c).phase (writes_at sh (w.cores c).cache d) t ≡ true → live (Resolves t) (w.net (Core c) (Dir d)) ≡ 0
+    → opens (w.cores c).phase (writes_at sh (w.cores c).cache d) t ≡ true → live (Resolves t) (to_dir w c d) ≡ 0
 unfolding share part pair
 open-untold sh w c d t k l x h = let n : num (opens (w.cores c).phase (writes_at sh (w.cores c).cache d) t) ≡ 1 = ap num h in
     omega (arith, n, k.resolved d t x, total-le (share (part sh d t) w d) sh.cores c l)
 
 pub open-ahead : (sh : Shape) (w : World) (c d t : ℕ) → KeptTids sh w → c < sh.cores → d < sh.dirs
-    → opens (w.cores c).phase (writes_at sh (w.cores c).cache d) t ≡ true → (w.dirs d).serving.serving ≤ t
+    → opens (w.cores c).phase (writes_at sh (w.cores c).cache d) t ≡ true → tid_at w d ≤ t
 unfolding share part pair handled
-open-ahead sh w c d t k l x h = go (cases_lt t (w.dirs d).serving.serving)
+open-ahead sh w c d t k l x h = go (cases_lt t (tid_at w d))
   where
-    go : (t < (w.dirs d).serving.serving) ⊎ ((w.dirs d).serving.serving ≤ t) → (w.dirs d).serving.serving ≤ t
+    go : (t < tid_at w d) ⊎ (tid_at w d ≤ t) → tid_at w d ≤ t
     go (inr q) = q
     go (inl q) =
         let n : num (opens (w.cores c).phase (writes_at sh (w.cores c).cache d) t) ≡ 1 = ap num h in
-        let b : num (nat_lt t (w.dirs d).serving.serving) ≡ 1 = grind (arith, nat_tests) in
+        let b : num (nat_lt t (tid_at w d)) ≡ 1 = grind nats in
         absurd (omega (arith, n, b, k.resolved d t x, total-le (share (part sh d t) w d) sh.cores c l))
 
 pub taken-less : (k : ℕ) (x : Kind) (l : Link) (m : Msg) → slice_index_or l k None ≡ Some m → live x (slice_set l k None) ≤ live x l
@@ -290,9 +290,9 @@ empty-one l k m i z = none-taken EmptyMarks l k m i z
 
 is-resolve : (t : ℕ) (m : Msg) → num (passes (Skips t) m) ≤ num (passes AnyResolve m)
 unfolding passes
-is-resolve t m = grind (arith, nat_tests)
+is-resolve t m = grind nats
 
-inside-dirs : (sh : Shape) (w : World) (c d k u : ℕ) → KeptTold sh w → in_flight w.net (Core c) (Dir d) k ≡ Some (Skip u) → d < sh.dirs
+inside-dirs : (sh : Shape) (w : World) (c d k u : ℕ) → KeptTold sh w → FromCore w c d k (Skip u) → d < sh.dirs
 unfolding pair
 inside-dirs sh w c d k u z i = go (cases_lt d sh.dirs)
   where
@@ -302,71 +302,71 @@ inside-dirs sh w c d k u z i = go (cases_lt d sh.dirs)
         absurd (omega (
           arith,
           (z.owed.at_home c d).far l,
-          live-some AnyResolve (w.net (Core c) (Dir d)) k (Skip u) i,
+          live-some AnyResolve (to_dir w c d) k (Skip u) i,
           is-resolve u (Skip u),
           is-skip u,
         ))
 
 unmarked-of : (s : DirState) (l x : ℕ) → x + num (s.serving.serving == s.serving.serving && has_mark s.lines l) ≡ 0
     → has_mark s.lines l ≡ false
-unmarked-of s l x z = grind (arith, nat_tests)
+unmarked-of s l x z = grind nats
 
 -- where the served TID is skipped, nothing is marked
 pub skip-unmarked : (sh : Shape) (gs : List Grant) (w : World) (c d k : ℕ) (m : Msg) (l : ℕ) → KeptTold sh w → KeptMarks sh gs w
-    → in_flight w.net (Core c) (Dir d) k ≡ Some m → m ≡ Skip (w.dirs d).serving.serving → has_mark (w.dirs d).lines l ≡ false
+    → FromCore w c d k m → m ≡ Skip (tid_at w d) → has_mark (w.dirs d).lines l ≡ false
 unfolding marks_of pair
 skip-unmarked sh gs w c d k m l z h i e =
-    let u : ℕ = (w.dirs d).serving.serving in
-    let j : in_flight w.net (Core c) (Dir d) k ≡ Some (Skip u) = i ∙ ap (λ y. Some y) e in
-    unmarked-of (w.dirs d) l (live (MarkOf u l) (w.net (Core c) (Dir d)))
+    let u : ℕ = tid_at w d in
+    let j : FromCore w c d k (Skip u) = i ∙ ap (λ y. Some y) e in
+    unmarked-of (w.dirs d) l (live (MarkOf u l) (to_dir w c d))
     ((h c d u l).skipped (inside-dirs sh w c d k u z j)
-    (omega (arith, live-some (Skips u) (w.net (Core c) (Dir d)) k (Skip u) j, is-skip u)))
+    (omega (arith, live-some (Skips u) (to_dir w c d) k (Skip u) j, is-skip u)))
 
 -- a Mark of a TID comes from one core, to which the TID was granted
 pub only-there : (sh : Shape) (gs : List Grant) (w : World) (cs : List Noted) (c j d k t l : ℕ) (m : Msg) → KeptOwners sh gs w cs
-    → KeptMarks sh gs w → in_flight w.net (Core c) (Dir d) k ≡ Some m → (j ≡ c → ⊥)
+    → KeptMarks sh gs w → FromCore w c d k m → (j ≡ c → ⊥)
     → (Contains gs (record { tid = t; core = j })) ⊎ (1 ≤ num (nat_le w.next t))
-    → live (MarkOf t l) (w.net (Core j) (Dir d)) + num (passes (MarkOf t l) m) ≡ live (MarkOf t l) (w.net (Core j) (Dir d))
+    → live (MarkOf t l) (to_dir w j d) + num (passes (MarkOf t l) m) ≡ live (MarkOf t l) (to_dir w j d)
 unfolding marks_of pair
 only-there sh gs w cs c j d k t l m y h i n q = go (passes (MarkOf t l) m) refl
   where
-    some : passes (MarkOf t l) m ≡ true → 1 ≤ live (MarkOf t l) (w.net (Core c) (Dir d))
-    some p = let o : num (passes (MarkOf t l) m) ≡ 1 = ap num p in omega (arith, o, live-some (MarkOf t l) (w.net (Core c) (Dir d)) k m i)
+    some : passes (MarkOf t l) m ≡ true → 1 ≤ live (MarkOf t l) (to_dir w c d)
+    some p = let o : num (passes (MarkOf t l) m) ≡ 1 = ap num p in omega (arith, o, live-some (MarkOf t l) (to_dir w c d) k m i)
 
-    not : 1 ≤ live (MarkOf t l) (w.net (Core c) (Dir d)) → (Contains gs (record { tid = t; core = j })) ⊎ (1 ≤ num (nat_le w.next t)) → ⊥
+    not : 1 ≤ live (MarkOf t l) (to_dir w c d) → (Contains gs (record { tid = t; core = j })) ⊎ (1 ≤ num (nat_le w.next t)) → ⊥
     not x (inl a) =
-        n (granted-once 1 gs t j c (y.numbered) a ((h c d t l).owner (omega (arith, x, (kinds t l (w.net (Core c) (Dir d))).0))))
+        n (granted-once 1 gs t j c (y.numbered) a ((h c d t l).owner (omega (arith, x, (kinds t l (to_dir w c d)).0))))
     not x (inr b) = omega (arith, x, (h c d t l).fresh (omega (arith, b)))
 
-    go : (p : Bool) → passes (MarkOf t l) m ≡ p → live (MarkOf t l) (w.net (Core j) (Dir d)) + num (passes (MarkOf t l) m) ≡ live
-        (MarkOf t l) (w.net (Core j) (Dir d))
+    go : (p : Bool) → passes (MarkOf t l) m ≡ p → live (MarkOf t l) (to_dir w j d) + num (passes (MarkOf t l) m) ≡ live
+        (MarkOf t l) (to_dir w j d)
     go true p = absurd (not (some p) q)
     go false p = rw p (omega arith)
 
 dir-marks : (sh : Shape) (gs : List Grant) (w : World) (cs : List Noted) (c d k : ℕ) (m : Msg) (s : DirState) (sends : Sends)
     → KeptTold sh w → KeptOwners sh gs w cs → KeptMarks sh gs w → KeptTold sh (dir_takes w c d k s sends)
-    → in_flight w.net (Core c) (Dir d) k ≡ Some m → Marked (w.dirs d) m s → KeptMarks sh gs (dir_takes w c d k s sends)
+    → FromCore w c d k m → Marked (w.dirs d) m s → KeptMarks sh gs (dir_takes w c d k s sends)
 unfolding dir_takes pair
 dir-marks sh gs w cs c d k m s sends a y h z i u = pairs_dir (λ j e v. (t l : ℕ) → MarksOf sh gs j e t l v) w c d k s sends
-    (λ t l. marks-answered sh gs c d t l (pair w c d) m s (sends (Core c)) (set (w.net (Core c) (Dir d)) k None) u
-    (λ x. taken-less k x (w.net (Core c) (Dir d)) m i) (λ q. live-takes (MarkOf t l) (w.net (Core c) (Dir d)) k m i) (skip l)
+    (λ t l. marks-answered sh gs c d t l (pair w c d) m s (sends (Core c)) (set (to_dir w c d) k None) u
+    (λ x. taken-less k x (to_dir w c d) m i) (λ q. live-takes (MarkOf t l) (to_dir w c d) k m i) (skip l)
     (is-granted sh gs w cs c t y) (reached c t) nonempty (h c d t l))
-    (λ j n t l. marks-answered sh gs j d t l (pair w j d) m s (sends (Core j)) (w.net (Core j) (Dir d)) u (λ x. omega arith)
+    (λ j n t l. marks-answered sh gs j d t l (pair w j d) m s (sends (Core j)) (to_dir w j d) u (λ x. omega arith)
     (only-there sh gs w cs c j d k t l m y h i n) (skip l) (is-granted sh gs w cs j t y) (reached j t) nonempty (h j d t l))
     h
   where
     v : World
     v = dir_takes w c d k s sends
 
-    skip : (l : ℕ) → m ≡ Skip (w.dirs d).serving.serving → has_mark (w.dirs d).lines l ≡ false
+    skip : (l : ℕ) → m ≡ Skip (tid_at w d) → has_mark (w.dirs d).lines l ≡ false
     skip l = skip-unmarked sh gs w c d k m l a h i
 
     nonempty : passes EmptyMarks m ≡ false
-    nonempty = empty-one (w.net (Core c) (Dir d)) k m i ((h c d 0 0).words)
+    nonempty = empty-one (to_dir w c d) k m i ((h c d 0 0).words)
 
     reached : (j t : ℕ) → j < sh.cores → d < sh.dirs → opens (w.cores j).phase (writes_at sh (w.cores j).cache d) t ≡ true
         → s.serving.serving ≤ t
-    reached j t x l o = rw (eq-self d) at (open-ahead sh v j d t (z.tids) x l o)
+    reached j t x l o = rw (tid_at, eq-self d) at (open-ahead sh v j d t (z.tids) x l o)
 
 pub no-request : (t l : ℕ) → passes (MarkOf t l) TidReq ≡ false
 unfolding passes
@@ -377,11 +377,11 @@ unfolding passes
 no-empty = refl
 
 asks-marks : (sh : Shape) (gs : List Grant) (w : World) (cs : List Noted) (d : ℕ) (s : DirState) (sends : Sends) → KeptOwners sh gs w cs
-    → KeptMarks sh gs w → KeptTold sh (dir_asks w d s sends) → (s.serving.serving ≡ (w.dirs d).serving.serving)
+    → KeptMarks sh gs w → KeptTold sh (dir_asks w d s sends) → (s.serving.serving ≡ tid_at w d)
     × ((l : ℕ) → s.lines.mark l ≡ (w.dirs d).lines.mark l) → KeptMarks sh gs (dir_asks w d s sends)
 unfolding dir_asks pair
 asks-marks sh gs w cs d s sends y h z u = pairs_asks (λ j e v. (t l : ℕ) → MarksOf sh gs j e t l v) w d s sends
-    (λ j t l. marks-answered sh gs j d t l (pair w j d) TidReq s (sends (Core j)) (w.net (Core j) (Dir d))
+    (λ j t l. marks-answered sh gs j d t l (pair w j d) TidReq s (sends (Core j)) (to_dir w j d)
     (Stays (u.0) (u.1) (λ a b q. let e = no-request a b in absurd (cc))) (λ x. omega arith) (λ q. rw (no-request t l) (omega arith))
     (λ e. absurd (cc)) (is-granted sh gs w cs j t y) (reached j t) no-empty (h j d t l))
     h
@@ -391,7 +391,7 @@ asks-marks sh gs w cs d s sends y h z u = pairs_asks (λ j e v. (t l : ℕ) → 
 
     reached : (j t : ℕ) → j < sh.cores → d < sh.dirs → opens (w.cores j).phase (writes_at sh (w.cores j).cache d) t ≡ true
         → s.serving.serving ≤ t
-    reached j t x l o = rw (eq-self d) at (open-ahead sh v j d t (z.tids) x l o)
+    reached j t x l o = rw (tid_at, eq-self d) at (open-ahead sh v j d t (z.tids) x l o)
 
 pub taken-back : (sh : Shape) (gs : List Grant) (w : World) (c d k t l : ℕ) → MarksOf sh gs c d t l (pair w c d)
     → MarksOf sh gs c d t l (back_taken (pair w c d) k)
@@ -453,7 +453,7 @@ step-marks sh p gs w cs e z y h = step_cases sh p w e (λ g o. KeptTold sh o.wor
         λ n. rw append-nil (pairs_back P w d c k o (λ t l. back c d k o a t l (u d t l))
         (λ b q t l. own c b t l o a (u b t l) (h c b t l)) h)
 
-    answered : (c d k : ℕ) (m : Msg) → in_flight w.net (Core c) (Dir d) k ≡ Some m → (a : Answer) → MarkedBy (w.dirs d) m a
+    answered : (c d k : ℕ) (m : Msg) → FromCore w c d k m → (a : Answer) → MarkedBy (w.dirs d) m a
         → OfAnswer w c d k (λ v. KeptTold sh v → KeptMarks sh (gs ++ []) v) a
     answered c d k m i Waits u = tt
     answered c d k m i Drops u =

@@ -2,10 +2,10 @@
 use Rattle.theorem_serial.proofs
 use proofs.Names
 use Names.{ℕ, zero, suc, ◌≡◌, ◌<◌, ◌≤◌, true, List, [], ◌∷◌, ◌==◌, Contains, Option, Some, None, IfSome, length, slice_index_or, nat_lt}
-use Names.{nat_le, arith, sym, ap, subst, ◌∙◌, ◌⊎◌, inl, inr, cases_lt, nat_tests, Noted, num, count_below, modified_mask, has_mark, Core}
-use Names.{Dir, Msg, Shape, lines, CoreState, World, Link, start, History, run, Any, Commits, CommitOf, live, passes, CountsMarks, KeptAll}
-use Names.{Always, marks_of, stores_line, marked_by, KeptMarks, wrong_marks, KeptMasks, AlwaysSince, MarkedByServed, MarksOfCommits, Grant}
-use Names.{grants_from, IsRising, Pair, pair, stored_mask, stores_at, MarkedWith, KeptStored}
+use Names.{nat_le, arith, sym, ap, subst, ◌∙◌, ◌⊎◌, inl, inr, cases_lt, Noted, num, count_below, modified_mask, has_mark, Msg, Shape, lines}
+use Names.{CoreState, World, Link, start, History, run, Any, Commits, CommitOf, live, passes, CountsMarks, KeptAll, Always, marks_of}
+use Names.{stores_line, marked_by, KeptMarks, wrong_marks, KeptMasks, AlwaysSince, MarkedByServed, MarksOfCommits, Grant, grants_from}
+use Names.{IsRising, Pair, pair, stored_mask, stores_at, MarkedWith, KeptStored, nats, tid_at, to_dir, IfSome_then}
 use proofs.Counts.Links.{total-same, live-fewer}
 use proofs.Marks.CoreCounts.{total-num}
 use proofs.Marks.CountsKept.{none-away}
@@ -37,36 +37,36 @@ same-commit cs x y h a b t = same-at 0 a.0 b.0 cs x y h t (a.1) (a.2) (b.1) (b.2
 -- a marked line is a Mark of the served TID
 marked-one : (l : ℕ) (v : Pair) → has_mark v.dir.lines l ≡ true → 1 ≤ marks_of v.dir.serving.serving l v
 unfolding marks_of
-marked-one l v h = let e : (v.dir.serving.serving == v.dir.serving.serving) ≡ true = grind (arith, nat_tests) in rw (e, h) (omega arith)
+marked-one l v h = let e : (v.dir.serving.serving == v.dir.serving.serving) ≡ true = grind nats in rw (e, h) (omega arith)
 
 marked-right : (l q : ℕ) (v : Pair) → has_mark v.dir.lines l ≡ true → wrong_marks v.dir.serving.serving l q v ≡ 0 → v.dir.lines.mark l ≡ q
 unfolding wrong_marks
-marked-right l q v h z = grind (arith, nat_tests)
+marked-right l q v h z = grind nats
 
 marked-stores : (sh : Shape) (s : CoreState) (d l : ℕ) → 1 ≤ marked_by sh s d l → stores_line sh s.cache d l ≡ true
 unfolding marked_by
-marked-stores sh s d l x = grind (arith, nat_tests)
+marked-stores sh s d l x = grind nats
 
 served-marks : (sh : Shape) (gs : List Grant) (w : World) → KeptMarks sh gs w → KeptMasks sh w → MarkedByServed sh w
 unfolding pair
 served-marks sh gs w m q = record {
-  granted = λ d l h. granted d l h (cases_lt (w.dirs d).serving.serving w.next);
+  granted = λ d l h. granted d l h (cases_lt (tid_at w d) w.next);
   stored =
       λ c d l x y t h. marked-stores sh (w.cores c) d l
-      (omega (arith, marked-one l (pair w c d) h, (m c d (w.dirs d).serving.serving l).held x y t));
-  masked = λ c d l x y t h. marked-right l (modified_mask (w.cores c).cache l) (pair w c d) h (q c d (w.dirs d).serving.serving l x y t);
+      (omega (arith, marked-one l (pair w c d) h, (m c d (tid_at w d) l).held x y t));
+  masked = λ c d l x y t h. marked-right l (modified_mask (w.cores c).cache l) (pair w c d) h (q c d (tid_at w d) l x y t);
 }
   where
-    granted : (d l : ℕ) → has_mark (w.dirs d).lines l ≡ true → ((w.dirs d).serving.serving < w.next) ⊎ (w.next ≤ (w.dirs d).serving.serving)
-        → (w.dirs d).serving.serving < w.next
+    granted : (d l : ℕ) → has_mark (w.dirs d).lines l ≡ true → (tid_at w d < w.next) ⊎ (w.next ≤ tid_at w d)
+        → tid_at w d < w.next
     granted d l h (inl x) = x
-    granted d l h (inr x) = let n : num (nat_le w.next (w.dirs d).serving.serving) ≡ 1 = grind (arith, nat_tests) in
-        absurd (omega (arith, marked-one l (pair w 0 d) h, (m 0 d (w.dirs d).serving.serving l).fresh (omega (arith, n))))
+    granted d l h (inr x) = let n : num (nat_le w.next (tid_at w d)) ≡ 1 = grind nats in
+        absurd (omega (arith, marked-one l (pair w 0 d) h, (m 0 d (tid_at w d) l).fresh (omega (arith, n))))
 
 -- the commits of the list
 one-any : (t : ℕ) (m : Msg) → num (passes (Commits t) m) ≤ num (passes Any m)
 unfolding passes
-one-any t m = grind (arith, nat_tests)
+one-any t m = grind nats
 
 pub few-any : (t : ℕ) (k : Link) → live (Commits t) k ≤ live Any k
 few-any t k = live-fewer (Commits t) Any (one-any t) k
@@ -81,44 +81,44 @@ commits-marks sh gs h k = record { stored = stored; counted = counted; sent = se
     w : World
     w = h.world
 
-    inside : (x : Noted) (d : ℕ) → 1 ≤ live (Commits x.tid.0) (w.net (Core x.core.0) (Dir d)) → x.core.0 < sh.cores
-    inside x d o = inside_from sh x.core.0 (live Any (w.net (Core x.core.0) (Dir d))) ((k.kept.told.tids.inside x.core.0 d).out)
-        (omega (arith, o, few-any x.tid.0 (w.net (Core x.core.0) (Dir d))))
+    inside : (x : Noted) (d : ℕ) → 1 ≤ live (Commits x.tid.0) (to_dir w x.core.0 d) → x.core.0 < sh.cores
+    inside x d o = inside_from sh x.core.0 (live Any (to_dir w x.core.0 d)) ((k.kept.told.tids.inside x.core.0 d).out)
+        (omega (arith, o, few-any x.tid.0 (to_dir w x.core.0 d)))
 
-    sent : (x : Noted) (d l : ℕ) → Contains h.commits x → d < sh.dirs → 1 ≤ live (Commits x.tid.0) (w.net (Core x.core.0) (Dir d))
+    sent : (x : Noted) (d l : ℕ) → Contains h.commits x → d < sh.dirs → 1 ≤ live (Commits x.tid.0) (to_dir w x.core.0 d)
         → MarkedWith x.tid.0 l (stored_mask sh d x.stores l) (pair w x.core.0 d)
     sent x d l c dl o =
         let y = (k.stored x.core.0 d x.tid.0).sent (inside x d o) dl o in
         subst (λ z. MarkedWith x.tid.0 l (stored_mask sh d z.stores l) (pair w x.core.0 d))
         (same-commit h.commits y.commit x (k.owners.rising) (y.noted) c (y.tid)) (y.marks l)
 
-    stored : (x : Noted) (d : ℕ) → Contains h.commits x → d < sh.dirs → 1 ≤ live (Commits x.tid.0) (w.net (Core x.core.0) (Dir d))
+    stored : (x : Noted) (d : ℕ) → Contains h.commits x → d < sh.dirs → 1 ≤ live (Commits x.tid.0) (to_dir w x.core.0 d)
         → stores_at sh d x.stores ≡ true
     stored x d c dl o =
         let y = (k.stored x.core.0 d x.tid.0).sent (inside x d o) dl o in
         subst (λ z. stores_at sh d z.stores ≡ true) (same-commit h.commits y.commit x (k.owners.rising) (y.noted) c (y.tid)) (y.stored)
 
-    counted : (x : Noted) (d n : ℕ) → Contains h.commits x → d < sh.dirs → 1 ≤ live (CommitOf x.tid.0 n) (w.net (Core x.core.0) (Dir d))
+    counted : (x : Noted) (d n : ℕ) → Contains h.commits x → d < sh.dirs → 1 ≤ live (CommitOf x.tid.0 n) (to_dir w x.core.0 d)
         → count_below (λ l. nat_lt 0 (stored_mask sh d x.stores l)) (lines sh) ≡ n
     counted x d n c dl o =
-        let z : 1 ≤ live (Commits x.tid.0) (w.net (Core x.core.0) (Dir d)) =
-        omega (arith, o, few-commits x.tid.0 n (w.net (Core x.core.0) (Dir d))) in
+        let z : 1 ≤ live (Commits x.tid.0) (to_dir w x.core.0 d) =
+        omega (arith, o, few-commits x.tid.0 n (to_dir w x.core.0 d)) in
         sym (total-num (λ l. nat_lt 0 (stored_mask sh d x.stores l)) (lines sh))
         ∙ total-same (λ l. num (nat_lt 0 (stored_mask sh d x.stores l))) (λ l. marks_of x.tid.0 l (pair w x.core.0 d)) (lines sh)
         (λ l b. sym ((sent x d l c dl z).one)) ∙ ((k.counted x.core.0 d x.tid.0 (inside x d z)).counted n dl o).sum
 
-    taken : (x : Noted) (d l : ℕ) → Contains h.commits x → d < sh.dirs → (w.dirs d).serving.serving ≡ x.tid.0
-        → 1 ≤ live (CommitOf x.tid.0 (count_below (has_mark (w.dirs d).lines) (lines sh))) (w.net (Core x.core.0) (Dir d))
+    taken : (x : Noted) (d l : ℕ) → Contains h.commits x → d < sh.dirs → tid_at w d ≡ x.tid.0
+        → 1 ≤ live (CommitOf x.tid.0 (count_below (has_mark (w.dirs d).lines) (lines sh))) (to_dir w x.core.0 d)
         → (w.dirs d).lines.mark l ≡ stored_mask sh d x.stores l
     taken x d l c dl e o =
         let n : ℕ = count_below (has_mark (w.dirs d).lines) (lines sh) in
-        let z : 1 ≤ live (Commits x.tid.0) (w.net (Core x.core.0) (Dir d)) =
-        omega (arith, o, few-commits x.tid.0 n (w.net (Core x.core.0) (Dir d))) in
+        let z : 1 ≤ live (Commits x.tid.0) (to_dir w x.core.0 d) =
+        omega (arith, o, few-commits x.tid.0 n (to_dir w x.core.0 d)) in
         let counts : CountsMarks sh n x.tid.0 (pair w x.core.0 d) = (k.counted x.core.0 d x.tid.0 (inside x d z)).counted n dl o in
         taken-marks l (stored_mask sh d x.stores l) (pair w x.core.0 d) (none-away sh l (pair w x.core.0 d) (rw e counts))
         (rw e (sent x d l c dl z))
 
-    owed : (x : Noted) (d l : ℕ) → Contains h.commits x → d < sh.dirs → (w.dirs d).serving.serving ≡ x.tid.0 → 1 ≤ (w.dirs d).owed
+    owed : (x : Noted) (d l : ℕ) → Contains h.commits x → d < sh.dirs → tid_at w d ≡ x.tid.0 → 1 ≤ (w.dirs d).owed
         → (w.dirs d).lines.mark l ≡ stored_mask sh d x.stores l
     owed x d l c dl e o =
         let y = (k.stored 0 d 0).settled dl o in
@@ -128,14 +128,10 @@ commits-marks sh gs h k = record { stored = stored; counted = counted; sent = se
 -- along every run
 from_all : (P : Shape → List Noted → World → Type 0)
     → ((sh : Shape) (gs : List Grant) (h : History) → KeptAll sh gs h → P sh h.commits h.world) → AlwaysSince P
-from_all P f sh p entries ram es = go (run sh p (start entries ram) es) (run-all sh p entries ram es)
+from_all P f sh p entries ram es = IfSome_then (run sh p (start entries ram) es) (run-all sh p entries ram es) (f sh gs)
   where
     gs : List Grant
     gs = grants_from sh p es (record { world = start entries ram; commits = [] })
-
-    go : (x : Option History) → IfSome x (λ r. KeptAll sh gs r) → IfSome x (λ r. P sh r.commits r.world)
-    go None h = tt
-    go (Some r) h = f sh gs r h
 
 pub masks_stored : Always KeptMasks
 masks_stored = from_all (λ sh cs w. KeptMasks sh w) (λ sh gs h k. k.masks)

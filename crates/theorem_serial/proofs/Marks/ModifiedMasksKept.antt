@@ -3,16 +3,16 @@ use Rattle.base_lemmas.proofs.Lemmas.{num-most}
 use Rattle.theorem_serial.proofs
 use proofs.Names
 use Names.{ℕ, ◌+◌, ◌≡◌, ◌<◌, ◌≤◌, true, false, not, List, [], ◌==◌, ◌&&◌, Contains, Option, Some, None, IfSome, nat_lt, set, arith, refl}
-use Names.{◌⊎◌, inl, inr, nat_tests, Noted, Program, Local, num, modified_mask, has_mark, Core, Dir, Vendor, Msg, TidGrant, Skip, Mark}
-use Names.{Event, Shape, DirState, World, Link, start, core_start, in_flight, Sends, Out, core_exec, core_evict, from_dir, grant, Answer}
-use Names.{Waits, Drops, Asks, Takes, dir_deliver, core_moves, core_takes, dir_takes, step, Grants, MarkOf, MarkMask, live, passes}
-use Names.{marks_of, marked_by, MarksOf, KeptMarks, wrong_marks, MaskedOf, KeptMasks, Grant, KeptOwners, Pair, pair, after_move}
-use Names.{grant_taken, after_answer, has_tid, Kept, KeptTold, cases_lt, no_lines, first_serving, dir_start, among, OneMark}
+use Names.{◌⊎◌, inl, inr, Noted, Program, Local, num, modified_mask, has_mark, Core, Dir, Vendor, Msg, TidGrant, Skip, Mark, Event, Shape}
+use Names.{DirState, World, Link, start, core_start, in_flight, Sends, Out, core_exec, core_evict, from_dir, grant, Answer, Waits, Drops}
+use Names.{Asks, Takes, dir_deliver, core_moves, core_takes, dir_takes, step, Grants, MarkOf, MarkMask, live, passes, marks_of, marked_by}
+use Names.{MarksOf, KeptMarks, wrong_marks, MaskedOf, KeptMasks, Grant, KeptOwners, Pair, pair, after_move, grant_taken, after_answer}
+use Names.{has_tid, Kept, KeptTold, cases_lt, no_lines, first_serving, dir_start, among, OneMark, nats, tid_at, to_dir, FromCore}
 use proofs.Counts.Links.{live-sends, live-takes}
 use proofs.Counts.StepCases.{pairs_move, pairs_grant, pairs_back, pairs_dir, pairs_asks, pairs_vendor, OfAnswer, step_cases}
 use proofs.Marks.CoreMarking.{Marking, marking-exec, marking-evict, few}
 use proofs.Marks.CoreMarkingTakes.{Granting, marking-back, granting}
-use proofs.Marks.ModifiedMasks.{Masking, live-masked, passes-masked, masking-exec, masking-evict, masking-back}
+use proofs.Marks.CommitMasks.{Masking, live-masked, passes-masked, masking-exec, masking-evict, masking-back}
 use proofs.Marks.DirMarks.{Marked, Stays, MarkedBy, dir-marked, marks-grow}
 use proofs.Marks.MarksKept.{marks-granted, has-granted, is-granted, skip-unmarked, only-there, kinds, falls, taken-less}
 use proofs.Serving.KeptSteps.{core_of_back}
@@ -24,7 +24,7 @@ use proofs.Tids.TidSteps.{granted_waits, live-some, is_mine}
 -- a Mark with another mask is a Mark
 pub wrong-few : (t l q : ℕ) (v : Pair) → wrong_marks t l q v ≤ marks_of t l v
 unfolding wrong_marks marks_of
-wrong-few t l q v = grind (arith, nat_tests, live-masked)
+wrong-few t l q v = grind (nats, live-masked)
 
 -- a core moves
 masks-moved : (sh : Shape) (gs : List Grant) (c d t l : ℕ) (v : Pair) (o : Out) → Marking sh d t l v.core o → Masking sh d t l v.core o
@@ -37,7 +37,7 @@ masks-moved sh gs c d t l v o y z cl dl m h = λ x. let k = y.kept x in
     q = modified_mask o.core.cache l
 
     before : has_tid v.core.phase t ≡ true → (marked_by sh v.core d l ≡ 0) ⊎ (q ≡ modified_mask v.core.cache l) → wrong_marks t l q v ≡ 0
-    before a b = grind (arith, nat_tests, wrong-few)
+    before a b = grind (nats, wrong-few)
 
 -- a core that takes its grant has marked nothing yet
 masks-granted : (sh : Shape) (gs : List Grant) (c d t l k u : ℕ) (v : Pair) (o : Out) → c < sh.cores → d < sh.dirs → Granting sh u d t l o
@@ -48,7 +48,7 @@ masks-granted sh gs c d t l k u v o cl dl y m =
 -- a directory answers
 wrong-one : (a b t q : ℕ) → (nat_lt 0 b && not (b == q)) ≡ true → 1 ≤ num (passes (MarkMask t a q) (Mark a b t))
 unfolding passes
-wrong-one a b t q n = grind (arith, nat_tests)
+wrong-one a b t q n = grind nats
 
 -- none with another mask before, so none after
 pub wrong-falls : (s new : DirState) (m : Msg) (t l q x y : ℕ) → Marked s m new → y + num (passes (MarkMask t l q) m) ≡ x
@@ -76,27 +76,27 @@ masks-answered t l v m s ms k y eqn skip h = λ x. wrong-falls v.dir s m t l (mo
 
 -- a message from another core is no Mark of this core's TID
 pub masked-there : (sh : Shape) (gs : List Grant) (w : World) (cs : List Noted) (c j d k t l q : ℕ) (m : Msg) → KeptOwners sh gs w cs
-    → KeptMarks sh gs w → in_flight w.net (Core c) (Dir d) k ≡ Some m → (j ≡ c → ⊥)
-    → Contains gs (record { tid = t; core = j }) → live (MarkMask t l q) (w.net (Core j) (Dir d)) + num (passes (MarkMask t l q) m) ≡ live
-    (MarkMask t l q) (w.net (Core j) (Dir d))
+    → KeptMarks sh gs w → FromCore w c d k m → (j ≡ c → ⊥)
+    → Contains gs (record { tid = t; core = j }) → live (MarkMask t l q) (to_dir w j d) + num (passes (MarkMask t l q) m) ≡ live
+    (MarkMask t l q) (to_dir w j d)
 masked-there sh gs w cs c j d k t l q m y h i n g =
     let z : num (passes (MarkOf t l) m) ≡ 0 = omega (arith, only-there sh gs w cs c j d k t l m y h i n (inl g)) in
     omega (arith, passes-masked t l q m z)
 
 dir-masks : (sh : Shape) (gs : List Grant) (w : World) (cs : List Noted) (c d k : ℕ) (m : Msg) (s : DirState) (sends : Sends)
-    → KeptTold sh w → KeptOwners sh gs w cs → KeptMarks sh gs w → KeptMasks sh w → in_flight w.net (Core c) (Dir d) k ≡ Some m
+    → KeptTold sh w → KeptOwners sh gs w cs → KeptMarks sh gs w → KeptMasks sh w → FromCore w c d k m
     → Marked (w.dirs d) m s → KeptMasks sh (dir_takes w c d k s sends)
 unfolding pair
 dir-masks sh gs w cs c d k m s sends a y b h i u =
     λ j e t l x z. pairs_dir (λ j e v. (t l : ℕ) → j < sh.cores → e < sh.dirs → MaskedOf t l v) w c d k s sends
-    (λ t l x z. masks-answered t l (pair w c d) m s (sends (Core c)) (set (w.net (Core c) (Dir d)) k None) u
-    (λ r. live-takes (MarkMask t l (modified_mask (w.cores c).cache l)) (w.net (Core c) (Dir d)) k m i) (skip l) (h c d t l x z))
-    (λ j n t l x z. masks-answered t l (pair w j d) m s (sends (Core j)) (w.net (Core j) (Dir d)) u
+    (λ t l x z. masks-answered t l (pair w c d) m s (sends (Core c)) (set (to_dir w c d) k None) u
+    (λ r. live-takes (MarkMask t l (modified_mask (w.cores c).cache l)) (to_dir w c d) k m i) (skip l) (h c d t l x z))
+    (λ j n t l x z. masks-answered t l (pair w j d) m s (sends (Core j)) (to_dir w j d) u
     (λ r. masked-there sh gs w cs c j d k t l (modified_mask (w.cores j).cache l) m y b i n (has-granted sh gs w cs j t y r))
     (skip l) (h j d t l x z))
     h j e t l x z
   where
-    skip : (l : ℕ) → m ≡ Skip (w.dirs d).serving.serving → has_mark (w.dirs d).lines l ≡ false
+    skip : (l : ℕ) → m ≡ Skip (tid_at w d) → has_mark (w.dirs d).lines l ≡ false
     skip l = skip-unmarked sh gs w c d k m l a b i
 
 -- the marks stay
@@ -148,7 +148,7 @@ step-masks sh p gs w cs e z y b h = step_cases sh p w e (λ g o. KeptMasks sh o.
     taken c d k a (Some o) u q = pairs_back P w d c k o (λ t l x r. own c d t l o x r (u d t l) (q d t l))
         (λ e n t l x r. own c e t l o x r (u e t l) (q e t l)) (λ c d t l x r. h c d t l x r)
 
-    answered : (c d k : ℕ) (m : Msg) → in_flight w.net (Core c) (Dir d) k ≡ Some m → (a : Answer) → MarkedBy (w.dirs d) m a
+    answered : (c d k : ℕ) (m : Msg) → FromCore w c d k m → (a : Answer) → MarkedBy (w.dirs d) m a
         → OfAnswer w c d k (λ v. KeptMasks sh v) a
     answered c d k m i Waits u = tt
     answered c d k m i Drops u = dir-masks sh gs w cs c d k m (w.dirs d) (λ dst. []) z.told y b h i (Stays refl (λ l. refl) u)
@@ -202,23 +202,23 @@ one-answered t l v m s ms k y less eqn skip h = go (cases_lt 0 (live (MarkOf t l
         omega (arith, none, e, h)
 
 dir-one : (sh : Shape) (gs : List Grant) (w : World) (cs : List Noted) (c d k : ℕ) (m : Msg) (s : DirState) (sends : Sends) → KeptTold sh w
-    → KeptOwners sh gs w cs → KeptMarks sh gs w → OneMark sh w → in_flight w.net (Core c) (Dir d) k ≡ Some m → Marked (w.dirs d) m s
+    → KeptOwners sh gs w cs → KeptMarks sh gs w → OneMark sh w → FromCore w c d k m → Marked (w.dirs d) m s
     → OneMark sh (dir_takes w c d k s sends)
 unfolding pair
 dir-one sh gs w cs c d k m s sends a y b h i u =
     λ j e t l x z. pairs_dir (λ j e v. (t l : ℕ) → j < sh.cores → e < sh.dirs → marks_of t l v ≤ 1) w c d k s sends
-    (λ t l x z. one-answered t l (pair w c d) m s (sends (Core c)) (set (w.net (Core c) (Dir d)) k None) u
-    (taken-less k (MarkOf t l) (w.net (Core c) (Dir d)) m i) (λ r. live-takes (MarkOf t l) (w.net (Core c) (Dir d)) k m i) (skip l)
+    (λ t l x z. one-answered t l (pair w c d) m s (sends (Core c)) (set (to_dir w c d) k None) u
+    (taken-less k (MarkOf t l) (to_dir w c d) m i) (λ r. live-takes (MarkOf t l) (to_dir w c d) k m i) (skip l)
     (h c d t l x z))
-    (λ j n t l x z. one-answered t l (pair w j d) m s (sends (Core j)) (w.net (Core j) (Dir d)) u (omega arith)
+    (λ j n t l x z. one-answered t l (pair w j d) m s (sends (Core j)) (to_dir w j d) u (omega arith)
     (λ r. only-there sh gs w cs c j d k t l m y b i n (inl (owner j t l r))) (skip l) (h j d t l x z))
     h j e t l x z
   where
-    skip : (l : ℕ) → m ≡ Skip (w.dirs d).serving.serving → has_mark (w.dirs d).lines l ≡ false
+    skip : (l : ℕ) → m ≡ Skip (tid_at w d) → has_mark (w.dirs d).lines l ≡ false
     skip l = skip-unmarked sh gs w c d k m l a b i
 
-    owner : (j t l : ℕ) → 1 ≤ live (MarkOf t l) (w.net (Core j) (Dir d)) → Contains gs (record { tid = t; core = j })
-    owner j t l r = (b j d t l).owner (omega (arith, r, (kinds t l (w.net (Core j) (Dir d))).0))
+    owner : (j t l : ℕ) → 1 ≤ live (MarkOf t l) (to_dir w j d) → Contains gs (record { tid = t; core = j })
+    owner j t l r = (b j d t l).owner (omega (arith, r, (kinds t l (to_dir w j d)).0))
 
 one-asked : (t l : ℕ) (v : Pair) (s : DirState) (ms : List Msg) → s.serving.serving ≡ v.dir.serving.serving
     → s.lines.mark l ≡ v.dir.lines.mark l → marks_of t l v ≤ 1 → marks_of t l (after_answer v s ms) ≤ 1
@@ -259,7 +259,7 @@ step-one-mark sh p gs w cs e z y b h = step_cases sh p w e (λ g o. OneMark sh o
     taken c d k a (Some o) u = pairs_back P w d c k o (λ t l x r. own c d t l o x r (u d t l)) (λ e n t l x r. own c e t l o x r (u e t l))
         (λ c d t l x r. h c d t l x r)
 
-    answered : (c d k : ℕ) (m : Msg) → in_flight w.net (Core c) (Dir d) k ≡ Some m → (a : Answer) → MarkedBy (w.dirs d) m a
+    answered : (c d k : ℕ) (m : Msg) → FromCore w c d k m → (a : Answer) → MarkedBy (w.dirs d) m a
         → OfAnswer w c d k (λ v. OneMark sh v) a
     answered c d k m i Waits u = tt
     answered c d k m i Drops u = dir-one sh gs w cs c d k m (w.dirs d) (λ dst. []) z.told y b h i (Stays refl (λ l. refl) u)

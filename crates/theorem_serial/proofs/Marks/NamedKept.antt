@@ -3,24 +3,23 @@ use Rattle.base_lemmas.proofs.Lemmas.{eq-self}
 use Rattle.theorem_serial.proofs
 use proofs.Names.{Contains-append_cases, flat_map-append, SparesCommitter, is_invalidated, if◌then◌else◌, invalidations, data_request}
 use proofs.Names.{after_answer, probe_reply, dir_deliver, KeptCounted, grant_taken, ProbeReply, invalidate, core_evict, core_moves}
-use proofs.Names.{core_takes, after_move, back_taken, append-nil, granted_by, home_words, nat_tests, CoreState, in_flight, core_exec}
-use proofs.Names.{dir_takes, KeptNamed, out_taken, flat_map, cases_eq, has_mark, DirState, from_dir, InvsAway, Resolves, cases_lt, KeptTold}
-use proofs.Names.{Contains, dir_asks, DataReq, invs_to, InvMask, Program, NamedOf, handled, IfSome, nat_lt, InvAck, Answer, passes, Option}
-use proofs.Names.{MarkOf, false, arith, those, Lines, Shape, lines, Waits, Drops, Takes, InvOf, AckOf, among, subst, Local, Event, World}
-use proofs.Names.{start, Sends, grant, share, Grant, zero, Bool, true, List, ◌==◌, ◌&&◌, Some, None, refl, Core, Fill, Mark, home, Link}
-use proofs.Names.{fill, Asks, Invs, Acks, live, step, Pair, pair, Kept, ◌++◌, suc, ◌+◌, ◌≡◌, ◌≤◌, ◌∷◌, ◌⊎◌, inl, inr, num, Dir, Msg, Inv}
-use proofs.Names.{Out, ◌<◌, set, sym, ◌∙◌, due, Any, [], to, ap, ℕ}
+use proofs.Names.{core_takes, after_move, back_taken, append-nil, granted_by, home_words, CoreState, core_exec, dir_takes, KeptNamed}
+use proofs.Names.{out_taken, flat_map, cases_eq, has_mark, DirState, from_dir, InvsAway, Resolves, cases_lt, KeptTold, Contains, dir_asks}
+use proofs.Names.{DataReq, invs_to, InvMask, Program, NamedOf, handled, IfSome, nat_lt, InvAck, Answer, passes, Option, MarkOf, false}
+use proofs.Names.{arith, those, Lines, Shape, lines, Waits, Drops, Takes, InvOf, AckOf, among, subst, Local, Event, World, start, Sends}
+use proofs.Names.{grant, share, Grant, zero, Bool, true, List, ◌==◌, ◌&&◌, Some, None, refl, Core, Fill, Mark, home, Link, fill, Asks, Invs}
+use proofs.Names.{Acks, live, step, Pair, pair, Kept, ◌++◌, suc, ◌+◌, ◌≡◌, ◌≤◌, ◌∷◌, ◌⊎◌, inl, inr, num, Dir, Msg, Inv, Out, ◌<◌, set, sym}
+use proofs.Names.{◌∙◌, due, Any, [], to, ap, ℕ, nats, tid_at, to_dir, to_core, FromCore, FromDir}
 use proofs.Counts.DirOutcome.{Outcome, Waiting, Spent, AsksOwner, TakesProbe, TakesLoad, TakesCommit, outcome, none-to, among-none}
 use proofs.Counts.Links.{among-append, among-flat_map_none, live-sends, live-takes, total-le, live-fewer, none-taken, among-fewer}
 use proofs.Counts.StepCases.{dir-own, dir-other, pairs_move, pairs_grant, pairs_back, pairs_dir, pairs_asks, pairs_vendor, OfAnswer}
 use proofs.Counts.StepCases.{step_cases, asks-own}
 use proofs.Marks.DirMarks.{Marked, Stays, Clears, Skipped, Marks as IsMarked, MarkedBy, dir-marked}
 use proofs.Marks.MarksKept.{taken-less, is-mark}
-use proofs.Marks.OwesByCommit.{CountsMarked, OwesBy, dir-owes}
+use proofs.Marks.DirRecords.{CountsMarked, OwesBy, dir-owes}
 use proofs.OneCore.CoreSteps.{fill-steady, data-steady, Invalidated, invalidate-cases, reply-cases}
 use proofs.Serving.CoreDue.{Clean, clean-hurt, clean-replied, clean-steady, CleanOut, clean-exec, clean-evict, clean-grant}
-use proofs.Serving.DirDue.{Due, DueBy, dir-due, still-due, none-quiet}
-use proofs.Serving.DirInvs.{Quiet}
+use proofs.Serving.DirDue.{Due, DueBy, dir-due, still-due, none-quiet, Quiet}
 use proofs.Serving.KeptSteps.{core_of_out, once_at, marks_home, acks_owed, BackDue, back-due}
 use proofs.Tids.Commits.{only-one}
 use proofs.Tids.DirTids.{unserved}
@@ -32,7 +31,7 @@ use proofs.Tids.TidSteps.{live-some}
 line-kinds : (l m : ℕ) (x : Msg) → (num (passes (InvOf l) x) ≤ num (passes Invs x)) × (num (passes (InvMask l m) x) ≤ num (passes Invs x))
     × (num (passes (AckOf l) x) ≤ num (passes Acks x))
 unfolding passes
-line-kinds l m x = (grind (arith, nat_tests), grind (arith, nat_tests), grind (arith, nat_tests))
+line-kinds l m x = (grind nats, grind nats, grind nats)
 
 pub lines-live : (l m : ℕ) (k : Link) → (live (InvOf l) k ≤ live Invs k) × (live (InvMask l m) k ≤ live Invs k)
     × (live (AckOf l) k ≤ live Acks k)
@@ -69,7 +68,7 @@ acks-of sh k l d s o i =
 
 at-home : (sh : Shape) (e k m u : ℕ) → passes (InvsAway sh.dirs e) (Inv k m u) ≡ false → home sh k ≡ e
 unfolding passes
-at-home sh e k m u h = grind (arith, nat_tests)
+at-home sh e k m u h = grind nats
 
 none-of : (l d : ℕ) (sh : Shape) (ms : List Msg) (n : ℕ) → Clean sh d ms → among (AckOf l) ms ≤ n
 none-of l d sh ms n c = omega (arith, c.acks, (lines-among l 0 ms).2)
@@ -93,20 +92,20 @@ one-inv p f u l n = exact n (one n)
   where
     exact : (n : ℕ) → among (InvOf l) (flat_map (λ k. Inv k (f k) u ∷ []) (those p n)) ≡ num (nat_lt l n && p l)
         → among (InvOf l) (flat_map (λ k. Inv k (f k) u ∷ []) (those p n)) ≤ num (p l)
-    exact n e = let z : num (nat_lt l n && p l) ≤ num (p l) = grind (arith, nat_tests) in omega (arith, e, z)
+    exact n e = let z : num (nat_lt l n && p l) ≤ num (p l) = grind nats in omega (arith, e, z)
 
     one : (n : ℕ) → among (InvOf l) (flat_map (λ k. Inv k (f k) u ∷ []) (those p n)) ≡ num (nat_lt l n && p l)
-    one zero = grind (arith, nat_tests)
+    one zero = grind nats
     one (suc n) = rw (flat_map-append, among-append, one n) (go (p n) refl)
       where
         go : (b : Bool) → p n ≡ b
             → num (nat_lt l n && p l) + among (InvOf l) (flat_map (λ k. Inv k (f k) u ∷ []) (if b then n ∷ [] else [])) ≡ num
             (nat_lt l (suc n) && p l)
-        go b q = grind (arith, nat_tests)
+        go b q = grind nats
 
 own-mask : (f : ℕ → ℕ) (u l k : ℕ) → num (passes (InvMask l (f l)) (Inv k (f k) u)) ≡ 0
 unfolding passes
-own-mask f u l k = elim (cases_eq k l) [ inl e ↦ rw e (grind (arith, nat_tests)) | inr n ↦ grind (arith, nat_tests) ]
+own-mask f u l k = elim (cases_eq k l) [ inl e ↦ rw e (grind nats) | inr n ↦ grind nats ]
 
 -- what is sent to core j
 abbrev pub Names : Lines → List Msg → Type 0
@@ -208,7 +207,7 @@ no-commit-mark sh s l k t e = cc
 
 -- while something is owed the marks stay
 pub marks-same : (sh : Shape) (w : World) (c d k : ℕ) (m : Msg) (s : DirState) → KeptCounted sh w → c < sh.cores → d < sh.dirs
-    → in_flight w.net (Core c) (Dir d) k ≡ Some m → 1 ≤ s.owed → (s.serving.serving ≡ (w.dirs d).serving.serving)
+    → FromCore w c d k m → 1 ≤ s.owed → (s.serving.serving ≡ tid_at w d)
     → (s.owed ≤ (w.dirs d).owed) ⊎ CountsMarked sh (w.dirs d) m → Marked (w.dirs d) m s → (l : ℕ) → s.lines.mark l ≡ (w.dirs d).lines.mark l
 unfolding pair
 marks-same sh w c d k m s h cl dl i x e o (Stays f g p) l = g l
@@ -218,41 +217,41 @@ marks-same sh w c d k m s h cl dl i x e (inl o) (IsMarked a b q g f) l =
     absurd (omega (
       arith,
       (h c d 0 cl).settled a dl (omega (arith, x, o)),
-      live-some (MarkOf (w.dirs d).serving.serving a)
-          (w.net (Core c) (Dir d)) k (Mark a b (w.dirs d).serving.serving) (i ∙ ap (λ y. Some y) q),
-      is-mark (w.dirs d).serving.serving a b,
+      live-some (MarkOf (tid_at w d) a)
+          (to_dir w c d) k (Mark a b (tid_at w d)) (i ∙ ap (λ y. Some y) q),
+      is-mark (tid_at w d) a b,
     ))
 marks-same sh w c d k m s h cl dl i x e (inr o) (IsMarked a b q g f) l =
-    absurd (no-commit-mark sh (w.dirs d) a b (w.dirs d).serving.serving (sym q ∙ o))
+    absurd (no-commit-mark sh (w.dirs d) a b (tid_at w d) (sym q ∙ o))
 
 dir-named : (sh : Shape) (w : World) (c d k ack : ℕ) (m : Msg) (s : DirState) (sends : Sends) → KeptTold sh w → KeptCounted sh w
-    → KeptNamed sh w → KeptTold sh (dir_takes w c d k s sends) → c < sh.cores → in_flight w.net (Core c) (Dir d) k ≡ Some m
+    → KeptNamed sh w → KeptTold sh (dir_takes w c d k s sends) → c < sh.cores → FromCore w c d k m
     → Marked (w.dirs d) m s → Due sh d (w.dirs d) ack s sends → (s.owed ≤ (w.dirs d).owed) ⊎ CountsMarked sh (w.dirs d) m
     → (((j : ℕ) → among Invs (sends (Core j)) ≡ 0)
-    ⊎ ((passes (Resolves (w.dirs d).serving.serving) m ≡ true) × ((j : ℕ) → Names (w.dirs d).lines (sends (Core j)))))
+    ⊎ ((passes (Resolves (tid_at w d)) m ≡ true) × ((j : ℕ) → Names (w.dirs d).lines (sends (Core j)))))
     → KeptNamed sh (dir_takes w c d k s sends)
 unfolding pair
 dir-named sh w c d k ack m s sends b g h z cl i u p o n =
     λ j e l. pairs_dir (λ j e v. (l : ℕ) → j < sh.cores → e < sh.dirs → NamedOf l v) w c d k s sends
-    (λ l jl dl. pairs c l jl dl (set (w.net (Core c) (Dir d)) k None) (taken-less k (AckOf l) (w.net (Core c) (Dir d)) m i)
-    (taken-less k Acks (w.net (Core c) (Dir d)) m i)
+    (λ l jl dl. pairs c l jl dl (set (to_dir w c d) k None) (taken-less k (AckOf l) (to_dir w c d) m i)
+    (taken-less k Acks (to_dir w c d) m i)
     (subst (λ v. v.dir.owed ≡ 0 → live Invs v.back + live Acks v.out ≡ 0) (dir-own w c d k s sends) (none-due sh new c d z jl)))
-    (λ j q l jl dl. pairs j l jl dl (w.net (Core j) (Dir d)) (omega arith) (omega arith)
+    (λ j q l jl dl. pairs j l jl dl (to_dir w j d) (omega arith) (omega arith)
     (subst (λ v. v.dir.owed ≡ 0 → live Invs v.back + live Acks v.out ≡ 0) (dir-other w c d k s sends j q) (none-due sh new j d z jl)))
     (λ j e l. h j e l) j e l
   where
     new : World
     new = dir_takes w c d k s sends
 
-    pairs : (j l : ℕ) → j < sh.cores → d < sh.dirs → (q : Link) → live (AckOf l) q ≤ live (AckOf l) (w.net (Core j) (Dir d))
-        → live Acks q ≤ live Acks (w.net (Core j) (Dir d))
+    pairs : (j l : ℕ) → j < sh.cores → d < sh.dirs → (q : Link) → live (AckOf l) q ≤ live (AckOf l) (to_dir w j d)
+        → live Acks q ≤ live Acks (to_dir w j d)
         → (s.owed ≡ 0 → live Invs (after_answer (record (pair w j d) { out = q }) s (sends (Core j))).back + live Acks q ≡ 0)
         → NamedOf l (after_answer (record (pair w j d) { out = q }) s (sends (Core j)))
     pairs j l jl dl q a f e = go (cases_lt 0 s.owed)
       where
-        first : (s.serving.serving ≡ (w.dirs d).serving.serving) → 1 ≤ s.owed
+        first : (s.serving.serving ≡ tid_at w d) → 1 ≤ s.owed
             → (((j : ℕ) → among Invs (sends (Core j)) ≡ 0)
-            ⊎ ((passes (Resolves (w.dirs d).serving.serving) m ≡ true) × ((j : ℕ) → Names (w.dirs d).lines (sends (Core j)))))
+            ⊎ ((passes (Resolves (tid_at w d)) m ≡ true) × ((j : ℕ) → Names (w.dirs d).lines (sends (Core j)))))
             → NamedOf l (after_answer (record (pair w j d) { out = q }) s (sends (Core j)))
         first r x (inl y) = named-quiet l (pair w j d) s (sends (Core j)) q (marks-same sh w c d k m s g cl dl i x r o u l) (y j) a
             (h j d l jl dl)
@@ -261,7 +260,7 @@ dir-named sh w c d k ack m s sends b g h z cl i u p o n =
             named-first l (pair w j d) s (sends (Core j)) q (marks-same sh w c d k m s g cl dl i x r o u l) (y.1 j) (omega (arith, t))
             (omega (arith, t, f))
 
-        serves : {B : Type 0} → 1 ≤ s.owed → ((s.serving.serving ≡ (w.dirs d).serving.serving) × B) ⊎ (s.owed ≡ 0)
+        serves : {B : Type 0} → 1 ≤ s.owed → ((s.serving.serving ≡ tid_at w d) × B) ⊎ (s.owed ≡ 0)
             → NamedOf l (after_answer (record (pair w j d) { out = q }) s (sends (Core j)))
         serves x (inl y) = first (y.0) x n
         serves x (inr y) = absurd (omega (arith, x, y))
@@ -271,25 +270,25 @@ dir-named sh w c d k ack m s sends b g h z cl i u p o n =
         go (inr x) = let t = e (omega (arith, x)) in named-none l (after_answer (record (pair w j d) { out = q }) s (sends (Core j)))
             (omega (arith, t)) (omega (arith, t))
 
-near-back : (k e d c l : ℕ) (sh : Shape) (w : World) (m : Msg) (o : Out) → in_flight w.net (Dir e) (Core c) k ≡ Some m
+near-back : (k e d c l : ℕ) (sh : Shape) (w : World) (m : Msg) (o : Out) → FromDir w e c k m
     → among (AckOf l) (o.sends (Dir e)) ≤ num ((e == e) && passes (InvOf l) m) → NamedOf l (pair w c e)
     → NamedOf l (after_move (back_taken (pair w c e) k) o e)
 unfolding pair
-near-back k e d c l sh w m o i a h = named-moved l e (num (passes (InvOf l) m)) (pair w c e) o (set (w.net (Dir e) (Core c)) k None)
-    (rw (eq-self e) at a) (omega (arith, live-takes (InvOf l) (w.net (Dir e) (Core c)) k m i))
-    (taken-less k (InvMask l ((w.dirs e).lines.mark l)) (w.net (Dir e) (Core c)) m i) h
+near-back k e d c l sh w m o i a h = named-moved l e (num (passes (InvOf l) m)) (pair w c e) o (set (to_core w e c) k None)
+    (rw (eq-self e) at a) (omega (arith, live-takes (InvOf l) (to_core w e c) k m i))
+    (taken-less k (InvMask l ((w.dirs e).lines.mark l)) (to_core w e c) m i) h
 
 away-back : (e d c l : ℕ) (w : World) (m : Msg) (o : Out) → (d ≡ e → ⊥)
     → among (AckOf l) (o.sends (Dir d)) ≤ num ((d == e) && passes (InvOf l) m) → NamedOf l (pair w c d)
     → NamedOf l (after_move (pair w c d) o d)
 unfolding pair
-away-back e d c l w m o n a h = let b : (d == e) ≡ false = grind (arith, nat_tests) in
-    named-moved l d 0 (pair w c d) o (w.net (Dir d) (Core c)) (rw b at a) (omega arith) (omega arith) h
+away-back e d c l w m o n a h = let b : (d == e) ≡ false = grind nats in
+    named-moved l d 0 (pair w c d) o (to_core w d c) (rw b at a) (omega arith) (omega arith) h
 
-pub passed-away : (sh : Shape) (w : World) (c e k : ℕ) (m : Msg) → KeptTold sh w → in_flight w.net (Dir e) (Core c) k ≡ Some m
+pub passed-away : (sh : Shape) (w : World) (c e k : ℕ) (m : Msg) → KeptTold sh w → FromDir w e c k m
     → passes (InvsAway sh.dirs e) m ≡ false
 unfolding pair
-passed-away sh w c e k m z i = none-taken (InvsAway sh.dirs e) (w.net (Dir e) (Core c)) k m i ((z.owed.at_home c e).invs)
+passed-away sh w c e k m z i = none-taken (InvsAway sh.dirs e) (to_core w e c) k m i ((z.owed.at_home c e).invs)
 
 pub step-named : (sh : Shape) (p : Program) (w : World) (e : Event) → Kept sh w → KeptCounted sh w → KeptNamed sh w
     → IfSome (step sh p w e) (λ o. KeptTold sh o.world → KeptNamed sh o.world)
@@ -316,14 +315,14 @@ step-named sh p w e z g h = step_cases sh p w e (λ x o. KeptTold sh o.world →
     moved c None u = tt
     moved c (Some o) u = λ n. pairs_move P w c o (λ d l x y. named-clean l d sh (pair w c d) o (u d) (h c d l x y)) h
 
-    taken : (c d k : ℕ) (m : Msg) → in_flight w.net (Dir d) (Core c) k ≡ Some m → (q : Option Out)
+    taken : (c d k : ℕ) (m : Msg) → FromDir w d c k m → (q : Option Out)
         → ((b l : ℕ) → IfSome q (λ o. among (AckOf l) (o.sends (Dir b)) ≤ num ((b == d) && passes (InvOf l) m)))
         → IfSome q (λ o. KeptTold sh (core_takes w (Dir d) c k o) → KeptNamed sh (core_takes w (Dir d) c k o))
     taken c d k m i None u = tt
     taken c d k m i (Some o) u = λ n. pairs_back P w d c k o (λ l x y. near-back k d d c l sh w m o i (u d l) (h c d l x y))
         (λ b r l x y. away-back d b c l w m o r (u b l) (h c b l x y)) h
 
-    answered : (c d k : ℕ) (m : Msg) → in_flight w.net (Core c) (Dir d) k ≡ Some m → c < sh.cores → (b : Answer) → MarkedBy (w.dirs d) m b
+    answered : (c d k : ℕ) (m : Msg) → FromCore w c d k m → c < sh.cores → (b : Answer) → MarkedBy (w.dirs d) m b
         → OwesBy sh (w.dirs d) m b → DueBy sh d (w.dirs d) (num (passes Acks m)) b → NamesBy (w.dirs d) m b
         → OfAnswer w c d k (λ v. KeptTold sh v → KeptNamed sh v) b
     answered c d k m i cl Waits u o p n = tt
@@ -331,7 +330,7 @@ step-named sh p w e z g h = step_cases sh p w e (λ x o. KeptTold sh o.world →
         (still-due sh d (w.dirs d) ((z.told.owed.at_home c d).marked)) (inl (omega arith)) (inl none-quiet)
     answered c d k m i cl (Asks s sends) u o p n =
         λ t. pairs_asks P w d s sends
-        (λ j l x y. named-quiet l (pair w j d) s (sends (Core j)) (w.net (Core j) (Dir d)) (u.1 l) (n j) (omega arith) (h j d l x y)) h
+        (λ j l x y. named-quiet l (pair w j d) s (sends (Core j)) (to_dir w j d) (u.1 l) (n j) (omega arith) (h j d l x y)) h
     answered c d k m i cl (Takes s sends) u o p n = λ t. dir-named sh w c d k (num (passes Acks m)) m s sends z.told g h t cl i u p o n
 
 pub start-named : (sh : Shape) (entries : ℕ → Local) (ram : ℕ → ℕ) → KeptNamed sh (start entries ram)
@@ -347,26 +346,26 @@ KeptUnacked sh gs w = (c d : ℕ) → UnackedOf sh gs c d (pair w c d)
 
 acks-any : (m : Msg) → num (passes Acks m) ≤ num (passes Any m)
 unfolding passes
-acks-any m = grind (arith, nat_tests)
+acks-any m = grind nats
 
 -- where nothing is owed, no acknowledgement is in flight
 no-acks : (sh : Shape) (w : World) (j d : ℕ) → KeptTold sh w → (pair w j d).dir.owed ≡ 0 → live Acks (pair w j d).out ≡ 0
 unfolding share due pair
 no-acks sh w j d k z = go (cases_lt j sh.cores)
   where
-    go : (j < sh.cores) ⊎ (sh.cores ≤ j) → live Acks (w.net (Core j) (Dir d)) ≡ 0
+    go : (j < sh.cores) ⊎ (sh.cores ≤ j) → live Acks (to_dir w j d) ≡ 0
     go (inl l) = omega (arith, k.owed.owed d, total-le (share due w d) sh.cores j l)
-    go (inr l) = omega (arith, (k.tids.inside j d).out l, live-fewer Acks Any acks-any (w.net (Core j) (Dir d)))
+    go (inr l) = omega (arith, (k.tids.inside j d).out l, live-fewer Acks Any acks-any (to_dir w j d))
 
 -- a directory whose TID isn't granted yet is owed nothing
-next-unacked : (sh : Shape) (w : World) (j d : ℕ) → KeptTold sh w → d < sh.dirs → (w.dirs d).serving.serving ≡ w.next
+next-unacked : (sh : Shape) (w : World) (j d : ℕ) → KeptTold sh w → d < sh.dirs → tid_at w d ≡ w.next
     → live Acks (pair w j d).out ≡ 0
 unfolding handled pair
 next-unacked sh w j d k l e = go (cases_eq (w.dirs d).owed 0)
   where
-    go : ((w.dirs d).owed ≡ 0) ⊎ ((w.dirs d).owed ≡ 0 → ⊥) → live Acks (w.net (Core j) (Dir d)) ≡ 0
+    go : ((w.dirs d).owed ≡ 0) ⊎ ((w.dirs d).owed ≡ 0 → ⊥) → live Acks (to_dir w j d) ≡ 0
     go (inl z) = no-acks sh w j d k z
-    go (inr n) = let r = k.tids.resolved d (w.dirs d).serving.serving l in absurd (grind (arith, nat_tests))
+    go (inr n) = let r = k.tids.resolved d (tid_at w d) l in absurd (grind nats)
 
 -- a directory's answer: it serves the same TID, and no acknowledgement comes with it, or it is owed nothing
 unacked-answered : (sh : Shape) (gs : List Grant) (c d : ℕ) (v q : Pair) {B : Type 0}
@@ -376,12 +375,12 @@ unacked-answered sh gs c d v q (inl e) f z h l g = omega (arith, f, h l (rw (e.0
 unacked-answered sh gs c d v q (inr e) f z h l g = z e
 
 dir-unacked : (sh : Shape) (gs : List Grant) (w : World) (c e k ack : ℕ) (m : Msg) (s : DirState) (sends : Sends) → KeptUnacked sh gs w
-    → KeptTold sh (dir_takes w c e k s sends) → in_flight w.net (Core c) (Dir e) k ≡ Some m → Due sh e (w.dirs e) ack s sends
+    → KeptTold sh (dir_takes w c e k s sends) → FromCore w c e k m → Due sh e (w.dirs e) ack s sends
     → KeptUnacked sh gs (dir_takes w c e k s sends)
 unfolding pair
 dir-unacked sh gs w c e k ack m s sends h z i u = pairs_dir (UnackedOf sh gs) w c e k s sends
     (unacked-answered sh gs c e (pair w c e) (after_answer (out_taken (pair w c e) k) s (sends (Core c))) (u.served)
-    (omega (arith, live-takes Acks (w.net (Core c) (Dir e)) k m i))
+    (omega (arith, live-takes Acks (to_dir w c e) k m i))
     (subst (λ q. q.dir.owed ≡ 0 → live Acks q.out ≡ 0) (dir-own w c e k s sends) (no-acks sh (dir_takes w c e k s sends) c e z))
     (h c e))
     (λ j n. unacked-answered sh gs j e (pair w j e) (after_answer (pair w j e) s (sends (Core j))) (u.served) (omega arith)
@@ -400,15 +399,15 @@ step-unacked sh p gs w e z y h = step_cases sh p w e (λ g o. KeptTold sh o.worl
       arith,
       h c d l g,
       (clean-grant sh u (w.cores c) d).acks,
-      live-sends Acks (w.net (Core c) (Dir d)) ((grant sh u (w.cores c)).sends (Dir d)),
+      live-sends Acks (to_dir w c d) ((grant sh u (w.cores c)).sends (Dir d)),
     )) h))
     (λ c d k m i. taken c d k m i (from_dir sh d (w.cores c) m) (back-due sh d (w.cores c) m (passed-away sh w c d k m z.told i)))
     (λ c d k m i. answered c d k m i (dir_deliver sh (w.dirs d) c m)
     (dir-due sh d (w.dirs d) c m (once_at sh w c d k m z.told i) ((z.told.owed.at_home c d).marked) (marks_home sh w c d k m z.told.owed i)
     (acks_owed sh w c d k m z.told.owed (core_of_out sh w c d k m z.told.tids i) i)))
     (λ c k i n. pairs_vendor (UnackedOf sh (gs ++ record { tid = w.next; core = c } ∷ [])) w c k
-    (λ d l g. more c c d l (Contains-append_cases gs (one c) (record { tid = (w.dirs d).serving.serving; core = c }) g))
-    (λ j d q l g. more c j d l (Contains-append_cases gs (one c) (record { tid = (w.dirs d).serving.serving; core = j }) g)))
+    (λ d l g. more c c d l (Contains-append_cases gs (one c) (record { tid = tid_at w d; core = c }) g))
+    (λ j d q l g. more c j d l (Contains-append_cases gs (one c) (record { tid = tid_at w d; core = j }) g)))
   where
     P : ℕ → ℕ → Pair → Type 0
     P = UnackedOf sh gs
@@ -416,18 +415,18 @@ step-unacked sh p gs w e z y h = step_cases sh p w e (λ g o. KeptTold sh o.worl
     one : ℕ → List Grant
     one c = record { tid = w.next; core = c } ∷ []
 
-    more : (c j d : ℕ) → d < sh.dirs → Contains gs (record { tid = (w.dirs d).serving.serving; core = j })
-        ⊎ Contains (one c) (record { tid = (w.dirs d).serving.serving; core = j }) → live Acks (w.net (Core j) (Dir d)) ≡ 0
-    more c j d l a = grind (arith, nat_tests, next-unacked, only-one)
+    more : (c j d : ℕ) → d < sh.dirs → Contains gs (record { tid = tid_at w d; core = j })
+        ⊎ Contains (one c) (record { tid = tid_at w d; core = j }) → live Acks (to_dir w j d) ≡ 0
+    more c j d l a = grind (nats, next-unacked, only-one)
 
     moved : (c : ℕ) (x : Option Out) → IfSome x (λ o. CleanOut sh o)
         → IfSome x (λ o. KeptTold sh (core_moves w c o) → KeptUnacked sh (gs ++ []) (core_moves w c o))
     moved c None a = tt
     moved c (Some o) a =
         λ n. rw append-nil (pairs_move P w c o
-        (λ d l g. omega (arith, h c d l g, (a d).acks, live-sends Acks (w.net (Core c) (Dir d)) (o.sends (Dir d)))) h)
+        (λ d l g. omega (arith, h c d l g, (a d).acks, live-sends Acks (to_dir w c d) (o.sends (Dir d)))) h)
 
-    taken : (c d k : ℕ) (m : Msg) → in_flight w.net (Dir d) (Core c) k ≡ Some m → (x : Option Out) → IfSome x (λ o. BackDue sh d m o)
+    taken : (c d k : ℕ) (m : Msg) → FromDir w d c k m → (x : Option Out) → IfSome x (λ o. BackDue sh d m o)
         → IfSome x (λ o. KeptTold sh (core_takes w (Dir d) c k o) → KeptUnacked sh (gs ++ []) (core_takes w (Dir d) c k o))
     taken c d k m i None a = tt
     taken c d k m i (Some o) a = λ n. rw append-nil (pairs_back P w d c k o
@@ -436,12 +435,12 @@ step-unacked sh p gs w e z y h = step_cases sh p w e (λ g o. KeptTold sh o.worl
           h c d l g,
           (y c d).own l g,
           a.here,
-          live-takes Invs (w.net (Dir d) (Core c)) k m i,
-          live-sends Acks (w.net (Core c) (Dir d)) (o.sends (Dir d)),
+          live-takes Invs (to_core w d c) k m i,
+          live-sends Acks (to_dir w c d) (o.sends (Dir d)),
         ))
-        (λ b q l g. omega (arith, h c b l g, a.away b q, live-sends Acks (w.net (Core c) (Dir b)) (o.sends (Dir b)))) h)
+        (λ b q l g. omega (arith, h c b l g, a.away b q, live-sends Acks (to_dir w c b) (o.sends (Dir b)))) h)
 
-    answered : (c d k : ℕ) (m : Msg) → in_flight w.net (Core c) (Dir d) k ≡ Some m → (a : Answer)
+    answered : (c d k : ℕ) (m : Msg) → FromCore w c d k m → (a : Answer)
         → DueBy sh d (w.dirs d) (num (passes Acks m)) a → OfAnswer w c d k (λ v. KeptTold sh v → KeptUnacked sh (gs ++ []) v) a
     answered c d k m i Waits u = tt
     answered c d k m i Drops u =

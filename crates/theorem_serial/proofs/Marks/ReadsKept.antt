@@ -2,19 +2,19 @@
 use Rattle.theorem_serial.proofs
 use proofs.Names
 use Names.{ℕ, ◌≡◌, ◌<◌, ◌≤◌, ◌==◌, not, true, List, [], Contains, Option, Some, None, IfSome, is_some, arith, ◌⊎◌, inl, inr, cases_eq}
-use Names.{nat_tests, Noted, Program, Local, num, Core, Dir, Msg, Inv, Event, Shape, home, empty_cache, CoreState, World, start, core_start}
-use Names.{in_flight, Out, core_exec, core_evict, from_dir, grant, Answer, Waits, Drops, Asks, Takes, dir_deliver, core_moves, core_takes}
-use Names.{step, Invs, InvsNot, passes, Kept, KeptTold, KeptCores, Grant, KeptOwners, LastGranted, SparesCommitter, holder, Pair, pair}
-use Names.{IsBound, has_tid, IsPassed, ReadWords, sym, ◌∙◌}
+use Names.{Noted, Program, Local, num, Dir, Msg, Inv, Event, Shape, home, empty_cache, CoreState, World, start, core_start, Out, core_exec}
+use Names.{core_evict, from_dir, grant, Answer, Waits, Drops, Asks, Takes, dir_deliver, core_moves, core_takes, step, Invs, InvsNot, passes}
+use Names.{Kept, KeptTold, KeptCores, Grant, KeptOwners, LastGranted, SparesCommitter, holder, Pair, pair, IsBound, has_tid, IsPassed}
+use Names.{ReadWords, sym, ◌∙◌, nats, tid_at, to_core, FromDir}
 use proofs.Counts.StepCases.{pairs_move, pairs_grant, pairs_back, pairs_dir, pairs_asks, pairs_vendor, OfAnswer, step_cases}
 use proofs.Marks.NamedKept.{passed-away}
-use proofs.OneCore.CoreReads.{Reading, ValidOrPassed, ReadOf, read-kept, reading-exec, reading-evict}
-use proofs.OneCore.CoreReadsTakes.{PassesTid, Admits, reading-grant, reads-back}
-use proofs.Serving.DirProbes.{RisesBy, dir-rises}
+use proofs.OneCore.CoreReads.{Reading, ValidOrPassed, ReadOf, read-kept, reading-exec, reading-evict, PassesTid, Admits, reading-grant}
+use proofs.OneCore.CoreReads.{reads-back}
+use proofs.Serving.DirDue.{RisesBy, dir-rises}
 use proofs.Tids.TidSteps.{live-some}
 
 abbrev pub KeptReads : Shape → World → Type 0
-KeptReads sh w = (c d : ℕ) → d < sh.dirs → ReadOf sh d (w.dirs d).serving.serving (w.cores c)
+KeptReads sh w = (c d : ℕ) → d < sh.dirs → ReadOf sh d (tid_at w d) (w.cores c)
 
 -- a core's TID counts as held by it
 has-holder : (t : ℕ) (v : Pair) → has_tid v.core.phase t ≡ true → 1 ≤ holder t v
@@ -22,57 +22,57 @@ unfolding holder
 has-holder t v e = rw e (omega arith)
 
 -- an invalidation carries the served TID
-served-inv : (sh : Shape) (w : World) (c e k l m u : ℕ) → KeptTold sh w → in_flight w.net (Dir e) (Core c) k ≡ Some (Inv l m u)
-    → u ≡ (w.dirs e).serving.serving
+served-inv : (sh : Shape) (w : World) (c e k l m u : ℕ) → KeptTold sh w → FromDir w e c k (Inv l m u)
+    → u ≡ tid_at w e
 unfolding pair passes
-served-inv sh w c e k l m u z i = go (cases_eq u (w.dirs e).serving.serving)
+served-inv sh w c e k l m u z i = go (cases_eq u (tid_at w e))
   where
-    go : (u ≡ (w.dirs e).serving.serving) ⊎ (u ≡ (w.dirs e).serving.serving → ⊥) → u ≡ (w.dirs e).serving.serving
+    go : (u ≡ tid_at w e) ⊎ (u ≡ tid_at w e → ⊥) → u ≡ (tid_at w e)
     go (inl q) = q
     go (inr n) =
-        let b : num (not (u == (w.dirs e).serving.serving)) ≡ 1 = grind (arith, nat_tests) in
+        let b : num (not (u == tid_at w e)) ≡ 1 = grind nats in
         absurd (omega (
           arith,
           b,
           (z.owed.at_home c e).served,
-          live-some (InvsNot (w.dirs e).serving.serving) (w.net (Dir e) (Core c)) k
+          live-some (InvsNot (tid_at w e)) (to_core w e c) k
               (Inv l m u) i,
         ))
 
-inv-home : (sh : Shape) (w : World) (c e k l m u : ℕ) → KeptTold sh w → in_flight w.net (Dir e) (Core c) k ≡ Some (Inv l m u)
+inv-home : (sh : Shape) (w : World) (c e k l m u : ℕ) → KeptTold sh w → FromDir w e c k (Inv l m u)
     → home sh l ≡ e
 unfolding passes
-inv-home sh w c e k l m u z i = let a = passed-away sh w c e k (Inv l m u) z i in grind (arith, nat_tests)
+inv-home sh w c e k l m u z i = let a = passed-away sh w c e k (Inv l m u) z i in grind nats
 
 -- and this isn't the TID of the core that it goes to
 not-own : (sh : Shape) (gs : List Grant) (w : World) (cs : List Noted) (c e k l m u : ℕ) → e < sh.dirs → KeptOwners sh gs w cs
-    → SparesCommitter sh gs w → in_flight w.net (Dir e) (Core c) k ≡ Some (Inv l m u)
-    → has_tid (w.cores c).phase (w.dirs e).serving.serving ≡ true → ⊥
+    → SparesCommitter sh gs w → FromDir w e c k (Inv l m u)
+    → has_tid (w.cores c).phase (tid_at w e) ≡ true → ⊥
 unfolding pair passes
 not-own sh gs w cs c e k l m u b y s i h =
-    let g : Contains gs (record { tid = (w.dirs e).serving.serving; core = c }) =
-    y.held c e (w.dirs e).serving.serving (has-holder (w.dirs e).serving.serving (pair w c e) h) in
-    omega (arith, (s c e).own b g, live-some Invs (w.net (Dir e) (Core c)) k (Inv l m u) i)
+    let g : Contains gs (record { tid = tid_at w e; core = c }) =
+    y.held c e (tid_at w e) (has-holder (tid_at w e) (pair w c e) h) in
+    omega (arith, (s c e).own b g, live-some Invs (to_core w e c) k (Inv l m u) i)
 
 -- so the directory has passed the TID of a core that is ahead of it
 inv-passes : (sh : Shape) (gs : List Grant) (w : World) (cs : List Noted) (c e k l m u d : ℕ) → d < sh.dirs → KeptTold sh w
-    → KeptOwners sh gs w cs → SparesCommitter sh gs w → in_flight w.net (Dir e) (Core c) k ≡ Some (Inv l m u)
-    → PassesTid sh (w.cores c) d (w.dirs d).serving.serving l u
+    → KeptOwners sh gs w cs → SparesCommitter sh gs w → FromDir w e c k (Inv l m u)
+    → PassesTid sh (w.cores c) d (tid_at w d) l u
 inv-passes sh gs w cs c e k l m u d b z y s i a t h n = rw q (go (cases_eq t u))
   where
     q : d ≡ e
     q = let x = inv-home sh w c e k l m u z i in cc
 
-    x : u ≡ (w.dirs e).serving.serving
+    x : u ≡ (tid_at w e)
     x = served-inv sh w c e k l m u z i
 
-    go : (t ≡ u) ⊎ (t ≡ u → ⊥) → t < (w.dirs e).serving.serving
+    go : (t ≡ u) ⊎ (t ≡ u → ⊥) → t < (tid_at w e)
     go (inl r) = absurd (not-own sh gs w cs c e k l m u (rw (sym q) b) y s i (rw (r ∙ x) at h))
     go (inr r) = omega (arith, x)
 
 admitted : (sh : Shape) (gs : List Grant) (w : World) (cs : List Noted) (c e k : ℕ) (m : Msg) (d : ℕ) → d < sh.dirs → KeptTold sh w
-    → KeptOwners sh gs w cs → SparesCommitter sh gs w → in_flight w.net (Dir e) (Core c) k ≡ Some m
-    → Admits sh (w.cores c) d (w.dirs d).serving.serving m
+    → KeptOwners sh gs w cs → SparesCommitter sh gs w → FromDir w e c k m
+    → Admits sh (w.cores c) d (tid_at w d) m
 admitted sh gs w cs c e k (Inv l m u) d b z y s i = inv-passes sh gs w cs c e k l m u d b z y s i
 admitted sh gs w cs c e k _ d b z y s i = tt
 
@@ -89,7 +89,7 @@ step-reads sh p gs w cs e z y ks s h = step_cases sh p w e (λ g o. KeptReads sh
     (λ c k u i. pairs_grant P w c k (grant sh u (w.cores c))
     (λ d b. read-kept sh d _ (w.cores c) (grant sh u (w.cores c)).core (reading-grant sh u (w.cores c)) (h c d b)) h)
     (λ c d k m i. taken c d k (from_dir sh d (w.cores c) m)
-    (λ a b. reads-back sh d a (w.dirs a).serving.serving (w.cores c) m (ks c) (admitted sh gs w cs c d k m a b z.told y s i)
+    (λ a b. reads-back sh d a (tid_at w a) (w.cores c) m (ks c) (admitted sh gs w cs c d k m a b z.told y s i)
     (h c a b)))
     (λ c d k m i. answered c d k (dir_deliver sh (w.dirs d) c m) (dir-rises sh (w.dirs d) c m))
     (λ c k i. pairs_vendor P w c k (λ d. h c d) (λ j d n. h j d))
@@ -101,7 +101,7 @@ step-reads sh p gs w cs e z y ks s h = step_cases sh p w e (λ g o. KeptReads sh
     moved c None a = tt
     moved c (Some o) a = pairs_move P w c o (λ d b. read-kept sh d _ (w.cores c) o.core a (h c d b)) h
 
-    taken : (c d k : ℕ) (x : Option Out) → ((a : ℕ) → a < sh.dirs → IfSome x (λ o. ReadOf sh a (w.dirs a).serving.serving o.core))
+    taken : (c d k : ℕ) (x : Option Out) → ((a : ℕ) → a < sh.dirs → IfSome x (λ o. ReadOf sh a (tid_at w a) o.core))
         → IfSome x (λ o. KeptReads sh (core_takes w (Dir d) c k o))
     taken c d k None f = tt
     taken c d k (Some o) f = pairs_back P w d c k o (f d) (λ a n. f a) h
@@ -126,8 +126,8 @@ read-words sh gs w cs y last k c d x b l a e q r = go b q (k c d a x e r)
     v : Pair
     v = pair w c d
 
-    go : (b : Option ℕ) → IsBound b v → ValidOrPassed ((w.cores c).cache.value x) (w.cores c).phase (w.dirs d).serving.serving
-        → (is_some ((w.cores c).cache.value x) ≡ true) ⊎ IsPassed b (w.dirs d).serving.serving
+    go : (b : Option ℕ) → IsBound b v → ValidOrPassed ((w.cores c).cache.value x) (w.cores c).phase (tid_at w d)
+        → (is_some ((w.cores c).cache.value x) ≡ true) ⊎ IsPassed b (tid_at w d)
     go b q (inl z) = inl z
     go None q (inr z) = absurd (omega (arith, q z.0, has-holder z.0 v (z.1)))
     go (Some t) q (inr z) = inr (omega (arith, z.2, last c d z.0 t (has-holder z.0 v (z.1)) (y.held c d t q)))

@@ -4,28 +4,26 @@ use Rattle.theorem_serial.proofs
 use proofs.Names
 use Names.{after_other_grant, slice_index_or, if◌then◌else◌, modified_mask, insert_commit, SettledCommit, Contains, after_answer}
 use Names.{MarkedCommit, wrong_marks, grant_taken, stored_mask, count_below, dir_deliver, EmptyMarks, KeptCounted, after_grant, after_move}
-use Names.{MarkedWith, core_evict, core_moves, core_takes, KeptOwners, false, back_taken, KeptStored, nat_tests, writes_at, and_noted}
-use Names.{AnyCommit, marked_by, dir_start, in_flight, [], core_exec, dir_takes, KeptMarks, KeptMasks, KeptCores, cases_lt, has_mark}
-use Names.{DirState, sent_all, Resolves, MarkMask, marks_of, MaskedOf, StoredOf, from_dir, dir_asks, CommitOf, KeptTold, Commits, MarksOf}
-use Names.{arith, Program, Option, length, nat_lt, MarkOf, passes, IfSome, TidReq, Commit, Answer, Noted, Shape, among, ℕ, Grant, opens}
-use Names.{subst, Local, Event, lines, World, start, Sends, grant, Waits, Drops, Takes, zero, Bool, true, List, ◌++◌, Some, None, refl}
-use Names.{Skip, Link, Kind, live, Pair, Core, Asks, step, Acks, pair, Kept, skip, suc, ◌+◌, ◌≡◌, ◌<◌, ◌≤◌, ◌∷◌, ◌∙◌, ◌⊎◌, inl, inr, num}
-use Names.{Dir, Msg, Out, set, sym, ap}
+use Names.{MarkedWith, core_evict, core_moves, core_takes, KeptOwners, false, back_taken, KeptStored, writes_at, and_noted, AnyCommit}
+use Names.{marked_by, dir_start, [], core_exec, dir_takes, KeptMarks, KeptMasks, KeptCores, cases_lt, has_mark, DirState, sent_all}
+use Names.{Resolves, MarkMask, marks_of, MaskedOf, StoredOf, from_dir, dir_asks, CommitOf, KeptTold, Commits, MarksOf, arith, Program}
+use Names.{Option, length, nat_lt, MarkOf, passes, IfSome, TidReq, Commit, Answer, Noted, Shape, among, ℕ, Grant, opens, subst, Local}
+use Names.{Event, lines, World, start, Sends, grant, Waits, Drops, Takes, zero, Bool, true, List, ◌++◌, Some, None, refl, Skip, Link, Kind}
+use Names.{live, Pair, Core, Asks, step, Acks, pair, Kept, skip, suc, ◌+◌, ◌≡◌, ◌<◌, ◌≤◌, ◌∷◌, ◌∙◌, ◌⊎◌, inl, inr, num, Dir, Msg, Out, set}
+use Names.{sym, ap, nats, tid_at, to_dir, FromCore}
 use proofs.Counts.Links.{live-sends, live-takes}
 use proofs.Counts.StepCases.{dir-own, dir-other, asks-own, pairs_move, pairs_grant, pairs_back, pairs_dir, pairs_asks, pairs_vendor}
 use proofs.Counts.StepCases.{OfAnswer, step_cases}
-use proofs.Marks.CommitMasks.{Storing, StoresAll, storing-exec, storing-evict, storing-back}
-use proofs.Serving.CoreCommits.{granted-free}
+use proofs.Marks.CommitMasks.{Storing, StoresAll, storing-exec, storing-evict, storing-back, few-masked, passes-masked}
+use proofs.Serving.CoreCommits.{granted-free, few-of}
 use proofs.Marks.CoreMarking.{Marking, marking-exec, marking-evict}
 use proofs.Marks.CoreMarkingTakes.{marking-back, granting}
-use proofs.Marks.ModifiedMasks.{few-masked, passes-masked}
 use proofs.Marks.CountsKept.{none-sent, marks-stay, told-ahead, is-commit, none-away}
 use proofs.Marks.DirMarks.{Marked, Stays, MarkedBy, dir-marked}
 use proofs.Marks.MarksKept.{open-untold, taken-less, empty-one, skip-unmarked, only-there, no-request, no-empty, taken-back as back-marks}
 use proofs.Marks.ModifiedMasksKept.{wrong-few, wrong-falls, masked-there}
 use proofs.Marks.NamedKept.{marks-same}
-use proofs.Marks.OwesByCommit.{CountsMarked, OwesBy, dir-owes}
-use proofs.Serving.CommitOwners.{few-of}
+use proofs.Marks.DirRecords.{CountsMarked, OwesBy, dir-owes}
 use proofs.Serving.CommitSteps.{ofs-resolve}
 use proofs.Serving.DirDue.{Due, DueBy, dir-due, still-due}
 use proofs.Serving.KeptSteps.{core_of_back, core_of_out, once_at, marks_home, acks_owed}
@@ -100,7 +98,7 @@ with-all t l q d b v o e m r k h = record {
 }
   where
     before : (b ≡ 0) ⊎ (q ≡ modified_mask v.core.cache l) → wrong_marks t l q v ≡ 0
-    before a = grind (arith, nat_tests, wrong-few)
+    before a = grind (nats, wrong-few)
 
 pub stored-moved : (sh : Shape) (gs : List Grant) (cs : List Noted) (c d t : ℕ) (v : Pair) (o : Out) → c < sh.cores
     → ((l : ℕ) → Marking sh d t l v.core o) → StoresAll sh c d t v.core o → ((l : ℕ) → MarksOf sh gs c d t l v)
@@ -112,7 +110,7 @@ stored-moved sh gs cs c d t v o cl y s m q free h =
   where
     told : (l : ℕ) → d < sh.dirs → 1 ≤ live (Commits t) v.out → (0 < among (MarkOf t l) (o.sends (Dir d)))
         ⊎ (among (MarkOf t l) (o.sends (Dir d)) ≤ 0) → among (MarkOf t l) (o.sends (Dir d)) ≡ 0
-    told l dl x a = grind (arith, nat_tests, ofs-resolve)
+    told l dl x a = grind (nats, ofs-resolve)
 
     new : d < sh.dirs → Storing sh c d t v.core o → MarkedCommit sh (and_noted o.commit cs) c d t (after_move v o d)
     new dl k = record {
@@ -210,15 +208,15 @@ stored-answered sh gs cs j d t v m s ms k y less ones wrongs skip nonempty ahead
 pub taken-marks : (l q : ℕ) (v : Pair) → live (MarkOf v.dir.serving.serving l) v.out ≡ 0 → MarkedWith v.dir.serving.serving l q v
     → v.dir.lines.mark l ≡ q
 unfolding marks_of wrong_marks
-taken-marks l q v z h = grind (arith, nat_tests)
+taken-marks l q v z h = grind nats
 
 pub one-commit : (u n : ℕ) (m : Msg) → num (passes (CommitOf u n) m) ≤ num (passes (Commits u) m)
 unfolding passes
-one-commit u n m = grind (arith, nat_tests)
+one-commit u n m = grind nats
 
 -- a directory that takes a Commit has as its marks what the commit stored
 pub taken-stored : (sh : Shape) (w : World) (cs : List Noted) (c d k : ℕ) (m : Msg) → KeptCounted sh w → KeptStored sh cs w → c < sh.cores
-    → d < sh.dirs → in_flight w.net (Core c) (Dir d) k ≡ Some m → CountsMarked sh (w.dirs d) m → SettledCommit sh cs d (w.dirs d)
+    → d < sh.dirs → FromCore w c d k m → CountsMarked sh (w.dirs d) m → SettledCommit sh cs d (w.dirs d)
 unfolding pair
 taken-stored sh w cs c d k m g h cl dl i q =
     record {
@@ -230,39 +228,39 @@ taken-stored sh w cs c d k m g h cl dl i q =
     }
   where
     u : ℕ
-    u = (w.dirs d).serving.serving
+    u = (tid_at w d)
 
     n : ℕ
     n = count_below (has_mark (w.dirs d).lines) (lines sh)
 
-    j : in_flight w.net (Core c) (Dir d) k ≡ Some (Commit u n)
+    j : (FromCore w c d k (Commit u n))
     j = i ∙ ap (λ x. Some x) q
 
-    sent : 1 ≤ live (CommitOf u n) (w.net (Core c) (Dir d))
-    sent = omega (arith, live-some (CommitOf u n) (w.net (Core c) (Dir d)) k (Commit u n) j, is-commit u n)
+    sent : 1 ≤ live (CommitOf u n) (to_dir w c d)
+    sent = omega (arith, live-some (CommitOf u n) (to_dir w c d) k (Commit u n) j, is-commit u n)
 
     x : MarkedCommit sh cs c d u (pair w c d)
     x =
         (h c d u).sent cl dl (omega (
           arith,
-          live-some (Commits u) (w.net (Core c) (Dir d)) k (Commit u n) j,
+          live-some (Commits u) (to_dir w c d) k (Commit u n) j,
           is-commit u n,
           one-commit u n (Commit u n),
         ))
 
 dir-stored : (sh : Shape) (gs : List Grant) (w : World) (cs : List Noted) (c d k ack : ℕ) (m : Msg) (s : DirState) (sends : Sends)
     → KeptTold sh w → KeptOwners sh gs w cs → KeptMarks sh gs w → KeptCounted sh w → KeptStored sh cs w
-    → KeptTold sh (dir_takes w c d k s sends) → c < sh.cores → in_flight w.net (Core c) (Dir d) k ≡ Some m
+    → KeptTold sh (dir_takes w c d k s sends) → c < sh.cores → FromCore w c d k m
     → Marked (w.dirs d) m s → Due sh d (w.dirs d) ack s sends → (s.owed ≤ (w.dirs d).owed) ⊎ CountsMarked sh (w.dirs d) m
     → KeptStored sh cs (dir_takes w c d k s sends)
 unfolding pair
 dir-stored sh gs w cs c d k ack m s sends b y a g h z cl i u p o = pairs_dir (λ j e v. (t : ℕ) → StoredOf sh cs j e t v) w c d k s sends
-    (λ t. stored-answered sh gs cs c d t (pair w c d) m s (sends (Core c)) (set (w.net (Core c) (Dir d)) k None) u
-    (λ x. taken-less k x (w.net (Core c) (Dir d)) m i) (λ l x. live-takes (MarkOf t l) (w.net (Core c) (Dir d)) k m i)
-    (λ l q x. live-takes (MarkMask t l q) (w.net (Core c) (Dir d)) k m i) skip nonempty
+    (λ t. stored-answered sh gs cs c d t (pair w c d) m s (sends (Core c)) (set (to_dir w c d) k None) u
+    (λ x. taken-less k x (to_dir w c d) m i) (λ l x. live-takes (MarkOf t l) (to_dir w c d) k m i)
+    (λ l q x. live-takes (MarkMask t l q) (to_dir w c d) k m i) skip nonempty
     (λ jl dl. subst (λ v. 1 ≤ live (Resolves t) v.out → v.dir.serving.serving ≤ t) (dir-own w c d k s sends)
     (told-ahead sh new c d t (z.tids) jl dl)) settles (a c d t 0) (h c d t))
-    (λ j n t. stored-answered sh gs cs j d t (pair w j d) m s (sends (Core j)) (w.net (Core j) (Dir d)) u (λ x. omega arith)
+    (λ j n t. stored-answered sh gs cs j d t (pair w j d) m s (sends (Core j)) (to_dir w j d) u (λ x. omega arith)
     (λ l x. only-there sh gs w cs c j d k t l m y a i n (inl x)) (λ l q x. masked-there sh gs w cs c j d k t l q m y a i n x) skip
     nonempty
     (λ jl dl. subst (λ v. 1 ≤ live (Resolves t) v.out → v.dir.serving.serving ≤ t) (dir-other w c d k s sends j n)
@@ -272,20 +270,20 @@ dir-stored sh gs w cs c d k ack m s sends b y a g h z cl i u p o = pairs_dir (λ
     new : World
     new = dir_takes w c d k s sends
 
-    skip : (l : ℕ) → m ≡ Skip (w.dirs d).serving.serving → has_mark (w.dirs d).lines l ≡ false
+    skip : (l : ℕ) → m ≡ Skip (tid_at w d) → has_mark (w.dirs d).lines l ≡ false
     skip l = skip-unmarked sh gs w c d k m l b a i
 
     nonempty : passes EmptyMarks m ≡ false
-    nonempty = empty-one (w.net (Core c) (Dir d)) k m i ((a c d 0 0).words)
+    nonempty = empty-one (to_dir w c d) k m i ((a c d 0 0).words)
 
     -- what the directory serves is settled already, or by this message
     before : d < sh.dirs → 1 ≤ s.owed → (s.owed ≤ (w.dirs d).owed) ⊎ CountsMarked sh (w.dirs d) m → SettledCommit sh cs d (w.dirs d)
     before dl x (inl q) = (h c d 0).settled dl (omega (arith, x, q))
     before dl x (inr q) = taken-stored sh w cs c d k m g h cl dl i q
 
-    serves : {B : Type 0} → 1 ≤ s.owed → ((s.serving.serving ≡ (w.dirs d).serving.serving) × B) ⊎ (s.owed ≡ 0)
-        → s.serving.serving ≡ (w.dirs d).serving.serving
-    serves x a = grind (arith, nat_tests)
+    serves : {B : Type 0} → 1 ≤ s.owed → ((s.serving.serving ≡ tid_at w d) × B) ⊎ (s.owed ≡ 0)
+        → s.serving.serving ≡ (tid_at w d)
+    serves x a = grind nats
 
     settles : d < sh.dirs → 1 ≤ s.owed → SettledCommit sh cs d s
     settles dl x = let n = before dl x o in let e = serves x (p.served) in record {
@@ -297,11 +295,11 @@ dir-stored sh gs w cs c d k ack m s sends b y a g h z cl i u p o = pairs_dir (λ
     }
 
 asks-stored : (sh : Shape) (gs : List Grant) (w : World) (cs : List Noted) (d : ℕ) (s : DirState) (sends : Sends) → KeptMarks sh gs w
-    → KeptStored sh cs w → KeptTold sh (dir_asks w d s sends) → (s.serving.serving ≡ (w.dirs d).serving.serving)
+    → KeptStored sh cs w → KeptTold sh (dir_asks w d s sends) → (s.serving.serving ≡ tid_at w d)
     × ((l : ℕ) → s.lines.mark l ≡ (w.dirs d).lines.mark l) → s.owed ≤ (w.dirs d).owed → KeptStored sh cs (dir_asks w d s sends)
 unfolding pair
 asks-stored sh gs w cs d s sends a h z u o = pairs_asks (λ j e v. (t : ℕ) → StoredOf sh cs j e t v) w d s sends
-    (λ j t. stored-answered sh gs cs j d t (pair w j d) TidReq s (sends (Core j)) (w.net (Core j) (Dir d))
+    (λ j t. stored-answered sh gs cs j d t (pair w j d) TidReq s (sends (Core j)) (to_dir w j d)
     (Stays (u.0) (u.1) (λ b e q. let f = no-request b e in absurd (cc))) (λ q. omega arith) (λ l x. none t l)
     (λ l q x. omega (arith, passes-masked t l q TidReq (ap num (no-request t l)))) (λ l e. absurd (cc)) no-empty
     (λ jl dl. subst (λ v. 1 ≤ live (Resolves t) v.out → v.dir.serving.serving ≤ t) (asks-own w d s sends j)
@@ -390,7 +388,7 @@ step-stored sh p gs w cs e z y x a g q h = step_cases sh p w e (λ r o. KeptTold
     taken c d k cl (Some o) u f = λ n. pairs_back (P o.commit) w d c k o (λ t. back c d k t o cl u (f d t))
         (λ b r t. own c b t o cl u (f b t)) (more o.commit)
 
-    answered : (c d k : ℕ) (m : Msg) → in_flight w.net (Core c) (Dir d) k ≡ Some m → c < sh.cores → (b : Answer) → MarkedBy (w.dirs d) m b
+    answered : (c d k : ℕ) (m : Msg) → FromCore w c d k m → c < sh.cores → (b : Answer) → MarkedBy (w.dirs d) m b
         → OwesBy sh (w.dirs d) m b → DueBy sh d (w.dirs d) (num (passes Acks m)) b
         → OfAnswer w c d k (λ v. KeptTold sh v → KeptStored sh cs v) b
     answered c d k m i cl Waits u o p = tt

@@ -4,11 +4,11 @@ use Rattle.rules_tcc.specs.Sends.{write_back_of}
 use Rattle.theorem_serial.proofs
 use proofs.Names
 use Names.{ℕ, ◌%◌, ◌≡◌, ◌<◌, Bool, true, false, not, List, [], ◌∷◌, ◌++◌, ◌==◌, ◌&&◌, cond, Some, None, IfSome, is_some, nat_lt}
-use Names.{if◌then◌else◌, flat_map, arith, refl, any_below-found, nat_tests, Program, num, those, count_below, any_word, word_at, Dir, Msg}
-use Names.{LoadReq, Skip, Mark, Commit, WriteBack, Flush, InvAck, Shape, home, lines, Cache, keeps, is_dirty, dirty_mask, dirty_copy}
-use Names.{dirty_words, dirty_tag, is_modified, modified_mask, written_lines, Spilled, holds, spilled_mask, spilled_words, CoreState, Sends}
-use Names.{to, flush_of, flush_line, write_back_line, marks_for, commit, solo_commit, solo_sends, solo_marks_or_skip, solo_write_backs}
-use Names.{solo_writes_at, is_written, written_mask, core_exec, core_evict, grant, from_dir, LinesAway, NoWord, among, passes}
+use Names.{if◌then◌else◌, flat_map, arith, refl, any_below-found, Program, num, those, count_below, any_word, word_at, Dir, Msg, LoadReq}
+use Names.{Skip, Mark, Commit, WriteBack, Flush, InvAck, Shape, home, lines, Cache, keeps, is_dirty, dirty_mask, dirty_copy, dirty_words}
+use Names.{dirty_tag, is_modified, modified_mask, written_lines, Spilled, holds, spilled_mask, spilled_words, CoreState, Sends, to}
+use Names.{flush_of, flush_line, write_back_line, marks_for, commit, solo_commit, solo_sends, solo_marks_or_skip, solo_write_backs}
+use Names.{solo_writes_at, is_written, written_mask, core_exec, core_evict, grant, from_dir, LinesAway, NoWord, among, passes, nats}
 use proofs.Counts.Links.{among-append}
 use proofs.Serving.CoreDue.{among-those_none}
 use proofs.Marks.CoreMarks.{some-mask, modified-full, written-full, holds-found}
@@ -48,15 +48,15 @@ homely-to : (sh : Shape) (h d : ℕ) (ms : List Msg) → ((d ≡ h) → Homely s
 homely-to sh h d ms f = go (d == h) refl
   where
     go : (b : Bool) → (d == h) ≡ b → Homely sh d (if b then ms else [])
-    go true e = f (grind (arith, nat_tests))
+    go true e = f (grind nats)
     go false e = homely-none sh d
 
 -- one message
 at-home : (sh : Shape) (d l : ℕ) → d ≡ home sh l → num (not ((l % sh.dirs) == d)) ≡ 0
-at-home sh d l e = let b : ((l % sh.dirs) == d) ≡ true = rw e (grind (arith, nat_tests)) in rw b refl
+at-home sh d l e = let b : ((l % sh.dirs) == d) ≡ true = rw e (grind nats) in rw b refl
 
 some-word : (m : ℕ) → 0 < m → num (m == 0) ≡ 0
-some-word m l = let b : (m == 0) ≡ false = grind (arith, nat_tests) in rw b refl
+some-word m l = let b : (m == 0) ≡ false = grind nats in rw b refl
 
 one-load : (sh : Shape) (d l a : ℕ) → d ≡ home sh l → Homely sh d (LoadReq l a ∷ [])
 unfolding among passes

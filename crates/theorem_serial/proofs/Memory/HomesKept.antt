@@ -2,11 +2,11 @@
 use Rattle.theorem_serial.proofs
 use proofs.Names
 use Names.{ℕ, ◌%◌, ◌≡◌, ◌<◌, Bool, true, false, not, List, [], ◌∷◌, ◌++◌, ◌==◌, ◌&&◌, Option, Some, None, IfSome, nat_lt, if◌then◌else◌}
-use Names.{arith, refl, inl, inr, cases_eq, nat_tests, Program, Local, num, Lines, no_lines, Core, Dir, Event, Msg, Fill, ProbeReply}
-use Names.{DataReq, Inv, Shape, home, lines, DirState, World, start, dir_start, in_flight, sent_all, Out, core_exec, core_evict, from_dir}
-use Names.{grant, Sends, nothing, to, Answer, Waits, Drops, Asks, Takes, dir_deliver, invalidations, is_invalidated, invs_to, home_words}
-use Names.{core_moves, core_takes, dir_takes, step, IsUnknown, HomeOf, KeptHomes, LinesAway, NoWord, live, among, passes, Kept, Pair, pair}
-use Names.{after_answer, out_taken}
+use Names.{arith, refl, inl, inr, cases_eq, Program, Local, num, Lines, no_lines, Core, Dir, Event, Msg, Fill, ProbeReply, DataReq, Inv}
+use Names.{Shape, home, lines, DirState, World, start, dir_start, sent_all, Out, core_exec, core_evict, from_dir, grant, Sends, nothing, to}
+use Names.{Answer, Waits, Drops, Asks, Takes, dir_deliver, invalidations, is_invalidated, invs_to, home_words, core_moves, core_takes}
+use Names.{dir_takes, step, IsUnknown, HomeOf, KeptHomes, LinesAway, NoWord, live, among, passes, Kept, Pair, pair, after_answer, out_taken}
+use Names.{nats, to_dir, to_core, FromCore, FromDir}
 use proofs.Counts.DirOutcome.{Outcome, AsksOwner, TakesSkip, TakesAbort, TakesProbe, TakesLoad, TakesMark, TakesCommit, TakesAck, TakesCopy}
 use proofs.Counts.DirOutcome.{Wants, ToLoad, ToMark, outcome}
 use proofs.Counts.Links.{live-sends, live-takes, none-taken}
@@ -34,10 +34,10 @@ quietly : (sh : Shape) (d : ℕ) (new : DirState) → LinesHome sh d new.lines �
 quietly sh d new h = record { lines = h; homely = λ j. homely-none sh d }
 
 other : (sh : Shape) (d l x : ℕ) → home sh l ≡ d → (home sh x ≡ d → ⊥) → (x == l) ≡ false
-other sh d l x e n = elim (cases_eq x l) [ inl q ↦ absurd (n (rw q e)) | inr q ↦ grind (arith, nat_tests) ]
+other sh d l x e n = elim (cases_eq x l) [ inl q ↦ absurd (n (rw q e)) | inr q ↦ grind nats ]
 
 home-count : (sh : Shape) (d l : ℕ) → home sh l ≡ d → num (not ((l % sh.dirs) == d)) ≡ 0
-home-count sh d l e = let b : ((l % sh.dirs) == d) ≡ true = rw e (grind (arith, nat_tests)) in rw b refl
+home-count sh d l e = let b : ((l % sh.dirs) == d) ≡ true = rw e (grind nats) in rw b refl
 
 -- one message to one core
 one-to : (sh : Shape) (d c j : ℕ) (m : Msg) → Homely sh d (m ∷ []) → Homely sh d (to (Core c) (m ∷ []) (Core j))
@@ -59,7 +59,7 @@ one-inv : (sh : Shape) (d l m u : ℕ) → home sh l ≡ d → nat_lt 0 m ≡ tr
 unfolding among passes
 one-inv sh d l m u e s = record {
   away = omega (arith, home-count sh d l e);
-  words = let b : (m == 0) ≡ false = grind (arith, nat_tests) in
+  words = let b : (m == 0) ≡ false = grind nats in
       let z : num (m == 0) ≡ 0 = rw b refl in omega (arith, z);
 }
 
@@ -80,7 +80,7 @@ dir-homes sh d s c m cl aw h = go (outcome sh s c m) aw
     wants {l = l} (ToMark k) a = at-home (home sh l) d a
 
     marked : (a m b e : Bool) → (a && m && b && e) ≡ true → m ≡ true
-    marked a m b e q = grind (arith, nat_tests)
+    marked a m b e q = grind nats
 
     inv : (j l : ℕ) → (nat_lt j sh.cores && nat_lt 0 (s.lines.mark l) && s.lines.sharers l j && not (j == c)) ≡ true
         → Homely sh d (Inv l (s.lines.mark l) s.serving.serving ∷ [])
@@ -102,7 +102,7 @@ dir-homes sh d s c m cl aw h = go (outcome sh s c m) aw
     go (TakesAbort v b e i) a =
         quietly sh d _ (record {
           known = λ x n. let u = h.known x n in
-              record { sharers = u.sharers; owner = u.owner; tag = u.tag; asked = u.asked; mark = grind (arith, nat_tests, u.mark) };
+              record { sharers = u.sharers; owner = u.owner; tag = u.tag; asked = u.asked; mark = grind (nats, u.mark) };
           sharers = h.sharers;
           owners = h.owners;
         })
@@ -119,7 +119,7 @@ dir-homes sh d s c m cl aw h = go (outcome sh s c m) aw
                   asked = u.asked;
                   mark = u.mark;
                 };
-            sharers = λ x j q. grind (arith, nat_tests, h.sharers x j, cl);
+            sharers = λ x j q. grind (nats, h.sharers x j, cl);
             owners = h.owners;
           };
       homely = λ j. one-to sh d c j (Fill l (home_words s l)) (one-fill sh d l (home_words s l) p);
@@ -139,10 +139,10 @@ dir-homes sh d s c m cl aw h = go (outcome sh s c m) aw
               owner = rw z u.owner;
               tag = rw z u.tag;
               asked = rw z u.asked;
-              mark = grind (arith, nat_tests, u.mark);
+              mark = grind (nats, u.mark);
             };
-        sharers = λ x j q. grind (arith, nat_tests, h.sharers x j, cl);
-        owners = λ x j q. grind (arith, nat_tests, h.owners x j, cl);
+        sharers = λ x j q. grind (nats, h.sharers x j, cl);
+        owners = λ x j q. grind (nats, h.owners x j, cl);
       };
       homely = λ j. homely-those sh d (λ l. Inv l (s.lines.mark l) s.serving.serving ∷ []) (is_invalidated sh s.lines c j) (lines sh)
           (λ l q. inv j l q);
@@ -150,26 +150,26 @@ dir-homes sh d s c m cl aw h = go (outcome sh s c m) aw
     go (TakesAck l k b i e) a = quietly sh d _ (record {
       known = λ x n. let u = h.known x n in
           record {
-            sharers = λ j. grind (arith, nat_tests, u.sharers j);
+            sharers = λ j. grind (nats, u.sharers j);
             owner = u.owner;
             tag = u.tag;
             asked = u.asked;
-            mark = grind (arith, nat_tests, u.mark);
+            mark = grind (nats, u.mark);
           };
-      sharers = λ x j q. grind (arith, nat_tests, h.sharers x j);
+      sharers = λ x j q. grind (nats, h.sharers x j);
       owners = h.owners;
     })
     go (TakesCopy m l k ws g y e o) a = quietly sh d _ (record {
       known = λ x n. let u = h.known x n in
           record {
             sharers = u.sharers;
-            owner = grind (arith, nat_tests, u.owner);
+            owner = grind (nats, u.owner);
             tag = u.tag;
-            asked = grind (arith, nat_tests, u.asked);
+            asked = grind (nats, u.asked);
             mark = u.mark;
           };
       sharers = h.sharers;
-      owners = λ x j q. grind (arith, nat_tests, h.owners x j);
+      owners = λ x j q. grind (nats, h.owners x j);
     })
     go _ a = tt
 
@@ -239,16 +239,16 @@ step-homes sh p w e z h = step_cases sh p w e (λ g o. KeptHomes sh o.world)
     home-lines : (c d : ℕ) → LinesHome sh d (w.dirs d).lines
     home-lines c d = lines-of sh d (pair w c d) (h c d)
 
-    passed : (c d k : ℕ) (m : Msg) → in_flight w.net (Core c) (Dir d) k ≡ Some m → passes (LinesAway sh.dirs d) m ≡ false
-    passed c d k m i = none-taken (LinesAway sh.dirs d) (w.net (Core c) (Dir d)) k m i ((h c d 0).out)
+    passed : (c d k : ℕ) (m : Msg) → FromCore w c d k m → passes (LinesAway sh.dirs d) m ≡ false
+    passed c d k m i = none-taken (LinesAway sh.dirs d) (to_dir w c d) k m i ((h c d 0).out)
 
     sent : (c d : ℕ) (o : Out) → HomelyOut sh o.sends → (l : ℕ)
-        → HomeOf sh d l (record (pair w c d) { core = o.core; out = w.net (Core c) (Dir d) ++ sent_all (o.sends (Dir d)) })
-    sent c d o a l = home-of sh d (record (pair w c d) { core = o.core; out = w.net (Core c) (Dir d) ++ sent_all (o.sends (Dir d)) })
+        → HomeOf sh d l (record (pair w c d) { core = o.core; out = to_dir w c d ++ sent_all (o.sends (Dir d)) })
+    sent c d o a l = home-of sh d (record (pair w c d) { core = o.core; out = to_dir w c d ++ sent_all (o.sends (Dir d)) })
         (home-lines c d)
-        (omega (arith, (h c d l).out, (a d).away, live-sends (LinesAway sh.dirs d) (w.net (Core c) (Dir d)) (o.sends (Dir d))))
+        (omega (arith, (h c d l).out, (a d).away, live-sends (LinesAway sh.dirs d) (to_dir w c d) (o.sends (Dir d))))
         ((h c d l).back)
-        (omega (arith, (h c d l).some_out, (a d).words, live-sends NoWord (w.net (Core c) (Dir d)) (o.sends (Dir d))))
+        (omega (arith, (h c d l).some_out, (a d).words, live-sends NoWord (to_dir w c d) (o.sends (Dir d))))
         ((h c d l).some_back) l
 
     moved : (c : ℕ) (x : Option Out) → IfSome x (λ o. HomelyOut sh o.sends) → IfSome x (λ o. KeptHomes sh (core_moves w c o))
@@ -265,7 +265,7 @@ step-homes sh p w e z h = step_cases sh p w e (λ g o. KeptHomes sh o.world)
           some_back = q.some_back;
         }) h
 
-    taken : (c d k : ℕ) (m : Msg) → in_flight w.net (Dir d) (Core c) k ≡ Some m → (x : Option Out) → IfSome x (λ o. HomelyOut sh o.sends)
+    taken : (c d k : ℕ) (m : Msg) → FromDir w d c k m → (x : Option Out) → IfSome x (λ o. HomelyOut sh o.sends)
         → IfSome x (λ o. KeptHomes sh (core_takes w (Dir d) c k o))
     taken c d k m i None a = tt
     taken c d k m i (Some o) a = pairs_back P w d c k o
@@ -275,9 +275,9 @@ step-homes sh p w e z h = step_cases sh p w e (λ g o. KeptHomes sh o.world)
           sharers = q.sharers;
           owners = q.owners;
           out = q.out;
-          back = omega (arith, q.back, live-takes (LinesAway sh.dirs d) (w.net (Dir d) (Core c)) k m i);
+          back = omega (arith, q.back, live-takes (LinesAway sh.dirs d) (to_core w d c) k m i);
           some_out = q.some_out;
-          some_back = omega (arith, q.some_back, live-takes NoWord (w.net (Dir d) (Core c)) k m i);
+          some_back = omega (arith, q.some_back, live-takes NoWord (to_core w d c) k m i);
         })
         (λ b n l. let q = sent c b o a l in
         record {
@@ -297,7 +297,7 @@ step-homes sh p w e z h = step_cases sh p w e (λ g o. KeptHomes sh o.world)
         home-of sh d (after_answer v s ms) n a (omega (arith, (f l).back, y.away, live-sends (LinesAway sh.dirs d) v.back ms)) b
         (omega (arith, (f l).some_back, y.words, live-sends NoWord v.back ms)) l
 
-    keep : (c d k : ℕ) (m : Msg) (s : DirState) (sends : Sends) → in_flight w.net (Core c) (Dir d) k ≡ Some m → Answers sh d s sends
+    keep : (c d k : ℕ) (m : Msg) (s : DirState) (sends : Sends) → FromCore w c d k m → Answers sh d s sends
         → KeptHomes sh (dir_takes w c d k s sends)
     keep c d k m s sends i u = pairs_dir P w c d k s sends
         (replies c d (out_taken (pair w c d) k) s (sends (Core c))
@@ -306,12 +306,12 @@ step-homes sh p w e z h = step_cases sh p w e (λ g o. KeptHomes sh o.world)
         (λ j n. replies j d (pair w j d) s (sends (Core j)) (h j d) ((h j d 0).out) ((h j d 0).some_out) (u.lines) (u.homely j)) h
       where
         less : (l : ℕ) → live (LinesAway sh.dirs d) (out_taken (pair w c d) k).out ≡ 0
-        less l = omega (arith, (h c d l).out, live-takes (LinesAway sh.dirs d) (w.net (Core c) (Dir d)) k m i)
+        less l = omega (arith, (h c d l).out, live-takes (LinesAway sh.dirs d) (to_dir w c d) k m i)
 
         fewer : (l : ℕ) → live NoWord (out_taken (pair w c d) k).out ≡ 0
-        fewer l = omega (arith, (h c d l).some_out, live-takes NoWord (w.net (Core c) (Dir d)) k m i)
+        fewer l = omega (arith, (h c d l).some_out, live-takes NoWord (to_dir w c d) k m i)
 
-    answered : (c d k : ℕ) (m : Msg) → in_flight w.net (Core c) (Dir d) k ≡ Some m → (a : Answer) → HomesBy sh d a
+    answered : (c d k : ℕ) (m : Msg) → FromCore w c d k m → (a : Answer) → HomesBy sh d a
         → OfAnswer w c d k (λ v. KeptHomes sh v) a
     answered c d k m i Waits u = tt
     answered c d k m i Drops u = keep c d k m (w.dirs d) (λ dst. []) i (record { lines = home-lines c d; homely = λ j. homely-none sh d })

@@ -5,23 +5,23 @@ use Names.{ready_once_replied, solo_once_replied, violated_in_phase, words_inval
 use Names.{CommitsInMemory, grant_in_phase, reply_in_phase, if◌then◌else◌, StaysInMemory, DataReq, read_cleared, evicted_line, fill_awaited}
 use Names.{data_request, acknowledged, vendor_gives, next_history, false, invalidated, rolled_back, Overflowing, probe_reply, all_replied}
 use Names.{if_violated, is_violated, dir_deliver, empty_cache, first_state, ProbeReply, spill_line, core_evict, evict_line, is_awaited}
-use Names.{invalidate, Shape, core_moves, core_takes, core_start, nat_tests, is_marked, CoreState, DoomedTid, marks_for, roll_back, ℕ}
-use Names.{core_exec, in_flight, dir_takes, KeptCores, and_noted, from_dir, DirState, sent_all, Contains, dir_asks, recorded, and_then}
-use Names.{run_from, cleaned, evicted, Awaited, Running, Probing, nothing, is_solo, ignored, replied, Program, Stepped, History, Option}
-use Names.{IfSome, filled, Halted, Answer, CopyOf, Cache, Phase, Ready, moves, grant, arith, Local, Event, lines, World, start, Waits}
-use Names.{Drops, Takes, Sends, subst, Noted, Bool, true, ◌&&◌, ◌||◌, ◌==◌, List, Some, None, refl, Fill, Solo, fill, ◌++◌, Core, Asks}
-use Names.{step, live, Pair, pair, ◌≡◌, not, Dir, Msg, Inv, ◌≤◌, Out, ◌∷◌, ◌⊎◌, inl, inr, run, to, []}
+use Names.{invalidate, Shape, core_moves, core_takes, core_start, is_marked, CoreState, DoomedTid, marks_for, roll_back, ℕ, core_exec}
+use Names.{dir_takes, KeptCores, and_noted, from_dir, DirState, sent_all, Contains, dir_asks, recorded, and_then, run_from, cleaned}
+use Names.{evicted, Awaited, Running, Probing, nothing, is_solo, ignored, replied, Program, Stepped, History, Option, IfSome, filled}
+use Names.{Halted, Answer, CopyOf, Cache, Phase, Ready, moves, grant, arith, Local, Event, lines, World, start, Waits, Drops, Takes, Sends}
+use Names.{subst, Noted, Bool, true, ◌&&◌, ◌||◌, ◌==◌, List, Some, None, refl, Fill, Solo, fill, ◌++◌, Asks, step, live, Pair, pair, ◌≡◌}
+use Names.{not, Dir, Msg, Inv, ◌≤◌, Out, ◌∷◌, ◌⊎◌, inl, inr, run, to, [], nats, to_dir, FromCore}
 use proofs.Counts.Links.{live-sends, live-takes}
 use proofs.Counts.StepCases.{pairs_move, pairs_grant, pairs_back, pairs_dir, pairs_asks, pairs_vendor, OfAnswer, step_cases}
-use proofs.Memory.CoreInMemory.{CoreInMemory, OutInMemory, same-memory, nothing-used, CoresInMemory, exec-memory}
-use proofs.Memory.MemorySends.{SendsInMemory, exec-sends, evict-sends, grant-sent, back-sends}
-use proofs.OneCore.CoreAlone.{step-cores, start-cores}
+use proofs.Memory.CoreInMemory.{CoreInMemory, OutInMemory, same-memory, nothing-used, CoresInMemory, exec-memory, SendsInMemory, exec-sends}
+use proofs.Memory.CoreInMemory.{evict-sends, grant-sent, back-sends}
+use proofs.OneCore.OneCoreKept.{step-cores, start-cores}
 use proofs.Tids.Commits.{inserted}
 
 -- Evict and messages keep that a core's frames and what its attempt used lie in memory.
 evicted-frames : (x y : ℕ) (c : Cache) (k : ℕ) → (evicted x y c).held k ≡ true → c.held k ≡ true
 unfolding evicted evicted_line
-evicted-frames x y c k e = grind (arith, nat_tests)
+evicted-frames x y c k e = grind nats
 
 pub evict-memory : (sh : Shape) (x y : ℕ) (s : CoreState) → CoreInMemory sh s → IfSome (core_evict sh x y s) (OutInMemory sh)
 unfolding core_evict
@@ -147,8 +147,8 @@ step-copies sh p w e a k h = step_cases sh p w e (λ g o. NoCopiesOutside sh o.w
     P c d v = (l t : ℕ) → lines sh ≤ l → live (CopyOf l t) v.out ≡ 0
 
     sent : (c : ℕ) (o : Out) → SendsInMemory sh o.sends → (d : ℕ)
-        → P c d (record (pair w c d) { core = o.core; out = w.net (Core c) (Dir d) ++ sent_all (o.sends (Dir d)) })
-    sent c o f d l t i = omega (arith, h c d l t i, f d l t i, live-sends (CopyOf l t) (w.net (Core c) (Dir d)) (o.sends (Dir d)))
+        → P c d (record (pair w c d) { core = o.core; out = to_dir w c d ++ sent_all (o.sends (Dir d)) })
+    sent c o f d l t i = omega (arith, h c d l t i, f d l t i, live-sends (CopyOf l t) (to_dir w c d) (o.sends (Dir d)))
 
     moved : (c : ℕ) (x : Option Out) → IfSome x (λ o. SendsInMemory sh o.sends) → IfSome x (λ o. NoCopiesOutside sh (core_moves w c o))
     moved c None f = tt
@@ -159,13 +159,13 @@ step-copies sh p w e a k h = step_cases sh p w e (λ g o. NoCopiesOutside sh o.w
     taken c d n None f = tt
     taken c d n (Some o) f = pairs_back P w d c n o (sent c o f d) (λ b i. sent c o f b) h
 
-    consumed : (c d n : ℕ) (m : Msg) (s : DirState) (sends : Sends) → in_flight w.net (Core c) (Dir d) n ≡ Some m
+    consumed : (c d n : ℕ) (m : Msg) (s : DirState) (sends : Sends) → FromCore w c d n m
         → NoCopiesOutside sh (dir_takes w c d n s sends)
     consumed c d n m s sends q =
-        pairs_dir P w c d n s sends (λ l t i. omega (arith, h c d l t i, live-takes (CopyOf l t) (w.net (Core c) (Dir d)) n m q))
+        pairs_dir P w c d n s sends (λ l t i. omega (arith, h c d l t i, live-takes (CopyOf l t) (to_dir w c d) n m q))
         (λ j i. h j d) h
 
-    answered : (c d n : ℕ) (m : Msg) → in_flight w.net (Core c) (Dir d) n ≡ Some m → (x : Answer)
+    answered : (c d n : ℕ) (m : Msg) → FromCore w c d n m → (x : Answer)
         → OfAnswer w c d n (λ v. NoCopiesOutside sh v) x
     answered c d n m q Waits = tt
     answered c d n m q Drops = consumed c d n m (w.dirs d) (λ dst. []) q

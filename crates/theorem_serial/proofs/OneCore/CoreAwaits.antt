@@ -1,9 +1,9 @@
 -- What a core's step does to its load requests and to the line that it awaits.
 use Rattle.theorem_serial.proofs
 use proofs.Names
-use Names.{ℕ, ◌+◌, ◌≡◌, ◌≤◌, Bool, false, List, [], ◌∷◌, ◌==◌, ◌&&◌, Option, Some, None, IfSome, if◌then◌else◌, arith, refl, nat_tests}
-use Names.{Program, word_of, num, line_of, Dir, Msg, LoadReq, Fill, Inv, Shape, home, CoreState, Awaited, nothing, Out, moves, commit}
-use Names.{committed_core, solo_commit, core_exec, core_evict, is_awaited, grant, from_dir, staled, LoadOf, FillOf, among, passes}
+use Names.{ℕ, ◌+◌, ◌≡◌, ◌≤◌, Bool, false, List, [], ◌∷◌, ◌==◌, ◌&&◌, Option, Some, None, IfSome, if◌then◌else◌, arith, refl, Program}
+use Names.{word_of, num, line_of, Dir, Msg, LoadReq, Fill, Inv, Shape, home, CoreState, Awaited, nothing, Out, moves, commit}
+use Names.{committed_core, solo_commit, core_exec, core_evict, is_awaited, grant, from_dir, staled, LoadOf, FillOf, among, passes, nats}
 use proofs.OneCore.Said.{Empties, Requests, Silent, quiet, say}
 use proofs.OneCore.Outcomes.{Did, Fills, Fills_none, Given_none, Granted, Heard, Hurt_alone, Hurt_probing, Hurt_running, Hurt_waiting}
 use proofs.OneCore.Outcomes.{Ignores_fill, Misses, Misses_anew, Hurt_none, awaiting, each-back, each-evict, each-exec, each-grant, emptied}
@@ -24,7 +24,7 @@ still sh s o f e d l = rw e (omega (arith, f d l))
 
 -- one line: a request for it goes to its home
 asked-count : (k l d h g : ℕ) → (l ≡ k → h ≡ g) → num (d == h && k == l) ≡ num (k == l && g == d)
-asked-count k l d h g e = grind (arith, nat_tests)
+asked-count k l d h g e = grind nats
 
 asked : (sh : Shape) (k : ℕ) (s : CoreState) → s.awaited ≡ None
     → LoadsStep sh s (moves (record s { awaited = awaiting k }) (say sh s (Requests k)))
@@ -32,7 +32,7 @@ unfolding among passes
 asked sh k s n d l = rw n (let c = asked-count k l d (home sh k) (home sh l) (λ e. rw e refl) in omega (arith, one (d == home sh k), c))
   where
     one : (b : Bool) → among (LoadOf l) (if b then LoadReq k (s.last_commit (home sh k)) ∷ [] else []) ≡ num (b && k == l)
-    one a = grind (arith, nat_tests)
+    one a = grind nats
 
 pub loads-exec : (sh : Shape) (p : Program) (c : ℕ) (s : CoreState) → IfSome (core_exec sh p c s) (λ o. LoadsStep sh s o)
 unfolding passes commit solo_commit committed_core
@@ -64,7 +64,7 @@ LoadsBack sh e s m o = (d l : ℕ) → among (LoadOf l) (o.sends (Dir d)) + awai
     (d == e && passes (FillOf l) m)
 
 no-fill : (b : Bool) → num (b && false) ≡ 0
-no-fill a = grind (arith, nat_tests)
+no-fill a = grind nats
 
 step-back : (sh : Shape) (e : ℕ) (s : CoreState) (m : Msg) (o : Out) → ((l : ℕ) → passes (FillOf l) m ≡ false)
     → ((d l : ℕ) → among (LoadOf l) (o.sends (Dir d)) ≡ 0) → ((d l : ℕ) → awaits_at sh d l o.core.awaited ≡ awaits_at sh d l s.awaited)
@@ -72,7 +72,7 @@ step-back : (sh : Shape) (e : ℕ) (s : CoreState) (m : Msg) (o : Out) → ((l :
 step-back sh e s m o f z a d l = rw (f l) (omega (arith, z d l, a d l, no-fill (d == e)))
 
 fill-count : (a k l d e h : ℕ) → a ≡ k → (l ≡ k → h ≡ e) → num (a == l && h == d) ≡ num (d == e && k == l)
-fill-count a k l d e h p q = grind (arith, nat_tests)
+fill-count a k l d e h p q = grind nats
 
 -- the line that is awaited comes
 taken : (sh : Shape) (e k : ℕ) (ws : List ℕ) (s r : CoreState) (a : Awaited) → s.awaited ≡ Some a → a.line ≡ k → r.awaited ≡ None
@@ -82,7 +82,7 @@ taken sh e k ws s r a q i n x d l =
     rw (q, n) (omega (arith, fill-count a.line k l d e (home sh l) i (λ j. rw j (home-is (a.line == k) (home sh k == e) refl (rw q at x)))))
   where
     home-is : (b c : Bool) → (home sh k == e) ≡ c → 1 ≤ num (b && c) → home sh k ≡ e
-    home-is a c g y = grind (arith, nat_tests)
+    home-is a c g y = grind nats
 
 pub loads-back : (sh : Shape) (e : ℕ) (s : CoreState) (m : Msg) → ((l : ℕ) → num (passes (FillOf l) m) ≤ awaits_at sh e l s.awaited)
     → IfSome (from_dir sh e s m) (λ o. LoadsBack sh e s m o)
@@ -94,10 +94,10 @@ loads-back sh e s m h =
     Fits m = (l : ℕ) → num (passes (FillOf l) m) ≤ awaits_at sh e l s.awaited
 
     one : (l : ℕ) (ws : List ℕ) → Fits (Fill l ws) → 1 ≤ awaits_at sh e l s.awaited
-    one l ws h = let x = h l in let y : num (l == l) ≡ 1 = grind (arith, nat_tests) in omega (arith, x, y)
+    one l ws h = let x = h l in let y : num (l == l) ≡ 1 = grind nats in omega (arith, x, y)
 
     staled-awaits : (k d l : ℕ) (a : Option Awaited) → awaits_at sh d l (staled k a) ≡ awaits_at sh d l a
-    staled-awaits k d l a = grind (arith, nat_tests)
+    staled-awaits k d l a = grind nats
 
     hurt : (k m u : ℕ) (x : Heard sh e s) → (heard x).core.awaited ≡ staled k s.awaited
         → ((d l : ℕ) → among (LoadOf l) ((heard x).sends (Dir d)) ≡ 0) → LoadsBack sh e s (Inv k m u) (heard x)

@@ -1,12 +1,54 @@
--- A core's event leaves its checkpoint and its end, or commits an attempt that the plain machine gives over its view.
+-- What a core's events do to its checkpoint and its end: only an instruction commits.
 use Rattle.theorem_attempt.specs.Follows.{Follows}
 use Rattle.theorem_serial.proofs
 use proofs.Names
-use Names.{arith, ◌+◌, ℕ, suc, ◌≡◌, Option, Some, None, IfSome, IsSomeAnd, refl, subst, ◌⊎◌, inl, inr, Attempt, Goes, begun, steps}
-use Names.{then_step, when_going, plain_step, Program, Need, Ends, Halts, Traps, Shape, CoreState, Ready, Solo, Out, finished}
-use Names.{one_more_instruction, noted, commit, committed_core, solo_commit, phase_after_commit, ended_after_commit, core_exec, Uses}
-use Names.{Agrees, IsSmall, Reaches, EndFits, HasEnded, FollowsIn, end_after}
-use proofs.OneCore.Outcomes.{Commits_now, Did, Ends_alone, Ends_run, IsEnd, Room_wanted, after_end, each-exec, out}
+use Names.{ℕ, ◌≡◌, Bool, None, IfSome, refl, any_below, Msg, Shape, CoreState, AwaitTid, Out, core_evict, grant, from_dir, probing_or_ready}
+use Names.{is_probed, end_after, inl, inr, nats, arith, ◌+◌, suc, Option, Some, IsSomeAnd, subst, ◌⊎◌, Attempt, Goes, begun, steps}
+use Names.{then_step, when_going, plain_step, Program, Need, Ends, Halts, Traps, Ready, Solo, finished, one_more_instruction, noted, commit}
+use Names.{committed_core, solo_commit, phase_after_commit, ended_after_commit, core_exec, Uses, Agrees, IsSmall, Reaches, EndFits}
+use Names.{HasEnded, FollowsIn}
+use proofs.OneCore.Outcomes.{Last_probing, Last_room, Given, Given_doomed, Given_none, Given_room, Granted, Heard, Hurt_alone, Hurt_probing}
+use proofs.OneCore.Outcomes.{Hurt_running, Hurt_waiting, each-back, each-evict, each-grant, granted, heard, Commits_now, Did, Ends_alone}
+use proofs.OneCore.Outcomes.{Ends_run, IsEnd, Room_wanted, after_end, each-exec, out}
+
+-- What comes to a core leaves its checkpoint and its end, and so does an eviction: only an instruction commits.
+
+pub record CheckpointStays (s : CoreState) (o : Out) : Type 0 where
+  pub commit : o.commit ≡ None
+  pub saved : o.core.saved ≡ s.saved
+  pub ends : end_after o.core.phase o.core.ended ≡ end_after s.phase s.ended
+
+pub evict-stays : (sh : Shape) (x y : ℕ) (s : CoreState) → IfSome (core_evict sh x y s) (CheckpointStays s)
+evict-stays sh x y s = each-evict sh x y s (CheckpointStays s) (λ l e a m. record { commit = refl; saved = refl; ends = refl })
+
+pub grant-stays : (sh : Shape) (u : ℕ) (s : CoreState) → CheckpointStays s (grant sh u s)
+grant-stays sh u s = each-grant sh u s (CheckpointStays s) go
+  where
+    awaited : (b : Bool) → s.phase ≡ AwaitTid → end_after (probing_or_ready b u) s.ended ≡ end_after s.phase s.ended
+    awaited a e = grind nats
+
+    go : (x : Granted sh u s) → CheckpointStays s (granted x)
+    go (Given e) = record { commit = refl; saved = refl; ends = awaited (any_below (is_probed sh s.cache) sh.dirs) e }
+    go (Given_doomed e) = record { commit = refl; saved = refl; ends = rw e refl }
+    go (Given_room e) = record { commit = refl; saved = refl; ends = rw e refl }
+    go (Given_none e) = record { commit = refl; saved = refl; ends = refl }
+
+pub back-stays : (sh : Shape) (d : ℕ) (s : CoreState) (m : Msg) → IfSome (from_dir sh d s m) (CheckpointStays s)
+back-stays sh d s m = each-back sh d s (λ m o. CheckpointStays s o) go m
+  where
+    go : (x : Heard sh d s) → CheckpointStays s (heard x)
+    go (Last_probing u v q o r) = record { commit = refl; saved = refl; ends = rw q refl }
+    go (Last_room u v q o r) = record { commit = refl; saved = refl; ends = rw q refl }
+    go (Hurt_running l m u v q) = record { commit = refl; saved = refl; ends = rw q refl }
+    go (Hurt_waiting l m u v (inl q)) = record { commit = refl; saved = refl; ends = rw q refl }
+    go (Hurt_waiting l m u v (inr q)) = record { commit = refl; saved = refl; ends = rw q refl }
+    go (Hurt_probing l m u t v (inl q)) = record { commit = refl; saved = refl; ends = rw q refl }
+    go (Hurt_probing l m u t v (inr q)) = record { commit = refl; saved = refl; ends = rw q refl }
+    go (Hurt_alone l m u t v (inl q)) = record { commit = refl; saved = refl; ends = rw q refl }
+    go (Hurt_alone l m u t v (inr q)) = record { commit = refl; saved = refl; ends = rw q refl }
+    go _ = record { commit = refl; saved = refl; ends = refl }
+
+-- A core's event leaves its checkpoint and its end, or commits an attempt that the plain machine gives over its view.
 
 -- how the plain machine's transaction leaves the core
 pub record Gives (r : CoreState) (a : Attempt) : Type 0 where

@@ -1,15 +1,14 @@
 -- What a core's rules do to what it knows of the directories that it asked.
 use Rattle.theorem_serial.proofs
 use proofs.Names
-use Names.{ℕ, ◌≡◌, ◌<◌, ◌≤◌, Bool, true, false, ◌==◌, ◌&&◌, ◌||◌, Option, Some, None, IfSome, nat_lt, if◌then◌else◌, arith, refl, sym, ap₂}
-use Names.{◌∙◌, nat_tests, put, Program, Outcome, HaltedWith, TrappedWith, any_below, any_below-at, Msg, Fill, ProbeReply, DataReq, Inv}
-use Names.{Shape, Cache, writes_at, reads_at, CoreState, Phase, Running, AwaitTid, DoomedTid, Probing, Ready, Overflowing, Solo, Halted}
-use Names.{Out, commit, committed_core, phase_after_commit, core_exec, core_evict, grant, grant_in_phase, from_dir, probing_or_ready}
-use Names.{is_probed, probe_reply, all_replied, fill, data_request, invalidate, RepliesAbove, passes, tid_of, asks_dir, may_commit, Reached}
-use Names.{solo_commit}
-use proofs.OneCore.Executes.{Steady, did-steady}
-use proofs.OneCore.CoreSteps.{reads_at-same, fill-steady, data-steady, Hurt, Unhurt, Rolled, Doomed, Aborted, Gave_up, Invalidated}
-use proofs.OneCore.CoreSteps.{invalidate-cases, Replied, Ignored, Probed, Left_alone, reply-cases, steady-emptied}
+use Names.{ℕ, ◌≡◌, ◌<◌, ◌≤◌, Bool, true, false, ◌==◌, ◌&&◌, ◌||◌, Option, Some, None, IfSome, nat_lt, if◌then◌else◌, refl, sym, ap₂, ◌∙◌}
+use Names.{put, Program, Outcome, HaltedWith, TrappedWith, any_below, any_below-at, Msg, Fill, ProbeReply, DataReq, Inv, Shape, Cache}
+use Names.{writes_at, reads_at, CoreState, Phase, Running, AwaitTid, DoomedTid, Probing, Ready, Overflowing, Solo, Halted, Out, commit}
+use Names.{committed_core, phase_after_commit, core_exec, core_evict, grant, grant_in_phase, from_dir, probing_or_ready, is_probed}
+use Names.{probe_reply, all_replied, fill, data_request, invalidate, RepliesAbove, passes, tid_of, asks_dir, may_commit, Reached}
+use Names.{solo_commit, nats}
+use proofs.OneCore.CoreSteps.{Steady, did-steady, reads_at-same, fill-steady, data-steady, Hurt, Unhurt, Rolled, Doomed, Aborted, Gave_up}
+use proofs.OneCore.CoreSteps.{Invalidated, invalidate-cases, Replied, Ignored, Probed, Left_alone, reply-cases, steady-emptied}
 use proofs.OneCore.Outcomes.{Acts, Commits_now, Did, each-exec, out, each-evict, emptied, writes_at-same, Ends_alone, Ends_run, Room_wanted}
 
 -- a core in this phase asks none
@@ -30,7 +29,7 @@ same-asked sh d x s r e f g h = record {
 }
 
 acts-asked : (q : Phase) (a b : Bool) → ((Acts q → ⊥) → a ≡ b) → asks_dir q a ≡ asks_dir q b
-acts-asked d a b h = grind (arith, nat_tests)
+acts-asked d a b h = grind nats
 
 asked-steady : (sh : Shape) (d x : ℕ) (s : CoreState) (o : Out) → Steady s o → Reached sh d x s → Reached sh d x o.core
 asked-steady sh d x s o y h = same-asked sh d x s o.core (y.phase) (y.owing)
@@ -62,7 +61,7 @@ asked-evict sh x' y d x s h = each-evict sh x' y s (λ o. Reached sh d x o.core)
 
 probed-owes : (sh : Shape) (c : Cache) (d : ℕ) → d < sh.dirs → (writes_at sh c d || reads_at sh c d) ≡ true → is_probed sh c d ≡ false → ⊥
 unfolding is_probed
-probed-owes sh c d l a o = go (nat_lt d sh.dirs) (grind (arith, nat_tests)) o
+probed-owes sh c d l a o = go (nat_lt d sh.dirs) (grind nats) o
   where
     go : (b : Bool) → b ≡ true → (b && (writes_at sh c d || reads_at sh c d)) ≡ false → ⊥
     go true q o = cc
@@ -91,12 +90,12 @@ asked-grant sh u d x s h = go s.phase
     go : (q : Phase) → Reached sh d x (grant_in_phase sh u s q).core
     go AwaitTid = probed (any_below (is_probed sh s.cache) sh.dirs) refl
     go DoomedTid = none-asked sh d x _ Running refl (λ b. refl) refl
-    go (Overflowing None) = record { reached = λ l a o. absurd (grind (arith, nat_tests)); replied = λ l m. absurd (cc) }
+    go (Overflowing None) = record { reached = λ l a o. absurd (grind nats); replied = λ l m. absurd (cc) }
     go _ = h
 
 -- a reply of a directory that has reached the TID
 put-away : (f : ℕ → Bool) (e d : ℕ) (x : Bool) → (d ≡ e → ⊥) → put f e x d ≡ f d
-put-away f e d x q = let b : (d == e) ≡ false = grind (arith, nat_tests) in rw b refl
+put-away f e d x q = let b : (d == e) ≡ false = grind nats in rw b refl
 
 pub all-replied : (sh : Shape) (f : ℕ → Bool) (d : ℕ) → d < sh.dirs → all_replied sh f ≡ true → f d ≡ false
 all-replied sh f d l q = none-below f sh.dirs d l (go (any_below f sh.dirs) refl)
@@ -120,7 +119,7 @@ one_replied sh e d x u s r go wait f ph ow tg tw ts mw ag aw h = by (all_replied
         → (asks_dir q (writes_at sh r.cache d || reads_at sh r.cache d) ≡ true
         → asks_dir s.phase (writes_at sh s.cache d || reads_at sh s.cache d) ≡ true) → d < sh.dirs
         → asks_dir q (writes_at sh r.cache d || reads_at sh r.cache d) ≡ true → put s.owing e false d ≡ false → tid_of q ≤ x
-    low q t a l k o = grind (arith, nat_tests)
+    low q t a l k o = grind nats
 
     by : (b : Bool) → all_replied sh (put s.owing e false) ≡ b → Reached sh d x r
     by true q =
@@ -162,7 +161,7 @@ pub asked-back : (sh : Shape) (e d x : ℕ) (s : CoreState) (m : Msg) → (d ≡
     → StaysReached sh d x s (from_dir sh e s m)
 unfolding passes
 asked-back sh e d x s (ProbeReply u v) f h =
-    let low : nat_lt x u ≡ false → u ≤ x = λ k. grind (arith, nat_tests) in
+    let low : nat_lt x u ≡ false → u ≤ x = λ k. grind nats in
     asked-replied sh e u d x s (probe_reply sh e u s) (λ q. low (f q)) (reply-cases sh e u s) h
 asked-back sh e d x s (Fill l ws) f h = asked-steady sh d x s (fill l ws s) (fill-steady l ws s) h
 asked-back sh e d x s (DataReq l) f h = asked-steady sh d x s (data_request sh l s) (data-steady sh l s) h

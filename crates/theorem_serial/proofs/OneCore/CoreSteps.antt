@@ -1,16 +1,65 @@
--- What a core's rules leave alone: evictions, fills, data requests, invalidations.
+-- What a core's rules leave alone: instructions as far as TIDs go, evictions, fills, data requests, invalidations.
 use Rattle.theorem_serial.proofs
 use proofs.Names
-use Names.{write_back_line, if◌then◌else◌, abort_written, evicted_line, read_cleared, any_below-at, fill_awaited, data_request, invalidated}
-use Names.{Overflowing, probe_reply, all_replied, flush_line, core_evict, is_awaited, invalidate, ProbeReply, nat_tests, any_below}
-use Names.{is_marked, CoreState, DoomedTid, marks_for, any_word, reads_at, AwaitTid, skip_all, Protocol, line_of, evicted, cleaned, Awaited}
-use Names.{Running, Probing, nothing, is_solo, ignored, IfSome, Vendor, InvAck, filled, passes, false, arith, Shape, lines, Cache, keeps}
-use Names.{Phase, Ready, Sends, moves, among, Bool, true, List, ◌++◌, ◌==◌, ◌&&◌, ◌||◌, Some, None, refl, Node, home, Solo, fill, ◌+◌, ◌≡◌}
-use Names.{◌*◌, ◌%◌, ◌∷◌, sym, ◌⊎◌, put, Dir, Out, Inv, Msg, [], ap, to, ℕ}
-use proofs.OneCore.Executes.{Steady}
-use proofs.OneCore.Said.{quiet, Empties, Aborts_all, Said, Silent, Skips_all, say, Flushes}
-use proofs.OneCore.Outcomes.{Acts, acked, each-evict, emptied, Heard, Hurt_alone, Hurt_none, Hurt_probing, Hurt_running, Hurt_waiting}
-use proofs.OneCore.Outcomes.{Ignores_reply, Last_probing, Last_room, Reply_probing, Reply_room, each-back, heard, message}
+use Names.{ℕ, ◌≡◌, [], None, refl, Program, word_of, line_of, Dir, Vendor, Shape, CoreState, flush_line, Out, moves, Protocol, among}
+use Names.{passes, write_back_line, if◌then◌else◌, abort_written, evicted_line, read_cleared, any_below-at, fill_awaited, data_request}
+use Names.{invalidated, Overflowing, probe_reply, all_replied, core_evict, is_awaited, invalidate, ProbeReply, any_below, is_marked}
+use Names.{DoomedTid, marks_for, any_word, reads_at, AwaitTid, skip_all, evicted, cleaned, Awaited, Running, Probing, nothing, is_solo}
+use Names.{ignored, IfSome, InvAck, filled, false, arith, lines, Cache, keeps, Phase, Ready, Sends, Bool, true, List, ◌++◌, ◌==◌, ◌&&◌}
+use Names.{◌||◌, Some, Node, home, Solo, fill, ◌+◌, ◌*◌, ◌%◌, ◌∷◌, sym, ◌⊎◌, put, Inv, Msg, ap, to, nats}
+use proofs.OneCore.Said.{quiet, Flushes, Requests, Said, Silent, Unheard, say, Empties, Aborts_all, Skips_all}
+use proofs.OneCore.Outcomes.{Acts, Buffers, Commits_now, Did, Ends_alone, Ends_run, Finds, Frames, Frames_anew, Idles, Misses, Misses_anew}
+use proofs.OneCore.Outcomes.{Reads, Room_wanted, out, acked, each-evict, emptied, Heard, Hurt_alone, Hurt_none, Hurt_probing, Hurt_running}
+use proofs.OneCore.Outcomes.{Hurt_waiting, Ignores_reply, Last_probing, Last_room, Reply_probing, Reply_room, each-back, heard, message}
+
+-- What Exec may come to, as far as TIDs and messages about them go.
+
+-- nothing changes that TIDs and messages about them go by; where the core executes it may have marked further words
+pub record Steady (s : CoreState) (o : Out) : Type 0 where
+  pub phase : o.core.phase ≡ s.phase
+  pub owing : o.core.owing ≡ s.owing
+  pub commit : o.commit ≡ None
+  pub vendor : o.sends Vendor ≡ []
+  pub quiet : (d : ℕ) → among Protocol (o.sends (Dir d)) ≡ 0
+  pub modified : (Acts s.phase → ⊥) → (v : ℕ) → o.core.cache.modified v ≡ s.cache.modified v
+  pub read : (Acts s.phase → ⊥) → (v : ℕ) → o.core.cache.read v ≡ s.cache.read v
+
+steady-said : (sh : Shape) (s r : CoreState) (q : Said) → Acts s.phase → r.phase ≡ s.phase → r.owing ≡ s.owing → say sh s q Vendor ≡ []
+    → Unheard Protocol q → Steady s (moves r (say sh s q))
+steady-said sh s r q a ph ow v u = record {
+  phase = ph;
+  owing = ow;
+  commit = refl;
+  vendor = v;
+  quiet = λ d. quiet sh s Protocol q u d;
+  modified = λ h. absurd (h a);
+  read = λ h. absurd (h a);
+}
+
+-- so is an event that ends no transaction and asks for no TID
+abbrev pub IfSteady : {sh : Shape} {p : Program} {c : ℕ} {s : CoreState} → Did sh p c s → Type 0
+IfSteady (Room_wanted r i) = Unit {0}
+IfSteady (Ends_run l e f r i) = Unit {0}
+IfSteady (Ends_alone t l e f r i) = Unit {0}
+IfSteady (Commits_now t r) = Unit {0}
+IfSteady {sh} {p} {c} {s} x = Steady s (out x)
+
+pub did-steady : {sh : Shape} {p : Program} {c : ℕ} {s : CoreState} (x : Did sh p c s) → IfSteady x
+unfolding passes flush_line
+did-steady {sh} {p} {c} {s} (Idles n l b g) = steady-said sh s _ Silent g.acts refl refl refl (λ x. refl)
+did-steady {sh} {p} {c} {s} (Finds a x z l g f) = steady-said sh s _ Silent g.acts refl refl refl (λ x. refl)
+did-steady {sh} {p} {c} {s} (Reads a x z l g r f) = steady-said sh s _ Silent g.acts refl refl refl (λ x. refl)
+did-steady {sh} {p} {c} {s} (Buffers a y v n k g i q h) = steady-said sh s _ Silent g.acts refl refl refl (λ x. refl)
+did-steady {sh} {p} {c} {s} (Frames a y also n k g i f) = steady-said sh s _ (Flushes (line_of (word_of sh.base a))) g.acts refl refl refl
+    (λ x. refl)
+did-steady {sh} {p} {c} {s} (Frames_anew a y n k g i q f h) = steady-said sh s _ Silent g.acts refl refl refl (λ x. refl)
+did-steady {sh} {p} {c} {s} (Misses a n g i q) = steady-said sh s _ (Requests (line_of (word_of sh.base a))) g.acts refl refl refl
+    (λ x. refl)
+did-steady {sh} {p} {c} {s} (Misses_anew a n g i q f) = steady-said sh s _ (Requests (line_of (word_of sh.base a))) g.acts refl refl refl
+    (λ x. refl)
+did-steady _ = tt
+
+-- What a core's rules leave alone: evictions, fills, data requests, invalidations.
 
 -- written and read directories depend on the modified and the read words alone
 pub reads_at-same : (sh : Shape) (a b : Cache) (d : ℕ) → ((v : ℕ) → a.read v ≡ b.read v) → reads_at sh a d ≡ reads_at sh b d
@@ -45,7 +94,7 @@ evicted-modified x y l c e m v = rw e (go (l == line_of v) refl)
     go : (b : Bool) → (l == line_of v) ≡ b → ((if b then false else c.modified v) ≡ c.modified v)
         × ((if b then false else c.read v) ≡ c.read v)
     go false q = (refl, refl)
-    go true q = let u = unmarked-word c l v m (grind (arith, nat_tests)) in (sym (u.0), sym (u.1))
+    go true q = let u = unmarked-word c l v m (grind nats) in (sym (u.0), sym (u.1))
 
 pub steady-emptied : (sh : Shape) (x y : ℕ) (s : CoreState) (l : ℕ) → s.cache.at x y ≡ Some l → is_awaited s.awaited l ≡ false
     → (is_marked s.cache l ≡ false) ⊎ (is_solo s.phase ≡ true) → Steady s (emptied sh x y l s)
@@ -65,7 +114,7 @@ steady-emptied sh x y s l e i m = record {
     solo _ e h = absurd (cc)
 
     unmarked : (Acts s.phase → ⊥) → (is_marked s.cache l ≡ false) ⊎ (is_solo s.phase ≡ true) → is_marked s.cache l ≡ false
-    unmarked h a = grind (arith, nat_tests)
+    unmarked h a = grind nats
 
 pub evict-steady : (sh : Shape) (x y : ℕ) (s : CoreState) → IfSome (core_evict sh x y s) (λ o. Steady s o)
 evict-steady sh x y s = each-evict sh x y s (Steady s) (steady-emptied sh x y s)

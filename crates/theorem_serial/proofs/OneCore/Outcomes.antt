@@ -7,18 +7,18 @@ use Rattle.theorem_serial.proofs
 use proofs.Names
 use Names.{one_more_instruction, ready_once_replied, solo_once_replied, violated_in_phase, words_invalidated, Kind, stored_in_buffer}
 use Names.{probing_or_ready, any_below-found, stored_in_frame, end_transaction, unless_awaiting, with_read_mark, change_spilled}
-use Names.{grant_in_phase, reply_in_phase, if◌then◌else◌, abort_written, nat_tests, partial_store, exec_in_phase, waits_for_tid}
-use Names.{read_cleared, none_spilled, request_line, load_spilled, [], change_valid, execute_need, fill_awaited, data_request, acknowledged}
-use Names.{is_modified, invalidated, is_some, rolled_back, Overflowing, solo_commit, probe_reply, all_replied, if_violated, is_violated}
-use Names.{TrappedWith, HaltedWith, ProbeReply, all_marked, spill_line, flush_line, is_running, load_valid, word_store, Program, marks_read}
-use Names.{core_evict, evict_line, is_awaited, invalidate, any_below, is_marked, writes_at, CoreState, DoomedTid, marks_for, roll_back}
-use Names.{core_exec, is_probed, store_of, any_word, free_way, AwaitTid, finished, new_word, overflow, full_set, from_dir, Nothing, Changes}
-use Names.{Outcome, load_of, word_of, line_of, DataReq, evicted, cleaned, Spilled, Awaited, Running, Probing, nothing, to_dirs, is_solo}
-use Names.{execute, replied, Bool, ignored, passes, Option, IfSome, nat_lt, Stored, Stores, Prints, InvAck, set_of, marked, stored, placed}
-use Names.{filled, commit, staled, among, false, arith, subst, Local, Loads, Halts, Traps, Ended, Abort, Shape, ap, lines, Cache, keeps}
-use Names.{holds, Phase, Ready, Sends, moves, place, grant, rests, true, List, ◌++◌, ◌==◌, to, ◌&&◌, ◌||◌, Some, None, refl, Load, Size}
-use Names.{Byte, Half, Word, Need, Ends, Goes, Fill, home, Solo, when, ℕ, miss, load, fill, ◌+◌, ◌*◌, ◌≡◌, not, ◌∷◌, sym, inl, inr, put}
-use Names.{Dir, Msg, Inv, Out, ◌⊎◌}
+use Names.{grant_in_phase, reply_in_phase, if◌then◌else◌, abort_written, partial_store, exec_in_phase, waits_for_tid, read_cleared}
+use Names.{none_spilled, request_line, load_spilled, [], change_valid, execute_need, fill_awaited, data_request, acknowledged, is_modified}
+use Names.{invalidated, is_some, rolled_back, Overflowing, solo_commit, probe_reply, all_replied, if_violated, is_violated, TrappedWith}
+use Names.{HaltedWith, ProbeReply, all_marked, spill_line, flush_line, is_running, load_valid, word_store, Program, marks_read, core_evict}
+use Names.{evict_line, is_awaited, invalidate, any_below, is_marked, writes_at, CoreState, DoomedTid, marks_for, roll_back, core_exec}
+use Names.{is_probed, store_of, any_word, free_way, AwaitTid, finished, new_word, overflow, full_set, from_dir, Nothing, Changes, Outcome}
+use Names.{load_of, word_of, line_of, DataReq, evicted, cleaned, Spilled, Awaited, Running, Probing, nothing, to_dirs, is_solo, execute}
+use Names.{replied, Bool, ignored, passes, Option, IfSome, nat_lt, Stored, Stores, Prints, InvAck, set_of, marked, stored, placed, filled}
+use Names.{commit, staled, among, false, arith, subst, Local, Loads, Halts, Traps, Ended, Abort, Shape, ap, lines, Cache, keeps, holds}
+use Names.{Phase, Ready, Sends, moves, place, grant, rests, true, List, ◌++◌, ◌==◌, to, ◌&&◌, ◌||◌, Some, None, refl, Load, Size, Byte}
+use Names.{Half, Word, Need, Ends, Goes, Fill, home, Solo, when, ℕ, miss, load, fill, ◌+◌, ◌*◌, ◌≡◌, not, ◌∷◌, sym, inl, inr, put, Dir, Msg}
+use Names.{Inv, Out, ◌⊎◌, nats}
 use proofs.OneCore.Said.{Silent, Flushes, Empties, Requests, Wants, say, Aborts_all, Answers, Marks_at, Probes_all, Skips_all, Said}
 use proofs.OneCore.Said.{Tells_alone, Tells_commit, Unheard, acked-quiet, quiet}
 
@@ -178,10 +178,10 @@ unfolding holds any_word
 holds-word sp l h = let f = any_below-found (λ k. is_some (sp (8 * l + k))) 8 h in (8 * l + f.0, omega (arith, f.1), f.2)
 
 also-alone : (q : Phase) (b : Bool) → is_solo q ≡ true → (is_running q && b) ≡ false
-also-alone a b e = grind (arith, nat_tests)
+also-alone a b e = grind nats
 
 unmodified : (b m : Bool) → (b && not m) ≡ true → m ≡ false
-unmodified b m q = grind (arith, nat_tests)
+unmodified b m q = grind nats
 
 -- each outcome of Exec has what all outcomes have
 pub each-exec : (sh : Shape) (p : Program) (c : ℕ) (s : CoreState) (P : Out → Type 0) → ((d : Did sh p c s) → P (out d))
@@ -515,9 +515,9 @@ expects _ u = false
 
 unexpected : (u : ℕ) (q r : Phase) → q ≡ r → expects r u ≡ false → (q ≡ Probing u) ⊎ (q ≡ Overflowing (Some u)) → ⊥
 unexpected u q r g h (inl x) = let z : expects q u ≡ (u == u) = ap (λ p. expects p u) x in let y : (u == u) ≡ true =
-    grind (arith, nat_tests) in let i : expects q u ≡ expects r u = ap (λ p. expects p u) g in cc
+    grind nats in let i : expects q u ≡ expects r u = ap (λ p. expects p u) g in cc
 unexpected u q r g h (inr x) = let z : expects q u ≡ (u == u) = ap (λ p. expects p u) x in let y : (u == u) ≡ true =
-    grind (arith, nat_tests) in let i : expects q u ≡ expects r u = ap (λ p. expects p u) g in cc
+    grind nats in let i : expects q u ≡ expects r u = ap (λ p. expects p u) g in cc
 
 pub each-back : (sh : Shape) (e : ℕ) (s : CoreState) (P : Msg → Out → Type 0) → ((d : Heard sh e s) → P (message d) (heard d)) → (m : Msg)
     → IfSome (from_dir sh e s m) (P m)
@@ -536,7 +536,7 @@ each-back sh e s P k m = go m
         probed : (a b : Bool) → (t == u) ≡ a → s.owing e ≡ b
             → P (ProbeReply u v) (if a && b then moves (ready_once_replied sh u (replied e s)) (to (Dir e) (marks_for sh s.cache u e))
             else ignored s)
-        probed true true h o = ready (grind (arith, nat_tests)) o (all_replied sh (put s.owing e false)) refl
+        probed true true h o = ready (grind nats) o (all_replied sh (put s.owing e false)) refl
         probed true false h o = k (Ignores_reply u v (λ x. o))
         probed false b h o = k (Ignores_reply u v (λ x. absurd (unexpected u s.phase (Probing t) g h x)))
     reply u v (Overflowing (Some t)) g = over (t == u) (s.owing e) refl refl
@@ -549,7 +549,7 @@ each-back sh e s P k m = go m
 
         over : (a b : Bool) → (t == u) ≡ a → s.owing e ≡ b
             → P (ProbeReply u v) (if a && b then moves (solo_once_replied sh u (replied e s)) nothing else ignored s)
-        over true true h o = alone (grind (arith, nat_tests)) o (all_replied sh (put s.owing e false)) refl
+        over true true h o = alone (grind nats) o (all_replied sh (put s.owing e false)) refl
         over true false h o = k (Ignores_reply u v (λ x. o))
         over false b h o = k (Ignores_reply u v (λ x. absurd (unexpected u s.phase (Overflowing (Some t)) g h x)))
     reply u v _ g = k (Ignores_reply u v (λ x. absurd (unexpected u s.phase _ g refl x)))
@@ -562,8 +562,8 @@ each-back sh e s P k m = go m
             → P (Fill l ws) (if b then moves (record s { cache = (if f then s.cache else filled l ws s.cache); awaited = None }) nothing
             else ignored s)
         one false h f i = k (Ignores_fill l ws (rw q h))
-        one true h true i = k (Fills_none l ws a q (grind (arith, nat_tests)) i)
-        one true h false i = k (Fills l ws a q (grind (arith, nat_tests)) i)
+        one true h true i = k (Fills_none l ws a q (grind nats) i)
+        one true h false i = k (Fills l ws a q (grind nats) i)
 
     hurt : (l m u : ℕ) (b : Bool) → is_violated l m u s ≡ b → (q : Phase) → s.phase ≡ q
         → P (Inv l m u) (acknowledged sh l (if b then violated_in_phase sh (words_invalidated l m s) q

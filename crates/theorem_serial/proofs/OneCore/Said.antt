@@ -5,10 +5,10 @@ use Rattle.theorem_serial.proofs
 use proofs.Names
 use Names.{ℕ, ◌≡◌, Bool, true, false, not, List, [], ◌∷◌, ◌++◌, ◌==◌, ◌&&◌, ◌||◌, Option, Some, None, nat_lt, if◌then◌else◌, flat_map}
 use Names.{arith, refl, those, count_below, Dir, Vendor, Tagged, Msg, TidReq, LoadReq, Skip, Probe, Mark, Commit, Abort, WriteBack, Flush}
-use Names.{InvAck, Shape, home, lines, is_modified, nat_tests, modified_mask, written_lines, writes_at, reads_at, dirty_copy, holds}
-use Names.{spilled_mask, spilled_words, CoreState, Sends, nothing, to, flush_of, flush_line, write_back_line, skip_all, probe_all}
-use Names.{abort_written, marks_for, commit_sends, solo_sends, solo_marks_or_skip, solo_write_backs, solo_writes_at, is_written}
-use Names.{written_mask, grant_sends, Kind, among, passes}
+use Names.{InvAck, Shape, home, lines, is_modified, modified_mask, written_lines, writes_at, reads_at, dirty_copy, holds, spilled_mask}
+use Names.{spilled_words, CoreState, Sends, nothing, to, flush_of, flush_line, write_back_line, skip_all, probe_all, abort_written}
+use Names.{marks_for, commit_sends, solo_sends, solo_marks_or_skip, solo_write_backs, solo_writes_at, is_written, written_mask, grant_sends}
+use Names.{Kind, among, passes, nats}
 use proofs.Counts.Links.{among-append, among-flat_map_none}
 
 -- what a core sends with one event
@@ -69,7 +69,7 @@ Unheard k q = (x : Piece) → hears k q x ≡ false
 -- a message that isn't of the kind, and one that is sent where a test holds
 pub one-quiet : (k : Kind) (m : Msg) (b : Bool) → passes k m ≡ false → among k (if b then m ∷ [] else []) ≡ 0
 unfolding among
-one-quiet k m a e = grind (arith, nat_tests)
+one-quiet k m a e = grind nats
 
 marks-quiet : (k : Kind) (f : ℕ → ℕ) (t : ℕ) (ls : List ℕ) → ((x : Piece) → passes k (Mark x.line x.mask t) ≡ false)
     → among k (flat_map (λ l. Mark l (f l) t ∷ []) ls) ≡ 0

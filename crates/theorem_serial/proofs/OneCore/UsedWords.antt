@@ -1,13 +1,18 @@
--- Instructions over two memories that agree on the words used give the same, and name these words.
+-- The words that an instruction or an attempt uses: where two memories agree on them it gives the same over both.
 use Rattle.tcc_base.specs.Bytes.{bytes_of}
 use Rattle.rules_program.specs.Plain.{stepped}
 use Rattle.rules_program.specs.Ram.{stored}
+use Rattle.theorem_serial.specs.Sound.{values_for, Doomed, SoundOrDoomed, AttemptsSound}
 use Rattle.theorem_serial.proofs
 use proofs.Names.{ℕ, zero, suc, ◌≡◌, ◌<◌, ◌%◌, ◌^◌, Bool, true, false, not, ◌&&◌, ◌||◌, ◌==◌, List, [], ◌∷◌, ◌++◌, Option, Some, None}
-use proofs.Names.{MatchOption, if◌then◌else◌, arith, refl, ap, sym, ◌∙◌, nat_tests, Size, Word, Stored, Local, Need, Nothing, Loads, Stores}
-use proofs.Names.{Changes, Ends, Program, Attempt, Outcome, Goes, steps, begun, plain_step, when_going, then_step, store_of, word_of}
-use proofs.Names.{unit_of, patched, loaded, stores_word, stores_whole, is_whole, reads_word, uses_next, uses, AlignedNeed, Aligned}
-use proofs.Names.{IsMemory, SameAttempt, AgreeOnUsed, IfSome, Load, loads_word, patched-small}
+use proofs.Names.{MatchOption, if◌then◌else◌, arith, refl, ap, sym, ◌∙◌, Size, Word, Stored, Local, Need, Nothing, Loads, Stores, Changes}
+use proofs.Names.{Ends, Program, Attempt, Outcome, Goes, steps, begun, plain_step, when_going, then_step, store_of, word_of, unit_of}
+use proofs.Names.{patched, loaded, stores_word, stores_whole, is_whole, reads_word, uses_next, uses, AlignedNeed, Aligned, IsMemory}
+use proofs.Names.{SameAttempt, AgreeOnUsed, IfSome, Load, loads_word, patched-small, nats, ◌≤◌, ◌⊎◌, IsSomeAnd, inl, inr, Noted, line_of}
+use proofs.Names.{Shape, home, CoreState, Phase, Halted, World, Uses, Agrees, IsSmall, Reaches, FollowsIn, holder, pair, IsBound, value_at}
+use proofs.Names.{IsDoomed, EachUse, home_of}
+
+-- Instructions over two memories that agree on the words used give the same, and name these words.
 
 -- Instructions over two memories that agree on the words used give the same.
 
@@ -35,12 +40,12 @@ stored-whole base (s ∷ ss) w h = go (word_of base s.addr == w) (is_whole s.siz
   where
     go : (x y : Bool) → (stores_word base ss w ≡ false → stores_whole base ss w ≡ false) → (x || stores_word base ss w) ≡ false
         → ((y && x) || stores_whole base ss w) ≡ false
-    go a y r h = grind (arith, nat_tests)
+    go a y r h = grind nats
 
 pub stored-put : (base : ℕ) (ram : ℕ → ℕ) (addr : ℕ) (size : Size) (value w : ℕ)
     → stored base ram addr size value w ≡ (if word_of base addr == w then patched (ram (word_of base addr)) addr size value else ram w)
 unfolding stored
-stored-put base ram addr size value w = grind (arith, nat_tests)
+stored-put base ram addr size value w = grind nats
 
 -- what is known of the two memories after some instructions
 record Apart (base : ℕ) (here there : ℕ → ℕ) (a : Attempt) (ram : ℕ → ℕ) : Type 0 where
@@ -51,7 +56,7 @@ record Apart (base : ℕ) (here there : ℕ → ℕ) (a : Attempt) (ram : ℕ �
 same_word : (base : ℕ) (here there : ℕ → ℕ) (a : Attempt) (ram : ℕ → ℕ) (need : Need) → Apart base here there a ram
     → ((w : ℕ) → (reads_word base need w && not (stores_whole base a.stores w)) ≡ true → here w ≡ there w)
     → (w : ℕ) → reads_word base need w ≡ true → ram w ≡ a.ram w
-same_word base here there a ram need ap agree w r = grind (arith, nat_tests, a.ram, ap.stored, stored-whole, ap.kept_here, ap.kept_there)
+same_word base here there a ram need ap agree w r = grind (nats, a.ram, ap.stored, stored-whole, ap.kept_here, ap.kept_there)
 
 -- the word that a store leaves
 same_patched : (base : ℕ) (here there : ℕ → ℕ) (a : Attempt) (ram : ℕ → ℕ) (addr : ℕ) (size : Size) (value : ℕ)
@@ -60,7 +65,7 @@ same_patched : (base : ℕ) (here there : ℕ → ℕ) (a : Attempt) (ram : ℕ 
     → ((w : ℕ) → reads_word base (Stores addr size value) w ≡ true → ram w ≡ a.ram w)
     → patched (ram (word_of base addr)) addr size value ≡ patched (a.ram (word_of base addr)) addr size value
 same_patched base here there a ram addr b value ap mh mt al reads =
-    grind (arith, nat_tests, a.ram, ap.stored, ap.kept_here, ap.kept_there, patched-whole)
+    grind (nats, a.ram, ap.stored, ap.kept_here, ap.kept_there, patched-whole)
 
 -- the memories after a store, apart as before
 apart-stored : (base : ℕ) (here there : ℕ → ℕ) (a : Attempt) (ram : ℕ → ℕ) (addr : ℕ) (size : Size) (value : ℕ)
@@ -84,7 +89,7 @@ apart-stored base here there a ram addr size value ap e = record {
     unnamed w s = rw stores_word-append at s
 
     old : (w : ℕ) → (b : Bool) → (b || (false || false)) ≡ true → b ≡ true
-    old w a h = grind (arith, nat_tests)
+    old w a h = grind nats
 
     after : (w : ℕ) (b : Bool) → (word_of base addr == w) ≡ b → (stores_word base a.stores w || (b || false)) ≡ true
         → stored base ram addr size value w ≡ stored base a.ram addr size value w
@@ -126,13 +131,13 @@ same_step base p here there a ram Nothing ap mh mt al reads =
 same_step base p here there a ram (Loads addr size) ap mh mt al reads =
     same_from base here there (stepped base p a (Loads addr size)) ram _
     (record { stored = ap.stored; kept_here = ap.kept_here; kept_there = ap.kept_there })
-    (rw (same_loaded base ram a.ram addr size (reads (word_of base addr) (grind (arith, nat_tests)))) refl)
+    (rw (same_loaded base ram a.ram addr size (reads (word_of base addr) (grind nats))) refl)
 same_step base p here there a ram (Stores addr size value) ap mh mt al reads =
     let q = apart-stored base here there a ram addr size value ap (same_patched base here there a ram addr size value ap mh mt al reads) in
     same_from base here there (stepped base p a (Stores addr size value)) (stored base ram addr size value) _
     (record { stored = q.stored; kept_here = q.kept_here; kept_there = q.kept_there }) refl
 same_step base p here there a ram (Changes addr changed) ap mh mt al reads =
-    let e : ram (word_of base addr) ≡ a.ram (word_of base addr) = reads (word_of base addr) (grind (arith, nat_tests)) in
+    let e : ram (word_of base addr) ≡ a.ram (word_of base addr) = reads (word_of base addr) (grind nats) in
     let v : loaded base ram addr Word ≡ loaded base a.ram addr Word = same_loaded base ram a.ram addr Word e in
     let q = apart-stored base here there a ram addr Word (changed (loaded base a.ram addr Word)) ap (rw e refl) in
     same_from base here there (stepped base p a (Changes addr changed)) (stored base ram addr Word (changed (loaded base a.ram addr Word)))
@@ -190,7 +195,7 @@ stored-memory : (base : ℕ) (ram : ℕ → ℕ) (addr : ℕ) (size : Size) (val
 stored-memory base ram addr size value m e w = rw stored-put (go (word_of base addr == w))
   where
     go : (b : Bool) → (if b then patched (ram (word_of base addr)) addr size value else ram w) < 2 ^ 32
-    go a = grind (arith, nat_tests, patched-small)
+    go a = grind (nats, patched-small)
 
 stepped-memory : (base : ℕ) (p : Program) (a : Attempt) (need : Need) → IsMemory a.ram → AlignedNeed need
     → IsMemory (stepped base p a need).ram
@@ -230,7 +235,7 @@ named-stepped : (base : ℕ) (p : Program) (a : Attempt) (need : Need) (w : ℕ)
     → ((loads_word base a.loads w || stores_word base a.stores w) || reads_word base need w) ≡ true
     → (loads_word base (stepped base p a need).loads w || stores_word base (stepped base p a need).stores w) ≡ true
 unfolding loads_word stores_word
-named-stepped base p a b w h = grind (arith, nat_tests, loads_word-append, a.loads, stores_word-append)
+named-stepped base p a b w h = grind (nats, loads_word-append, a.loads, stores_word-append)
 
 -- each word that the instructions use is named by the loads or stores
 abbrev Names : (base : ℕ) → ℕ → Bool → Option Attempt → Type 0
@@ -244,7 +249,7 @@ then-names base p w used (Some a) n u = go a.outcome
   where
     weaker : (x r s : Bool) → (x ≡ true → (loads_word base a.loads w || stores_word base a.stores w) ≡ true) → (x || (r && s)) ≡ true
         → ((loads_word base a.loads w || stores_word base a.stores w) || r) ≡ true
-    weaker a r s f e = grind (arith, nat_tests)
+    weaker a r s f e = grind nats
 
     go : (o : Outcome) → IfSome (when_going base p a o) (λ b. (loads_word base b.loads w || stores_word base b.stores w) ≡ true)
     go Goes =
@@ -256,3 +261,47 @@ pub uses-named : (base : ℕ) (p : Program) (n : ℕ) (a : Attempt) (w : ℕ) �
 unfolding uses steps
 uses-named base p zero a w u = absurd (cc)
 uses-named base p (suc n) a w u = then-names base p w (uses base p n a w) (steps base p n a) (uses-named base p n a w) u
+
+-- An attempt whose view is current is sound, and else it is doomed.
+
+-- the bound is the core's alone
+bound-at : (w : World) (c d e : ℕ) (b : Option ℕ) → IsBound b (pair w c d) → IsBound b (pair w c e)
+unfolding pair holder
+bound-at w c d e None h = h
+bound-at w c d e (Some t) h = h
+
+pub home-below : (sh : Shape) (l : ℕ) → 1 ≤ sh.dirs → home sh l < sh.dirs
+home-below sh l h = omega arith
+
+-- all uses are current, or one dooms
+agrees-or : (sh : Shape) (ram : ℕ → ℕ) (w : World) (cs : List Noted) (c : ℕ) (b : Option ℕ) (us : Uses) → 1 ≤ sh.dirs
+    → ((d : ℕ) → d < sh.dirs
+    → EachUse (λ x y. home sh (line_of x) ≡ d → (y ≡ value_at sh.base ram cs (w.dirs d) (Some c) b x) ⊎ IsDoomed b x (pair w c d))
+    us)
+    → Agrees us (values_for sh ram w cs c b) ⊎ Doomed sh w c b
+unfolding values_for
+agrees-or sh ram w cs c b [] l f = inl tt
+agrees-or sh ram w cs c b (u ∷ us) l f = go ((f (home_of sh u.0) (home-below sh (line_of u.0) l)).0 refl)
+    (agrees-or sh ram w cs c b us l (λ d i. (f d i).1))
+  where
+    go : (u.1 ≡ value_at sh.base ram cs (w.dirs (home_of sh u.0)) (Some c) b u.0) ⊎ IsDoomed b u.0 (pair w c (home_of sh u.0))
+        → Agrees us (values_for sh ram w cs c b) ⊎ Doomed sh w c b → Agrees (u ∷ us) (values_for sh ram w cs c b) ⊎ Doomed sh w c b
+    go (inr d) r = inr (record { word = u.0; doomed = d })
+    go (inl e) (inr d) = inr d
+    go (inl e) (inl a) = inl (sym e, a)
+
+pub follows-in : (sh : Shape) (p : Program) (s : CoreState) (us : Uses) (q : Phase) → (q ≡ Halted → ⊥) → FollowsIn sh p s us q
+    → (ram : ℕ → ℕ) → IsSmall ram → Agrees us ram → IsSomeAnd (steps sh.base p s.n (begun s.saved ram)) (Reaches s ram)
+follows-in sh p s us Halted h f = absurd (h refl)
+follows-in sh p s us _ h f = f
+
+pub attempts_sound : AttemptsSound
+attempts_sound sh p entries ram gs ys views m h k c b l n bound runs small =
+    go (agrees-or sh ram h.world h.commits c b (views c) n
+    (λ d i. k.viewed_word_is_current_or_doomed c d b l i (bound-at h.world c 0 d b bound)))
+  where
+    go : Agrees (views c) (values_for sh ram h.world h.commits c b) ⊎ Doomed sh h.world c b → SoundOrDoomed sh p ram h.world h.commits c b
+    go (inl a) =
+        inl (follows-in sh p (h.world.cores c) (views c) (h.world.cores c).phase runs
+        ((k.carried_views.attempt_follows_from_its_view c).steps) (values_for sh ram h.world h.commits c b) small a)
+    go (inr d) = inr d

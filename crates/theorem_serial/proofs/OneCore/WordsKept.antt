@@ -3,11 +3,11 @@ use Rattle.base_lemmas.proofs.Lemmas.{held_valued, or-left}
 use Rattle.theorem_serial.proofs
 use proofs.Names
 use Names.{ℕ, ◌+◌, ◌*◌, ◌%◌, ◌≡◌, Bool, true, false, not, ◌&&◌, ◌||◌, ◌==◌, List, [], ◌∷◌, ◌++◌, Option, Some, None, is_some, unwrap_or}
-use Names.{if◌then◌else◌, arith, refl, sym, ap, ◌∙◌, nat_tests, put, Stored, word_of, line_of, any_word, any_below, Shape, set_of, Cache}
-use Names.{IsCache, free_way, is_marked, marked, stored, placed, placed_at, filled, invalidated, cleaned, evicted, evicted_line}
-use Names.{rolled_back, read_cleared, committed, Spilled, spill_line, holds, any_below-at, marked-keeps, stored-keeps, placed-keeps}
-use Names.{filled-keeps, invalidated-keeps, cleaned-keeps, evicted-keeps, rolled_back-keeps, read_cleared-keeps, committed-keeps}
-use Names.{stores_word, Words, hit}
+use Names.{if◌then◌else◌, arith, refl, sym, ap, ◌∙◌, put, Stored, word_of, line_of, any_word, any_below, Shape, set_of, Cache, IsCache}
+use Names.{free_way, is_marked, marked, stored, placed, placed_at, filled, invalidated, cleaned, evicted, evicted_line, rolled_back}
+use Names.{read_cleared, committed, Spilled, spill_line, holds, any_below-at, marked-keeps, stored-keeps, placed-keeps, filled-keeps}
+use Names.{invalidated-keeps, cleaned-keeps, evicted-keeps, rolled_back-keeps, read_cleared-keeps, committed-keeps, stores_word, Words, hit}
+use Names.{nats}
 use proofs.OneCore.UsedWords.{stores_word-append}
 use proofs.OneCore.CoreSteps.{unmarked-word}
 
@@ -63,13 +63,13 @@ words-placed sh solo c l sp ss e k = same-words sh solo c (placed sh l c) sp ss 
 names-more : (base : ℕ) (ss : List Stored) (s : Stored) (w v : ℕ) → word_of base s.addr ≡ w
     → stores_word base (ss ++ s ∷ []) v ≡ (stores_word base ss v || (v == w))
 unfolding stores_word
-names-more base ss s w v e = grind (arith, nat_tests, stores_word-append)
+names-more base ss s w v e = grind (nats, stores_word-append)
 
 or-true : (a b : Bool) → (true || b) ≡ (a || true)
-or-true a b = grind (arith, nat_tests)
+or-true a b = grind nats
 
 or-false : (a : Bool) → a ≡ (a || false)
-or-false a = grind (arith, nat_tests)
+or-false a = grind nats
 
 pub words-stored : (sh : Shape) (solo : Bool) (c : Cache) (w x : ℕ) (also : Bool) (sp : Spilled) (ss : List Stored) (s : Stored)
     → c.held (line_of w) ≡ true → holds sp (line_of w) ≡ false → (solo ≡ true → also ≡ false) → word_of sh.base s.addr ≡ w
@@ -89,11 +89,11 @@ words-stored sh solo c w x also sp ss s h u a e k = record {
 
     named : (v : ℕ) (b : Bool) → (v == w) ≡ b
         → ((if (v == w) then true else c.modified v) || is_some (sp v)) ≡ (stores_word sh.base ss v || (v == w))
-    named v a q = grind (arith, nat_tests)
+    named v a q = grind nats
 
     clean : (v y : ℕ) → line_of v ≡ line_of y → is_some (sp v) ≡ true → (b : Bool) → (y == w) ≡ b → (l : Bool)
         → (line_of w == line_of y) ≡ l → ((if (y == w) then true else c.modified y) ≡ false) × ((if l then None else c.dirty y) ≡ None)
-    clean v y l q true p m n = let i : y ≡ w = grind (arith, nat_tests) in absurd (unspilled sp (line_of w) v u (l ∙ ap line_of i) q)
+    clean v y l q true p m n = let i : y ≡ w = grind nats in absurd (unspilled sp (line_of w) v u (l ∙ ap line_of i) q)
     clean v y l q false p true n = let x = k.clean v y l q in rw p (x.0, refl)
     clean v y l q false p false n = let x = k.clean v y l q in rw p (x.0, x.1)
 
@@ -110,11 +110,11 @@ words-buffered sh solo c w x sp ss s v l q e k = record {
   where
     named : (y : ℕ) (b : Bool) → (y == w) ≡ b
         → (c.modified y || is_some (if (y == w) then Some x else sp y)) ≡ (stores_word sh.base ss y || (y == w))
-    named y a p = grind (arith, nat_tests)
+    named y a p = grind nats
 
     clean : (u y : ℕ) → line_of u ≡ line_of y → (b : Bool) → (u == w) ≡ b → is_some (if (u == w) then Some x else sp u) ≡ true
         → (c.modified y ≡ false) × (c.dirty y ≡ None)
-    clean u y m true p r = let i : u ≡ w = grind (arith, nat_tests) in k.clean v y (l ∙ ap line_of (sym i) ∙ m) q
+    clean u y m true p r = let i : u ≡ w = grind nats in k.clean v y (l ∙ ap line_of (sym i) ∙ m) q
     clean u y m false p r = k.clean u y m (rw p at r)
 
 or_other : (a b : Bool) → a ≡ false → (a || b) ≡ b
@@ -141,10 +141,10 @@ words-evicted sh solo c s y l sp ss e m k = record {
   where
     spilled : solo ≡ false → (w : ℕ) (b : Bool) → (l == line_of w) ≡ b
         → (if b && c.modified w then Some (unwrap_or (c.value w) 0) else sp w) ≡ None
-    spilled a w b q = grind (arith, nat_tests)
+    spilled a w b q = grind nats
 
     unread : solo ≡ true → (w : ℕ) (b : Bool) → (if b then false else c.read w) ≡ false
-    unread a w b = grind (arith, nat_tests)
+    unread a w b = grind nats
 
     named : (w : ℕ) (b n : Bool) → (l == line_of w) ≡ b → c.modified w ≡ n
         → ((evicted s y c).modified w || is_some (if (l == line_of w) && c.modified w then Some (unwrap_or (c.value w) 0) else sp w))

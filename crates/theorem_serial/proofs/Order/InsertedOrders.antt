@@ -5,11 +5,11 @@ use Rattle.rules_program.proofs.Lemmas.{serial-append}
 use Rattle.rules_program.specs.Plain.{Halted, close}
 use Rattle.theorem_serial.proofs
 use proofs.Names
-use Names.{ℕ, ◌≡◌, ◌≢◌, Bool, true, false, ◌||◌, ◌==◌, List, [], ◌∷◌, Option, Some, None, MatchOption, IfSome, nat_lt, if◌then◌else◌, arith}
-use Names.{refl, sym, subst, ◌∙◌, nat_tests, put, CoreEnd, Run, Halt, Trap, Local, Program, Attempt, Outcome, Goes, Ended, Trapped, steps}
-use Names.{begun, Plain, closed, end_of, close_if, if_runs, transaction, Order, commit_of, and_commit, after_order, serial, loads_word}
-use Names.{stores_word, uses, Aligned, IsMemory, SameAttempt, AgreeOnUsed, commits_store, commits_touch, orders_core, Again, ◌<◌, ◌++◌, ap}
-use Names.{last_tid, IsBelow, Inserted, CanInsert}
+use Names.{ℕ, ◌≡◌, ◌≢◌, Bool, true, false, ◌||◌, ◌==◌, List, [], ◌∷◌, Option, Some, None, MatchOption, IfSome, nat_lt, if◌then◌else◌, refl}
+use Names.{sym, subst, ◌∙◌, put, CoreEnd, Run, Halt, Trap, Local, Program, Attempt, Outcome, Goes, Ended, Trapped, steps, begun, Plain}
+use Names.{closed, end_of, close_if, if_runs, transaction, Order, commit_of, and_commit, after_order, serial, loads_word, stores_word, uses}
+use Names.{Aligned, IsMemory, SameAttempt, AgreeOnUsed, commits_store, commits_touch, orders_core, Again, ◌<◌, ◌++◌, ap, last_tid, IsBelow}
+use Names.{Inserted, CanInsert, nats}
 use proofs.OneCore.UsedWords.{steps_same, steps-memory, uses-named}
 
 -- The same orders from another machine that agrees on the cores and words that they touch.
@@ -30,10 +30,10 @@ pub record Twice (base : ℕ) (p : Program) (here there : Plain) (core : ℕ) (d
   pub kept_there : (w : ℕ) → stores_word base done.1.stores w ≡ false → plain.ram w ≡ there.ram w
 
 pub put-same : {A : Type 0} → (f : ℕ → A) (i : ℕ) (v : A) → put f i v i ≡ v
-put-same f i v = let e : (i == i) ≡ true = grind (arith, nat_tests) in rw e refl
+put-same f i v = let e : (i == i) ≡ true = grind nats in rw e refl
 
 pub put-other : {A : Type 0} → (f : ℕ → A) (i j : ℕ) (v : A) → j ≢ i → put f i v j ≡ f j
-put-other f i j v h = let e : (j == i) ≡ false = grind (arith, nat_tests) in rw e refl
+put-other f i j v h = let e : (j == i) ≡ false = grind nats in rw e refl
 
 -- both attempts are closed alike
 close_twice : (base : ℕ) (p : Program) (here there : Plain) (core : ℕ) (a : Attempt) (ended : CoreEnd) (ram : ℕ → ℕ)
@@ -130,14 +130,14 @@ commits_touch-store base (c ∷ cs) w h = go (loads_word base c.loads w) (stores
   where
     go : (x y : Bool) → (commits_touch base cs w ≡ false → commits_store base cs w ≡ false) → ((x || y) || commits_touch base cs w) ≡ false
         → (y || commits_store base cs w) ≡ false
-    go x a r h = grind (arith, nat_tests)
+    go x a r h = grind nats
 
 abbrev AgainIf : (base : ℕ) → List Order → (here there : Plain) → Option (Plain × List Commit) → Option (Plain × List Commit) → Type 0
 AgainIf base os here there one other = IfSome one (λ done. ((c : ℕ) → orders_core os c ≡ true → there.cores c ≡ here.cores c)
     → ((w : ℕ) → commits_touch base done.1 w ≡ true → here.ram w ≡ there.ram w) → Again base os here there done other)
 
 left_of : (x y : Bool) → y ≡ false → (x || y) ≡ true → x ≡ true
-left_of a y q h = grind (arith, nat_tests)
+left_of a y q h = grind nats
 
 again_then : (base : ℕ) (p : Program) (o : Order) (os : List Order) (here there : Plain) (done : Plain × Attempt)
     (rest : Plain × List Commit) (other : Option (Plain × Attempt)) (more : Plain → Option (Plain × List Commit))
@@ -167,22 +167,22 @@ again_then base p o os here there done rest other more t again cores words =
     }))
   where
     differ : (c : ℕ) → c ≡ o.core → (o.core == c) ≡ false → ⊥
-    differ c e q = grind (arith, nat_tests)
+    differ c e q = grind nats
 
     middle_cores : (c : ℕ) → orders_core os c ≡ true → (b : Bool) → (o.core == c) ≡ b → t.plain.cores c ≡ done.0.cores c
-    middle_cores c h a q = grind (arith, nat_tests)
+    middle_cores c h a q = grind nats
 
     middle_words : (w : ℕ) → commits_touch base rest.1 w ≡ true → (b : Bool) → stores_word base done.1.stores w ≡ b
         → done.0.ram w ≡ t.plain.ram w
-    middle_words w h a q = grind (arith, nat_tests)
+    middle_words w h a q = grind nats
 
     ran : (r : Again base os done.0 t.plain rest (more t.plain)) (c : ℕ) (b : Bool) → orders_core os c ≡ b
         → ((o.core == c) || orders_core os c) ≡ true → r.plain.cores c ≡ rest.0.cores c
-    ran r c a q h = grind (arith, nat_tests)
+    ran r c a q h = grind nats
 
     stored : (r : Again base os done.0 t.plain rest (more t.plain)) (w : ℕ) (b : Bool) → commits_store base rest.1 w ≡ b
         → (stores_word base done.1.stores w || commits_store base rest.1 w) ≡ true → r.plain.ram w ≡ rest.0.ram w
-    stored r w a q h = grind (arith, nat_tests)
+    stored r w a q h = grind nats
 
 rest_again : (base : ℕ) (p : Program) (o : Order) (os : List Order) (here there : Plain) (done : Plain × Attempt)
     (x : Option (Plain × List Commit)) (other : Option (Plain × Attempt)) (more : Plain → Option (Plain × List Commit))
@@ -208,7 +208,7 @@ when_again base p o os here there true None other more t again = tt
 when_again base p o os here there true (Some done) other more t again =
     swap (and_commit (commit_of o done.1) (more done.0))
     (λ cores. rest_again base p o os here there done (more done.0) other more cores
-    (t (cores o.core (or-left (o.core == o.core) (orders_core os o.core) (grind (arith, nat_tests)))))
+    (t (cores o.core (or-left (o.core == o.core) (orders_core os o.core) (grind nats))))
     (λ k m mk. again done.0 k m mk))
   where
     swap : (x : Option (Plain × List Commit))
@@ -283,7 +283,7 @@ serial-memory base p last (o ∷ os) m al mm = memory_then base p o m (nat_lt la
 serial-below : (base : ℕ) (p : Program) (last tid : ℕ) (os : List Order) (m : Plain) → last < tid → IsBelow tid os
     → serial base p tid os m ≡ serial base p last os m
 unfolding serial
-serial-below base p last tid a m l b = grind (arith, nat_tests)
+serial-below base p last tid a m l b = grind nats
 
 whole_inserted : (base : ℕ) (p : Program) (last : ℕ) (early late : List Order) (o : Order) (m start done end plain : Plain) (a : Attempt)
     (before after : List Commit) → CanInsert base p last early late o m start done end a before after
@@ -291,7 +291,7 @@ whole_inserted : (base : ℕ) (p : Program) (last : ℕ) (early late : List Orde
     → serial base p last (early ++ o ∷ late) m ≡ Some (plain, before ++ commit_of o a ∷ after)
 unfolding serial
 whole_inserted base p last early late o m start done end plain a before after c e =
-    grind (arith, nat_tests, c.above, serial-below, c.below, serial-append, c.first, c.executed)
+    grind (nats, c.above, serial-below, c.below, serial-append, c.first, c.executed)
 
 differs : (late : List Order) (c core : ℕ) → orders_core late core ≡ false → orders_core late c ≡ true → c ≢ core
 differs late c core h k e = let q : orders_core late c ≡ orders_core late core = ap (orders_core late) e in absurd (cc)
@@ -314,10 +314,10 @@ inserted_again base p late o start done end a before after with_it other another
 }
   where
     cores : (c : ℕ) → c ≢ o.core → (b : Bool) → orders_core late c ≡ b → g.plain.cores c ≡ end.cores c
-    cores c h a q = grind (arith, nat_tests)
+    cores c h a q = grind nats
 
     words : (w : ℕ) → stores_word base a.stores w ≡ false → (b : Bool) → commits_store base after w ≡ b → g.plain.ram w ≡ end.ram w
-    words w h a q = grind (arith, nat_tests)
+    words w h a q = grind nats
 
 pub order_inserted : (base : ℕ) (p : Program) (last : ℕ) (early late : List Order) (o : Order) (m start done end : Plain) (a : Attempt)
     (before after : List Commit) → Aligned p → IsMemory m.ram → CanInsert base p last early late o m start done end a before after
@@ -336,4 +336,4 @@ order_inserted base p last early late o m start done end a before after al mm c 
   where
     untouched : (w : ℕ) → commits_touch base after w ≡ true → (b : Bool) → stores_word base a.stores w ≡ b
         → stores_word base a.stores w ≡ false
-    untouched w h a q = grind (arith, nat_tests)
+    untouched w h a q = grind nats

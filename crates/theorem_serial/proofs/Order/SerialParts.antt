@@ -4,12 +4,12 @@ use Rattle.rules_program.specs.Ram.{stored}
 use Rattle.theorem_serial.proofs
 use proofs.Names
 use Names.{ℕ, suc, ◌≡◌, ◌<◌, ◌≤◌, Bool, true, false, ◌==◌, ◌||◌, List, [], ◌∷◌, ◌++◌, map, Contains, nat_lt, if◌then◌else◌, arith, refl, ap}
-use Names.{nat_tests, Noted, num, order_of_commit, insert_commit, commits_touch, orders_core, IsBelow, IsRising, times, loads_word}
-use Names.{stores_word, zero, Option, Some, None, IfSome, ap₂, sym, ◌∙◌, Size, Stored, Word, CoreEnd, Run, last_tid, Attempt, Plain, Order}
-use Names.{Outcome, Goes, store_of, begun, steps, then_step, when_going, plain_step, transaction, close_if, closed, end_of, if_runs}
-use Names.{commit_of, and_commit, after_order, serial, Local, Program, Need, Stores, Changes, word_of, patched, loaded, after_stores, ◌⊎◌}
-use Names.{inl, inr, line_of, Msg, Shape, home, DirState, World, Uses, Agrees, InvBelow, InvsNot, live, passes, pair, is_applied, counts}
-use Names.{after_commits, value_at, IsDoomed, EachUse}
+use Names.{Noted, num, order_of_commit, insert_commit, commits_touch, orders_core, IsBelow, IsRising, times, loads_word, stores_word, zero}
+use Names.{Option, Some, None, IfSome, ap₂, sym, ◌∙◌, Size, Stored, Word, CoreEnd, Run, last_tid, Attempt, Plain, Order, Outcome, Goes}
+use Names.{store_of, begun, steps, then_step, when_going, plain_step, transaction, close_if, closed, end_of, if_runs, commit_of, and_commit}
+use Names.{after_order, serial, Local, Program, Need, Stores, Changes, word_of, patched, loaded, after_stores, ◌⊎◌, inl, inr, line_of, Msg}
+use Names.{Shape, home, DirState, World, Uses, Agrees, InvBelow, InvsNot, live, passes, pair, is_applied, counts, after_commits, value_at}
+use Names.{IsDoomed, EachUse, nats, home_of, tid_at}
 use proofs.Counts.Links.{live-fewer}
 use proofs.OneCore.UsedWords.{stored-put}
 
@@ -84,7 +84,7 @@ behind-larger t last (n ∷ ns) r = go (nat_lt t n.tid.0) refl (behind-larger t 
   where
     go : (b : Bool) → nat_lt t n.tid.0 ≡ b → Each (λ k. t < k.tid.0) (behind t ns)
         → Each (λ k. t < k.tid.0) (if b then n ∷ ns else behind t ns)
-    go true q e = let l : t < n.tid.0 = grind (arith, nat_tests) in (l, above-last t n.tid.0 ns (omega (arith, l)) (r.1))
+    go true q e = let l : t < n.tid.0 = grind nats in (l, above-last t n.tid.0 ns (omega (arith, l)) (r.1))
     go false q e = e
 
 pub before-smaller : (t : ℕ) (ns : List Noted) → times t ns ≡ 0 → Each (λ n. n.tid.0 < t) (before t ns)
@@ -93,7 +93,7 @@ before-smaller t [] z = tt
 before-smaller t (n ∷ ns) z = go (nat_lt t n.tid.0) refl (before-smaller t ns (omega (arith, z)))
   where
     smaller : nat_lt t n.tid.0 ≡ false → num (n.tid.0 == t) ≡ 0 → n.tid.0 < t
-    smaller q k = grind (arith, nat_tests)
+    smaller q k = grind nats
 
     go : (b : Bool) → nat_lt t n.tid.0 ≡ b → Each (λ k. k.tid.0 < t) (before t ns)
         → Each (λ k. k.tid.0 < t) (if b then [] else n ∷ before t ns)
@@ -108,7 +108,7 @@ behind-below t (n ∷ ns) = go (nat_lt t n.tid.0) refl (behind-below t ns)
   where
     go : (b : Bool) → nat_lt t n.tid.0 ≡ b → IsBelow t (map order_of_commit (behind t ns))
         → IsBelow t (map order_of_commit (if b then n ∷ ns else behind t ns))
-    go true q e = grind (arith, nat_tests)
+    go true q e = grind nats
     go false q e = e
 
 pub orders-another : (c : ℕ) (ns : List Noted) → Each (λ n. (n.core.0 == c) ≡ false) ns → orders_core (map order_of_commit ns) c ≡ false
@@ -186,7 +186,7 @@ Holds base x y a = a.ram x ≡ after_stores base a.stores x y
 
 stored-holds : (base addr : ℕ) (size : Size) (value x y : ℕ) (ram : ℕ → ℕ) (ss : List Stored) → ram x ≡ after_stores base ss x y
     → stored base ram addr size value x ≡ after_stores base (ss ++ store_of addr size value ∷ []) x y
-stored-holds base addr size value x y ram ss h = grind (arith, nat_tests, stored-put, after_stores-last)
+stored-holds base addr size value x y ram ss h = grind (nats, stored-put, after_stores-last)
 
 stepped-holds : (base : ℕ) (p : Program) (x y : ℕ) (a : Attempt) (need : Need) → Holds base x y a → Holds base x y (stepped base p a need)
 stepped-holds base p x y a (Stores addr size value) h = stored-holds base addr size value x y a.ram a.stores h
@@ -255,7 +255,7 @@ serial-holds base p last (o ∷ os) m x = go (nat_lt last o.tid) (transaction ba
 -- What a core that may commit sees at its TID: the commits before it, all of which have come to the homes of the words that it used.
 
 -- every word has a home
-pub home-below : (sh : Shape) (x : ℕ) → 1 ≤ sh.dirs → home sh (line_of x) < sh.dirs
+pub home-below : (sh : Shape) (x : ℕ) → 1 ≤ sh.dirs → home_of sh x < sh.dirs
 home-below sh x h = omega arith
 
 -- commits that count, and those that don't
@@ -279,11 +279,11 @@ after-uncounted base s c b x (e ∷ es) y h = rw (h.0) (after-uncounted base s c
 
 counts-before : (s : DirState) (c : Option ℕ) (t : ℕ) (n : Noted) → t ≤ s.serving.serving → n.tid.0 < t → counts s c (Some t) n ≡ true
 unfolding counts is_applied
-counts-before s c t n l h = grind (arith, nat_tests)
+counts-before s c t n l h = grind nats
 
 counts-behind : (s : DirState) (c : Option ℕ) (t : ℕ) (n : Noted) → t < n.tid.0 → counts s c (Some t) n ≡ false
 unfolding counts
-counts-behind s c t n h = let e : nat_lt n.tid.0 t ≡ false = grind (arith, nat_tests) in rw e refl
+counts-behind s c t n h = let e : nat_lt n.tid.0 t ≡ false = grind nats in rw e refl
 
 -- a word at a home that has reached the TID
 pub value-before : (base : ℕ) (ram : ℕ → ℕ) (cs : List Noted) (s : DirState) (c : Option ℕ) (t x : ℕ) → IsRising 0 cs → times t cs ≡ 0
@@ -301,40 +301,40 @@ value-before base ram cs s c t x r z l =
 -- there nothing dooms
 below-other : (x t s : ℕ) (m : Msg) → t ≤ s → num (passes (InvBelow x t) m) ≤ num (passes (InvsNot s) m)
 unfolding passes
-below-other x t s m l = grind (arith, nat_tests)
+below-other x t s m l = grind nats
 
-pub undoomed : (w : World) (c d t x : ℕ) → t ≤ (w.dirs d).serving.serving → live (InvsNot (w.dirs d).serving.serving) (pair w c d).back ≡ 0
+pub undoomed : (w : World) (c d t x : ℕ) → t ≤ tid_at w d → live (InvsNot (tid_at w d)) (pair w c d).back ≡ 0
     → IsDoomed (Some t) x (pair w c d) → ⊥
 undoomed w c d t x l z h =
     omega (
       arith,
       z,
       h.hit,
-      live-fewer (InvBelow x t) (InvsNot (w.dirs d).serving.serving)
-          (λ m. below-other x t (w.dirs d).serving.serving m l) (pair w c d).back,
+      live-fewer (InvBelow x t) (InvsNot (tid_at w d))
+          (λ m. below-other x t (tid_at w d) m l) (pair w c d).back,
     )
 
 -- so the view is what the commits before left
 pub agrees-before : (sh : Shape) (ram there : ℕ → ℕ) (w : World) (cs : List Noted) (c t : ℕ) (us : Uses) → 1 ≤ sh.dirs → IsRising 0 cs
     → times t cs ≡ 0
     → ((x : ℕ) → there x ≡ all_stores sh.base x (before t cs) (ram x))
-    → ((d : ℕ) → live (InvsNot (w.dirs d).serving.serving) (pair w c d).back ≡ 0)
-    → EachUse (λ x y. t ≤ (w.dirs (home sh (line_of x))).serving.serving) us
+    → ((d : ℕ) → live (InvsNot (tid_at w d)) (pair w c d).back ≡ 0)
+    → EachUse (λ x y. t ≤ tid_at w (home_of sh x)) us
     → ((d : ℕ) → d < sh.dirs
     → EachUse (λ x y. home sh (line_of x) ≡ d → (y ≡ value_at sh.base ram cs (w.dirs d) (Some c) (Some t) x)
     ⊎ IsDoomed (Some t) x (pair w c d)) us)
     → Agrees us there
 agrees-before sh ram there w cs c t [] i r z is free l v = tt
 agrees-before sh ram there w cs c t (u ∷ us) i r z is free l v = (
-  go ((v (home sh (line_of u.0)) (home-below sh u.0 i)).0 refl),
+  go ((v (home_of sh u.0) (home-below sh u.0 i)).0 refl),
   agrees-before sh ram there w cs c t us i r z is free (l.1)
       (λ d k. (v d k).1),
 )
   where
-    go : (u.1 ≡ value_at sh.base ram cs (w.dirs (home sh (line_of u.0))) (Some c) (Some t) u.0)
-        ⊎ IsDoomed (Some t) u.0 (pair w c (home sh (line_of u.0))) → there u.0 ≡ u.1
-    go (inl e) = is u.0 ∙ sym (e ∙ value-before sh.base ram cs (w.dirs (home sh (line_of u.0))) (Some c) t u.0 r z (l.0))
-    go (inr h) = absurd (undoomed w c (home sh (line_of u.0)) t u.0 (l.0) (free (home sh (line_of u.0))) h)
+    go : (u.1 ≡ value_at sh.base ram cs (w.dirs (home_of sh u.0)) (Some c) (Some t) u.0)
+        ⊎ IsDoomed (Some t) u.0 (pair w c (home_of sh u.0)) → there u.0 ≡ u.1
+    go (inl e) = is u.0 ∙ sym (e ∙ value-before sh.base ram cs (w.dirs (home_of sh u.0)) (Some c) t u.0 r z (l.0))
+    go (inr h) = absurd (undoomed w c (home_of sh u.0) t u.0 (l.0) (free (home_of sh u.0)) h)
 
 -- the last TID before it
 pub last-below : (t last : ℕ) (ns : List Noted) → last < t → Each (λ n. n.tid.0 < t) ns → last_tid last (map order_of_commit ns) < t

@@ -4,18 +4,17 @@ use proofs.Names
 use Names.{phase_after_commit, ended_after_commit, EventsKeepSerial, order_of_commit, insert_commit, commits_touch, MarkedAtHomes}
 use Names.{if◌then◌else◌, CommitsSerial, next_history, vendor_gives, TrappedWith, transaction, orders_core, stores_word, UsedAtHomes}
 use Names.{plain_start, AlignedNeed, is_given_up, dir_deliver, CoresSerial, map-append, HaltedWith, Invariants, may_commit, loads_word}
-use Names.{core_evict, core_moves, core_takes, CoreSerial, IsSomeAnd, commit_of, CoreState, end_after, CanInsert, nat_tests, writes_at}
-use Names.{UsesStand, worked_at, in_flight, core_exec, and_noted, dir_takes, last_tid, HasEnded, Inserted, IsMemory, Contains, reads_at}
-use Names.{NeedFits, AllStand, asks_dir, live_way, TidGrant, from_dir, recorded, dir_asks, IsSerial, CoreEnd, Attempt, Outcome, Program}
-use Names.{Aligned, Changes, line_of, is_solo, History, has_tid, EachUse, Stepped, Option, closed, end_of, serial, Stores, Agrees, holder}
-use Names.{tid_of, Untold, IfSome, Vendor, TidReq, Answer, false, subst, Noted, Plain, Order, Ended, begun, steps, Local, noted, Again}
-use Names.{times, arith, Loads, Shape, Phase, Ready, World, Suits, Grant, grant, Waits, Drops, Takes, true, List, ◌++◌, Some, None, refl}
-use Names.{Halt, Trap, Goes, Bool, ◌==◌, ◌||◌, Need, home, Solo, Uses, Fits, pair, Ways, Core, Asks, step, ◌≡◌, ◌≤◌, ◌≢◌, ◌∷◌, map, sym}
-use Names.{◌∙◌, Run, ◌<◌, ◌⊎◌, inl, inr, num, Out, Dir, Msg, ap, [], ℕ}
+use Names.{core_evict, core_moves, core_takes, CoreSerial, IsSomeAnd, commit_of, CoreState, end_after, CanInsert, writes_at, UsesStand}
+use Names.{worked_at, in_flight, core_exec, and_noted, dir_takes, last_tid, HasEnded, Inserted, IsMemory, Contains, reads_at, NeedFits}
+use Names.{AllStand, asks_dir, live_way, TidGrant, from_dir, recorded, dir_asks, IsSerial, CoreEnd, Attempt, Outcome, Program, Aligned}
+use Names.{Changes, line_of, is_solo, History, has_tid, EachUse, Stepped, Option, closed, end_of, serial, Stores, Agrees, holder, tid_of}
+use Names.{Untold, IfSome, Vendor, TidReq, Answer, false, subst, Noted, Plain, Order, Ended, begun, steps, Local, noted, Again, times}
+use Names.{arith, Loads, Shape, Phase, Ready, World, Suits, Grant, grant, Waits, Drops, Takes, true, List, ◌++◌, Some, None, refl, Halt}
+use Names.{Trap, Goes, Bool, ◌==◌, ◌||◌, Need, home, Solo, Uses, Fits, pair, Ways, Core, Asks, step, ◌≡◌, ◌≤◌, ◌≢◌, ◌∷◌, map, sym, ◌∙◌, Run}
+use Names.{◌<◌, ◌⊎◌, inl, inr, num, Out, Dir, Msg, ap, [], ℕ, nats, home_of, tid_at, FromCore, FromDir, IfSome_then}
 use proofs.Counts.StepCases.{given, OfAnswer, step_cases}
-use proofs.Memory.MemorySends.{accesses_at_homes, marks_at_homes}
-use proofs.OneCore.CoreCloses.{Gives, Closing, Leaves, Stays, Closes, exec-leaves}
-use proofs.OneCore.CoreStays.{CheckpointStays, evict-stays, grant-stays, back-stays}
+use proofs.Memory.CoreInMemory.{accesses_at_homes, marks_at_homes}
+use proofs.OneCore.CoreCloses.{Gives, Closing, Leaves, Stays, Closes, exec-leaves, CheckpointStays, evict-stays, grant-stays, back-stays}
 use proofs.Order.InsertedOrders.{order_inserted, put-same, serial_again, serial-memory}
 use proofs.Order.SerialParts.{before, behind, cut-inserted, behind-below, before-smaller, last-below, SerialCut, home-below, agrees-before}
 use proofs.Order.SerialParts.{cut-joined, Each, each-listed, each-behind, each-both, each-then, behind-larger, orders-another, touch-none}
@@ -161,21 +160,21 @@ May t q = (q ≡ Ready t) ⊎ (q ≡ Solo t)
 
 pub may-has : (t : ℕ) (q : Phase) → May t q → has_tid q t ≡ true
 unfolding has_tid
-may-has t q a = grind (arith, nat_tests)
+may-has t q a = grind nats
 
 pub may-commits : (t : ℕ) (q : Phase) → May t q → (may_commit q ≡ true) × (tid_of q ≡ t)
 may-commits t q (inl e) = rw e (refl, refl)
 may-commits t q (inr e) = rw e (refl, refl)
 
 may-runs : (t : ℕ) (q : Phase) (o : Outcome) → May t q → end_after q o ≡ Run
-may-runs t q o a = grind (arith, nat_tests)
+may-runs t q o a = grind nats
 
 may-asks : (t : ℕ) (q : Phase) (b : Bool) → May t q → (is_solo q ≡ false → b ≡ true) → asks_dir q b ≡ true
-may-asks t q b a h = grind (arith, nat_tests)
+may-asks t q b a h = grind nats
 
 may-untold : (t : ℕ) (q : Phase) (b : Bool) → May t q → (is_solo q ≡ false → b ≡ true) → live_way q b ≡ Untold
 unfolding live_way
-may-untold t q b a h = grind (arith, nat_tests)
+may-untold t q b a h = grind nats
 
 pub may-bound : (w : World) (c d t : ℕ) → May t (w.cores c).phase → 1 ≤ holder t (pair w c d)
 unfolding holder pair
@@ -189,8 +188,8 @@ pub record Stand (sh : Shape) (h : History) (ys : Ways) (c t : ℕ) : Type 0 whe
   pub fresh : times t h.commits ≡ 0
   pub last : (n : Noted) → Contains h.commits n → n.core.0 ≡ c → n.tid.0 ≤ t
   pub reached : (x : ℕ) → (is_solo (h.world.cores c).phase ≡ false → (h.world.cores c).cache.read x ≡ true)
-      → t ≤ (h.world.dirs (home sh (line_of x))).serving.serving
-  pub untold : (x : ℕ) → stores_word sh.base (h.world.cores c).stores x ≡ true → ys (home sh (line_of x)) t ≡ Untold
+      → t ≤ (tid_at h.world (home_of sh x))
+  pub untold : (x : ℕ) → stores_word sh.base (h.world.cores c).stores x ≡ true → ys (home_of sh x) t ≡ Untold
 
 pub stand : (sh : Shape) (p : Program) (entries : ℕ → Local) (ram : ℕ → ℕ) (gs : List Grant) (ys : Ways) (views : ℕ → Uses) (m : Plain)
     (h : History) (c t : ℕ) → Suits sh p ram → Invariants sh p entries ram gs ys views m h → c < sh.cores → May t (h.world.cores c).phase
@@ -227,29 +226,29 @@ stand sh p entries ram gs ys views m h c t u k l y = record {
     either true b e = refl
     either false b e = e
 
-    reached : (x : ℕ) → (is_solo s.phase ≡ false → s.cache.read x ≡ true) → t ≤ (h.world.dirs (home sh (line_of x))).serving.serving
+    reached : (x : ℕ) → (is_solo s.phase ≡ false → s.cache.read x ≡ true) → t ≤ (tid_at h.world (home_of sh x))
     reached x r =
         let i : home sh (line_of x) < sh.dirs = home-below sh x (u.dirs) in
-        let a : asks_dir s.phase (writes_at sh s.cache (home sh (line_of x)) || reads_at sh s.cache (home sh (line_of x))) ≡ true =
-        may-asks t s.phase _ y (λ q. either (writes_at sh s.cache (home sh (line_of x))) _ (marked.read x (r q))) in
-        let o : s.owing (home sh (line_of x)) ≡ false = k.carried.directory_that_replied_serves_the_tid.replied c (home sh (line_of x)) l i
+        let a : asks_dir s.phase (writes_at sh s.cache (home_of sh x) || reads_at sh s.cache (home_of sh x)) ≡ true =
+        may-asks t s.phase _ y (λ q. either (writes_at sh s.cache (home_of sh x)) _ (marked.read x (r q))) in
+        let o : s.owing (home_of sh x) ≡ false = k.carried.directory_that_replied_serves_the_tid.replied c (home_of sh x) l i
         ((may-commits t s.phase y).0) in
-        let z : tid_of s.phase ≤ (h.world.dirs (home sh (line_of x))).serving.serving =
-        k.carried.directory_that_replied_serves_the_tid.reached c (home sh (line_of x)) l i a o in
+        let z : tid_of s.phase ≤ tid_at h.world (home_of sh x) =
+        k.carried.directory_that_replied_serves_the_tid.reached c (home_of sh x) l i a o in
         omega (arith, z, (may-commits t s.phase y).1)
 
     -- a word that it stores is modified, unless it is alone
     modified : (x : ℕ) → stores_word sh.base s.stores x ≡ true → is_solo s.phase ≡ false → s.cache.modified x ≡ true
-    modified x e q = grind (arith, nat_tests)
+    modified x e q = grind nats
 
-    untold : (x : ℕ) → stores_word sh.base s.stores x ≡ true → ys (home sh (line_of x)) t ≡ Untold
-    untold x e = k.carried.live_tid_is_open_where_it_must_be.held c (home sh (line_of x)) t l (home-below sh x (u.dirs)) has
-        ∙ may-untold t s.phase (writes_at sh s.cache (home sh (line_of x))) y (λ q. marked.modified x (modified x e q))
+    untold : (x : ℕ) → stores_word sh.base s.stores x ≡ true → ys (home_of sh x) t ≡ Untold
+    untold x e = k.carried.live_tid_is_open_where_it_must_be.held c (home_of sh x) t l (home-below sh x (u.dirs)) has
+        ∙ may-untold t s.phase (writes_at sh s.cache (home_of sh x)) y (λ q. marked.modified x (modified x e q))
 
 -- every word of the view is at a home that has reached the TID
 pub uses-reached : (sh : Shape) (h : History) (ys : Ways) (c t : ℕ) (g : Bool) (us : Uses) → Stand sh h ys c t
     → (is_solo (h.world.cores c).phase ≡ false → AllStand g (h.world.cores c).cache us)
-    → EachUse (λ x y. t ≤ (h.world.dirs (home sh (line_of x))).serving.serving) us
+    → EachUse (λ x y. t ≤ tid_at h.world (home_of sh x)) us
 uses-reached sh h ys c t g [] s a = tt
 uses-reached sh h ys c t g (u ∷ us) s a = (s.reached u.0 (λ q. (a q).0.marked), uses-reached sh h ys c t g us s (λ q. (a q).1))
 
@@ -269,10 +268,10 @@ later-apart sh p entries ram gs ys views m h c t x n u k s e i l =
     at : UsedAtHomes sh n.loads n.stores
     at = accesses_at_homes sh n.loads n.stores (k.carried_in_memory.commits_stay_in_memory n i)
 
-    given : worked_at sh n (home sh (line_of x)) ≡ true → ⊥
-    given w = let g : is_given_up (ys (home sh (line_of x)) t) ≡ true = k.carried.smaller_tid_is_given_up_where_a_larger_one_worked.0 n
-        (home sh (line_of x)) t i (home-below sh x (u.dirs)) w s.positive l s.fresh in
-        let f : is_given_up (ys (home sh (line_of x)) t) ≡ false = rw (s.untold x e) refl in cc
+    given : worked_at sh n (home_of sh x) ≡ true → ⊥
+    given w = let g : is_given_up (ys (home_of sh x) t) ≡ true = k.carried.smaller_tid_is_given_up_where_a_larger_one_worked.0 n
+        (home_of sh x) t i (home-below sh x (u.dirs)) w s.positive l s.fresh in
+        let f : is_given_up (ys (home_of sh x) t) ≡ false = rw (s.untold x e) refl in cc
 
     either : (a b : Bool) → b ≡ true → (a || b) ≡ true
     either true b e = refl
@@ -326,7 +325,7 @@ closed-core sh p entries ram gs ys views m h c t r o u k l f = closed-serial sh.
       where
         go : (b : Bool) → (n.core.0 == c) ≡ b → b ≡ false
         go false q = refl
-        go true q = absurd (let e : n.core.0 ≡ c = grind (arith, nat_tests) in omega (arith, s.last n (i.0) e, i.1))
+        go true q = absurd (let e : n.core.0 ≡ c = grind nats in omega (arith, s.last n (i.0) e, i.1))
 
     can : CanClose sh.base p h.commits c t (h.world.cores c).saved r m cut.start
     can = record {
@@ -358,7 +357,7 @@ rested-core sh w c e o m r k = go (e == c) refl
     go : (b : Bool) → (e == c) ≡ b → CoreSerial (if b then o.core else w.cores e) (m.cores e)
     go false q = k
     go true q =
-        let i : e ≡ c = grind (arith, nat_tests) in
+        let i : e ≡ c = grind nats in
         let at : CoreSerial (w.cores c) (m.cores e) = subst (λ j. CoreSerial (w.cores j) (m.cores e)) i k in
         record { local = at.local ∙ sym r.saved; ended = at.ended ∙ sym r.ends }
 
@@ -374,10 +373,10 @@ closed-cores : (sh : Shape) (p : Program) (w : World) (cs : List Noted) (c t e :
 closed-cores sh p w cs c t e r o first m g f k = go (e == c) refl
   where
     go : (b : Bool) → (e == c) ≡ b → CoreSerial (if b then o.core else w.cores e) (g.plain.cores e)
-    go false q = let n : e ≢ c = λ i. absurd (let y : (e == c) ≡ true = grind (arith, nat_tests) in cc) in
+    go false q = let n : e ≢ c = λ i. absurd (let y : (e == c) ≡ true = grind nats in cc) in
         subst (CoreSerial (w.cores e)) (sym (g.others e n)) k
     go true q =
-        let i : e ≡ c = grind (arith, nat_tests) in
+        let i : e ≡ c = grind nats in
         subst (λ j. CoreSerial o.core (g.plain.cores j)) (sym i)
         (record { local = g.local ∙ sym f.saved; ended = rw (f.after, f.ended) g.ended })
 
@@ -393,7 +392,7 @@ events_serial sh p entries ram gs ys views m h e u k =
     executes : (c : ℕ) → c < sh.cores
         → IfSome (core_exec sh p c (h.world.cores c))
         (λ o. After sh p entries ram h (record { world = core_moves h.world c o; noted = o.commit }))
-    executes c l = go (core_exec sh p c (h.world.cores c)) (exec-leaves sh p c (h.world.cores c))
+    executes c l = IfSome_then (core_exec sh p c (h.world.cores c)) (exec-leaves sh p c (h.world.cores c)) one
       where
         one : (o : Out) → Leaves sh p c (h.world.cores c) o
             → After sh p entries ram h (record { world = core_moves h.world c o; noted = o.commit })
@@ -409,11 +408,6 @@ events_serial sh p entries ram gs ys views m h e u k =
               cores = λ j y. closed-cores sh p h.world h.commits c t j r o (plain_start entries ram) m g f
                   (k.committed_cores_are_serial j y);
             }
-
-        go : (x : Option Out) → IfSome x (Leaves sh p c (h.world.cores c))
-            → IfSome x (λ o. After sh p entries ram h (record { world = core_moves h.world c o; noted = o.commit }))
-        go None q = tt
-        go (Some o) q = one o q
 
     rested : (c : ℕ) (o : Out) (w : World) → w.cores ≡ (λ j. if j == c then o.core else h.world.cores j)
         → CheckpointStays (h.world.cores c) o → After sh p entries ram h (record { world = w; noted = o.commit })
@@ -440,7 +434,7 @@ events_serial sh p entries ram gs ys views m h e u k =
     grants c n t i = rested c (grant sh t (h.world.cores c)) (core_takes h.world Vendor c n (grant sh t (h.world.cores c))) refl
         (grant-stays sh t (h.world.cores c))
 
-    backs : (c d n : ℕ) (a : Msg) → in_flight h.world.net (Dir d) (Core c) n ≡ Some a
+    backs : (c d n : ℕ) (a : Msg) → FromDir h.world d c n a
         → IfSome (from_dir sh d (h.world.cores c) a)
         (λ o. After sh p entries ram h (record { world = core_takes h.world (Dir d) c n o; noted = o.commit }))
     backs c d n a i = go (from_dir sh d (h.world.cores c) a) (back-stays sh d (h.world.cores c) a)
@@ -450,7 +444,7 @@ events_serial sh p entries ram gs ys views m h e u k =
         go None q = tt
         go (Some o) q = rested c o (core_takes h.world (Dir d) c n o) refl q
 
-    answers : (c d n : ℕ) (a : Msg) → in_flight h.world.net (Core c) (Dir d) n ≡ Some a
+    answers : (c d n : ℕ) (a : Msg) → FromCore h.world c d n a
         → OfAnswer h.world c d n (λ v. After sh p entries ram h (record { world = v; noted = None })) (dir_deliver sh (h.world.dirs d) c a)
     answers c d n a i = go (dir_deliver sh (h.world.dirs d) c a)
       where

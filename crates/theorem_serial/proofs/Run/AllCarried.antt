@@ -8,7 +8,7 @@ use Names.{ways_from, ℕ, flat_map, inl, serial, Local, is_skipped, first_servi
 use Names.{copies_of, copies_on, newest, numbers, core_start, dir_start, vendor_start, start, ReadFits, CoresSerial, SeenSerial}
 use Names.{plain_start, live, Carried, StartHasAll, first_state, marks_of, pair, first_ways, run, HomeWords, CopiesAbove, UnmodifiedWords}
 use Names.{FilledWords, CopiesHave, value_at, after_commits, start-follows, IfSome, Plain, no_views, Suits, AllHold, IsSerialExecution}
-use Names.{RunsAreSerial, CarriedInMemory, CarriedViews, Invariants, Grant, IsSerial, ViewedWords, HaltedUsesNone}
+use Names.{RunsAreSerial, CarriedInMemory, CarriedViews, Invariants, Grant, IsSerial, ViewedWords, HaltedUsesNone, IfSome_then}
 use proofs.Memory.InMemoryKept.{start-memory}
 use proofs.Order.SerialSteps.{events_serial}
 use proofs.Run.FactsOfRuns.{runs_carry, carried-memory, runs_stay_in_memory, runs_carry_views}
@@ -275,14 +275,9 @@ all_hold sh p entries ram es s = from-there sh p entries ram [] es (first_state 
     (start-all sh p entries ram)
 
 pub runs_are_serial : RunsAreSerial
-runs_are_serial sh p entries ram es s = go (run sh p (start entries ram) es) (all_hold sh p entries ram es s)
-  where
-    go : (x : Option History) → IfSome x (λ h. AllOf sh p entries ram (memo sh p entries ram es) h)
-        → IfSome x (IsSerialExecution sh p entries ram)
-    go None a = tt
-    go (Some h) a = record {
-      plain = a.0;
-      commits = (a.1).commits_are_serial;
-      cores = (a.1).committed_cores_are_serial;
-      memory = (a.1).seen_words_are_serial;
-    }
+runs_are_serial sh p entries ram es s = IfSome_then (run sh p (start entries ram) es) (all_hold sh p entries ram es s) (λ h a. record {
+  plain = a.0;
+  commits = (a.1).commits_are_serial;
+  cores = (a.1).committed_cores_are_serial;
+  memory = (a.1).seen_words_are_serial;
+})

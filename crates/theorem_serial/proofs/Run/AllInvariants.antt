@@ -7,15 +7,14 @@ use Names.{SparesItsCommitter, SparesCommitter, KeptCommitting, MarksAreStored, 
 use Names.{then_grants, grants_from, LastGranted, append-nil, core_start, KeptStored, granted_by, ◌∷◌, KeptOwners, and_noted, KeptWhole}
 use Names.{KeptNamed, KeptMarks, KeptMasks, KeptCores, HoldsLast, recorded, List, and_then, run_from, KeptTold, Program, Stepped, History}
 use Names.{has_tid, KeptAll, IfSome, Always, arith, Local, Event, Shape, World, start, Grant, ◌++◌, Some, None, refl, step, live, pair}
-use Names.{Kept, sym, run, [], ℕ}
-use proofs.Lines.AskedKept.{step-asked, start-asked}
+use Names.{Kept, sym, run, [], ℕ, IfSome_then}
+use proofs.Lines.LineOwners.{step-asked, start-asked, step-whole, start-whole}
 use proofs.Marks.CountsKept.{step-counted, start-counted}
 use proofs.Marks.MarksKept.{step-marks, start-marks}
 use proofs.Marks.ModifiedMasksKept.{step-masks, start-masks}
 use proofs.Marks.NamedKept.{step-named, start-named}
-use proofs.Marks.PartlyMarkedUnowned.{step-whole, start-whole}
 use proofs.Marks.StoredKept.{step-stored, start-stored}
-use proofs.OneCore.CoreAlone.{step-cores, start-cores}
+use proofs.OneCore.OneCoreKept.{step-cores, start-cores}
 use proofs.Serving.CommitSteps.{step-committing, start-committing, step-spared}
 use proofs.Serving.KeptSteps.{step-kept, start-all}
 use proofs.Serving.OwnerSteps.{step-owners, start-owners, step-last}
@@ -115,71 +114,26 @@ unfolding pair
 one_probe_from sh w k c d t h = (k c d t).held h
 
 pub one_probe : Always OneProbe
-one_probe sh p entries ram es = go (run sh p (start entries ram) es) (run-all sh p entries ram es)
-  where
-    go : (x : Option History) → IfSome x (λ r. KeptAll sh (grants_from sh p es (record { world = start entries ram; commits = [] })) r)
-        → IfSome x (λ r. OneProbe sh r.world)
-    go None h = tt
-    go (Some r) h = one_probe_from sh r.world (h.probing)
+one_probe sh p entries ram es = IfSome_then (run sh p (start entries ram) es) (run-all sh p entries ram es)
+    (λ r h. one_probe_from sh r.world (h.probing))
 
 pub last_granted : HoldsLast
-last_granted sh p entries ram es = go (run sh p (start entries ram) es) (run-all sh p entries ram es)
-  where
-    gs : List Grant
-    gs = grants_from sh p es (record { world = start entries ram; commits = [] })
-
-    go : (x : Option History) → IfSome x (λ r. KeptAll sh gs r) → IfSome x (λ r. LastGranted gs r.world)
-    go None h = tt
-    go (Some r) h = h.last
+last_granted sh p entries ram es = IfSome_then (run sh p (start entries ram) es) (run-all sh p entries ram es) (λ r h. h.last)
 
 pub spares_committer : SparesItsCommitter
-spares_committer sh p entries ram es = go (run sh p (start entries ram) es) (run-all sh p entries ram es)
-  where
-    gs : List Grant
-    gs = grants_from sh p es (record { world = start entries ram; commits = [] })
-
-    go : (x : Option History) → IfSome x (λ r. KeptAll sh gs r) → IfSome x (λ r. SparesCommitter sh gs r.world)
-    go None h = tt
-    go (Some r) h = h.spared
+spares_committer sh p entries ram es = IfSome_then (run sh p (start entries ram) es) (run-all sh p entries ram es) (λ r h. h.spared)
 
 pub marks_stored : MarksAreStored
-marks_stored sh p entries ram es = go (run sh p (start entries ram) es) (run-all sh p entries ram es)
-  where
-    gs : List Grant
-    gs = grants_from sh p es (record { world = start entries ram; commits = [] })
-
-    go : (x : Option History) → IfSome x (λ r. KeptAll sh gs r) → IfSome x (λ r. KeptMarks sh gs r.world)
-    go None h = tt
-    go (Some r) h = h.marks
+marks_stored sh p entries ram es = IfSome_then (run sh p (start entries ram) es) (run-all sh p entries ram es) (λ r h. h.marks)
 
 pub counts_marks : Always KeptCounted
-counts_marks sh p entries ram es = go (run sh p (start entries ram) es) (run-all sh p entries ram es)
-  where
-    go : (x : Option History) → IfSome x (λ r. KeptAll sh (grants_from sh p es (record { world = start entries ram; commits = [] })) r)
-        → IfSome x (λ r. KeptCounted sh r.world)
-    go None h = tt
-    go (Some r) h = h.counted
+counts_marks sh p entries ram es = IfSome_then (run sh p (start entries ram) es) (run-all sh p entries ram es) (λ r h. h.counted)
 
 pub wholly_marked : Always KeptWhole
-wholly_marked sh p entries ram es = go (run sh p (start entries ram) es) (run-all sh p entries ram es)
-  where
-    go : (x : Option History) → IfSome x (λ r. KeptAll sh (grants_from sh p es (record { world = start entries ram; commits = [] })) r)
-        → IfSome x (λ r. KeptWhole sh r.world)
-    go None h = tt
-    go (Some r) h = h.whole
+wholly_marked sh p entries ram es = IfSome_then (run sh p (start entries ram) es) (run-all sh p entries ram es) (λ r h. h.whole)
 
 pub named_lines : Always KeptNamed
-named_lines sh p entries ram es = go (run sh p (start entries ram) es) (run-all sh p entries ram es)
-  where
-    go : (x : Option History) → IfSome x (λ r. KeptAll sh (grants_from sh p es (record { world = start entries ram; commits = [] })) r)
-        → IfSome x (λ r. KeptNamed sh r.world)
-    go None h = tt
-    go (Some r) h = h.named
+named_lines sh p entries ram es = IfSome_then (run sh p (start entries ram) es) (run-all sh p entries ram es) (λ r h. h.named)
 
 pub asked_owned : Always KeptAsked
-asked_owned sh p entries ram es = go (run sh p (start entries ram) es) (run-all sh p entries ram es)
-  where
-    go : (x : Option History) → IfSome x (λ r. KeptAll sh (grants_from sh p es (record { world = start entries ram; commits = [] })) r)
-        → IfSome x (λ r. KeptAsked sh r.world)
-    go None h = tt
-    go (Some r) h = h.asked
+asked_owned sh p entries ram es = IfSome_then (run sh p (start entries ram) es) (run-all sh p entries ram es) (λ r h. h.asked)

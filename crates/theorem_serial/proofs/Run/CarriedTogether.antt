@@ -5,13 +5,12 @@ use Names.{ℕ, List, [], ◌++◌, Option, Some, None, IfSome, Program, Local, 
 use Names.{run_from, run, KeptHomes, KeptLineOwners, KeptLoading, KeptAfter, first_state, KeptAll, KeptTold, OneMark, Grant, granted_by}
 use Names.{grants_from, ◌<◌, ◌≡◌, true, false, ◌∷◌, sym, append_assoc, append-nil, start, next_history, and_then, KeptTags, KeptGets}
 use Names.{KeptSharers, is_applied, stores_at, Noted, KeptRun, then_grants, Ways, ways_after, sent_by, then_ways, ways_from, first_ways}
-use proofs.Copies.CopyFacts.{start-lines}
-use proofs.Copies.LinesKept.{KeptLines}
+use proofs.Copies.LinesKept.{start-lines, KeptLines}
 use proofs.Copies.LinesStep.{step-lines}
 use proofs.Copies.TagsKept.{TagStep, tag-step, tags-out, start-tags}
 use proofs.Copies.WroteLines.{new-commit, on-its-way}
 use proofs.Lines.GetsKept.{step-gets, start-gets}
-use proofs.Lines.LineOwnersKept.{step-line-owners, start-line-owners}
+use proofs.Lines.LineOwners.{step-line-owners, start-line-owners}
 use proofs.Lines.LoadsKept.{step-loading, start-loading}
 use proofs.Lines.SharersStep.{step-sharers, start-sharers}
 use proofs.Marks.AfterKept.{step-after, start-after}
@@ -22,8 +21,7 @@ use proofs.Memory.HomesKept.{step-homes, start-homes}
 use proofs.Run.AllInvariants.{step-all, run-all}
 use proofs.Serving.OwingKept.{KeptOwing, step-owing, start-owing}
 use proofs.Serving.ProbingSteps.{KeptProbed, step-probed, start-probed}
-use proofs.Ways.ByCore.{ByCore}
-use proofs.Ways.ToldSteps.{Speaks, step-speaks}
+use proofs.Ways.ToldSteps.{ByCore, Speaks, step-speaks}
 use proofs.Ways.WayFacts.{step-run, start-run}
 
 pub record KeptMore (sh : Shape) (gs : List Grant) (h : History) : Type 0 where

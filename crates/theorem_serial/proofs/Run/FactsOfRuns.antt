@@ -2,14 +2,14 @@
 use Rattle.theorem_serial.proofs
 use proofs.Names
 use Names.{ℕ, ◌+◌, ◌≡◌, ◌<◌, ◌≤◌, ◌==◌, ◌&&◌, Bool, true, false, not, List, Contains, Option, Some, None, IfSome, nat_le, arith, refl}
-use Names.{nat_tests, Local, Program, Event, num, Shape, home, Cache, IsCache, has_mark, CoreState, Halted, World, start, History, run}
-use Names.{IsApart, PhaseFits, Grants, Marks, MarkOf, Probes, Replies, live, Carried, RunsCarry, first_state, KeptAll, marks_of, marked_by}
+use Names.{Local, Program, Event, num, Shape, home, Cache, IsCache, has_mark, CoreState, Halted, World, start, History, run, IsApart}
+use Names.{PhaseFits, Grants, Marks, MarkOf, Probes, Replies, live, Carried, RunsCarry, first_state, KeptAll, marks_of, marked_by}
 use Names.{has_marked, stores_line, OneCore, Empty, Grant, grants_from, times, holder, pair, share, CommitsStand, MarksWait, MarkedByServed}
 use Names.{MarksOfCommits, Ways, first_ways, ways_from, UntoldWhereOpen, UntoldIsLive, AllWaysFit, GivenUpOnce, LiveIsOpen}
 use Names.{CommittedWhereStored, SmallerAreGivenUp, WorkIsReached, ◌||◌, is_some, sym, ◌∙◌, inl, inr, cases_lt, lines, Awaited, is_awaited}
 use Names.{AttemptInMemory, LoadsInMemory, CopiesInMemory, CarriedInMemory, RunsStayInMemory, Uses, MarksFit, AttemptFits, Views, no_views}
-use Names.{views_from, attempts-fit, ReadFits, CarriedViews, RunsCarryViews}
-use proofs.Copies.CopyFacts.{above-from, owned-from}
+use Names.{views_from, attempts-fit, ReadFits, CarriedViews, RunsCarryViews, nats, tid_at, IfSome_then}
+use proofs.Copies.LinesKept.{above-from, owned-from}
 use proofs.Copies.WroteLines.{on-its-way}
 use proofs.Counts.Links.{total-le}
 use proofs.Marks.MaskLaws.{marked_by_served, marks_of_commits}
@@ -46,30 +46,30 @@ live-granted sh gs h k c d t l x =
 
 -- Marks
 none-coming : (n g x : ℕ) → (1 ≤ n + g → x ≡ 0) → 1 ≤ x → g ≡ 0
-none-coming n a x f l = grind (arith, nat_tests)
+none-coming n a x f l = grind nats
 
 marked-came : (n s g : ℕ) (m : ℕ) (b : Bool) → b ≡ true → (1 ≤ num (nat_le n s) + g → m + num (s == s && b) ≡ 0) → (s < n) × (g ≡ 0)
 marked-came n s g m b e f = (go (nat_le n s) refl, none-coming (num (nat_le n s)) g (m + num (s == s && b)) f (omega (arith, one)))
   where
     one : num (s == s && b) ≡ 1
-    one = rw e (grind (arith, nat_tests))
+    one = rw e (grind nats)
 
     go : (x : Bool) → nat_le n s ≡ x → s < n
-    go a q = grind (arith, nat_tests)
+    go a q = grind nats
 
 marked-line : (sh : Shape) (gs : List Grant) (h : History) → KeptAll sh gs h → (c d l : ℕ) → c < sh.cores → d < sh.dirs
-    → has_mark (h.world.dirs d).lines l ≡ true → (home sh l ≡ d) × ((h.world.dirs d).serving.serving < h.world.next)
-    × (live (Grants (h.world.dirs d).serving.serving) (pair h.world c d).grants ≡ 0)
+    → has_mark (h.world.dirs d).lines l ≡ true → (home sh l ≡ d) × (tid_at h.world d < h.world.next)
+    × (live (Grants (tid_at h.world d)) (pair h.world c d).grants ≡ 0)
 unfolding pair marks_of
 marked-line sh gs h k c d l cl dl e =
-    let f = (k.marks c d (h.world.dirs d).serving.serving l).fresh in
+    let f = (k.marks c d (tid_at h.world d) l).fresh in
     let r =
-    marked-came h.world.next (h.world.dirs d).serving.serving (live (Grants (h.world.dirs d).serving.serving) (pair h.world c d).grants)
-    (live (MarkOf (h.world.dirs d).serving.serving l) (pair h.world c d).out) (has_mark (h.world.dirs d).lines l) e f in
+    marked-came h.world.next (tid_at h.world d) (live (Grants (tid_at h.world d)) (pair h.world c d).grants)
+    (live (MarkOf (tid_at h.world d) l) (pair h.world c d).out) (has_mark (h.world.dirs d).lines l) e f in
     ((k.kept.told.owed.at_home c d).marked l e, r.0, r.1)
 
 none-marked : (a b c : Bool) → (a && b) ≡ false → num (a && (b && c)) ≡ 0
-none-marked a b c h = grind (arith, nat_tests)
+none-marked a b c h = grind nats
 
 marks-wait : (sh : Shape) (gs : List Grant) (h : History) → KeptAll sh gs h → (c d t l : ℕ) → c < sh.cores → d < sh.dirs
     → MarksWait sh t l d (pair h.world c d)
@@ -226,14 +226,14 @@ attempt-memory sh gs ys h k m c = record {
 }
   where
     either : (a b : Bool) → b ≡ true → (a || b) ≡ true
-    either a b e = grind (arith, nat_tests)
+    either a b e = grind nats
 
 loads-memory : (sh : Shape) (gs : List Grant) (ys : Ways) (h : History) → Carried sh gs ys h → KeptInMemory sh h → LoadsInMemory sh h.world
 unfolding pair
 loads-memory sh gs ys h k m c d l i = go (h.world.cores c).awaited refl (omega (arith, i, k.one_load_request_or_fill c d l))
   where
     line : (a : Awaited) → (h.world.cores c).awaited ≡ Some a → (b e : Bool) → (a.line == l) ≡ b → 1 ≤ num (b && e) → l < lines sh
-    line a q b e r n = grind (arith, nat_tests, attempt-memory)
+    line a q b e r n = grind (nats, attempt-memory)
 
     go : (a : Option Awaited) → (h.world.cores c).awaited ≡ a → 1 ≤ num (is_awaited a l && (home sh l == d)) → l < lines sh
     go None q n = absurd (omega arith)
@@ -272,14 +272,10 @@ read-fits : (sh : Shape) (s : CoreState) (us : Uses) → MarksFit sh s us → Re
 read-fits sh s us k = record { stand = k.stand; used = λ a x e. k.used x e }
 
 pub runs_carry_views : RunsCarryViews
-runs_carry_views sh p entries ram es f = go (run sh p (start entries ram) es) (attempts-fit sh p entries ram es f)
+runs_carry_views sh p entries ram es f = IfSome_then (run sh p (start entries ram) es) (attempts-fit sh p entries ram es f) (λ h k. record {
+  attempt_follows_from_its_view = λ c. (k c).follows;
+  read_marks_are_the_view = λ c. read-fits sh (h.world.cores c) (vs c) (k c).marks;
+})
   where
     vs : Views
     vs = views_from sh p es no_views (first_state entries ram)
-
-    go : (x : Option History) → IfSome x (λ h. (c : ℕ) → AttemptFits sh p (h.world.cores c) (vs c)) → IfSome x (λ h. CarriedViews sh p vs h)
-    go None k = tt
-    go (Some h) k = record {
-      attempt_follows_from_its_view = λ c. (k c).follows;
-      read_marks_are_the_view = λ c. read-fits sh (h.world.cores c) (vs c) (k c).marks;
-    }

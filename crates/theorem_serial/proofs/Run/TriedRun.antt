@@ -9,10 +9,10 @@ use Rattle.theorem_serial.specs.Tried.{copy_test, frame_test, word_test, tests, 
 use Rattle.theorem_serial.specs.Tried.{TriedRead, TriedOwner, TriedAlone, TriedFails}
 use Rattle.theorem_serial.proofs
 use proofs.Names
-use Names.{line_of, World, arith, refl, inl, inr, nat_tests, passes, live, pair, stores_word, stores_in, stored_mask, stores_at, names_line}
-use Names.{wrote, wrote_line, wrote_mask, last_of, is_settled, is_applied, settled_in_line, stored_there, copies_with, keeps_unmodified}
-use Names.{holds_line, HomeWords, after_stores, counts, after_commits, value_at, word_copies, Noted, Shape, home, ℕ, zero, suc, ◌≡◌, ◌<◌}
-use Names.{◌≤◌, ◌⊎◌, ◌==◌, false, List, None}
+use Names.{line_of, World, arith, refl, inl, inr, passes, live, pair, stores_word, stores_in, stored_mask, stores_at, names_line, wrote}
+use Names.{wrote_line, wrote_mask, last_of, is_settled, is_applied, settled_in_line, stored_there, copies_with, keeps_unmodified}
+use Names.{holds_line, HomeWords, after_stores, counts, after_commits, value_at, word_copies, Noted, Shape, ℕ, zero, suc, ◌≡◌, ◌<◌, ◌≤◌}
+use Names.{◌⊎◌, ◌==◌, false, List, None, nats, home_of}
 
 -- all that the runs compute with, and what is counted at their ends
 unfoldable run_computed : Type 0
@@ -61,10 +61,10 @@ no : 1 ≤ 0 → ⊥
 no l = omega (arith, l)
 
 unequal : (a b : ℕ) → (a == b) ≡ false → a ≡ b → ⊥
-unequal a b h e = grind (arith, nat_tests)
+unequal a b h e = grind nats
 
 home-of : (sh : Shape) (ram : ℕ → ℕ) (w : World) (cs : List Noted) (d x : ℕ) → HomeWords sh ram w cs → sh.cores ≡ 2 → d < sh.dirs
-    → home sh (line_of x) ≡ d
+    → home_of sh x ≡ d
     → word_copies x ((w.dirs d).lines.tag (line_of x)) (pair w 0 d) ≡ 0 → word_copies x ((w.dirs d).lines.tag (line_of x)) (pair w 1 d) ≡ 0
     → (w.dirs d).words x ≡ value_at sh.base ram cs (w.dirs d) None None x
 home-of sh ram w cs d x k e l h a b =

@@ -5,22 +5,21 @@ use proofs.Names
 use Names.{Contains-append_cases, Contains-append_left, CommitsAreServed, SparesCommitter, slice_index_or, Program, KeptCommitting}
 use Names.{grant_in_phase, next_history, CommitsAbove, after_answer, CommittingOf, vendor_gives, ℕ, cases_order, dir_deliver, grant_taken}
 use Names.{Overflowing, core_evict, core_moves, core_takes, after_move, ◌≡◌, back_taken, append-nil, granted_by, IsNumbered, KeptOwners}
-use Names.{nat_tests, in_flight, core_exec, dir_takes, and_noted, out_taken, CoreState, DoomedTid, DirState, from_dir, recorded, and_then}
-use Names.{run_from, Resolves, Contains, cases_lt, AwaitTid, sent_all, dir_asks, KeptTold, SparedOf, cases_eq, Stepped, History, arith}
-use Names.{Commits, handled, Running, Probing, InvsNot, Option, IfSome, nat_lt, Answer, passes, Always, Halted, [], holder, Local, Event}
-use Names.{Shape, World, start, Sends, grant, Waits, Drops, Takes, share, Noted, Phase, List, Ready, among, Grant, Some, None, refl, Core}
-use Names.{Link, Asks, step, live, Pair, pair, part, Kept, true, ◌++◌, Solo, Invs, Acks, ◌<◌, ◌≤◌, ◌∷◌, ◌⊎◌, inl, inr, num, Dir, Msg, Out}
-use Names.{run, sym, ◌∙◌, due, ap}
+use Names.{core_exec, dir_takes, and_noted, out_taken, CoreState, DoomedTid, DirState, from_dir, recorded, and_then, run_from, Resolves}
+use Names.{Contains, cases_lt, AwaitTid, sent_all, dir_asks, KeptTold, SparedOf, cases_eq, Stepped, History, arith, Commits, handled}
+use Names.{Running, Probing, InvsNot, Option, IfSome, nat_lt, Answer, passes, Always, Halted, [], holder, Local, Event, Shape, World, start}
+use Names.{Sends, grant, Waits, Drops, Takes, share, Noted, Phase, List, Ready, among, Grant, Some, None, refl, Core, Link, Asks, step}
+use Names.{live, Pair, pair, part, Kept, true, ◌++◌, Solo, Invs, Acks, ◌<◌, ◌≤◌, ◌∷◌, ◌⊎◌, inl, inr, num, Dir, Msg, Out, run, sym, ◌∙◌, due}
+use Names.{ap, nats, tid_at, to_dir, to_core, FromCore, FromDir, IfSome_then}
 use proofs.Counts.Links.{live-sends, live-takes, total-le, live-fewer}
 use proofs.Counts.StepCases.{pairs_move, pairs_grant, pairs_back, pairs_dir, pairs_asks, pairs_vendor, OfAnswer, step_cases, given}
-use proofs.Serving.CommitOwners.{CommitsNoted, noted-exec, noted-evict, noted-grant, noted-back}
-use proofs.Serving.CoreCommits.{Served, served-exec, served-evict, served-grant, served-back, fewer-above}
-use proofs.Serving.DirDue.{Due, DueBy, dir-due, still-due, none-quiet}
-use proofs.Serving.DirInvs.{SparesOwn, SparesBy, dir-spares}
-use proofs.Serving.DirProbes.{Rises, RisesBy, dir-rises, rises-still}
+use proofs.Serving.CoreCommits.{CommitsNoted, noted-exec, noted-evict, noted-grant, noted-back, Served, served-exec, served-evict}
+use proofs.Serving.CoreCommits.{served-grant, served-back, fewer-above}
+use proofs.Serving.DirDue.{Due, DueBy, dir-due, still-due, none-quiet, SparesOwn, SparesBy, dir-spares, Rises, RisesBy, dir-rises}
+use proofs.Serving.DirDue.{rises-still}
 use proofs.Serving.KeptSteps.{step-kept, start-all, marks_home, acks_owed, invs-few, core_of_out, once_at}
 use proofs.Tids.Commits.{granted-once, only-one}
-use proofs.Tids.CoreOwners.{KeepsHolder, noted_tid, none, holder-exec, holder-evict, holder-back}
+use proofs.Tids.CoreProbing.{KeepsHolder, noted_tid, none, holder-exec, holder-evict, holder-back}
 
 -- Every event keeps that a Commit in flight is of the served TID, and so does every run.
 committing-moved : (v : Pair) (o : Out) (d : ℕ) → Served d v.dir.serving.serving o → CommittingOf v → CommittingOf (after_move v o d)
@@ -43,35 +42,35 @@ pub step-committing : (sh : Shape) (p : Program) (w : World) (e : Event) → Kep
     → IfSome (step sh p w e) (λ o. KeptCommitting o.world)
 unfolding pair
 step-committing sh p w e z h = step_cases sh p w e (λ g o. KeptCommitting o.world)
-    (λ c l. moved c (core_exec sh p c (w.cores c)) (λ d. served-exec sh p c d (w.dirs d).serving.serving (w.cores c) ((z.probes c d).core)))
-    (λ c x y l. moved c (core_evict sh x y (w.cores c)) (λ d. served-evict sh x y d (w.dirs d).serving.serving (w.cores c)))
+    (λ c l. moved c (core_exec sh p c (w.cores c)) (λ d. served-exec sh p c d (tid_at w d) (w.cores c) ((z.probes c d).core)))
+    (λ c x y l. moved c (core_evict sh x y (w.cores c)) (λ d. served-evict sh x y d (tid_at w d) (w.cores c)))
     (λ c k t i. pairs_grant P w c k (grant sh t (w.cores c))
     (λ d. committing-moved (grant_taken (pair w c d) k) (grant sh t (w.cores c)) d
-    (served-grant sh t d (w.dirs d).serving.serving (w.cores c)) (h c d)) h)
-    (λ c d k m i. taken c d k (from_dir sh d (w.cores c) m) (λ e. served-back sh d e (w.dirs e).serving.serving (w.cores c) m))
+    (served-grant sh t d (tid_at w d) (w.cores c)) (h c d)) h)
+    (λ c d k m i. taken c d k (from_dir sh d (w.cores c) m) (λ e. served-back sh d e (tid_at w e) (w.cores c) m))
     (λ c d k m i. answered c d k m i (dir_deliver sh (w.dirs d) c m) (dir-rises sh (w.dirs d) c m))
     (λ c k i. pairs_vendor P w c k (λ d. h c d) (λ j d n. h j d))
   where
     P : ℕ → ℕ → Pair → Type 0
     P c d v = CommittingOf v
 
-    moved : (c : ℕ) (x : Option Out) → ((d : ℕ) → IfSome x (λ o. Served d (w.dirs d).serving.serving o))
+    moved : (c : ℕ) (x : Option Out) → ((d : ℕ) → IfSome x (λ o. Served d (tid_at w d) o))
         → IfSome x (λ o. KeptCommitting (core_moves w c o))
     moved c None y = tt
     moved c (Some o) y = pairs_move P w c o (λ d. committing-moved (pair w c d) o d (y d) (h c d)) h
 
-    taken : (c e k : ℕ) (x : Option Out) → ((d : ℕ) → IfSome x (λ o. Served d (w.dirs d).serving.serving o))
+    taken : (c e k : ℕ) (x : Option Out) → ((d : ℕ) → IfSome x (λ o. Served d (tid_at w d) o))
         → IfSome x (λ o. KeptCommitting (core_takes w (Dir e) c k o))
     taken c e k None y = tt
     taken c e k (Some o) y = pairs_back P w e c k o (committing-moved (back_taken (pair w c e) k) o e (y e) (h c e))
         (λ d n. committing-moved (pair w c d) o d (y d) (h c d)) h
 
-    dir : (c d k : ℕ) (m : Msg) (s : DirState) (sends : Sends) → in_flight w.net (Core c) (Dir d) k ≡ Some m → Rises (w.dirs d) s sends
+    dir : (c d k : ℕ) (m : Msg) (s : DirState) (sends : Sends) → FromCore w c d k m → Rises (w.dirs d) s sends
         → KeptCommitting (dir_takes w c d k s sends)
     dir c d k m s sends i u = pairs_dir P w c d k s sends (committing-taken (pair w c d) k m s sends (sends (Core c)) i u (h c d))
         (λ j n. committing-answered (pair w j d) s sends (sends (Core j)) u (h j d)) h
 
-    answered : (c d k : ℕ) (m : Msg) → in_flight w.net (Core c) (Dir d) k ≡ Some m → (a : Answer) → RisesBy (w.dirs d) a
+    answered : (c d k : ℕ) (m : Msg) → FromCore w c d k m → (a : Answer) → RisesBy (w.dirs d) a
         → OfAnswer w c d k (λ v. KeptCommitting v) a
     answered c d k m i Waits u = tt
     answered c d k m i Drops u = dir c d k m (w.dirs d) (λ dst. []) i (rises-still (w.dirs d))
@@ -100,14 +99,14 @@ run_from-committing sh p (e ∷ es) h z k = go (step sh p h.world e) (step-kept 
 -- a Commit of a larger TID would be above the served one
 pub of-above : (s t : ℕ) (m : Msg) → s < t → num (passes (Commits t) m) ≤ num (passes (CommitsAbove s) m)
 unfolding passes
-of-above s t m l = grind (arith, nat_tests)
+of-above s t m l = grind nats
 
 ofs-above : (s t : ℕ) (l : Link) → s < t → live (Commits t) l ≤ live (CommitsAbove s) l
 ofs-above s t l h = live-fewer (Commits t) (CommitsAbove s) (λ m. of-above s t m h) l
 
 pub of-resolves : (t : ℕ) (m : Msg) → num (passes (Commits t) m) ≤ num (passes (Resolves t) m)
 unfolding passes
-of-resolves t m = grind (arith, nat_tests)
+of-resolves t m = grind nats
 
 -- a Commit is a word on its TID
 pub ofs-resolve : (t : ℕ) (l : Link) → live (Commits t) l ≤ live (Resolves t) l
@@ -115,19 +114,19 @@ ofs-resolve t l = live-fewer (Commits t) (Resolves t) (of-resolves t) l
 
 pub commits_served : (sh : Shape) (w : World) → Kept sh w → KeptCommitting w → CommitsAreServed sh w
 unfolding handled share part pair
-commits_served sh w z k c d t l x o = go (cases_order (w.dirs d).serving.serving t)
+commits_served sh w z k c d t l x o = go (cases_order (tid_at w d) t)
   where
-    go : ((w.dirs d).serving.serving ≡ t) ⊎ (((w.dirs d).serving.serving < t) ⊎ (t < (w.dirs d).serving.serving))
-        → (w.dirs d).serving.serving ≡ t
+    go : (tid_at w d ≡ t) ⊎ ((tid_at w d < t) ⊎ (t < tid_at w d))
+        → tid_at w d ≡ t
     go (inl e) = e
-    go (inr (inl e)) = absurd (omega (arith, ofs-above (w.dirs d).serving.serving t (w.net (Core c) (Dir d)) e, k c d, o))
+    go (inr (inl e)) = absurd (omega (arith, ofs-above (tid_at w d) t (to_dir w c d) e, k c d, o))
     go (inr (inr e)) =
-        let b : num (nat_lt t (w.dirs d).serving.serving) ≡ 1 = grind (arith, nat_tests) in
+        let b : num (nat_lt t (tid_at w d)) ≡ 1 = grind nats in
         absurd (omega (
           arith,
           z.told.tids.resolved d t x,
           total-le (share (part sh d t) w d) sh.cores c l,
-          ofs-resolve t (w.net (Core c) (Dir d)),
+          ofs-resolve t (to_dir w c d),
           o,
         ))
 
@@ -135,22 +134,19 @@ pub commits_are_served : Always CommitsAreServed
 unfolding run
 commits_are_served sh p entries ram es =
     let first : History = record { world = start entries ram; commits = [] } in
-    go (run_from sh p es first) (run_from-committing sh p es first (start-all sh entries ram) (start-committing entries ram))
-  where
-    go : (x : Option History) → IfSome x (λ r. Kept sh r.world × KeptCommitting r.world) → IfSome x (λ r. CommitsAreServed sh r.world)
-    go None h = tt
-    go (Some r) h = commits_served sh r.world (h.0) (h.1)
+    IfSome_then (run_from sh p es first) (run_from-committing sh p es first (start-all sh entries ram) (start-committing entries ram))
+    (λ r h. commits_served sh r.world (h.0) (h.1))
 
 -- Every event keeps that no invalidation goes to the core that committed.
 
 -- where nothing is owed, no invalidation is in flight
-no-invs : (sh : Shape) (w : World) (d j : ℕ) → KeptTold sh w → (w.dirs d).owed ≡ 0 → live Invs (w.net (Dir d) (Core j)) ≡ 0
+no-invs : (sh : Shape) (w : World) (d j : ℕ) → KeptTold sh w → (w.dirs d).owed ≡ 0 → live Invs (to_core w d j) ≡ 0
 unfolding share due pair
 no-invs sh w d j k z = go (cases_lt j sh.cores)
   where
-    go : (j < sh.cores) ⊎ (sh.cores ≤ j) → live Invs (w.net (Dir d) (Core j)) ≡ 0
+    go : (j < sh.cores) ⊎ (sh.cores ≤ j) → live Invs (to_core w d j) ≡ 0
     go (inl l) = omega (arith, k.owed.owed d, total-le (share due w d) sh.cores j l)
-    go (inr l) = omega (arith, (k.tids.inside j d).back l, invs-few (w.net (Dir d) (Core j)))
+    go (inr l) = omega (arith, (k.tids.inside j d).back l, invs-few (to_core w d j))
 
 -- a core's step sends Commits of the TID that it had
 spared-moved : (sh : Shape) (gs : List Grant) (c d : ℕ) (v : Pair) (o : Out) → CommitsNoted o
@@ -171,43 +167,43 @@ spared-answered sh gs j d v s ms f o = record { owner = o; own = f }
 
 -- what a directory has sent and sends to a core that its served TID was granted to
 spared-back : (sh : Shape) (gs : List Grant) (w : World) (c e k j ack : ℕ) (m : Msg) (s : DirState) (sends : Sends) → IsNumbered 1 gs
-    → SparesCommitter sh gs w → in_flight w.net (Core c) (Dir e) k ≡ Some m
+    → SparesCommitter sh gs w → FromCore w c e k m
     → Due sh e (w.dirs e) ack s sends → SparesOwn (w.dirs e) c m sends
-    → (s.owed ≡ 0 → live Invs (w.net (Dir e) (Core j) ++ sent_all (sends (Core j))) ≡ 0)
+    → (s.owed ≡ 0 → live Invs (to_core w e j ++ sent_all (sends (Core j))) ≡ 0)
     → e < sh.dirs → Contains gs (record { tid = s.serving.serving; core = j })
-    → live Invs (w.net (Dir e) (Core j) ++ sent_all (sends (Core j))) ≡ 0
+    → live Invs (to_core w e j ++ sent_all (sends (Core j))) ≡ 0
 unfolding pair
 spared-back sh gs w c e k j ack m s sends y h i u p z l g = elim (u.served) [ inl q ↦ stays (q.0) | inr q ↦ z q ]
   where
-    taken : passes (Commits (w.dirs e).serving.serving) m ≡ true → 1 ≤ live (Commits (w.dirs e).serving.serving) (w.net (Core c) (Dir e))
-    taken q = let n : num (passes (Commits (w.dirs e).serving.serving) m) ≡ 1 = ap num q in
-        omega (arith, live-takes (Commits (w.dirs e).serving.serving) (w.net (Core c) (Dir e)) k m i)
+    taken : passes (Commits (tid_at w e)) m ≡ true → 1 ≤ live (Commits (tid_at w e)) (to_dir w c e)
+    taken q = let n : num (passes (Commits (tid_at w e)) m) ≡ 1 = ap num q in
+        omega (arith, live-takes (Commits (tid_at w e)) (to_dir w c e) k m i)
 
-    sent : Contains gs (record { tid = (w.dirs e).serving.serving; core = j }) → SparesOwn (w.dirs e) c m sends
+    sent : Contains gs (record { tid = tid_at w e; core = j }) → SparesOwn (w.dirs e) c m sends
         → among Invs (sends (Core j)) ≡ 0
     sent a (inl q) = q j
     sent a (inr q) = let x : c ≡ j =
-        granted-once 1 gs (w.dirs e).serving.serving c j y ((h c e).owner (w.dirs e).serving.serving (taken (q.1))) a in
+        granted-once 1 gs (tid_at w e) c j y ((h c e).owner (tid_at w e) (taken (q.1))) a in
         ap (λ b. among Invs (sends (Core b))) (sym x) ∙ q.0
 
-    stays : s.serving.serving ≡ (w.dirs e).serving.serving → live Invs (w.net (Dir e) (Core j) ++ sent_all (sends (Core j))) ≡ 0
-    stays q = let a : Contains gs (record { tid = (w.dirs e).serving.serving; core = j }) = rw q at g in
-        omega (arith, (h j e).own l a, sent a p, live-sends Invs (w.net (Dir e) (Core j)) (sends (Core j)))
+    stays : s.serving.serving ≡ tid_at w e → live Invs (to_core w e j ++ sent_all (sends (Core j))) ≡ 0
+    stays q = let a : Contains gs (record { tid = tid_at w e; core = j }) = rw q at g in
+        omega (arith, (h j e).own l a, sent a p, live-sends Invs (to_core w e j) (sends (Core j)))
 
 dir-spared : (sh : Shape) (gs : List Grant) (w : World) (c e k : ℕ) (m : Msg) (s : DirState) (sends : Sends) → IsNumbered 1 gs
-    → SparesCommitter sh gs w → KeptTold sh (dir_takes w c e k s sends) → in_flight w.net (Core c) (Dir e) k ≡ Some m
+    → SparesCommitter sh gs w → KeptTold sh (dir_takes w c e k s sends) → FromCore w c e k m
     → Due sh e (w.dirs e) (num (passes Acks m)) s sends → SparesOwn (w.dirs e) c m sends → SparesCommitter sh gs (dir_takes w c e k s sends)
 unfolding dir_takes pair
 dir-spared sh gs w c e k m s sends y h z i u p = pairs_dir (SparedOf sh gs) w c e k s sends
     (spared-answered sh gs c e (out_taken (pair w c e) k) s (sends (Core c)) (back c)
-    (λ t l. (h c e).owner t (omega (arith, live-takes (Commits t) (w.net (Core c) (Dir e)) k m i))))
+    (λ t l. (h c e).owner t (omega (arith, live-takes (Commits t) (to_dir w c e) k m i))))
     (λ j n. spared-answered sh gs j e (pair w j e) s (sends (Core j)) (back j) ((h j e).owner)) h
   where
     v : World
     v = dir_takes w c e k s sends
 
     back : (j : ℕ) → e < sh.dirs → Contains gs (record { tid = s.serving.serving; core = j })
-        → live Invs (w.net (Dir e) (Core j) ++ sent_all (sends (Core j))) ≡ 0
+        → live Invs (to_core w e j ++ sent_all (sends (Core j))) ≡ 0
     back j = spared-back sh gs w c e k j (num (passes Acks m)) m s sends y h i u p
         (λ x. rw (eq-self e) at (no-invs sh v e j z (rw (eq-self e) x)))
 
@@ -222,24 +218,24 @@ asks-spared sh gs w e s sends h z u p =
     v = dir_asks w e s sends
 
     back : (j : ℕ) → e < sh.dirs → Contains gs (record { tid = s.serving.serving; core = j })
-        → live Invs (w.net (Dir e) (Core j) ++ sent_all (sends (Core j))) ≡ 0
+        → live Invs (to_core w e j ++ sent_all (sends (Core j))) ≡ 0
     back j l g = go (u.served)
       where
-        go : ((s.serving.serving ≡ (w.dirs e).serving.serving)
-            × ((j : ℕ) → among (InvsNot (w.dirs e).serving.serving) (sends (Core j)) ≡ 0)) ⊎ (s.owed ≡ 0)
-            → live Invs (w.net (Dir e) (Core j) ++ sent_all (sends (Core j))) ≡ 0
-        go (inl q) = omega (arith, (h j e).own l (rw (q.0) at g), p j, live-sends Invs (w.net (Dir e) (Core j)) (sends (Core j)))
+        go : ((s.serving.serving ≡ tid_at w e)
+            × ((j : ℕ) → among (InvsNot (tid_at w e)) (sends (Core j)) ≡ 0)) ⊎ (s.owed ≡ 0)
+            → live Invs (to_core w e j ++ sent_all (sends (Core j))) ≡ 0
+        go (inl q) = omega (arith, (h j e).own l (rw (q.0) at g), p j, live-sends Invs (to_core w e j) (sends (Core j)))
         go (inr q) = rw (eq-self e) at (no-invs sh v e j z (rw (eq-self e) q))
 
 -- a directory whose TID isn't granted yet is owed nothing
-next-quiet : (sh : Shape) (w : World) (d j : ℕ) → KeptTold sh w → d < sh.dirs → (w.dirs d).serving.serving ≡ w.next
-    → live Invs (w.net (Dir d) (Core j)) ≡ 0
+next-quiet : (sh : Shape) (w : World) (d j : ℕ) → KeptTold sh w → d < sh.dirs → tid_at w d ≡ w.next
+    → live Invs (to_core w d j) ≡ 0
 unfolding handled
 next-quiet sh w d j k l e = go (cases_eq (w.dirs d).owed 0)
   where
-    go : ((w.dirs d).owed ≡ 0) ⊎ ((w.dirs d).owed ≡ 0 → ⊥) → live Invs (w.net (Dir d) (Core j)) ≡ 0
+    go : ((w.dirs d).owed ≡ 0) ⊎ ((w.dirs d).owed ≡ 0 → ⊥) → live Invs (to_core w d j) ≡ 0
     go (inl z) = no-invs sh w d j k z
-    go (inr n) = let r = k.tids.resolved d (w.dirs d).serving.serving l in absurd (grind (arith, nat_tests))
+    go (inr n) = let r = k.tids.resolved d (tid_at w d) l in absurd (grind nats)
 
 vendor-spared : (sh : Shape) (gs : List Grant) (w : World) (c k : ℕ) → SparesCommitter sh gs w → KeptTold sh w
     → SparesCommitter sh (gs ++ record { tid = w.next; core = c } ∷ []) (vendor_gives w c k (given w c))
@@ -247,19 +243,19 @@ unfolding pair
 vendor-spared sh gs w c k h z = pairs_vendor (SparedOf sh (gs ++ g ∷ [])) w c k
     (λ d. record {
       owner = λ t l. Contains-append_left gs (g ∷ []) (record { tid = t; core = c }) ((h c d).owner t l);
-      own = λ l a. own c d l (Contains-append_cases gs (g ∷ []) (record { tid = (w.dirs d).serving.serving; core = c }) a);
+      own = λ l a. own c d l (Contains-append_cases gs (g ∷ []) (record { tid = tid_at w d; core = c }) a);
     })
     (λ j d n. record {
       owner = λ t l. Contains-append_left gs (g ∷ []) (record { tid = t; core = j }) ((h j d).owner t l);
-      own = λ l a. own j d l (Contains-append_cases gs (g ∷ []) (record { tid = (w.dirs d).serving.serving; core = j }) a);
+      own = λ l a. own j d l (Contains-append_cases gs (g ∷ []) (record { tid = tid_at w d; core = j }) a);
     })
   where
     g : Grant
     g = record { tid = w.next; core = c }
 
-    own : (j d : ℕ) → d < sh.dirs → Contains gs (record { tid = (w.dirs d).serving.serving; core = j })
-        ⊎ Contains (g ∷ []) (record { tid = (w.dirs d).serving.serving; core = j }) → live Invs (w.net (Dir d) (Core j)) ≡ 0
-    own j d l a = grind (arith, nat_tests, next-quiet, only-one)
+    own : (j d : ℕ) → d < sh.dirs → Contains gs (record { tid = tid_at w d; core = j })
+        ⊎ Contains (g ∷ []) (record { tid = tid_at w d; core = j }) → live Invs (to_core w d j) ≡ 0
+    own j d l a = grind (nats, next-quiet, only-one)
 
 -- every event, where all else is kept
 core-spared : (sh : Shape) (gs : List Grant) (w : World) (cs : List Noted) (c t : ℕ) (got : ℕ → ℕ) (o : Out) → KeptOwners sh gs w cs
@@ -310,7 +306,7 @@ step-spared sh p gs w cs e z y h = step_cases sh p w e (λ g o. KeptTold sh o.wo
         λ n. rw append-nil (pairs_move (SparedOf sh gs) w c o
         (λ d. spared-moved sh gs c d (pair w c d) o b (λ t l. noted c t o a l) (h c d)) h)
 
-    taken : (c d k : ℕ) (m : Msg) → in_flight w.net (Dir d) (Core c) k ≡ Some m → (x : Option Out)
+    taken : (c d k : ℕ) (m : Msg) → FromDir w d c k m → (x : Option Out)
         → IfSome x (λ o. KeepsHolder c none (w.cores c) o) → IfSome x (λ o. CommitsNoted o)
         → IfSome x (λ o. KeptTold sh (core_takes w (Dir d) c k o) → SparesCommitter sh (gs ++ []) (core_takes w (Dir d) c k o))
     taken c d k m i None a b = tt
@@ -318,11 +314,11 @@ step-spared sh p gs w cs e z y h = step_cases sh p w e (λ g o. KeptTold sh o.wo
         (spared-moved sh gs c d (back_taken (pair w c d) k) o b (λ t l. noted c t o a l)
         (record {
           owner = (h c d).owner;
-          own = λ l g. omega (arith, (h c d).own l g, live-takes Invs (w.net (Dir d) (Core c)) k m i);
+          own = λ l g. omega (arith, (h c d).own l g, live-takes Invs (to_core w d c) k m i);
         }))
         (λ e q. spared-moved sh gs c e (pair w c e) o b (λ t l. noted c t o a l) (h c e)) h)
 
-    answered : (c d k : ℕ) (m : Msg) → in_flight w.net (Core c) (Dir d) k ≡ Some m → (a : Answer)
+    answered : (c d k : ℕ) (m : Msg) → FromCore w c d k m → (a : Answer)
         → DueBy sh d (w.dirs d) (num (passes Acks m)) a → SparesBy (w.dirs d) c m a
         → OfAnswer w c d k (λ v. KeptTold sh v → SparesCommitter sh (gs ++ []) v) a
     answered c d k m i Waits u p = tt

@@ -1,13 +1,16 @@
--- A core sends a Commit only to directories that have reached its TID.
+-- What a core sends as a commit: only to directories that have reached its TID, and of what it notes the commit of.
 use Rattle.theorem_serial.proofs
 use proofs.Names
-use Names.{ℕ, ◌≡◌, ◌<◌, ◌≤◌, true, false, List, IfSome, nat_lt, arith, refl, nat_tests, Program, num, Dir, Msg, Shape, Cache, writes_at}
-use Names.{CoreState, Ready, Link, Out, commit, commit_sends, solo_sends, core_exec, core_evict, grant, from_dir, CommitsAbove, AnyCommit}
-use Names.{among, live, passes, Reached, cases_lt, inl, inr, solo_commit, ◌⊎◌}
-use proofs.Counts.Links.{among-fewer, live-fewer}
+use Names.{ℕ, ◌≡◌, ◌<◌, ◌≤◌, true, false, List, IfSome, nat_lt, arith, refl, Program, num, Dir, Msg, Shape, Cache, writes_at, CoreState}
+use Names.{Ready, Link, Out, commit, commit_sends, solo_sends, core_exec, core_evict, grant, from_dir, CommitsAbove, AnyCommit, among, live}
+use Names.{passes, Reached, cases_lt, inl, inr, solo_commit, ◌⊎◌, nats, ◌==◌, Spilled, noted, solo_marks_or_skip, solo_write_backs, Commits}
+use proofs.Counts.Links.{among-fewer, live-fewer, among-append, among-flat_map_none}
 use proofs.OneCore.Said.{quiet, Empties, Flushes, Silent, Tells_alone, say}
 use proofs.OneCore.Outcomes.{Commits_now, Did, each-exec, out, each-evict, emptied, Ends_alone, Given_none, Granted, Hands_out, Heard}
 use proofs.OneCore.Outcomes.{each-back, each-grant, granted, granted_said, heard, heard-quiet, said}
+use proofs.Tids.CoreProbing.{noted_tid}
+
+-- A core sends a Commit only to directories that have reached its TID.
 
 -- no Commit of a TID above x
 abbrev pub Served : (dir x : ℕ) → Out → Type 0
@@ -15,7 +18,7 @@ Served d x o = among (CommitsAbove x) (o.sends (Dir d)) ≡ 0
 
 above-any : (x : ℕ) (m : Msg) → num (passes (CommitsAbove x) m) ≤ num (passes AnyCommit m)
 unfolding passes
-above-any x m = grind (arith, nat_tests)
+above-any x m = grind nats
 
 few-above : (x : ℕ) (ms : List Msg) → among (CommitsAbove x) ms ≤ among AnyCommit ms
 few-above x ms = among-fewer (CommitsAbove x) AnyCommit (above-any x) ms
@@ -26,7 +29,7 @@ served-free d x o h = omega (arith, few-above x (o.sends (Dir d)))
 served-commit : (sh : Shape) (c : Cache) (t d x : ℕ) → (d < sh.dirs → writes_at sh c d ≡ true → t ≤ x)
     → among (CommitsAbove x) (commit_sends sh c t (Dir d)) ≡ 0
 unfolding commit_sends among passes
-served-commit sh c t d x h = grind (arith, nat_tests)
+served-commit sh c t d x h = grind nats
 
 served-solo : (sh : Shape) (s : CoreState) (t d x : ℕ) → (d < sh.dirs → t ≤ x)
     → among (CommitsAbove x) (say sh s (Tells_alone t) (Dir d)) ≡ 0
@@ -34,9 +37,9 @@ unfolding passes solo_sends among
 served-solo sh s t d x h = go (cases_lt d sh.dirs)
   where
     go : (d < sh.dirs) ⊎ (sh.dirs ≤ d) → among (CommitsAbove x) (say sh s (Tells_alone t) (Dir d)) ≡ 0
-    go (inl l) = quiet sh s (CommitsAbove x) (Tells_alone t) (λ y. let i = h l in let z : nat_lt x t ≡ false = grind (arith, nat_tests) in
+    go (inl l) = quiet sh s (CommitsAbove x) (Tells_alone t) (λ y. let i = h l in let z : nat_lt x t ≡ false = grind nats in
         rw z refl) d
-    go (inr l) = let z : nat_lt d sh.dirs ≡ false = grind (arith, nat_tests) in rw z refl
+    go (inr l) = let z : nat_lt d sh.dirs ≡ false = grind nats in rw z refl
 
 pub served-exec : (sh : Shape) (p : Program) (c d x : ℕ) (s : CoreState) → Reached sh d x s
     → IfSome (core_exec sh p c s) (λ o. Served d x o)
@@ -80,7 +83,52 @@ served-back sh e d x s m = each-back sh e s (λ m o. Served d x o) (λ y. served
 -- fewer Commits are above a larger TID
 above-fewer : (a b : ℕ) (m : Msg) → a ≤ b → num (passes (CommitsAbove b) m) ≤ num (passes (CommitsAbove a) m)
 unfolding passes
-above-fewer a b m l = grind (arith, nat_tests)
+above-fewer a b m l = grind nats
 
 pub fewer-above : (a b : ℕ) (l : Link) → a ≤ b → live (CommitsAbove b) l ≤ live (CommitsAbove a) l
 fewer-above a b l h = live-fewer (CommitsAbove b) (CommitsAbove a) (λ m. above-fewer a b m h) l
+
+-- What a core sends a Commit of is what it notes the commit of.
+
+-- a Commit is sent of no TID but the one noted
+abbrev pub CommitsNoted : Out → Type 0
+CommitsNoted o = (d t : ℕ) → among (Commits t) (o.sends (Dir d)) ≤ noted_tid t o.commit
+
+of-any : (t : ℕ) (m : Msg) → num (passes (Commits t) m) ≤ num (passes AnyCommit m)
+unfolding passes
+of-any t m = grind nats
+
+pub few-of : (t : ℕ) (ms : List Msg) → among (Commits t) ms ≤ among AnyCommit ms
+few-of t ms = among-fewer (Commits t) AnyCommit (of-any t) ms
+
+noted-free : (o : Out) → ((d : ℕ) → among AnyCommit (o.sends (Dir d)) ≡ 0) → CommitsNoted o
+noted-free o h d t = omega (arith, h d, few-of t (o.sends (Dir d)))
+
+of-commit : (sh : Shape) (c : Cache) (u d t : ℕ) → among (Commits t) (commit_sends sh c u (Dir d)) ≤ num (u == t)
+unfolding commit_sends among passes
+of-commit sh c u d t = grind nats
+
+of-solo : (sh : Shape) (c : Cache) (sp : Spilled) (u d t : ℕ) → among (Commits t) (solo_sends sh c sp u (Dir d)) ≤ num (u == t)
+unfolding solo_sends solo_marks_or_skip solo_write_backs among passes
+of-solo sh c sp u d t = grind (nats, among-flat_map_none, among-append)
+
+pub noted-exec : (sh : Shape) (p : Program) (c : ℕ) (s : CoreState) → IfSome (core_exec sh p c s) (λ o. CommitsNoted o)
+unfolding commit solo_commit noted passes
+noted-exec sh p c s = each-exec sh p c s (λ o. CommitsNoted o) go
+  where
+    go : (x : Did sh p c s) → CommitsNoted (out x)
+    go (Ends_alone t l o f q i) = λ d u. of-solo sh s.cache s.spilled t d u
+    go (Commits_now u e) = λ d t. of-commit sh s.cache u d t
+    go x = noted-free (out x) (λ d. quiet sh s AnyCommit (said x) (λ y. refl) d)
+
+pub noted-evict : (sh : Shape) (x y : ℕ) (s : CoreState) → IfSome (core_evict sh x y s) (λ o. CommitsNoted o)
+unfolding passes
+noted-evict sh x y s =
+    each-evict sh x y s (λ o. CommitsNoted o)
+    (λ k q u z. noted-free (emptied sh x y k s) (λ d. quiet sh s AnyCommit (Empties k) (λ y. refl) d))
+
+pub noted-grant : (sh : Shape) (u : ℕ) (s : CoreState) → CommitsNoted (grant sh u s)
+noted-grant sh u s = noted-free (grant sh u s) (λ d. granted-free sh u d s)
+
+pub noted-back : (sh : Shape) (e : ℕ) (s : CoreState) (m : Msg) → IfSome (from_dir sh e s m) (λ o. CommitsNoted o)
+noted-back sh e s m = each-back sh e s (λ m o. CommitsNoted o) (λ y. noted-free (heard y) (λ d. heard-free y d)) m

@@ -2,16 +2,15 @@
 use Rattle.theorem_serial.proofs
 use proofs.Names
 use Names.{ℕ, zero, suc, ◌≡◌, ◌≤◌, ◌%◌, Bool, true, false, List, [], ◌∷◌, ◌++◌, ◌==◌, ◌&&◌, None, IfSome, nat_lt, cond, if◌then◌else◌}
-use Names.{flat_map, arith, refl, nat_tests, flat_map-append, Program, num, those, count_below, Dir, Msg, Fill, Skip, ProbeReply, Mark}
-use Names.{Commit, WriteBack, DataReq, Inv, InvAck, Shape, home, lines, Cache, is_modified, modified_mask, written_lines, Spilled, holds}
+use Names.{flat_map, arith, refl, flat_map-append, Program, num, those, count_below, Dir, Msg, Fill, Skip, ProbeReply, Mark, Commit}
+use Names.{WriteBack, DataReq, Inv, InvAck, Shape, home, lines, Cache, is_modified, modified_mask, written_lines, Spilled, holds}
 use Names.{spilled_mask, spilled_words, CoreState, Phase, AwaitTid, DoomedTid, Overflowing, Sends, to, marks_for, skip_all, probe_all}
 use Names.{abort_written, Out, commit, commit_sends, solo_sends, solo_marks_or_skip, solo_write_backs, solo_writes_at, is_written}
 use Names.{written_mask, core_exec, core_evict, grant, grant_in_phase, grant_sends, from_dir, probe_reply, ignored, fill, data_request}
-use Names.{invalidate, Kind, Acks, MarksAway, AnyResolve, Protocol, among, passes, solo_commit}
+use Names.{invalidate, Kind, Acks, MarksAway, AnyResolve, Protocol, among, passes, solo_commit, nats}
 use proofs.Counts.Links.{among-append, among-flat_map_none}
-use proofs.OneCore.Executes.{Steady, did-steady}
-use proofs.OneCore.CoreSteps.{ignored-steady, fill-steady, data-steady, Hurt, Unhurt, Rolled, Doomed, Aborted, Gave_up, Invalidated}
-use proofs.OneCore.CoreSteps.{invalidate-cases, Replied, Ignored, Probed, Left_alone, reply-cases, steady-emptied}
+use proofs.OneCore.CoreSteps.{Steady, did-steady, ignored-steady, fill-steady, data-steady, Hurt, Unhurt, Rolled, Doomed, Aborted, Gave_up}
+use proofs.OneCore.CoreSteps.{Invalidated, invalidate-cases, Replied, Ignored, Probed, Left_alone, reply-cases, steady-emptied}
 use proofs.OneCore.Outcomes.{Commits_now, Did, each-exec, out, each-evict, emptied, Ends_alone, Ends_run, Room_wanted}
 
 -- no acknowledgement, no mark of a line that is at home elsewhere, and no word on a TID to a directory that the machine
@@ -32,19 +31,19 @@ among-those_none k f p zero h = refl
 among-those_none k f p (suc n) h = rw flat_map-append (rw among-append (omega (arith, among-those_none k f p n h, last (p n) refl)))
   where
     last : (b : Bool) → p n ≡ b → among k (flat_map f (cond b (n ∷ []) [])) ≡ 0
-    last a q = grind (arith, nat_tests, among-append)
+    last a q = grind (nats, among-append)
 
 acks-protocol : (m : Msg) → num (passes Acks m) ≤ num (passes Protocol m)
 unfolding passes
-acks-protocol m = grind (arith, nat_tests)
+acks-protocol m = grind nats
 
 marks-protocol : (n d : ℕ) (m : Msg) → num (passes (MarksAway n d) m) ≤ num (passes Protocol m)
 unfolding passes
-marks-protocol n d m = grind (arith, nat_tests)
+marks-protocol n d m = grind nats
 
 resolves-protocol : (m : Msg) → num (passes AnyResolve m) ≤ num (passes Protocol m)
 unfolding passes
-resolves-protocol m = grind (arith, nat_tests)
+resolves-protocol m = grind nats
 
 clean-quiet : (sh : Shape) (d : ℕ) (ms : List Msg) → among Protocol ms ≡ 0 → Clean sh d ms
 unfolding among
@@ -69,12 +68,12 @@ unfolding among passes
 clean-marks sh d t mask p n h = record {
   acks = among-flat_map_none Acks (λ l. Mark l (mask l) t ∷ []) (λ l. refl) (those p n);
   marks = among-those_none (MarksAway sh.dirs d) (λ l. Mark l (mask l) t ∷ []) p n
-      (λ l q. let e : l % sh.dirs ≡ d = h l q in let b : ((l % sh.dirs) == d) ≡ true = grind (arith, nat_tests) in rw b refl);
+      (λ l q. let e : l % sh.dirs ≡ d = h l q in let b : ((l % sh.dirs) == d) ≡ true = grind nats in rw b refl);
   far = λ x. among-flat_map_none AnyResolve (λ l. Mark l (mask l) t ∷ []) (λ l. refl) (those p n);
 }
 
 at-home : (d h : ℕ) (b : Bool) → ((d == h) && b) ≡ true → h ≡ d
-at-home d h b q = grind (arith, nat_tests)
+at-home d h b q = grind nats
 
 clean-marks_for : (sh : Shape) (c : Cache) (t d : ℕ) → Clean sh d (marks_for sh c t d)
 unfolding marks_for written_lines
@@ -103,33 +102,33 @@ clean-solo sh c sp t d = go (nat_lt d sh.dirs) refl (solo_writes_at sh c sp d)
         ++ solo_write_backs sh sp t d else [])
     go false q b = record { acks = refl; marks = refl; far = λ x. refl }
     go true q false = clean-append sh d (Skip t ∷ []) (solo_write_backs sh sp t d)
-        (record { acks = refl; marks = refl; far = λ x. absurd (grind (arith, nat_tests)) }) (clean-backs sh sp t d)
+        (record { acks = refl; marks = refl; far = λ x. absurd (grind nats) }) (clean-backs sh sp t d)
     go true q true =
         clean-append sh d _ (solo_write_backs sh sp t d)
         (clean-append sh d _ (Commit t (count_below (λ l. d == home sh l && is_written c sp l) (lines sh)) ∷ [])
         (clean-marks sh d t (written_mask c sp) (λ l. d == home sh l && is_written c sp l) (lines sh)
         (λ l q. at-home d (home sh l) (is_written c sp l) q))
-        (record { acks = refl; marks = refl; far = λ x. absurd (grind (arith, nat_tests)) })) (clean-backs sh sp t d)
+        (record { acks = refl; marks = refl; far = λ x. absurd (grind nats) })) (clean-backs sh sp t d)
 
 clean-commit : (sh : Shape) (c : Cache) (t d : ℕ) → Clean sh d (commit_sends sh c t (Dir d))
 unfolding commit_sends among passes
-clean-commit sh c t d = record { acks = grind arith; marks = grind arith; far = λ x. grind (arith, nat_tests) }
+clean-commit sh c t d = record { acks = grind arith; marks = grind arith; far = λ x. grind nats }
 
 clean-abort : (sh : Shape) (c : Cache) (t d : ℕ) → Clean sh d (abort_written sh c t (Dir d))
 unfolding abort_written among passes
-clean-abort sh c t d = record { acks = grind arith; marks = grind arith; far = λ x. grind (arith, nat_tests) }
+clean-abort sh c t d = record { acks = grind arith; marks = grind arith; far = λ x. grind nats }
 
 clean-skip : (sh : Shape) (t d : ℕ) → Clean sh d (skip_all sh t (Dir d))
 unfolding skip_all among passes
-clean-skip sh t d = record { acks = grind arith; marks = grind arith; far = λ x. grind (arith, nat_tests) }
+clean-skip sh t d = record { acks = grind arith; marks = grind arith; far = λ x. grind nats }
 
 clean-probe : (sh : Shape) (t d : ℕ) → Clean sh d (probe_all sh t (Dir d))
 unfolding probe_all among passes
-clean-probe sh t d = record { acks = grind arith; marks = grind arith; far = λ x. grind (arith, nat_tests) }
+clean-probe sh t d = record { acks = grind arith; marks = grind arith; far = λ x. grind nats }
 
 clean-grants : (sh : Shape) (c : Cache) (t d : ℕ) → Clean sh d (grant_sends sh c t (Dir d))
 unfolding grant_sends among passes
-clean-grants sh c t d = record { acks = grind arith; marks = grind arith; far = λ x. grind (arith, nat_tests) }
+clean-grants sh c t d = record { acks = grind arith; marks = grind arith; far = λ x. grind nats }
 
 clean-none : (sh : Shape) (d : ℕ) → Clean sh d []
 unfolding among
@@ -171,7 +170,7 @@ clean-replied sh e u s o (Ignored q n) = rw q (clean-steady sh s (ignored s) (ig
 clean-replied sh e u s o (Probed g f ph ow ca se cm) = rw se (λ d. go d (d == e) refl)
   where
     go : (d : ℕ) (b : Bool) → (d == e) ≡ b → Clean sh d (if b then marks_for sh s.cache u e else [])
-    go d true q = let i : d ≡ e = grind (arith, nat_tests) in rw i (clean-marks_for sh s.cache u e)
+    go d true q = let i : d ≡ e = grind nats in rw i (clean-marks_for sh s.cache u e)
     go d false q = clean-none sh d
 clean-replied sh e u s o (Left_alone g f ph ow mo se cm) = rw se (λ d. clean-none sh d)
 

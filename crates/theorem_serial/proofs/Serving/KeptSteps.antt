@@ -3,23 +3,22 @@ use Rattle.base_lemmas.proofs.Lemmas.{eq-self}
 use Rattle.theorem_serial.proofs
 use proofs.Names
 use Names.{ℕ, ◌+◌, ◌≡◌, ◌<◌, ◌≤◌, ◌%◌, true, false, List, ◌++◌, ◌==◌, Option, Some, None, IfSome, slice_index_or, arith, refl, sym, ◌∙◌}
-use Names.{◌⊎◌, inl, inr, cases_lt, cases_eq, nat_tests, Local, num, no_lines, Core, Dir, Vendor, Msg, TidReq, TidGrant, Fill, ProbeReply}
-use Names.{DataReq, Inv, Shape, home, CoreState, DirState, World, Link, start, dir_start, in_flight, sent_all, Sends, Out, from_dir}
-use Names.{core_moves, core_takes, dir_takes, dir_asks, vendor_gives, Invs, InvsNot, InvsAway, Acks, MarksAway, AnyResolve, Any, live}
-use Names.{among, passes, Pair, pair, after_move, grant_taken, back_taken, after_answer, out_taken, after_grant, after_other_grant, share}
-use Names.{KeptTids, due, OwedAt, AtHomeOf, KeptOwed, Running, core_start, RepliesAbove, Reached, ReachedOf, KeptProbes, [], ◌∷◌, Program}
-use Names.{Serving, Event, core_exec, core_evict, grant, Answer, Waits, Drops, Asks, Takes, dir_deliver, Stepped, step, History, and_noted}
-use Names.{recorded, next_history, and_then, run_from, run, Resolves, handled, KeptTold, Kept}
-use proofs.Counts.Inside.{AnswersInside, dir-inside}
+use Names.{◌⊎◌, inl, inr, cases_lt, cases_eq, Local, num, no_lines, Core, Dir, Vendor, Msg, TidReq, TidGrant, Fill, ProbeReply, DataReq}
+use Names.{Inv, Shape, home, CoreState, DirState, World, Link, start, dir_start, in_flight, sent_all, Sends, Out, from_dir, core_moves}
+use Names.{core_takes, dir_takes, dir_asks, vendor_gives, Invs, InvsNot, InvsAway, Acks, MarksAway, AnyResolve, Any, live, among, passes}
+use Names.{Pair, pair, after_move, grant_taken, back_taken, after_answer, out_taken, after_grant, after_other_grant, share, KeptTids, due}
+use Names.{OwedAt, AtHomeOf, KeptOwed, Running, core_start, RepliesAbove, Reached, ReachedOf, KeptProbes, [], ◌∷◌, Program, Serving, Event}
+use Names.{core_exec, core_evict, grant, Answer, Waits, Drops, Asks, Takes, dir_deliver, Stepped, step, History, and_noted, recorded}
+use Names.{next_history, and_then, run_from, run, Resolves, handled, KeptTold, Kept, nats, tid_at, to_dir, to_core, FromCore, FromDir}
+use Names.{IfSome_then}
+use proofs.Counts.DirOutcome.{AnswersInside, dir-inside}
 use proofs.Counts.Links.{live-sends, live-takes, total-le, total-zero, live-fewer, none-taken}
 use proofs.Counts.StepCases.{differ, given, pairs_move, pairs_grant, pairs_back, pairs_dir, pairs_asks, pairs_vendor, sum_move, sum_grant}
 use proofs.Counts.StepCases.{sum_back, sum_back_away, sum_dir, sum_dir_away, sum_asks_here, sum_asks_away, sum_vendor, OfAnswer, step_cases}
 use proofs.OneCore.CoreProbes.{StaysReached, none-asked, asked-back, asked-exec, asked-evict, asked-grant}
 use proofs.Serving.CoreDue.{Clean, CleanOut, AcksHome, acks-back, clean-exec, clean-evict, clean-grant}
-use proofs.Serving.DirDue.{Due, nots-invs, at-home, DueBy, dir-due, still-due}
-use proofs.Serving.DirProbes.{Rises, fewer-above, RisesBy, dir-rises, rises-still}
-use proofs.Tids.CoreRequests.{KeepsRequests, requests-exec, requests-evict, requests-back}
-use proofs.Tids.CoreTids.{KeepsPart, part-exec, part-evict, part-back}
+use proofs.Serving.DirDue.{Due, nots-invs, at-home, DueBy, dir-due, still-due, Rises, fewer-above, RisesBy, dir-rises, rises-still}
+use proofs.Tids.CoreTids.{KeepsRequests, requests-exec, requests-evict, requests-back, KeepsPart, part-exec, part-evict, part-back}
 use proofs.Tids.DirTids.{HandledBy, OnceAt, dir-handled, skipped-above}
 use proofs.Tids.TidSteps.{move-kept, grant-kept, back-kept, dir-kept, asks-kept, vendor-kept, start-kept, inside_from, any-one, live-some}
 use proofs.Tids.TidSteps.{once-there, no_sends}
@@ -74,8 +73,8 @@ back-clean sh e m o q y = record { here = rw q ((y e).acks); away = λ d n. (y d
 back-inv : (sh : Shape) (e l k u : ℕ) (o : Out) → home sh l ≡ e → ((d : ℕ) → AcksHome sh l d (o.sends (Dir d))) → BackDue sh e (Inv l k u) o
 unfolding passes
 back-inv sh e l k u o q y = record {
-  here = let b : (e == l % sh.dirs) ≡ true = grind (arith, nat_tests) in (y e).acks ∙ rw b refl;
-  away = λ d n. let b : (d == l % sh.dirs) ≡ false = grind (arith, nat_tests) in (y d).acks ∙ rw b refl;
+  here = let b : (e == l % sh.dirs) ≡ true = grind nats in (y e).acks ∙ rw b refl;
+  away = λ d n. let b : (d == l % sh.dirs) ≡ false = grind nats in (y d).acks ∙ rw b refl;
   marks = λ d. (y d).marks;
   far = λ d. (y d).far;
 }
@@ -109,7 +108,7 @@ home-back sh d k m v i h = record {
 }
 
 back-owed : (sh : Shape) (w : World) (e c k : ℕ) (m : Msg) (o : Out) → KeptOwed sh w → c < sh.cores
-    → in_flight w.net (Dir e) (Core c) k ≡ Some m → BackDue sh e m o → KeptOwed sh (core_takes w (Dir e) c k o)
+    → FromDir w e c k m → BackDue sh e m o → KeptOwed sh (core_takes w (Dir e) c k o)
 unfolding core_takes pair
 back-owed sh w e c k m o h l i y = record {
   owed = λ d. owed d (cases_eq d e);
@@ -126,18 +125,15 @@ back-owed sh w e c k m o h l i y = record {
         omega (arith, h.owed e))
 
 -- what is taken from a directory's link is at home there
-pub taken_home : (sh : Shape) (w : World) (e c k : ℕ) (m : Msg) → KeptOwed sh w → in_flight w.net (Dir e) (Core c) k ≡ Some m
+pub taken_home : (sh : Shape) (w : World) (e c k : ℕ) (m : Msg) → KeptOwed sh w → FromDir w e c k m
     → passes (InvsAway sh.dirs e) m ≡ false
 unfolding pair
-taken_home sh w e c k m h i = none-taken (InvsAway sh.dirs e) (w.net (Dir e) (Core c)) k m i ((h.at_home c e).invs)
+taken_home sh w e c k m h i = none-taken (InvsAway sh.dirs e) (to_core w e c) k m i ((h.at_home c e).invs)
 
-pub backs-owed : (sh : Shape) (w : World) (e c k : ℕ) (m : Msg) → KeptOwed sh w → c < sh.cores → in_flight w.net (Dir e) (Core c) k ≡ Some m
+pub backs-owed : (sh : Shape) (w : World) (e c k : ℕ) (m : Msg) → KeptOwed sh w → c < sh.cores → FromDir w e c k m
     → IfSome (from_dir sh e (w.cores c) m) (λ o. KeptOwed sh (core_takes w (Dir e) c k o))
-backs-owed sh w e c k m h l i = go (from_dir sh e (w.cores c) m) (back-due sh e (w.cores c) m (taken_home sh w e c k m h i))
-  where
-    go : (x : Option Out) → IfSome x (λ o. BackDue sh e m o) → IfSome x (λ o. KeptOwed sh (core_takes w (Dir e) c k o))
-    go None y = tt
-    go (Some o) y = back-owed sh w e c k m o h l i y
+backs-owed sh w e c k m h l i = IfSome_then (from_dir sh e (w.cores c) m) (back-due sh e (w.cores c) m (taken_home sh w e c k m h i))
+    (λ o y. back-owed sh w e c k m o h l i y)
 
 -- a directory takes a message
 due-answered : (v : Pair) (k : ℕ) (m : Msg) (s : DirState) (ms : List Msg) → slice_index_or v.out k None ≡ Some m
@@ -154,20 +150,20 @@ nots-few t l = live-fewer (InvsNot t) Invs (nots-invs t) l
 
 invs-any : (m : Msg) → num (passes Invs m) ≤ num (passes Any m)
 unfolding passes
-invs-any m = grind (arith, nat_tests)
+invs-any m = grind nats
 
 pub invs-few : (l : Link) → live Invs l ≤ live Any l
 invs-few l = live-fewer Invs Any invs-any l
 
 -- where nothing is owed, no invalidation is in flight
-none-due : (sh : Shape) (w : World) (d j t : ℕ) → (sh.cores ≤ j → live Any (w.net (Dir d) (Core j)) ≡ 0) → OwedAt sh w d
-    → (w.dirs d).owed ≡ 0 → live (InvsNot t) (w.net (Dir d) (Core j)) ≡ 0
+none-due : (sh : Shape) (w : World) (d j t : ℕ) → (sh.cores ≤ j → live Any (to_core w d j) ≡ 0) → OwedAt sh w d
+    → (w.dirs d).owed ≡ 0 → live (InvsNot t) (to_core w d j) ≡ 0
 unfolding share due pair
 none-due sh w d j t a o z = go (cases_lt j sh.cores)
   where
-    go : (j < sh.cores) ⊎ (sh.cores ≤ j) → live (InvsNot t) (w.net (Dir d) (Core j)) ≡ 0
-    go (inl l) = omega (arith, o, z, total-le (share due w d) sh.cores j l, nots-few t (w.net (Dir d) (Core j)))
-    go (inr l) = omega (arith, a l, invs-few (w.net (Dir d) (Core j)), nots-few t (w.net (Dir d) (Core j)))
+    go : (j < sh.cores) ⊎ (sh.cores ≤ j) → live (InvsNot t) (to_core w d j) ≡ 0
+    go (inl l) = omega (arith, o, z, total-le (share due w d) sh.cores j l, nots-few t (to_core w d j))
+    go (inr l) = omega (arith, a l, invs-few (to_core w d j), nots-few t (to_core w d j))
 
 -- a pair at the directory that answers, unless its served TID has changed
 home-answered : (sh : Shape) (d : ℕ) (v : Pair) (ack : ℕ) (s : DirState) (sends : Sends) (j : ℕ) → Due sh d v.dir ack s sends
@@ -192,7 +188,7 @@ home-taken sh d k m v i h = record {
 }
 
 owed-answered : (sh : Shape) (w : World) (c e k : ℕ) (m : Msg) (s : DirState) (sends : Sends) → OwedAt sh w e → c < sh.cores
-    → in_flight w.net (Core c) (Dir e) k ≡ Some m
+    → FromCore w c e k m
     → Due sh e (w.dirs e) (num (passes Acks m)) s sends → OwedAt sh (dir_takes w c e k s sends) e
 unfolding dir_takes pair
 owed-answered sh w c e k m s sends h l i u =
@@ -201,17 +197,17 @@ owed-answered sh w c e k m s sends h l i u =
     rw (eq-self e) (omega (arith, h, u.owed))
 
 served-back : (sh : Shape) (w : World) (e j ack : ℕ) (s : DirState) (sends : Sends)
-    → live (InvsNot (w.dirs e).serving.serving) (w.net (Dir e) (Core j)) ≡ 0 → Due sh e (w.dirs e) ack s sends
-    → (s.owed ≡ 0 → live (InvsNot s.serving.serving) (w.net (Dir e) (Core j) ++ sent_all (sends (Core j))) ≡ 0)
-    → live (InvsNot s.serving.serving) (w.net (Dir e) (Core j) ++ sent_all (sends (Core j))) ≡ 0
+    → live (InvsNot (tid_at w e)) (to_core w e j) ≡ 0 → Due sh e (w.dirs e) ack s sends
+    → (s.owed ≡ 0 → live (InvsNot s.serving.serving) (to_core w e j ++ sent_all (sends (Core j))) ≡ 0)
+    → live (InvsNot s.serving.serving) (to_core w e j ++ sent_all (sends (Core j))) ≡ 0
 served-back sh w e j ack s sends h u z = go (u.served)
   where
-    go : ((s.serving.serving ≡ (w.dirs e).serving.serving) × ((j : ℕ) → among (InvsNot (w.dirs e).serving.serving) (sends (Core j)) ≡ 0))
-        ⊎ (s.owed ≡ 0) → live (InvsNot s.serving.serving) (w.net (Dir e) (Core j) ++ sent_all (sends (Core j))) ≡ 0
-    go a = grind (arith, nat_tests, live-sends)
+    go : ((s.serving.serving ≡ tid_at w e) × ((j : ℕ) → among (InvsNot (tid_at w e)) (sends (Core j)) ≡ 0))
+        ⊎ (s.owed ≡ 0) → live (InvsNot s.serving.serving) (to_core w e j ++ sent_all (sends (Core j))) ≡ 0
+    go a = grind (nats, live-sends)
 
 pub dir-owed : (sh : Shape) (w : World) (c e k : ℕ) (m : Msg) (s : DirState) (sends : Sends) → KeptOwed sh w
-    → KeptTids sh (dir_takes w c e k s sends) → c < sh.cores → in_flight w.net (Core c) (Dir e) k ≡ Some m
+    → KeptTids sh (dir_takes w c e k s sends) → c < sh.cores → FromCore w c e k m
     → Due sh e (w.dirs e) (num (passes Acks m)) s sends → KeptOwed sh (dir_takes w c e k s sends)
 unfolding dir_takes pair
 dir-owed sh w c e k m s sends h z l i u = record {
@@ -232,7 +228,7 @@ dir-owed sh w c e k m s sends h z l i u = record {
     owed d (inl n) = rw n here
     owed d (inr n) = let p = sum_dir_away due sh.cores w c e k s sends d n in rw (differ d e n) (omega (arith, h.owed d))
 
-    back_of : (j : ℕ) → live (InvsNot s.serving.serving) (w.net (Dir e) (Core j) ++ sent_all (sends (Core j))) ≡ 0
+    back_of : (j : ℕ) → live (InvsNot s.serving.serving) (to_core w e j ++ sent_all (sends (Core j))) ≡ 0
     back_of j = served-back sh w e j (num (passes Acks m)) s sends ((h.at_home j e).served) u
         (λ x. rw (eq-self e) at (none-due sh v e j s.serving.serving ((z.inside j e).back) here (rw (eq-self e) x)))
 
@@ -259,7 +255,7 @@ asks-owed sh w e s sends h z u = record {
     owed d (inl n) = rw n here
     owed d (inr n) = let p = sum_asks_away due sh.cores w e s sends d n in rw (differ d e n) (omega (arith, h.owed d))
 
-    back_of : (j : ℕ) → live (InvsNot s.serving.serving) (w.net (Dir e) (Core j) ++ sent_all (sends (Core j))) ≡ 0
+    back_of : (j : ℕ) → live (InvsNot s.serving.serving) (to_core w e j ++ sent_all (sends (Core j))) ≡ 0
     back_of j = served-back sh w e j 0 s sends ((h.at_home j e).served) u
         (λ x. rw (eq-self e) at (none-due sh v e j s.serving.serving ((z.inside j e).back) here (rw (eq-self e) x)))
 
@@ -298,16 +294,16 @@ start-owed sh entries ram = record {
     none d j = share-start entries ram d j
 
 -- what is known of a message to a directory
-pub marks_home : (sh : Shape) (w : World) (c e k : ℕ) (m : Msg) → KeptOwed sh w → in_flight w.net (Core c) (Dir e) k ≡ Some m
+pub marks_home : (sh : Shape) (w : World) (c e k : ℕ) (m : Msg) → KeptOwed sh w → FromCore w c e k m
     → passes (MarksAway sh.dirs e) m ≡ false
 unfolding pair
-marks_home sh w c e k m h i = none-taken (MarksAway sh.dirs e) (w.net (Core c) (Dir e)) k m i ((h.at_home c e).marks)
+marks_home sh w c e k m h i = none-taken (MarksAway sh.dirs e) (to_dir w c e) k m i ((h.at_home c e).marks)
 
-pub acks_owed : (sh : Shape) (w : World) (c e k : ℕ) (m : Msg) → KeptOwed sh w → c < sh.cores → in_flight w.net (Core c) (Dir e) k ≡ Some m
+pub acks_owed : (sh : Shape) (w : World) (c e k : ℕ) (m : Msg) → KeptOwed sh w → c < sh.cores → FromCore w c e k m
     → num (passes Acks m) ≤ (w.dirs e).owed
 unfolding share due pair
 acks_owed sh w c e k m h l i =
-    omega (arith, h.owed e, total-le (share due w e) sh.cores c l, live-takes Acks (w.net (Core c) (Dir e)) k m i)
+    omega (arith, h.owed e, total-le (share due w e) sh.cores c l, live-takes Acks (to_dir w c e) k m i)
 
 -- Each kind of event keeps what is known of the directories that a core asked.
 
@@ -319,45 +315,45 @@ reached-moved : (sh : Shape) (d : ℕ) (v : Pair) (o : Out) → Reached sh d v.d
     → ReachedOf sh d (after_move v o d)
 reached-moved sh d v o r h = record { core = r; replies = h.replies }
 
-pub move-probes : (sh : Shape) (w : World) (c : ℕ) (o : Out) → KeptProbes sh w → ((d : ℕ) → Reached sh d (w.dirs d).serving.serving o.core)
+pub move-probes : (sh : Shape) (w : World) (c : ℕ) (o : Out) → KeptProbes sh w → ((d : ℕ) → Reached sh d (tid_at w d) o.core)
     → KeptProbes sh (core_moves w c o)
 unfolding pair
 move-probes sh w c o h r = pairs_move (λ c d v. ReachedOf sh d v) w c o (λ d. reached-moved sh d (pair w c d) o (r d) (h c d)) h
 
 pub grant-probes : (sh : Shape) (w : World) (c k : ℕ) (o : Out) → KeptProbes sh w
-    → ((d : ℕ) → Reached sh d (w.dirs d).serving.serving o.core) → KeptProbes sh (core_takes w Vendor c k o)
+    → ((d : ℕ) → Reached sh d (tid_at w d) o.core) → KeptProbes sh (core_takes w Vendor c k o)
 unfolding pair
 grant-probes sh w c k o h r = pairs_grant (λ c d v. ReachedOf sh d v) w c k o
     (λ d. reached-moved sh d (grant_taken (pair w c d) k) o (r d) (record { core = (h c d).core; replies = (h c d).replies })) h
 
-back-probes : (sh : Shape) (w : World) (e c k : ℕ) (m : Msg) (o : Out) → KeptProbes sh w → in_flight w.net (Dir e) (Core c) k ≡ Some m
-    → ((d : ℕ) → Reached sh d (w.dirs d).serving.serving o.core) → KeptProbes sh (core_takes w (Dir e) c k o)
+back-probes : (sh : Shape) (w : World) (e c k : ℕ) (m : Msg) (o : Out) → KeptProbes sh w → FromDir w e c k m
+    → ((d : ℕ) → Reached sh d (tid_at w d) o.core) → KeptProbes sh (core_takes w (Dir e) c k o)
 unfolding pair
 back-probes sh w e c k m o h i r = pairs_back (λ c d v. ReachedOf sh d v) w e c k o
     (record {
       core = r e;
       replies = omega (
         arith,
-        live-takes (RepliesAbove (w.dirs e).serving.serving) (w.net (Dir e) (Core c)) k m i,
+        live-takes (RepliesAbove (tid_at w e)) (to_core w e c) k m i,
         (h c e).replies,
       );
     })
     (λ d n. reached-moved sh d (pair w c d) o (r d) (h c d)) h
 
 -- a reply in flight is of a TID that its directory has reached
-reply-low : (sh : Shape) (w : World) (e c k : ℕ) (m : Msg) → KeptProbes sh w → in_flight w.net (Dir e) (Core c) k ≡ Some m
-    → passes (RepliesAbove (w.dirs e).serving.serving) m ≡ false
+reply-low : (sh : Shape) (w : World) (e c k : ℕ) (m : Msg) → KeptProbes sh w → FromDir w e c k m
+    → passes (RepliesAbove (tid_at w e)) m ≡ false
 unfolding pair
-reply-low sh w e c k m h i = none-taken (RepliesAbove (w.dirs e).serving.serving) (w.net (Dir e) (Core c)) k m i ((h c e).replies)
+reply-low sh w e c k m h i = none-taken (RepliesAbove (tid_at w e)) (to_core w e c) k m i ((h c e).replies)
 
-pub backs-probes : (sh : Shape) (w : World) (e c k : ℕ) (m : Msg) → KeptProbes sh w → in_flight w.net (Dir e) (Core c) k ≡ Some m
+pub backs-probes : (sh : Shape) (w : World) (e c k : ℕ) (m : Msg) → KeptProbes sh w → FromDir w e c k m
     → IfSome (from_dir sh e (w.cores c) m) (λ o. KeptProbes sh (core_takes w (Dir e) c k o))
 unfolding pair
 backs-probes sh w e c k m h i =
     go (from_dir sh e (w.cores c) m)
-    (λ d. asked-back sh e d (w.dirs d).serving.serving (w.cores c) m (λ q. rw q (reply-low sh w e c k m h i)) ((h c d).core))
+    (λ d. asked-back sh e d (tid_at w d) (w.cores c) m (λ q. rw q (reply-low sh w e c k m h i)) ((h c d).core))
   where
-    go : (x : Option Out) → ((d : ℕ) → StaysReached sh d (w.dirs d).serving.serving (w.cores c) x)
+    go : (x : Option Out) → ((d : ℕ) → StaysReached sh d (tid_at w d) (w.cores c) x)
         → IfSome x (λ o. KeptProbes sh (core_takes w (Dir e) c k o))
     go None r = tt
     go (Some o) r = back-probes sh w e c k m o h i r
@@ -405,17 +401,17 @@ unfolding pair
 core_of_grant sh w c k m h i = inside_from sh c (live Any (w.net Vendor (Core c))) ((h.inside c 0).grants)
     (any-one (w.net Vendor (Core c)) k m i)
 
-pub core_of_back : (sh : Shape) (w : World) (c d k : ℕ) (m : Msg) → KeptTids sh w → in_flight w.net (Dir d) (Core c) k ≡ Some m
+pub core_of_back : (sh : Shape) (w : World) (c d k : ℕ) (m : Msg) → KeptTids sh w → FromDir w d c k m
     → c < sh.cores
 unfolding pair
-core_of_back sh w c d k m h i = inside_from sh c (live Any (w.net (Dir d) (Core c))) ((h.inside c d).back)
-    (any-one (w.net (Dir d) (Core c)) k m i)
+core_of_back sh w c d k m h i = inside_from sh c (live Any (to_core w d c)) ((h.inside c d).back)
+    (any-one (to_core w d c) k m i)
 
-pub core_of_out : (sh : Shape) (w : World) (c d k : ℕ) (m : Msg) → KeptTids sh w → in_flight w.net (Core c) (Dir d) k ≡ Some m
+pub core_of_out : (sh : Shape) (w : World) (c d k : ℕ) (m : Msg) → KeptTids sh w → FromCore w c d k m
     → c < sh.cores
 unfolding pair
-core_of_out sh w c d k m h i = inside_from sh c (live Any (w.net (Core c) (Dir d))) ((h.inside c d).out)
-    (any-one (w.net (Core c) (Dir d)) k m i)
+core_of_out sh w c d k m h i = inside_from sh c (live Any (to_dir w c d)) ((h.inside c d).out)
+    (any-one (to_dir w c d) k m i)
 
 pub core_of_ask : (sh : Shape) (w : World) (c k : ℕ) (m : Msg) → KeptTids sh w → in_flight w.net (Core c) Vendor k ≡ Some m → c < sh.cores
 unfolding pair
@@ -424,14 +420,14 @@ core_of_ask sh w c k m h i = inside_from sh c (live Any (w.net (Core c) Vendor))
 
 resolves-any : (t : ℕ) (m : Msg) → num (passes (Resolves t) m) ≤ num (passes AnyResolve m)
 unfolding passes
-resolves-any t m = grind (arith, nat_tests)
+resolves-any t m = grind nats
 
 handled-once : (s : Serving) (owed t : ℕ) → handled s owed t ≤ 1
 unfolding handled
-handled-once s owed t = let a = skipped-above s t in grind (arith, nat_tests)
+handled-once s owed t = let a = skipped-above s t in grind nats
 
 -- what a TID's message tells of it, also at a directory that the machine doesn't have
-pub once_at : (sh : Shape) (w : World) (c d k : ℕ) (m : Msg) → KeptTold sh w → in_flight w.net (Core c) (Dir d) k ≡ Some m
+pub once_at : (sh : Shape) (w : World) (c d k : ℕ) (m : Msg) → KeptTold sh w → FromCore w c d k m
     → OnceAt (w.dirs d) m
 unfolding pair
 once_at sh w c d k m h i t = go (cases_lt d sh.dirs)
@@ -441,7 +437,7 @@ once_at sh w c d k m h i t = go (cases_lt d sh.dirs)
     go (inr l) = omega (
       arith,
       resolves-any t m,
-      live-some AnyResolve (w.net (Core c) (Dir d)) k m i,
+      live-some AnyResolve (to_dir w c d) k m i,
       (h.owed.at_home c d).far l,
       handled-once (w.dirs d).serving (w.dirs d).owed t,
     )
@@ -453,13 +449,13 @@ moves : (sh : Shape) (w : World) (c : ℕ) → KeptTold sh w → c < sh.cores �
 moves sh w c h l None r q y = tt
 moves sh w c h l (Some o) r q y = record { tids = move-kept sh w c o h.tids l r q; owed = move-owed sh w c o h.owed l y }
 
-backs : (sh : Shape) (w : World) (c d k : ℕ) (m : Msg) → KeptTold sh w → in_flight w.net (Dir d) (Core c) k ≡ Some m → (x : Option Out)
+backs : (sh : Shape) (w : World) (c d k : ℕ) (m : Msg) → KeptTold sh w → FromDir w d c k m → (x : Option Out)
     → IfSome x (λ o. KeepsRequests 0 (w.cores c) o) → ((e t : ℕ) → e < sh.dirs → IfSome x (λ o. KeepsPart sh e t 0 (w.cores c) o))
     → IfSome x (λ o. KeptOwed sh (core_takes w (Dir d) c k o)) → IfSome x (λ o. KeptTold sh (core_takes w (Dir d) c k o))
 backs sh w c d k m h i None r q y = tt
 backs sh w c d k m h i (Some o) r q y = record { tids = back-kept sh w d c k m o h.tids i r q; owed = y }
 
-answers : (sh : Shape) (w : World) (c d k : ℕ) (m : Msg) → KeptTold sh w → in_flight w.net (Core c) (Dir d) k ≡ Some m → (a : Answer)
+answers : (sh : Shape) (w : World) (c d k : ℕ) (m : Msg) → KeptTold sh w → FromCore w c d k m → (a : Answer)
     → AnswersInside sh a → ((t : ℕ) → d < sh.dirs → HandledBy (w.dirs d) m t a) → DueBy sh d (w.dirs d) (num (passes Acks m)) a
     → OfAnswer w c d k (λ v. KeptTold sh v) a
 unfolding pair
@@ -503,15 +499,15 @@ step-told sh p w e h = step_cases sh p w e (λ g o. KeptTold sh o.world)
 step-probes : (sh : Shape) (p : Program) (w : World) (e : Event) → KeptProbes sh w → IfSome (step sh p w e) (λ o. KeptProbes sh o.world)
 unfolding pair
 step-probes sh p w e h = step_cases sh p w e (λ g o. KeptProbes sh o.world)
-    (λ c l. moved c (core_exec sh p c (w.cores c)) (λ d. asked-exec sh p c d (w.dirs d).serving.serving (w.cores c) ((h c d).core)))
-    (λ c x y l. moved c (core_evict sh x y (w.cores c)) (λ d. asked-evict sh x y d (w.dirs d).serving.serving (w.cores c) ((h c d).core)))
+    (λ c l. moved c (core_exec sh p c (w.cores c)) (λ d. asked-exec sh p c d (tid_at w d) (w.cores c) ((h c d).core)))
+    (λ c x y l. moved c (core_evict sh x y (w.cores c)) (λ d. asked-evict sh x y d (tid_at w d) (w.cores c) ((h c d).core)))
     (λ c k t i. grant-probes sh w c k (grant sh t (w.cores c)) h
-    (λ d. asked-grant sh t d (w.dirs d).serving.serving (w.cores c) ((h c d).core)))
+    (λ d. asked-grant sh t d (tid_at w d) (w.cores c) ((h c d).core)))
     (λ c d k m i. backs-probes sh w d c k m h i)
     (λ c d k m i. answered c d k (dir_deliver sh (w.dirs d) c m) (dir-rises sh (w.dirs d) c m))
     (λ c k i. vendor-probes sh w c k h)
   where
-    moved : (c : ℕ) (x : Option Out) → ((d : ℕ) → StaysReached sh d (w.dirs d).serving.serving (w.cores c) x)
+    moved : (c : ℕ) (x : Option Out) → ((d : ℕ) → StaysReached sh d (tid_at w d) (w.cores c) x)
         → IfSome x (λ o. KeptProbes sh (core_moves w c o))
     moved c None r = tt
     moved c (Some o) r = move-probes sh w c o h r

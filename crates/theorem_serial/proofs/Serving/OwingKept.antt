@@ -2,16 +2,15 @@
 use Rattle.rules_maps.specs.Words.{put}
 use Rattle.theorem_serial.proofs
 use proofs.Names
-use Names.{ℕ, ◌≡◌, ◌<◌, ◌==◌, ◌&&◌, ◌||◌, Bool, true, false, Option, Some, None, IfSome, nat_lt, if◌then◌else◌, arith, refl, ap₂, nat_tests}
-use Names.{Program, Local, Outcome, any_below, Dir, Event, Msg, Fill, ProbeReply, DataReq, Inv, Shape, writes_at, reads_at, any_below-at}
-use Names.{CoreState, World, Phase, Running, AwaitTid, DoomedTid, Probing, Ready, Overflowing, Solo, start, core_start, Out, commit}
-use Names.{committed_core, phase_after_commit, core_exec, core_evict, from_dir, grant, grant_in_phase, is_probed, probing_or_ready}
-use Names.{all_replied, fill, data_request, invalidate, probe_reply, Answer, Waits, dir_deliver, core_moves, core_takes, dir_takes}
-use Names.{dir_asks, vendor_gives, step, OwingFits, awaits_replies, asks_dir, solo_commit}
+use Names.{ℕ, ◌≡◌, ◌<◌, ◌==◌, ◌&&◌, ◌||◌, Bool, true, false, Option, Some, None, IfSome, nat_lt, if◌then◌else◌, refl, ap₂, Program, Local}
+use Names.{Outcome, any_below, Dir, Event, Msg, Fill, ProbeReply, DataReq, Inv, Shape, writes_at, reads_at, any_below-at, CoreState, World}
+use Names.{Phase, Running, AwaitTid, DoomedTid, Probing, Ready, Overflowing, Solo, start, core_start, Out, commit, committed_core}
+use Names.{phase_after_commit, core_exec, core_evict, from_dir, grant, grant_in_phase, is_probed, probing_or_ready, all_replied, fill}
+use Names.{data_request, invalidate, probe_reply, Answer, Waits, dir_deliver, core_moves, core_takes, dir_takes, dir_asks, vendor_gives}
+use Names.{step, OwingFits, awaits_replies, asks_dir, solo_commit, nats}
 use proofs.OneCore.CoreProbes.{none-below, all-replied}
 use proofs.OneCore.CoreSteps.{reads_at-same, fill-steady, data-steady, Hurt, Unhurt, Rolled, Doomed, Aborted, Gave_up, Invalidated}
-use proofs.OneCore.CoreSteps.{invalidate-cases, Replied, Ignored, Probed, Left_alone, reply-cases, steady-emptied}
-use proofs.OneCore.Executes.{Steady, did-steady}
+use proofs.OneCore.CoreSteps.{invalidate-cases, Replied, Ignored, Probed, Left_alone, reply-cases, steady-emptied, Steady, did-steady}
 use proofs.Counts.StepCases.{OfAnswer, step_cases}
 use proofs.OneCore.Outcomes.{Acts, Commits_now, Did, each-exec, out, each-evict, emptied, writes_at-same, Ends_alone, Ends_run, Room_wanted}
 
@@ -20,7 +19,7 @@ KeptOwing sh w = (c : ℕ) → OwingFits sh (w.cores c)
 
 -- no reply is owed where the core doesn't wait
 idle : (sh : Shape) (s : CoreState) → OwingFits sh s → awaits_replies s.phase ≡ false → (d : ℕ) → s.owing d ≡ false
-idle sh s h n d = grind (arith, nat_tests)
+idle sh s h n d = grind nats
 
 none-owing : (sh : Shape) (r : CoreState) (q : Phase) → r.phase ≡ q → awaits_replies q ≡ false → ((d : ℕ) → r.owing d ≡ false)
     → OwingFits sh r
@@ -57,7 +56,7 @@ steady-owing sh s o y h =
     (reads_at-same sh o.core.cache s.cache d (y.read (not-acts s.phase a)))) h
 
 after-none : (e : Outcome) → awaits_replies (phase_after_commit e) ≡ false
-after-none a = grind (arith, nat_tests)
+after-none a = grind nats
 
 owing-exec : (sh : Shape) (p : Program) (c : ℕ) (s : CoreState) → OwingFits sh s → IfSome (core_exec sh p c s) (λ o. OwingFits sh o.core)
 unfolding commit solo_commit committed_core
@@ -85,7 +84,7 @@ owing-grant sh t s h = go s.phase refl
 
     asks : (d : ℕ) → is_probed sh s.cache d ≡ true → (d < sh.dirs) × ((writes_at sh s.cache d || reads_at sh s.cache d) ≡ true)
     asks d o = let y = both (nat_lt d sh.dirs) (writes_at sh s.cache d || reads_at sh s.cache d) o in let z = y.0 in
-        (grind (arith, nat_tests), y.1)
+        (grind nats, y.1)
 
     probed : (b : Bool) → any_below (is_probed sh s.cache) sh.dirs ≡ b
         → OwingFits sh (record s { owing = is_probed sh s.cache; phase = probing_or_ready b t })
@@ -98,9 +97,9 @@ owing-grant sh t s h = go s.phase refl
 
     every : OwingFits sh (record s { owing = λ d. nat_lt d sh.dirs; phase = Overflowing (Some t) })
     every = record {
-      asked = λ d o. (grind (arith, nat_tests), refl);
+      asked = λ d o. (grind nats, refl);
       waits = λ d o. refl;
-      some = λ a l. any_below-at (λ d. nat_lt d sh.dirs) sh.dirs 0 l (grind (arith, nat_tests));
+      some = λ a l. any_below-at (λ d. nat_lt d sh.dirs) sh.dirs 0 l (grind nats);
     }
 
     go : (q : Phase) → s.phase ≡ q → OwingFits sh (grant_in_phase sh t s q).core
@@ -111,10 +110,10 @@ owing-grant sh t s h = go s.phase refl
 
 -- a directory has replied
 put-true : (f : ℕ → Bool) (e d : ℕ) → put f e false d ≡ true → f d ≡ true
-put-true f e d x = grind (arith, nat_tests)
+put-true f e d x = grind nats
 
 not-all : (sh : Shape) (f : ℕ → Bool) → all_replied sh f ≡ false → any_below f sh.dirs ≡ true
-not-all sh f q = grind (arith, nat_tests)
+not-all sh f q = grind nats
 
 one-less : (sh : Shape) (e : ℕ) (s r : CoreState) (goes wait : Phase)
     → r.phase ≡ (if all_replied sh (put s.owing e false) then goes else wait) → r.owing ≡ put s.owing e false → awaits_replies goes ≡ false

@@ -4,18 +4,18 @@ use proofs.Names
 use Names.{Contains-append_right, Contains-append_cases, Contains-append_left, after_other_grant, slice_index_or, length-append}
 use Names.{waits_for_tid, append_assoc, vendor_start, vendor_gives, next_history, dir_deliver, grant_taken, after_grant, then_grants}
 use Names.{grants_from, LastGranted, append-nil, core_start, core_evict, core_moves, core_takes, after_move, granted_by, IsNumbered}
-use Names.{AreGranted, KeptOwners, nat_tests, in_flight, core_exec, dir_takes, and_noted, RequestOf, Contains, cases_eq, TidGrant, DirState}
-use Names.{from_dir, dir_asks, recorded, and_then, run_from, KeptTids, IsRising, AnyGrant, Program, Stepped, History, has_tid, AsksTid}
-use Names.{Option, IfSome, nat_le, Vendor, TidReq, Answer, Grants, passes, sum_of, holder, false, arith, subst, Noted, Local, Event, Shape}
-use Names.{World, start, Sends, grant, Waits, Drops, Takes, among, share, Grant, times, Phase, ◌==◌, List, ◌++◌, Some, None, refl, Core}
-use Names.{Asks, step, live, Pair, pair, Kept, Bool, true, Link, ◌+◌, ◌≡◌, ◌<◌, ◌≤◌, ◌∷◌, sym, ◌∙◌, ◌⊎◌, inl, inr, num, Dir, Out, run, Msg}
-use Names.{[], ap, ℕ}
+use Names.{AreGranted, KeptOwners, in_flight, core_exec, dir_takes, and_noted, RequestOf, Contains, cases_eq, TidGrant, DirState, from_dir}
+use Names.{dir_asks, recorded, and_then, run_from, KeptTids, IsRising, AnyGrant, Program, Stepped, History, has_tid, AsksTid, Option}
+use Names.{IfSome, nat_le, Vendor, TidReq, Answer, Grants, passes, sum_of, holder, false, arith, subst, Noted, Local, Event, Shape, World}
+use Names.{start, Sends, grant, Waits, Drops, Takes, among, share, Grant, times, Phase, ◌==◌, List, ◌++◌, Some, None, refl, Core, Asks}
+use Names.{step, live, Pair, pair, Kept, Bool, true, Link, ◌+◌, ◌≡◌, ◌<◌, ◌≤◌, ◌∷◌, sym, ◌∙◌, ◌⊎◌, inl, inr, num, Dir, Out, run, Msg, []}
+use Names.{ap, ℕ, nats}
 use proofs.Counts.Links.{live-sends, live-takes, total-le, total-zero, total-same, live-fewer}
 use proofs.Counts.StepCases.{OfAnswer, step_cases, given, pairs_move, pairs_grant, pairs_back, pairs_vendor, sum_move, sum_grant, sum_back}
 use proofs.Counts.StepCases.{sum_back_away, sum_vendor, pairs_dir, pairs_asks}
 use proofs.Serving.KeptSteps.{core_of_grant, core_of_back, core_of_ask, step-kept, start-all}
 use proofs.Tids.Commits.{times-insert, insert-rising, insert-granted, granted-more, numbered-more, numbered-least, numbered-most, only-one}
-use proofs.Tids.CoreOwners.{KeepsHolder, noted_tid, none, holder-exec, holder-evict, holder-grant, holder-back}
+use proofs.Tids.CoreProbing.{KeepsHolder, noted_tid, none, holder-exec, holder-evict, holder-grant, holder-back}
 
 -- a core's part after its step
 pub holder-moved : (v : Pair) (o : Out) (d t c : ℕ) → KeepsHolder c none v.core o
@@ -30,7 +30,7 @@ holder-granted v o d t c k u e h = omega (arith, h.holds t, live-takes (Grants t
 
 -- the commits after a step of core c
 pub times-noted : (t : ℕ) (n : Option Noted) (cs : List Noted) → times t (and_noted n cs) ≡ times t cs + noted_tid t n
-times-noted t a cs = grind (arith, nat_tests, times-insert)
+times-noted t a cs = grind (nats, times-insert)
 
 commits_after : (sh : Shape) (gs : List Grant) (w : World) (cs : List Noted) (c : ℕ) (n : Option Noted) → KeptOwners sh gs w cs
     → c < sh.cores
@@ -39,7 +39,7 @@ commits_after : (sh : Shape) (gs : List Grant) (w : World) (cs : List Noted) (c 
 unfolding share
 commits_after sh gs w cs c None k l h o = (k.granted, k.rising)
 commits_after sh gs w cs c (Some n) k l h o =
-    let one : num (n.tid.0 == n.tid.0) ≡ 1 = grind (arith, nat_tests) in
+    let one : num (n.tid.0 == n.tid.0) ≡ 1 = grind nats in
     let mine : 1 ≤ holder n.tid.0 (pair w c 0) = omega (arith, h n.tid.0) in
     let has : Contains gs (record { tid = n.tid.0; core = c }) = k.held c 0 n.tid.0 mine in
     let least : 1 ≤ n.tid.0 = numbered-least 1 gs (record { tid = n.tid.0; core = c }) (k.numbered) has in
@@ -156,7 +156,7 @@ unfolding vendor_gives pair
 vendor-owners sh gs w cs c k h l = record {
   once = λ t. let s = sum_vendor (holder t) sh.cores w c k 0 0 (num (w.next == t)) l (holder-given (pair w c 0) k t)
       (λ j n. other t (pair w j 0)) in let b : num (nat_le w.next t) ≡ num (nat_le (w.next + 1) t) + num (w.next == t) =
-      grind (arith, nat_tests) in omega (arith, h.once t);
+      grind nats in omega (arith, h.once t);
   held = pairs_vendor (HeldBy (gs ++ g ∷ [])) w c k (λ d t x. own d t x (cases_eq w.next t))
       (λ j d n t x. Contains-append_left gs (g ∷ []) (record { tid = t; core = j }) (h.held j d t (rw (sym (other t (pair w j d))) x)));
   numbered = numbered-more 1 gs g (h.numbered) (omega (arith, h.next));
@@ -174,7 +174,7 @@ vendor-owners sh gs w cs c k h l = record {
     own : (d t : ℕ) → 1 ≤ holder t (after_grant (pair w c d) k) → (w.next ≡ t) ⊎ (w.next ≡ t → ⊥)
         → Contains (gs ++ g ∷ []) (record { tid = t; core = c })
     own d t x (inl q) = rw (sym q) (Contains-append_right gs (g ∷ []) g (0, omega arith, refl))
-    own d t x (inr q) = let z : num (w.next == t) ≡ 0 = let b : (w.next == t) ≡ false = grind (arith, nat_tests) in rw b refl in
+    own d t x (inr q) = let z : num (w.next == t) ≡ 0 = let b : (w.next == t) ≡ false = grind nats in rw b refl in
         Contains-append_left gs (g ∷ []) (record { tid = t; core = c }) (h.held c d t (omega (arith, holder-given (pair w c d) k t, x, z)))
 
 share-start : (entries : ℕ → Local) (ram : ℕ → ℕ) (t j : ℕ) → share (holder t) (start entries ram) 0 j ≡ 0
@@ -185,7 +185,7 @@ pub start-owners : (sh : Shape) (entries : ℕ → Local) (ram : ℕ → ℕ) �
 unfolding start vendor_start pair core_start live holder has_tid IsNumbered IsRising AreGranted times
 start-owners sh entries ram = record {
   once = λ t. let z = total-zero (share (holder t) (start entries ram) 0) sh.cores (λ j l. share-start entries ram t j) in
-      let b : num (nat_le 1 t) ≤ 1 = grind (arith, nat_tests) in omega arith;
+      let b : num (nat_le 1 t) ≤ 1 = grind nats in omega arith;
   held = λ c d t l. absurd (omega arith);
   numbered = tt;
   next = refl;
@@ -261,11 +261,11 @@ LastOf gs c d v = (t u : ℕ) → 1 ≤ holder t v → Contains gs (record { tid
 -- a core that waits has no TID
 waits-none : (q : Phase) (t : ℕ) → waits_for_tid q ≡ true → has_tid q t ≡ false
 unfolding waits_for_tid has_tid
-waits-none a t h = grind (arith, nat_tests)
+waits-none a t h = grind nats
 
 grants-any : (t : ℕ) (m : Msg) → num (passes (Grants t) m) ≤ num (passes AnyGrant m)
 unfolding passes
-grants-any t m = grind (arith, nat_tests)
+grants-any t m = grind nats
 
 pub grant-any : (t : ℕ) (l : Link) → live (Grants t) l ≤ live AnyGrant l
 grant-any t l = live-fewer (Grants t) AnyGrant (grants-any t) l
@@ -327,7 +327,7 @@ step-last sh p gs w cs e z y h = step_cases sh p w e (λ g o. LastGranted (gs ++
 
         one : (w.next ≡ t) ⊎ (w.next ≡ t → ⊥) → Contains gs (record { tid = x; core = c })
             ⊎ Contains (g c ∷ []) (record { tid = x; core = c }) → x ≤ t
-        one (inr a) m = let b : num (w.next == t) ≡ 0 = let f : (w.next == t) ≡ false = grind (arith, nat_tests) in ap num f in
+        one (inr a) m = let b : num (w.next == t) ≡ 0 = let f : (w.next == t) ≡ false = grind nats in ap num f in
             absurd (omega (arith, holder-given (pair w c d) k t, z0, q))
         one (inl a) (inl m) = omega (arith, numbered-most 1 gs (record { tid = x; core = c }) (y.numbered) m, y.next)
         one (inl a) (inr m) = let f : w.next ≡ x = ap (λ r. r.tid) (only-one (g c) (record { tid = x; core = c }) m) in omega arith

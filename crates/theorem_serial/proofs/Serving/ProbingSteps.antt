@@ -4,16 +4,16 @@ use Rattle.theorem_serial.proofs
 use proofs.Names
 use Names.{Contains-append_left, after_other_grant, slice_index_or, if◌then◌else◌, data_request, after_answer, probe_reply, dir_deliver}
 use Names.{Overflowing, all_replied, grant_taken, after_grant, append-nil, ProbeReply, core_evict, invalidate, core_moves, core_takes}
-use Names.{granted_by, KeptOwners, after_move, back_taken, nat_tests, CoreState, in_flight, core_exec, marks_for, dir_takes, out_taken}
-use Names.{KeptCores, Contains, cases_eq, TidGrant, sent_all, from_dir, DirState, Program, DataReq, ignored, Replies, Probing, has_tid}
-use Names.{OneCore, Option, IfSome, Vendor, Answer, Grants, Probes, passes, holder, nat_le, arith, Noted, Local, Event, Shape, World, start}
-use Names.{grant, Waits, Drops, Takes, among, Grant, false, subst, Phase, Ready, Sends, ◌==◌, List, ◌++◌, Some, None, refl, Core, Fill}
-use Names.{fill, Asks, step, live, Kept, Pair, pair, Bool, true, Solo, ◌+◌, ◌≡◌, ◌≤◌, ◌∷◌, sym, ◌⊎◌, inl, inr, num, Dir, Msg, Inv, Out, ◌∙◌}
-use Names.{put, [], ap, ℕ}
+use Names.{granted_by, KeptOwners, after_move, back_taken, CoreState, in_flight, core_exec, marks_for, dir_takes, out_taken, KeptCores}
+use Names.{Contains, cases_eq, TidGrant, sent_all, from_dir, DirState, Program, DataReq, ignored, Replies, Probing, has_tid, OneCore}
+use Names.{Option, IfSome, Vendor, Answer, Grants, Probes, passes, holder, nat_le, arith, Noted, Local, Event, Shape, World, start, grant}
+use Names.{Waits, Drops, Takes, among, Grant, false, subst, Phase, Ready, Sends, ◌==◌, List, ◌++◌, Some, None, refl, Core, Fill, fill, Asks}
+use Names.{step, live, Kept, Pair, pair, Bool, true, Solo, ◌+◌, ◌≡◌, ◌≤◌, ◌∷◌, sym, ◌⊎◌, inl, inr, num, Dir, Msg, Inv, Out, ◌∙◌, put, []}
+use Names.{ap, ℕ, nats, to_dir, to_core, FromCore, FromDir}
 use proofs.Counts.Links.{live-sends, live-takes}
 use proofs.Counts.StepCases.{pairs_move, pairs_grant, pairs_back, pairs_dir, pairs_asks, pairs_vendor, OfAnswer, step_cases}
 use proofs.OneCore.CoreSteps.{fill-steady, data-steady, invalidate-cases, Replied, Ignored, Probed, Left_alone, reply-cases}
-use proofs.Serving.DirProbing.{RepliesBy, dir-replies, none-replied, Replying}
+use proofs.Serving.DirDue.{RepliesBy, dir-replies, none-replied, Replying}
 use proofs.Serving.KeptSteps.{core_of_grant}
 use proofs.Serving.OwnerSteps.{grant-alone}
 use proofs.Tids.CoreProbing.{Unprobed, unprobed-steady, unprobed-exec, unprobed-evict, unprobed-hurt, granted, none-marks, none-to, Granted}
@@ -57,7 +57,7 @@ taken-granted : (sh : Shape) (gs : List Grant) (w : World) (cs : List Noted) (c 
     → in_flight w.net Vendor (Core c) k ≡ Some (TidGrant u) → Contains gs (record { tid = u; core = c })
 unfolding holder pair passes
 taken-granted sh gs w cs c k u y i =
-    y.held c 0 u (let n : num (u == u) ≡ 1 = grind (arith, nat_tests) in
+    y.held c 0 u (let n : num (u == u) ≡ 1 = grind nats in
     omega (arith, n, live-some (Grants u) (w.net Vendor (Core c)) k (TidGrant u) i))
 
 pub step-probed : (sh : Shape) (p : Program) (gs : List Grant) (w : World) (cs : List Noted) (e : Event) → Kept sh w → KeptOwners sh gs w cs
@@ -80,14 +80,14 @@ step-probed sh p gs w cs e z y h = step_cases sh p w e (λ g o. KeptProbed (gs +
     more c j t q = Contains-append_left gs (record { tid = w.next; core = c } ∷ []) (record { tid = t; core = j }) q
 
     mine : (c d k u t : ℕ) → in_flight w.net Vendor (Core c) k ≡ Some (TidGrant u)
-        → 1 ≤ live (Probes t) (w.net (Core c) (Dir d) ++ sent_all ((grant sh u (w.cores c)).sends (Dir d))) + live (Replies t)
-        (w.net (Dir d) (Core c)) → (u ≡ t) ⊎ (u ≡ t → ⊥) → Contains gs (record { tid = t; core = c })
+        → 1 ≤ live (Probes t) (to_dir w c d ++ sent_all ((grant sh u (w.cores c)).sends (Dir d))) + live (Replies t)
+        (to_core w d c) → (u ≡ t) ⊎ (u ≡ t → ⊥) → Contains gs (record { tid = t; core = c })
     mine c d k u t i x (inl q) = rw (sym q) (taken-granted sh gs w cs c k u y i)
     mine c d k u t i x (inr q) =
         h c d t (omega (
           arith,
           x,
-          live-sends (Probes t) (w.net (Core c) (Dir d)) ((grant sh u (w.cores c)).sends (Dir d)),
+          live-sends (Probes t) (to_dir w c d) ((grant sh u (w.cores c)).sends (Dir d)),
           (granted sh u (w.cores c) (granted_waits (pair w c d) k u i (z.told.tids.requests c d))).sent d t q,
         ))
 
@@ -95,9 +95,9 @@ step-probed sh p gs w cs e z y h = step_cases sh p w e (λ g o. KeptProbed (gs +
     moved c None a = tt
     moved c (Some o) a =
         rw append-nil (pairs_move P w c o
-        (λ d t x. h c d t (omega (arith, x, a.sent d t, live-sends (Probes t) (w.net (Core c) (Dir d)) (o.sends (Dir d))))) h)
+        (λ d t x. h c d t (omega (arith, x, a.sent d t, live-sends (Probes t) (to_dir w c d) (o.sends (Dir d))))) h)
 
-    taken : (c d k : ℕ) (m : Msg) → in_flight w.net (Dir d) (Core c) k ≡ Some m → (x : Option Out) → IfSome x (λ o. Quiet o)
+    taken : (c d k : ℕ) (m : Msg) → FromDir w d c k m → (x : Option Out) → IfSome x (λ o. Quiet o)
         → IfSome x (λ o. KeptProbed (gs ++ []) (core_takes w (Dir d) c k o))
     taken c d k m i None a = tt
     taken c d k m i (Some o) a = rw append-nil (pairs_back P w d c k o
@@ -105,12 +105,12 @@ step-probed sh p gs w cs e z y h = step_cases sh p w e (λ g o. KeptProbed (gs +
           arith,
           x,
           a d t,
-          live-sends (Probes t) (w.net (Core c) (Dir d)) (o.sends (Dir d)),
-          live-takes (Replies t) (w.net (Dir d) (Core c)) k m i,
+          live-sends (Probes t) (to_dir w c d) (o.sends (Dir d)),
+          live-takes (Replies t) (to_core w d c) k m i,
         )))
-        (λ b n t x. h c b t (omega (arith, x, a b t, live-sends (Probes t) (w.net (Core c) (Dir b)) (o.sends (Dir b))))) h)
+        (λ b n t x. h c b t (omega (arith, x, a b t, live-sends (Probes t) (to_dir w c b) (o.sends (Dir b))))) h)
 
-    answered : (c d k : ℕ) (m : Msg) → in_flight w.net (Core c) (Dir d) k ≡ Some m → (a : Answer) → RepliesBy m c a
+    answered : (c d k : ℕ) (m : Msg) → FromCore w c d k m → (a : Answer) → RepliesBy m c a
         → OfAnswer w c d k (λ v. KeptProbed (gs ++ []) v) a
     answered c d k m i Waits u = tt
     answered c d k m i Drops u = rw append-nil (pairs_dir P w c d k (w.dirs d) (λ dst. [])
@@ -118,22 +118,22 @@ step-probed sh p gs w cs e z y h = step_cases sh p w e (λ g o. KeptProbed (gs +
           arith,
           x,
           none-replied t,
-          live-takes (Probes t) (w.net (Core c) (Dir d)) k m i,
-          live-sends (Replies t) (w.net (Dir d) (Core c)) [],
+          live-takes (Probes t) (to_dir w c d) k m i,
+          live-sends (Replies t) (to_core w d c) [],
         )))
-        (λ j n t x. h j d t (omega (arith, x, none-replied t, live-sends (Replies t) (w.net (Dir d) (Core j)) []))) h)
+        (λ j n t x. h j d t (omega (arith, x, none-replied t, live-sends (Replies t) (to_core w d j) []))) h)
     answered c d k m i (Asks s sends) u =
         rw append-nil (pairs_asks P w d s sends
-        (λ j t x. h j d t (omega (arith, x, u j t, live-sends (Replies t) (w.net (Dir d) (Core j)) (sends (Core j))))) h)
+        (λ j t x. h j d t (omega (arith, x, u j t, live-sends (Replies t) (to_core w d j) (sends (Core j))))) h)
     answered c d k m i (Takes s sends) u = rw append-nil (pairs_dir P w c d k s sends
         (λ t x. h c d t (omega (
           arith,
           x,
           u.own t,
-          live-takes (Probes t) (w.net (Core c) (Dir d)) k m i,
-          live-sends (Replies t) (w.net (Dir d) (Core c)) (sends (Core c)),
+          live-takes (Probes t) (to_dir w c d) k m i,
+          live-sends (Replies t) (to_core w d c) (sends (Core c)),
         )))
-        (λ j n t x. h j d t (omega (arith, x, u.others j t n, live-sends (Replies t) (w.net (Dir d) (Core j)) (sends (Core j))))) h)
+        (λ j n t x. h j d t (omega (arith, x, u.others j t n, live-sends (Replies t) (to_core w d j) (sends (Core j))))) h)
 
 pub start-probed : (entries : ℕ → Local) (ram : ℕ → ℕ) → KeptProbed [] (start entries ram)
 unfolding start pair live
@@ -178,7 +178,7 @@ probing-granted v o d t k u i one y hu h = go (cases_eq u t)
 -- a core takes a reply
 has-one : (b : Bool) (x y : Phase) (u t : ℕ) → has_tid x t ≡ (u == t) → has_tid y t ≡ (u == t) → has_tid (if b then x else y) t ≡ true
     → u ≡ t
-has-one a x y u t e f h = grind (arith, nat_tests)
+has-one a x y u t e f h = grind nats
 
 -- no directory owes a reply to a core that has the TID without waiting
 abbrev Idle : (dir tid : ℕ) → CoreState → Type 0
@@ -227,19 +227,19 @@ record Counts (e u : ℕ) (s : CoreState) (o : Out) : Type 0 where
   away : (d t : ℕ) → (d ≡ e → ⊥) → has_tid o.core.phase t ≡ true → (has_tid s.phase t ≡ true) × (o.core.owing d ≡ s.owing d)
 
 put-here : (f : ℕ → Bool) (e : ℕ) → num (put f e false e) ≡ 0
-put-here f e = let b : (e == e) ≡ true = grind (arith, nat_tests) in rw b refl
+put-here f e = let b : (e == e) ≡ true = grind nats in rw b refl
 
 put-away : (f : ℕ → Bool) (e d : ℕ) → (d ≡ e → ⊥) → put f e false d ≡ f d
-put-away f e d n = let b : (d == e) ≡ false = grind (arith, nat_tests) in rw b refl
+put-away f e d n = let b : (d == e) ≡ false = grind nats in rw b refl
 
 one-less : (s : CoreState) (o : Out) (e u : ℕ) (x y : Phase) (b : Bool) → o.core.phase ≡ (if b then x else y)
     → o.core.owing ≡ put s.owing e false → s.owing e ≡ true → ((t : ℕ) → has_tid x t ≡ (u == t)) → ((t : ℕ) → has_tid y t ≡ (u == t))
     → ((t : ℕ) → has_tid s.phase t ≡ (u == t)) → ((d t : ℕ) → among (Probes t) (o.sends (Dir d)) ≡ 0) → Counts e u s o
 one-less s o e u x y b p w f hx hy hs n = record {
   sent = n;
-  here = λ t k. let q : u ≡ t = has-one b x y u t (hx t) (hy t) (rw p at k) in let r : (u == t) ≡ true = grind (arith, nat_tests) in
+  here = λ t k. let q : u ≡ t = has-one b x y u t (hx t) (hy t) (rw p at k) in let r : (u == t) ≡ true = grind nats in
       (hs t ∙ r, inl (rw (f, w) (omega (arith, put-here s.owing e, ap num r))));
-  away = λ d t m k. let q : u ≡ t = has-one b x y u t (hx t) (hy t) (rw p at k) in let r : (u == t) ≡ true = grind (arith, nat_tests) in
+  away = λ d t m k. let q : u ≡ t = has-one b x y u t (hx t) (hy t) (rw p at k) in let r : (u == t) ≡ true = grind nats in
       (hs t ∙ r, ap (λ g. g d) w ∙ put-away s.owing e d m);
 }
 
@@ -253,7 +253,7 @@ counts sh e u s o idle (Ignored q n) = rw q (record {
   where
     still : (t : ℕ) → has_tid s.phase t ≡ true → (u ≡ t) ⊎ (u ≡ t → ⊥) → ((s.phase ≡ Probing t) ⊎ (s.phase ≡ Overflowing (Some t)))
         ⊎ (s.owing e ≡ false) → (num (s.owing e) ≡ num (s.owing e) + num (u == t)) ⊎ ((u ≡ t) × (s.owing e ≡ false))
-    still t k (inr m) z = let b : (u == t) ≡ false = grind (arith, nat_tests) in inl (rw b (omega arith))
+    still t k (inr m) z = let b : (u == t) ≡ false = grind nats in inl (rw b (omega arith))
     still t k (inl i) (inr z) = inr (i, z)
     still t k (inl i) (inl z) = inr (i, n (subst (λ y. (s.phase ≡ Probing y) ⊎ (s.phase ≡ Overflowing (Some y))) (sym i) z))
 counts sh e u s o idle (Probed g f ph ow ca se cm) = one-less s o e u (Ready u) (Probing u) (all_replied sh (put s.owing e false)) ph ow f
@@ -268,7 +268,7 @@ unfolding passes
 probing-replied v o e k u x t i y h = probing-taken v o e k u x t i (y.sent) (λ z. let w = y.here t z in (w.0, here (w.0) (w.1))) h
   where
     some : (u ≡ t) → 1 ≤ live (Replies t) v.back
-    some q = let r : num (u == t) ≡ 1 = let b : (u == t) ≡ true = grind (arith, nat_tests) in rw b refl in
+    some q = let r : num (u == t) ≡ 1 = let b : (u == t) ≡ true = grind nats in rw b refl in
         omega (arith, live-takes (Replies t) v.back k (ProbeReply u x) i)
 
     here : has_tid v.core.phase t ≡ true → (num (v.core.owing e) ≡ num (o.core.owing e) + num (u == t))
@@ -282,7 +282,7 @@ unfolding has_tid
 idle_of sh s e t h k = go s.phase refl k
   where
     same : (u : ℕ) → (u == t) ≡ true → u ≡ t
-    same u q = grind (arith, nat_tests)
+    same u q = grind nats
 
     go : (q : Phase) → s.phase ≡ q → has_tid q t ≡ true → ((s.phase ≡ Probing t) ⊎ (s.phase ≡ Overflowing (Some t))) ⊎ (s.owing e ≡ false)
     go (Probing u) g x = inl (inl (g ∙ ap Probing (same u x)))
@@ -310,14 +310,14 @@ probing-exchanged v s ms d t k m i n h = record {
 probing-given : (v : Pair) (k d t : ℕ) → ProbingOf d t v → ProbingOf d t (after_grant v k)
 unfolding passes among
 probing-given v k d t h = record {
-  fresh = λ l. h.fresh (let b : num (nat_le v.next t) ≡ num (nat_le (v.next + 1) t) + num (v.next == t) = grind (arith, nat_tests) in
+  fresh = λ l. h.fresh (let b : num (nat_le v.next t) ≡ num (nat_le (v.next + 1) t) + num (v.next == t) = grind nats in
       omega (arith, live-sends (Grants t) v.grants (TidGrant v.next ∷ [])));
   held = h.held;
 }
 
 probing-next : (v : Pair) (d t : ℕ) → ProbingOf d t v → ProbingOf d t (after_other_grant v)
 probing-next v d t h = record {
-  fresh = λ l. h.fresh (let b : num (nat_le (v.next + 1) t) ≤ num (nat_le v.next t) = grind (arith, nat_tests) in omega arith);
+  fresh = λ l. h.fresh (let b : num (nat_le (v.next + 1) t) ≤ num (nat_le v.next t) = grind nats in omega arith);
   held = h.held;
 }
 
@@ -362,13 +362,13 @@ step-probing sh p gs w cs e z y x h = step_cases sh p w e (λ g o. KeptProbing o
     moved c None u = tt
     moved c (Some o) u = pairs_move P w c o (λ d t. probing-moved (pair w c d) o d t u (h c d t)) h
 
-    quiet : (c e k : ℕ) (m : Msg) (o : Out) → in_flight w.net (Dir e) (Core c) k ≡ Some m → ((t : ℕ) → passes (Replies t) m ≡ false)
+    quiet : (c e k : ℕ) (m : Msg) (o : Out) → FromDir w e c k m → ((t : ℕ) → passes (Replies t) m ≡ false)
         → Unprobed (w.cores c) o → KeptProbing (core_takes w (Dir e) c k o)
     quiet c e k m o i f u =
         pairs_back P w e c k o (λ t. probing-moved (back_taken (pair w c e) k) o e t u (dropped (pair w c e) e k m t i (f t) (h c e t)))
         (λ d n t. probing-moved (pair w c d) o d t u (h c d t)) h
 
-    reply : (c e k u v : ℕ) → in_flight w.net (Dir e) (Core c) k ≡ Some (ProbeReply u v)
+    reply : (c e k u v : ℕ) → FromDir w e c k (ProbeReply u v)
         → KeptProbing (core_takes w (Dir e) c k (probe_reply sh e u (w.cores c)))
     reply c e k u v i =
         let a = counts sh e u (w.cores c) (probe_reply sh e u (w.cores c)) (λ t. idle_of sh (w.cores c) e t (x c))
@@ -377,7 +377,7 @@ step-probing sh p gs w cs e z y x h = step_cases sh p w e (λ g o. KeptProbing o
         (λ t. probing-replied (pair w c e) (probe_reply sh e u (w.cores c)) e k u v t i a (h c e t))
         (λ d n t. probing-away (pair w c d) (probe_reply sh e u (w.cores c)) d t (a.sent) (λ q. a.away d t n q) (h c d t)) h
 
-    taken : (c d k : ℕ) (m : Msg) → in_flight w.net (Dir d) (Core c) k ≡ Some m
+    taken : (c d k : ℕ) (m : Msg) → FromDir w d c k m
         → IfSome (from_dir sh d (w.cores c) m) (λ o. KeptProbing (core_takes w (Dir d) c k o))
     taken c d k (ProbeReply u v) i = reply c d k u v i
     taken c d k (Fill l ws) i =
@@ -391,13 +391,13 @@ step-probing sh p gs w cs e z y x h = step_cases sh p w e (λ g o. KeptProbing o
         (unprobed-hurt sh l (w.cores c) (invalidate sh l m u (w.cores c)) (invalidate-cases sh l m u (w.cores c)))
     taken c d k _ i = tt
 
-    dir : (c d k : ℕ) (m : Msg) (s : DirState) (sends : Sends) → in_flight w.net (Core c) (Dir d) k ≡ Some m → Replying m c sends
+    dir : (c d k : ℕ) (m : Msg) (s : DirState) (sends : Sends) → FromCore w c d k m → Replying m c sends
         → KeptProbing (dir_takes w c d k s sends)
     dir c d k m s sends i u =
         pairs_dir P w c d k s sends (λ t. probing-exchanged (pair w c d) s (sends (Core c)) d t k m i (u.own t) (h c d t))
         (λ j n t. probing-answered (pair w j d) s (sends (Core j)) d t (u.others j t n) (h j d t)) h
 
-    answered : (c d k : ℕ) (m : Msg) → in_flight w.net (Core c) (Dir d) k ≡ Some m → (a : Answer) → RepliesBy m c a
+    answered : (c d k : ℕ) (m : Msg) → FromCore w c d k m → (a : Answer) → RepliesBy m c a
         → OfAnswer w c d k (λ v. KeptProbing v) a
     answered c d k m i Waits u = tt
     answered c d k m i Drops u =

@@ -2,8 +2,8 @@
 use Rattle.theorem_serial.proofs
 use proofs.Names
 use Names.{ℕ, zero, suc, ◌+◌, ◌≡◌, ◌<◌, ◌≤◌, Bool, true, false, ◌==◌, List, [], ◌∷◌, ◌++◌, length, Contains, slice_index_or, nat_lt}
-use Names.{if◌then◌else◌, arith, refl, sym, ap, ◌∙◌, nat_tests, Contains-append_left, Noted, num, insert_commit, Grant, IsNumbered}
-use Names.{IsRising, AreGranted, times, ◌⊎◌, inl, inr, World, Shape, holder, KeptOwners, pair, has_tid, max, cond, last_of}
+use Names.{if◌then◌else◌, arith, refl, sym, ap, ◌∙◌, Contains-append_left, Noted, num, insert_commit, Grant, IsNumbered, IsRising}
+use Names.{AreGranted, times, ◌⊎◌, inl, inr, World, Shape, holder, KeptOwners, pair, has_tid, max, cond, last_of, nats}
 
 -- A further commit in the list of commits, and a further grant.
 pub times-insert : (t : ℕ) (n : Noted) (cs : List Noted) → times t (insert_commit n cs) ≡ times t cs + num (n.tid.0 == t)
@@ -13,7 +13,7 @@ times-insert t n (c ∷ cs) = go (nat_lt n.tid.0 c.tid.0) (times-insert t n cs)
   where
     go : (b : Bool) → times t (insert_commit n cs) ≡ times t cs + num (n.tid.0 == t)
         → times t (if b then n ∷ c ∷ cs else c ∷ insert_commit n cs) ≡ num (c.tid.0 == t) + times t cs + num (n.tid.0 == t)
-    go a r = grind (arith, nat_tests)
+    go a r = grind nats
 
 pub insert-rising : (last : ℕ) (n : Noted) (cs : List Noted) → IsRising last cs → last < n.tid.0 → times n.tid.0 cs ≡ 0
     → IsRising last (insert_commit n cs)
@@ -22,11 +22,11 @@ insert-rising last n [] r l z = (l, tt)
 insert-rising last n (c ∷ cs) r l z = go (nat_lt n.tid.0 c.tid.0) refl (λ k. insert-rising c.tid.0 n cs (r.1) k (omega arith))
   where
     above : nat_lt n.tid.0 c.tid.0 ≡ false → c.tid.0 < n.tid.0
-    above q = grind (arith, nat_tests)
+    above q = grind nats
 
     go : (b : Bool) → nat_lt n.tid.0 c.tid.0 ≡ b → (c.tid.0 < n.tid.0 → IsRising c.tid.0 (insert_commit n cs))
         → IsRising last (if b then n ∷ c ∷ cs else c ∷ insert_commit n cs)
-    go true q f = (l, (grind (arith, nat_tests), r.1))
+    go true q f = (l, (grind nats, r.1))
     go false q f = (r.0, f (above q))
 
 pub insert-granted : (gs : List Grant) (n : Noted) (cs : List Noted) → AreGranted gs cs
@@ -72,7 +72,7 @@ numbered-most n gs g h c = numbered-below n c.0 gs g h (c.1) (c.2)
 
 -- what a list of one holds
 pub only-one : (g x : Grant) → Contains (g ∷ []) x → g ≡ x
-only-one g x c = grind (arith, nat_tests)
+only-one g x c = grind nats
 
 unique-at : (n i j : ℕ) (gs : List Grant) (g h : Grant) → IsNumbered n gs → g.tid ≡ h.tid → i < length gs → slice_index_or gs i g ≡ g
     → j < length gs → slice_index_or gs j h ≡ h → g ≡ h
@@ -160,7 +160,7 @@ last-most p [] b h = omega arith
 last-most p (m ∷ cs) b h = go (p m) (λ e. h m (0, omega arith, refl) e) (last-most p cs b (λ x k. h x (later m cs x k)))
   where
     go : (y : Bool) → (y ≡ true → m.tid.0 ≤ b) → last_of p cs ≤ b → max (cond y m.tid.0 0) (last_of p cs) ≤ b
-    go a f l = grind (arith, nat_tests)
+    go a f l = grind nats
 
 at-least : (p : Noted → Bool) (cs : List Noted) (x : Noted) (k : ℕ) → slice_index_or cs k x ≡ x → suc k ≤ length cs → p x ≡ true
     → x.tid.0 ≤ last_of p cs

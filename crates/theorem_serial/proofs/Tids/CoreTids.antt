@@ -1,17 +1,21 @@
--- What a core's rules do to its part of a TID.
+-- What a core's rules do to its part of a TID, and to its requests for one.
+use Rattle.theorem_serial.specs.Count.{Asks}
 use Rattle.theorem_serial.proofs
 use proofs.Names
 use Names.{phase_after_commit, probing_or_ready, committed_core, grant_in_phase, if◌then◌else◌, waits_for_tid, ◌+◌, data_request}
 use Names.{Overflowing, probe_reply, all_replied, solo_commit, ProbeReply, core_evict, invalidate, ℕ, any_below, writes_at, CoreState}
-use Names.{DoomedTid, marks_for, core_exec, is_probed, nat_tests, AwaitTid, false, from_dir, Resolves, Program, Outcome, DataReq, Running}
-use Names.{Probing, ignored, IfSome, InvAck, commit, arith, passes, Shape, Phase, Ready, Sends, grant, among, opens, Bool, true, List, ◌==◌}
-use Names.{◌&&◌, Some, None, refl, Fill, home, Solo, fill, ◌≡◌, ◌<◌, ◌∷◌, ◌⊎◌, inl, inr, num, Dir, Msg, Inv, Out, put, [], to}
+use Names.{DoomedTid, marks_for, core_exec, is_probed, AwaitTid, false, from_dir, Resolves, Program, Outcome, DataReq, Running, Probing}
+use Names.{ignored, IfSome, InvAck, commit, arith, passes, Shape, Phase, Ready, Sends, grant, among, opens, Bool, true, List, ◌==◌, ◌&&◌}
+use Names.{Some, None, refl, Fill, home, Solo, fill, ◌≡◌, ◌<◌, ◌∷◌, ◌⊎◌, inl, inr, num, Dir, Msg, Inv, Out, put, [], to, nats, Vendor}
+use Names.{skip_all, probe_all, commit_sends, solo_sends, grant_sends, abort_written, flush_line}
 use proofs.Counts.Links.{among-append, resolves-commit_sends, resolves-abort_written, resolves-skip_all, resolves-probe_all}
 use proofs.Counts.Links.{resolves-grant_sends, resolves-marks_for, resolves-solo_sends, among-quiet}
-use proofs.OneCore.Executes.{Steady, did-steady}
-use proofs.OneCore.CoreSteps.{ignored-steady, fill-steady, data-steady, Hurt, Invalidated, invalidate-cases, steady-emptied, Ignored}
-use proofs.OneCore.CoreSteps.{Left_alone, Probed, Replied, reply-cases}
+use proofs.OneCore.CoreSteps.{Steady, did-steady, ignored-steady, fill-steady, data-steady, Hurt, Invalidated, invalidate-cases}
+use proofs.OneCore.CoreSteps.{steady-emptied, Ignored, Left_alone, Probed, Replied, reply-cases}
 use proofs.OneCore.Outcomes.{Acts, Commits_now, Did, each-exec, out, each-evict, emptied, writes_at-same, Ends_alone, Ends_run, Room_wanted}
+use proofs.OneCore.Outcomes.{Heard, Hurt_alone, Hurt_probing, Hurt_running, Hurt_waiting, Last_probing, Last_room, each-back, heard}
+
+-- What a core's rules do to its part of a TID.
 
 -- a core's step with `got` of the TID taken from the vendor's link keeps its part of it
 abbrev pub KeepsPart : Shape → (dir tid got : ℕ) → CoreState → Out → Type 0
@@ -21,7 +25,7 @@ KeepsPart sh d t got s o = got + num (opens s.phase (writes_at sh s.cache d) t) 
 -- where a core executes, its written directories don't matter
 opens-acts : (q : Phase) (a b : Bool) (t : ℕ) → (Acts q → ⊥) ⊎ Acts q → ((Acts q → ⊥) → a ≡ b) → opens q a t ≡ opens q b t
 unfolding opens
-opens-acts q a b t d e = grind (arith, nat_tests)
+opens-acts q a b t d e = grind nats
 
 acts : (q : Phase) → (Acts q → ⊥) ⊎ Acts q
 acts Running = inr tt
@@ -30,7 +34,7 @@ acts _ = inl (λ h. h)
 
 opens-after : (e : Outcome) (a : Bool) (t : ℕ) → opens (phase_after_commit e) a t ≡ false
 unfolding opens
-opens-after b a t = grind (arith, nat_tests)
+opens-after b a t = grind nats
 
 part-steady : (sh : Shape) (d t : ℕ) (s : CoreState) (o : Out) → Steady s o → KeepsPart sh d t 0 s o
 part-steady sh d t s o y =
@@ -62,7 +66,7 @@ part-evict sh x y d t s = each-evict sh x y s (λ o. KeepsPart sh d t 0 s o)
 
 opens-probing : (b : Bool) (u : ℕ) (w : Bool) (t : ℕ) → opens (probing_or_ready b u) w t ≡ ((u == t) && w)
 unfolding opens
-opens-probing a u w t = grind (arith, nat_tests)
+opens-probing a u w t = grind nats
 
 pub part-grant : (sh : Shape) (u d t : ℕ) (s : CoreState) → d < sh.dirs → waits_for_tid s.phase ≡ true
     → KeepsPart sh d t (num (u == t)) s (grant sh u s)
@@ -80,7 +84,7 @@ part-grant sh u d t s l w = go s.phase refl w
 -- a message of a directory
 resolves-to : (t h d : ℕ) (ms : List Msg) → among (Resolves t) ms ≡ 0 → among (Resolves t) (to (Dir h) ms (Dir d)) ≡ 0
 unfolding among
-resolves-to t h d ms e = grind (arith, nat_tests)
+resolves-to t h d ms e = grind nats
 
 part-replied : (sh : Shape) (e u d t : ℕ) (s : CoreState) (o : Out) → Replied sh e u s o → KeepsPart sh d t 0 s o
 unfolding opens among
@@ -104,7 +108,7 @@ part-replied sh e u d t s o (Left_alone ph ow ph' ow' mo se cm) = rw (ph, ph', s
 part-hurt : (sh : Shape) (d t : ℕ) (s r : CoreState) (sends : Sends) → d < sh.dirs → Hurt sh s r sends
     → num (opens s.phase (writes_at sh s.cache d) t) ≡ num (opens r.phase (writes_at sh r.cache d) t) + among (Resolves t) (sends (Dir d))
 unfolding among opens
-part-hurt sh d t s r sends l a = grind (arith, nat_tests, writes_at-same, resolves-abort_written, resolves-skip_all)
+part-hurt sh d t s r sends l a = grind (nats, writes_at-same, resolves-abort_written, resolves-skip_all)
 
 part-invalidated : (sh : Shape) (l d t : ℕ) (s : CoreState) (o : Out) → d < sh.dirs → Invalidated sh l s o → KeepsPart sh d t 0 s o
 unfolding among passes
@@ -122,3 +126,62 @@ part-back sh e d t s (Fill l ws) h = part-steady sh d t s (fill l ws s) (fill-st
 part-back sh e d t s (DataReq l) h = part-steady sh d t s (data_request sh l s) (data-steady sh l s)
 part-back sh e d t s (Inv l m u) h = part-invalidated sh l d t s (invalidate sh l m u s) h (invalidate-cases sh l m u s)
 part-back sh e d t s _ h = tt
+
+-- What a core's rules do to its requests for a TID.
+
+-- a core's step with `got` grants taken keeps its requests
+abbrev pub KeepsRequests : (got : ℕ) → CoreState → Out → Type 0
+KeepsRequests got s o = num (waits_for_tid s.phase) + among Asks (o.sends Vendor) ≡ num (waits_for_tid o.core.phase) + got
+
+waits-after : (e : Outcome) → waits_for_tid (phase_after_commit e) ≡ false
+unfolding waits_for_tid
+waits-after a = grind nats
+
+requests-steady : (s : CoreState) (o : Out) → Steady s o → KeepsRequests 0 s o
+unfolding among
+requests-steady s o y = rw (y.phase, y.vendor) refl
+
+pub requests-exec : (sh : Shape) (p : Program) (c : ℕ) (s : CoreState) → IfSome (core_exec sh p c s) (λ o. KeepsRequests 0 s o)
+unfolding waits_for_tid commit solo_commit committed_core commit_sends solo_sends flush_line among passes
+requests-exec sh p c s = each-exec sh p c s (λ o. KeepsRequests 0 s o) go
+  where
+    go : (x : Did sh p c s) → KeepsRequests 0 s (out x)
+    go (Room_wanted r i) = rw r refl
+    go (Ends_run l e f r i) = rw r refl
+    go (Ends_alone u l e f r i) = rw (r, waits-after e) refl
+    go (Commits_now u e) = rw (e, waits-after s.ended) refl
+    go x = refl
+
+pub requests-evict : (sh : Shape) (x y : ℕ) (s : CoreState) → IfSome (core_evict sh x y s) (λ o. KeepsRequests 0 s o)
+requests-evict sh x y s = each-evict sh x y s (λ o. KeepsRequests 0 s o)
+    (λ k q u z. requests-steady s (emptied sh x y k s) (steady-emptied sh x y s k q u z))
+
+waits-probing : (b : Bool) (u : ℕ) → waits_for_tid (probing_or_ready b u) ≡ false
+unfolding waits_for_tid
+waits-probing a u = grind nats
+
+pub requests-grant : (sh : Shape) (u : ℕ) (s : CoreState) → waits_for_tid s.phase ≡ true → KeepsRequests 1 s (grant sh u s)
+unfolding grant waits_for_tid among grant_sends skip_all probe_all
+requests-grant sh u s w = go s.phase refl w
+  where
+    go : (q : Phase) → s.phase ≡ q → waits_for_tid q ≡ true → KeepsRequests 1 s (grant_in_phase sh u s q)
+    go AwaitTid e h = rw (e, waits-probing (any_below (is_probed sh s.cache) sh.dirs) u) refl
+    go DoomedTid e h = rw e refl
+    go (Overflowing None) e h = rw e refl
+    go _ e h = absurd (cc)
+
+pub requests-back : (sh : Shape) (e : ℕ) (s : CoreState) (m : Msg) → IfSome (from_dir sh e s m) (λ o. KeepsRequests 0 s o)
+unfolding waits_for_tid among flush_line skip_all abort_written
+requests-back sh e s m = each-back sh e s (λ m o. KeepsRequests 0 s o) go m
+  where
+    go : (x : Heard sh e s) → KeepsRequests 0 s (heard x)
+    go (Last_probing u v q o r) = rw q refl
+    go (Last_room u v q o r) = rw q refl
+    go (Hurt_running l m u v q) = rw q refl
+    go (Hurt_waiting l m u v (inl q)) = rw q refl
+    go (Hurt_waiting l m u v (inr q)) = rw q refl
+    go (Hurt_probing l m u t v (inl q)) = rw q refl
+    go (Hurt_probing l m u t v (inr q)) = rw q refl
+    go (Hurt_alone l m u t v (inl q)) = rw q refl
+    go (Hurt_alone l m u t v (inr q)) = rw q refl
+    go x = refl

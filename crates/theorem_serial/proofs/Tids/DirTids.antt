@@ -2,16 +2,15 @@
 use Rattle.base_lemmas.proofs.Lemmas.{eq-self}
 use Rattle.theorem_serial.proofs
 use proofs.Names
-use Names.{ℕ, ◌+◌, ◌-◌, ◌≡◌, ◌<◌, ◌≤◌, Bool, true, false, ◌==◌, nat_lt, if◌then◌else◌, arith, refl, nat_tests, num, count_below, has_mark}
-use Names.{Serving, advance, kept, is_skipped, Msg, Skip, Commit, Abort, Shape, lines, advance-rises, advance-past, advance-stops}
-use Names.{advance-keeps, kept-skips, DirState, Answer, Waits, Drops, Asks, Takes, dir_deliver, invalidation_count, Resolves, passes}
-use Names.{handled}
+use Names.{ℕ, ◌+◌, ◌-◌, ◌≡◌, ◌<◌, ◌≤◌, Bool, true, false, ◌==◌, nat_lt, if◌then◌else◌, arith, refl, num, count_below, has_mark, Serving}
+use Names.{advance, kept, is_skipped, Msg, Skip, Commit, Abort, Shape, lines, advance-rises, advance-past, advance-stops, advance-keeps}
+use Names.{kept-skips, DirState, Answer, Waits, Drops, Asks, Takes, dir_deliver, invalidation_count, Resolves, passes, handled, nats}
 use proofs.Counts.DirOutcome.{Outcome, Waiting, Spent, TakesSkip, TakesAbort, TakesCommit, TakesAck, TakesCopy, IsSpent, SkipPassed}
 use proofs.Counts.DirOutcome.{AbortPassed, CopyPassed, outcome}
 
 pub skipped-above : (s : Serving) (t : ℕ) → is_skipped s t ≡ true → s.serving < t
 unfolding is_skipped
-skipped-above s t h = grind (arith, nat_tests)
+skipped-above s t h = grind nats
 
 advance-stops_at : (s : Serving) (t : ℕ) → t ≡ (advance s).serving → is_skipped s t ≡ false
 advance-stops_at s t e = rw e (advance-stops s)
@@ -19,12 +18,12 @@ advance-stops_at s t e = rw e (advance-stops s)
 -- to move on is to have passed one more TID
 pub advance-count : (s : Serving) (t : ℕ)
     → num (nat_lt t (advance s).serving) + num (is_skipped (advance s) t) ≡ num (nat_lt t (s.serving + 1)) + num (is_skipped s t)
-advance-count s t = grind (arith, nat_tests, advance-rises, advance-past, advance-stops_at, advance-keeps, skipped-above)
+advance-count s t = grind (nats, advance-rises, advance-past, advance-stops_at, advance-keeps, skipped-above)
 
 -- to keep a larger TID is to have handled it
 kept-count : (s : Serving) (t u : ℕ) → s.serving < u → is_skipped s u ≡ false
     → num (is_skipped (kept u s) t) ≡ num (is_skipped s t) + num (u == t)
-kept-count s t u l e = grind (arith, nat_tests, kept-skips)
+kept-count s t u l e = grind (nats, kept-skips)
 
 -- what an answer makes of the TIDs handled, where none is handled and on its way at once
 abbrev pub HandledMore : DirState → Msg → (tid : ℕ) → DirState → Type 0
@@ -42,20 +41,20 @@ OnceAt s m = (t : ℕ) → num (passes (Resolves t) m) + handled s.serving s.owe
 -- nothing is owed and the served TID is on its way: the directory moves on
 moved_on-handled : (s : Serving) (t : ℕ) → handled (advance s) 0 t ≡ handled s 0 t + num (s.serving == t)
 unfolding handled
-moved_on-handled s t = let a = advance-count s t in grind (arith, nat_tests)
+moved_on-handled s t = let a = advance-count s t in grind nats
 
 pub unserved : (s : DirState) (m : Msg) → OnceAt s m → passes (Resolves s.serving.serving) m ≡ true → s.owed ≡ 0
 unfolding handled
-unserved s m h e = let o = h s.serving.serving in grind (arith, nat_tests)
+unserved s m h e = let o = h s.serving.serving in grind nats
 
 -- a TID that is on its way hasn't been passed, and isn't kept
 passed_twice : (s : DirState) (m : Msg) (u : ℕ) → OnceAt s m → passes (Resolves u) m ≡ true → u < s.serving.serving → ⊥
 unfolding handled
-passed_twice s m u h e l = let o = h u in grind (arith, nat_tests)
+passed_twice s m u h e l = let o = h u in grind nats
 
 not_kept : (s : DirState) (m : Msg) (u : ℕ) → OnceAt s m → passes (Resolves u) m ≡ true → is_skipped s.serving u ≡ false
 unfolding handled
-not_kept s m u h e = let o = h u in grind (arith, nat_tests)
+not_kept s m u h e = let o = h u in grind nats
 
 -- the served TID is resolved: the directory moves on
 resolved_served : (s : DirState) (m : Msg) (u t : ℕ) → OnceAt s m → s.serving.serving ≡ u → passes (Resolves u) m ≡ true
@@ -74,7 +73,7 @@ resolved_ahead s m u t h l f g = omega (arith, kept-count s.serving t u l (not_k
 
 owed-handled : (s : Serving) (n t : ℕ) → 0 < n → handled s n t ≡ handled s 0 t + num (s.serving == t)
 unfolding handled
-owed-handled s n t l = grind (arith, nat_tests)
+owed-handled s n t l = grind nats
 
 pub dir-handled : (sh : Shape) (s : DirState) (c : ℕ) (m : Msg) (t : ℕ) → OnceAt s m → HandledBy s m t (dir_deliver sh s c m)
 unfolding passes
@@ -83,7 +82,7 @@ dir-handled sh s c m t = go (outcome sh s c m)
     -- what is owed for a commit settles it
     settled : (b : Bool) (n : ℕ) → (n == 0) ≡ b → handled (if b then advance s.serving else s.serving) n t ≡ handled s.serving 0 t + num
         (s.serving.serving == t)
-    settled a n e = grind (arith, nat_tests, moved_on-handled, owed-handled)
+    settled a n e = grind (nats, moved_on-handled, owed-handled)
 
     spent : {m : Msg} → IsSpent s c m → OnceAt s m → num (passes (Resolves t) m) ≡ 0
     spent (SkipPassed u l) h = absurd (passed_twice s (Skip u) u h (eq-self u) l)
@@ -94,8 +93,8 @@ dir-handled sh s c m t = go (outcome sh s c m)
     resolved : (m : Msg) (u : ℕ) (b : Bool) → (s.serving.serving == u) ≡ b → s.serving.serving ≤ u → passes (Resolves u) m ≡ true
         → num (passes (Resolves t) m) ≡ num (u == t) → OnceAt s m
         → handled (if b then advance s.serving else kept u s.serving) s.owed t ≡ handled s.serving s.owed t + num (passes (Resolves t) m)
-    resolved m u true e l p q h = resolved_served s m u t h (grind (arith, nat_tests)) p q
-    resolved m u false e l p q h = resolved_ahead s m u t h (grind (arith, nat_tests)) p q
+    resolved m u true e l p q h = resolved_served s m u t h (grind nats) p q
+    resolved m u false e l p q h = resolved_ahead s m u t h (grind nats) p q
 
     go : {m : Msg} {a : Answer} → Outcome sh s c m a → OnceAt s m → HandledBy s m t a
     go (Waiting m) h = tt

@@ -3,16 +3,15 @@ use Rattle.base_lemmas.proofs.Lemmas.{eq-self}
 use Rattle.theorem_serial.proofs
 use proofs.Names
 use Names.{after_other_grant, slice_index_or, first_serving, waits_for_tid, vendor_start, vendor_gives, after_answer, first-skips}
-use Names.{grant_taken, after_grant, core_start, core_moves, core_takes, after_move, back_taken, ResolvedAt, nat_tests, dir_start}
-use Names.{in_flight, sum_below, dir_takes, out_taken, RequestOf, cases_lt, cases_eq, no_lines, TidGrant, DirState, dir_asks, AnyGrant}
-use Names.{Resolves, InsideOf, KeptTids, AsksTid, handled, nat_le, Vendor, TidReq, Grants, passes, false, arith, subst, Local, Shape, World}
-use Names.{start, Sends, grant, among, share, opens, Bool, true, List, ◌==◌, Some, None, refl, Core, Link, Kind, live, Pair, pair, part}
-use Names.{◌+◌, ◌≡◌, ◌<◌, ◌≤◌, ◌∷◌, sym, ◌⊎◌, inl, inr, num, Dir, Msg, Out, Any, [], ℕ}
+use Names.{grant_taken, after_grant, core_start, core_moves, core_takes, after_move, back_taken, ResolvedAt, dir_start, in_flight}
+use Names.{sum_below, dir_takes, out_taken, RequestOf, cases_lt, cases_eq, no_lines, TidGrant, DirState, dir_asks, AnyGrant, Resolves}
+use Names.{InsideOf, KeptTids, AsksTid, handled, nat_le, Vendor, TidReq, Grants, passes, false, arith, subst, Local, Shape, World, start}
+use Names.{Sends, grant, among, share, opens, Bool, true, List, ◌==◌, Some, None, refl, Core, Link, Kind, live, Pair, pair, part, ◌+◌, ◌≡◌}
+use Names.{◌<◌, ◌≤◌, ◌∷◌, sym, ◌⊎◌, inl, inr, num, Dir, Msg, Out, Any, [], ℕ, nats, to_dir, to_core, FromCore, FromDir}
 use proofs.Counts.Links.{live-sends, live-takes, total-le, total-zero}
 use proofs.Counts.StepCases.{sum_back_away, pairs_vendor, sum_dir_away, pairs_grant, pairs_move, pairs_back, pairs_asks, sum_vendor}
 use proofs.Counts.StepCases.{pairs_dir, sum_grant, sum_move, sum_back, sum_asks, sum_dir, differ, given}
-use proofs.Tids.CoreRequests.{KeepsRequests, requests-grant}
-use proofs.Tids.CoreTids.{KeepsPart, part-grant}
+use proofs.Tids.CoreTids.{KeepsRequests, requests-grant, KeepsPart, part-grant}
 
 -- a message in flight is counted
 pub live-some : (k : Kind) (l : Link) (i : ℕ) (m : Msg) → slice_index_or l i None ≡ Some m → num (passes k m) ≤ live k l
@@ -25,11 +24,11 @@ any-one l i m e = live-some Any l i m e
 -- a grant is one of its TID, and of no other
 pub is_mine : (u : ℕ) → num (passes (Grants u) (TidGrant u)) ≡ 1
 unfolding passes
-is_mine u = grind (arith, nat_tests)
+is_mine u = grind nats
 
 pub not_mine : (u t : ℕ) → (u ≡ t → ⊥) → num (passes (Grants t) (TidGrant u)) ≡ 0
 unfolding passes
-not_mine u t n = let b : (u == t) ≡ false = grind (arith, nat_tests) in rw b refl
+not_mine u t n = let b : (u == t) ≡ false = grind nats in rw b refl
 
 -- a core that a message comes from or goes to is one of the machine
 pub inside_from : (sh : Shape) (c n : ℕ) → (sh.cores ≤ c → n ≡ 0) → 1 ≤ n → c < sh.cores
@@ -82,7 +81,7 @@ unfolding passes
 granted_waits v k u e r = go (waits_for_tid v.core.phase) refl (live-some AnyGrant v.grants k (TidGrant u) e)
   where
     go : (b : Bool) → waits_for_tid v.core.phase ≡ b → 1 ≤ live AnyGrant v.grants → waits_for_tid v.core.phase ≡ true
-    go a q l = grind (arith, nat_tests)
+    go a q l = grind nats
 
 pub grant-kept : (sh : Shape) (w : World) (c k u : ℕ) → KeptTids sh w → in_flight w.net Vendor (Core c) k ≡ Some (TidGrant u)
     → KeptTids sh (core_takes w Vendor c k (grant sh u (w.cores c)))
@@ -102,13 +101,13 @@ grant-kept sh w c k u h e =
     }
 
 -- a core takes a message of a directory
-pub back-kept : (sh : Shape) (w : World) (e c k : ℕ) (m : Msg) (o : Out) → KeptTids sh w → in_flight w.net (Dir e) (Core c) k ≡ Some m
+pub back-kept : (sh : Shape) (w : World) (e c k : ℕ) (m : Msg) (o : Out) → KeptTids sh w → FromDir w e c k m
     → KeepsRequests 0 (w.cores c) o → ((d t : ℕ) → d < sh.dirs → KeepsPart sh d t 0 (w.cores c) o)
     → KeptTids sh (core_takes w (Dir e) c k o)
 unfolding pair core_takes part
 back-kept sh w e c k m o h i r p =
-    let l : c < sh.cores = inside_from sh c (live Any (w.net (Dir e) (Core c))) ((h.inside c e).back)
-    (any-one (w.net (Dir e) (Core c)) k m i) in
+    let l : c < sh.cores = inside_from sh c (live Any (to_core w e c)) ((h.inside c e).back)
+    (any-one (to_core w e c) k m i) in
     record {
       inside = pairs_back (λ c d v. InsideOf sh c v) w e c k o (within sh c _ l ((h.inside c e).owners))
           (λ d n. within sh c _ l ((h.inside c d).owners)) h.inside;
@@ -132,11 +131,11 @@ part-answered : (sh : Shape) (d t k : ℕ) (m : Msg) (v : Pair) (s : DirState) (
 unfolding part
 part-answered sh d t k m v s ms e = omega (arith, live-takes (Resolves t) v.out k m e)
 
-pub once-there : (sh : Shape) (w : World) (c d k t : ℕ) (m : Msg) → c < sh.cores → in_flight w.net (Core c) (Dir d) k ≡ Some m
+pub once-there : (sh : Shape) (w : World) (c d k t : ℕ) (m : Msg) → c < sh.cores → FromCore w c d k m
     → ResolvedAt sh w d t → num (passes (Resolves t) m) + handled (w.dirs d).serving (w.dirs d).owed t ≤ 1
 unfolding part pair share
 once-there sh w c d k t m l e r =
-    omega (arith, r, total-le (share (part sh d t) w d) sh.cores c l, live-some (Resolves t) (w.net (Core c) (Dir d)) k m e)
+    omega (arith, r, total-le (share (part sh d t) w d) sh.cores c l, live-some (Resolves t) (to_dir w c d) k m e)
 
 inside-answered : (sh : Shape) (j : ℕ) (v : Pair) (s : DirState) (ms : List Msg) → (sh.cores ≤ j → among Any ms ≡ 0)
     → ((l o : ℕ) → s.lines.owner l ≡ Some o → o < sh.cores) → InsideOf sh j v → InsideOf sh j (after_answer v s ms)
@@ -173,7 +172,7 @@ inside-next sh j v i = record { out = i.out; back = i.back; asks = i.asks; grant
 
 start-handled : (t : ℕ) → num (nat_le 1 t) + handled first_serving 0 t ≡ 1
 unfolding handled first_serving
-start-handled t = let f = first-skips t in grind (arith, nat_tests)
+start-handled t = let f = first-skips t in grind nats
 
 part-start : (sh : Shape) (entries : ℕ → Local) (ram : ℕ → ℕ) (d t j : ℕ) → share (part sh d t) (start entries ram) d j ≡ 0
 unfolding share part pair start core_start live opens
@@ -184,14 +183,14 @@ unfolding among
 no_sends = refl
 
 pub dir-kept : (sh : Shape) (w : World) (c e k : ℕ) (m : Msg) (s : DirState) (sends : Sends) → KeptTids sh w
-    → in_flight w.net (Core c) (Dir e) k ≡ Some m
+    → FromCore w c e k m
     → ((j : ℕ) → sh.cores ≤ j → among Any (sends (Core j)) ≡ 0) → ((l o : ℕ) → s.lines.owner l ≡ Some o → o < sh.cores)
     → ((t : ℕ) → e < sh.dirs → handled s.serving s.owed t ≡ handled (w.dirs e).serving (w.dirs e).owed t + num (passes (Resolves t) m))
     → KeptTids sh (dir_takes w c e k s sends)
 unfolding pair dir_takes
 dir-kept sh w c e k m s sends h i q ow hd =
-    let l : c < sh.cores = inside_from sh c (live Any (w.net (Core c) (Dir e))) ((h.inside c e).out)
-    (any-one (w.net (Core c) (Dir e)) k m i) in
+    let l : c < sh.cores = inside_from sh c (live Any (to_dir w c e)) ((h.inside c e).out)
+    (any-one (to_dir w c e) k m i) in
     record {
       inside = pairs_dir (λ c d v. InsideOf sh c v) w c e k s sends (within sh c _ l ow)
           (λ j n. inside-answered sh j (pair w j e) s (sends (Core j)) (q j) ow (h.inside j e)) h.inside;
@@ -199,7 +198,7 @@ dir-kept sh w c e k m s sends h i q ow hd =
       resolved = λ d t x. resolved l d t x (cases_eq d e);
     }
   where
-    here : c < sh.cores → (d t : ℕ) → d < sh.dirs → in_flight w.net (Core c) (Dir d) k ≡ Some m
+    here : c < sh.cores → (d t : ℕ) → d < sh.dirs → FromCore w c d k m
         → handled s.serving s.owed t ≡ handled (w.dirs d).serving (w.dirs d).owed t + num (passes (Resolves t) m)
         → ResolvedAt sh (dir_takes w c d k s sends) d t
     here l d t x i hd =
@@ -253,7 +252,7 @@ vendor-kept sh w c k h i =
       resolved = λ d t x.
           let p = sum_vendor (part sh d t) sh.cores w c k d 0 (num (w.next == t)) l (part-given sh d t (pair w c d) k)
           (λ j n. part-next sh d t (pair w j d)) in
-          let b : num (nat_le w.next t) ≡ num (nat_le (w.next + 1) t) + num (w.next == t) = grind (arith, nat_tests) in
+          let b : num (nat_le w.next t) ≡ num (nat_le (w.next + 1) t) + num (w.next == t) = grind nats in
           omega (arith, h.resolved d t x);
     }
 

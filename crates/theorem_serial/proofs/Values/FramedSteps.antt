@@ -4,19 +4,19 @@ use Rattle.theorem_attempt.proofs.Lemmas.{sees-modified}
 use Rattle.theorem_serial.proofs
 use proofs.Names
 use Names.{ℕ, ◌≡◌, ◌<◌, ◌≤◌, ◌⊎◌, Bool, true, false, ◌==◌, ◌||◌, ◌++◌, List, Option, Some, None, IfSome, is_some, nat_lt, get_or, arith}
-use Names.{refl, sym, ap, subst, ◌∙◌, inl, inr, nat_tests, Noted, Plain, Local, Program, line_of, Core, Dir, Vendor, Msg, LoadReq, Fill}
-use Names.{Commit, Event, Shape, home, Awaited, CoreState, DirState, Phase, Ready, Solo, World, Out, is_solo, noted, from_dir, grant}
-use Names.{core_evict, is_awaited, core_exec, dir_deliver, in_flight, History, Stepped, step, next_history, recorded, and_noted}
-use Names.{insert_commit, core_moves, core_takes, Uses, Suits, LoadingOf, LinesAway, LoadOf, InvWord, Commits, live, passes, Carried}
-use Names.{Invariants, executes, Grant, granted_by, Pair, pair, after_move, back_taken, grant_taken, after_grant, after_other_grant}
-use Names.{is_applied, CommitsStand, stores_word, after_stores, counts, value_at, UnmodifiedWords, FilledWords, Ways, ways_after, sent_by}
-use Names.{Contains}
+use Names.{refl, sym, ap, subst, ◌∙◌, inl, inr, Noted, Plain, Local, Program, line_of, Dir, Vendor, Msg, LoadReq, Fill, Commit, Event}
+use Names.{Shape, home, Awaited, CoreState, DirState, Phase, Ready, Solo, World, Out, is_solo, noted, from_dir, grant, core_evict}
+use Names.{is_awaited, core_exec, dir_deliver, History, Stepped, step, next_history, recorded, and_noted, insert_commit, core_moves}
+use Names.{core_takes, Uses, Suits, LoadingOf, LinesAway, LoadOf, InvWord, Commits, live, passes, Carried, Invariants, executes, Grant}
+use Names.{granted_by, Pair, pair, after_move, back_taken, grant_taken, after_grant, after_other_grant, is_applied, CommitsStand}
+use Names.{stores_word, after_stores, counts, value_at, UnmodifiedWords, FilledWords, Ways, ways_after, sent_by, Contains, nats, home_of}
+use Names.{FromCore, FromDir}
 use proofs.Counts.StepCases.{either, moves-own, moves-other, pairs_move, pairs_grant, pairs_back, pairs_vendor, OfAnswer, node_cases}
 use proofs.Lines.LoadsKept.{dir-fills}
-use proofs.Values.CoresKeepFramed.{no-fill, held-fades, held-quietly, held-invalid, held-filled, held-elsewhere}
+use proofs.Values.FramedCores.{no-fill, held-fades, held-quietly, held-invalid, held-filled, held-elsewhere, Coming, Quiet, Takes, Brings}
+use proofs.Values.FramedCores.{OnlyFades, comes-back, fading-grant, Closing, Framing, Stays, Closes, fades-same, fading, framing-exec}
+use proofs.Values.FramedCores.{fading-evict}
 use proofs.Values.DirsKeepFramed.{answered-quietly, answered-load}
-use proofs.Values.FramedBacks.{Coming, Quiet, Takes, Brings, OnlyFades, comes-back, fading-grant}
-use proofs.Values.FramedCores.{Closing, Framing, Stays, Closes, fades-same, fading, framing-exec, fading-evict}
 use proofs.Values.FramedWords.{HeldOf, HeldAt, KeptHeld, few-not, load-home, answered-commit, commit-invalidates}
 use proofs.Values.ModifiedWords.{stored-served, stored-seen, Serves}
 use proofs.Values.ValueAt.{IsSilent, with_commit, value-skip, value-insert}
@@ -28,15 +28,15 @@ use proofs.Tids.TidSteps.{live-some}
 -- the commit counts for its own core
 counts-own : (s : DirState) (c t : ℕ) (r : CoreState) → counts s (Some c) None (noted t c r) ≡ true
 unfolding counts noted
-counts-own s c t r = let e : (c == c) ≡ true = grind (arith, nat_tests) in rw e refl
+counts-own s c t r = let e : (c == c) ≡ true = grind nats in rw e refl
 
 -- and for no other, where it isn't applied
 counts-else : (s : DirState) (j c t : ℕ) (r : CoreState) → (j ≡ c → ⊥) → s.serving.serving ≡ t → s.owed ≡ 0
     → counts s (Some j) None (noted t c r) ≡ false
 unfolding counts is_applied noted
 counts-else s j c t r n e z =
-    let a : (j == c) ≡ false = grind (arith, nat_tests) in
-    rw (a, e, z) (grind (arith, nat_tests))
+    let a : (j == c) ≡ false = grind nats in
+    rw (a, e, z) (grind nats)
 
 own-value : (base : ℕ) (s : DirState) (c t x y : ℕ) (r : CoreState)
     → with_commit base s (Some c) None x (noted t c r) y ≡ after_stores base r.stores x y
@@ -49,25 +49,25 @@ stores-not m o b e f g = sym e ∙ rw (f, g) refl
 -- nothing is awaited in the phases in which a core commits
 rests-none : (t : ℕ) (q : Phase) (a : Option Awaited) → (q ≡ Ready t) ⊎ (q ≡ Solo t) → (is_solo q ≡ true → a ≡ None)
     → ((w : Awaited) → a ≡ Some w → executes q ≡ true) → a ≡ None
-rests-none t q a m f g = grind (arith, nat_tests)
+rests-none t q a m f g = grind nats
 
 -- a later commit makes nothing of a word at a home that hasn't come to it, unless it is the core's
 counts-later : (s : DirState) (c t : ℕ) (n : Noted) → s.serving.serving ≡ t → t < n.tid.0 → (n.core.0 ≡ c → ⊥)
     → counts s (Some c) None n ≡ false
 unfolding counts is_applied
 counts-later s c t n e l own =
-    let a : (c == n.core.0) ≡ false = grind (arith, nat_tests) in
-    let b : nat_lt n.tid.0 t ≡ false = grind (arith, nat_tests) in
-    let d : (n.tid.0 == t) ≡ false = grind (arith, nat_tests) in
+    let a : (c == n.core.0) ≡ false = grind nats in
+    let b : nat_lt n.tid.0 t ≡ false = grind nats in
+    let d : (n.tid.0 == t) ≡ false = grind nats in
     rw (a, e, b, d) refl
 
 -- the value of a word that the commit stored, for its core: its stores over what the core saw
 pub value-own : (sh : Shape) (p : Program) (entries : ℕ → Local) (ram : ℕ → ℕ) (gs : List Grant) (ys : Ways) (views : ℕ → Uses) (m : Plain)
     (h : History) (c x : ℕ) (o : Out) → Suits sh p ram → Invariants sh p entries ram gs ys views m h → c < sh.cores
     → (g : Closing c (h.world.cores c) o) → stores_word sh.base (h.world.cores c).stores x ≡ true
-    → value_at sh.base ram (insert_commit (noted g.tid c g.last) h.commits) (h.world.dirs (home sh (line_of x))) (Some c) None x
+    → value_at sh.base ram (insert_commit (noted g.tid c g.last) h.commits) (h.world.dirs (home_of sh x)) (Some c) None x
     ≡ after_stores sh.base (h.world.cores c).stores x
-    (value_at sh.base ram h.commits (h.world.dirs (home sh (line_of x))) (Some c) None x)
+    (value_at sh.base ram h.commits (h.world.dirs (home_of sh x)) (Some c) None x)
 unfolding noted
 value-own sh p entries ram gs ys views m h c x o u k l g e = value-insert sh.base ram (noted g.tid c g.last) h.commits d (Some c) None x
     (k.carried.commits_are_of_granted_tids.0) silent
@@ -75,7 +75,7 @@ value-own sh p entries ram gs ys views m h c x o u k l g e = value-insert sh.bas
     g.stores)
   where
     d : DirState
-    d = h.world.dirs (home sh (line_of x))
+    d = h.world.dirs (home_of sh x)
 
     st : Stand sh h ys c g.tid
     st = stand sh p entries ram gs ys views m h c g.tid u k l g.phase
@@ -91,17 +91,17 @@ value-own sh p entries ram gs ys views m h c x o u k l g e = value-insert sh.bas
 pub value-else : (sh : Shape) (p : Program) (entries : ℕ → Local) (ram : ℕ → ℕ) (gs : List Grant) (ys : Ways) (views : ℕ → Uses) (m : Plain)
     (h : History) (c j x : ℕ) (o : Out) → Suits sh p ram → Invariants sh p entries ram gs ys views m h → c < sh.cores
     → (g : Closing c (h.world.cores c) o) → (j ≡ c → ⊥)
-    → value_at sh.base ram (insert_commit (noted g.tid c g.last) h.commits) (h.world.dirs (home sh (line_of x))) (Some j) None x
-    ≡ value_at sh.base ram h.commits (h.world.dirs (home sh (line_of x))) (Some j) None x
+    → value_at sh.base ram (insert_commit (noted g.tid c g.last) h.commits) (h.world.dirs (home_of sh x)) (Some j) None x
+    ≡ value_at sh.base ram h.commits (h.world.dirs (home_of sh x)) (Some j) None x
 unfolding noted
 value-else sh p entries ram gs ys views m h c j x o u k l g n =
-    value-skip sh.base ram (noted g.tid c g.last) h.commits (h.world.dirs (home sh (line_of x))) (Some j) None x
+    value-skip sh.base ram (noted g.tid c g.last) h.commits (h.world.dirs (home_of sh x)) (Some j) None x
     (quiet (stores_word sh.base (h.world.cores c).stores x) refl)
   where
     quiet : (b : Bool) → stores_word sh.base (h.world.cores c).stores x ≡ b
-        → IsSilent sh.base (h.world.dirs (home sh (line_of x))) (Some j) None x (noted g.tid c g.last)
+        → IsSilent sh.base (h.world.dirs (home_of sh x)) (Some j) None x (noted g.tid c g.last)
     quiet true q = let y = stored-served sh p entries ram gs ys views m h c g.tid x u k l g.phase q in
-        inl (counts-else (h.world.dirs (home sh (line_of x))) j c g.tid g.last n y.serving y.owed)
+        inl (counts-else (h.world.dirs (home_of sh x)) j c g.tid g.last n y.serving y.owed)
     quiet false q = inr (ap (λ y. stores_word sh.base y x) g.stores ∙ q)
 
 committed : (sh : Shape) (p : Program) (entries : ℕ → Local) (ram : ℕ → ℕ) (gs : List Grant) (ys : Ways) (views : ℕ → Uses) (m : Plain)
@@ -125,10 +125,10 @@ committed sh p entries ram gs ys views m h c o u k held l g = subst (λ q. KeptH
     cs = insert_commit new h.commits
 
     home-of : ℕ → ℕ
-    home-of x = home sh (line_of x)
+    home-of x = (home_of sh x)
 
     spilled : (x : ℕ) → (is_solo s.phase ≡ true → s.spilled x ≡ None) → s.spilled x ≡ None
-    spilled x f = grind (arith, nat_tests)
+    spilled x f = grind nats
 
     framed : (x z : ℕ) → s.cache.value x ≡ Some z → s.spilled x ≡ None → (b : Bool) → s.cache.modified x ≡ b
         → HeldOf x (value_at sh.base ram h.commits (h.world.dirs (home-of x)) (Some c) None x) (pair h.world c (home-of x))
@@ -161,12 +161,12 @@ committed sh p entries ram gs ys views m h c o u k held l g = subst (λ q. KeptH
         none : is_awaited s.awaited (line_of x) ≡ false
         none = rw (rests-none g.tid s.phase s.awaited g.phase (g.rests.0) (λ w q. (k.carried.awaited_line_has_a_frame c w q).0)) refl
 
-    own' : (d x : ℕ) → d < sh.dirs → home sh (line_of x) ≡ d
+    own' : (d x : ℕ) → d < sh.dirs → home_of sh x ≡ d
         → HeldOf x (value_at sh.base ram cs (h.world.dirs d) (Some c) None x) (after_move (pair h.world c d) o d)
     own' d x dl e = subst (λ q. HeldOf x (value_at sh.base ram cs (h.world.dirs q) (Some c) None x) (after_move (pair h.world c q) o q)) e
         (own x (rw e dl))
 
-    other : (j d x : ℕ) → j < sh.cores → d < sh.dirs → home sh (line_of x) ≡ d → (j ≡ c → ⊥)
+    other : (j d x : ℕ) → j < sh.cores → d < sh.dirs → home_of sh x ≡ d → (j ≡ c → ⊥)
         → HeldOf x (value_at sh.base ram cs (pair h.world j d).dir (Some j) None x) (pair h.world j d)
     other j d x jl dl e n = subst (λ y. HeldOf x y (pair h.world j d)) (sym same) (held j d x jl dl e)
       where
@@ -175,7 +175,7 @@ committed sh p entries ram gs ys views m h c o u k held l g = subst (λ q. KeptH
 
 -- a Fill from one home isn't of a line of another
 fill-home : (sh : Shape) (d e k l x : ℕ) (ws : List ℕ) (v : Pair) → get_or v.back k None ≡ Some (Fill l ws)
-    → live (LinesAway sh.dirs e) v.back ≡ 0 → home sh (line_of x) ≡ d → (d ≡ e → ⊥) → (l == line_of x) ≡ false
+    → live (LinesAway sh.dirs e) v.back ≡ 0 → home_of sh x ≡ d → (d ≡ e → ⊥) → (l == line_of x) ≡ false
 unfolding passes
 fill-home sh d e k l x ws v i z q n = go (l == line_of x) refl
   where
@@ -185,9 +185,9 @@ fill-home sh d e k l x ws v i z q n = go (l == line_of x) refl
       where
         at-home : home sh (line_of x) ≡ e
         at-home =
-            let j : l ≡ line_of x = grind (arith, nat_tests) in
+            let j : l ≡ line_of x = grind nats in
             let o = live-some (LinesAway sh.dirs e) v.back k (Fill l ws) i in
-            rw (← j) (grind (arith, nat_tests))
+            rw (← j) (grind nats)
 
 -- Each event keeps that each word in a frame or a Fill has its value, or is invalidated.
 pub step-held : (sh : Shape) (p : Program) (entries : ℕ → Local) (ram : ℕ → ℕ) (gs : List Grant) (ys : Ways) (views : ℕ → Uses) (m : Plain)
@@ -243,7 +243,7 @@ step-held sh p entries ram gs ys views m h e u k held = node_cases sh p w e (λ 
     loading : (c d x : ℕ) → LoadingOf sh d (line_of x) (pair w c d)
     loading c d x = k.carried.one_load_request_or_fill c d (line_of x)
 
-    come : (c d n : ℕ) (a : Msg) → in_flight w.net (Dir d) (Core c) n ≡ Some a → (o : Out) → Coming (w.cores c) a o
+    come : (c d n : ℕ) (a : Msg) → FromDir w d c n a → (o : Out) → Coming (w.cores c) a o
         → R (record { world = core_takes w (Dir d) c n o; noted = o.commit })
     come c d n a i o (Quiet z f) = quietly c o (core_takes w (Dir d) c n o) (f.0) (pairs_back P w d c n o
         (λ x cl dl q. held-quietly x _ n (pair w c d) (after_move (back_taken (pair w c d) n) o d) a i refl (z x) (f.1)
@@ -258,18 +258,18 @@ step-held sh p entries ram gs ys views m h e u k held = node_cases sh p w e (λ 
         (fill-home sh b d n l x ws (pair w c d) (i ∙ ap (λ y. Some y) e) ((k.carried.records_and_messages_are_at_home c d 0).back) q
         r) f (loading c b x) (held c b x cl dl q)) held)
 
-    taken : (c d n : ℕ) (a : Msg) → in_flight w.net (Dir d) (Core c) n ≡ Some a → (x : Option Out) → IfSome x (Coming (w.cores c) a)
+    taken : (c d n : ℕ) (a : Msg) → FromDir w d c n a → (x : Option Out) → IfSome x (Coming (w.cores c) a)
         → IfSome x (λ o. R (record { world = core_takes w (Dir d) c n o; noted = o.commit }))
     taken c d n a i None f = tt
     taken c d n a i (Some o) f = come c d n a i o f
 
-    quiet : (c d n : ℕ) (a : Msg) → in_flight w.net (Core c) (Dir d) n ≡ Some a → ((t : ℕ) → passes (Commits t) a ≡ false)
+    quiet : (c d n : ℕ) (a : Msg) → FromCore w c d n a → ((t : ℕ) → passes (Commits t) a ≡ false)
         → ((l : ℕ) → passes (LoadOf l) a ≡ false)
         → OfAnswer w c d n (λ v. R (record { world = v; noted = None })) (dir_deliver sh (w.dirs d) c a)
     quiet c d n a i f g = answered-quietly sh ram w h.commits c d n a (k.carried_in_memory.commits_stay_in_memory)
         (k.carried.commit_is_on_its_way_or_applied) held i f g (dir_deliver sh (w.dirs d) c a) (dir-fills sh (w.dirs d) c a)
 
-    answered : (c d n : ℕ) (a : Msg) → c < sh.cores → d < sh.dirs → in_flight w.net (Core c) (Dir d) n ≡ Some a
+    answered : (c d n : ℕ) (a : Msg) → c < sh.cores → d < sh.dirs → FromCore w c d n a
         → OfAnswer w c d n (λ v. R (record { world = v; noted = None })) (dir_deliver sh (w.dirs d) c a)
     answered c d n (LoadReq l a) cl dl i = answered-load sh ram w h.commits c d n l a (k.carried_in_memory.commits_stay_in_memory)
         (k.carried.commit_is_on_its_way_or_applied) held (k.carried.owned_line_has_one_copy_with_its_tag) (k.home_words_are_current)

@@ -6,20 +6,21 @@ use proofs.Names
 use Names.{moved_on_if_settled, owned_by_committer, invalidation_count, load_unless_owned, keeps_unmodified, false, CommitsAreServed}
 use Names.{CommitsInMemory, flat_map-append, is_invalidated, if◌then◌else◌, invalidations, arith, SettledCommit, any_below-at, after_answer}
 use Names.{CommitsStand, load_request, stores_word, count_below, Option, has-mask_of, KeptLoading, KeptSharers, CommitsLine, KeptCounted}
-use Names.{stored_mask, is_applied, with_asked, ℕ, home_words, holds_line, KeptStored, nat_tests, stores_at, in_flight, ask_owner}
-use Names.{dir_takes, stores_in, Contains, place_of, any_word, DirState, value_at, is_stale, has_mark, dir_asks, flat_map, cases_eq, ◌≡◌}
-use Names.{SharerOf, is_fresh, IsRising, is_some, line_of, word_at, FillNot, InvWord, Commits, is_this, DataReq, mask_of, Awaited, invs_to}
-use Names.{FillOf, passes, counts, get_or, nat_le, Answer, nat_lt, Commit, LoadOf, Bool, Noted, Shape, World, among, subst, Sends, Waits}
-use Names.{Drops, Takes, those, Lines, lines, true, ◌&&◌, ◌||◌, List, Some, None, refl, Core, home, Link, live, Pair, pair, zero, ◌==◌}
-use Names.{Fill, Asks, cond, Kind, ◌<◌, ◌≤◌, ◌⊎◌, not, inl, inr, num, Msg, Dir, suc, ◌∷◌, set, ◌∙◌, ◌+◌, sym, has, hit, Inv, [], ap, to}
+use Names.{stored_mask, is_applied, with_asked, ℕ, home_words, holds_line, KeptStored, stores_at, ask_owner, dir_takes, stores_in, Contains}
+use Names.{place_of, any_word, DirState, value_at, is_stale, has_mark, dir_asks, flat_map, cases_eq, ◌≡◌, SharerOf, is_fresh, IsRising}
+use Names.{is_some, line_of, word_at, FillNot, InvWord, Commits, is_this, DataReq, mask_of, Awaited, invs_to, FillOf, passes, counts}
+use Names.{get_or, nat_le, Answer, nat_lt, Commit, LoadOf, Bool, Noted, Shape, World, among, subst, Sends, Waits, Drops, Takes, those}
+use Names.{Lines, lines, true, ◌&&◌, ◌||◌, List, Some, None, refl, Core, Link, live, Pair, pair, zero, ◌==◌, Fill, Asks, cond, Kind, ◌<◌}
+use Names.{◌≤◌, ◌⊎◌, not, inl, inr, num, Msg, Dir, suc, ◌∷◌, set, ◌∙◌, ◌+◌, sym, has, hit, Inv, [], ap, to, nats, home_of, tid_at, to_dir}
+use Names.{to_core, FromCore}
 use proofs.Counts.Links.{live-sends, live-fewer, among-fewer, num-same, live-takes, among-append}
 use proofs.Counts.StepCases.{either, dir-own, dir-other, pairs_dir, pairs_asks, differ, OfAnswer}
 use proofs.Lines.LoadsKept.{FillsBy}
 use proofs.Marks.CoreMarks.{some-mask}
 use proofs.Marks.MaskLaws.{same-commit}
-use proofs.Marks.OwesByCommit.{CountsMarked}
+use proofs.Marks.DirRecords.{CountsMarked}
 use proofs.Marks.StoredKept.{taken-stored}
-use proofs.Memory.MemorySends.{accesses_at_homes}
+use proofs.Memory.CoreInMemory.{accesses_at_homes}
 use proofs.Tids.TidSteps.{live-some}
 use proofs.Values.ValueAt.{IsAlike, value-alike}
 
@@ -30,7 +31,7 @@ pub record HeldOf (x y : ℕ) (v : Pair) : Type 0 where
 
 -- so do all words at home at the directory
 abbrev pub HeldAt : Shape → (ram : ℕ → ℕ) → List Noted → (c d : ℕ) → Pair → Type 0
-HeldAt sh ram cs c d v = (x : ℕ) → c < sh.cores → d < sh.dirs → home sh (line_of x) ≡ d
+HeldAt sh ram cs c d v = (x : ℕ) → c < sh.cores → d < sh.dirs → home_of sh x ≡ d
     → HeldOf x (value_at sh.base ram cs v.dir (Some c) None x) v
 
 abbrev pub KeptHeld : Shape → (ram : ℕ → ℕ) → World → List Noted → Type 0
@@ -38,7 +39,7 @@ KeptHeld sh ram w cs = (c d : ℕ) → HeldAt sh ram cs c d (pair w c d)
 
 fill-not : (x y : ℕ) (m : Msg) → num (passes (FillNot x y) m) ≤ num (passes (FillOf (line_of x)) m)
 unfolding passes
-fill-not x y m = grind (arith, nat_tests)
+fill-not x y m = grind nats
 
 -- a Fill that gives the word another value is one of its line
 pub few-not : (x y : ℕ) (l : Link) → live (FillNot x y) l ≤ live (FillOf (line_of x)) l
@@ -95,7 +96,7 @@ held-idle x z v k f = record { framed = λ a p q. absurd (kept a p q); filled = 
 -- the commit is the core's, or as many Commits of it are in flight to the directory as before
 abbrev pub IsSteady : (w v : World) → (d : ℕ) → Option ℕ → Noted → Type 0
 IsSteady w v d c n = (is_this c n.core.0 ≡ true)
-    ⊎ (live (Commits n.tid.0) (v.net (Core n.core.0) (Dir d)) ≡ live (Commits n.tid.0) (w.net (Core n.core.0) (Dir d)))
+    ⊎ (live (Commits n.tid.0) (to_dir v n.core.0 d) ≡ live (Commits n.tid.0) (to_dir w n.core.0 d))
 
 counts-own : (s r : DirState) (c : Option ℕ) (n : Noted) → is_this c n.core.0 ≡ true → counts r c None n ≡ counts s c None n
 unfolding counts
@@ -108,7 +109,7 @@ counts-applied s r c n q = rw q refl
 
 -- A word's value at its home stays where the commits that stored it are on their way as before.
 pub value-stays : (sh : Shape) (ram : ℕ → ℕ) (w v : World) (cs : List Noted) (d : ℕ) (c : Option ℕ) (x : ℕ) → CommitsInMemory sh cs
-    → CommitsStand sh w cs → CommitsStand sh v cs → d < sh.dirs → home sh (line_of x) ≡ d
+    → CommitsStand sh w cs → CommitsStand sh v cs → d < sh.dirs → home_of sh x ≡ d
     → ((n : Noted) → Contains cs n → stores_word sh.base n.stores x ≡ true → IsSteady w v d c n)
     → value_at sh.base ram cs (v.dirs d) c None x ≡ value_at sh.base ram cs (w.dirs d) c None x
 value-stays sh ram w v cs d c x inside before after dl e steady = value-alike sh.base ram cs (v.dirs d) c None (w.dirs d) c None x
@@ -116,7 +117,7 @@ value-stays sh ram w v cs d c x inside before after dl e steady = value-alike sh
   where
     same : (n : Noted) → Contains cs n → stores_at sh d n.stores ≡ true → IsSteady w v d c n
         → counts (v.dirs d) c None n ≡ counts (w.dirs d) c None n
-    same n k s a = grind (arith, nat_tests, counts-own, counts-applied, num-same)
+    same n k s a = grind (nats, counts-own, counts-applied, num-same)
 
     alike : (n : Noted) → Contains cs n → (b : Bool) → stores_word sh.base n.stores x ≡ b
         → IsAlike sh.base (v.dirs d) c None (w.dirs d) c None x n
@@ -141,7 +142,7 @@ FillsHome c l a s _ = Unit {0}
 filled-word : (s : DirState) (l x y : ℕ) → (l ≡ line_of x → s.words x ≡ y)
     → (l == line_of x && not (get_or (home_words s l) (place_of x) 0 == y)) ≡ false
 unfolding home_words
-filled-word s l x y e = grind (arith, nat_tests, s.words, eight-at)
+filled-word s l x y e = grind (nats, s.words, eight-at)
 
 owner-home : (o c l a : ℕ) (s : DirState) → FillsHome c l a s (ask_owner o l s)
 unfolding ask_owner
@@ -164,7 +165,7 @@ load-home c l a s = go (nat_le s.serving.serving a) (has_mark s.lines l) (s.line
     go true m o q e = tt
     go false true o q e = tt
     go false false (Some o) q e = owner-home o c l a s
-    go false false None q e = record { passed = grind (arith, nat_tests); unowned = e; serving = refl; owed = refl; words = words }
+    go false false None q e = record { passed = grind nats; unowned = e; serving = refl; owed = refl; words = words }
 
 -- the directory's state, and the Commits in flight, after a message was taken
 pub dirs-taken : (w : World) (c d k : ℕ) (s : DirState) (sends : Sends) → (dir_takes w c d k s sends).dirs d ≡ s
@@ -172,20 +173,20 @@ unfolding pair
 dirs-taken w c d k s sends = ap (λ v. v.dir) (dir-own w c d k s sends)
 
 pub commits-other : (w : World) (c d k : ℕ) (s : DirState) (sends : Sends) (j t : ℕ) → (j ≡ c → ⊥)
-    → live (Commits t) ((dir_takes w c d k s sends).net (Core j) (Dir d)) ≡ live (Commits t) (w.net (Core j) (Dir d))
+    → live (Commits t) ((dir_takes w c d k s sends).net (Core j) (Dir d)) ≡ live (Commits t) (to_dir w j d)
 unfolding pair
 commits-other w c d k s sends j t n = ap (λ v. live (Commits t) v.out) (dir-other w c d k s sends j n)
 
-pub commits-own : (w : World) (c d k : ℕ) (m : Msg) (s : DirState) (sends : Sends) (t : ℕ) → in_flight w.net (Core c) (Dir d) k ≡ Some m
+pub commits-own : (w : World) (c d k : ℕ) (m : Msg) (s : DirState) (sends : Sends) (t : ℕ) → FromCore w c d k m
     → passes (Commits t) m ≡ false → live (Commits t) ((dir_takes w c d k s sends).net (Core c) (Dir d)) ≡ live (Commits t)
-    (w.net (Core c) (Dir d))
+    (to_dir w c d)
 unfolding pair
 commits-own w c d k m s sends t i p = ap (λ v. live (Commits t) v.out) (dir-own w c d k s sends)
-    ∙ (let z : num (passes (Commits t) m) ≡ 0 = rw p refl in omega (arith, z, live-takes (Commits t) (w.net (Core c) (Dir d)) k m i))
+    ∙ (let z : num (passes (Commits t) m) ≡ 0 = rw p refl in omega (arith, z, live-takes (Commits t) (to_dir w c d) k m i))
 
 -- the value stays where the commits that stored the word are steady
 pub value-taken : (sh : Shape) (ram : ℕ → ℕ) (w : World) (cs : List Noted) (c d k : ℕ) (s : DirState) (sends : Sends) (j : Option ℕ) (x : ℕ)
-    → CommitsInMemory sh cs → CommitsStand sh w cs → CommitsStand sh (dir_takes w c d k s sends) cs → d < sh.dirs → home sh (line_of x) ≡ d
+    → CommitsInMemory sh cs → CommitsStand sh w cs → CommitsStand sh (dir_takes w c d k s sends) cs → d < sh.dirs → home_of sh x ≡ d
     → ((n : Noted) → Contains cs n → stores_word sh.base n.stores x ≡ true → IsSteady w (dir_takes w c d k s sends) d j n)
     → value_at sh.base ram cs s j None x ≡ value_at sh.base ram cs (w.dirs d) j None x
 value-taken sh ram w cs c d k s sends j x inside before after dl e f =
@@ -194,29 +195,29 @@ value-taken sh ram w cs c d k s sends j x inside before after dl e f =
 
 -- all commits are steady where the message is no Commit
 pub steady-taken : (w : World) (c d k : ℕ) (m : Msg) (s : DirState) (sends : Sends) (j : Option ℕ) (n : Noted)
-    → in_flight w.net (Core c) (Dir d) k ≡ Some m → ((t : ℕ) → passes (Commits t) m ≡ false) → IsSteady w (dir_takes w c d k s sends) d j n
+    → FromCore w c d k m → ((t : ℕ) → passes (Commits t) m ≡ false) → IsSteady w (dir_takes w c d k s sends) d j n
 steady-taken w c d k m s sends j n i p = inr (either n.core.0 c
     (λ q. rw q (commits-own w c d k m s sends n.tid.0 i (p n.tid.0)))
     (λ h. commits-other w c d k s sends n.core.0 n.tid.0 h))
 
 -- what is to be shown of each core's words where a directory takes a message
 pub held-taken : (sh : Shape) (ram : ℕ → ℕ) (w : World) (cs : List Noted) (c d k : ℕ) (s : DirState) (sends : Sends)
-    → ((j x : ℕ) (out : Link) → j < sh.cores → d < sh.dirs → home sh (line_of x) ≡ d
+    → ((j x : ℕ) (out : Link) → j < sh.cores → d < sh.dirs → home_of sh x ≡ d
     → HeldOf x (value_at sh.base ram cs s (Some j) None x) (after_answer (record (pair w j d) { out = out }) s (sends (Core j))))
     → KeptHeld sh ram w cs → KeptHeld sh ram (dir_takes w c d k s sends) cs
 unfolding pair
 held-taken sh ram w cs c d k s sends f h = pairs_dir (HeldAt sh ram cs) w c d k s sends
-    (λ x cl dl e. f c x (set (w.net (Core c) (Dir d)) k None) cl dl e) (λ j n x jl dl e. f j x (w.net (Core j) (Dir d)) jl dl e) h
+    (λ x cl dl e. f c x (set (to_dir w c d) k None) cl dl e) (λ j n x jl dl e. f j x (to_dir w j d) jl dl e) h
 
 -- where it asks an owner, and what it serves and is owed stays
 pub held-asked : (sh : Shape) (ram : ℕ → ℕ) (w : World) (cs : List Noted) (d : ℕ) (s : DirState) (sends : Sends)
-    → ((j x : ℕ) → d < sh.dirs → home sh (line_of x) ≡ d → value_at sh.base ram cs s (Some j) None x ≡ value_at sh.base ram cs (w.dirs d)
+    → ((j x : ℕ) → d < sh.dirs → home_of sh x ≡ d → value_at sh.base ram cs s (Some j) None x ≡ value_at sh.base ram cs (w.dirs d)
     (Some j) None x) → ((j x y : ℕ) → among (FillNot x y) (sends (Core j)) ≡ 0) → KeptHeld sh ram w cs
     → KeptHeld sh ram (dir_asks w d s sends) cs
 unfolding pair
 held-asked sh ram w cs d s sends v f h =
     pairs_asks (HeldAt sh ram cs) w d s sends
-    (λ j x jl dl e. held-answered x _ _ (pair w j d) (w.net (Core j) (Dir d)) s (sends (Core j)) (v j x dl e) (f j x _) (h j d x jl dl e)) h
+    (λ j x jl dl e. held-answered x _ _ (pair w j d) (to_dir w j d) s (sends (Core j)) (v j x dl e) (f j x _) (h j d x jl dl e)) h
 
 -- Where a directory takes a Commit, each word that the commit stored is invalidated at every other core that holds it, and all other
 -- words have their values still.
@@ -238,8 +239,8 @@ commit-invalidates sh c u n s = go (s.serving.serving == u) (count_below (has_ma
         (invalidations sh s.lines c u) else Waits)
     go false b q r = tt
     go true false q r = tt
-    go true true q r = let e : u ≡ s.serving.serving = grind (arith, nat_tests) in let f : n ≡ count_below (has_mark s.lines) (lines sh) =
-        grind (arith, nat_tests) in (rw (e, f) refl, λ j. rw e refl)
+    go true true q r = let e : u ≡ s.serving.serving = grind nats in let f : n ≡ count_below (has_mark s.lines) (lines sh) =
+        grind nats in (rw (e, f) refl, λ j. rw e refl)
 
 -- a message that is sent for one of the lines
 sent-one : (k : Kind) (f : ℕ → List Msg) (p : ℕ → Bool) (n l : ℕ) → l < n → p l ≡ true → 1 ≤ among k (f l)
@@ -257,7 +258,7 @@ sent-one k f p (suc n) l i e h = rw flat_map-append (rw among-append (go (cases_
     go (inr q) r = omega (arith, r (omega (arith, i, q)))
 
 -- the marked words of a line are those that the commit stored
-stored-hit : (sh : Shape) (d x : ℕ) (ls : Lines) (n : Noted) → line_of x < lines sh → home sh (line_of x) ≡ d
+stored-hit : (sh : Shape) (d x : ℕ) (ls : Lines) (n : Noted) → line_of x < lines sh → home_of sh x ≡ d
     → ls.mark (line_of x) ≡ stored_mask sh d n.stores (line_of x) → stores_word sh.base n.stores x ≡ true
     → (has_mark ls (line_of x) ≡ true) × (hit (line_of x) (ls.mark (line_of x)) x ≡ true)
 unfolding stored_mask stores_in hit
@@ -265,28 +266,28 @@ stored-hit sh d x ls n il e m s =
     let here : p (place_of x) ≡ true = let i : word_at (line_of x) (place_of x) ≡ x = omega arith in rw i s in
     let some : 0 < mask_of p = some-mask p (place_of x) (omega arith) here in
     let in-mask : has (mask_of p) (place_of x) ≡ true = has-mask_of p (place_of x) (omega arith) ∙ here in
-    (rw mark (let z = some in grind (arith, nat_tests)), rw mark (rw (same (line_of x)) in-mask))
+    (rw mark (let z = some in grind nats), rw mark (rw (same (line_of x)) in-mask))
   where
     p : ℕ → Bool
     p k = stores_word sh.base n.stores (word_at (line_of x) k)
 
     mark : ls.mark (line_of x) ≡ mask_of p
-    mark = let a : nat_lt (line_of x) (lines sh) ≡ true = grind (arith, nat_tests) in let b : (d == home sh (line_of x)) ≡ true =
-        grind (arith, nat_tests) in m ∙ rw (a, b) refl
+    mark = let a : nat_lt (line_of x) (lines sh) ≡ true = grind nats in let b : (d == home_of sh x) ≡ true =
+        grind nats in m ∙ rw (a, b) refl
 
 sharer-told : (sh : Shape) (ls : Lines) (c t j x : ℕ) → line_of x < lines sh → j < sh.cores → (j ≡ c → ⊥) → has_mark ls (line_of x) ≡ true
     → hit (line_of x) (ls.mark (line_of x)) x ≡ true → ls.sharers (line_of x) j ≡ true → 1 ≤ among (InvWord x) (invs_to sh ls c t j)
 unfolding invs_to is_invalidated among passes
 sharer-told sh ls c t j x il jl n m h s = sent-one (InvWord x) (λ l. Inv l (ls.mark l) t ∷ []) (is_invalidated sh ls c j) (lines sh)
-    (line_of x) il (let a : nat_lt j sh.cores ≡ true = grind (arith, nat_tests) in rw (a, m, s, differ j c n) refl) (rw h (omega arith))
+    (line_of x) il (let a : nat_lt j sh.cores ≡ true = grind nats in rw (a, m, s, differ j c n) refl) (rw h (omega arith))
 
 -- a core that isn't a sharer, and has no Commit on its way, holds no word of the line
 idle : (sh : Shape) (w : World) (cs : List Noted) (j d l : ℕ) → KeptLoading sh w → SharerOf sh.base cs j l (pair w j d)
     → (w.dirs d).lines.sharers l j ≡ false → (CommitsLine sh.base cs j l (pair w j d) → ⊥) → (keeps_unmodified (w.cores j).cache l ≡ false)
-    × (is_stale (w.cores j).awaited ≡ false → live (FillOf l) (w.net (Dir d) (Core j)) ≡ 0)
+    × (is_stale (w.cores j).awaited ≡ false → live (FillOf l) (to_core w d j) ≡ 0)
 unfolding pair holds_line
 idle sh w cs j d l loading shares s n =
-    split (keeps_unmodified (w.cores j).cache l) (is_fresh (w.cores j).awaited && nat_lt 0 (live (FillOf l) (w.net (Dir d) (Core j)))) refl
+    split (keeps_unmodified (w.cores j).cache l) (is_fresh (w.cores j).awaited && nat_lt 0 (live (FillOf l) (to_core w d j))) refl
     refl
   where
     v : Pair
@@ -295,33 +296,33 @@ idle sh w cs j d l loading shares s n =
     told : holds_line l v ≡ true → ⊥
     told h = elim (shares.shares h) [ inl e ↦ absurd (cc) | inr k ↦ n k ]
 
-    none : (a : Option Awaited) → (w.cores j).awaited ≡ a → (is_fresh a && nat_lt 0 (live (FillOf l) (w.net (Dir d) (Core j)))) ≡ false
-        → is_stale a ≡ false → live (FillOf l) (w.net (Dir d) (Core j)) ≡ 0
-    none a e f q = grind (arith, nat_tests)
+    none : (a : Option Awaited) → (w.cores j).awaited ≡ a → (is_fresh a && nat_lt 0 (live (FillOf l) (to_core w d j))) ≡ false
+        → is_stale a ≡ false → live (FillOf l) (to_core w d j) ≡ 0
+    none a e f q = grind nats
 
     split : (a b : Bool) → keeps_unmodified (w.cores j).cache l ≡ a
-        → (is_fresh (w.cores j).awaited && nat_lt 0 (live (FillOf l) (w.net (Dir d) (Core j)))) ≡ b
+        → (is_fresh (w.cores j).awaited && nat_lt 0 (live (FillOf l) (to_core w d j))) ≡ b
         → (keeps_unmodified (w.cores j).cache l ≡ false)
-        × (is_stale (w.cores j).awaited ≡ false → live (FillOf l) (w.net (Dir d) (Core j)) ≡ 0)
+        × (is_stale (w.cores j).awaited ≡ false → live (FillOf l) (to_core w d j) ≡ 0)
     split true b p q = absurd (told (rw p refl))
     split false true p q = absurd (told (rw (p, q) refl))
     split false false p q = (p, none (w.cores j).awaited refl q)
 
 -- two Commits in flight to a directory are of one core
 one-committer : (sh : Shape) (w : World) (cs : List Noted) (c j d u : ℕ) → IsRising 0 cs → CommitsAreServed sh w → KeptStored sh cs w
-    → c < sh.cores → j < sh.cores → d < sh.dirs → 1 ≤ live (Commits (w.dirs d).serving.serving) (w.net (Core c) (Dir d))
-    → 1 ≤ live (Commits u) (w.net (Core j) (Dir d)) → j ≡ c
+    → c < sh.cores → j < sh.cores → d < sh.dirs → 1 ≤ live (Commits (tid_at w d)) (to_dir w c d)
+    → 1 ≤ live (Commits u) (to_dir w j d) → j ≡ c
 unfolding pair
 one-committer sh w cs c j d u rising served stored cl jl dl a b =
-    let x = (stored c d (w.dirs d).serving.serving).sent cl dl a in
+    let x = (stored c d (tid_at w d)).sent cl dl a in
     let y = (stored j d u).sent jl dl b in
-    let t : u ≡ (w.dirs d).serving.serving = sym (served j d u jl dl b) in
+    let t : u ≡ tid_at w d = sym (served j d u jl dl b) in
     let z : y.commit ≡ x.commit = same-commit cs y.commit x.commit rising y.noted x.noted (y.tid ∙ t ∙ sym x.tid) in
     sym y.core ∙ ap (λ n. n.core.0) z ∙ x.core
 
 pub answered-commit : (sh : Shape) (ram : ℕ → ℕ) (w : World) (cs : List Noted) (c d k : ℕ) (m : Msg) → CommitsInMemory sh cs
     → CommitsStand sh w cs → KeptHeld sh ram w cs → IsRising 0 cs → CommitsAreServed sh w → KeptCounted sh w → KeptStored sh cs w
-    → KeptLoading sh w → KeptSharers sh w cs → c < sh.cores → d < sh.dirs → in_flight w.net (Core c) (Dir d) k ≡ Some m
+    → KeptLoading sh w → KeptSharers sh w cs → c < sh.cores → d < sh.dirs → FromCore w c d k m
     → ((l : ℕ) → passes (LoadOf l) m ≡ false)
     → (b : Answer) → FillsBy c m b → Invalidates sh c (w.dirs d) m b → OfAnswer w c d k (λ v. CommitsStand sh v cs → KeptHeld sh ram v cs) b
 unfolding pair passes
@@ -334,12 +335,12 @@ answered-commit sh ram w cs c d k m inside before h rising served counted stored
     (λ n. other j x out jl n e after (stores_word sh.base was.commit.stores x) refl)) h
   where
     t : ℕ
-    t = (w.dirs d).serving.serving
+    t = (tid_at w d)
 
     was : SettledCommit sh cs d (w.dirs d)
     was = taken-stored sh w cs c d k m counted stored cl dl i (g.0)
 
-    j' : in_flight w.net (Core c) (Dir d) k ≡ Some (Commit t (count_below (has_mark (w.dirs d).lines) (lines sh)))
+    j' : (FromCore w c d k (Commit t (count_below (has_mark (w.dirs d).lines) (lines sh))))
     j' = i ∙ ap (λ x. Some x) (g.0)
 
     one : num (passes (Commits t) (Commit t (count_below (has_mark (w.dirs d).lines) (lines sh)))) ≡ 1
@@ -356,7 +357,7 @@ answered-commit sh ram w cs c d k m inside before h rising served counted stored
     own : (n : Noted) → IsSteady w (dir_takes w c d k s sends) d (Some c) n
     own n = either n.core.0 c (λ q. inl (rw q (same c))) (λ r. inr (commits-other w c d k s sends n.core.0 n.tid.0 r))
 
-    stays : (j x : ℕ) (out : Link) → j < sh.cores → home sh (line_of x) ≡ d → CommitsStand sh (dir_takes w c d k s sends) cs
+    stays : (j x : ℕ) (out : Link) → j < sh.cores → home_of sh x ≡ d → CommitsStand sh (dir_takes w c d k s sends) cs
         → ((n : Noted) → Contains cs n → stores_word sh.base n.stores x ≡ true → IsSteady w (dir_takes w c d k s sends) d (Some j) n)
         → HeldOf x (value_at sh.base ram cs s (Some j) None x) (after_answer (record (pair w j d) { out = out }) s (sends (Core j)))
     stays j x out jl e after steady =
@@ -367,10 +368,10 @@ answered-commit sh ram w cs c d k m inside before h rising served counted stored
     apart : (n : Noted) → (n.tid.0 ≡ t → ⊥) → (b : Option ℕ) → IsSteady w (dir_takes w c d k s sends) d b n
     apart n r b = inr (either n.core.0 c
         (λ q. rw q (commits-own w c d k (Commit t (count_below (has_mark (w.dirs d).lines) (lines sh))) s sends n.tid.0 j'
-        (let z : (t == n.tid.0) ≡ false = grind (arith, nat_tests) in z)))
+        (let z : (t == n.tid.0) ≡ false = grind nats in z)))
         (λ y. commits-other w c d k s sends n.core.0 n.tid.0 y))
 
-    other : (j x : ℕ) (out : Link) → j < sh.cores → (j ≡ c → ⊥) → home sh (line_of x) ≡ d → CommitsStand sh (dir_takes w c d k s sends) cs
+    other : (j x : ℕ) (out : Link) → j < sh.cores → (j ≡ c → ⊥) → home_of sh x ≡ d → CommitsStand sh (dir_takes w c d k s sends) cs
         → (b : Bool) → stores_word sh.base was.commit.stores x ≡ b
         → HeldOf x (value_at sh.base ram cs s (Some j) None x) (after_answer (record (pair w j d) { out = out }) s (sends (Core j)))
     other j x out jl n e after false y = stays j x out jl e after (λ z q r. either z.tid.0 t
@@ -393,13 +394,13 @@ answered-commit sh ram w cs c d k m inside before h rising served counted stored
             held-idle x _ _ (z.0) (λ p. omega (
               arith,
               z.1 p,
-              live-sends (FillOf (line_of x)) (w.net (Dir d) (Core j)) (sends (Core j)),
+              live-sends (FillOf (line_of x)) (to_core w d j) (sends (Core j)),
               f (line_of x) j,
               none (j == c) (passes (LoadOf (line_of x)) m) (lm (line_of x)),
             ))
           where
             z : (keeps_unmodified (w.cores j).cache (line_of x) ≡ false)
-                × (is_stale (w.cores j).awaited ≡ false → live (FillOf (line_of x)) (w.net (Dir d) (Core j)) ≡ 0)
+                × (is_stale (w.cores j).awaited ≡ false → live (FillOf (line_of x)) (to_core w d j) ≡ 0)
             z = idle sh w cs j d (line_of x) loading (sharers j d (line_of x) jl dl il e) q
                 (λ r. n (one-committer sh w cs c j d r.tid rising served stored cl jl dl
-                (omega (arith, one, live-some (Commits t) (w.net (Core c) (Dir d)) k _ j')) (r.sent)))
+                (omega (arith, one, live-some (Commits t) (to_dir w c d) k _ j')) (r.sent)))

@@ -5,20 +5,18 @@ use proofs.Names
 use Names.{ℕ, ◌≡◌, Noted, ◌<◌, ◌++◌, List, Option, Some, None, IfSome, refl, inl, inr, Plain, Local, Program, Dir, Event, Shape, CoreState}
 use Names.{World, Out, core_exec, core_evict, from_dir, dir_deliver, History, Stepped, step, next_history, recorded, and_noted, core_moves}
 use Names.{core_takes, Uses, Suits, Carried, Invariants, Grant, granted_by, Ways, ways_after, sent_by, zero, suc, ◌||◌, Bool, true, false}
-use Names.{cond, is_some, unwrap_or, arith, ap, sym, subst, ◌∙◌, nat_tests, num, line_of, Core, home, lines, DirState, noted, insert_commit}
-use Names.{sees, copies_with, AboveOf, CopyWord, CopyNot, Commits, live, among, Pair, pair, after_move, is_this, is_applied, stores_word}
-use Names.{after_stores, counts, word_copies, CopiesHave, wrote_line, Vendor, Msg, in_flight, grant, CommitsStand}
+use Names.{cond, is_some, unwrap_or, arith, ap, sym, subst, ◌∙◌, num, line_of, home, lines, DirState, noted, insert_commit, sees}
+use Names.{copies_with, AboveOf, CopyWord, CopyNot, Commits, live, among, Pair, pair, after_move, is_this, is_applied, stores_word}
+use Names.{after_stores, counts, word_copies, CopiesHave, wrote_line, Vendor, Msg, grant, CommitsStand, nats, home_of, to_dir, FromDir}
 use proofs.Copies.TagsKept.{untagged}
 use proofs.Counts.Links.{live-sends}
 use proofs.Counts.StepCases.{either, moves-own, moves-other, node_cases}
 use proofs.Marks.DirRecords.{dir-records}
-use proofs.OneCore.CoreStays.{CheckpointStays, grant-stays, back-stays}
+use proofs.OneCore.CoreCloses.{CheckpointStays, grant-stays, back-stays}
 use proofs.Order.SerialParts.{each-listed}
 use proofs.Order.SerialSteps.{Stand, stand}
-use proofs.Values.CommitWords.{CommitsWord, CommitsWords, commits-exec}
-use proofs.Values.CoreWords.{Uncommitted, Quietly, words-exec, words-evict}
-use proofs.Values.CoreWordsTakes.{WordBack, words-grant, words-back}
-use proofs.Values.DirWords.{dir-words}
+use proofs.Values.CoreWords.{CommitsWord, CommitsWords, commits-exec, Uncommitted, Quietly, words-exec, words-evict, WordBack, words-grant}
+use proofs.Values.CoreWords.{words-back, dir-words}
 use proofs.Values.FramedCores.{Closing, Framing, Stays, Closes, framing-exec}
 use proofs.Values.FramedSteps.{value-own, value-else}
 use proofs.Values.HomesAnswered.{answered, granted, known}
@@ -67,7 +65,7 @@ stored-others sh x d g u o v w m z n = record {
 }
   where
     clean : (k : Option ℕ) → o.core.cache.dirty x ≡ k → num (is_this k g) ≡ 0
-    clean a q = grind (arith, nat_tests)
+    clean a q = grind nats
 
 -- and new ones of the commit, as the core sees it
 new-copies : (sh : Shape) (x d u y : ℕ) (ram : ℕ → ℕ) (o : Out) (v : Pair) → CommitsWord sh x u v.core.cache v.core.spilled o
@@ -88,18 +86,18 @@ new-copies sh x d u y ram o v w m valid none s = record {
 }
   where
     spilled : (k : Option ℕ) → v.core.spilled x ≡ k → unwrap_or k y ≡ y
-    spilled a q = grind (arith, nat_tests)
+    spilled a q = grind nats
 
     modified : (b : Bool) (k : Option ℕ) → (b || is_some k) ≡ true → k ≡ None → b ≡ true
-    modified a k e q = grind (arith, nat_tests)
+    modified a k e q = grind nats
 
     framed : (k : Option ℕ) → v.core.cache.value x ≡ k → v.core.spilled x ≡ None → k ≡ Some y
-    framed a q z = grind (arith, nat_tests)
+    framed a q z = grind nats
 
 -- a commit that isn't applied counts for no home
 counts-none : (s : DirState) (c t : ℕ) (r : CoreState) → s.serving.serving ≡ t → s.owed ≡ 0 → counts s None None (noted t c r) ≡ false
 unfolding counts is_applied noted
-counts-none s c t r e z = rw (e, z) (grind (arith, nat_tests))
+counts-none s c t r e z = rw (e, z) (grind nats)
 
 -- all pairs
 
@@ -146,14 +144,14 @@ commit-keeps sh p entries ram gs ys views m h c o u k l g f =
     unstored x q = ap (λ y. stores_word sh.base y x) g.stores ∙ q
 
     -- the commit makes nothing of the word at home
-    quiet : (x : ℕ) (b : Bool) → stores_word sh.base s.stores x ≡ b → IsSilent sh.base (w.dirs (home sh (line_of x))) None None x new
-    quiet x true q = let y = served x q in inl (counts-none (w.dirs (home sh (line_of x))) c g.tid g.last y.serving y.owed)
+    quiet : (x : ℕ) (b : Bool) → stores_word sh.base s.stores x ≡ b → IsSilent sh.base (w.dirs (home_of sh x)) None None x new
+    quiet x true q = let y = served x q in inl (counts-none (w.dirs (home_of sh x)) c g.tid g.last y.serving y.owed)
     quiet x false q = inr (unstored x q)
 
-    own : (x : ℕ) → home sh (line_of x) < sh.dirs → (b : Bool) → stores_word sh.base s.stores x ≡ b
-        → CoreKeeps x (tag_of w (home sh (line_of x)) x) (value_of sh ram w h.commits (home sh (line_of x)) None x)
-        (value_of sh ram w cs (home sh (line_of x)) (Some c) x) (pair w c (home sh (line_of x)))
-        (after_move (pair w c (home sh (line_of x))) o (home sh (line_of x)))
+    own : (x : ℕ) → home_of sh x < sh.dirs → (b : Bool) → stores_word sh.base s.stores x ≡ b
+        → CoreKeeps x (tag_of w (home_of sh x) x) (value_of sh ram w h.commits (home_of sh x) None x)
+        (value_of sh ram w cs (home_of sh x) (Some c) x) (pair w c (home_of sh x))
+        (after_move (pair w c (home_of sh x)) o (home_of sh x))
     own x dl false q = record {
       copies = a.copies;
       tagged = a.have (tag_of w d x) _ ((old d x dl refl).in_copies c l);
@@ -164,7 +162,7 @@ commit-keeps sh p entries ram gs ys views m h c o u k l g f =
     }
       where
         d : ℕ
-        d = home sh (line_of x)
+        d = (home_of sh x)
 
         none : (i : Bool) (j : Option ℕ) (b : Bool) → (i || is_some j) ≡ b → b ≡ false → (i ≡ false) × (j ≡ None)
         none false None b e z = (refl, refl)
@@ -186,7 +184,7 @@ commit-keeps sh p entries ram gs ys views m h c o u k l g f =
     }
       where
         d : ℕ
-        d = home sh (line_of x)
+        d = (home_of sh x)
 
         inside : line_of x < lines sh
         inside = (k.carried_in_memory.attempts_stay_in_memory c).accesses.stored x q
@@ -195,7 +193,7 @@ commit-keeps sh p entries ram gs ys views m h c o u k l g f =
         named = k.carried.stored_words_are_those_named c x ∙ q
 
         clean : (b : Bool) → s.cache.modified x ≡ b → (z : Option ℕ) → s.spilled x ≡ z → (b || is_some z) ≡ true → s.cache.dirty x ≡ None
-        clean b r a z e = grind (arith, nat_tests)
+        clean b r a z e = grind nats
 
         others : (t : ℕ) → (g.tid ≡ t → ⊥) → Others x t (pair w c d) (after_move (pair w c d) o d)
         others t n = stored-others sh x d t g.tid o (pair w c d) (word x) named (clean (s.cache.modified x) refl (s.spilled x) refl named) n
@@ -214,19 +212,19 @@ commit-keeps sh p entries ram gs ys views m h c o u k l g f =
             (wrote-none sh.base h.commits c g.tid x (each-listed (λ n. n.tid.0 ≡ g.tid → stores_word sh.base n.stores x ≡ false) h.commits
             (λ n i e. absurd (omega (arith, st.fresh, times-listed g.tid h.commits n i e)))))
 
-        unsent : (t : ℕ) → (t ≡ g.tid → ⊥) → (y : ℕ) → live (Commits t) (w.net (Core c) (Dir d)) ≡ y → y ≡ 0
+        unsent : (t : ℕ) → (t ≡ g.tid → ⊥) → (y : ℕ) → live (Commits t) (to_dir w c d) ≡ y → y ≡ 0
         unsent t n zero e = refl
         unsent t n (suc y) e = absurd (n (sym (k.carried.committing_tid_is_served c d t l dl (omega (arith, e))) ∙ (served x q).serving))
 
         no-other : (t : ℕ) → tag_of w d x < t → (t ≡ g.tid → ⊥) → copies_with (line_of x) t (pair w c d) ≡ 0
-        no-other t i n = (above t i).one ∙ rw (unsent t n (live (Commits t) (w.net (Core c) (Dir d))) refl)
+        no-other t i n = (above t i).one ∙ rw (unsent t n (live (Commits t) (to_dir w c d)) refl)
             (which (wrote_line sh.base h.commits c t (line_of x)))
           where
             which : (b : Bool) → cond {A = ℕ} b 0 0 ≡ 0
             which true = refl
             which false = refl
 
-    at-home : (x : ℕ) → home sh (line_of x) < sh.dirs → ValuesAt sh ram (core_moves w c o) cs (home sh (line_of x)) x
+    at-home : (x : ℕ) → home_of sh x < sh.dirs → ValuesAt sh ram (core_moves w c o) cs (home_of sh x) x
     at-home x dl = record {
       at_home = λ q. (old d x dl refl).at_home (λ j jl. sym ((each j jl).copies) ∙ q j jl) ∙ sym same;
       in_copies = λ j jl. subst (λ y. CopiesHave x (tag_of w d x) y (pair (core_moves w c o) j d)) (sym same) ((each j jl).tagged);
@@ -234,7 +232,7 @@ commit-keeps sh p entries ram gs ys views m h c o u k l g f =
     }
       where
         d : ℕ
-        d = home sh (line_of x)
+        d = (home_of sh x)
 
         same : value_of sh ram w cs d None x ≡ value_of sh ram w h.commits d None x
         same = value-skip sh.base ram new h.commits (w.dirs d) None None x (quiet x (stores_word sh.base s.stores x) refl)
@@ -303,7 +301,7 @@ step-values sh p entries ram gs ys views m h e u k = node_cases sh p w e (λ x g
         quietly o.commit (core_moves w c o) (a.0)
         (alike-keeps sh ram w (core_moves w c o) h.commits refl (moved-alike sh w c o (a.1)) b.values)
 
-    taken : (c d n : ℕ) (a : Msg) → in_flight w.net (Dir d) (Core c) n ≡ Some a → (x : Option Out) → IfSome x (CheckpointStays (w.cores c))
+    taken : (c d n : ℕ) (a : Msg) → FromDir w d c n a → (x : Option Out) → IfSome x (CheckpointStays (w.cores c))
         → ((y : ℕ) → IfSome x (WordBack sh y (w.cores c) a))
         → IfSome x (λ o. KeepsValues sh ram h (record { world = core_takes w (Dir d) c n o; noted = o.commit }))
     taken c d n a i None r f = tt

@@ -3,24 +3,23 @@ use Rattle.base_lemmas.proofs.Lemmas.{and-false}
 use Rattle.theorem_serial.proofs
 use proofs.Names
 use Names.{ℕ, ◌+◌, ◌≡◌, ◌<◌, ◌≤◌, ◌⊎◌, ◌==◌, ◌&&◌, ◌||◌, Bool, true, false, cond, nat_lt, List, Contains, Option, Some, None, if◌then◌else◌}
-use Names.{arith, refl, ap, sym, ◌∙◌, inl, inr, cases_eq, cases_lt, nat_tests, Noted, Stored, num, count_below, line_of, place_of, word_at}
-use Names.{has_mark, has, full, mask_of, Core, Dir, Msg, Shape, home, lines, has-mask_of, World, in_flight, History, copies_with, AboveOf}
-use Names.{Commits, CommitOf, CopyOf, CopyWord, CopyNot, live, passes, pair, is_applied, MarkedCommit, stores_at, stores_in, is_this}
-use Names.{stored_mask, stores_word, counts, word_copies, CopiesHave, names_line, wrote, wrote_line, wrote_mask, [], subst, Plain, Program}
-use Names.{Local, DirState, Sends, Answer, Waits, Drops, Asks, Takes, dir_takes, dir_asks, vendor_gives, Uses, Invariants, Grant}
-use Names.{CommitsStand, Ways}
+use Names.{arith, refl, ap, sym, ◌∙◌, inl, inr, cases_eq, cases_lt, Noted, Stored, num, count_below, line_of, place_of, word_at, has_mark}
+use Names.{has, full, mask_of, Msg, Shape, lines, has-mask_of, World, History, copies_with, AboveOf, Commits, CommitOf, CopyOf, CopyWord}
+use Names.{CopyNot, live, passes, pair, is_applied, MarkedCommit, stores_at, stores_in, is_this, stored_mask, stores_word, counts}
+use Names.{word_copies, CopiesHave, names_line, wrote, wrote_line, wrote_mask, [], subst, Plain, Program, Local, DirState, Sends, Answer}
+use Names.{Waits, Drops, Asks, Takes, dir_takes, dir_asks, vendor_gives, Uses, Invariants, Grant, CommitsStand, Ways, nats, home_of, tid_at}
+use Names.{to_dir, FromCore}
 use proofs.Copies.LinesStep.{marked-line, writer-line, other-writer, commit-passes}
 use proofs.Copies.TagsKept.{tag-below, applied-owed, TakenCommit, takes-consumes}
 use proofs.Copies.WroteLines.{wrote-at}
 use proofs.Counts.Links.{num-same}
 use proofs.Counts.StepCases.{given, OfAnswer}
-use proofs.Marks.DirRecords.{NoCopy, Stays, Records, Still, Came, Settles, Dropped, RecordsBy}
+use proofs.Marks.DirRecords.{NoCopy, Stays, Records, Still, Came, Settles, Dropped, RecordsBy, CountsMarked}
 use proofs.Marks.MaskLaws.{same-commit}
-use proofs.Marks.OwesByCommit.{CountsMarked}
-use proofs.Marks.StoredMasks.{stored-line, stored-cases}
-use proofs.Memory.MemorySends.{line-has}
+use proofs.Marks.CoreMarks.{stored-line, stored-cases}
+use proofs.Memory.CoreInMemory.{line-has}
 use proofs.Tids.TidSteps.{live-some}
-use proofs.Values.DirWords.{HomeBy, Left, Home, WordsBy}
+use proofs.Values.CoreWords.{HomeBy, Left, Home, WordsBy}
 use proofs.Values.ValueAt.{value-alike, rising-above}
 use proofs.Values.WordCopies.{none-copied, copy-has, word-line, few-copies}
 use proofs.Values.WordValues.{Known, Answers, unconsumed, value_of, tag_of, ValuesAt, have-still, same-value, stored-at-home, quiet-keep}
@@ -31,7 +30,7 @@ use proofs.Values.WordValues.{taken-values, dropped-values, away-values, KeptVal
 
 -- the commit whose Commit is taken
 pub taken-of : (sh : Shape) (ram : ℕ → ℕ) (h : History) (c d k : ℕ) (m : Msg) → Known sh ram h → c < sh.cores → d < sh.dirs
-    → in_flight h.world.net (Core c) (Dir d) k ≡ Some m → CountsMarked sh (h.world.dirs d) m → TakenCommit sh h.commits h.world c d
+    → FromCore h.world c d k m → CountsMarked sh (h.world.dirs d) m → TakenCommit sh h.commits h.world c d
 unfolding pair passes
 taken-of sh ram h c d k m b cl dl i q = record {
   settled =
@@ -48,32 +47,32 @@ taken-of sh ram h c d k m b cl dl i q = record {
 }
   where
     u : ℕ
-    u = (h.world.dirs d).serving.serving
+    u = (tid_at h.world d)
 
     r : ℕ
     r = count_below (has_mark (h.world.dirs d).lines) (lines sh)
 
-    sent : 1 ≤ live (Commits u) (h.world.net (Core c) (Dir d))
-    sent = let one : num (passes (Commits u) m) ≡ 1 = rw q (grind (arith, nat_tests)) in
-        omega (arith, one, live-some (Commits u) (h.world.net (Core c) (Dir d)) k m i)
+    sent : 1 ≤ live (Commits u) (to_dir h.world c d)
+    sent = let one : num (passes (Commits u) m) ≡ 1 = rw q (grind nats) in
+        omega (arith, one, live-some (Commits u) (to_dir h.world c d) k m i)
 
     n : MarkedCommit sh h.commits c d u (pair h.world c d)
     n = (b.stored c d u).sent cl dl sent
 
-    counted : 1 ≤ live (CommitOf n.commit.tid.0 r) (h.world.net (Core n.commit.core.0) (Dir d))
-    counted = rw (n.tid, n.core) (let one : num (passes (CommitOf u r) m) ≡ 1 = rw q (grind (arith, nat_tests)) in
-        omega (arith, one, live-some (CommitOf u r) (h.world.net (Core c) (Dir d)) k m i))
+    counted : 1 ≤ live (CommitOf n.commit.tid.0 r) (to_dir h.world n.commit.core.0 d)
+    counted = rw (n.tid, n.core) (let one : num (passes (CommitOf u r) m) ≡ 1 = rw q (grind nats) in
+        omega (arith, one, live-some (CommitOf u r) (to_dir h.world c d) k m i))
 
 -- what the answer does: the marked lines have the commit's TID as their tag, and home words stay
 pub record Settled (sh : Shape) (ram : ℕ → ℕ) (h : History) (c d k : ℕ) (m : Msg) (v : World) : Type 0 where
   pub known : Known sh ram h
   pub core : c < sh.cores
   pub dir : d < sh.dirs
-  pub flight : in_flight h.world.net (Core c) (Dir d) k ≡ Some m
+  pub flight : (FromCore h.world c d k m)
   pub answers : Answers sh h c d m v
   pub counts : CountsMarked sh (h.world.dirs d) m
   pub tags : (l : ℕ)
-      → (v.dirs d).lines.tag l ≡ (if has_mark (h.world.dirs d).lines l then (h.world.dirs d).serving.serving
+      → (v.dirs d).lines.tag l ≡ (if has_mark (h.world.dirs d).lines l then tid_at h.world d
       else (h.world.dirs d).lines.tag l)
   pub copies : NoCopy m
   pub words : (x : ℕ) → (v.dirs d).words x ≡ (h.world.dirs d).words x
@@ -85,13 +84,13 @@ applied-after : (sh : Shape) (ram : ℕ → ℕ) (h : History) (c d k : ℕ) (m 
 applied-after sh ram h c d k m v s y i t = go (c == y.core.0) refl
   where
     u : ℕ
-    u = (h.world.dirs d).serving.serving
+    u = (tid_at h.world d)
 
     before : ℕ
-    before = live (Commits y.tid.0) (h.world.net (Core y.core.0) (Dir d))
+    before = live (Commits y.tid.0) (to_dir h.world y.core.0 d)
 
     after : ℕ
-    after = live (Commits y.tid.0) (v.net (Core y.core.0) (Dir d))
+    after = live (Commits y.tid.0) (to_dir v y.core.0 d)
 
     one : before + num (is_applied (h.world.dirs d) y.tid.0) ≡ 1
     one = s.known.stand y d i s.dir t
@@ -103,19 +102,19 @@ applied-after sh ram h c d k m v s y i t = go (c == y.core.0) refl
     net = s.answers.net (Commits y.tid.0) y.core.0 d
 
     gone : c ≡ y.core.0 → (b : Bool) → (u == y.tid.0) ≡ b → after ≡ 0
-    gone e a q = grind (arith, nat_tests, commit-passes)
+    gone e a q = grind (nats, commit-passes)
 
     go : (b : Bool) → (c == y.core.0) ≡ b → is_applied (v.dirs d) y.tid.0 ≡ (b || is_applied (h.world.dirs d) y.tid.0)
-    go true q = let e : c ≡ y.core.0 = grind (arith, nat_tests) in
+    go true q = let e : c ≡ y.core.0 = grind nats in
         num-same (is_applied (v.dirs d) y.tid.0) true (omega (arith, then-one, gone e (u == y.tid.0) refl))
     go false q =
-        let z : (y.core.0 == c) ≡ false = grind (arith, nat_tests) in
+        let z : (y.core.0 == c) ≡ false = grind nats in
         let o : num ((y.core.0 == c && d == d) && passes (Commits y.tid.0) m) ≡ 0 = rw z refl in
         num-same (is_applied (v.dirs d) y.tid.0) (is_applied (h.world.dirs d) y.tid.0) (omega (arith, o, net, one, then-one))
 
 -- so a word is for all as it was for the core
 pub value-after : (sh : Shape) (ram : ℕ → ℕ) (h : History) (c d k x : ℕ) (m : Msg) (v : World) → Settled sh ram h c d k m v
-    → home sh (line_of x) ≡ d → value_of sh ram v h.commits d None x ≡ value_of sh ram h.world h.commits d (Some c) x
+    → home_of sh x ≡ d → value_of sh ram v h.commits d None x ≡ value_of sh ram h.world h.commits d (Some c) x
 unfolding counts
 value-after sh ram h c d k x m v s e = value-alike sh.base ram h.commits (v.dirs d) None None (h.world.dirs d) (Some c) None x
     (λ n i. go n i (stores_word sh.base n.stores x) refl)
@@ -127,7 +126,7 @@ value-after sh ram h c d k x m v s e = value-alike sh.base ram h.commits (v.dirs
 
 -- a word that the commit didn't store has the values that it had
 unstored-value : (sh : Shape) (ram : ℕ → ℕ) (h : History) (c d k x : ℕ) (m : Msg) (v : World) → Settled sh ram h c d k m v
-    → home sh (line_of x) ≡ d → (t : TakenCommit sh h.commits h.world c d) → stores_word sh.base t.settled.commit.stores x ≡ false
+    → home_of sh x ≡ d → (t : TakenCommit sh h.commits h.world c d) → stores_word sh.base t.settled.commit.stores x ≡ false
     → (e : Option ℕ) → value_of sh ram v h.commits d e x ≡ value_of sh ram h.world h.commits d e x
 unstored-value sh ram h c d k x m v s e t r =
     same-value sh ram h.world v h.commits d x s.known.stand s.answers.stand s.known.inside s.dir e same
@@ -138,13 +137,13 @@ unstored-value sh ram h c d k x m v s e t r =
           arith,
           s.answers.net (Commits y.tid.0) y.core.0 d,
           unconsumed (y.core.0 == c && d == d) (passes (Commits y.tid.0) m)
-              (commit-passes sh (h.world.dirs d) m y.tid.0 s.counts ∙ other ((h.world.dirs d).serving.serving == y.tid.0) refl),
+              (commit-passes sh (h.world.dirs d) m y.tid.0 s.counts ∙ other (tid_at h.world d == y.tid.0) refl),
         )
       where
-        other : (b : Bool) → ((h.world.dirs d).serving.serving == y.tid.0) ≡ b → b ≡ false
+        other : (b : Bool) → (tid_at h.world d == y.tid.0) ≡ b → b ≡ false
         other false p = refl
         other true p =
-            absurd (let o : (h.world.dirs d).serving.serving ≡ y.tid.0 = grind (arith, nat_tests) in
+            absurd (let o : tid_at h.world d ≡ y.tid.0 = grind nats in
             let z : stores_word sh.base t.settled.commit.stores x ≡ true = rw (sym (t.only y i o)) q in cc)
 
 -- a line with a mark of stored words lies in memory
@@ -152,13 +151,13 @@ pub mask-inside : (sh : Shape) (d l : ℕ) (ss : List Stored) (m : ℕ) → m �
 mask-inside sh d l ss m e r = go (nat_lt l (lines sh)) refl
   where
     go : (b : Bool) → nat_lt l (lines sh) ≡ b → l < lines sh
-    go true q = grind (arith, nat_tests)
+    go true q = grind nats
     go false q = absurd (let z : 0 ≡ num (nat_lt 0 (stored_mask sh d ss l)) = rw q at (stored-line sh d ss l) in
         let w : num (nat_lt 0 (stored_mask sh d ss l)) ≡ 1 = ap num (ap (nat_lt 0) (sym e) ∙ r) in omega (arith, z, w))
 
 -- a word of a line that isn't marked
 unmarked-values : (sh : Shape) (ram : ℕ → ℕ) (h : History) (c d k x : ℕ) (m : Msg) (v : World) → Settled sh ram h c d k m v
-    → home sh (line_of x) ≡ d → TakenCommit sh h.commits h.world c d → has_mark (h.world.dirs d).lines (line_of x) ≡ false
+    → home_of sh x ≡ d → TakenCommit sh h.commits h.world c d → has_mark (h.world.dirs d).lines (line_of x) ≡ false
     → ValuesAt sh ram v h.commits d x
 unfolding names_line
 unmarked-values sh ram h c d k x m v s e t r = quiet-keep sh ram h.world v h.commits d x (record {
@@ -180,7 +179,7 @@ unmarked-values sh ram h c d k x m v s e t r = quiet-keep sh ram h.world v h.com
     g = tag_of h.world d x
 
     no-word : (b : Bool) → passes (CopyWord x g) m ≡ b → b ≡ false
-    no-word a q = grind (arith, nat_tests, word-line)
+    no-word a q = grind (nats, word-line)
 
     unstored : (b : Bool) → stores_word sh.base t.settled.commit.stores x ≡ b → b ≡ false
     unstored false q = refl
@@ -194,25 +193,25 @@ unmarked-values sh ram h c d k x m v s e t r = quiet-keep sh ram h.world v h.com
 -- the commit's mask has the words that it stored
 wrote-has : (sh : Shape) (h : History) (c d x : ℕ) → (t : TakenCommit sh h.commits h.world c d)
     → stores_word sh.base t.settled.commit.stores x ≡ true
-    → has (wrote_mask sh.base h.commits c (h.world.dirs d).serving.serving (line_of x)) (place_of x) ≡ true
+    → has (wrote_mask sh.base h.commits c (tid_at h.world d) (line_of x)) (place_of x) ≡ true
 unfolding wrote_mask
 wrote-has sh h c d x t q =
     let at-place : (x : ℕ) → word_at (line_of x) (place_of x) ≡ x = λ x. omega arith in
-    has-mask_of (λ k. wrote sh.base h.commits c (h.world.dirs d).serving.serving (word_at (line_of x) k)) (place_of x) (omega arith)
+    has-mask_of (λ k. wrote sh.base h.commits c (tid_at h.world d) (word_at (line_of x) k)) (place_of x) (omega arith)
     ∙ rw (at-place x, sym (t.core), sym (t.settled.tid))
     (wrote-at sh.base h.commits t.settled.commit x t.settled.noted.0 q (t.settled.noted.1) (t.settled.noted.2))
 
 -- so that the core's copy has each of them
-stored-copied : (sh : Shape) (ram : ℕ → ℕ) (h : History) (c d x : ℕ) → Known sh ram h → c < sh.cores → d < sh.dirs → home sh (line_of x) ≡ d
+stored-copied : (sh : Shape) (ram : ℕ → ℕ) (h : History) (c d x : ℕ) → Known sh ram h → c < sh.cores → d < sh.dirs → home_of sh x ≡ d
     → (t : TakenCommit sh h.commits h.world c d) → line_of x < lines sh → has_mark (h.world.dirs d).lines (line_of x) ≡ true
-    → tag_of h.world d x < (h.world.dirs d).serving.serving → stores_word sh.base t.settled.commit.stores x ≡ true
-    → 1 ≤ word_copies x (h.world.dirs d).serving.serving (pair h.world c d)
+    → tag_of h.world d x < tid_at h.world d → stores_word sh.base t.settled.commit.stores x ≡ true
+    → 1 ≤ word_copies x (tid_at h.world d) (pair h.world c d)
 unfolding pair
 stored-copied sh ram h c d x b cl dl e t i r o q =
-    let u : ℕ = (h.world.dirs d).serving.serving in
+    let u : ℕ = tid_at h.world d in
     let a : AboveOf sh.base h.commits c (line_of x) u (pair h.world c d) = b.above c d (line_of x) u cl dl i e o in
     let w : wrote_line sh.base h.commits c u (line_of x) ≡ true = writer-line sh h c d (line_of x) i e t ∙ r in
-    let z : copies_with (line_of x) u (pair h.world c d) ≡ live (Commits u) (h.world.net (Core c) (Dir d)) = rw w at a.one in
+    let z : copies_with (line_of x) u (pair h.world c d) ≡ live (Commits u) (to_dir h.world c d) = rw w at a.one in
     let n = copy-has sh x u (wrote_mask sh.base h.commits c u (line_of x)) (pair h.world c d) (b.caches c) (wrote-has sh h c d x t q)
     (a.framed) (a.sent) in
     omega (arith, z, n, t.sent)
@@ -224,10 +223,10 @@ full-has k i = has-mask_of (λ j. true) k i
 -- nothing is owed while the Commit is in flight
 unowed : (sh : Shape) (ram : ℕ → ℕ) (h : History) (c d : ℕ) → Known sh ram h → d < sh.dirs → TakenCommit sh h.commits h.world c d
     → (h.world.dirs d).owed ≡ 0
-unowed sh ram h c d b dl t = grind (arith, nat_tests, t.settled.commit, applied-owed, b.stand, t.settled.noted, t.settled.stored, t.sent)
+unowed sh ram h c d b dl t = grind (nats, t.settled.commit, applied-owed, b.stand, t.settled.noted, t.settled.stored, t.sent)
 
 -- a word that the commit didn't store has no copy with the line's old tag
-none-old : (sh : Shape) (ram : ℕ → ℕ) (h : History) (c d j x : ℕ) → Known sh ram h → j < sh.cores → d < sh.dirs → home sh (line_of x) ≡ d
+none-old : (sh : Shape) (ram : ℕ → ℕ) (h : History) (c d j x : ℕ) → Known sh ram h → j < sh.cores → d < sh.dirs → home_of sh x ≡ d
     → (t : TakenCommit sh h.commits h.world c d) → line_of x < lines sh → has_mark (h.world.dirs d).lines (line_of x) ≡ true
     → stores_word sh.base t.settled.commit.stores x ≡ false → word_copies x (tag_of h.world d x) (pair h.world j d) ≡ 0
 unfolding pair stores_in
@@ -256,10 +255,10 @@ none-old sh ram h c d j x b jl dl e t i r q = go (b.whole d (line_of x) (unowed 
         omega (arith, o, z, few-copies sh x (tag_of h.world d x) (pair h.world j d) (b.caches j))
 
 cond-zero : (b : Bool) (n : ℕ) → n ≡ 0 → cond b n 0 ≡ 0
-cond-zero a n e = grind (arith, nat_tests)
+cond-zero a n e = grind nats
 
 marked-values : (sh : Shape) (ram : ℕ → ℕ) (h : History) (c d k x : ℕ) (m : Msg) (v : World) → Settled sh ram h c d k m v
-    → home sh (line_of x) ≡ d → TakenCommit sh h.commits h.world c d → has_mark (h.world.dirs d).lines (line_of x) ≡ true
+    → home_of sh x ≡ d → TakenCommit sh h.commits h.world c d → has_mark (h.world.dirs d).lines (line_of x) ≡ true
     → ValuesAt sh ram v h.commits d x
 unfolding pair
 marked-values sh ram h c d k x m v s e t r = record {
@@ -272,7 +271,7 @@ marked-values sh ram h c d k x m v s e t r = record {
     b = s.known
 
     u : ℕ
-    u = (h.world.dirs d).serving.serving
+    u = (tid_at h.world d)
 
     i : line_of x < lines sh
     i = mask-inside sh d (line_of x) t.settled.commit.stores ((h.world.dirs d).lines.mark (line_of x)) (t.settled.marks (line_of x)) r
@@ -294,18 +293,18 @@ marked-values sh ram h c d k x m v s e t r = record {
 
     -- a core without a copy of the line
     none : (j y z : ℕ) → j < sh.cores → tag_of h.world d x < y
-        → cond (wrote_line sh.base h.commits j y (line_of x)) (live (Commits y) (h.world.net (Core j) (Dir d))) 0 ≡ 0
+        → cond (wrote_line sh.base h.commits j y (line_of x)) (live (Commits y) (to_dir h.world j d)) 0 ≡ 0
         → CopiesHave x y z (pair v j d)
     none j y z jl l o = have-still x y z z (pair h.world j d) (pair v j d) (same-core j) (omega (arith, s.answers.net (CopyNot x y z) j d))
         refl (none-copied sh x y z (pair h.world j d) (b.caches j) ((b.above j d (line_of x) y jl (s.dir) i e l).one ∙ o))
 
     above : (j y : ℕ) → j < sh.cores → u < y → CopiesHave x y (value_of sh ram v h.commits d (Some j) x) (pair v j d)
     above j y jl l = none j y (value_of sh ram v h.commits d (Some j) x) jl (omega (arith, old, l))
-        (cond-zero (wrote_line sh.base h.commits j y (line_of x)) (live (Commits y) (h.world.net (Core j) (Dir d)))
-        (later (cases_lt 0 (live (Commits y) (h.world.net (Core j) (Dir d))))))
+        (cond-zero (wrote_line sh.base h.commits j y (line_of x)) (live (Commits y) (to_dir h.world j d))
+        (later (cases_lt 0 (live (Commits y) (to_dir h.world j d)))))
       where
-        later : (0 < live (Commits y) (h.world.net (Core j) (Dir d))) ⊎ (live (Commits y) (h.world.net (Core j) (Dir d)) ≤ 0)
-            → live (Commits y) (h.world.net (Core j) (Dir d)) ≡ 0
+        later : (0 < live (Commits y) (to_dir h.world j d)) ⊎ (live (Commits y) (to_dir h.world j d) ≤ 0)
+            → live (Commits y) (to_dir h.world j d) ≡ 0
         later (inr z) = omega (arith, z)
         later (inl z) = absurd (let w : u ≡ y = b.served j d y jl (s.dir) (omega (arith, z)) in omega (arith, w, l))
 
@@ -337,7 +336,7 @@ marked-values sh ram h c d k x m v s e t r = record {
         ∙ sym (unstored-value sh ram h c d k x m v s e t q None)
 
 pub settled-values : (sh : Shape) (ram : ℕ → ℕ) (h : History) (c d k x : ℕ) (m : Msg) (v : World) → Settled sh ram h c d k m v
-    → home sh (line_of x) ≡ d → ValuesAt sh ram v h.commits d x
+    → home_of sh x ≡ d → ValuesAt sh ram v h.commits d x
 settled-values sh ram h c d k x m v s e = go (has_mark (h.world.dirs d).lines (line_of x)) refl
   where
     t : TakenCommit sh h.commits h.world c d
@@ -372,14 +371,14 @@ known sh p entries ram gs ys views m h k = record {
 
 -- a directory's answer
 here : (d : ℕ) (s : DirState) (f : ℕ → DirState) → (if d == d then s else f d) ≡ s
-here d s f = let y : (d == d) ≡ true = grind (arith, nat_tests) in rw y refl
+here d s f = let y : (d == d) ≡ true = grind nats in rw y refl
 
 away : (e d : ℕ) (s : DirState) (f : ℕ → DirState) → (e ≡ d → ⊥) → (if e == d then s else f e) ≡ f e
-away e d s f n = let y : (e == d) ≡ false = grind (arith, nat_tests) in rw y refl
+away e d s f n = let y : (e == d) ≡ false = grind nats in rw y refl
 
 taken : (sh : Shape) (ram : ℕ → ℕ) (h : History) (c d k : ℕ) (m : Msg) (s : DirState) (sends : Sends) → Known sh ram h → c < sh.cores
-    → d < sh.dirs → in_flight h.world.net (Core c) (Dir d) k ≡ Some m → CommitsStand sh (dir_takes h.world c d k s sends) h.commits
-    → ((x : ℕ) → home sh (line_of x) ≡ d → Answers sh h c d m (dir_takes h.world c d k s sends)
+    → d < sh.dirs → FromCore h.world c d k m → CommitsStand sh (dir_takes h.world c d k s sends) h.commits
+    → ((x : ℕ) → home_of sh x ≡ d → Answers sh h c d m (dir_takes h.world c d k s sends)
     → (dir_takes h.world c d k s sends).dirs d ≡ s → ValuesAt sh ram (dir_takes h.world c d k s sends) h.commits d x)
     → KeptValues sh ram (dir_takes h.world c d k s sends) h.commits
 unfolding dir_takes
@@ -401,7 +400,7 @@ stays x m s new n (Home e f) =
     omega (arith, o, z, word-line x (s.lines.tag (line_of x)) m))
 
 takes : (sh : Shape) (ram : ℕ → ℕ) (h : History) (c d k : ℕ) (m : Msg) (s : DirState) (sends : Sends) → Known sh ram h → c < sh.cores
-    → d < sh.dirs → in_flight h.world.net (Core c) (Dir d) k ≡ Some m → CommitsStand sh (dir_takes h.world c d k s sends) h.commits
+    → d < sh.dirs → FromCore h.world c d k m → CommitsStand sh (dir_takes h.world c d k s sends) h.commits
     → ((x : ℕ) → HomeBy (h.world.dirs d) m x s) → Records sh (h.world.dirs d) c m s
     → KeptValues sh ram (dir_takes h.world c d k s sends) h.commits
 takes sh ram h c d k m s sends b cl dl i t f (Still y n q) =
@@ -426,7 +425,7 @@ takes sh ram h c d k m s sends b cl dl i t f (Settles q g u n) =
     }) e)
 
 drops : (sh : Shape) (ram : ℕ → ℕ) (h : History) (c d k : ℕ) (m : Msg) → Known sh ram h → c < sh.cores → d < sh.dirs
-    → in_flight h.world.net (Core c) (Dir d) k ≡ Some m → CommitsStand sh (dir_takes h.world c d k (h.world.dirs d) (λ dst. [])) h.commits
+    → FromCore h.world c d k m → CommitsStand sh (dir_takes h.world c d k (h.world.dirs d) (λ dst. [])) h.commits
     → Dropped (h.world.dirs d) c m → KeptValues sh ram (dir_takes h.world c d k (h.world.dirs d) (λ dst. [])) h.commits
 drops sh ram h c d k m b cl dl i t n = taken sh ram h c d k m (h.world.dirs d) (λ dst. []) b cl dl i t
     (λ x e a r. dropped-values sh ram h c d k x m (dir_takes h.world c d k (h.world.dirs d) (λ dst. [])) b cl dl e i a r n)
@@ -455,7 +454,7 @@ asks sh ram h d s sends b t f y e x el q = go (cases_eq e d)
     go (inr n) = same-values sh ram h.world v h.commits e x refl (away e d s h.world.dirs n) (λ l j. refl) (b.values e x el q)
 
 pub answered : (sh : Shape) (ram : ℕ → ℕ) (h : History) (c d k : ℕ) (m : Msg) (a : Answer) → Known sh ram h → c < sh.cores → d < sh.dirs
-    → in_flight h.world.net (Core c) (Dir d) k ≡ Some m → RecordsBy sh (h.world.dirs d) c m a → ((x : ℕ) → WordsBy (h.world.dirs d) m x a)
+    → FromCore h.world c d k m → RecordsBy sh (h.world.dirs d) c m a → ((x : ℕ) → WordsBy (h.world.dirs d) m x a)
     → OfAnswer h.world c d k (λ v. CommitsStand sh v h.commits → KeptValues sh ram v h.commits) a
 answered sh ram h c d k m Waits b cl dl i r f = tt
 answered sh ram h c d k m Drops b cl dl i r f = λ t. drops sh ram h c d k m b cl dl i t r

@@ -2,12 +2,12 @@
 use Rattle.theorem_serial.proofs
 use proofs.Names
 use Names.{ℕ, suc, ◌+◌, ◌≡◌, ◌<◌, ◌≤◌, ◌⊎◌, Bool, true, false, ◌==◌, ◌||◌, List, [], ◌∷◌, map, length, slice_index_or, Contains, Option}
-use Names.{Some, None, IfSome, IsSomeAnd, is_some, arith, sym, subst, ◌∙◌, inl, inr, cases_eq, cases_lt, nat_tests, Noted, order_of_commit}
-use Names.{Attempt, Plain, serial, begun, steps, Local, Program, num, line_of, writes_at, Shape, home, CoreState, DirState, Phase, Ready}
-use Names.{Solo, Halted, is_solo, History, Uses, Agrees, Reaches, sees, Suits, MarkedAtHomes, plain_start, Invariants, Grant, times, pair}
-use Names.{is_applied, opens, stores_word, IsMemory, after_stores, counts, value_at, Settled, Ways, ap}
-use proofs.Memory.MemorySends.{marks_at_homes}
-use proofs.OneCore.SoundAttempts.{follows-in}
+use Names.{Some, None, IfSome, IsSomeAnd, is_some, arith, sym, subst, ◌∙◌, inl, inr, cases_eq, cases_lt, Noted, order_of_commit, Attempt}
+use Names.{Plain, serial, begun, steps, Local, Program, num, writes_at, Shape, CoreState, DirState, Phase, Ready, Solo, Halted, is_solo}
+use Names.{History, Uses, Agrees, Reaches, sees, Suits, MarkedAtHomes, plain_start, Invariants, Grant, times, pair, is_applied, opens}
+use Names.{stores_word, IsMemory, after_stores, counts, value_at, Settled, Ways, ap, nats, home_of, tid_at}
+use proofs.Memory.CoreInMemory.{marks_at_homes}
+use proofs.OneCore.UsedWords.{follows-in}
 use proofs.Order.InsertedOrders.{serial-memory}
 use proofs.Order.SerialParts.{home-below, agrees-before, value-before, before, behind, cut-joined, SerialCut, Holds, serial-cut}
 use proofs.Order.SerialParts.{serial-holds, steps-hold, all_stores}
@@ -17,15 +17,15 @@ use proofs.Values.ValueAt.{value-alike}
 -- the home of a word that the core stored serves its TID, and is owed nothing
 opens-may : (t : ℕ) (q : Phase) (b : Bool) → May t q → (is_solo q ≡ false → b ≡ true) → opens q b t ≡ true
 unfolding opens
-opens-may t q b a h = grind (arith, nat_tests)
+opens-may t q b a h = grind nats
 
 -- a stored word is modified, unless the core is alone
 stored-modified : (m : Bool) (o : Option ℕ) (b : Bool) → (m || is_some o) ≡ b → b ≡ true → o ≡ None → m ≡ true
-stored-modified a o b e f g = grind (arith, nat_tests)
+stored-modified a o b e f g = grind nats
 
 pub record Serves (sh : Shape) (h : History) (c t x : ℕ) : Type 0 where
-  pub serving : (h.world.dirs (home sh (line_of x))).serving.serving ≡ t
-  pub owed : (h.world.dirs (home sh (line_of x))).owed ≡ 0
+  pub serving : tid_at h.world (home_of sh x) ≡ t
+  pub owed : (h.world.dirs (home_of sh x)).owed ≡ 0
 
 pub stored-served : (sh : Shape) (p : Program) (entries : ℕ → Local) (ram : ℕ → ℕ) (gs : List Grant) (ys : Ways) (views : ℕ → Uses)
     (m : Plain) (h : History) (c t x : ℕ) → Suits sh p ram → Invariants sh p entries ram gs ys views m h → c < sh.cores
@@ -37,7 +37,7 @@ stored-served sh p entries ram gs ys views m h c t x u k l y e =
     s = h.world.cores c
 
     d : ℕ
-    d = home sh (line_of x)
+    d = (home_of sh x)
 
     dl : d < sh.dirs
     dl = home-below sh x (u.dirs)
@@ -53,7 +53,7 @@ stored-served sh p entries ram gs ys views m h c t x u k l y e =
         marked.modified x (stored-modified (s.cache.modified x) (s.spilled x) (stores_word sh.base s.stores x)
         (k.carried.stored_words_are_those_named c x) e ((k.carried.marks_fit_the_phase c).spilled q x))
 
-    serving : (h.world.dirs d).serving.serving ≡ t
+    serving : tid_at h.world d ≡ t
     serving = k.carried.directory_that_replied_serves_the_tid.serves c d t l dl (opens-may t s.phase (writes_at sh s.cache d) y writes)
         (k.carried.directory_that_replied_serves_the_tid.replied c d l dl ((may-commits t s.phase y).0))
 
@@ -71,13 +71,13 @@ times-listed t (x ∷ cs) n k e = go k.0 (k.1) (k.2) (λ j. times-listed t cs n 
   where
     go : (i : ℕ) → i < suc (length cs) → slice_index_or (x ∷ cs) i n ≡ n → (Contains cs n → 1 ≤ times t cs)
         → 1 ≤ num (x.tid.0 == t) + times t cs
-    go a l q f = grind (arith, nat_tests)
+    go a l q f = grind nats
 
 -- its value for the core is that at its TID
 counts-until : (s : DirState) (c t : ℕ) (n : Noted) → s.serving.serving ≡ t → s.owed ≡ 0 → (n.core.0 ≡ c → n.tid.0 < t)
     → counts s (Some c) (Some t) n ≡ counts s (Some c) None n
 unfolding counts is_applied
-counts-until s c t n e z own = grind (arith, nat_tests)
+counts-until s c t n e z own = grind nats
 
 -- A word that the core stored is, in its frame or spilled, what the stores make of the value that the core sees: sees takes no other
 -- memory for it.
@@ -86,7 +86,7 @@ pub stored-seen : (sh : Shape) (p : Program) (entries : ℕ → Local) (ram : �
     → May t (h.world.cores c).phase
     → stores_word sh.base (h.world.cores c).stores x ≡ true
     → (r : ℕ → ℕ) × (sees (h.world.cores c) r x ≡ after_stores sh.base (h.world.cores c).stores x
-    (value_at sh.base ram h.commits (h.world.dirs (home sh (line_of x))) (Some c) None x))
+    (value_at sh.base ram h.commits (h.world.dirs (home_of sh x)) (Some c) None x))
 unfolding plain_start pair
 stored-seen sh p entries ram gs ys views m h c t x u k l y e =
     (cut.start.ram, go (steps sh.base p s.n (begun s.saved cut.start.ram)) follows (steps-hold sh.base p s.n s.saved cut.start.ram x))
@@ -95,7 +95,7 @@ stored-seen sh p entries ram gs ys views m h c t x u k l y e =
     s = h.world.cores c
 
     dir : DirState
-    dir = h.world.dirs (home sh (line_of x))
+    dir = h.world.dirs (home_of sh x)
 
     st : Stand sh h ys c t
     st = stand sh p entries ram gs ys views m h c t u k l y

@@ -3,19 +3,18 @@ use Rattle.base_lemmas.proofs.Lemmas.{word_at-own}
 use Rattle.theorem_serial.proofs
 use proofs.Names
 use Names.{ℕ, zero, suc, ◌≡◌, ◌<◌, ◌≤◌, Bool, true, false, cond, max, ◌==◌, ◌&&◌, ◌||◌, List, [], ◌∷◌, length, Contains, Option, Some, None}
-use Names.{slice_index_or, is_some, if◌then◌else◌, arith, refl, sym, ap, ◌∙◌, ◌⊎◌, inl, inr, nat_tests, Noted, num, line_of, place_of}
-use Names.{word_at, has, hit, Msg, Shape, IsCache, is_dirty, dirty_tag, dirty_mask, has-mask_of, DirState, AboveOf, CopyMask, CopyWord}
-use Names.{passes, IsRising, Pair, is_this, stores_word, after_stores, counts, after_commits, word_copies, wrote, wrote_mask, last_of, ◌+◌}
-use Names.{map, nat_lt, nat_le, subst, order_of_commit, Core, Dir, home, lines, seen, World, History, plain_start, copies_with}
-use Names.{settled_in_line, Commits, CopyOf, live, Carried, CarriedInMemory, Grant, pair, SeenFollows, is_settled, is_applied, MarkedCommit}
-use Names.{stores_at, value_at, CopiesHave, HomeWords, CopiesAbove, Ways, Committed, names_line, wrote_line}
+use Names.{slice_index_or, is_some, if◌then◌else◌, arith, refl, sym, ap, ◌∙◌, ◌⊎◌, inl, inr, Noted, num, line_of, place_of, word_at, has}
+use Names.{hit, Msg, Shape, IsCache, is_dirty, dirty_tag, dirty_mask, has-mask_of, DirState, AboveOf, CopyMask, CopyWord, passes, IsRising}
+use Names.{Pair, is_this, stores_word, after_stores, counts, after_commits, word_copies, wrote, wrote_mask, last_of, ◌+◌, map, nat_lt}
+use Names.{nat_le, subst, order_of_commit, lines, seen, World, History, plain_start, copies_with, settled_in_line, Commits, CopyOf, live}
+use Names.{Carried, CarriedInMemory, Grant, pair, SeenFollows, is_settled, is_applied, MarkedCommit, stores_at, value_at, CopiesHave}
+use Names.{HomeWords, CopiesAbove, Ways, Committed, names_line, wrote_line, nats, home_of, to_dir}
 use proofs.Copies.DirtyFrames.{some-dirty, tag-of}
 use proofs.Counts.Links.{live-fewer}
-use proofs.Memory.MemorySends.{accesses_at_homes, line-has}
+use proofs.Memory.CoreInMemory.{accesses_at_homes, line-has}
 use proofs.Order.SerialParts.{Each, all_stores, home-below, each-listed, serial-holds}
 use proofs.Tids.Commits.{numbered-least, granted-once, granted-at}
-use proofs.Values.NewestCopy.{Greatest, seen-greatest}
-use proofs.Values.ValueAt.{after_stores-other}
+use proofs.Values.ValueAt.{Greatest, seen-greatest, after_stores-other}
 use proofs.Values.WordCopies.{few-words, none-copied, few-copies, copy-has}
 
 -- Facts on one word for what is seen of it: which commits stored it, and what its copies say of them.
@@ -33,7 +32,7 @@ after-all base s c b x (n ∷ ns) y h = ap (after_commits base s c b x ns) (one 
   where
     silent : stores_word base n.stores x ≡ false → (k : Bool)
         → (if k then after_stores base n.stores x y else y) ≡ after_stores base n.stores x y
-    silent e a = grind (arith, nat_tests, after_stores-other)
+    silent e a = grind (nats, after_stores-other)
 
     one : (counts s c b n ≡ true) ⊎ (stores_word base n.stores x ≡ false)
         → (if counts s c b n then after_stores base n.stores x y else y) ≡ after_stores base n.stores x y
@@ -57,7 +56,7 @@ one-commit last (m ∷ ns) a b r i j e = go (i.0) (i.1) (i.2) (j.0) (j.1) (j.2) 
   where
     go : (k : ℕ) → k < suc (length ns) → slice_index_or (m ∷ ns) k a ≡ a → (n : ℕ) → n < suc (length ns) → slice_index_or (m ∷ ns) n b ≡ b
         → (Contains ns a → Contains ns b → a ≡ b) → a ≡ b
-    go a k p b n q f = grind (arith, nat_tests, above-first)
+    go a k p b n q f = grind (nats, above-first)
 
 -- the commits that pass are below a TID
 pub last-under : (p : Noted → Bool) (t : ℕ) (ns : List Noted) → 1 ≤ t → Each (λ n. p n ≡ true → n.tid.0 < t) ns → last_of p ns < t
@@ -66,7 +65,7 @@ last-under p t [] l h = l
 last-under p t (n ∷ ns) l h = go (p n) (h.0) (last-under p t ns l (h.1))
   where
     go : (b : Bool) → (b ≡ true → n.tid.0 < t) → last_of p ns < t → max (cond b n.tid.0 0) (last_of p ns) < t
-    go a f i = grind (arith, nat_tests)
+    go a f i = grind nats
 
 -- a commit wrote the words that it stored
 pub wrote-word : (base : ℕ) (ns : List Noted) (n : Noted) (x : ℕ) → Contains ns n → stores_word base n.stores x ≡ true
@@ -76,13 +75,13 @@ wrote-word base [] n x i s = absurd (omega (arith, i.1))
 wrote-word base (m ∷ ns) n x i s = go (i.0) (i.1) (i.2) (λ k. wrote-word base ns n x k s)
   where
     c : (n.core.0 == n.core.0) ≡ true
-    c = grind (arith, nat_tests)
+    c = grind nats
 
     t : (n.tid.0 == n.tid.0) ≡ true
-    t = grind (arith, nat_tests)
+    t = grind nats
 
     either : (b : Bool) → (b || true) ≡ true
-    either a = grind (arith, nat_tests)
+    either a = grind nats
 
     here : (m : Noted) → m ≡ n
         → (((m.core.0 == n.core.0) && ((m.tid.0 == n.tid.0) && stores_word base m.stores x)) || wrote base ns n.core.0 n.tid.0 x) ≡ true
@@ -90,7 +89,7 @@ wrote-word base (m ∷ ns) n x i s = go (i.0) (i.1) (i.2) (λ k. wrote-word base
 
     go : (k : ℕ) → k < suc (length ns) → slice_index_or (m ∷ ns) k n ≡ n → (Contains ns n → wrote base ns n.core.0 n.tid.0 x ≡ true)
         → (((m.core.0 == n.core.0) && ((m.tid.0 == n.tid.0) && stores_word base m.stores x)) || wrote base ns n.core.0 n.tid.0 x) ≡ true
-    go a l e f = grind (arith, nat_tests)
+    go a l e f = grind nats
 
 -- and where no commit with the TID stored the word none wrote it
 pub wrote-none : (base : ℕ) (ns : List Noted) (c t x : ℕ) → Each (λ n. n.tid.0 ≡ t → stores_word base n.stores x ≡ false) ns
@@ -100,7 +99,7 @@ wrote-none base [] c t x h = refl
 wrote-none base (n ∷ ns) c t x h = rw (wrote-none base ns c t x (h.1)) (go (n.core.0 == c) (n.tid.0 == t) refl)
   where
     go : (a b : Bool) → (n.tid.0 == t) ≡ b → ((a && (b && stores_word base n.stores x)) || false) ≡ false
-    go a b q = grind (arith, nat_tests)
+    go a b q = grind nats
 
 pub mask-wrote : (base : ℕ) (ns : List Noted) (c t x : ℕ) → has (wrote_mask base ns c t (line_of x)) (place_of x) ≡ wrote base ns c t x
 unfolding wrote_mask
@@ -109,7 +108,7 @@ mask-wrote base ns c t x = has-mask_of (λ k. wrote base ns c t (word_at (line_o
 
 outside : (x t n : ℕ) → has n (place_of x) ≡ false → (m : Msg) → num (passes (CopyWord x t) m) ≤ num (passes (CopyMask (line_of x) t n) m)
 unfolding passes hit
-outside x t n h a = grind (arith, nat_tests)
+outside x t n h a = grind nats
 
 -- a word that wasn't written has none
 pub unwritten-none : (sh : Shape) (ns : List Noted) (c x t : ℕ) (v : Pair) → IsCache sh v.core.cache → AboveOf sh.base ns c (line_of x) t v
@@ -141,7 +140,7 @@ unwritten-none sh ns c x t v h a w =
       where
         go : (b : Bool) → (g == t) ≡ b → num b ≡ 0
         go false q = refl
-        go true q = absurd (same g e (grind (arith, nat_tests)))
+        go true q = absurd (same g e (grind nats))
 
 -- What is seen of a word is its value after all commits: its copy with the greatest tag is of the commit whose Commit is in flight, if
 -- that stored the word, and else it has the line's tag or is the word at home.
@@ -153,12 +152,12 @@ search f (suc n) = go (nat_le 1 (f n)) refl (search f n)
   where
     go : (b : Bool) → nat_le 1 (f n) ≡ b → ((c : ℕ) × (c < n) × (1 ≤ f c)) ⊎ ((c : ℕ) → c < n → f c ≡ 0)
         → ((c : ℕ) × (c < suc n) × (1 ≤ f c)) ⊎ ((c : ℕ) → c < suc n → f c ≡ 0)
-    go true q r = inl (n, omega arith, grind (arith, nat_tests))
+    go true q r = inl (n, omega arith, grind nats)
     go false q (inl r) = inl (r.0, omega (arith, r.1), r.2)
     go false q (inr r) = inr (λ c l. last c l (c == n) refl)
       where
         last : (c : ℕ) → c < suc n → (b : Bool) → (c == n) ≡ b → f c ≡ 0
-        last c l a e = grind (arith, nat_tests)
+        last c l a e = grind nats
 
 -- all that is known; the words are those after all commits
 record Known (sh : Shape) (ram : ℕ → ℕ) (gs : List Grant) (ys : Ways) (ends : ℕ → ℕ) (h : History) : Type 0 where
@@ -171,25 +170,25 @@ record Known (sh : Shape) (ram : ℕ → ℕ) (gs : List Grant) (ys : Ways) (end
 
 -- the word's home
 abbrev at : Shape → World → ℕ → DirState
-at sh w x = w.dirs (home sh (line_of x))
+at sh w x = w.dirs (home_of sh x)
 
 -- a Commit of the TID is in flight there
 abbrev Flying : Shape → World → (word tid : ℕ) → Type 0
-Flying sh w x t = (c : ℕ) × (c < sh.cores) × (1 ≤ live (Commits t) (w.net (Core c) (Dir (home sh (line_of x)))))
+Flying sh w x t = (c : ℕ) × (c < sh.cores) × (1 ≤ live (Commits t) (to_dir w c (home_of sh x)))
 
 is-applied : (s : DirState) (t : ℕ) → ((t < s.serving.serving) ⊎ ((s.serving.serving ≡ t) × (1 ≤ s.owed))) → is_applied s t ≡ true
 unfolding is_applied
-is-applied s t a = grind (arith, nat_tests)
+is-applied s t a = grind nats
 
 -- a commit that stored the word is applied at its home, or on its way there
 applied-or-flying : (sh : Shape) (ram : ℕ → ℕ) (gs : List Grant) (ys : Ways) (ends : ℕ → ℕ) (h : History) (x : ℕ) (n : Noted)
     → Known sh ram gs ys ends h → Contains h.commits n → stores_word sh.base n.stores x ≡ true
     → (is_applied (at sh h.world x) n.tid.0 ≡ true) ⊎ Flying sh h.world x n.tid.0
 applied-or-flying sh ram gs ys ends h x n k i s =
-    go (search (λ c. live (Commits n.tid.0) (h.world.net (Core c) (Dir (home sh (line_of x))))) sh.cores)
+    go (search (λ c. live (Commits n.tid.0) (to_dir h.world c (home_of sh x))) sh.cores)
   where
     d : ℕ
-    d = home sh (line_of x)
+    d = (home_of sh x)
 
     stored : stores_at sh d n.stores ≡ true
     stored = (accesses_at_homes sh n.loads n.stores (k.inside.commits_stay_in_memory n i)).stored x s
@@ -201,8 +200,8 @@ applied-or-flying sh ram gs ys ends h x n k i s =
     committed : ys d n.tid.0 ≡ Committed
     committed = k.carried.committed_tid_is_given_up_where_it_stored_nothing.stored n d i (home-below sh x k.dirs) ∙ rw stored refl
 
-    go : ((c : ℕ) × (c < sh.cores) × (1 ≤ live (Commits n.tid.0) (h.world.net (Core c) (Dir d))))
-        ⊎ ((c : ℕ) → c < sh.cores → live (Commits n.tid.0) (h.world.net (Core c) (Dir d)) ≡ 0)
+    go : ((c : ℕ) × (c < sh.cores) × (1 ≤ live (Commits n.tid.0) (to_dir h.world c d)))
+        ⊎ ((c : ℕ) → c < sh.cores → live (Commits n.tid.0) (to_dir h.world c d) ≡ 0)
         → (is_applied (at sh h.world x) n.tid.0 ≡ true) ⊎ Flying sh h.world x n.tid.0
     go (inl f) = inr f
     go (inr z) =
@@ -216,20 +215,20 @@ all-value : (sh : Shape) (ram : ℕ → ℕ) (gs : List Grant) (ys : Ways) (ends
     → ((n : Noted) → Contains h.commits n → stores_word sh.base n.stores x ≡ true → counts (at sh h.world x) c None n ≡ true)
     → value_at sh.base ram h.commits (at sh h.world x) c None x ≡ ends x
 unfolding value_at
-all-value sh ram gs ys ends h x c k f = grind (arith, nat_tests, after-all, each-listed, k.words)
+all-value sh ram gs ys ends h x c k f = grind (nats, after-all, each-listed, k.words)
 
 -- where all commits that stored the word are applied, and no copy is above its line's tag
 settled-word : (sh : Shape) (ram : ℕ → ℕ) (gs : List Grant) (ys : Ways) (ends : ℕ → ℕ) (h : History) (x : ℕ) → Known sh ram gs ys ends h
     → ((n : Noted) → Contains h.commits n → stores_word sh.base n.stores x ≡ true → is_applied (at sh h.world x) n.tid.0 ≡ true)
-    → ((c g : ℕ) → c < sh.cores → (at sh h.world x).lines.tag (line_of x) < g → word_copies x g (pair h.world c (home sh (line_of x))) ≡ 0)
+    → ((c g : ℕ) → c < sh.cores → (at sh h.world x).lines.tag (line_of x) < g → word_copies x g (pair h.world c (home_of sh x)) ≡ 0)
     → Greatest sh h.world x ((at sh h.world x).lines.tag (line_of x)) (ends x)
 unfolding counts
 settled-word sh ram gs ys ends h x k f none = record {
   none = none;
-  have = λ c l. subst (λ y. CopiesHave x ((at sh h.world x).lines.tag (line_of x)) y (pair h.world c (home sh (line_of x)))) value
-      (k.homes.in_copies c (home sh (line_of x)) x l (home-below sh x k.dirs) refl);
+  have = λ c l. subst (λ y. CopiesHave x ((at sh h.world x).lines.tag (line_of x)) y (pair h.world c (home_of sh x))) value
+      (k.homes.in_copies c (home_of sh x) x l (home-below sh x k.dirs) refl);
   line = omega arith;
-  some = λ z. (refl, k.homes.at_home (home sh (line_of x)) x (home-below sh x k.dirs) refl z ∙ value);
+  some = λ z. (refl, k.homes.at_home (home_of sh x) x (home-below sh x k.dirs) refl z ∙ value);
 }
   where
     value : value_at sh.base ram h.commits (at sh h.world x) None None x ≡ ends x
@@ -243,62 +242,62 @@ outside-word sh ram gs ys ends h x k out =
     settled-word sh ram gs ys ends h x k (λ n i s. absurd (out ((k.inside.commits_stay_in_memory n i).stored x s)))
     (λ c g l t. omega (
       arith,
-      few-words x g (h.world.net (Core c) (Dir (home sh (line_of x)))),
-      sent c g (nat_le 1 (live (CopyOf (line_of x) g) (h.world.net (Core c) (Dir (home sh (line_of x)))))) refl,
+      few-words x g (to_dir h.world c (home_of sh x)),
+      sent c g (nat_le 1 (live (CopyOf (line_of x) g) (to_dir h.world c (home_of sh x)))) refl,
       framed c g ((h.world.cores c).cache.dirty x) refl,
     ))
   where
-    sent : (c g : ℕ) (b : Bool) → nat_le 1 (live (CopyOf (line_of x) g) (h.world.net (Core c) (Dir (home sh (line_of x))))) ≡ b
-        → live (CopyOf (line_of x) g) (h.world.net (Core c) (Dir (home sh (line_of x)))) ≡ 0
-    sent c g a q = grind (arith, nat_tests)
+    sent : (c g : ℕ) (b : Bool) → nat_le 1 (live (CopyOf (line_of x) g) (to_dir h.world c (home_of sh x))) ≡ b
+        → live (CopyOf (line_of x) g) (to_dir h.world c (home_of sh x)) ≡ 0
+    sent c g a q = grind nats
 
     framed : (c g : ℕ) (o : Option ℕ) → (h.world.cores c).cache.dirty x ≡ o → num (is_this o g) ≡ 0
-    framed c g a e = grind (arith, nat_tests)
+    framed c g a e = grind nats
 
 -- a copy above the line's tag is of the served TID
 above-none : (sh : Shape) (ram : ℕ → ℕ) (gs : List Grant) (ys : Ways) (ends : ℕ → ℕ) (h : History) (x c g : ℕ) → Known sh ram gs ys ends h
     → line_of x < lines sh → c < sh.cores → (at sh h.world x).lines.tag (line_of x) < g
-    → live (Commits g) (h.world.net (Core c) (Dir (home sh (line_of x)))) ≡ 0
-    → copies_with (line_of x) g (pair h.world c (home sh (line_of x))) ≡ 0
+    → live (Commits g) (to_dir h.world c (home_of sh x)) ≡ 0
+    → copies_with (line_of x) g (pair h.world c (home_of sh x)) ≡ 0
 unfolding pair
-above-none sh ram gs ys ends h x c g k i l t z = grind (arith, nat_tests)
+above-none sh ram gs ys ends h x c g k i l t z = grind nats
 
 -- no Commit is on its way there
 quiet-word : (sh : Shape) (ram : ℕ → ℕ) (gs : List Grant) (ys : Ways) (ends : ℕ → ℕ) (h : History) (x : ℕ) → Known sh ram gs ys ends h
     → line_of x < lines sh
-    → ((c : ℕ) → c < sh.cores → live (Commits (at sh h.world x).serving.serving) (h.world.net (Core c) (Dir (home sh (line_of x)))) ≡ 0)
+    → ((c : ℕ) → c < sh.cores → live (Commits (at sh h.world x).serving.serving) (to_dir h.world c (home_of sh x)) ≡ 0)
     → Greatest sh h.world x ((at sh h.world x).lines.tag (line_of x)) (ends x)
 unfolding pair
 quiet-word sh ram gs ys ends h x k i z =
     settled-word sh ram gs ys ends h x k (λ n j s. applied n (applied-or-flying sh ram gs ys ends h x n k j s))
-    (λ c g l t. let y = few-copies sh x g (pair h.world c (home sh (line_of x))) (k.carried.frames_stand_in_their_sets c) in
+    (λ c g l t. let y = few-copies sh x g (pair h.world c (home_of sh x)) (k.carried.frames_stand_in_their_sets c) in
     omega (
       arith,
       y,
       above-none sh ram gs ys ends h x c g k i l t
-          (still c g l (nat_le 1 (live (Commits g) (h.world.net (Core c) (Dir (home sh (line_of x)))))) refl),
+          (still c g l (nat_le 1 (live (Commits g) (to_dir h.world c (home_of sh x)))) refl),
     ))
   where
-    never : (c t : ℕ) → c < sh.cores → 1 ≤ live (Commits t) (h.world.net (Core c) (Dir (home sh (line_of x)))) → ⊥
+    never : (c t : ℕ) → c < sh.cores → 1 ≤ live (Commits t) (to_dir h.world c (home_of sh x)) → ⊥
     never c t l f =
-        let e : (at sh h.world x).serving.serving ≡ t = k.carried.committing_tid_is_served c (home sh (line_of x)) t l
+        let e : (at sh h.world x).serving.serving ≡ t = k.carried.committing_tid_is_served c (home_of sh x) t l
         (home-below sh x k.dirs) f in
-        let y : live (Commits t) (h.world.net (Core c) (Dir (home sh (line_of x)))) ≡ 0 =
-        subst (λ t. live (Commits t) (h.world.net (Core c) (Dir (home sh (line_of x)))) ≡ 0) e (z c l) in
+        let y : live (Commits t) (to_dir h.world c (home_of sh x)) ≡ 0 =
+        subst (λ t. live (Commits t) (to_dir h.world c (home_of sh x)) ≡ 0) e (z c l) in
         omega (arith, f, y)
 
-    still : (c g : ℕ) → c < sh.cores → (b : Bool) → nat_le 1 (live (Commits g) (h.world.net (Core c) (Dir (home sh (line_of x))))) ≡ b
-        → live (Commits g) (h.world.net (Core c) (Dir (home sh (line_of x)))) ≡ 0
-    still c g l a q = grind (arith, nat_tests)
+    still : (c g : ℕ) → c < sh.cores → (b : Bool) → nat_le 1 (live (Commits g) (to_dir h.world c (home_of sh x))) ≡ b
+        → live (Commits g) (to_dir h.world c (home_of sh x)) ≡ 0
+    still c g l a q = grind nats
 
     applied : (n : Noted) → (is_applied (at sh h.world x) n.tid.0 ≡ true) ⊎ Flying sh h.world x n.tid.0
         → is_applied (at sh h.world x) n.tid.0 ≡ true
-    applied n a = grind (arith, nat_tests)
+    applied n a = grind nats
 
 -- a commit of core c is on its way there
 record Coming (sh : Shape) (h : History) (x c : ℕ) (n : Noted) : Type 0 where
   below : c < sh.cores
-  sent : 1 ≤ live (Commits (at sh h.world x).serving.serving) (h.world.net (Core c) (Dir (home sh (line_of x))))
+  sent : 1 ≤ live (Commits (at sh h.world x).serving.serving) (to_dir h.world c (home_of sh x))
   listed : Contains h.commits n
   tid : n.tid.0 ≡ (at sh h.world x).serving.serving
   core : n.core.0 ≡ c
@@ -306,18 +305,18 @@ record Coming (sh : Shape) (h : History) (x c : ℕ) (n : Noted) : Type 0 where
 -- it is the only one
 only-coming : (sh : Shape) (ram : ℕ → ℕ) (gs : List Grant) (ys : Ways) (ends : ℕ → ℕ) (h : History) (x c e : ℕ) (n m : Noted)
     → Known sh ram gs ys ends h → Coming sh h x c n → Contains h.commits m → e < sh.cores
-    → 1 ≤ live (Commits m.tid.0) (h.world.net (Core e) (Dir (home sh (line_of x)))) → m ≡ n
+    → 1 ≤ live (Commits m.tid.0) (to_dir h.world e (home_of sh x)) → m ≡ n
 only-coming sh ram gs ys ends h x c e n m k f i l s = one-commit 0 h.commits m n (k.carried.commits_are_of_granted_tids.0) i (f.listed)
-    (sym (k.carried.committing_tid_is_served e (home sh (line_of x)) m.tid.0 l (home-below sh x k.dirs) s) ∙ sym (f.tid))
+    (sym (k.carried.committing_tid_is_served e (home_of sh x) m.tid.0 l (home-below sh x k.dirs) s) ∙ sym (f.tid))
 
 coming-core : (sh : Shape) (ram : ℕ → ℕ) (gs : List Grant) (ys : Ways) (ends : ℕ → ℕ) (h : History) (x c e : ℕ) (n : Noted)
     → Known sh ram gs ys ends h → Coming sh h x c n
-    → 1 ≤ live (Commits (at sh h.world x).serving.serving) (h.world.net (Core e) (Dir (home sh (line_of x)))) → e ≡ c
+    → 1 ≤ live (Commits (at sh h.world x).serving.serving) (to_dir h.world e (home_of sh x)) → e ≡ c
 unfolding pair
 coming-core sh ram gs ys ends h x c e n k f s =
     granted-once 1 gs (at sh h.world x).serving.serving e c (k.carried.granted_tids_are_those_below_next.0)
-    ((k.carried.no_inv_to_the_core_that_committed.0 e (home sh (line_of x))).owner (at sh h.world x).serving.serving s)
-    ((k.carried.no_inv_to_the_core_that_committed.0 c (home sh (line_of x))).owner (at sh h.world x).serving.serving (f.sent))
+    ((k.carried.no_inv_to_the_core_that_committed.0 e (home_of sh x)).owner (at sh h.world x).serving.serving s)
+    ((k.carried.no_inv_to_the_core_that_committed.0 c (home_of sh x)).owner (at sh h.world x).serving.serving (f.sent))
 
 -- it didn't store the word
 other-word : (sh : Shape) (ram : ℕ → ℕ) (gs : List Grant) (ys : Ways) (ends : ℕ → ℕ) (h : History) (x c : ℕ) (n : Noted)
@@ -326,7 +325,7 @@ other-word : (sh : Shape) (ram : ℕ → ℕ) (gs : List Grant) (ys : Ways) (end
 unfolding pair
 other-word sh ram gs ys ends h x c n k i f s =
     settled-word sh ram gs ys ends h x k (λ m j t. applied m j t (applied-or-flying sh ram gs ys ends h x m k j t))
-    (λ e g l t. none e g l t (nat_le 1 (live (Commits g) (h.world.net (Core e) (Dir (home sh (line_of x)))))) refl)
+    (λ e g l t. none e g l t (nat_le 1 (live (Commits g) (to_dir h.world e (home_of sh x)))) refl)
   where
     applied : (m : Noted) → Contains h.commits m → stores_word sh.base m.stores x ≡ true → (is_applied (at sh h.world x) m.tid.0 ≡ true)
         ⊎ Flying sh h.world x m.tid.0 → is_applied (at sh h.world x) m.tid.0 ≡ true
@@ -336,17 +335,17 @@ other-word sh ram gs ys ends h x c n k i f s =
         (only-coming sh ram gs ys ends h x c (y.0) n m k f j (y.1) (y.2)) ∙ s in cc)
 
     none : (e g : ℕ) → e < sh.cores → (at sh h.world x).lines.tag (line_of x) < g → (b : Bool)
-        → nat_le 1 (live (Commits g) (h.world.net (Core e) (Dir (home sh (line_of x))))) ≡ b
-        → word_copies x g (pair h.world e (home sh (line_of x))) ≡ 0
-    none e g l t false q = let y = few-copies sh x g (pair h.world e (home sh (line_of x))) (k.carried.frames_stand_in_their_sets e) in
-        let z : live (Commits g) (h.world.net (Core e) (Dir (home sh (line_of x)))) ≡ 0 = grind (arith, nat_tests) in
+        → nat_le 1 (live (Commits g) (to_dir h.world e (home_of sh x))) ≡ b
+        → word_copies x g (pair h.world e (home_of sh x)) ≡ 0
+    none e g l t false q = let y = few-copies sh x g (pair h.world e (home_of sh x)) (k.carried.frames_stand_in_their_sets e) in
+        let z : live (Commits g) (to_dir h.world e (home_of sh x)) ≡ 0 = grind nats in
         omega (arith, y, above-none sh ram gs ys ends h x e g k i l t z)
     none e g l t true q =
-        let z : 1 ≤ live (Commits g) (h.world.net (Core e) (Dir (home sh (line_of x)))) = grind (arith, nat_tests) in
-        let y : (at sh h.world x).serving.serving ≡ g = k.carried.committing_tid_is_served e (home sh (line_of x)) g l
+        let z : 1 ≤ live (Commits g) (to_dir h.world e (home_of sh x)) = grind nats in
+        let y : (at sh h.world x).serving.serving ≡ g = k.carried.committing_tid_is_served e (home_of sh x) g l
         (home-below sh x k.dirs) z in
-        unwritten-none sh h.commits e x g (pair h.world e (home sh (line_of x))) (k.carried.frames_stand_in_their_sets e)
-        (k.carried.copy_above_the_tag_is_of_a_commit_in_flight e (home sh (line_of x)) (line_of x) g l
+        unwritten-none sh h.commits e x g (pair h.world e (home_of sh x)) (k.carried.frames_stand_in_their_sets e)
+        (k.carried.copy_above_the_tag_is_of_a_commit_in_flight e (home_of sh x) (line_of x) g l
         (home-below sh x k.dirs) i refl t)
         (wrote-none sh.base h.commits e g x (each-listed (λ m. m.tid.0 ≡ g → stores_word sh.base m.stores x ≡ false) h.commits
         (λ m j u. ap (λ z. stores_word sh.base z.stores x)
@@ -360,50 +359,50 @@ coming-below : (sh : Shape) (ram : ℕ → ℕ) (gs : List Grant) (ys : Ways) (e
 unfolding settled_in_line is_settled is_applied pair
 coming-below sh ram gs ys ends h x c n k i f =
     subst (λ q. q < (at sh h.world x).serving.serving)
-    (sym (k.carried.line_tag_is_the_last_settled_writer (home sh (line_of x)) (line_of x) (home-below sh x k.dirs) i refl))
-    (last-under (settled_in_line sh h.world (home sh (line_of x)) (line_of x)) (at sh h.world x).serving.serving h.commits positive
-    (each-listed (λ m. settled_in_line sh h.world (home sh (line_of x)) (line_of x) m ≡ true
+    (sym (k.carried.line_tag_is_the_last_settled_writer (home_of sh x) (line_of x) (home-below sh x k.dirs) i refl))
+    (last-under (settled_in_line sh h.world (home_of sh x) (line_of x)) (at sh h.world x).serving.serving h.commits positive
+    (each-listed (λ m. settled_in_line sh h.world (home_of sh x) (line_of x) m ≡ true
     → m.tid.0 < (at sh h.world x).serving.serving) h.commits below))
   where
     positive : 1 ≤ (at sh h.world x).serving.serving
     positive = numbered-least 1 gs (record { tid = (at sh h.world x).serving.serving; core = c })
         (k.carried.granted_tids_are_those_below_next.0)
-        ((k.carried.no_inv_to_the_core_that_committed.0 c (home sh (line_of x))).owner (at sh h.world x).serving.serving (f.sent))
+        ((k.carried.no_inv_to_the_core_that_committed.0 c (home_of sh x)).owner (at sh h.world x).serving.serving (f.sent))
 
     stands : (m : Noted) → Contains h.commits m → names_line sh.base m.stores (line_of x) ≡ true
-        → live (Commits m.tid.0) (h.world.net (Core m.core.0) (Dir (home sh (line_of x)))) + num (is_applied (at sh h.world x) m.tid.0) ≡ 1
-    stands m j e = k.carried.commit_is_on_its_way_or_applied m (home sh (line_of x)) j (home-below sh x k.dirs)
+        → live (Commits m.tid.0) (to_dir h.world m.core.0 (home_of sh x)) + num (is_applied (at sh h.world x) m.tid.0) ≡ 1
+    stands m j e = k.carried.commit_is_on_its_way_or_applied m (home_of sh x) j (home-below sh x k.dirs)
         (((accesses_at_homes sh m.loads m.stores (k.inside.commits_stay_in_memory m j)).in_line (line_of x) e).1)
 
     -- the served one isn't settled
     served : (m : Noted) → Contains h.commits m → m.tid.0 ≡ (at sh h.world x).serving.serving
-        → live (Commits m.tid.0) (h.world.net (Core m.core.0) (Dir (home sh (line_of x)))) ≡ 0 → ⊥
+        → live (Commits m.tid.0) (to_dir h.world m.core.0 (home_of sh x)) ≡ 0 → ⊥
     served m j e z =
         let o : m ≡ n = one-commit 0 h.commits m n (k.carried.commits_are_of_granted_tids.0) j (f.listed) (e ∙ sym (f.tid)) in
         let q : m.core.0 ≡ c = ap (λ y. y.core.0) o ∙ f.core in
-        let y : live (Commits (at sh h.world x).serving.serving) (h.world.net (Core c) (Dir (home sh (line_of x)))) ≡ 0 =
-        subst (λ t. live (Commits t) (h.world.net (Core c) (Dir (home sh (line_of x)))) ≡ 0) e
-        (subst (λ b. live (Commits m.tid.0) (h.world.net (Core b) (Dir (home sh (line_of x)))) ≡ 0) q z) in
+        let y : live (Commits (at sh h.world x).serving.serving) (to_dir h.world c (home_of sh x)) ≡ 0 =
+        subst (λ t. live (Commits t) (to_dir h.world c (home_of sh x)) ≡ 0) e
+        (subst (λ b. live (Commits m.tid.0) (to_dir h.world b (home_of sh x)) ≡ 0) q z) in
         omega (arith, y, f.sent)
 
-    below : (m : Noted) → Contains h.commits m → settled_in_line sh h.world (home sh (line_of x)) (line_of x) m ≡ true
+    below : (m : Noted) → Contains h.commits m → settled_in_line sh h.world (home_of sh x) (line_of x) m ≡ true
         → m.tid.0 < (at sh h.world x).serving.serving
-    below m j e = go (live (Commits m.tid.0) (h.world.net (Core m.core.0) (Dir (home sh (line_of x)))) == 0) refl
+    below m j e = go (live (Commits m.tid.0) (to_dir h.world m.core.0 (home_of sh x)) == 0) refl
         (names_line sh.base m.stores (line_of x)) refl e
       where
-        last : live (Commits m.tid.0) (h.world.net (Core m.core.0) (Dir (home sh (line_of x)))) ≡ 0
+        last : live (Commits m.tid.0) (to_dir h.world m.core.0 (home_of sh x)) ≡ 0
             → num (is_applied (at sh h.world x) m.tid.0) ≡ 1 → (a : Bool) → nat_lt m.tid.0 (at sh h.world x).serving.serving ≡ a
             → (b : Bool) → (m.tid.0 == (at sh h.world x).serving.serving) ≡ b → m.tid.0 < (at sh h.world x).serving.serving
-        last z o true p b q = grind (arith, nat_tests)
-        last z o false p true q = absurd (served m j (grind (arith, nat_tests)) z)
+        last z o true p b q = grind nats
+        last z o false p true q = absurd (served m j (grind nats) z)
         last z o false p false q =
             absurd (let y : is_applied (at sh h.world x) m.tid.0 ≡ false = rw (p, q) refl in
             let w : num (is_applied (at sh h.world x) m.tid.0) ≡ 0 = ap num y in omega (arith, o, w))
 
-        go : (a : Bool) → (live (Commits m.tid.0) (h.world.net (Core m.core.0) (Dir (home sh (line_of x)))) == 0) ≡ a → (b : Bool)
+        go : (a : Bool) → (live (Commits m.tid.0) (to_dir h.world m.core.0 (home_of sh x)) == 0) ≡ a → (b : Bool)
             → names_line sh.base m.stores (line_of x) ≡ b → (a && b) ≡ true → m.tid.0 < (at sh h.world x).serving.serving
-        go true p true q w = let z : live (Commits m.tid.0) (h.world.net (Core m.core.0) (Dir (home sh (line_of x)))) ≡ 0 =
-            grind (arith, nat_tests) in last z (omega (arith, z, stands m j q)) (nat_lt m.tid.0 (at sh h.world x).serving.serving) refl
+        go true p true q w = let z : live (Commits m.tid.0) (to_dir h.world m.core.0 (home_of sh x)) ≡ 0 =
+            grind nats in last z (omega (arith, z, stands m j q)) (nat_lt m.tid.0 (at sh h.world x).serving.serving) refl
             (m.tid.0 == (at sh h.world x).serving.serving) refl
         go true p false q w = absurd (cc)
         go false p b q w = absurd (cc)
@@ -413,14 +412,14 @@ stored-word : (sh : Shape) (ram : ℕ → ℕ) (gs : List Grant) (ys : Ways) (en
     → Greatest sh h.world x (at sh h.world x).serving.serving (ends x)
 unfolding counts wrote_line pair
 stored-word sh ram gs ys ends h x c n k i f s = record {
-  none = λ e g l t. let y = few-copies sh x g (pair h.world e (home sh (line_of x))) (k.carried.frames_stand_in_their_sets e) in
+  none = λ e g l t. let y = few-copies sh x g (pair h.world e (home_of sh x)) (k.carried.frames_stand_in_their_sets e) in
       omega (
         arith,
         y,
         above-none sh ram gs ys ends h x e g k i l (omega (arith, t, below))
-            (later e g l t (nat_le 1 (live (Commits g) (h.world.net (Core e) (Dir (home sh (line_of x)))))) refl),
+            (later e g l t (nat_le 1 (live (Commits g) (to_dir h.world e (home_of sh x)))) refl),
       );
-  have = λ e l. have e l (nat_le 1 (live (Commits (at sh h.world x).serving.serving) (h.world.net (Core e) (Dir (home sh (line_of x))))))
+  have = λ e l. have e l (nat_le 1 (live (Commits (at sh h.world x).serving.serving) (to_dir h.world e (home_of sh x))))
       refl;
   line = omega (arith, below);
   some = λ z. absurd (omega (arith, z c f.below, copied));
@@ -430,61 +429,61 @@ stored-word sh ram gs ys ends h x c n k i f s = record {
     below = coming-below sh ram gs ys ends h x c n k i f
 
     later : (e g : ℕ) → e < sh.cores → (at sh h.world x).serving.serving < g → (b : Bool)
-        → nat_le 1 (live (Commits g) (h.world.net (Core e) (Dir (home sh (line_of x))))) ≡ b
-        → live (Commits g) (h.world.net (Core e) (Dir (home sh (line_of x)))) ≡ 0
-    later e g l u a q = grind (arith, nat_tests)
+        → nat_le 1 (live (Commits g) (to_dir h.world e (home_of sh x))) ≡ b
+        → live (Commits g) (to_dir h.world e (home_of sh x)) ≡ 0
+    later e g l u a q = grind nats
 
     counted : (m : Noted) → Contains h.commits m → (is_applied (at sh h.world x) m.tid.0 ≡ true) ⊎ Flying sh h.world x m.tid.0
         → (is_this (Some c) m.core.0 || is_applied (at sh h.world x) m.tid.0) ≡ true
     counted m j (inl e) = rw e ((elim (is_this (Some c) m.core.0) as (λ b. (b || true) ≡ true) [ true ↦ refl | false ↦ refl ]))
     counted m j (inr y) = let o : m.core.0 ≡ c = ap (λ z. z.core.0) (only-coming sh ram gs ys ends h x c (y.0) n m k f j (y.1) (y.2))
-        ∙ f.core in let q : (c == m.core.0) ≡ true = grind (arith, nat_tests) in rw q refl
+        ∙ f.core in let q : (c == m.core.0) ≡ true = grind nats in rw q refl
 
     value : value_at sh.base ram h.commits (at sh h.world x) (Some c) None x ≡ ends x
     value = all-value sh ram gs ys ends h x (Some c) k (λ m j u. counted m j (applied-or-flying sh ram gs ys ends h x m k j u))
 
     have : (e : ℕ) → e < sh.cores → (b : Bool)
-        → nat_le 1 (live (Commits (at sh h.world x).serving.serving) (h.world.net (Core e) (Dir (home sh (line_of x))))) ≡ b
-        → CopiesHave x (at sh h.world x).serving.serving (ends x) (pair h.world e (home sh (line_of x)))
+        → nat_le 1 (live (Commits (at sh h.world x).serving.serving) (to_dir h.world e (home_of sh x))) ≡ b
+        → CopiesHave x (at sh h.world x).serving.serving (ends x) (pair h.world e (home_of sh x))
     have e l true q =
-        let o : e ≡ c = coming-core sh ram gs ys ends h x c e n k f (grind (arith, nat_tests)) in
-        subst (λ y. CopiesHave x (at sh h.world x).serving.serving y (pair h.world e (home sh (line_of x))))
+        let o : e ≡ c = coming-core sh ram gs ys ends h x c e n k f (grind nats) in
+        subst (λ y. CopiesHave x (at sh h.world x).serving.serving y (pair h.world e (home_of sh x)))
         (ap (λ j. value_at sh.base ram h.commits (at sh h.world x) (Some j) None x) o ∙ value)
-        (k.above e (home sh (line_of x)) x (at sh h.world x).serving.serving l (home-below sh x k.dirs) refl below)
-    have e l false q = none-copied sh x (at sh h.world x).serving.serving (ends x) (pair h.world e (home sh (line_of x)))
+        (k.above e (home_of sh x) x (at sh h.world x).serving.serving l (home-below sh x k.dirs) refl below)
+    have e l false q = none-copied sh x (at sh h.world x).serving.serving (ends x) (pair h.world e (home_of sh x))
         (k.carried.frames_stand_in_their_sets e)
-        (above-none sh ram gs ys ends h x e (at sh h.world x).serving.serving k i l below (grind (arith, nat_tests)))
+        (above-none sh ram gs ys ends h x e (at sh h.world x).serving.serving k i l below (grind nats))
 
     written : wrote sh.base h.commits c (at sh h.world x).serving.serving x ≡ true
     written =
         subst (λ j. wrote sh.base h.commits c j x ≡ true) (f.tid)
         (subst (λ j. wrote sh.base h.commits j n.tid.0 x ≡ true) (f.core) (wrote-word sh.base h.commits n x (f.listed) s))
 
-    kept : AboveOf sh.base h.commits c (line_of x) (at sh h.world x).serving.serving (pair h.world c (home sh (line_of x)))
-    kept = k.carried.copy_above_the_tag_is_of_a_commit_in_flight c (home sh (line_of x)) (line_of x)
+    kept : AboveOf sh.base h.commits c (line_of x) (at sh h.world x).serving.serving (pair h.world c (home_of sh x))
+    kept = k.carried.copy_above_the_tag_is_of_a_commit_in_flight c (home_of sh x) (line_of x)
         (at sh h.world x).serving.serving f.below (home-below sh x k.dirs) i refl below
 
     line : wrote_line sh.base h.commits c (at sh h.world x).serving.serving (line_of x) ≡ true
     line = line-has (wrote sh.base h.commits c (at sh h.world x).serving.serving) x written
 
-    one : copies_with (line_of x) (at sh h.world x).serving.serving (pair h.world c (home sh (line_of x))) ≡ live
-        (Commits (at sh h.world x).serving.serving) (h.world.net (Core c) (Dir (home sh (line_of x))))
+    one : copies_with (line_of x) (at sh h.world x).serving.serving (pair h.world c (home_of sh x)) ≡ live
+        (Commits (at sh h.world x).serving.serving) (to_dir h.world c (home_of sh x))
     one = kept.one ∙ rw line refl
 
-    copied : 1 ≤ word_copies x (at sh h.world x).serving.serving (pair h.world c (home sh (line_of x)))
+    copied : 1 ≤ word_copies x (at sh h.world x).serving.serving (pair h.world c (home_of sh x))
     copied = omega (
       arith,
       f.sent,
       one,
       copy-has sh x (at sh h.world x).serving.serving (wrote_mask sh.base h.commits c (at sh h.world x).serving.serving (line_of x))
-          (pair h.world c (home sh (line_of x))) (k.carried.frames_stand_in_their_sets c)
+          (pair h.world c (home_of sh x)) (k.carried.frames_stand_in_their_sets c)
           (mask-wrote sh.base h.commits c (at sh h.world x).serving.serving x ∙ written) (kept.framed) (kept.sent),
     )
 
 -- any word
 coming : (sh : Shape) (h : History) (x c : ℕ) → c < sh.cores
-    → 1 ≤ live (Commits (at sh h.world x).serving.serving) (h.world.net (Core c) (Dir (home sh (line_of x))))
-    → (m : MarkedCommit sh h.commits c (home sh (line_of x)) (at sh h.world x).serving.serving (pair h.world c (home sh (line_of x))))
+    → 1 ≤ live (Commits (at sh h.world x).serving.serving) (to_dir h.world c (home_of sh x))
+    → (m : MarkedCommit sh h.commits c (home_of sh x) (at sh h.world x).serving.serving (pair h.world c (home_of sh x)))
     → Coming sh h x c m.commit
 coming sh h x c l s m = record { below = l; sent = s; listed = m.noted; tid = m.tid; core = m.core }
 
@@ -495,33 +494,33 @@ word-seen sh ram gs ys ends h x k = go (nat_lt (line_of x) (lines sh)) refl
   where
     flying : line_of x < lines sh
         → ((c : ℕ) × (c < sh.cores)
-        × (1 ≤ live (Commits (at sh h.world x).serving.serving) (h.world.net (Core c) (Dir (home sh (line_of x))))))
-        ⊎ ((c : ℕ) → c < sh.cores → live (Commits (at sh h.world x).serving.serving) (h.world.net (Core c) (Dir (home sh (line_of x)))) ≡ 0)
+        × (1 ≤ live (Commits (at sh h.world x).serving.serving) (to_dir h.world c (home_of sh x))))
+        ⊎ ((c : ℕ) → c < sh.cores → live (Commits (at sh h.world x).serving.serving) (to_dir h.world c (home_of sh x)) ≡ 0)
         → seen sh h.world x ≡ ends x
     flying i (inr z) = seen-greatest sh h.world x ((at sh h.world x).lines.tag (line_of x)) (ends x)
         (quiet-word sh ram gs ys ends h x k i z)
-    flying i (inl f) = word (k.carried.marks_sent_are_the_lines_stored.2 (f.0) (home sh (line_of x)) (at sh h.world x).serving.serving).sent
+    flying i (inl f) = word (k.carried.marks_sent_are_the_lines_stored.2 (f.0) (home_of sh x) (at sh h.world x).serving.serving).sent
       where
-        by : (m : MarkedCommit sh h.commits (f.0) (home sh (line_of x)) (at sh h.world x).serving.serving
-            (pair h.world (f.0) (home sh (line_of x)))) → (b : Bool) → stores_word sh.base m.commit.stores x ≡ b
+        by : (m : MarkedCommit sh h.commits (f.0) (home_of sh x) (at sh h.world x).serving.serving
+            (pair h.world (f.0) (home_of sh x))) → (b : Bool) → stores_word sh.base m.commit.stores x ≡ b
             → seen sh h.world x ≡ ends x
         by m true s = seen-greatest sh h.world x (at sh h.world x).serving.serving (ends x)
             (stored-word sh ram gs ys ends h x (f.0) m.commit k i (coming sh h x (f.0) (f.1) (f.2) m) s)
         by m false s = seen-greatest sh h.world x ((at sh h.world x).lines.tag (line_of x)) (ends x)
             (other-word sh ram gs ys ends h x (f.0) m.commit k i (coming sh h x (f.0) (f.1) (f.2) m) s)
 
-        word : (f.0 < sh.cores → home sh (line_of x) < sh.dirs
-            → 1 ≤ live (Commits (at sh h.world x).serving.serving) (h.world.net (Core (f.0)) (Dir (home sh (line_of x))))
-            → MarkedCommit sh h.commits (f.0) (home sh (line_of x)) (at sh h.world x).serving.serving
-            (pair h.world (f.0) (home sh (line_of x)))) → seen sh h.world x ≡ ends x
+        word : (f.0 < sh.cores → home_of sh x < sh.dirs
+            → 1 ≤ live (Commits (at sh h.world x).serving.serving) (to_dir h.world (f.0) (home_of sh x))
+            → MarkedCommit sh h.commits (f.0) (home_of sh x) (at sh h.world x).serving.serving
+            (pair h.world (f.0) (home_of sh x))) → seen sh h.world x ≡ ends x
         word g = let m = g (f.1) (home-below sh x k.dirs) (f.2) in by m (stores_word sh.base m.commit.stores x) refl
 
     go : (b : Bool) → nat_lt (line_of x) (lines sh) ≡ b → seen sh h.world x ≡ ends x
     go true q =
-        flying (grind (arith, nat_tests))
-        (search (λ c. live (Commits (at sh h.world x).serving.serving) (h.world.net (Core c) (Dir (home sh (line_of x))))) sh.cores)
+        flying (grind nats)
+        (search (λ c. live (Commits (at sh h.world x).serving.serving) (to_dir h.world c (home_of sh x))) sh.cores)
     go false q = seen-greatest sh h.world x ((at sh h.world x).lines.tag (line_of x)) (ends x)
-        (outside-word sh ram gs ys ends h x k (λ l. absurd (let y : nat_lt (line_of x) (lines sh) ≡ true = grind (arith, nat_tests) in cc)))
+        (outside-word sh ram gs ys ends h x k (λ l. absurd (let y : nat_lt (line_of x) (lines sh) ≡ true = grind nats in cc)))
 
 pub seen_follows : SeenFollows
 unfolding plain_start

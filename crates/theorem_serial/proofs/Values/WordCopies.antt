@@ -3,11 +3,11 @@ use Rattle.base_lemmas.proofs.Lemmas.{eight-at, word_at-own}
 use Rattle.rules_tcc.specs.Sends.{write_back_of}
 use Rattle.theorem_serial.proofs
 use proofs.Names
-use Names.{ℕ, ◌+◌, ◌≡◌, ◌≤◌, ◌==◌, ◌&&◌, Bool, true, false, not, List, [], ◌∷◌, Option, Some, None, is_some, arith, refl, sym, ◌∙◌}
-use Names.{nat_tests, num, line_of, place_of, word_at, has, hit, Msg, WriteBack, Flush, Shape, Cache, IsCache, is_dirty, dirty_tag}
-use Names.{dirty_mask, has-mask_of, Link, copies_with, CopyOf, CopyMask, CopyWord, CopyNot, live, among, passes, Pair, is_this, word_copies}
-use Names.{CopiesHave, ◌⊎◌, cond, unwrap_or, get_or, if◌then◌else◌, inl, inr, cases_eq, eight, Dir, home, dirty_words, dirty_copy}
-use Names.{CoreState, Out, to, flush_of, flush_line, write_back_line}
+use Names.{ℕ, ◌+◌, ◌≡◌, ◌≤◌, ◌==◌, ◌&&◌, Bool, true, false, not, List, [], ◌∷◌, Option, Some, None, is_some, arith, refl, sym, ◌∙◌, num}
+use Names.{line_of, place_of, word_at, has, hit, Msg, WriteBack, Flush, Shape, Cache, IsCache, is_dirty, dirty_tag, dirty_mask, has-mask_of}
+use Names.{Link, copies_with, CopyOf, CopyMask, CopyWord, CopyNot, live, among, passes, Pair, is_this, word_copies, CopiesHave, ◌⊎◌, cond}
+use Names.{unwrap_or, get_or, if◌then◌else◌, inl, inr, cases_eq, eight, Dir, home, dirty_words, dirty_copy, CoreState, Out, to, flush_of}
+use Names.{flush_line, write_back_line, nats, home_of}
 use proofs.Copies.DirtyFrames.{some-dirty, tag-of}
 use proofs.Counts.Links.{live-fewer, among-fewer}
 
@@ -15,18 +15,18 @@ use proofs.Counts.Links.{live-fewer, among-fewer}
 
 -- in messages
 back-line : (a b c : Bool) → num ((a && b) && c) ≤ num (a && c)
-back-line a b c = grind (arith, nat_tests)
+back-line a b c = grind nats
 
 pub word-line : (x t : ℕ) (m : Msg) → num (passes (CopyWord x t) m) ≤ num (passes (CopyOf (line_of x) t) m)
 unfolding passes hit
-word-line x t a = grind (arith, nat_tests)
+word-line x t a = grind nats
 
 pub few-words : (x t : ℕ) (l : Link) → live (CopyWord x t) l ≤ live (CopyOf (line_of x) t) l
 few-words x t l = live-fewer (CopyWord x t) (CopyOf (line_of x) t) (word-line x t) l
 
 other-word : (x t y : ℕ) (m : Msg) → num (passes (CopyNot x t y) m) ≤ num (passes (CopyWord x t) m)
 unfolding passes
-other-word x t y m = grind (arith, nat_tests)
+other-word x t y m = grind nats
 
 pub few-others : (x t y : ℕ) (l : Link) → live (CopyNot x t y) l ≤ live (CopyWord x t) l
 few-others x t y l = live-fewer (CopyNot x t y) (CopyWord x t) (other-word x t y) l
@@ -40,12 +40,12 @@ among-others x t y ms = among-fewer (CopyNot x t y) (CopyWord x t) (other-word x
 -- a copy of the line has the word, or another mask than one with the word
 in-mask : (k m n x : ℕ) (c : Bool) → has n (place_of x) ≡ true → (d : Bool) → (m == n) ≡ d
     → num ((k == line_of x) && c) ≤ num (((k == line_of x) && has m (place_of x)) && c) + num (((k == line_of x) && c) && not d)
-in-mask k m n x c h a q = grind (arith, nat_tests)
+in-mask k m n x c h a q = grind nats
 
 line-word : (x t n : ℕ) → has n (place_of x) ≡ true → (m : Msg)
     → num (passes (CopyOf (line_of x) t) m) ≤ num (passes (CopyWord x t) m) + num (passes (CopyMask (line_of x) t n) m)
 unfolding passes hit
-line-word x t n h a = grind (arith, nat_tests)
+line-word x t n h a = grind nats
 
 live-words : (x t n : ℕ) → has n (place_of x) ≡ true → (l : Link)
     → live (CopyOf (line_of x) t) l ≤ live (CopyWord x t) l + live (CopyMask (line_of x) t n) l
@@ -66,7 +66,7 @@ unfolding copies_with
 none-copied sh x t y v h z = record {
   framed =
       λ e. absurd (let d = dirty-line sh v.core.cache x t h e in
-      let q : (dirty_tag v.core.cache (line_of x) == t) ≡ true = (let f = d.1 in grind (arith, nat_tests)) in
+      let q : (dirty_tag v.core.cache (line_of x) == t) ≡ true = (let f = d.1 in grind nats) in
       let o : num (is_dirty v.core.cache (line_of x) && dirty_tag v.core.cache (line_of x) == t) ≡ 1 = rw (d.0, q) refl in
       omega (arith, z, o));
   sent = omega (arith, z, few-others x t y v.out, few-words x t v.out);
@@ -78,7 +78,7 @@ few-copies sh x t v h = omega (arith, few-words x t v.out, go (v.core.cache.dirt
   where
     go : (o : Option ℕ) → v.core.cache.dirty x ≡ o
         → num (is_this o t) ≤ num (is_dirty v.core.cache (line_of x) && dirty_tag v.core.cache (line_of x) == t)
-    go a e = grind (arith, nat_tests, dirty-line)
+    go a e = grind (nats, dirty-line)
 
 -- a word in the mask of its line's dirty words is dirty
 mask-dirty : (c : Cache) (x n : ℕ) → has n (place_of x) ≡ true → dirty_mask c (line_of x) ≡ n → is_some (c.dirty x) ≡ true
@@ -106,10 +106,10 @@ copy-has sh x t n v h i f z =
     l = line_of x
 
     tagged : (o : Option ℕ) → c.dirty x ≡ o → is_some o ≡ true → dirty_tag c l ≡ t → num (is_this o t) ≡ 1
-    tagged a e s q = grind (arith, nat_tests, dirty-line)
+    tagged a e s q = grind (nats, dirty-line)
 
     framed : (a b : Bool) → is_dirty c l ≡ a → (dirty_tag c l == t) ≡ b → num (a && b) ≤ num (is_this (c.dirty x) t)
-    framed true true p q = let e : dirty_tag c l ≡ t = grind (arith, nat_tests) in
+    framed true true p q = let e : dirty_tag c l ≡ t = grind nats in
         omega (arith, tagged (c.dirty x) refl (mask-dirty c x n i (f p e)) e)
     framed true false p q = omega arith
     framed false b p q = omega arith
@@ -118,11 +118,11 @@ copy-has sh x t n v h i f z =
 
 -- what an event of a core does to a word: its copies are as many, in the frame and sent, and each has the value that it had
 pub record WordCarried (sh : Shape) (x : ℕ) (s : CoreState) (o : Out) : Type 0 where
-  pub copies : (t : ℕ) → num (is_this (o.core.cache.dirty x) t) + among (CopyWord x t) (o.sends (Dir (home sh (line_of x)))) ≡ num
+  pub copies : (t : ℕ) → num (is_this (o.core.cache.dirty x) t) + among (CopyWord x t) (o.sends (Dir (home_of sh x))) ≡ num
       (is_this (s.cache.dirty x) t)
   pub framed : (t : ℕ) → o.core.cache.dirty x ≡ Some t → (s.cache.dirty x ≡ Some t) × (o.core.cache.value x ≡ s.cache.value x)
   pub sent : (t y : ℕ) → (s.cache.dirty x ≡ Some t → s.cache.value x ≡ Some y)
-      → among (CopyNot x t y) (o.sends (Dir (home sh (line_of x)))) ≡ 0
+      → among (CopyNot x t y) (o.sends (Dir (home_of sh x))) ≡ 0
 
 abbrev pub Carries : Shape → CoreState → Out → Type 0
 Carries sh s o = (x : ℕ) → WordCarried sh x s o
@@ -130,16 +130,16 @@ Carries sh s o = (x : ℕ) → WordCarried sh x s o
 -- no dirty word changes, and none is sent
 pub word-still : (sh : Shape) (x : ℕ) (s : CoreState) (o : Out) → o.core.cache.dirty x ≡ s.cache.dirty x
     → (is_some (s.cache.dirty x) ≡ true → o.core.cache.value x ≡ s.cache.value x)
-    → ((t : ℕ) → among (CopyOf (line_of x) t) (o.sends (Dir (home sh (line_of x)))) ≡ 0) → WordCarried sh x s o
+    → ((t : ℕ) → among (CopyOf (line_of x) t) (o.sends (Dir (home_of sh x))) ≡ 0) → WordCarried sh x s o
 word-still sh x s o e f z = record {
-  copies = λ t. rw e (omega (arith, z t, among-words x t (o.sends (Dir (home sh (line_of x))))));
+  copies = λ t. rw e (omega (arith, z t, among-words x t (o.sends (Dir (home_of sh x)))));
   framed = λ t q. (sym e ∙ q, f (rw (sym e ∙ q) refl));
   sent =
       λ t y q. omega (
         arith,
         z t,
-        among-words x t (o.sends (Dir (home sh (line_of x)))),
-        among-others x t y (o.sends (Dir (home sh (line_of x)))),
+        among-words x t (o.sends (Dir (home_of sh x))),
+        among-others x t y (o.sends (Dir (home_of sh x))),
       );
 }
 
@@ -153,7 +153,7 @@ word-clean : (sh : Shape) (k x : ℕ) (c : Cache) → IsCache sh c → is_dirty 
 word-clean sh k x c h q e = go (c.dirty x) refl
   where
     go : (o : Option ℕ) → c.dirty x ≡ o → o ≡ None
-    go a r = grind (arith, nat_tests, dirty-line)
+    go a r = grind (nats, dirty-line)
 
 leaves-none : (sh : Shape) (k x : ℕ) (c : Cache) → IsCache sh c → is_dirty c k ≡ false → WordLeaves k x c []
 unfolding among
@@ -184,21 +184,21 @@ unfolding among hit
 leaves-one sh k x c m h f g =
     record {
       same = λ e t. here e t (c.dirty x) refl;
-      other = λ n t. (let y : (k == line_of x) ≡ false = grind (arith, nat_tests) in rw (f t, y) refl);
+      other = λ n t. (let y : (k == line_of x) ≡ false = grind nats in rw (f t, y) refl);
       right = λ t y q. right t y q (cases_eq k (line_of x));
     }
   where
     here : k ≡ line_of x → (t : ℕ) (o : Option ℕ) → c.dirty x ≡ o → num (passes (CopyWord x t) m) + 0 ≡ num (is_this o t)
-    here e t a r = grind (arith, nat_tests, mask-at, dirty-line)
+    here e t a r = grind (nats, mask-at, dirty-line)
 
     wrong : (t y : ℕ) (o : Option ℕ) → c.dirty x ≡ o → (o ≡ Some t → c.value x ≡ Some y)
         → num (((true && is_some o) && (dirty_tag c (line_of x) == t)) && not (get_or (dirty_words c (line_of x)) (place_of x) 0 == y)) ≡ 0
-    wrong t y a r q = grind (arith, nat_tests, dirty-line, value-at)
+    wrong t y a r q = grind (nats, dirty-line, value-at)
 
     right : (t y : ℕ) → (c.dirty x ≡ Some t → c.value x ≡ Some y) → (k ≡ line_of x) ⊎ (k ≡ line_of x → ⊥)
         → num (passes (CopyNot x t y) m) + 0 ≡ 0
-    right t y q (inr n) = let z : (k == line_of x) ≡ false = grind (arith, nat_tests) in rw (g t y, z) refl
-    right t y q (inl e) = let z : (line_of x == line_of x) ≡ true = grind (arith, nat_tests) in
+    right t y q (inr n) = let z : (k == line_of x) ≡ false = grind nats in rw (g t y, z) refl
+    right t y q (inl e) = let z : (line_of x == line_of x) ≡ true = grind nats in
         rw (g t y, e, z, mask-at c x) (omega (arith, wrong t y (c.dirty x) refl q))
 
 flush-leaves : (sh : Shape) (k x : ℕ) (c : Cache) → IsCache sh c → WordLeaves k x c (flush_of (dirty_copy c k))
@@ -223,36 +223,36 @@ back-leaves sh k x c h = go (is_dirty c k) refl
 
 -- they go to the line's home
 at-home : (sh : Shape) (k x : ℕ) (c : Cache) (ms : List Msg) → WordLeaves k x c ms
-    → WordLeaves k x c (to (Dir (home sh k)) ms (Dir (home sh (line_of x))))
+    → WordLeaves k x c (to (Dir (home sh k)) ms (Dir (home_of sh x)))
 unfolding among
-at-home sh k x c ms h = go (home sh (line_of x) == home sh k) refl
+at-home sh k x c ms h = go (home_of sh x == home sh k) refl
   where
-    go : (b : Bool) → (home sh (line_of x) == home sh k) ≡ b → WordLeaves k x c (if b then ms else [])
+    go : (b : Bool) → (home_of sh x == home sh k) ≡ b → WordLeaves k x c (if b then ms else [])
     go true q = h
     go false q = record {
-      same = λ e. absurd (let y : (home sh (line_of x) == home sh k) ≡ true = rw e (grind (arith, nat_tests)) in cc);
+      same = λ e. absurd (let y : (home_of sh x == home sh k) ≡ true = rw e (grind nats) in cc);
       other = λ e t. refl;
       right = λ t y f. refl;
     }
 
-pub flushed-words : (sh : Shape) (k x : ℕ) (c : Cache) → IsCache sh c → WordLeaves k x c (flush_line sh c k (Dir (home sh (line_of x))))
+pub flushed-words : (sh : Shape) (k x : ℕ) (c : Cache) → IsCache sh c → WordLeaves k x c (flush_line sh c k (Dir (home_of sh x)))
 unfolding flush_line
 flushed-words sh k x c h = at-home sh k x c (flush_of (dirty_copy c k)) (flush-leaves sh k x c h)
 
 pub back-home-words : (sh : Shape) (k x : ℕ) (c : Cache) → IsCache sh c →
-    WordLeaves k x c (write_back_line sh c k (Dir (home sh (line_of x))))
+    WordLeaves k x c (write_back_line sh c k (Dir (home_of sh x)))
 unfolding write_back_line
 back-home-words sh k x c h = at-home sh k x c (write_back_of (dirty_copy c k)) (back-leaves sh k x c h)
 
 -- the dirty words of line k are sent, and become clean
 pub word-sent : (sh : Shape) (k x : ℕ) (s : CoreState) (o : Out) → o.core.cache.dirty x ≡ (if k == line_of x then None else s.cache.dirty x)
-    → ((k ≡ line_of x → ⊥) → o.core.cache.value x ≡ s.cache.value x) → WordLeaves k x s.cache (o.sends (Dir (home sh (line_of x))))
+    → ((k ≡ line_of x → ⊥) → o.core.cache.value x ≡ s.cache.value x) → WordLeaves k x s.cache (o.sends (Dir (home_of sh x)))
     → WordCarried sh x s o
 word-sent sh k x s o e f h = go (k == line_of x) refl
   where
     go : (b : Bool) → (k == line_of x) ≡ b → WordCarried sh x s o
-    go true q = let d : o.core.cache.dirty x ≡ None = e ∙ rw q refl in let l : k ≡ line_of x = grind (arith, nat_tests) in
+    go true q = let d : o.core.cache.dirty x ≡ None = e ∙ rw q refl in let l : k ≡ line_of x = grind nats in
         record { copies = λ t. rw d (omega (arith, h.same l t)); framed = λ t r. absurd (let z = sym d ∙ r in cc); sent = h.right }
     go false q = let d : o.core.cache.dirty x ≡ s.cache.dirty x = e ∙ rw q refl in let n : (k ≡ line_of x → ⊥) =
-        λ l. (let z : (k == line_of x) ≡ true = grind (arith, nat_tests) in cc) in
+        λ l. (let z : (k == line_of x) ≡ true = grind nats in cc) in
         record { copies = λ t. rw d (omega (arith, h.other n t)); framed = λ t r. (sym d ∙ r, f n); sent = h.right }

@@ -1,17 +1,17 @@
 -- The values of one word at its home and in its copies, and what keeps them.
 use Rattle.theorem_serial.proofs
 use proofs.Names
-use Names.{ℕ, ◌≡◌, ◌<◌, ◌≤◌, Bool, true, false, List, Contains, Option, Some, None, arith, refl, ap, sym, ◌∙◌, Noted, line_of, Core, Dir}
-use Names.{Shape, home, World, Kind, Commits, CopyWord, CopyNot, live, CommitsInMemory, Pair, pair, CommitsStand, stores_at, stores_word}
-use Names.{counts, value_at, word_copies, CopiesHave, HomeWords, CopiesAbove, names_line, ◌==◌, ◌&&◌, nat_tests, num, Msg, IsCache}
-use Names.{in_flight, History, CommitsAreServed, copies_with, KeptTags, KeptAbove, KeptOwned, Invs, CopyOf, passes, CopiesInMemory}
-use Names.{OwedInFlight, KeptNamed, MarksOfCommits, IsRising, KeptWhole, is_this, KeptStored, ◌⊎◌, inl, inr, is_applied}
+use Names.{ℕ, ◌≡◌, ◌<◌, ◌≤◌, Bool, true, false, List, Contains, Option, Some, None, arith, refl, ap, sym, ◌∙◌, Noted, line_of, Shape, home}
+use Names.{World, Kind, Commits, CopyWord, CopyNot, live, CommitsInMemory, Pair, pair, CommitsStand, stores_at, stores_word, counts}
+use Names.{value_at, word_copies, CopiesHave, HomeWords, CopiesAbove, names_line, ◌==◌, ◌&&◌, num, Msg, IsCache, History, CommitsAreServed}
+use Names.{copies_with, KeptTags, KeptAbove, KeptOwned, Invs, CopyOf, passes, CopiesInMemory, OwedInFlight, KeptNamed, MarksOfCommits}
+use Names.{IsRising, KeptWhole, is_this, KeptStored, ◌⊎◌, inl, inr, is_applied, nats, home_of, tid_at, to_dir, FromCore}
 use proofs.Copies.TagsKept.{stored-home, Consumes}
 use proofs.Counts.Links.{num-same}
 use proofs.Marks.DirRecords.{NoCommit, Dropped}
-use proofs.Memory.MemorySends.{line-has}
+use proofs.Memory.CoreInMemory.{line-has}
 use proofs.Tids.TidSteps.{live-some}
-use proofs.Values.DirWords.{HomeBy, Left, Home}
+use proofs.Values.CoreWords.{HomeBy, Left, Home}
 use proofs.Values.ValueAt.{value-alike}
 use proofs.Values.WordCopies.{word-line}
 
@@ -31,7 +31,7 @@ pub record ValuesAt (sh : Shape) (ram : ℕ → ℕ) (w : World) (cs : List Note
   pub above : (c t : ℕ) → c < sh.cores → tag_of w d x < t → CopiesHave x t (value_of sh ram w cs d (Some c) x) (pair w c d)
 
 abbrev pub KeptValues : Shape → (ℕ → ℕ) → World → List Noted → Type 0
-KeptValues sh ram w cs = (d x : ℕ) → d < sh.dirs → home sh (line_of x) ≡ d → ValuesAt sh ram w cs d x
+KeptValues sh ram w cs = (d x : ℕ) → d < sh.dirs → home_of sh x ≡ d → ValuesAt sh ram w cs d x
 
 pub values-of : (sh : Shape) (ram : ℕ → ℕ) (w : World) (cs : List Noted) → HomeWords sh ram w cs → CopiesAbove sh ram w cs
     → KeptValues sh ram w cs
@@ -50,7 +50,7 @@ from-values sh ram w cs k = (
 pub record Stands (sh : Shape) (ram : ℕ → ℕ) (w v : World) (cs : List Noted) (d x : ℕ) : Type 0 where
   pub cores : v.cores ≡ w.cores
   pub tag : tag_of v d x ≡ tag_of w d x
-  pub others : (c t y : ℕ) → live (CopyNot x t y) (v.net (Core c) (Dir d)) ≤ live (CopyNot x t y) (w.net (Core c) (Dir d))
+  pub others : (c t y : ℕ) → live (CopyNot x t y) (to_dir v c d) ≤ live (CopyNot x t y) (to_dir w c d)
   pub value : (c : Option ℕ) → value_of sh ram v cs d c x ≡ value_of sh ram w cs d c x
   pub home : ((c : ℕ) → c < sh.cores → word_copies x (tag_of w d x) (pair v c d) ≡ 0) → (v.dirs d).words x ≡ value_of sh ram w cs d None x
 
@@ -79,9 +79,9 @@ pub record Quiet (sh : Shape) (ram : ℕ → ℕ) (w v : World) (cs : List Noted
   pub cores : v.cores ≡ w.cores
   pub tag : tag_of v d x ≡ tag_of w d x
   pub words : (v.dirs d).words x ≡ (w.dirs d).words x
-  pub copies : (c : ℕ) → live (CopyWord x (tag_of w d x)) (v.net (Core c) (Dir d)) ≡ live (CopyWord x (tag_of w d x))
-      (w.net (Core c) (Dir d))
-  pub others : (c t y : ℕ) → live (CopyNot x t y) (v.net (Core c) (Dir d)) ≤ live (CopyNot x t y) (w.net (Core c) (Dir d))
+  pub copies : (c : ℕ) → live (CopyWord x (tag_of w d x)) (to_dir v c d) ≡ live (CopyWord x (tag_of w d x))
+      (to_dir w c d)
+  pub others : (c t y : ℕ) → live (CopyNot x t y) (to_dir v c d) ≤ live (CopyNot x t y) (to_dir w c d)
   pub value : (c : Option ℕ) → value_of sh ram v cs d c x ≡ value_of sh ram w cs d c x
 
 pub same-copies : (x t : ℕ) (a b : Pair) → b.core ≡ a.core → live (CopyWord x t) b.out ≡ live (CopyWord x t) a.out
@@ -103,7 +103,7 @@ quiet-keep sh ram w v cs d x q h = stands-keep sh ram w v cs d x (record {
 
 -- the same where neither the directory nor what was sent to it is different
 pub same-values : (sh : Shape) (ram : ℕ → ℕ) (w v : World) (cs : List Noted) (d x : ℕ) → v.cores ≡ w.cores → v.dirs d ≡ w.dirs d
-    → ((k : Kind) (c : ℕ) → live k (v.net (Core c) (Dir d)) ≡ live k (w.net (Core c) (Dir d))) → ValuesAt sh ram w cs d x
+    → ((k : Kind) (c : ℕ) → live k (to_dir v c d) ≡ live k (to_dir w c d)) → ValuesAt sh ram w cs d x
     → ValuesAt sh ram v cs d x
 same-values sh ram w v cs d x e f g h = quiet-keep sh ram w v cs d x (record {
   cores = e;
@@ -117,7 +117,7 @@ same-values sh ram w v cs d x e f g h = quiet-keep sh ram w v cs d x (record {
 -- which commits count
 
 -- a commit that stored the word stored at the word's home
-pub stored-at-home : (sh : Shape) (cs : List Noted) (n : Noted) (d x : ℕ) → CommitsInMemory sh cs → Contains cs n → home sh (line_of x) ≡ d
+pub stored-at-home : (sh : Shape) (cs : List Noted) (n : Noted) (d x : ℕ) → CommitsInMemory sh cs → Contains cs n → home_of sh x ≡ d
     → stores_word sh.base n.stores x ≡ true → stores_at sh d n.stores ≡ true
 unfolding names_line
 stored-at-home sh cs n d x k i e s = stored-home sh d (line_of x) n ((k n i).stored x s) e (line-has (stores_word sh.base n.stores) x s)
@@ -125,11 +125,11 @@ stored-at-home sh cs n d x k i e s = stored-home sh d (line_of x) n ((k n i).sto
 -- no Commit of a commit that stored the word is consumed
 abbrev pub SameCommits : Shape → World → World → List Noted → (dir word : ℕ) → Type 0
 SameCommits sh w v cs d x = (n : Noted) → Contains cs n → stores_word sh.base n.stores x ≡ true
-    → live (Commits n.tid.0) (v.net (Core n.core.0) (Dir d)) ≡ live (Commits n.tid.0) (w.net (Core n.core.0) (Dir d))
+    → live (Commits n.tid.0) (to_dir v n.core.0 d) ≡ live (Commits n.tid.0) (to_dir w n.core.0 d)
 
 -- then each word has the same value for each core
 pub same-value : (sh : Shape) (ram : ℕ → ℕ) (w v : World) (cs : List Noted) (d x : ℕ) → CommitsStand sh w cs → CommitsStand sh v cs
-    → CommitsInMemory sh cs → d < sh.dirs → home sh (line_of x) ≡ d → SameCommits sh w v cs d x → (c : Option ℕ)
+    → CommitsInMemory sh cs → d < sh.dirs → home_of sh x ≡ d → SameCommits sh w v cs d x → (c : Option ℕ)
     → value_of sh ram v cs d c x ≡ value_of sh ram w cs d c x
 unfolding counts
 same-value sh ram w v cs d x a b k dl e f c = value-alike sh.base ram cs (v.dirs d) c None (w.dirs d) c None x
@@ -164,7 +164,7 @@ pub record Known (sh : Shape) (ram : ℕ → ℕ) (h : History) : Type 0 where
   pub invs : OwedInFlight sh h.world
   pub named : KeptNamed sh h.world
   pub spared : (c d l : ℕ) → d < sh.dirs → (h.world.dirs d).lines.owner l ≡ Some c
-      → (h.world.dirs d).lines.tag l ≡ (h.world.dirs d).serving.serving → live Invs (pair h.world c d).back ≡ 0
+      → (h.world.dirs d).lines.tag l ≡ tid_at h.world d → live Invs (pair h.world c d).back ≡ 0
   pub values : KeptValues sh ram h.world h.commits
 
 -- a message of core c to directory d is consumed, and of the rest only the directory is different
@@ -175,11 +175,11 @@ pub record Answers (sh : Shape) (h : History) (c d : ℕ) (m : Msg) (v : World) 
 
 -- a kind that the message isn't of
 pub unconsumed : (b : Bool) (m : Bool) → m ≡ false → num (b && m) ≡ 0
-unconsumed a m e = grind (arith, nat_tests)
+unconsumed a m e = grind nats
 
 -- nothing is consumed at another directory
 elsewhere : (a b y : Bool) → b ≡ false → num ((a && b) && y) ≡ 0
-elsewhere a b y e = grind (arith, nat_tests)
+elsewhere a b y e = grind nats
 
 quiet-commits : (sh : Shape) (h : History) (c d x : ℕ) (m : Msg) (v : World) → Answers sh h c d m v → NoCommit m
     → SameCommits sh h.world v h.commits d x
@@ -188,7 +188,7 @@ quiet-commits sh h c d x m v a n y i s =
 
 -- the word stays, and no copy of it is consumed; or a copy with its line's tag comes home
 pub taken-values : (sh : Shape) (ram : ℕ → ℕ) (h : History) (c d k x : ℕ) (m : Msg) (v : World) → Known sh ram h → c < sh.cores
-    → d < sh.dirs → home sh (line_of x) ≡ d → in_flight h.world.net (Core c) (Dir d) k ≡ Some m → Answers sh h c d m v → NoCommit m
+    → d < sh.dirs → home_of sh x ≡ d → FromCore h.world c d k m → Answers sh h c d m v → NoCommit m
     → tag_of v d x ≡ tag_of h.world d x → HomeBy (h.world.dirs d) m x (v.dirs d) → ValuesAt sh ram v h.commits d x
 unfolding pair
 taken-values sh ram h c d k x m v b cl dl e i a n t (Left w f) = quiet-keep sh ram h.world v h.commits d x (record {
@@ -217,19 +217,19 @@ taken-values sh ram h c d k x m v b cl dl e i a n t (Home f g) = stands-keep sh 
 
     -- the copy that came had the word's value
     came : (z : Bool) → ((v.dirs d).words x == y) ≡ z → (v.dirs d).words x ≡ y
-    came true q = grind (arith, nat_tests)
+    came true q = grind nats
     came false q =
         absurd (let o : num (passes (CopyNot x (tag_of h.world d x) y) m) ≡ 1 = rw (g y, q) refl in
         omega (
           arith,
           o,
-          live-some (CopyNot x (tag_of h.world d x) y) (h.world.net (Core c) (Dir d)) k m i,
+          live-some (CopyNot x (tag_of h.world d x) y) (to_dir h.world c d) k m i,
           ((b.values d x dl e).in_copies c cl).sent,
         ))
 
 -- a copy that is dropped doesn't have the line's tag
 pub dropped-values : (sh : Shape) (ram : ℕ → ℕ) (h : History) (c d k x : ℕ) (m : Msg) (v : World) → Known sh ram h → c < sh.cores
-    → d < sh.dirs → home sh (line_of x) ≡ d → in_flight h.world.net (Core c) (Dir d) k ≡ Some m → Answers sh h c d m v
+    → d < sh.dirs → home_of sh x ≡ d → FromCore h.world c d k m → Answers sh h c d m v
     → v.dirs d ≡ h.world.dirs d → Dropped (h.world.dirs d) c m → ValuesAt sh ram v h.commits d x
 unfolding pair copies_with
 dropped-values sh ram h c d k x m v b cl dl e i a f n = quiet-keep sh ram h.world v h.commits d x (record {
@@ -262,13 +262,13 @@ dropped-values sh ram h c d k x m v b cl dl e i a f n = quiet-keep sh ram h.worl
             omega (arith, o, p, word-line x g m)
         of true r =
             let o : num (passes (CopyOf l g) m) ≡ 1 = ap num r in
-            let s : 1 ≤ live (CopyOf l g) (h.world.net (Core c) (Dir d)) =
-            omega (arith, o, live-some (CopyOf l g) (h.world.net (Core c) (Dir d)) k m i) in
+            let s : 1 ≤ live (CopyOf l g) (to_dir h.world c d) =
+            omega (arith, o, live-some (CopyOf l g) (to_dir h.world c d) k m i) in
             let p : num (is_this ((h.world.dirs d).lines.owner l) c) ≡ 0 = ap num (n.other l r) in
             omega (arith, s, p, b.owned c d l cl dl (b.copies c d l g s) e)
 
 -- at another directory
 pub away-values : (sh : Shape) (ram : ℕ → ℕ) (h : History) (c d e x : ℕ) (m : Msg) (v : World) → Known sh ram h → (e ≡ d → ⊥) → e < sh.dirs
-    → home sh (line_of x) ≡ e → Answers sh h c d m v → v.dirs e ≡ h.world.dirs e → ValuesAt sh ram v h.commits e x
+    → home_of sh x ≡ e → Answers sh h c d m v → v.dirs e ≡ h.world.dirs e → ValuesAt sh ram v h.commits e x
 away-values sh ram h c d e x m v b n el q a f = same-values sh ram h.world v h.commits e x (a.cores) f
-    (λ k j. omega (arith, a.net k j e, elsewhere (j == c) (e == d) (passes k m) (grind (arith, nat_tests)))) (b.values e x el q)
+    (λ k j. omega (arith, a.net k j e, elsewhere (j == c) (e == d) (passes k m) (grind nats))) (b.values e x el q)

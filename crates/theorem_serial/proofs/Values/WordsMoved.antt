@@ -2,14 +2,14 @@
 use Rattle.theorem_serial.proofs
 use proofs.Names
 use Names.{ℕ, ◌+◌, ◌%◌, ◌≡◌, ◌<◌, ◌≤◌, ◌==◌, ◌++◌, Bool, true, false, not, List, Option, Some, None, arith, refl, ap, sym, subst, ◌∙◌}
-use Names.{nat_tests, Noted, num, line_of, has_mark, Core, Dir, Vendor, Msg, Inv, Shape, home, lines, World, in_flight, sent_all, Out}
-use Names.{History, core_moves, core_takes, CopyOf, CopyWord, CopyNot, Invs, InvOf, InvsAway, live, among, passes, due, Pair, pair, share}
-use Names.{after_move, grant_taken, back_taken, is_this, SettledCommit, value_at, word_copies, CopiesHave, copies_with}
+use Names.{Noted, num, line_of, has_mark, Dir, Vendor, Msg, Inv, Shape, home, lines, World, sent_all, Out, History, core_moves, core_takes}
+use Names.{CopyOf, CopyWord, CopyNot, Invs, InvOf, InvsAway, live, among, passes, due, Pair, pair, share, after_move, grant_taken}
+use Names.{back_taken, is_this, SettledCommit, value_at, word_copies, CopiesHave, copies_with, nats, home_of, to_core, FromDir}
 use proofs.Copies.TagsKept.{inv-tag-of, Invalidating}
 use proofs.Counts.Links.{live-sends, total-le}
 use proofs.Counts.StepCases.{AllPairs, pairs_move, pairs_grant, pairs_back}
 use proofs.Tids.TidSteps.{live-some}
-use proofs.Values.CoreWordsTakes.{WordBack, Carried, Lost}
+use proofs.Values.CoreWords.{WordBack, Carried, Lost}
 use proofs.Values.HomesAnswered.{mask-inside}
 use proofs.Values.WordCopies.{few-copies, among-words, among-others, WordCarried, Carries}
 use proofs.Values.WordValues.{Known, value_of, tag_of, KeptValues}
@@ -21,7 +21,7 @@ pub record Alike (x g : ℕ) (a b : Pair) : Type 0 where
 
 -- between core c and directory d, where the word is at home there
 abbrev pub AlikeAt : Shape → World → (core dir : ℕ) → Pair → Type 0
-AlikeAt sh w c d v = (x : ℕ) → c < sh.cores → d < sh.dirs → home sh (line_of x) ≡ d → Alike x (tag_of w d x) (pair w c d) v
+AlikeAt sh w c d v = (x : ℕ) → c < sh.cores → d < sh.dirs → home_of sh x ≡ d → Alike x (tag_of w d x) (pair w c d) v
 
 still-alike : (sh : Shape) (w : World) → AllPairs (AlikeAt sh w) w
 still-alike sh w c d x cl dl e = record { copies = refl; have = λ t y h. h }
@@ -49,7 +49,7 @@ pub record Moved (o : Out) (d : ℕ) (a b : Pair) : Type 0 where
   pub core : b.core ≡ o.core
   pub out : b.out ≡ a.out ++ sent_all (o.sends (Dir d))
 
-carried-alike : (sh : Shape) (x d g : ℕ) (o : Out) (a b : Pair) → home sh (line_of x) ≡ d → WordCarried sh x a.core o → Moved o d a b
+carried-alike : (sh : Shape) (x d g : ℕ) (o : Out) (a b : Pair) → home_of sh x ≡ d → WordCarried sh x a.core o → Moved o d a b
     → Alike x g a b
 unfolding word_copies
 carried-alike sh x d g o a b e h m = record { copies = copies; have = have }
@@ -78,7 +78,7 @@ unfolding word_copies
 lost-alike sh x d g o a b n f z m = record { copies = copies; have = have }
   where
     fewer : (y : Option ℕ) → o.core.cache.dirty x ≡ y → num (is_this y g) ≤ num (is_this (a.core.cache.dirty x) g)
-    fewer a q = grind (arith, nat_tests)
+    fewer a q = grind nats
 
     copies : num (is_this (b.core.cache.dirty x) g) + live (CopyWord x g) b.out ≡ num (is_this (a.core.cache.dirty x) g) + live
         (CopyWord x g) a.out
@@ -109,37 +109,37 @@ lost-alike sh x d g o a b n f z m = record { copies = copies; have = have }
 
 -- an invalidation comes from the line's home
 inv-home : (sh : Shape) (ram : ℕ → ℕ) (h : History) (c e k l m u : ℕ) → Known sh ram h
-    → in_flight h.world.net (Dir e) (Core c) k ≡ Some (Inv l m u) → home sh l ≡ e
+    → FromDir h.world e c k (Inv l m u) → home sh l ≡ e
 unfolding passes
 inv-home sh ram h c e k l m u b i = go (home sh l == e) refl
   where
     go : (y : Bool) → (home sh l == e) ≡ y → home sh l ≡ e
-    go true q = grind (arith, nat_tests)
+    go true q = grind nats
     go false q =
         absurd (let n : num (not ((l % sh.dirs) == e)) ≡ 1 = rw q refl in
-        omega (arith, n, live-some (InvsAway sh.dirs e) (h.world.net (Dir e) (Core c)) k (Inv l m u) i, b.invs.at_home c e))
+        omega (arith, n, live-some (InvsAway sh.dirs e) (to_core h.world e c) k (Inv l m u) i, b.invs.at_home c e))
 
 -- and of a line in memory, for it is marked
 inv-inside : (sh : Shape) (ram : ℕ → ℕ) (h : History) (c d k l m u : ℕ) → Known sh ram h → c < sh.cores → d < sh.dirs
-    → in_flight h.world.net (Dir d) (Core c) k ≡ Some (Inv l m u) → l < lines sh
+    → FromDir h.world d c k (Inv l m u) → l < lines sh
 unfolding pair passes due share
 inv-inside sh ram h c d k l m u b cl dl i =
     let owed : 1 ≤ (h.world.dirs d).owed = omega (arith, invs, b.invs.owed d, total-le (share due h.world d) sh.cores c cl) in
     let n : SettledCommit sh h.commits d (h.world.dirs d) = (b.stored 0 d 0).settled dl owed in
     mask-inside sh d l n.commit.stores ((h.world.dirs d).lines.mark l) (n.marks l) (marked (has_mark (h.world.dirs d).lines l) refl)
   where
-    invs : 1 ≤ live Invs (h.world.net (Dir d) (Core c))
-    invs = omega (arith, live-some Invs (h.world.net (Dir d) (Core c)) k (Inv l m u) i)
+    invs : 1 ≤ live Invs (to_core h.world d c)
+    invs = omega (arith, live-some Invs (to_core h.world d c) k (Inv l m u) i)
 
     marked : (y : Bool) → has_mark (h.world.dirs d).lines l ≡ y → y ≡ true
     marked true q = refl
-    marked false q = absurd (let y : (l == l) ≡ true = grind (arith, nat_tests) in let z : num (l == l) ≡ 1 = rw y refl in
+    marked false q = absurd (let y : (l == l) ≡ true = grind nats in let z : num (l == l) ≡ 1 = rw y refl in
         let w : num (has_mark (h.world.dirs d).lines l) ≡ 0 = ap num q in
-        omega (arith, z, w, live-some (InvOf l) (h.world.net (Dir d) (Core c)) k (Inv l m u) i, (b.named c d l cl dl).one))
+        omega (arith, z, w, live-some (InvOf l) (to_core h.world d c) k (Inv l m u) i, (b.named c d l cl dl).one))
 
 -- the core that it goes to has no copy of the word with the line's tag, for it isn't the owner
 none-with-tag : (sh : Shape) (ram : ℕ → ℕ) (h : History) (c d k x m u : ℕ) → Known sh ram h → c < sh.cores → d < sh.dirs
-    → line_of x < lines sh → home sh (line_of x) ≡ d → in_flight h.world.net (Dir d) (Core c) k ≡ Some (Inv (line_of x) m u)
+    → line_of x < lines sh → home_of sh x ≡ d → FromDir h.world d c k (Inv (line_of x) m u)
     → word_copies x (tag_of h.world d x) (pair h.world c d) ≡ 0
 unfolding pair
 none-with-tag sh ram h c d k x m u b cl dl ll e i = let y : copies_with (line_of x) (tag_of h.world d x) (pair h.world c d) ≡ num
@@ -162,7 +162,7 @@ none-with-tag sh ram h c d k x m u b cl dl ll e i = let y : copies_with (line_of
         which : (y : Bool) → (o == c) ≡ y → num y ≡ 0
         which false r = refl
         which true r =
-            absurd (let z : o ≡ c = grind (arith, nat_tests) in
+            absurd (let z : o ≡ c = grind nats in
             omega (arith, t.sent, b.spared c d (line_of x) dl (q ∙ ap (λ n. Some n) z) (t.tag)))
 
 -- a core moves, takes a grant, takes a message of a directory
@@ -182,19 +182,19 @@ granted-alike sh w c k o h =
     (record { core = refl; out = refl })) (still-alike sh w)
 
 taken-one : (sh : Shape) (ram : ℕ → ℕ) (h : History) (c e d k x : ℕ) (m : Msg) (o : Out) (v : Pair) → Known sh ram h → c < sh.cores
-    → d < sh.dirs → home sh (line_of x) ≡ d → in_flight h.world.net (Dir e) (Core c) k ≡ Some m → WordBack sh x (h.world.cores c) m o
+    → d < sh.dirs → home_of sh x ≡ d → FromDir h.world e c k m → WordBack sh x (h.world.cores c) m o
     → Moved o d (pair h.world c d) v → Alike x (tag_of h.world d x) (pair h.world c d) v
 unfolding pair
 taken-one sh ram h c e d k x m o v b cl dl q i (Carried y) n = carried-alike sh x d (tag_of h.world d x) o (pair h.world c d) v q y n
 taken-one sh ram h c e d k x m o v b cl dl q i (Lost p u r f z) n =
-    let j : in_flight h.world.net (Dir e) (Core c) k ≡ Some (Inv (line_of x) p u) = i ∙ ap (λ y. Some y) r in
+    let j : FromDir h.world e c k (Inv (line_of x) p u) = i ∙ ap (λ y. Some y) r in
     let w : d ≡ e = sym q ∙ inv-home sh ram h c e k (line_of x) p u b j in
     lost-alike sh x d (tag_of h.world d x) o (pair h.world c d) v
     (none-with-tag sh ram h c d k x p u b cl dl (inv-inside sh ram h c d k (line_of x) p u b cl dl (rw w j)) q (rw w j)) f
     (λ t. rw q at (z t)) n
 
 pub taken-alike : (sh : Shape) (ram : ℕ → ℕ) (h : History) (c e k : ℕ) (m : Msg) (o : Out) → Known sh ram h
-    → in_flight h.world.net (Dir e) (Core c) k ≡ Some m → ((x : ℕ) → WordBack sh x (h.world.cores c) m o)
+    → FromDir h.world e c k m → ((x : ℕ) → WordBack sh x (h.world.cores c) m o)
     → AllPairs (AlikeAt sh h.world) (core_takes h.world (Dir e) c k o)
 unfolding pair
 taken-alike sh ram h c e k m o b i f = pairs_back (AlikeAt sh h.world) h.world e c k o

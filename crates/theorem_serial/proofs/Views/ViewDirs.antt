@@ -5,12 +5,12 @@ use Rattle.theorem_serial.proofs
 use proofs.Names
 use Names.{ℕ, zero, suc, ◌+◌, ◌≡◌, ◌<◌, ◌≤◌, ◌⊎◌, Bool, true, cond, [], ◌∷◌, Option, Some, None, flat_map, arith, refl, inl, inr, cases_eq}
 use Names.{flat_map-append, num, line_of, those, hit, Msg, Inv, Kind, passes, among, is_below, dooms, ◌==◌, ◌&&◌, ◌||◌, not, false, List}
-use Names.{Contains, is_some, nat_lt, set, ap, sym, subst, ◌∙◌, true≢false, nat_tests, Noted, place_of, word_at, any_word, count_below}
-use Names.{has_mark, Core, Dir, Shape, home, lines, any_below-at, DirState, World, in_flight, is_invalidated, invs_to, invalidations, Sends}
-use Names.{History, dir_takes, keeps_unmodified, holds_line, Commits, CommitOf, live, CommitsInMemory, Carried, Grant, Pair, pair}
-use Names.{is_applied, is_this, CommitsStand, stored_mask, stores_in, MarkedCommit, stores_word, counts, value_at, Ways, if◌then◌else◌}
-use Names.{TidReq, TidGrant, Fill, ProbeReply, Commit, DataReq, Answer, Waits, Drops, Asks, Takes, moved_on_if_settled, owned_by_committer}
-use Names.{invalidation_count, dir_deliver, dir_asks, Uses, out_taken, EachUse, has-mask_of, CommitsLine, IsPassed}
+use Names.{Contains, is_some, nat_lt, set, ap, sym, subst, ◌∙◌, true≢false, Noted, place_of, word_at, any_word, count_below, has_mark, Core}
+use Names.{Dir, Shape, lines, any_below-at, DirState, World, is_invalidated, invs_to, invalidations, Sends, History, dir_takes}
+use Names.{keeps_unmodified, holds_line, Commits, CommitOf, live, CommitsInMemory, Carried, Grant, Pair, pair, is_applied, is_this}
+use Names.{CommitsStand, stored_mask, stores_in, MarkedCommit, stores_word, counts, value_at, Ways, if◌then◌else◌, TidReq, TidGrant, Fill}
+use Names.{ProbeReply, Commit, DataReq, Answer, Waits, Drops, Asks, Takes, moved_on_if_settled, owned_by_committer, invalidation_count}
+use Names.{dir_deliver, dir_asks, Uses, out_taken, EachUse, has-mask_of, CommitsLine, IsPassed, nats, home_of, tid_at, to_dir, FromCore}
 use proofs.Counts.Links.{among-append, live-takes}
 use proofs.Counts.StepCases.{dir-own, dir-other, either, AllPairs, pairs_dir, pairs_asks, asks-own, OfAnswer, differ}
 use proofs.Marks.MaskLaws.{same-commit}
@@ -21,7 +21,7 @@ use proofs.Values.ValueAt.{value-alike, IsAlike}
 use proofs.Values.WordValues.{stored-at-home}
 use proofs.Views.ViewFacts.{IsSeen, applied-same, bound-own, solo-tid, solo-holds, solo-served}
 use proofs.Views.ViewPairs.{StaysOrDooms, ViewOf, view-answers, bound-out, view-out}
-use proofs.Marks.StoredMasks.{stored-line}
+use proofs.Marks.CoreMarks.{stored-line}
 
 -- Where a directory takes a Commit, a use of a stored word by another core is doomed, unless the core's bound is below the commit.
 
@@ -35,12 +35,12 @@ among-those k g p l (suc n) b e = rw flat_map-append (rw among-append (go (cases
     go : (l ≡ n) ⊎ (l ≡ n → ⊥) → (l < n → num (passes k (g l)) ≤ among k (flat_map (λ j. g j ∷ []) (those p n)))
         → num (passes k (g l)) ≤ among k (flat_map (λ j. g j ∷ []) (those p n)) + among k
         (flat_map (λ j. g j ∷ []) (cond (p n) (n ∷ []) []))
-    go a f = grind (arith, nat_tests)
+    go a f = grind nats
 
 -- an invalidation of the word that is below the bound dooms
 inv-dooms : (b : Option ℕ) (x l m u : ℕ) → is_below b u ≡ true → hit l m x ≡ true → num (passes (dooms b x) (Inv l m u)) ≡ 1
 unfolding passes
-inv-dooms a x l m u e h = grind (arith, nat_tests)
+inv-dooms a x l m u e h = grind nats
 
 pub sent-dooms : (b : Option ℕ) (x u n : ℕ) (f : ℕ → ℕ) (p : ℕ → Bool) → line_of x < n → p (line_of x) ≡ true
     → hit (line_of x) (f (line_of x)) x ≡ true → is_below b u ≡ true
@@ -51,21 +51,21 @@ sent-dooms b x u n f p l e h i =
 -- What a directory's answer does to the values that cores see: only a Commit that it takes changes them, and this dooms.
 
 -- the Commits in flight to a directory where it takes a message
-pub commits-after : (w : World) (c d k t : ℕ) (m : Msg) (s : DirState) (sends : Sends) (j : ℕ) → in_flight w.net (Core c) (Dir d) k ≡ Some m
+pub commits-after : (w : World) (c d k t : ℕ) (m : Msg) (s : DirState) (sends : Sends) (j : ℕ) → FromCore w c d k m
     → passes (Commits t) m ≡ false → live (Commits t) ((dir_takes w c d k s sends).net (Core j) (Dir d)) ≡ live (Commits t)
-    (w.net (Core j) (Dir d))
+    (to_dir w j d)
 unfolding pair
 commits-after w c d k t m s sends j i f = either j c own other
   where
-    here : live (Commits t) ((dir_takes w c d k s sends).net (Core c) (Dir d)) ≡ live (Commits t) (w.net (Core c) (Dir d))
+    here : live (Commits t) ((dir_takes w c d k s sends).net (Core c) (Dir d)) ≡ live (Commits t) (to_dir w c d)
     here = let p : num (passes (Commits t) m) ≡ 0 = ap num f in let z : live (Commits t) ((dir_takes w c d k s sends).net (Core c) (Dir d))
-        ≡ live (Commits t) (set (w.net (Core c) (Dir d)) k None) = ap (λ v. live (Commits t) v.out) (dir-own w c d k s sends) in
-        omega (arith, z, p, live-takes (Commits t) (w.net (Core c) (Dir d)) k m i)
+        ≡ live (Commits t) (set (to_dir w c d) k None) = ap (λ v. live (Commits t) v.out) (dir-own w c d k s sends) in
+        omega (arith, z, p, live-takes (Commits t) (to_dir w c d) k m i)
 
-    own : j ≡ c → live (Commits t) ((dir_takes w c d k s sends).net (Core j) (Dir d)) ≡ live (Commits t) (w.net (Core j) (Dir d))
+    own : j ≡ c → live (Commits t) ((dir_takes w c d k s sends).net (Core j) (Dir d)) ≡ live (Commits t) (to_dir w j d)
     own e = rw e here
 
-    other : (j ≡ c → ⊥) → live (Commits t) ((dir_takes w c d k s sends).net (Core j) (Dir d)) ≡ live (Commits t) (w.net (Core j) (Dir d))
+    other : (j ≡ c → ⊥) → live (Commits t) ((dir_takes w c d k s sends).net (Core j) (Dir d)) ≡ live (Commits t) (to_dir w j d)
     other e = ap (λ v. live (Commits t) v.out) (dir-other w c d k s sends j e)
 
 -- commits that are applied alike count alike
@@ -75,8 +75,8 @@ counts-alike s r c b n e = rw e refl
 
 -- no Commit is taken: the values stay
 pub stays-value : (sh : Shape) (ram : ℕ → ℕ) (cs : List Noted) (w v : World) (j d x : ℕ) (b : Option ℕ) → CommitsInMemory sh cs
-    → CommitsStand sh w cs → CommitsStand sh v cs → d < sh.dirs → home sh (line_of x) ≡ d
-    → ((n : Noted) → live (Commits n.tid.0) (v.net (Core n.core.0) (Dir d)) ≡ live (Commits n.tid.0) (w.net (Core n.core.0) (Dir d)))
+    → CommitsStand sh w cs → CommitsStand sh v cs → d < sh.dirs → home_of sh x ≡ d
+    → ((n : Noted) → live (Commits n.tid.0) (to_dir v n.core.0 d) ≡ live (Commits n.tid.0) (to_dir w n.core.0 d))
     → value_at sh.base ram cs (w.dirs d) (Some j) b x ≡ value_at sh.base ram cs (v.dirs d) (Some j) b x
 stays-value sh ram cs w v j d x b m a z dl e f = value-alike sh.base ram cs (w.dirs d) (Some j) b (v.dirs d) (Some j) b x
     (λ n i. go n i (stores_word sh.base n.stores x) refl)
@@ -92,25 +92,25 @@ stays-value sh ram cs w v j d x b m a z dl e f = value-alike sh.base ram cs (w.d
 pub record Taken (sh : Shape) (w : World) (c d u : ℕ) : Type 0 where
   pub core : c < sh.cores
   pub dir : d < sh.dirs
-  pub serving : (w.dirs d).serving.serving ≡ u
-  pub sent : 1 ≤ live (CommitOf u (count_below (has_mark (w.dirs d).lines) (lines sh))) (w.net (Core c) (Dir d))
-  pub commit : 1 ≤ live (Commits u) (w.net (Core c) (Dir d))
+  pub serving : tid_at w d ≡ u
+  pub sent : 1 ≤ live (CommitOf u (count_below (has_mark (w.dirs d).lines) (lines sh))) (to_dir w c d)
+  pub commit : 1 ≤ live (Commits u) (to_dir w c d)
 
 num-true : (b : Bool) → 1 ≡ num b → b ≡ true
-num-true a e = grind (arith, nat_tests)
+num-true a e = grind nats
 
 all-true : (a b c : Bool) → (a && b) ≡ true → c ≡ true → true ≡ (a && (b && c))
-all-true a b c e f = grind (arith, nat_tests)
+all-true a b c e f = grind nats
 
 pub is-lt : (a b : ℕ) → a < b → nat_lt a b ≡ true
-is-lt a b l = grind (arith, nat_tests)
+is-lt a b l = grind nats
 
 inside-home : (l n d e : ℕ) → l < n → e ≡ d → (nat_lt l n && d == e) ≡ true
-inside-home l n d e a b = grind (arith, nat_tests)
+inside-home l n d e a b = grind nats
 
 -- a directory that has reached the core's TID serves no smaller one
 not-ahead : (t u s : ℕ) → nat_lt u t ≡ true → s ≡ u → t ≤ s → ⊥
-not-ahead t u s a b c = grind (arith, nat_tests)
+not-ahead t u s a b c = grind nats
 
 -- a core holds the line of a valid word that is marked read
 holds-word : (v : Pair) (x : ℕ) → v.core.cache.read x ≡ true → is_some (v.core.cache.value x) ≡ true → holds_line (line_of x) v ≡ true
@@ -128,8 +128,8 @@ holds-word v x r e =
 -- each core sees the values that it saw, or the invalidation that it is sent dooms the use
 pub commit-value : (sh : Shape) (gs : List Grant) (ys : Ways) (ram : ℕ → ℕ) (h : History) → Carried sh gs ys h
     → CommitsInMemory sh h.commits → (v : World) → CommitsStand sh v h.commits → (c d u : ℕ) → Taken sh h.world c d u
-    → ((n : Noted) → (n.tid.0 ≡ u → ⊥) → live (Commits n.tid.0) (v.net (Core n.core.0) (Dir d)) ≡ live (Commits n.tid.0)
-    (h.world.net (Core n.core.0) (Dir d)))
+    → ((n : Noted) → (n.tid.0 ≡ u → ⊥) → live (Commits n.tid.0) (to_dir v n.core.0 d) ≡ live (Commits n.tid.0)
+    (to_dir h.world n.core.0 d))
     → (j : ℕ) → StaysOrDooms sh ram h.commits j d (pair h.world j d) (v.dirs d) (invalidations sh (h.world.dirs d).lines c u (Core j))
 unfolding pair invalidations invs_to counts stored_mask stores_in hit any_word is_invalidated
 commit-value sh gs ys ram h k mem v stand c d u t f j b jl dl bound x y e seen = below (is_below b u) refl
@@ -197,8 +197,8 @@ commit-value sh gs ys ram h k mem v stand c d u t f j b jl dl bound x y e seen =
         stored : stores_word sh.base n.stores (word_at (line_of x) (place_of x)) ≡ true
         stored = rw place s
 
-        here : (nat_lt (line_of x) (lines sh) && d == home sh (line_of x)) ≡ true
-        here = inside-home (line_of x) (lines sh) d (home sh (line_of x)) inside e
+        here : (nat_lt (line_of x) (lines sh) && d == home_of sh x) ≡ true
+        here = inside-home (line_of x) (lines sh) d (home_of sh x) inside e
 
         mask : stored_mask sh d n.stores (line_of x) ≡ stores_in sh.base n.stores (line_of x)
         mask = rw here refl
@@ -214,7 +214,7 @@ commit-value sh gs ys ram h k mem v stand c d u t f j b jl dl bound x y e seen =
         marked : has_mark (w.dirs d).lines (line_of x) ≡ true
         marked =
             rw mark (num-true (nat_lt 0 (stored_mask sh d n.stores (line_of x)))
-            (ap num (all-true (nat_lt (line_of x) (lines sh)) (d == home sh (line_of x))
+            (ap num (all-true (nat_lt (line_of x) (lines sh)) (d == home_of sh x)
             (any_word (stores_word sh.base n.stores) (line_of x)) here named) ∙ stored-line sh d n.stores (line_of x)))
 
         read : (w.cores j).cache.read x ≡ true
@@ -227,13 +227,13 @@ commit-value sh gs ys ram h k mem v stand c d u t f j b jl dl bound x y e seen =
                 let o : b ≡ Some p.0 = bound-own sh gs ys h k j d p.0 b jl (solo-holds (w.cores j).phase p.0 (p.1)) bound in
                 let r = (solo-served sh gs ys h k j d p.0 jl dl (p.1)).serving in
                 let l : nat_lt u p.0 ≡ true = rw o at q in
-                absurd (not-ahead p.0 u (w.dirs d).serving.serving l (t.serving) (omega (arith, r)))
+                absurd (not-ahead p.0 u (tid_at w d) l (t.serving) (omega (arith, r)))
 
-        valid : (b : Option ℕ) → is_below b u ≡ true → (is_some ((w.cores j).cache.value x) ≡ true) ⊎ IsPassed b (w.dirs d).serving.serving
+        valid : (b : Option ℕ) → is_below b u ≡ true → (is_some ((w.cores j).cache.value x) ≡ true) ⊎ IsPassed b (tid_at w d)
             → is_some ((w.cores j).cache.value x) ≡ true
         valid b q (inl a) = a
         valid None q (inr a) = absurd a
-        valid (Some z) q (inr a) = absurd (not-ahead z u (w.dirs d).serving.serving q (t.serving) (omega (arith, a)))
+        valid (Some z) q (inr a) = absurd (not-ahead z u (tid_at w d) q (t.serving) (omega (arith, a)))
 
         holds : holds_line (line_of x) (pair w j d) ≡ true
         holds = holds-word (pair w j d) x read (valid b q (k.read_mark_is_valid_or_passed j d x b jl dl e bound read))
@@ -301,7 +301,7 @@ NearAfter sh ram cs vs v = CommitsStand sh v cs → AllNear sh ram cs vs v
 
 -- the message isn't a Commit
 plain-views : (sh : Shape) (ram : ℕ → ℕ) (cs : List Noted) (vs : ℕ → Uses) (w : World) (c d k : ℕ) (m : Msg) (a : Answer)
-    → CommitsInMemory sh cs → CommitsStand sh w cs → AllSeen vs w → AllNear sh ram cs vs w → in_flight w.net (Core c) (Dir d) k ≡ Some m
+    → CommitsInMemory sh cs → CommitsStand sh w cs → AllSeen vs w → AllNear sh ram cs vs w → FromCore w c d k m
     → ((t : ℕ) → passes (Commits t) m ≡ false) → OfAnswer w c d k (NearAfter sh ram cs vs) a
 unfolding pair dir_asks
 plain-views sh ram cs vs w c d k m a mem st q h i f = go a
@@ -325,7 +325,7 @@ plain-views sh ram cs vs w c d k m a mem st q h i f = go a
 
 commit-views : (sh : Shape) (gs : List Grant) (ys : Ways) (ram : ℕ → ℕ) (vs : ℕ → Uses) (h : History) (c d k u n : ℕ) → Carried sh gs ys h
     → CommitsInMemory sh h.commits → AllSeen vs h.world → AllNear sh ram h.commits vs h.world → c < sh.cores
-    → in_flight h.world.net (Core c) (Dir d) k ≡ Some (Commit u n)
+    → FromCore h.world c d k (Commit u n)
     → OfAnswer h.world c d k (NearAfter sh ram h.commits vs) (dir_commit sh c u n (h.world.dirs d))
 unfolding dir_commit passes
 commit-views sh gs ys ram vs h c d k u n y mem q near cl i =
@@ -347,13 +347,13 @@ commit-views sh gs ys ram vs h c d k u n y mem q near cl i =
     go true e true f = λ z. near-takes sh ram h.commits vs w c d k r (invalidations sh s.lines c u) q near (one z)
       where
         counted : num ((u == u) && (n == count_below (has_mark s.lines) (lines sh))) ≡ 1
-        counted = grind (arith, nat_tests)
+        counted = grind nats
 
         meant : num (u == u) ≡ 1
-        meant = grind (arith, nat_tests)
+        meant = grind nats
 
         away : (t : ℕ) → (t ≡ u → ⊥) → (u == t) ≡ false
-        away t x = grind (arith, nat_tests)
+        away t x = grind nats
 
         one : CommitsStand sh (dir_takes w c d k r (invalidations sh s.lines c u)) h.commits → (j : ℕ)
             → StaysOrDooms sh ram h.commits j d (pair w j d) r (invalidations sh s.lines c u (Core j))
@@ -363,30 +363,30 @@ commit-views sh gs ys ram vs h c d k u n y mem q near cl i =
             (record {
               core = cl;
               dir = dl;
-              serving = grind (arith, nat_tests);
+              serving = grind nats;
               sent = omega (
                 arith,
                 counted,
                 live-some (CommitOf u (count_below (has_mark s.lines) (lines sh)))
-                    (w.net (Core c) (Dir d)) k (Commit u n) i,
+                    (to_dir w c d) k (Commit u n) i,
               );
-              commit = omega (arith, meant, live-some (Commits u) (w.net (Core c) (Dir d)) k (Commit u n) i);
+              commit = omega (arith, meant, live-some (Commits u) (to_dir w c d) k (Commit u n) i);
             })
             (λ o x. commits-after w c d k o.tid.0 (Commit u n) r (invalidations sh s.lines c u) o.core.0 i (away o.tid.0 x)) j b jl dl g)
 
 pub answered-views : (sh : Shape) (gs : List Grant) (ys : Ways) (ram : ℕ → ℕ) (vs : ℕ → Uses) (h : History) (c d k : ℕ) (m : Msg)
     → Carried sh gs ys h → CommitsInMemory sh h.commits → AllSeen vs h.world → AllNear sh ram h.commits vs h.world → c < sh.cores
-    → in_flight h.world.net (Core c) (Dir d) k ≡ Some m
+    → FromCore h.world c d k m
     → OfAnswer h.world c d k (NearAfter sh ram h.commits vs) (dir_deliver sh (h.world.dirs d) c m)
 unfolding dir_deliver passes
 answered-views sh gs ys ram vs h c d k m y mem q near cl i = go m i
   where
-    plain : (m : Msg) → in_flight h.world.net (Core c) (Dir d) k ≡ Some m → ((t : ℕ) → passes (Commits t) m ≡ false)
+    plain : (m : Msg) → FromCore h.world c d k m → ((t : ℕ) → passes (Commits t) m ≡ false)
         → OfAnswer h.world c d k (NearAfter sh ram h.commits vs) (dir_deliver sh (h.world.dirs d) c m)
     plain m i f = plain-views sh ram h.commits vs h.world c d k m (dir_deliver sh (h.world.dirs d) c m) mem
         (y.commit_is_on_its_way_or_applied) q near i f
 
-    go : (m : Msg) → in_flight h.world.net (Core c) (Dir d) k ≡ Some m
+    go : (m : Msg) → FromCore h.world c d k m
         → OfAnswer h.world c d k (NearAfter sh ram h.commits vs) (dir_deliver sh (h.world.dirs d) c m)
     go (Commit u n) i = commit-views sh gs ys ram vs h c d k u n y mem q near cl i
     go TidReq i = tt

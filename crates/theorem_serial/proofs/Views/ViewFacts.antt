@@ -2,10 +2,11 @@
 use Rattle.theorem_serial.proofs
 use proofs.Names
 use Names.{ℕ, ◌≡◌, ◌<◌, ◌≤◌, ◌⊎◌, ◌==◌, Bool, true, false, List, [], ◌∷◌, Contains, Option, Some, None, is_some, arith, refl, ap, inl, inr}
-use Names.{cases_lt, nat_tests, num, line_of, Core, Dir, Msg, Cache, writes_at, Shape, home, Phase, DoomedTid, Probing, Ready, Overflowing}
-use Names.{Solo, Halted, Link, World, is_solo, History, Uses, AllStand, UsesStand, Invs, InvsNot, InvWord, InvBelow, passes, live, Carried}
-use Names.{due, Grant, times, holder, pair, share, IsBound, is_applied, has_tid, opens, dooms, EachUse, IsPassed, IsDoomed, Ways, Settled}
-use Names.{suc, ◌+◌, ◌||◌, length, slice_index_or, Noted, DirState, Commits, is_this, CommitsStand, stores_at, counts, value_at}
+use Names.{cases_lt, num, Msg, Cache, writes_at, Shape, Phase, DoomedTid, Probing, Ready, Overflowing, Solo, Halted, Link, World, is_solo}
+use Names.{History, Uses, AllStand, UsesStand, Invs, InvsNot, InvWord, InvBelow, passes, live, Carried, due, Grant, times, holder, pair}
+use Names.{share, IsBound, is_applied, has_tid, opens, dooms, EachUse, IsPassed, IsDoomed, Ways, Settled, suc, ◌+◌, ◌||◌, length}
+use Names.{slice_index_or, Noted, DirState, Commits, is_this, CommitsStand, stores_at, counts, value_at, nats, home_of, tid_at, to_dir}
+use Names.{to_core}
 use proofs.Counts.Links.{live-fewer, total-le}
 use proofs.Tids.Commits.{numbered-least, numbered-most, granted-at}
 use proofs.Values.ValueAt.{value-alike}
@@ -33,7 +34,7 @@ bound-own sh gs ys h k c d t (Some u) l e i = ap Some (one-holder sh gs ys h k c
 
 -- a directory at which a core's TID is open
 pub record IsServed (w : World) (d t : ℕ) : Type 0 where
-  pub serving : (w.dirs d).serving.serving ≡ t
+  pub serving : tid_at w d ≡ t
   pub owed : (w.dirs d).owed ≡ 0
 
 pub open-served : (sh : Shape) (gs : List Grant) (ys : Ways) (h : History) → Carried sh gs ys h → (c d t : ℕ) → c < sh.cores → d < sh.dirs
@@ -41,7 +42,7 @@ pub open-served : (sh : Shape) (gs : List Grant) (ys : Ways) (h : History) → C
     → (h.world.cores c).owing d ≡ false → IsServed h.world d t
 open-served sh gs ys h k c d t cl dl e o f = record { serving = s; owed = go (cases_lt 0 (h.world.dirs d).owed) }
   where
-    s : (h.world.dirs d).serving.serving ≡ t
+    s : tid_at h.world d ≡ t
     s = k.directory_that_replied_serves_the_tid.serves c d t cl dl o f
 
     g : Contains gs (record { tid = t; core = c }) × (times t h.commits ≡ 0)
@@ -58,7 +59,7 @@ open-served sh gs ys h k c d t cl dl e o f = record { serving = s; owed = go (ca
 -- such a TID isn't applied there
 pub served-unapplied : (w : World) (d t : ℕ) → IsServed w d t → is_applied (w.dirs d) t ≡ false
 unfolding is_applied
-served-unapplied w d t s = let a = s.serving in let b = s.owed in grind (arith, nat_tests)
+served-unapplied w d t s = let a = s.serving in let b = s.owed in grind nats
 
 -- no invalidation is in flight from it
 pub unowed-none : (sh : Shape) (gs : List Grant) (ys : Ways) (h : History) → Carried sh gs ys h → (c d : ℕ) → c < sh.cores
@@ -73,39 +74,39 @@ solo-tid _ e = absurd (cc)
 
 pub solo-holds : (q : Phase) (t : ℕ) → q ≡ Solo t → has_tid q t ≡ true
 unfolding has_tid
-solo-holds q t e = rw e (grind (arith, nat_tests))
+solo-holds q t e = rw e (grind nats)
 
 pub solo-served : (sh : Shape) (gs : List Grant) (ys : Ways) (h : History) → Carried sh gs ys h → (c d t : ℕ) → c < sh.cores → d < sh.dirs
     → (h.world.cores c).phase ≡ Solo t → IsServed h.world d t
 unfolding has_tid opens
 solo-served sh gs ys h k c d t cl dl e =
-    let s : (t == t) ≡ true = grind (arith, nat_tests) in
+    let s : (t == t) ≡ true = grind nats in
     open-served sh gs ys h k c d t cl dl (rw e s) (rw e s) (k.directory_that_replied_serves_the_tid.replied c d cl dl (rw e refl))
 
 -- invalidations of a word
 few-word : (x : ℕ) (m : Msg) → num (passes (InvWord x) m) ≤ num (passes Invs m)
 unfolding passes
-few-word x m = grind (arith, nat_tests)
+few-word x m = grind nats
 
 few-below : (x b : ℕ) (m : Msg) → num (passes (InvBelow x b) m) ≤ num (passes Invs m)
 unfolding passes
-few-below x b m = grind (arith, nat_tests)
+few-below x b m = grind nats
 
 pub few-doom : (b : Option ℕ) (x : ℕ) (m : Msg) → num (passes (dooms b x) m) ≤ num (passes Invs m)
-few-doom a x m = grind (arith, nat_tests, few-word, few-below)
+few-doom a x m = grind (nats, few-word, few-below)
 
 pub few-dooms : (b : Option ℕ) (x : ℕ) (l : Link) → live (dooms b x) l ≤ live Invs l
 few-dooms b x l = live-fewer (dooms b x) Invs (few-doom b x) l
 
 below-not : (x b s : ℕ) → b ≤ s → (m : Msg) → num (passes (InvBelow x b) m) ≤ num (passes (InvsNot s) m)
 unfolding passes
-below-not x b s l m = grind (arith, nat_tests)
+below-not x b s l m = grind nats
 
 -- one with a TID below the bound carries the served one
 pub below-served : (sh : Shape) (gs : List Grant) (ys : Ways) (h : History) → Carried sh gs ys h → (c d x b : ℕ)
-    → 1 ≤ live (InvBelow x b) (pair h.world c d).back → (h.world.dirs d).serving.serving < b
+    → 1 ≤ live (InvBelow x b) (pair h.world c d).back → tid_at h.world d < b
 unfolding pair
-below-served sh gs ys h k c d x b i = grind (arith, nat_tests, k.owed_counts_invs_and_acks.served, live-fewer, below-not)
+below-served sh gs ys h k c d x b i = grind (nats, k.owed_counts_invs_and_acks.served, live-fewer, below-not)
 
 -- a core that is alone has none in flight to it
 pub solo-undoomed : (sh : Shape) (gs : List Grant) (ys : Ways) (h : History) → Carried sh gs ys h → (c d x : ℕ) (b : Option ℕ)
@@ -152,18 +153,18 @@ uses-seen c x us s n = stand-seen false c x us s
 
 -- near: the word has its value, or an invalidation that dooms it is in flight
 abbrev pub IsNear : Shape → (value : ℕ) → (b : Option ℕ) → (dir : ℕ) → (back : Link) → (word had : ℕ) → Type 0
-IsNear sh value b d l x y = home sh (line_of x) ≡ d → (y ≡ value) ⊎ (1 ≤ live (dooms b x) l)
+IsNear sh value b d l x y = home_of sh x ≡ d → (y ≡ value) ⊎ (1 ≤ live (dooms b x) l)
 
 pub doomed-again : (sh : Shape) (gs : List Grant) (ys : Ways) (h : History) → Carried sh gs ys h → (c d x y : ℕ) (b : Option ℕ)
-    → c < sh.cores → d < sh.dirs → home sh (line_of x) ≡ d → IsBound b (pair h.world c d)
+    → c < sh.cores → d < sh.dirs → home_of sh x ≡ d → IsBound b (pair h.world c d)
     → IsSeen (h.world.cores c).cache (h.world.cores c).phase x y → 1 ≤ live (dooms b x) (pair h.world c d).back
     → IsDoomed b x (pair h.world c d)
 unfolding pair
 doomed-again sh gs ys h k c d x y b cl dl e i s l = go s
   where
     valid : (b : Option ℕ) → 1 ≤ live (dooms b x) (pair h.world c d).back → (is_some ((h.world.cores c).cache.value x) ≡ true)
-        ⊎ IsPassed b (h.world.dirs d).serving.serving → is_some ((h.world.cores c).cache.value x) ≡ true
-    valid b l a = grind (arith, nat_tests, below-served)
+        ⊎ IsPassed b (tid_at h.world d) → is_some ((h.world.cores c).cache.value x) ≡ true
+    valid b l a = grind (nats, below-served)
 
     go : IsSeen (h.world.cores c).cache (h.world.cores c).phase x y → IsDoomed b x (pair h.world c d)
     go (inl r) = record { hit = l; read = r; valid = valid b l (k.read_mark_is_valid_or_passed c d x b cl dl e i r) }
@@ -179,7 +180,7 @@ listed-once (m ∷ cs) n k = go k.0 (k.1) (k.2) (λ j. listed-once cs n j)
   where
     go : (i : ℕ) → i < suc (length cs) → slice_index_or (m ∷ cs) i n ≡ n → (Contains cs n → 1 ≤ times n.tid.0 cs)
         → 1 ≤ num (m.tid.0 == n.tid.0) + times n.tid.0 cs
-    go a l e f = grind (arith, nat_tests)
+    go a l e f = grind nats
 
 -- it was granted
 pub listed-below : (sh : Shape) (gs : List Grant) (ys : Ways) (h : History) → Carried sh gs ys h → (n : Noted) → Contains h.commits n
@@ -197,7 +198,7 @@ pub value-bounded : (base : ℕ) (ram : ℕ → ℕ) (cs : List Noted) (s : DirS
     → ((n : Noted) → Contains cs n → (is_this (Some c) n.core.0 || is_applied s n.tid.0) ≡ true → n.tid.0 < t)
     → value_at base ram cs s (Some c) None x ≡ value_at base ram cs s (Some c) (Some t) x
 unfolding counts
-value-bounded base ram cs s c t x f = grind (arith, nat_tests, value-alike)
+value-bounded base ram cs s c t x f = grind (nats, value-alike)
 
 -- what counts for a core that is alone is below its TID
 pub solo-value : (sh : Shape) (gs : List Grant) (ys : Ways) (ram : ℕ → ℕ) (h : History) → Carried sh gs ys h → (c d t x : ℕ) → c < sh.cores
@@ -231,17 +232,17 @@ solo-value sh gs ys ram h k c d t x cl dl e = value-bounded sh.base ram h.commit
     below n i q = go (c == n.core.0) refl
       where
         go : (b : Bool) → (c == n.core.0) ≡ b → n.tid.0 < t
-        go true z = own n i (grind (arith, nat_tests))
-        go false z = let a = s.serving in let o = s.owed in grind (arith, nat_tests)
+        go true z = own n i (grind nats)
+        go false z = let a = s.serving in let o = s.owed in grind nats
 
 -- a directory that applies the same commits, of those that stored the word
 num-same : (a b : Bool) → num a ≡ num b → a ≡ b
-num-same a b e = grind (arith, nat_tests)
+num-same a b e = grind nats
 
 -- a commit of which as many Commits are in flight as before is applied as before
 pub applied-same : (sh : Shape) (cs : List Noted) (v w : World) (n : Noted) (d : ℕ) → CommitsStand sh v cs → CommitsStand sh w cs
     → Contains cs n → d < sh.dirs → stores_at sh d n.stores ≡ true
-    → live (Commits n.tid.0) (w.net (Core n.core.0) (Dir d)) ≡ live (Commits n.tid.0) (v.net (Core n.core.0) (Dir d))
+    → live (Commits n.tid.0) (to_dir w n.core.0 d) ≡ live (Commits n.tid.0) (to_dir v n.core.0 d)
     → is_applied (v.dirs d) n.tid.0 ≡ is_applied (w.dirs d) n.tid.0
 applied-same sh cs v w n d a b i l s e = num-same (is_applied (v.dirs d) n.tid.0) (is_applied (w.dirs d) n.tid.0)
     (omega (arith, a n d i l s, b n d i l s, e))
@@ -249,7 +250,7 @@ applied-same sh cs v w n d a b i l s e = num-same (is_applied (v.dirs d) n.tid.0
 -- an invalidation of the word carries the served TID, which has committed
 word-either : (x t s : ℕ) → s < t → (m : Msg) → num (passes (InvWord x) m) ≤ num (passes (InvBelow x t) m) + num (passes (InvsNot s) m)
 unfolding passes
-word-either x t s l m = grind (arith, nat_tests)
+word-either x t s l m = grind nats
 
 word-below : (x t s : ℕ) → s < t → (l : Link) → live (InvWord x) l ≤ live (InvBelow x t) l + live (InvsNot s) l
 unfolding live
@@ -264,7 +265,7 @@ word-next sh gs ys h k c d x cl dl i =
     omega (
       arith,
       i,
-      word-below x h.world.next (h.world.dirs d).serving.serving served (h.world.net (Dir d) (Core c)),
+      word-below x h.world.next (tid_at h.world d) served (to_core h.world d c),
       k.owed_counts_invs_and_acks.served c d,
     )
   where
@@ -275,6 +276,6 @@ word-next sh gs ys h k c d x cl dl i =
         go (inl l) = omega (arith, l)
         go (inr l) = absurd (omega (arith, i, few-dooms None x (pair h.world c d).back, unowed-none sh gs ys h k c d cl (omega (arith, l))))
 
-    served : (h.world.dirs d).serving.serving < h.world.next
+    served : tid_at h.world d < h.world.next
     served = let z = (k.marks_sent_are_the_lines_stored.2 c d 0).settled dl owed in
         omega (arith, z.tid, listed-below sh gs ys h k z.commit (z.noted))

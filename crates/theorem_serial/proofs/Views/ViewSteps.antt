@@ -2,20 +2,20 @@
 use Rattle.base_lemmas.proofs.Lemmas.{eq-self}
 use Rattle.theorem_serial.proofs
 use proofs.Names
-use Names.{nat_tests, ℕ, ◌≡◌, ◌<◌, ◌≤◌, ◌⊎◌, ◌==◌, ◌&&◌, Bool, true, false, List, [], ◌++◌, Option, Some, None, IfSome, arith, refl, sym}
-use Names.{subst, ◌∙◌, inl, inr, put, Noted, Program, line_of, writes_at, Shape, home, CoreState, Phase, Running, AwaitTid, DoomedTid}
-use Names.{Probing, Ready, Overflowing, Solo, Halted, World, Out, core_exec, core_evict, History, core_moves, and_noted, insert_commit}
-use Names.{Uses, Views, uses_executed, InvWord, live, Carried, CarriedInMemory, Grant, holder, Pair, pair, after_move, may_commit, IsBound}
-use Names.{is_applied, has_tid, opens, waits_for_tid, RequestOf, stores_word, is_below, counts, value_at, dooms, UnmodifiedWords, Ways}
+use Names.{ℕ, ◌≡◌, ◌<◌, ◌≤◌, ◌⊎◌, ◌==◌, ◌&&◌, Bool, true, false, List, [], ◌++◌, Option, Some, None, IfSome, arith, refl, sym, subst, ◌∙◌}
+use Names.{inl, inr, put, Noted, Program, writes_at, Shape, CoreState, Phase, Running, AwaitTid, DoomedTid, Probing, Ready, Overflowing}
+use Names.{Solo, Halted, World, Out, core_exec, core_evict, History, core_moves, and_noted, insert_commit, Uses, Views, uses_executed}
+use Names.{InvWord, live, Carried, CarriedInMemory, Grant, holder, Pair, pair, after_move, may_commit, IsBound, is_applied, has_tid, opens}
+use Names.{waits_for_tid, RequestOf, stores_word, is_below, counts, value_at, dooms, UnmodifiedWords, Ways, nats, home_of, IfSome_then}
 use proofs.OneCore.Outcomes.{Acts}
 use proofs.Serving.OwnerSteps.{grant-any}
-use proofs.Memory.MemorySends.{marks_at_homes}
+use proofs.Memory.CoreInMemory.{marks_at_homes}
 use proofs.Counts.StepCases.{differ, either, pairs_move, new_uses}
 use proofs.Values.ValueAt.{IsSilent, value-skip}
-use proofs.Views.ViewCores.{Keeps, Exec, Goes, Commits, exec-view, used-each, each-append, evict-view}
+use proofs.Views.ViewPairs.{Keeps, Exec, Goes, Commits, exec-view, used-each, each-append, evict-view, NearAt, ViewOf, view-empty}
+use proofs.Views.ViewPairs.{view-moves}
 use proofs.Views.ViewDirs.{AllNear}
 use proofs.Views.ViewFacts.{bound-own, open-served, served-unapplied, solo-holds, solo-undoomed, each-one, solo-value}
-use proofs.Views.ViewPairs.{NearAt, ViewOf, view-empty, view-moves}
 
 -- the views where one core's has changed
 pub put-own : (vs : Views) (c : ℕ) (us : Uses) → put vs c us c ≡ us
@@ -37,7 +37,7 @@ near-put sh ram cs vs w c us f g j d = either j c
 -- no TID is on its way to a core that runs
 running-bound : (v : Pair) (b : Option ℕ) → RequestOf v → v.core.phase ≡ Running → IsBound b v → b ≡ None
 unfolding holder waits_for_tid has_tid
-running-bound v a r e i = grind (arith, nat_tests, grant-any, v.grants)
+running-bound v a r e i = grind (nats, grant-any, v.grants)
 
 not-halted : (q : Phase) → Acts q → q ≡ Halted → ⊥
 not-halted q a e = rw e at a
@@ -66,7 +66,7 @@ used-near sh gs ys ram h k um c d b cl dl a i x y mo va e = go (h.world.cores c)
 
 -- a commit changes no value for another core
 unapplied : (sh : Shape) (gs : List Grant) (ys : Ways) (h : History) → Carried sh gs ys h → CarriedInMemory sh h → (c d t x : ℕ)
-    → c < sh.cores → d < sh.dirs → ((h.world.cores c).phase ≡ Ready t) ⊎ ((h.world.cores c).phase ≡ Solo t) → home sh (line_of x) ≡ d
+    → c < sh.cores → d < sh.dirs → ((h.world.cores c).phase ≡ Ready t) ⊎ ((h.world.cores c).phase ≡ Solo t) → home_of sh x ≡ d
     → stores_word sh.base (h.world.cores c).stores x ≡ true → is_applied (h.world.dirs d) t ≡ false
 unfolding opens has_tid
 unapplied sh gs ys h k m c d t x cl dl ph e s =
@@ -77,18 +77,18 @@ unapplied sh gs ys h k m c d t x cl dl ph e s =
     eq = eq-self t
 
     holds : ((h.world.cores c).phase ≡ Ready t) ⊎ ((h.world.cores c).phase ≡ Solo t) → has_tid (h.world.cores c).phase t ≡ true
-    holds a = grind (arith, nat_tests)
+    holds a = grind nats
 
     commits : ((h.world.cores c).phase ≡ Ready t) ⊎ ((h.world.cores c).phase ≡ Solo t) → may_commit (h.world.cores c).phase ≡ true
-    commits a = grind (arith, nat_tests)
+    commits a = grind nats
 
     modified : (h.world.cores c).phase ≡ Ready t → (h.world.cores c).cache.modified x ≡ true
-    modified q = grind (arith, nat_tests)
+    modified q = grind nats
 
     opened : ((h.world.cores c).phase ≡ Ready t) ⊎ ((h.world.cores c).phase ≡ Solo t)
         → opens (h.world.cores c).phase (writes_at sh (h.world.cores c).cache d) t ≡ true
     opened (inl q) =
-        let a : writes_at sh (h.world.cores c).cache (home sh (line_of x)) ≡ true =
+        let a : writes_at sh (h.world.cores c).cache (home_of sh x) ≡ true =
         (marks_at_homes sh (h.world.cores c).cache (k.frames_stand_in_their_sets c) (m.frames_are_of_lines_in_memory c)).modified x
         (modified q) in
         rw (q, rw e at a) (rw eq refl)
@@ -97,7 +97,7 @@ unapplied sh gs ys h k m c d t x cl dl ph e s =
 silent-other : (sh : Shape) (gs : List Grant) (ys : Ways) (h : History) → Carried sh gs ys h → CarriedInMemory sh h
     → (c d j t x : ℕ) (n : Noted) (b : Option ℕ) → c < sh.cores → d < sh.dirs → (j ≡ c → ⊥)
     → ((h.world.cores c).phase ≡ Ready t) ⊎ ((h.world.cores c).phase ≡ Solo t) → n.tid.0 ≡ t → n.core.0 ≡ c
-    → n.stores ≡ (h.world.cores c).stores → home sh (line_of x) ≡ d → IsSilent sh.base (h.world.dirs d) (Some j) b x n
+    → n.stores ≡ (h.world.cores c).stores → home_of sh x ≡ d → IsSilent sh.base (h.world.dirs d) (Some j) b x n
 unfolding counts
 silent-other sh gs ys h k m c d j t x n b cl dl ne ph tn cn st e = go (stores_word sh.base n.stores x) refl
   where
@@ -114,7 +114,7 @@ pub exec-views : (sh : Shape) (p : Program) (gs : List Grant) (ys : Ways) (ram :
     (λ o. AllNear sh ram (and_noted o.commit h.commits) (put vs c (uses_executed (Some o) (vs c) (new_uses sh p h.world c)))
     (core_moves h.world c o))
 unfolding pair core_moves
-exec-views sh p gs ys ram vs h k m um near c cl = go (core_exec sh p c w_core) (exec-view sh p c w_core)
+exec-views sh p gs ys ram vs h k m um near c cl = IfSome_then (core_exec sh p c w_core) (exec-view sh p c w_core) kind
   where
     w_core : CoreState
     w_core = h.world.cores c
@@ -156,7 +156,7 @@ exec-views sh p gs ys ram vs h k m um near c cl = go (core_exec sh p c w_core) (
           halted = (near j d).halted;
         }
           where
-            one : (b : Option ℕ) → d < sh.dirs → (x y : ℕ) → home sh (line_of x) ≡ d
+            one : (b : Option ℕ) → d < sh.dirs → (x y : ℕ) → home_of sh x ≡ d
                 → (y ≡ value_at sh.base ram h.commits (h.world.dirs d) (Some j) b x) ⊎ (1 ≤ live (dooms b x) (pair h.world j d).back)
                 → (y ≡ value_at sh.base ram (insert_commit n h.commits) (h.world.dirs d) (Some j) b x)
                 ⊎ (1 ≤ live (dooms b x) (pair h.world j d).back)
@@ -170,21 +170,10 @@ exec-views sh p gs ys ram vs h k m um near c cl = go (core_exec sh p c w_core) (
     kind o (Goes a e q) = rw e (goes o a q)
     kind o (Commits t n ph e tn cn st) = rw e (commits o t n ph tn cn st)
 
-    go : (x : Option Out) → IfSome x (Exec w_core c)
-        → IfSome x (λ o. AllNear sh ram (and_noted o.commit h.commits) (put vs c (uses_executed (Some o) (vs c) new))
-        (core_moves h.world c o))
-    go None a = tt
-    go (Some o) a = kind o a
-
 -- evictions
 pub evict-views : (sh : Shape) (ram : ℕ → ℕ) (vs : Views) (h : History) → AllNear sh ram h.commits vs h.world → (c x y : ℕ)
     → IfSome (core_evict sh x y (h.world.cores c)) (λ o. AllNear sh ram (and_noted o.commit h.commits) vs (core_moves h.world c o))
 unfolding pair core_moves
-evict-views sh ram vs h near c x y = go (core_evict sh x y (h.world.cores c)) (evict-view sh x y (h.world.cores c))
-  where
-    go : (a : Option Out) → IfSome a (λ o. (o.commit ≡ None) × Keeps (h.world.cores c) o.core)
-        → IfSome a (λ o. AllNear sh ram (and_noted o.commit h.commits) vs (core_moves h.world c o))
-    go None a = tt
-    go (Some o) a =
-        rw (a.0) (pairs_move (λ j d v. ViewOf sh ram h.commits (vs j) j d v) h.world c o
-        (λ d. view-moves sh ram h.commits (vs c) c d d (pair h.world c d) o (a.1) (near c d)) near)
+evict-views sh ram vs h near c x y = IfSome_then (core_evict sh x y (h.world.cores c)) (evict-view sh x y (h.world.cores c)) (λ o a.
+    rw (a.0) (pairs_move (λ j d v. ViewOf sh ram h.commits (vs j) j d v) h.world c o
+    (λ d. view-moves sh ram h.commits (vs c) c d d (pair h.world c d) o (a.1) (near c d)) near))

@@ -5,21 +5,21 @@ use Rattle.theorem_serial.specs.KeepsViews.{KeepsViews}
 use Rattle.theorem_serial.proofs
 use proofs.Names
 use Names.{ℕ, ◌≡◌, ◌<◌, ◌≤◌, ◌⊎◌, ◌&&◌, Bool, true, false, List, [], Option, Some, None, IfSome, nat_lt, arith, refl, ap, sym, subst, ◌∙◌}
-use Names.{inl, inr, nat_tests, num, hit, Core, Dir, Vendor, Msg, TidReq, TidGrant, Inv, Shape, put, DoomedTid, in_flight, Out, from_dir}
-use Names.{grant, is_violated, may_be_above, History, core_takes, vendor_gives, and_noted, Uses, Views, uses_delivered, Invs, InvWord}
-use Names.{passes, live, Carried, Grant, Pair, pair, after_move, grant_taken, back_taken, IsBound, value_at, dooms, Ways, hit-reads, ◌++◌}
-use Names.{Program, line_of, home, core_exec, core_evict, Answer, Waits, Drops, Asks, Takes, dir_deliver, Stepped, core_moves, dir_takes}
-use Names.{dir_asks, step, next_history, recorded, UsesStand, uses_executed, views_after, CarriedViews, granted_by, IsDoomed, ViewedWords}
-use Names.{HaltedUsesNone, sent_by, ways_after}
+use Names.{inl, inr, num, hit, Core, Dir, Vendor, Msg, TidReq, TidGrant, Inv, Shape, put, DoomedTid, in_flight, Out, from_dir, grant}
+use Names.{is_violated, may_be_above, History, core_takes, vendor_gives, and_noted, Uses, Views, uses_delivered, Invs, InvWord, passes}
+use Names.{live, Carried, Grant, Pair, pair, after_move, grant_taken, back_taken, IsBound, value_at, dooms, Ways, hit-reads, ◌++◌, Program}
+use Names.{line_of, home, core_exec, core_evict, Answer, Waits, Drops, Asks, Takes, dir_deliver, Stepped, core_moves, dir_takes, dir_asks}
+use Names.{step, next_history, recorded, UsesStand, uses_executed, views_after, CarriedViews, granted_by, IsDoomed, ViewedWords}
+use Names.{HaltedUsesNone, sent_by, ways_after, nats, home_of, to_core, FromDir, IfSome_then}
 use proofs.Counts.StepCases.{AllPairs, given, OfAnswer, new_uses, event_cases, pairs_grant, pairs_back, pairs_vendor}
-use proofs.OneCore.CoreReadsTakes.{tid-ahead}
+use proofs.OneCore.CoreReads.{tid-ahead}
 use proofs.Serving.OwnerSteps.{asking-none}
 use proofs.Tids.TidSteps.{live-some, granted_waits}
-use proofs.Views.ViewCores.{Keeps, Gets, grant-view, Spares, Back, Empties, Stays, back-view}
+use proofs.Views.ViewPairs.{Keeps, Gets, grant-view, Spares, Back, Empties, Stays, back-view, NearAt, ViewOf, view-empty, view-moves}
+use proofs.Views.ViewPairs.{view-takes, view-grants, view-other, view-given}
 use proofs.Views.ViewDirs.{AllNear, AllSeen, NearAfter, answered-views}
 use proofs.Views.ViewFacts.{IsSeen, doomed-again, uses-seen, each-two, each-one, bound-own, few-doom, solo-undoomed, value-bounded}
 use proofs.Views.ViewFacts.{listed-below, word-next}
-use proofs.Views.ViewPairs.{NearAt, ViewOf, view-empty, view-moves, view-takes, view-grants, view-other, view-given}
 use proofs.Views.ViewSteps.{put-own, near-put, exec-views, evict-views}
 
 -- What a core takes from the vendor and from directories, and what the vendor grants, leaves every core's view near.
@@ -53,23 +53,23 @@ grant-views sh gs ys ram vs h y near dm c k u i =
 
 -- an invalidation that rolls nothing back dooms no use
 none-of : (b : Bool) → num b ≤ 0 → b ≡ false
-none-of a l = grind (arith, nat_tests)
+none-of a l = grind nats
 
 spares-inv : (sh : Shape) (gs : List Grant) (ys : Ways) (h : History) → Carried sh gs ys h → (c d k l n u x y : ℕ) (b : Option ℕ)
-    → c < sh.cores → d < sh.dirs → in_flight h.world.net (Dir d) (Core c) k ≡ Some (Inv l n u) → is_violated l n u (h.world.cores c) ≡ false
+    → c < sh.cores → d < sh.dirs → FromDir h.world d c k (Inv l n u) → is_violated l n u (h.world.cores c) ≡ false
     → IsBound b (pair h.world c d) → IsSeen (h.world.cores c).cache (h.world.cores c).phase x y → passes (dooms b x) (Inv l n u) ≡ false
 unfolding pair is_violated passes
 spares-inv sh gs ys h k' c d k l n u x y b cl dl i v g s = go (passes (dooms b x) (Inv l n u)) refl
   where
     hits : (b : Option ℕ) → passes (dooms b x) (Inv l n u) ≡ true → hit l n x ≡ true
-    hits a q = grind (arith, nat_tests)
+    hits a q = grind nats
 
     ahead : (a b : Bool) → a ≡ true → (a && b) ≡ false → b ≡ false
     ahead true b f q = q
     ahead false b f q = absurd (cc)
 
     below : (t : ℕ) → t ≤ u → b ≡ Some t → passes (dooms b x) (Inv l n u) ≡ true → ⊥
-    below t a e q = let z : (hit l n x && nat_lt u t) ≡ true = rw e at q in grind (arith, nat_tests)
+    below t a e q = let z : (hit l n x && nat_lt u t) ≡ true = rw e at q in grind nats
 
     no : passes (dooms b x) (Inv l n u) ≡ true → IsSeen (h.world.cores c).cache (h.world.cores c).phase x y → ⊥
     no q (inl r) =
@@ -79,14 +79,14 @@ spares-inv sh gs ys h k' c d k l n u x y b cl dl i v g s = go (passes (dooms b x
         let t = tid-ahead u (h.world.cores c).phase a in
         below t.0 (t.2) (bound-own sh gs ys h k' c d t.0 b cl (t.1) g) q
     no q (inr r) = let o : num (passes (dooms b x) (Inv l n u)) ≡ 1 = ap num q in
-        omega (arith, o, solo-undoomed sh gs ys h k' c d x b cl dl r, live-some (dooms b x) (h.world.net (Dir d) (Core c)) k (Inv l n u) i)
+        omega (arith, o, solo-undoomed sh gs ys h k' c d x b cl dl r, live-some (dooms b x) (to_core h.world d c) k (Inv l n u) i)
 
     go : (q : Bool) → passes (dooms b x) (Inv l n u) ≡ q → q ≡ false
     go false q = refl
     go true q = absurd (no q s)
 
 spares : (sh : Shape) (gs : List Grant) (ys : Ways) (h : History) → Carried sh gs ys h → (c d k x y : ℕ) (m : Msg) (b : Option ℕ)
-    → c < sh.cores → d < sh.dirs → in_flight h.world.net (Dir d) (Core c) k ≡ Some m → Spares (h.world.cores c) m
+    → c < sh.cores → d < sh.dirs → FromDir h.world d c k m → Spares (h.world.cores c) m
     → IsBound b (pair h.world c d) → IsSeen (h.world.cores c).cache (h.world.cores c).phase x y → passes (dooms b x) m ≡ false
 unfolding passes
 spares sh gs ys h k' c d k x y m b cl dl i v g s = go m i v
@@ -94,20 +94,20 @@ spares sh gs ys h k' c d k x y m b cl dl i v g s = go m i v
     other : (m : Msg) → num (passes Invs m) ≡ 0 → passes (dooms b x) m ≡ false
     other m e = none-of (passes (dooms b x) m) (omega (arith, e, few-doom b x m))
 
-    go : (m : Msg) → in_flight h.world.net (Dir d) (Core c) k ≡ Some m → Spares (h.world.cores c) m → passes (dooms b x) m ≡ false
+    go : (m : Msg) → FromDir h.world d c k m → Spares (h.world.cores c) m → passes (dooms b x) m ≡ false
     go (Inv l n u) i v = spares-inv sh gs ys h k' c d k l n u x y b cl dl i v g s
     go m i v = other m refl
 
 -- a message of a directory
 pub back-views : (sh : Shape) (gs : List Grant) (ys : Ways) (ram : ℕ → ℕ) (vs : Views) (h : History) → Carried sh gs ys h
     → AllSeen vs h.world → AllNear sh ram h.commits vs h.world → ((c : ℕ) → (h.world.cores c).phase ≡ DoomedTid → vs c ≡ [])
-    → (c d k : ℕ) (m : Msg) → in_flight h.world.net (Dir d) (Core c) k ≡ Some m
+    → (c d k : ℕ) (m : Msg) → FromDir h.world d c k m
     → IfSome (from_dir sh d (h.world.cores c) m)
     (λ o. AllNear sh ram (and_noted o.commit h.commits) (put vs c (uses_delivered (h.world.cores c) m (vs c)))
     (core_takes h.world (Dir d) c k o))
 unfolding pair
 back-views sh gs ys ram vs h y seen near dm c d k m i =
-    go (from_dir sh d (h.world.cores c) m) (back-view sh d (h.world.cores c) m (vs c) (dm c) ((near c 0).halted))
+    IfSome_then (from_dir sh d (h.world.cores c) m) (back-view sh d (h.world.cores c) m (vs c) (dm c) ((near c 0).halted)) kind
   where
     us : Uses
     us = uses_delivered (h.world.cores c) m (vs c)
@@ -143,11 +143,6 @@ back-views sh gs ys ram vs h y seen near dm c d k m i =
     kind o (Stays e u q f) = subst (λ z. AllNear sh ram (and_noted z h.commits) (put vs c us) (core_takes h.world (Dir d) c k o)) (sym e)
         (subst (λ z. AllNear sh ram h.commits (put vs c z) (core_takes h.world (Dir d) c k o)) (sym u) (stays o q f))
 
-    go : (x : Option Out) → IfSome x (Back (h.world.cores c) m (vs c))
-        → IfSome x (λ o. AllNear sh ram (and_noted o.commit h.commits) (put vs c us) (core_takes h.world (Dir d) c k o))
-    go None a = tt
-    go (Some o) a = kind o a
-
 -- the vendor grants
 pub vendor-views : (sh : Shape) (gs : List Grant) (ys : Ways) (ram : ℕ → ℕ) (vs : Views) (h : History) → Carried sh gs ys h
     → AllNear sh ram h.commits vs h.world → (c k : ℕ) → in_flight h.world.net (Core c) Vendor k ≡ Some TidReq
@@ -182,7 +177,7 @@ from-pairs sh p ram gs ys vs h k q a = (viewed, λ c e. (a c 0).halted e)
         (uses-seen (h.world.cores c).cache (h.world.cores c).phase (vs c) ((q.read_marks_are_the_view c).stand) (λ e. (a c 0).halted e))
       where
         one : (x y : ℕ) → NearAt sh ram h.commits c d b (pair h.world c d) x y → IsSeen (h.world.cores c).cache (h.world.cores c).phase x y
-            → home sh (line_of x) ≡ d → (y ≡ value_at sh.base ram h.commits (h.world.dirs d) (Some c) b x) ⊎ IsDoomed b x (pair h.world c d)
+            → home_of sh x ≡ d → (y ≡ value_at sh.base ram h.commits (h.world.dirs d) (Some c) b x) ⊎ IsDoomed b x (pair h.world c d)
         one x y n s e = elim (n e) [ inl r ↦ inl r | inr r ↦ inr (doomed-again sh gs ys h k c d x y b cl dl e i s r) ]
 
 to-pairs : (sh : Shape) (ram : ℕ → ℕ) (vs : Views) (h : History) → ViewedWords sh ram h.world h.commits vs → HaltedUsesNone h.world vs

@@ -1,21 +1,65 @@
--- What each of a core's rules says of its TID: where it goes on with it, it has skipped it at directories where it writes nothing;
--- and where it commits, it has spoken at each directory.
+-- What each of a core's rules says of its TID: it skips it at directories where it writes nothing, and commits it where it has stored.
 use Rattle.theorem_serial.proofs
 use proofs.Names
-use Names.{ℕ, ◌≡◌, ◌<◌, ◌≤◌, Bool, true, false, not, ◌==◌, ◌&&◌, Some, None, IfSome, if◌then◌else◌, arith, refl, sym, ◌⊎◌, inl, inr}
-use Names.{nat_tests, Noted, Program, Outcome, any_below, Dir, Msg, Fill, ProbeReply, DataReq, Inv, Shape, Cache, writes_at, CoreState}
-use Names.{Phase, Running, AwaitTid, DoomedTid, Probing, Ready, Overflowing, Solo, Out, commit, committed_core, noted, phase_after_commit}
-use Names.{core_exec, core_evict, grant, grant_in_phase, grant_sends, from_dir, probing_or_ready, is_probed, probe_reply, ignored}
-use Names.{all_replied, fill, data_request, invalidate, put, Skips, among, passes, Words, OneCore, has_tid, Untold, told_by, live_way}
-use Names.{commit_way, Local, moves, solo_commit}
-use proofs.OneCore.Executes.{Steady, did-steady}
-use proofs.OneCore.CoreSteps.{ignored-steady, fill-steady, data-steady, Hurt, Unhurt, Rolled, Doomed, Aborted, Gave_up, Invalidated}
-use proofs.OneCore.CoreSteps.{invalidate-cases, Replied, Ignored, Probed, Left_alone, reply-cases, steady-emptied}
-use proofs.Ways.CoreTells.{solo-told, ready-told}
-use proofs.Marks.StoredMasks.{stored-solo, stored-written}
+use Names.{ℕ, ◌≡◌, ◌<◌, List, ◌==◌, ◌&&◌, if◌then◌else◌, refl, num, count_below, Dir, Skip, Mark, Commit, WriteBack, Shape, home, lines}
+use Names.{Cache, writes_at, Spilled, commit_sends, solo_sends, solo_marks_or_skip, solo_write_backs, solo_writes_at, is_written, Kind}
+use Names.{Skips, Aborts, Commits, among, passes, Way, Untold, Skipped, Committed, told_by, nats, ◌≤◌, Bool, true, false, not, Some, None}
+use Names.{IfSome, sym, ◌⊎◌, inl, inr, Noted, Program, Outcome, any_below, Msg, Fill, ProbeReply, DataReq, Inv, CoreState, Phase, Running}
+use Names.{AwaitTid, DoomedTid, Probing, Ready, Overflowing, Solo, Out, commit, committed_core, noted, phase_after_commit, core_exec}
+use Names.{core_evict, grant, grant_in_phase, grant_sends, from_dir, probing_or_ready, is_probed, probe_reply, ignored, all_replied, fill}
+use Names.{data_request, invalidate, put, Words, OneCore, has_tid, live_way, commit_way, Local, moves, solo_commit}
+use proofs.Counts.Links.{among-append, among-flat_map_none}
+use proofs.Ways.WayParts.{told-skip, told-commit}
+use proofs.OneCore.CoreSteps.{Steady, did-steady, ignored-steady, fill-steady, data-steady, Hurt, Unhurt, Rolled, Doomed, Aborted, Gave_up}
+use proofs.OneCore.CoreSteps.{Invalidated, invalidate-cases, Replied, Ignored, Probed, Left_alone, reply-cases, steady-emptied}
+use proofs.Marks.CoreMarks.{stored-solo, stored-written}
 use proofs.OneCore.Said.{Wants, say}
 use proofs.OneCore.Outcomes.{Acts, Commits_now, Did, each-exec, out, each-evict, emptied, writes_at-same, Ends_alone, Ends_run, Room_wanted}
 use proofs.OneCore.Outcomes.{after_end}
+
+-- What a core with a TID says of it: it skips it at directories where it writes nothing, and commits it where it has stored.
+
+-- what it sends as it commits
+
+-- nothing of this kind among Marks and spilled words
+record Apart (k : Kind) : Type 0 where
+  marks : (l m u : ℕ) → num (passes k (Mark l m u)) ≡ 0
+  backs : (l m : ℕ) (ws : List ℕ) (u : ℕ) → num (passes k (WriteBack l m ws u)) ≡ 0
+
+skips-apart : (t : ℕ) → Apart (Skips t)
+unfolding passes
+skips-apart t = record { marks = λ l m u. refl; backs = λ l m ws u. refl }
+
+aborts-apart : (t : ℕ) → Apart (Aborts t)
+unfolding passes
+aborts-apart t = record { marks = λ l m u. refl; backs = λ l m ws u. refl }
+
+commits-apart : (t : ℕ) → Apart (Commits t)
+unfolding passes
+commits-apart t = record { marks = λ l m u. refl; backs = λ l m ws u. refl }
+
+-- alone: as many of a kind as there are words on the TID
+solo-said : (sh : Shape) (c : Cache) (sp : Spilled) (u d : ℕ) (k : Kind) → Apart k → d < sh.dirs
+    → among k (solo_sends sh c sp u (Dir d))
+    ≡ (if solo_writes_at sh c sp d then num (passes k (Commit u (count_below (λ l. d == home sh l && is_written c sp l) (lines sh))))
+    else num (passes k (Skip u)))
+unfolding solo_sends solo_marks_or_skip solo_write_backs among
+solo-said sh c sp u d k a l = grind (nats, among-flat_map_none, a.backs, a.marks, among-append)
+
+pub solo-told : (sh : Shape) (c : Cache) (sp : Spilled) (u d : ℕ) (y : Way) → d < sh.dirs
+    → told_by (solo_sends sh c sp u (Dir d)) u y ≡ (if solo_writes_at sh c sp d then Committed else Skipped)
+unfolding passes
+solo-told sh c sp u d y l = grind (nats, solo-said, skips-apart, aborts-apart, commits-apart, told-commit, told-skip)
+
+-- ready: where it writes nothing it has skipped before
+pub ready-told : (sh : Shape) (c : Cache) (u d : ℕ) → d < sh.dirs
+    → told_by (commit_sends sh c u (Dir d)) u (if writes_at sh c d then Untold else Skipped)
+    ≡ (if writes_at sh c d then Committed else Skipped)
+unfolding commit_sends told_by among passes
+ready-told sh c u d l = grind nats
+
+-- What each of a core's rules says of its TID: where it goes on with it, it has skipped it at directories where it writes nothing;
+-- and where it commits, it has spoken at each directory.
 
 -- a core in this phase has skipped its TID where it writes nothing
 abbrev pub skips_here : Phase → (written : Bool) → ℕ → Bool
@@ -57,13 +101,13 @@ tells-none sh s o q e h c =
     }
 
 skips-after : (e : Outcome) (b : Bool) (t : ℕ) → skips_here (phase_after_commit e) b t ≡ false
-skips-after a b t = grind (arith, nat_tests)
+skips-after a b t = grind nats
 
 tells-alone : (sh : Shape) (c u : ℕ) (s : CoreState) (l : Local) (e : Outcome) → s.phase ≡ Solo u → OneCore sh s
     → Tells sh s (solo_commit sh c u (after_end s l e))
 unfolding solo_commit committed_core noted has_tid live_way
 tells-alone sh c u s l e q h = tells-none sh s (solo_commit sh c u (after_end s l e)) (phase_after_commit e) refl (skips-after e) (record {
-  has = rw q (grind (arith, nat_tests));
+  has = rw q (grind nats);
   told = λ d l. rw q (rw (← stored-solo sh s.cache s.spilled s.stores d words.named) (solo-told sh s.cache s.spilled u d Untold l));
 })
   where
@@ -73,7 +117,7 @@ tells-alone sh c u s l e q h = tells-none sh s (solo_commit sh c u (after_end s 
 tells-committed : (sh : Shape) (id u : ℕ) (s : CoreState) → s.phase ≡ Ready u → OneCore sh s → Tells sh s (commit sh id u s)
 unfolding commit committed_core noted has_tid live_way
 tells-committed sh id u s e h = tells-none sh s (commit sh id u s) (phase_after_commit s.ended) refl (skips-after s.ended) (record {
-  has = rw e (grind (arith, nat_tests));
+  has = rw e (grind nats);
   told = λ d l. rw e (rw (← stored-written sh s.cache s.spilled s.stores d (rw e at (h.words))) (ready-told sh s.cache u d l));
 })
 
@@ -97,7 +141,7 @@ tells-evict sh x y s =
 skips-granted : (sh : Shape) (c : Cache) (b : Bool) (u d t : ℕ) → d < sh.dirs
     → skips_here (probing_or_ready b u) (writes_at sh c d) t ≡ true → 1 ≤ among (Skips t) (grant_sends sh c u (Dir d))
 unfolding grant_sends among passes
-skips-granted sh c b u d t l e = grind (arith, nat_tests)
+skips-granted sh c b u d t l e = grind nats
 
 pub tells-grant : (sh : Shape) (u : ℕ) (s : CoreState) → Tells sh s (grant sh u s)
 unfolding grant
@@ -122,13 +166,13 @@ tells-replied sh e u s o (Probed g f ph ow ca se cm) =
   where
     go : (d t : ℕ) (b : Bool) → skips_here (if b then Ready u else Probing u) (writes_at sh o.core.cache d) t ≡ true
         → skips_here s.phase (writes_at sh s.cache d) t ≡ true
-    go d t a x = grind (arith, nat_tests)
+    go d t a x = grind nats
 tells-replied sh e u s o (Left_alone g f ph ow mo se cm) =
     tells-none sh s o (if all_replied sh (put s.owing e false) then Solo u else Overflowing (Some u)) ph
     (none (all_replied sh (put s.owing e false))) (rw cm tt)
   where
     none : (a b : Bool) (t : ℕ) → skips_here (if a then Solo u else Overflowing (Some u)) b t ≡ false
-    none a b t = grind (arith, nat_tests)
+    none a b t = grind nats
 
 tells-hurt : (sh : Shape) (l : ℕ) (s : CoreState) (o : Out) → Invalidated sh l s o → Tells sh s o
 tells-hurt sh l s o i = go i.hurt

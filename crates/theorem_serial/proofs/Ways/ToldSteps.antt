@@ -1,21 +1,62 @@
 -- Every event keeps what the ways say of a core's TID, and of a committed one.
 use Rattle.theorem_serial.proofs
 use proofs.Names
-use Names.{ℕ, ◌≡◌, ◌<◌, ◌≤◌, Bool, true, false, List, Contains, Option, Some, None, IfSome, nat_lt, if◌then◌else◌, arith, refl, sym, ◌∙◌}
-use Names.{◌⊎◌, inl, inr, nat_tests, Noted, Program, Core, Dir, Vendor, Msg, TidGrant, Event, writes_at, Shape, Phase, Probing, Ready}
-use Names.{Overflowing, Solo, World, in_flight, Sends, Out, core_exec, core_evict, from_dir, grant, Stepped, step, and_noted, Grants}
-use Names.{Resolves, Skips, Aborts, Commits, among, passes, KeptCores, Grant, times, KeptOwners, pair, share, has_tid, opens, ResolvedAt}
-use Names.{KeptTids, Way, Untold, Skipped, Aborted, Committed, Ways, told_by, ways_after, sent_by, part_in, WayAt, KeptWays, stores_at}
-use Names.{live_way, KeptLive, commit_way, KeptCommitted, ◌==◌, ap, num}
+use Names.{ℕ, ◌≡◌, ◌<◌, ◌==◌, Option, Some, None, IfSome, if◌then◌else◌, refl, Program, Core, Dir, Vendor, Msg, TidGrant, Event, Shape}
+use Names.{World, in_flight, Sends, nothing, Out, core_exec, core_evict, from_dir, grant, Answer, Waits, dir_deliver, core_moves}
+use Names.{core_takes, dir_takes, dir_asks, vendor_gives, Stepped, step, KeptTids, sent_by, ◌≤◌, Bool, true, false, List, Contains, nat_lt}
+use Names.{arith, sym, ◌∙◌, ◌⊎◌, inl, inr, Noted, writes_at, Phase, Probing, Ready, Overflowing, Solo, and_noted, Grants, Resolves, Skips}
+use Names.{Aborts, Commits, among, passes, KeptCores, Grant, times, KeptOwners, pair, share, has_tid, opens, ResolvedAt, Way, Untold}
+use Names.{Skipped, Aborted, Committed, Ways, told_by, ways_after, part_in, WayAt, KeptWays, stores_at, live_way, KeptLive, commit_way}
+use Names.{KeptCommitted, ap, num, nats}
+use proofs.Counts.StepCases.{OfAnswer, sent_cases}
+use proofs.Serving.KeptSteps.{core_of_grant, core_of_back}
 use proofs.Counts.Links.{total-le}
-use proofs.Serving.CommitOwners.{CommitsNoted, noted-exec, noted-evict, noted-grant, noted-back}
+use proofs.Serving.CoreCommits.{CommitsNoted, noted-exec, noted-evict, noted-grant, noted-back}
 use proofs.Tids.Commits.{inserted, positive-held, positive-committed}
 use proofs.Tids.CoreTids.{KeepsPart, part-exec, part-evict, part-grant, part-back}
 use proofs.Tids.TidSteps.{granted_waits, live-some}
-use proofs.Ways.ByCore.{ByCore, Still, Moved, by_core}
 use proofs.Ways.CoreSkips.{skips_here, Tells, TellsCommit, tells-exec, tells-evict, tells-grant, tells-back}
 use proofs.Ways.WayParts.{in-way, told-none, told-skip, told-nothing}
 use proofs.Serving.OwnerSteps.{times-noted}
+
+-- A step by what it does to the cores: it leaves them as they are, or one core moves, sends and perhaps commits.
+
+-- L holds of what the core does
+pub data ByCore (sh : Shape) (w : World) (L : ℕ → Out → Type 0) (x : Sends) (o : Stepped) : Type 0 where
+  Still : o.world.cores ≡ w.cores → x ≡ nothing → o.noted ≡ None → ByCore sh w L x o
+  Moved : (c : ℕ) (y : Out) → c < sh.cores → L c y → o.world.cores ≡ (λ j. if j == c then y.core else w.cores j) → x ≡ y.sends
+      → o.noted ≡ y.commit → ByCore sh w L x o
+
+pub by_core : (sh : Shape) (p : Program) (w : World) (e : Event) (L : ℕ → Out → Type 0) → KeptTids sh w
+    → ((c : ℕ) → c < sh.cores → IfSome (core_exec sh p c (w.cores c)) (L c))
+    → ((c x y : ℕ) → c < sh.cores → IfSome (core_evict sh x y (w.cores c)) (L c))
+    → ((c k t : ℕ) → c < sh.cores → in_flight w.net Vendor (Core c) k ≡ Some (TidGrant t) → L c (grant sh t (w.cores c)))
+    → ((c d : ℕ) (m : Msg) → c < sh.cores → IfSome (from_dir sh d (w.cores c) m) (L c))
+    → IfSome (step sh p w e) (ByCore sh w L (sent_by sh p w e))
+unfolding core_moves core_takes dir_takes dir_asks vendor_gives
+by_core sh p w e L z ex ev gr ba = sent_cases sh p w e (λ x g. ByCore sh w L x)
+    (λ c l. moved c l (core_exec sh p c (w.cores c)) (ex c l))
+    (λ c x y l. moved c l (core_evict sh x y (w.cores c)) (ev c x y l))
+    (λ c k t i. let l = core_of_grant sh w c k (TidGrant t) z i in Moved c (grant sh t (w.cores c)) l (gr c k t l i) refl refl refl)
+    (λ c d k m i. let l = core_of_back sh w c d k m z i in taken c d k l (from_dir sh d (w.cores c) m) (ba c d m l))
+    (λ c d k m i. answered c d k (dir_deliver sh (w.dirs d) c m))
+    (λ c k i. Still refl refl refl)
+  where
+    moved : (c : ℕ) → c < sh.cores → (a : Option Out) → IfSome a (L c)
+        → IfSome a (λ o. ByCore sh w L o.sends (record { world = core_moves w c o; noted = o.commit }))
+    moved c l None h = tt
+    moved c l (Some o) h = Moved c o l h refl refl refl
+
+    taken : (c d k : ℕ) → c < sh.cores → (a : Option Out) → IfSome a (L c)
+        → IfSome a (λ o. ByCore sh w L o.sends (record { world = core_takes w (Dir d) c k o; noted = o.commit }))
+    taken c d k l None h = tt
+    taken c d k l (Some o) h = Moved c o l h refl refl refl
+
+    answered : (c d k : ℕ) (a : Answer) → OfAnswer w c d k (λ v. ByCore sh w L nothing (record { world = v; noted = None })) a
+    answered c d k Waits = tt
+    answered c d k _ = Still refl refl refl
+
+-- Every event keeps what the ways say of a core's TID, and of a committed one.
 
 -- what a core's rule says, and of which TIDs it speaks
 pub record Speaks (sh : Shape) (w : World) (c : ℕ) (y : Out) : Type 0 where
@@ -69,7 +110,7 @@ untold-part sh w c d t y c' l r h =
 stays : (sh : Shape) (w : World) (c d t : ℕ) (ms : List Msg) (y : Way) → c < sh.cores
     → among (Resolves t) ms ≤ part_in Untold sh d t (pair w c d) → ResolvedAt sh w d t → WayAt sh w d t y → (y ≡ Untold → ⊥)
     → told_by ms t y ≡ y
-stays sh w c d t ms y c' l r h n = grind (arith, nat_tests, told-none, untold-part)
+stays sh w c d t ms y c' l r h n = grind (nats, told-none, untold-part)
 
 -- the way of a core's TID
 live-cases : (q : Phase) (b : Bool) (t : ℕ) → has_tid q t ≡ true → ((opens q b t ≡ true) × (live_way q b ≡ Untold))
@@ -128,7 +169,7 @@ step-live-out sh gs hs ys w cs ds x o z ow k h b z' ow' k' c d t cl dl has = go 
             → skips_here (if b then s.core else w.cores c).phase (writes_at sh (if b then s.core else w.cores c).cache d) t ≡ true
             → told_by (s.sends (Dir d)) t (ys d t) ≡ Skipped
         here false p sk = before e s u el sk
-        here true p sk = let r : c ≡ e = grind (arith, nat_tests) in own r (u.tells.skips d t dl sk)
+        here true p sk = let r : c ≡ e = grind nats in own r (u.tells.skips d t dl sk)
           where
             own : c ≡ e → (skips_here (w.cores e).phase (writes_at sh (w.cores e).cache d) t ≡ true)
                 ⊎ (1 ≤ among (Skips t) (s.sends (Dir d))) → told_by (s.sends (Dir d)) t (ys d t) ≡ Skipped
@@ -158,7 +199,7 @@ told-committed ms t y h = go (nat_lt 0 (among (Skips t) ms)) (nat_lt 0 (among (A
         → (y ≡ Committed) ⊎ (1 ≤ among (Commits t) ms)
     go true b c q e = absurd (cc)
     go false true c q e = absurd (cc)
-    go false false true q e = inr (grind (arith, nat_tests))
+    go false false true q e = inr (grind nats)
     go false false false q e = inl e
 
 pub step-committed-out : (sh : Shape) (gs : List Grant) (ys : Ways) (w : World) (cs : List Noted) (x : Sends) (o : Stepped) → KeptTids sh w

@@ -4,18 +4,17 @@ use proofs.Names
 use Names.{ℕ, List, [], ◌∷◌, ◌++◌, Option, Some, None, IfSome, arith, sym, append_assoc, append-nil, Program, Local, Event, Shape, start}
 use Names.{core_start, Stepped, step, History, and_noted, recorded, next_history, and_then, run_from, run, KeptTold, KeptAll, KeptRun}
 use Names.{Grant, granted_by, then_grants, grants_from, has_tid, loads_word, Ways, ways_after, sent_by, then_ways, ways_from, first_ways}
-use Names.{KeptWays, AlwaysTold, zero, suc, ◌+◌, ◌≡◌, ◌<◌, ◌≤◌, Bool, true, false, ◌==◌, ◌&&◌, nat_lt, nat_le, refl, ap, ◌⊎◌, inl, inr}
-use Names.{nat_tests, num, Core, Dir, is_skipped, writes_at, sum_below, Phase, World, Commits, live, holder, pair, share, sum_of, opens}
-use Names.{ResolvedAt, Way, Untold, Skipped, Aborted, Committed, part_in, kept_in, WayAt, is_untold, is_given_up, UntoldWhereOpen}
-use Names.{UntoldIsLive, Settled, WaysFit, AllWaysFit, given_up_by, GivenUpOnce, LiveIsOpen, CommittedWhereStored, Contains, Noted}
-use Names.{CommitsAreServed, times, SmallerAreResolved, SmallerAreGivenUp, WorkIsReached, worked_at}
+use Names.{KeptWays, AlwaysTold, zero, suc, ◌+◌, ◌≡◌, ◌<◌, ◌≤◌, Bool, true, false, ◌==◌, ◌&&◌, nat_lt, nat_le, refl, ap, ◌⊎◌, inl, inr, num}
+use Names.{is_skipped, writes_at, sum_below, Phase, World, Commits, live, holder, pair, share, sum_of, opens, ResolvedAt, Way, Untold}
+use Names.{Skipped, Aborted, Committed, part_in, kept_in, WayAt, is_untold, is_given_up, UntoldWhereOpen, UntoldIsLive, Settled, WaysFit}
+use Names.{AllWaysFit, given_up_by, GivenUpOnce, LiveIsOpen, CommittedWhereStored, Contains, Noted, CommitsAreServed, times}
+use Names.{SmallerAreResolved, SmallerAreGivenUp, WorkIsReached, worked_at, nats, tid_at, to_dir, IfSome_then}
 use proofs.Counts.Links.{total-le, total-zero, num-one}
 use proofs.Run.AllInvariants.{step-all, all-at-start}
 use proofs.Serving.CommitSteps.{commits_served}
 use proofs.Tids.Commits.{positive-granted}
 use proofs.Tids.DirTids.{skipped-above}
-use proofs.Ways.ByCore.{ByCore}
-use proofs.Ways.ToldSteps.{Speaks, step-speaks, step-live-out, step-committed-out}
+use proofs.Ways.ToldSteps.{ByCore, Speaks, step-speaks, step-live-out, step-committed-out}
 use proofs.Ways.WayParts.{parts_in, resolved-split, in-way}
 use proofs.Ways.WaySteps.{step-ways, start-ways}
 use proofs.Ways.WorkedSteps.{Loads, Later, step-loads, step-later, loads-out, worked-out}
@@ -91,15 +90,11 @@ run-ways sh p entries ram es = run_from-ways sh p es [] first_ways (record { wor
 -- what follows from all that is kept holds of every run
 pub told_from : (P : Shape → Ways → History → Type 0)
     → ((sh : Shape) (gs : List Grant) (ys : Ways) (h : History) → KeptRun sh gs ys h → P sh ys h) → AlwaysTold P
-told_from P f sh p entries ram es = go (run sh p (start entries ram) es) (run-ways sh p entries ram es)
+told_from P f sh p entries ram es = IfSome_then (run sh p (start entries ram) es) (run-ways sh p entries ram es)
+    (f sh (grants_from sh p es first) (ways_from sh p es first_ways first))
   where
     first : History
     first = record { world = start entries ram; commits = [] }
-
-    go : (x : Option History) → IfSome x (λ r. KeptRun sh (grants_from sh p es first) (ways_from sh p es first_ways first) r)
-        → IfSome x (λ r. P sh (ways_from sh p es first_ways first) r)
-    go None h = tt
-    go (Some r) h = f sh (grants_from sh p es first) (ways_from sh p es first_ways first) r h
 
 -- What the invariants on ways say in words.
 
@@ -107,7 +102,7 @@ told_from P f sh p entries ram es = go (run sh p (start entries ram) es) (run-wa
 untold-at : (sh : Shape) (w : World) (d t : ℕ) (y : Way) → ResolvedAt sh w d t → WayAt sh w d t y
     → parts_in Untold sh w d t + num (nat_le w.next t) ≡ num (is_untold y)
 unfolding kept_in
-untold-at sh w d t a r h = grind (arith, nat_tests, resolved-split)
+untold-at sh w d t a r h = grind (nats, resolved-split)
 
 pub untold_where_open : AlwaysTold UntoldWhereOpen
 untold_where_open =
@@ -126,13 +121,13 @@ some-part f (suc n) l = go (f n) refl (λ m. some-part f n m)
 
 opens-has : (q : Phase) (b : Bool) (t : ℕ) → num (opens q b t) ≤ num (has_tid q t)
 unfolding opens has_tid
-opens-has a b t = grind (arith, nat_tests)
+opens-has a b t = grind nats
 
 untold-live : (sh : Shape) (w : World) (d t : ℕ) (y : Way) → WayAt sh w d t y → y ≡ Untold → t < w.next
     → (c : ℕ) × (c < sh.cores) × (1 ≤ holder t (pair w c d))
 unfolding kept_in part_in holder pair share
 untold-live sh w d t Untold h e l =
-    let n : num (nat_le w.next t) ≡ 0 = grind (arith, nat_tests) in
+    let n : num (nat_le w.next t) ≡ 0 = grind nats in
     let r = some-part (share (part_in Untold sh d t) w d) sh.cores (omega (arith, h, n)) in
     (r.0, r.1, omega (arith, r.2, opens-has (w.cores r.0).phase (writes_at sh (w.cores r.0).cache d) t))
 untold-live sh w d t _ h e l = absurd (cc)
@@ -161,53 +156,53 @@ kept-way sh w d t y r h k = go y h
     go Aborted h = refl
     go _ h = absurd (omega (arith, h, one, resolved-split sh w d t r))
 
-pub passed-way : (sh : Shape) (w : World) (d t : ℕ) (y : Way) → ResolvedAt sh w d t → WayAt sh w d t y → t < (w.dirs d).serving.serving
+pub passed-way : (sh : Shape) (w : World) (d t : ℕ) (y : Way) → ResolvedAt sh w d t → WayAt sh w d t y → t < tid_at w d
     → (is_given_up y ≡ true) ⊎ ((y ≡ Committed) × (parts_in Committed sh w d t ≡ 0))
 unfolding kept_in
 passed-way sh w d t y r h k = go y h
   where
-    one : num (nat_lt t (w.dirs d).serving.serving) ≡ 1
-    one = grind (arith, nat_tests)
+    one : num (nat_lt t (tid_at w d)) ≡ 1
+    one = grind nats
 
     go : (y : Way) → WayAt sh w d t y → (is_given_up y ≡ true) ⊎ ((y ≡ Committed) × (parts_in Committed sh w d t ≡ 0))
     go Untold h = absurd (omega (arith, h, one, resolved-split sh w d t r))
     go Committed h = inr (refl, omega (arith, h, one))
     go _ h = inl refl
 
-owed-way : (sh : Shape) (w : World) (d t : ℕ) (y : Way) → ResolvedAt sh w d t → WayAt sh w d t y → (w.dirs d).serving.serving ≡ t
+owed-way : (sh : Shape) (w : World) (d t : ℕ) (y : Way) → ResolvedAt sh w d t → WayAt sh w d t y → tid_at w d ≡ t
     → 1 ≤ (w.dirs d).owed → (y ≡ Committed) × (parts_in Committed sh w d t ≡ 0)
 unfolding kept_in
 owed-way sh w d t y r h k o = go y h
   where
-    one : num ((t == (w.dirs d).serving.serving) && nat_lt 0 (w.dirs d).owed) ≡ 1
-    one = grind (arith, nat_tests)
+    one : num ((t == tid_at w d) && nat_lt 0 (w.dirs d).owed) ≡ 1
+    one = grind nats
 
     go : (y : Way) → WayAt sh w d t y → (y ≡ Committed) × (parts_in Committed sh w d t ≡ 0)
     go Committed h = (refl, omega (arith, h, one))
     go _ h = absurd (omega (arith, h, one, resolved-split sh w d t r))
 
 settled-way : (sh : Shape) (w : World) (d t : ℕ) → WayAt sh w d t Committed → parts_in Committed sh w d t ≡ 0
-    → (t < (w.dirs d).serving.serving) ⊎ (((w.dirs d).serving.serving ≡ t) × (1 ≤ (w.dirs d).owed))
+    → (t < tid_at w d) ⊎ ((tid_at w d ≡ t) × (1 ≤ (w.dirs d).owed))
 unfolding kept_in
-settled-way sh w d t h z = go (nat_lt t (w.dirs d).serving.serving) refl
+settled-way sh w d t h z = go (nat_lt t (tid_at w d)) refl
   where
-    go : (b : Bool) → nat_lt t (w.dirs d).serving.serving ≡ b
-        → (t < (w.dirs d).serving.serving) ⊎ (((w.dirs d).serving.serving ≡ t) × (1 ≤ (w.dirs d).owed))
-    go true q = inl (grind (arith, nat_tests))
-    go false q = let n : num (nat_lt t (w.dirs d).serving.serving) ≡ 0 = ap num q in
-        inr (served (num-one ((t == (w.dirs d).serving.serving) && nat_lt 0 (w.dirs d).owed) (omega (arith, h, z, n))))
+    go : (b : Bool) → nat_lt t (tid_at w d) ≡ b
+        → (t < tid_at w d) ⊎ ((tid_at w d ≡ t) × (1 ≤ (w.dirs d).owed))
+    go true q = inl (grind nats)
+    go false q = let n : num (nat_lt t (tid_at w d)) ≡ 0 = ap num q in
+        inr (served (num-one ((t == tid_at w d) && nat_lt 0 (w.dirs d).owed) (omega (arith, h, z, n))))
       where
-        served : ((t == (w.dirs d).serving.serving) && nat_lt 0 (w.dirs d).owed) ≡ true
-            → ((w.dirs d).serving.serving ≡ t) × (1 ≤ (w.dirs d).owed)
-        served q = (grind (arith, nat_tests), grind (arith, nat_tests))
+        served : ((t == tid_at w d) && nat_lt 0 (w.dirs d).owed) ≡ true
+            → (tid_at w d ≡ t) × (1 ≤ (w.dirs d).owed)
+        served q = (grind nats, grind nats)
 
 -- no Commit is in flight where the sum is 0
 pub none-sent : (sh : Shape) (w : World) (c d t : ℕ) → c < sh.cores → parts_in Committed sh w d t ≡ 0
-    → live (Commits t) (w.net (Core c) (Dir d)) ≡ 0
+    → live (Commits t) (to_dir w c d) ≡ 0
 unfolding share part_in pair
 none-sent sh w c d t l z = omega (arith, z, total-le (share (part_in Committed sh d t) w d) sh.cores c l)
 
-all-none : (sh : Shape) (w : World) (d t : ℕ) → ((c : ℕ) → c < sh.cores → live (Commits t) (w.net (Core c) (Dir d)) ≡ 0)
+all-none : (sh : Shape) (w : World) (d t : ℕ) → ((c : ℕ) → c < sh.cores → live (Commits t) (to_dir w c d) ≡ 0)
     → parts_in Committed sh w d t ≡ 0
 unfolding share part_in pair
 all-none sh w d t h = total-zero (share (part_in Committed sh d t) w d) sh.cores h
@@ -244,7 +239,7 @@ given-split sh w d t zero = refl
 given-split sh w d t (suc n) = omega (arith, given-split sh w d t n)
 
 given-once : (sh : Shape) (w : World) (d t : ℕ) (y : Way) → ResolvedAt sh w d t → WayAt sh w d t y → is_given_up y ≡ true
-    → sum_of (given_up_by t) sh.cores w d + num (is_skipped (w.dirs d).serving t) + num (nat_lt t (w.dirs d).serving.serving) ≡ 1
+    → sum_of (given_up_by t) sh.cores w d + num (is_skipped (w.dirs d).serving t) + num (nat_lt t (tid_at w d)) ≡ 1
 unfolding kept_in
 given-once sh w d t Skipped r h g = omega (arith, h, given-split sh w d t sh.cores, resolved-split sh w d t r)
 given-once sh w d t Aborted r h g = omega (arith, h, given-split sh w d t sh.cores, resolved-split sh w d t r)
@@ -274,25 +269,25 @@ committed_where_stored = told_from CommittedWhereStored (λ sh gs ys h k. k.comm
 
 -- a Commit in flight is of the served TID, and else it was handled
 reached-in : (sh : Shape) (w : World) (d u : ℕ) → CommitsAreServed sh w → d < sh.dirs → WayAt sh w d u Committed
-    → u ≤ (w.dirs d).serving.serving
+    → u ≤ tid_at w d
 unfolding kept_in share part_in pair
 reached-in sh w d u k l h = go (parts_in Committed sh w d u) refl
   where
-    sent : (c : ℕ) × (c < sh.cores) × (1 ≤ share (part_in Committed sh d u) w d c) → u ≤ (w.dirs d).serving.serving
+    sent : (c : ℕ) × (c < sh.cores) × (1 ≤ share (part_in Committed sh d u) w d c) → u ≤ (tid_at w d)
     sent r = omega (arith, k r.0 d u (r.1) l (r.2))
 
-    go : (x : ℕ) → parts_in Committed sh w d u ≡ x → u ≤ (w.dirs d).serving.serving
-    go a e = grind (arith, nat_tests, some-part)
+    go : (x : ℕ) → parts_in Committed sh w d u ≡ x → u ≤ (tid_at w d)
+    go a e = grind (nats, some-part)
 
 reached : (sh : Shape) (gs : List Grant) (ys : Ways) (h : History) (d u : ℕ) → KeptRun sh gs ys h → d < sh.dirs → ys d u ≡ Committed
-    → u ≤ (h.world.dirs d).serving.serving
+    → u ≤ (tid_at h.world d)
 reached sh gs ys h d zero k l e = omega arith
 reached sh gs ys h d (suc u) k l e = reached-in sh h.world d (suc u) (commits_served sh h.world k.all.kept k.all.committing) l
     (rw e at (k.ways d (suc u) l (omega arith)))
 
 -- a TID that a directory has passed was given up there, or is settled
 passed : (sh : Shape) (gs : List Grant) (ys : Ways) (h : History) (d t : ℕ) → KeptRun sh gs ys h → d < sh.dirs → 1 ≤ t
-    → t < (h.world.dirs d).serving.serving → (is_given_up (ys d t) ≡ true) ⊎ Settled sh ys h.world d t
+    → t < tid_at h.world d → (is_given_up (ys d t) ≡ true) ⊎ Settled sh ys h.world d t
 passed sh gs ys h d t k l p q = go (passed-way sh h.world d t (ys d t) (k.all.kept.told.tids.resolved d t l) (k.ways d t l p) q)
   where
     go : (is_given_up (ys d t) ≡ true) ⊎ ((ys d t ≡ Committed) × (parts_in Committed sh h.world d t ≡ 0))
@@ -311,7 +306,7 @@ given_up : (sh : Shape) (gs : List Grant) (ys : Ways) (h : History) (n : Noted) 
 given_up sh gs ys h n d t k m l s p q z = go (passed sh gs ys h d t k l p (omega (arith, q, k.worked n d m l s)))
   where
     go : (is_given_up (ys d t) ≡ true) ⊎ Settled sh ys h.world d t → is_given_up (ys d t) ≡ true
-    go a = grind (arith, nat_tests)
+    go a = grind nats
 
 pub smaller_are_given_up : AlwaysTold SmallerAreGivenUp
 smaller_are_given_up = told_from SmallerAreGivenUp (λ sh gs ys h k n d t m l s p q z. given_up sh gs ys h n d t k m l s p q z)

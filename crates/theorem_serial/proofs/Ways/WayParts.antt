@@ -2,15 +2,15 @@
 use Rattle.theorem_serial.proofs
 use proofs.Names
 use Names.{ℕ, zero, suc, ◌+◌, ◌≡◌, ◌≤◌, Bool, true, false, List, [], ◌∷◌, ◌==◌, ◌&&◌, Some, None, nat_lt, nat_le, if◌then◌else◌, arith}
-use Names.{refl, nat_tests, num, is_skipped, Msg, Shape, sum_below, World, Link, Kind, Resolves, Skips, Aborts, Commits, live, among}
-use Names.{passes, Pair, pair, share, sum_of, part, handled, ResolvedAt, Way, Untold, Skipped, Aborted, Committed, told_by, part_in}
-use Names.{kept_in, WayAt}
+use Names.{refl, num, is_skipped, Msg, Shape, sum_below, World, Link, Kind, Resolves, Skips, Aborts, Commits, live, among, passes, Pair}
+use Names.{pair, share, sum_of, part, handled, ResolvedAt, Way, Untold, Skipped, Aborted, Committed, told_by, part_in, kept_in, WayAt, nats}
+use Names.{tid_at}
 
 -- a word on a TID is a Skip, an Abort or a Commit
 one-said : (t : ℕ) (m : Msg) → num (passes (Resolves t) m) ≡ num (passes (Skips t) m) + num (passes (Aborts t) m) + num
     (passes (Commits t) m)
 unfolding passes
-one-said t m = grind (arith, nat_tests)
+one-said t m = grind nats
 
 among-said : (t : ℕ) (ms : List Msg) → among (Resolves t) ms ≡ among (Skips t) ms + among (Aborts t) ms + among (Commits t) ms
 unfolding among
@@ -42,8 +42,8 @@ parts-split sh w d t (suc n) = omega (arith, parts-split sh w d t n, part-split 
 -- where a TID is: by the ways
 pub resolved-split : (sh : Shape) (w : World) (d t : ℕ) → ResolvedAt sh w d t
     → parts_in Untold sh w d t + parts_in Skipped sh w d t + parts_in Aborted sh w d t + parts_in Committed sh w d t + num
-    (nat_le w.next t) + (num (nat_lt t (w.dirs d).serving.serving) + num (is_skipped (w.dirs d).serving t) + num
-    ((t == (w.dirs d).serving.serving) && nat_lt 0 (w.dirs d).owed)) ≡ 1
+    (nat_le w.next t) + (num (nat_lt t (tid_at w d)) + num (is_skipped (w.dirs d).serving t) + num
+    ((t == tid_at w d) && nat_lt 0 (w.dirs d).owed)) ≡ 1
 unfolding handled
 resolved-split sh w d t r = omega (arith, r, parts-split sh w d t sh.cores)
 
@@ -70,10 +70,10 @@ told-moved sh w v d t ms y e n h r k = go (nat_lt 0 (among (Skips t) ms)) refl (
     here z = rw (e, n) refl
 
     none : (k : Kind) → nat_lt 0 (among k ms) ≡ false → among k ms ≡ 0
-    none k q = grind (arith, nat_tests)
+    none k q = grind nats
 
     some : (k : Kind) → nat_lt 0 (among k ms) ≡ true → 1 ≤ among k ms
-    some k q = grind (arith, nat_tests)
+    some k q = grind nats
 
     same : (z : Way) → among (Skips t) ms ≡ 0 → among (Aborts t) ms ≡ 0 → among (Commits t) ms ≡ 0 → WayAt sh w d t z → WayAt sh v d t z
     same Untold a b c q = omega (arith, q, here Untold, h Untold, among-said t ms, a, b, c)
@@ -83,8 +83,8 @@ told-moved sh w v d t ms y e n h r k = go (nat_lt 0 (among (Skips t) ms)) refl (
 
     -- what it was before, in numbers
     was : parts_in Untold sh w d t + parts_in Skipped sh w d t + parts_in Aborted sh w d t + parts_in Committed sh w d t + num
-        (nat_le w.next t) + (num (nat_lt t (w.dirs d).serving.serving) + num (is_skipped (w.dirs d).serving t) + num
-        ((t == (w.dirs d).serving.serving) && nat_lt 0 (w.dirs d).owed)) ≡ 1
+        (nat_le w.next t) + (num (nat_lt t (tid_at w d)) + num (is_skipped (w.dirs d).serving t) + num
+        ((t == tid_at w d) && nat_lt 0 (w.dirs d).owed)) ≡ 1
     was = resolved-split sh w d t r
 
     go : (a : Bool) → nat_lt 0 (among (Skips t) ms) ≡ a → (b : Bool) → nat_lt 0 (among (Aborts t) ms) ≡ b → (c : Bool)
@@ -110,12 +110,12 @@ told-nothing t y = refl
 
 pub told-skip : (ms : List Msg) (t : ℕ) (y : Way) → 1 ≤ among (Skips t) ms → told_by ms t y ≡ Skipped
 unfolding told_by
-told-skip ms t y h = let a : nat_lt 0 (among (Skips t) ms) ≡ true = grind (arith, nat_tests) in rw a refl
+told-skip ms t y h = let a : nat_lt 0 (among (Skips t) ms) ≡ true = grind nats in rw a refl
 
 pub told-commit : (ms : List Msg) (t : ℕ) (y : Way) → among (Skips t) ms ≡ 0 → among (Aborts t) ms ≡ 0 → 1 ≤ among (Commits t) ms
     → told_by ms t y ≡ Committed
 unfolding told_by
-told-commit ms t y a b h = let c : nat_lt 0 (among (Commits t) ms) ≡ true = grind (arith, nat_tests) in rw (a, b, c) refl
+told-commit ms t y a b h = let c : nat_lt 0 (among (Commits t) ms) ≡ true = grind nats in rw (a, b, c) refl
 
 -- the way is the one in which the TID has a place
 pub in-way : (sh : Shape) (w : World) (d t : ℕ) (y z : Way) → ResolvedAt sh w d t → WayAt sh w d t y → 1 ≤ parts_in z sh w d t → y ≡ z
@@ -123,8 +123,8 @@ unfolding kept_in
 in-way sh w d t y z r h l = go y z h l
   where
     was : parts_in Untold sh w d t + parts_in Skipped sh w d t + parts_in Aborted sh w d t + parts_in Committed sh w d t + num
-        (nat_le w.next t) + (num (nat_lt t (w.dirs d).serving.serving) + num (is_skipped (w.dirs d).serving t) + num
-        ((t == (w.dirs d).serving.serving) && nat_lt 0 (w.dirs d).owed)) ≡ 1
+        (nat_le w.next t) + (num (nat_lt t (tid_at w d)) + num (is_skipped (w.dirs d).serving t) + num
+        ((t == tid_at w d) && nat_lt 0 (w.dirs d).owed)) ≡ 1
     was = resolved-split sh w d t r
 
     go : (y z : Way) → WayAt sh w d t y → 1 ≤ parts_in z sh w d t → y ≡ z

@@ -2,33 +2,100 @@
 use Rattle.base_lemmas.proofs.Lemmas.{eq-self}
 use Rattle.theorem_serial.proofs
 use proofs.Names
-use Names.{ℕ, ◌+◌, ◌≡◌, ◌<◌, true, List, [], ◌==◌, Option, Some, None, IfSome, nat_le, slice_index_or, arith, refl, sym, subst, ◌⊎◌, inl}
-use Names.{inr, cases_eq, nat_tests, Program, Local, num, Core, Dir, Vendor, Msg, TidReq, TidGrant, Event, Shape, DirState, World, start}
-use Names.{core_start, vendor_start, in_flight, Sends, nothing, Out, core_exec, core_evict, from_dir, grant, Answer, Waits, Drops, Asks}
-use Names.{Takes, dir_deliver, sum_below, core_moves, core_takes, dir_takes, dir_asks, vendor_gives, step, Skips, Aborts, Commits, live}
-use Names.{among, passes, Pair, pair, after_move, grant_taken, back_taken, after_answer, out_taken, after_grant, after_other_grant, share}
-use Names.{opens, ResolvedAt, Kept, KeptTold, Way, Untold, Skipped, Aborted, Committed, Ways, told_by, ways_after, sent_by, first_ways}
-use Names.{part_in, kept_in, WayAt, KeptWays}
+use Names.{invalidation_count, if◌then◌else◌, advance-rises, dir_deliver, is_skipped, kept-skips, false, DirState, Resolves, Serving}
+use Names.{advance, Commits, nat_lt, InvAck, Answer, Aborts, passes, arith, Abort, ℕ, Shape, Takes, Skips, Bool, true, ◌==◌, ◌&&◌, refl}
+use Names.{kept, Skip, Asks, ◌+◌, ◌-◌, ◌≡◌, ◌<◌, ◌≤◌, num, Msg, nats, List, [], Option, Some, None, IfSome, nat_le, slice_index_or, sym}
+use Names.{subst, ◌⊎◌, inl, inr, cases_eq, Program, Local, Core, Dir, Vendor, TidReq, TidGrant, Event, World, start, core_start}
+use Names.{vendor_start, in_flight, Sends, nothing, Out, core_exec, core_evict, from_dir, grant, Waits, Drops, sum_below, core_moves}
+use Names.{core_takes, dir_takes, dir_asks, vendor_gives, step, live, among, Pair, pair, after_move, grant_taken, back_taken, after_answer}
+use Names.{out_taken, after_grant, after_other_grant, share, opens, ResolvedAt, Kept, KeptTold, Way, Untold, Skipped, Aborted, Committed}
+use Names.{Ways, told_by, ways_after, sent_by, first_ways, part_in, kept_in, WayAt, KeptWays, FromCore}
+use proofs.Counts.DirOutcome.{Outcome, Waiting, Spent, AsksOwner, TakesSkip, TakesAbort, TakesCommit, TakesAck, outcome}
+use proofs.Tids.DirTids.{OnceAt, unserved, advance-count}
 use proofs.Counts.Links.{live-sends, live-takes, total-zero}
 use proofs.Counts.StepCases.{differ, given, sum_move, sum_grant, sum_back, sum_back_away, sum_dir, sum_dir_away, sum_asks, sum_vendor}
 use proofs.Counts.StepCases.{OfAnswer, sent_cases}
 use proofs.Serving.KeptSteps.{core_of_grant, core_of_back, core_of_out, core_of_ask, once_at}
 use proofs.Tids.CoreTids.{KeepsPart, part-exec, part-evict, part-grant, part-back}
 use proofs.Tids.TidSteps.{granted_waits}
-use proofs.Ways.DirWays.{Heard, HeardBy, heard-still, dir-heard}
 use proofs.Ways.WayParts.{parts_in, resolved-split, gained, lost, told-moved, told-nothing}
+
+-- What a directory keeps as skipped is a TID of which a Skip or an Abort came, and it is owed acknowledgements only for one whose
+-- Commit came.
+
+-- the directory serves the TID, and is owed acknowledgements for it
+abbrev pub owes : DirState → (tid : ℕ) → ℕ
+owes s t = num ((t == s.serving.serving) && nat_lt 0 s.owed)
+
+pub record Heard (s : DirState) (m : Msg) (t : ℕ) (new : DirState) : Type 0 where
+  pub keeps : num (is_skipped new.serving t) ≤ num (is_skipped s.serving t) + num (passes (Skips t) m) + num (passes (Aborts t) m)
+  pub owed : owes new t ≤ owes s t + num (passes (Commits t) m)
+
+abbrev pub HeardBy : DirState → Msg → (tid : ℕ) → Answer → Type 0
+HeardBy s m t (Asks new sends) = (new.serving ≡ s.serving) × (new.owed ≡ s.owed)
+HeardBy s m t (Takes new sends) = Heard s m t new
+HeardBy s m t _ = Unit {0}
+
+heard-same : (s : DirState) (m : Msg) (t : ℕ) (new : DirState) → new.serving ≡ s.serving → new.owed ≡ s.owed → Heard s m t new
+heard-same s m t new e f = record { keeps = rw e (omega arith); owed = rw (e, f) (omega arith) }
+
+pub heard-still : (s : DirState) (m : Msg) (t : ℕ) → Heard s m t s
+heard-still s m t = heard-same s m t s refl refl
+
+fewer-skipped : (s : Serving) (t : ℕ) → num (is_skipped (advance s) t) ≤ num (is_skipped s t)
+fewer-skipped s t = let a = advance-count s t in let r = advance-rises s in grind nats
+
+kept-more : (s : Serving) (t u : ℕ) → s.serving < u → num (is_skipped (kept u s) t) ≤ num (is_skipped s t) + num (u == t)
+kept-more s t u l = rw (kept-skips u s t l) (grind nats)
+
+pub dir-heard : (sh : Shape) (s : DirState) (c : ℕ) (m : Msg) (t : ℕ) → OnceAt s m → HeardBy s m t (dir_deliver sh s c m)
+unfolding passes kept
+dir-heard sh s c m t = go (outcome sh s c m)
+  where
+    -- the served TID is given up, or a larger one
+    given : (m : Msg) (u : ℕ) (b : Bool) → (s.serving.serving == u) ≡ b → s.serving.serving ≤ u → passes (Resolves u) m ≡ true
+        → num (passes (Skips t) m) + num (passes (Aborts t) m) ≡ num (u == t) → OnceAt s m → (new : DirState)
+        → new.serving ≡ (if b then advance s.serving else kept u s.serving) → new.owed ≡ s.owed → Heard s m t new
+    given m u true e l p q h new f g =
+        let i : s.serving.serving ≡ u = grind nats in
+        let o : s.owed ≡ 0 = unserved s m h (rw i p) in
+        record { keeps = rw f (omega (arith, fewer-skipped s.serving t)); owed = rw (g, o) (grind arith) }
+    given m u false e l p q h new f g = record {
+      keeps = rw f (omega (arith, q, kept-more s.serving t u (grind nats)));
+      owed = rw (f, g) (omega arith);
+    }
+
+    -- nothing is owed any more, or it is for the same TID
+    settled : (m : Msg) (b : Bool) (n : ℕ) → (n == 0) ≡ b
+        → num ((t == s.serving.serving) && nat_lt 0 n) ≤ owes s t + num (passes (Commits t) m) → (new : DirState)
+        → new.serving ≡ (if b then advance s.serving else s.serving) → new.owed ≡ n → Heard s m t new
+    settled m true n e l new f g = let z : n ≡ 0 = grind nats in
+        record { keeps = rw f (omega (arith, fewer-skipped s.serving t)); owed = rw (g, z) (grind arith) }
+    settled m false n e l new f g = record { keeps = rw f (omega arith); owed = rw (f, g) l }
+
+    go : {m : Msg} {a : Answer} → Outcome sh s c m a → OnceAt s m → HeardBy s m t a
+    go (Waiting m) h = tt
+    go (Spent m i) h = tt
+    go (AsksOwner m l o w e) h = (refl, refl)
+    go (TakesSkip u b e l) h = given (Skip u) u b e l (eq-self u) (omega arith) h _ refl refl
+    go (TakesAbort u b e l) h = given (Abort u) u b e l (eq-self u) (omega arith) h _ refl refl
+    go (TakesCommit b e) h = settled _ b (invalidation_count sh s.lines c) e (grind nats) _ refl refl
+    go (TakesAck l k b i e) h = settled (InvAck l k) b (s.owed - 1) e (grind nats) _ refl refl
+    go _ h = record { keeps = omega arith; owed = omega arith }
+
+-- Every event keeps that each TID is where its way puts it.
 
 -- a core's step
 part-moved : (sh : Shape) (d t : ℕ) (v : Pair) (o : Out) → KeepsPart sh d t 0 v.core o → (z : Way)
     → part_in z sh d t (after_move v o d) + lost (o.sends (Dir d)) t z ≡ part_in z sh d t v + gained (o.sends (Dir d)) t z
 unfolding part_in
-part-moved sh d t v o k a = grind (arith, nat_tests, live-sends)
+part-moved sh d t v o k a = grind (nats, live-sends)
 
 part-granted : (sh : Shape) (d t k u : ℕ) (v : Pair) (o : Out) → slice_index_or v.grants k None ≡ Some (TidGrant u)
     → KeepsPart sh d t (num (u == t)) v.core o → (z : Way)
     → part_in z sh d t (after_move (grant_taken v k) o d) + lost (o.sends (Dir d)) t z ≡ part_in z sh d t v + gained (o.sends (Dir d)) t z
 unfolding part_in passes
-part-granted sh d t k u v o e q a = grind (arith, nat_tests, live-takes, v.grants, live-sends)
+part-granted sh d t k u v o e q a = grind (nats, live-takes, v.grants, live-sends)
 
 way-moved : (sh : Shape) (w : World) (c d t : ℕ) (o : Out) (y : Way) → c < sh.cores → KeepsPart sh d t 0 (w.cores c) o → ResolvedAt sh w d t
     → WayAt sh w d t y → WayAt sh (core_moves w c o) d t (told_by (o.sends (Dir d)) t y)
@@ -47,7 +114,7 @@ way-granted sh w c k u d t o y l i q r h = told-moved sh w (core_takes w Vendor 
 
 part-taken : (sh : Shape) (d t k : ℕ) (v : Pair) (z : Way) → part_in z sh d t (back_taken v k) ≡ part_in z sh d t v
 unfolding part_in
-part-taken sh d t k v a = grind (arith, nat_tests)
+part-taken sh d t k v a = grind nats
 
 way-back : (sh : Shape) (w : World) (e c k d t : ℕ) (o : Out) (y : Way) → c < sh.cores → KeepsPart sh d t 0 (w.cores c) o
     → ResolvedAt sh w d t → WayAt sh w d t y → WayAt sh (core_takes w (Dir e) c k o) d t (told_by (o.sends (Dir d)) t y)
@@ -77,12 +144,12 @@ took m t Committed = num (passes (Commits t) m)
 part-answered : (sh : Shape) (d t k : ℕ) (m : Msg) (v : Pair) (s : DirState) (ms : List Msg) → slice_index_or v.out k None ≡ Some m
     → (z : Way) → part_in z sh d t (after_answer (out_taken v k) s ms) + took m t z ≡ part_in z sh d t v + 0 + 0
 unfolding part_in
-part-answered sh d t k m v s ms e a = grind (arith, nat_tests, live-takes)
+part-answered sh d t k m v s ms e a = grind (nats, live-takes)
 
 part-still : (sh : Shape) (d t : ℕ) (v : Pair) (s : DirState) (ms : List Msg) (z : Way)
     → part_in z sh d t (after_answer v s ms) ≡ part_in z sh d t v
 unfolding part_in
-part-still sh d t v s ms a = grind (arith, nat_tests)
+part-still sh d t v s ms a = grind nats
 
 -- what was on its way is kept now
 way-heard : (sh : Shape) (w v : World) (d t : ℕ) (m : Msg) (y : Way) → v.next ≡ w.next
@@ -104,12 +171,12 @@ way-heard sh w v d t m y n q u r z h = go y h
         omega (arith, h, q Untold, q Skipped, q Aborted, q Committed, u.keeps, resolved-split sh w d t r, resolved-split sh v d t z, e)
 
 way-dir : (sh : Shape) (w : World) (c e k : ℕ) (m : Msg) (s : DirState) (sends : Sends) (d t : ℕ) (y : Way) → c < sh.cores
-    → in_flight w.net (Core c) (Dir e) k ≡ Some m → Heard (w.dirs e) m t s → ResolvedAt sh w d t
+    → FromCore w c e k m → Heard (w.dirs e) m t s → ResolvedAt sh w d t
     → ResolvedAt sh (dir_takes w c e k s sends) d t → WayAt sh w d t y → WayAt sh (dir_takes w c e k s sends) d t y
 unfolding pair dir_takes
 way-dir sh w c e k m s sends d t y l i u r z h = go (cases_eq d e)
   where
-    here : in_flight w.net (Core c) (Dir d) k ≡ Some m → Heard (w.dirs d) m t s → ResolvedAt sh (dir_takes w c d k s sends) d t
+    here : FromCore w c d k m → Heard (w.dirs d) m t s → ResolvedAt sh (dir_takes w c d k s sends) d t
         → WayAt sh (dir_takes w c d k s sends) d t y
     here i u z = way-heard sh w (dir_takes w c d k s sends) d t m y refl sum (rw (eq-self d) u) r z h
       where
@@ -137,7 +204,7 @@ way-dir sh w c e k m s sends d t y l i u r z h = go (cases_eq d e)
 
 kept-same : (n : ℕ) (s new : DirState) (t : ℕ) (y : Way) → new.serving ≡ s.serving → new.owed ≡ s.owed → kept_in y n new t ≡ kept_in y n s t
 unfolding kept_in
-kept-same n s new t a e f = grind (arith, nat_tests)
+kept-same n s new t a e f = grind nats
 
 way-asks : (sh : Shape) (w : World) (e : ℕ) (s : DirState) (sends : Sends) (d t : ℕ) (y : Way) → s.serving ≡ (w.dirs e).serving
     → s.owed ≡ (w.dirs e).owed → WayAt sh w d t y → WayAt sh (dir_asks w e s sends) d t y
@@ -157,7 +224,7 @@ way-asks sh w e s sends d t y f g h = go (cases_eq d e)
 -- the vendor grants a TID
 part-next : (sh : Shape) (d t : ℕ) (v : Pair) (z : Way) → part_in z sh d t (after_other_grant v) ≡ part_in z sh d t v
 unfolding part_in
-part-next sh d t v a = grind (arith, nat_tests)
+part-next sh d t v a = grind nats
 
 -- what is on its way now, and was not granted before
 abbrev given_to : (next tid : ℕ) → Way → ℕ
@@ -167,7 +234,7 @@ given_to n t _ = 0
 part-given : (sh : Shape) (d t k : ℕ) (v : Pair) (z : Way)
     → part_in z sh d t (after_grant v k) + 0 ≡ part_in z sh d t v + given_to v.next t z
 unfolding part_in passes among
-part-given sh d t k v a = grind (arith, nat_tests, live-sends, v.grants, v.next)
+part-given sh d t k v a = grind (nats, live-sends, v.grants, v.next)
 
 way-vendor : (sh : Shape) (w : World) (c k d t : ℕ) (y : Way) → c < sh.cores → WayAt sh w d t y
     → WayAt sh (vendor_gives w c k (given w c)) d t y
@@ -179,7 +246,7 @@ way-vendor sh w c k d t y l h = go y h
         (λ j n. part-next sh d t (pair w j d) z)
 
     go : (z : Way) → WayAt sh w d t z → WayAt sh (vendor_gives w c k (given w c)) d t z
-    go Untold q = let b : num (nat_le w.next t) ≡ num (nat_le (w.next + 1) t) + num (w.next == t) = grind (arith, nat_tests) in
+    go Untold q = let b : num (nat_le w.next t) ≡ num (nat_le (w.next + 1) t) + num (w.next == t) = grind nats in
         omega (arith, q, sum Untold)
     go m q = omega (arith, q, sum m)
 
@@ -209,7 +276,7 @@ step-ways sh p ys w e z h = sent_cases sh p w e (λ x g o. KeptTold sh o.world �
     taken c e k l None q = tt
     taken c e k l (Some o) q = λ n d t x y. way-back sh w e c k d t o (ys d t) l (q d t x) (z.told.tids.resolved d t x) (h d t x y)
 
-    dir : (c d k : ℕ) (m : Msg) (s : DirState) (sends : Sends) → in_flight w.net (Core c) (Dir d) k ≡ Some m
+    dir : (c d k : ℕ) (m : Msg) (s : DirState) (sends : Sends) → FromCore w c d k m
         → ((t : ℕ) → Heard (w.dirs d) m t s) → KeptTold sh (dir_takes w c d k s sends)
         → KeptWays sh (ways_after nothing ys) (dir_takes w c d k s sends)
     dir c e k m s sends i u n d t x y =
@@ -217,7 +284,7 @@ step-ways sh p ys w e z h = sent_cases sh p w e (λ x g o. KeptTold sh o.world �
         (way-dir sh w c e k m s sends d t (ys d t) (core_of_out sh w c e k m z.told.tids i) i (u t) (z.told.tids.resolved d t x)
         (n.tids.resolved d t x) (h d t x y))
 
-    answered : (c d k : ℕ) (m : Msg) → in_flight w.net (Core c) (Dir d) k ≡ Some m → (a : Answer) → ((t : ℕ) → HeardBy (w.dirs d) m t a)
+    answered : (c d k : ℕ) (m : Msg) → FromCore w c d k m → (a : Answer) → ((t : ℕ) → HeardBy (w.dirs d) m t a)
         → OfAnswer w c d k (λ v. KeptTold sh v → KeptWays sh (ways_after nothing ys) v) a
     answered c d k m i Waits u = tt
     answered c d k m i Drops u = dir c d k m (w.dirs d) (λ dst. []) i (λ t. heard-still (w.dirs d) m t)
@@ -232,4 +299,4 @@ share-start sh entries ram d t j = refl
 pub start-ways : (sh : Shape) (entries : ℕ → Local) (ram : ℕ → ℕ) → KeptWays sh first_ways (start entries ram)
 unfolding start vendor_start kept_in
 start-ways sh entries ram d t x y = let z = total-zero (share (part_in Untold sh d t) (start entries ram) d) sh.cores
-    (λ j l. share-start sh entries ram d t j) in let b : num (nat_le 1 t) ≡ 1 = grind (arith, nat_tests) in omega (arith, z, b)
+    (λ j l. share-start sh entries ram d t j) in let b : num (nat_le 1 t) ≡ 1 = grind nats in omega (arith, z, b)

@@ -2,16 +2,15 @@
 use Rattle.theorem_serial.proofs
 use proofs.Names
 use Names.{◌∙◌, ℕ, ◌≡◌, ◌<◌, ◌≤◌, Bool, true, false, ◌&&◌, ◌||◌, ◌==◌, List, Contains, Option, Some, None, IfSome, if◌then◌else◌, arith}
-use Names.{refl, ◌⊎◌, inl, inr, nat_tests, Noted, Program, any_below, any_word, word_at, Dir, Msg, Event, Shape, home, lines, writes_at}
-use Names.{reads_at, is_modified, any_below-at, any_below-found, CoreState, DirState, Ready, World, Out, Sends, commit, noted, core_exec}
-use Names.{core_evict, grant, from_dir, Answer, Waits, Drops, Asks, Takes, dir_deliver, core_moves, core_takes, dir_takes, dir_asks}
-use Names.{vendor_gives, Stepped, step, and_noted, Kept, OneCore, KeptCores, pair, Reached, stores_at, loads_word, sent_by, LoadsMarked}
-use Names.{KeptLoads, loads_at, worked_at, KeptWorked, solo_commit}
-use proofs.Ways.ByCore.{ByCore, Still, Moved, by_core}
-use proofs.OneCore.CoreLoads.{loads-exec, loads-evict}
-use proofs.OneCore.CoreLoadsTakes.{loads-grant, loads-back}
-use proofs.Marks.StoredMasks.{stored-written}
-use proofs.Serving.DirProbes.{RisesBy, dir-rises}
+use Names.{refl, ◌⊎◌, inl, inr, Noted, Program, any_below, any_word, word_at, Dir, Msg, Event, Shape, home, lines, writes_at, reads_at}
+use Names.{is_modified, any_below-at, any_below-found, CoreState, DirState, Ready, World, Out, Sends, commit, noted, core_exec, core_evict}
+use Names.{grant, from_dir, Answer, Waits, Drops, Asks, Takes, dir_deliver, core_moves, core_takes, dir_takes, dir_asks, vendor_gives}
+use Names.{Stepped, step, and_noted, Kept, OneCore, KeptCores, pair, Reached, stores_at, loads_word, sent_by, LoadsMarked, KeptLoads}
+use Names.{loads_at, worked_at, KeptWorked, solo_commit, nats, tid_at}
+use proofs.Ways.ToldSteps.{ByCore, Still, Moved, by_core}
+use proofs.OneCore.CoreReads.{loads-exec, loads-evict, loads-grant, loads-back}
+use proofs.Marks.CoreMarks.{stored-written}
+use proofs.Serving.DirDue.{RisesBy, dir-rises}
 use proofs.Tids.Commits.{inserted}
 use proofs.Counts.StepCases.{OfAnswer, step_cases}
 use proofs.OneCore.Outcomes.{Commits_now, Did, each-exec, out, each-evict, Ends_alone, Given_none, Granted, Hands_out, Heard, each-back}
@@ -85,7 +84,7 @@ exec-works sh p dirs c s h k r = each-exec sh p c s (λ o. Works sh dirs o) go
 -- the served TIDs rise
 
 abbrev pub Later : World → World → Type 0
-Later w v = (d : ℕ) → (w.dirs d).serving.serving ≤ (v.dirs d).serving.serving
+Later w v = (d : ℕ) → tid_at w d ≤ tid_at v d
 
 pub step-later : (sh : Shape) (p : Program) (w : World) (e : Event) → IfSome (step sh p w e) (λ o. Later w o.world)
 unfolding core_moves core_takes dir_takes dir_asks vendor_gives
@@ -105,9 +104,9 @@ step-later sh p w e = step_cases sh p w e (λ g o. Later w o.world)
     taken c d k None = tt
     taken c d k (Some o) = λ e. omega arith
 
-    put : (e : ℕ) (s : DirState) → (w.dirs e).serving.serving ≤ s.serving.serving → (d : ℕ)
-        → (w.dirs d).serving.serving ≤ (if d == e then s else w.dirs d).serving.serving
-    put e s l d = grind (arith, nat_tests)
+    put : (e : ℕ) (s : DirState) → tid_at w e ≤ s.serving.serving → (d : ℕ)
+        → tid_at w d ≤ (if d == e then s else w.dirs d).serving.serving
+    put e s l d = grind nats
 
     answered : (c d k : ℕ) (a : Answer) → RisesBy (w.dirs d) a → OfAnswer w c d k (λ v. Later w v) a
     answered c d k Waits r = tt
@@ -172,11 +171,11 @@ worked-out sh w cs x o r h (Still e i n) = rw n (λ m d q l a. omega (arith, h m
 worked-out sh w cs x o r h (Moved c s cl u f i n) = rw n (λ m d q l a. go m d l a s.commit (u.works) q)
   where
     go : (m : Noted) (d : ℕ) → d < sh.dirs → worked_at sh m d ≡ true → (b : Option Noted)
-        → IfSome b (λ n. (d : ℕ) → d < sh.dirs → worked_at sh n d ≡ true → n.tid.0 ≤ (w.dirs d).serving.serving)
-        → Contains (and_noted b cs) m → m.tid.0 ≤ (o.world.dirs d).serving.serving
+        → IfSome b (λ n. (d : ℕ) → d < sh.dirs → worked_at sh n d ≡ true → n.tid.0 ≤ tid_at w d)
+        → Contains (and_noted b cs) m → m.tid.0 ≤ (tid_at o.world d)
     go m d l a None v q = omega (arith, h m d q l a, r d)
     go m d l a (Some b) v q = now (inserted b m cs q)
       where
-        now : (b ≡ m) ⊎ Contains cs m → m.tid.0 ≤ (o.world.dirs d).serving.serving
-        now (inl e) = let y : m.tid.0 ≤ (w.dirs d).serving.serving = rw e at (v d l (rw e a)) in omega (arith, y, r d)
+        now : (b ≡ m) ⊎ Contains cs m → m.tid.0 ≤ (tid_at o.world d)
+        now (inl e) = let y : m.tid.0 ≤ tid_at w d = rw e at (v d l (rw e a)) in omega (arith, y, r d)
         now (inr k) = omega (arith, h m d k l a, r d)

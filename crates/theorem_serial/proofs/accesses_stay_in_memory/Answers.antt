@@ -1,5 +1,5 @@
 use Rattle.theorem_serial.proofs.Run.FactsOfRuns.{runs_stay_in_memory}
-use Rattle.theorem_serial.proofs.Memory.MemorySends.{accesses_at_homes, marks_at_homes, written_in_memory}
+use Rattle.theorem_serial.proofs.Memory.CoreInMemory.{accesses_at_homes, marks_at_homes, written_in_memory}
 use Rattle.theorem_serial.proofs.accesses_stay_in_memory.Goals as goal
 
 pub returns : goal.returns
