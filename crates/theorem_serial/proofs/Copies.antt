@@ -1,7 +1,6 @@
 -- The copies of a line and its tag: in frames, on their way home, and of commits on their way.
 pub mod WroteLines
 pub mod TagsKept
-pub mod DirtyFrames
 pub mod LinesStep
 pub mod LinesKept
 pub mod PairCopies

@@ -1,7 +1,7 @@
 -- What other crates may cite: the laws that they stand on, and lemmas on counts, grants and commits.
 pub use Rattle.theorem_serial.proofs.Counts.Links.{total-le, total-same, num-one}
-pub use Rattle.theorem_serial.proofs.Marks.CoreCounts.{total-num}
-pub use Rattle.theorem_serial.proofs.Marks.DirMarks.{Marked, MarkedBy, Stays, Clears, Skipped, Marks, dir-marked}
+pub use Rattle.theorem_serial.proofs.Marks.CommitMasks.{total-num}
+pub use Rattle.theorem_serial.proofs.Marks.DirRecords.{Marked, MarkedBy, RecordStays as Stays, Clears, Skipped, Marks, dir-marked}
 pub use Rattle.theorem_serial.proofs.Memory.CoreHomes.{HomelyOut, homes-exec, homes-evict, homes-grant, homes-back}
 pub use Rattle.theorem_serial.proofs.Memory.CoreInMemory.{CoreInMemory, OutInMemory, exec-memory}
 pub use Rattle.theorem_serial.proofs.Memory.InMemoryKept.{start-memory, evict-memory, grant-memory, back-memory}
@@ -19,8 +19,8 @@ pub use Rattle.theorem_serial.proofs.Run.FactsOfRuns.{runs_carry, runs_stay_in_m
 pub use Rattle.theorem_serial.proofs.Run.Always.{commits_are_by_cores}
 pub use Rattle.theorem_serial.proofs.Serving.OwnerSteps.{run-owners, grant-any}
 pub use Rattle.theorem_serial.proofs.Tids.Commits.{granted-once, numbered-least, numbered-most, last-most, granted-at, only-one}
-pub use Rattle.theorem_serial.proofs.Tids.CoreProbing.{KeepsHolder, none as no_grant, noted_tid, holder-exec, holder-evict, holder-grant}
-pub use Rattle.theorem_serial.proofs.Tids.CoreProbing.{holder-back}
+pub use Rattle.theorem_serial.proofs.Tids.CoreTids.{KeepsHolder, none as no_grant, noted_tid, holder-exec, holder-evict, holder-grant}
+pub use Rattle.theorem_serial.proofs.Tids.CoreTids.{holder-back}
 pub use Rattle.theorem_serial.proofs.Tids.TidSteps.{live-some}
 pub use Rattle.theorem_serial.proofs.Values.ModifiedWords.{times-listed}
 pub use Rattle.theorem_serial.proofs.Ways.WayFacts.{some-part}

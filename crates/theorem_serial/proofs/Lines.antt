@@ -1,5 +1,4 @@
 -- Lines: their owners, tags and sharers, and which of them a core holds or awaits.
-pub mod LoadsKept
 pub mod CoreHolds
 pub mod SharersStep
 pub mod SharersKept

@@ -2,13 +2,11 @@
 pub mod CoreMarks
 pub mod CoreMarking
 pub mod CoreMarkingTakes
-pub mod DirMarks
 pub mod MarksKept
 pub mod ModifiedMasksKept
 pub mod CommitMasks
 pub mod StoredKept
 pub mod NamedKept
-pub mod CoreCounts
 pub mod CountsKept
 pub mod ReadsKept
 pub mod AfterKept

@@ -4,8 +4,7 @@ pub mod Outcomes
 pub mod CoreSteps
 pub mod UsedWords
 pub mod WordsKept
-pub mod CoreProbes
-pub mod CoreAwaits
 pub mod CoreReads
 pub mod CoreCloses
 pub mod OneCoreKept
+pub mod CoreAsks

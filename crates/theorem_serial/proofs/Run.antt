@@ -1,7 +1,6 @@
 -- All of it together, along every run.
 pub mod Always
 pub mod AllInvariants
-pub mod CarriedTogether
 pub mod FactsOfRuns
 pub mod AllCarried
 pub mod TriedRun

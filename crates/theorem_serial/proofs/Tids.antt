@@ -1,6 +1,4 @@
 -- TIDs: who has which one, where it is handled, and which of them were committed.
 pub mod Commits
 pub mod CoreTids
-pub mod DirTids
 pub mod TidSteps
-pub mod CoreProbing

@@ -3,4 +3,3 @@ pub mod ViewFacts
 pub mod ViewPairs
 pub mod ViewDirs
 pub mod ViewsKept
-pub mod ViewSteps

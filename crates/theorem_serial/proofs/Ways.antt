@@ -4,4 +4,3 @@ pub mod WayParts
 pub mod WayFacts
 pub mod WaySteps
 pub mod ToldSteps
-pub mod WorkedSteps

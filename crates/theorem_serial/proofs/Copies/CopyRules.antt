@@ -10,8 +10,8 @@ use Names.{word_of, line_of, IsCache, cleaned, ◌<◌, nothing, is_solo, Option
 use Names.{placed, false, arith, Shape, lines, Cache, holds, Ready, noted, Words, moves, grant, among, ◌==◌, ◌&&◌, ◌||◌, Bool, true, not}
 use Names.{Some, None, refl, home, sym, ◌∙◌, num, Dir, ◌+◌, ◌≤◌, ◌⊎◌, inl, inr, hit, Msg, Inv, Out, ℕ, nats}
 use proofs.Copies.CopySends.{few-masks, commit-copies, solo-copies, solo-wrong, flushed-leaves, back-home-leaves, Conserves}
-use proofs.Copies.CopySends.{conserves-still, conserves-sent, framed-dirty}
-use proofs.Copies.DirtyFrames.{wrong-copy, IsClean, clean-frame, committed-frame, frame_copy, fewer-frame}
+use proofs.Copies.CopySends.{conserves-still, conserves-sent, framed-dirty, wrong-copy, IsClean, clean-frame, committed-frame, frame_copy}
+use proofs.Copies.CopySends.{fewer-frame}
 use proofs.Marks.CoreMarks.{holds-found, unspilled, modified-line, modified-stored, written-line, written-stored}
 use proofs.OneCore.Said.{Flushes, Requests, Silent, Unheard, quiet, say}
 use proofs.OneCore.Outcomes.{Commits_now, Did, Ends_alone, Frames, Frames_anew, Given_none, Granted, Hands_out, Heard, Hurt_alone}
@@ -26,12 +26,12 @@ unfolding commit committed_core committed noted names_line
 ready-copies sh l id u s e h =
     let x = committed-frame sh s.cache (committed u s.cache) l u h.words.cache (λ k i. refl) in
     let z : (t : ℕ) → num (is_modified s.cache l && u == t) ≡ num (names_line sh.base s.stores l && u == t) =
-    λ t. rw (modified-line sh.base s.cache s.stores l (unspilled sh s.cache s.spilled s.stores (rw e at (h.words)))) refl in
+    λ t. rw (modified-line sh.base s.cache s.stores l (unspilled sh s.cache s.spilled s.stores (rw e at h.words))) refl in
     let y : (t m : ℕ) → num ((is_modified s.cache l && u == t) && not (modified_mask s.cache l == m)) ≡ num
     ((names_line sh.base s.stores l && u == t) && not (stores_in sh.base s.stores l == m)) =
     λ t m. rw (
-      modified-line sh.base s.cache s.stores l (unspilled sh s.cache s.spilled s.stores (rw e at (h.words))),
-      modified-stored sh.base s.cache s.stores l (unspilled sh s.cache s.spilled s.stores (rw e at (h.words))),
+      modified-line sh.base s.cache s.stores l (unspilled sh s.cache s.spilled s.stores (rw e at h.words)),
+      modified-stored sh.base s.cache s.stores l (unspilled sh s.cache s.spilled s.stores (rw e at h.words)),
     ) refl in
     record {
       copies = λ t. omega (arith, x.0 t, z t, commit-copies sh s.cache u l t (home sh l));
@@ -104,10 +104,10 @@ alone-copies sh b l id u s i j h = go (holds s.spilled l) refl
     after = committed u (words_dropped s.spilled s.cache)
 
     line : (is_modified s.cache l || holds s.spilled l) ≡ names_line sh.base s.stores l
-    line = written-line sh.base s.cache s.spilled s.stores l (h.named)
+    line = written-line sh.base s.cache s.spilled s.stores l h.named
 
     mask : stores_in sh.base s.stores l ≡ written_mask s.cache s.spilled l
-    mask = written-stored sh.base s.cache s.spilled s.stores l (h.named)
+    mask = written-stored sh.base s.cache s.spilled s.stores l h.named
 
     or-last : (a c : Bool) → c ≡ true → (a || c) ≡ true
     or-last a c e = grind nats
@@ -159,7 +159,7 @@ alone-copies sh b l id u s i j h = go (holds s.spilled l) refl
         }
           where
             words : (k : ℕ) → k < 8 → (s.cache.modified (word_at l k) ≡ false) × (s.cache.dirty (word_at l k) ≡ None)
-            words k i = h.clean (word_at l v.0) (word_at l k) (line_of-word_at l v.0 (v.1) ∙ sym (line_of-word_at l k i)) (v.2)
+            words k i = h.clean (word_at l v.0) (word_at l k) (line_of-word_at l v.0 v.1 ∙ sym (line_of-word_at l k i)) v.2
 
             none : (a : Bool) (m : Bool) (d : Option ℕ) → m ≡ false → d ≡ None
                 → (if (if a then false else m) then Some u else (if a then None else d)) ≡ None
@@ -167,7 +167,7 @@ alone-copies sh b l id u s i j h = go (holds s.spilled l) refl
 
             gone : IsClean after l
             gone k i = none (is_some (s.spilled (word_at l k))) (s.cache.modified (word_at l k)) (s.cache.dirty (word_at l k))
-                ((words k i).0) ((words k i).1)
+                (words k i).0 (words k i).1
 
             stored : names_line sh.base s.stores l ≡ true
             stored = sym line ∙ or-last (is_modified s.cache l) (holds s.spilled l) q
@@ -202,13 +202,13 @@ copies-exec sh l p id s m h = each-exec sh p id s (Conserves sh l s) go
     go (Frames a y also n k g i f) = frames a y also (after_store s a k (stored (w a) y also s.cache) s.spilled) (λ v. refl)
     go (Frames_anew a y n k g i q f h2) =
         conserves-still sh l s (moves (after_store s a k (stored (w a) y false (placed sh (line_of (w a)) s.cache)) s.spilled) nothing) refl
-        (λ j i. framed-dirty sh (w a) y s.cache (h.words.cache) q (word_at l j))
+        (λ j i. framed-dirty sh (w a) y s.cache h.words.cache q (word_at l j))
         (λ t. quiet sh s (CopyOf l t) Silent (λ y. refl) (home sh l))
     go (Misses_anew a n g i q f) =
         conserves-still sh l s (moves (record s { awaited = awaiting (line_of (w a)); cache = placed sh (line_of (w a)) s.cache })
         (say sh s (Requests (line_of (w a))))) refl (λ j i. dirty-placed sh (line_of (w a)) s.cache (word_at l j))
         (λ t. quiet sh s (CopyOf l t) (Requests (line_of (w a))) (λ y. refl) (home sh l))
-    go (Ends_alone t b e f r i) = let x = alone-copies sh (is_solo s.phase) l id t (after_end s b e) (m.line) (m.home) (h.words) in
+    go (Ends_alone t b e f r i) = let x = alone-copies sh (is_solo s.phase) l id t (after_end s b e) m.line m.home h.words in
         record { copies = x.copies; wrong = x.wrong }
     go (Commits_now t e) = ready-copies sh l id t s e h
     go x = conserves-still sh l s (out x) refl (λ k i. refl) (λ t. quiet sh s (CopyOf l t) (said x) (λ y. refl) (home sh l))

@@ -9,7 +9,7 @@ use Names.{Cache, empty_cache, is_dirty, dirty_tag, dirty_mask, no_lines, start,
 use Names.{OwnedOf, KeptOwned, wrote, wrote_line, wrote_mask}
 use proofs.Serving.CommitSteps.{ofs-resolve}
 use proofs.Marks.AfterKept.{AfterStep}
-use proofs.Copies.CopySends.{Conserves}
+use proofs.Copies.CopySends.{Conserves, frame_copy, frame_wrong}
 use proofs.Ways.CoreSkips.{TellsCommit}
 use proofs.Copies.CopyRules.{InMemory}
 use proofs.Copies.TagsKept.{untagged, stored-home}
@@ -19,7 +19,6 @@ use proofs.Copies.WroteLines.{uncommitted, commit-sent, few-resolves, SameWrote,
 use proofs.Copies.PairCopies.{LineCopies, copies-moved, NewCommit, copies-committed, line_copies, line_wrong}
 use proofs.Counts.StepCases.{either, moves-own, moves-other}
 use proofs.Ways.ToldSteps.{Speaks}
-use proofs.Copies.DirtyFrames.{frame_copy, frame_wrong}
 
 -- Every event keeps the copies of each line in memory: the owner's one with the line's tag, and those of commits on their way with a
 -- larger one.
@@ -58,7 +57,7 @@ unfolding pair share part part_in
 new-of sh gs ys h c d l o n b cl dl ll e q r u = record {
   fresh = fresh;
   core = r;
-  tag = λ s f. untagged sh h d l n.tid.0 b.tags dl ll e (positive-held sh gs h.world h.commits c n.tid.0 b.told.all.owners (tells.has))
+  tag = λ s f. untagged sh h d l n.tid.0 b.tags dl ll e (positive-held sh gs h.world h.commits c n.tid.0 b.told.all.owners tells.has)
       fresh f;
   sent = λ s. sent (commit-sent sh gs ys h c d o n b.told cl tells dl (stored-home sh d l n ll e s));
   others = λ t f. let z : among (Commits t) (o.sends (Dir d)) ≤ num (n.tid.0 == t) = rw q at (u.noted d t) in
@@ -66,13 +65,13 @@ new-of sh gs ys h c d l o n b cl dl ll e q r u = record {
 }
   where
     tells : TellsCommit sh (h.world.cores c) o n
-    tells = of o.commit q (u.tells.commits)
+    tells = of o.commit q u.tells.commits
       where
         of : (a : Option Noted) → a ≡ Some n → IfSome a (TellsCommit sh (h.world.cores c) o) → TellsCommit sh (h.world.cores c) o n
         of a e y = rw e at y
 
     fresh : times n.tid.0 h.commits ≡ 0
-    fresh = uncommitted sh gs ys h c n.tid.0 b.told cl (tells.has)
+    fresh = uncommitted sh gs ys h c n.tid.0 b.told cl tells.has
 
     sent : 1 ≤ among (Commits n.tid.0) (o.sends (Dir d)) → live (Commits n.tid.0) (to_dir h.world c d) + among (Commits n.tid.0)
         (o.sends (Dir d)) ≡ 1
@@ -97,7 +96,7 @@ in-memory sh d l dl ll e = record { line = ll; home = rw e dl }
 -- the core's own pairs
 own-lines : (sh : Shape) (gs : List Grant) (ys : Ways) (h : History) (c d : ℕ) (o : Out) → Before sh gs ys h → Acts sh h.world c o
     → CopiesAt sh (and_noted o.commit h.commits) c d (after_move (pair h.world c d) o d)
-own-lines sh gs ys h c d o b a l cl dl ll e = go (a.after)
+own-lines sh gs ys h c d o b a l cl dl ll e = go a.after
   where
     quiet : o.commit ≡ None → (t : ℕ) → among (Commits t) (o.sends (Dir d)) ≡ 0
     quiet q t = let z : among (Commits t) (o.sends (Dir d)) ≤ 0 = rw q at (a.speaks.noted d t) in omega (arith, z)
@@ -106,11 +105,11 @@ own-lines sh gs ys h c d o b a l cl dl ll e = go (a.after)
     keeps = conserves-pair sh h.world c d l o (a.copies l (in-memory sh d l dl ll e))
 
     go : AfterStep sh c (h.world.cores c) o → LineCopies sh.base (and_noted o.commit h.commits) c l (after_move (pair h.world c d) o d)
-    go (inl x) = subst (λ n. LineCopies sh.base (and_noted n h.commits) c l (after_move (pair h.world c d) o d)) (sym (x.commit))
-        (copies-moved sh h.commits c d l (pair h.world c d) o e (x.commit) (quiet (x.commit)) keeps (b.lines c d l cl dl ll e))
-    go (inr x) = subst (λ n. LineCopies sh.base (and_noted n h.commits) c l (after_move (pair h.world c d) o d)) (sym (x.commit))
-        (copies-committed sh h.commits c d l (pair h.world c d) o x.noted e (x.commit)
-        (new-of sh gs ys h c d l o x.noted b cl dl ll e (x.commit) (x.core) (a.speaks)) keeps (b.lines c d l cl dl ll e))
+    go (inl x) = subst (λ n. LineCopies sh.base (and_noted n h.commits) c l (after_move (pair h.world c d) o d)) (sym x.commit)
+        (copies-moved sh h.commits c d l (pair h.world c d) o e x.commit (quiet x.commit) keeps (b.lines c d l cl dl ll e))
+    go (inr x) = subst (λ n. LineCopies sh.base (and_noted n h.commits) c l (after_move (pair h.world c d) o d)) (sym x.commit)
+        (copies-committed sh h.commits c d l (pair h.world c d) o x.noted e x.commit
+        (new-of sh gs ys h c d l o x.noted b cl dl ll e x.commit x.core a.speaks) keeps (b.lines c d l cl dl ll e))
 
 -- another core's: what it wrote stays
 more-lines : (base : ℕ) (n : Noted) (cs : List Noted) (j l : ℕ) (v : Pair) → (n.core.0 == j) ≡ false → LineCopies base cs j l v
@@ -121,8 +120,8 @@ more-lines base n cs j l v e h =
 
 other-lines : (sh : Shape) (h : History) (c j d : ℕ) (o : Out) → (j ≡ c → ⊥) → KeptLines sh h.commits h.world
     → AfterStep sh c (h.world.cores c) o → CopiesAt sh (and_noted o.commit h.commits) j d (pair h.world j d)
-other-lines sh h c j d o n k (inl x) = subst (λ a. CopiesAt sh (and_noted a h.commits) j d (pair h.world j d)) (sym (x.commit)) (k j d)
-other-lines sh h c j d o n k (inr x) = subst (λ a. CopiesAt sh (and_noted a h.commits) j d (pair h.world j d)) (sym (x.commit))
+other-lines sh h c j d o n k (inl x) = subst (λ a. CopiesAt sh (and_noted a h.commits) j d (pair h.world j d)) (sym x.commit) (k j d)
+other-lines sh h c j d o n k (inr x) = subst (λ a. CopiesAt sh (and_noted a h.commits) j d (pair h.world j d)) (sym x.commit)
     (λ l cl dl ll e. more-lines sh.base x.noted h.commits j l (pair h.world j d) (let y = x.core in grind nats)
     (k j d l cl dl ll e))
 
@@ -132,7 +131,7 @@ moved-lines sh gs ys h c o b a j d = either j c
     (λ q. subst (λ i. CopiesAt sh (and_noted o.commit h.commits) i d (pair (core_moves h.world c o) i d)) (sym q)
     (subst (CopiesAt sh (and_noted o.commit h.commits) c d) (sym (moves-own h.world c o d)) (own-lines sh gs ys h c d o b a)))
     (λ n. subst (CopiesAt sh (and_noted o.commit h.commits) j d) (sym (moves-other h.world c o j d n))
-    (other-lines sh h c j d o n b.lines (a.after)))
+    (other-lines sh h c j d o n b.lines a.after))
 
 -- The facts of the list on copies, from what is kept of each line in memory; and that the start has it.
 

@@ -18,7 +18,7 @@ use proofs.Copies.WroteLines.{on-its-way, wrote-listed, no-writer}
 use proofs.Counts.Links.{live-takes}
 use proofs.Counts.StepCases.{differ, pairs_dir, pairs_asks, pairs_grant, pairs_back, pairs_vendor, OfAnswer, step_cases}
 use proofs.Marks.AfterKept.{AfterStep, Stays as AfterStays, after-exec, after-evict, after-grant, after-back}
-use proofs.Marks.DirRecords.{Stays, Records, Still, Came, Settles, Dropped, RecordsBy, dir-records, CountsMarked}
+use proofs.Marks.DirRecords.{RecordStays, Records, Still, Came, Settles, Dropped, RecordsBy, dir-records, CountsMarked}
 use proofs.Serving.CoreCommits.{CommitsNoted, noted-exec, noted-evict, noted-grant, noted-back}
 use proofs.Serving.CommitSteps.{commits_served}
 use proofs.Serving.KeptSteps.{core_of_back}
@@ -130,10 +130,10 @@ pub writer-line : (sh : Shape) (h : History) (c d l : ℕ) → l < lines sh → 
     → wrote_line sh.base h.commits c (tid_at h.world d) l ≡ has_mark (h.world.dirs d).lines l
 writer-line sh h c d l ll e t =
     let n = t.settled.commit in
-    let x = wrote-listed sh.base h.commits n l (t.settled.noted)
-    (λ y k o. t.only y k (sym (t.settled.tid) ∙ tids y (y.core.0 == n.core.0) (y.tid.0 == n.tid.0) refl o)) in
-    subst (λ p. wrote_line sh.base h.commits c p l ≡ has_mark (h.world.dirs d).lines l) (t.settled.tid)
-    (subst (λ p. wrote_line sh.base h.commits p n.tid.0 l ≡ has_mark (h.world.dirs d).lines l) (t.core)
+    let x = wrote-listed sh.base h.commits n l t.settled.noted
+    (λ y k o. t.only y k (sym t.settled.tid ∙ tids y (y.core.0 == n.core.0) (y.tid.0 == n.tid.0) refl o)) in
+    subst (λ p. wrote_line sh.base h.commits c p l ≡ has_mark (h.world.dirs d).lines l) t.settled.tid
+    (subst (λ p. wrote_line sh.base h.commits p n.tid.0 l ≡ has_mark (h.world.dirs d).lines l) t.core
     (x.line ∙ marked-line sh h c d l ll e t))
   where
     tids : (y : Noted) (a b : Bool) → (y.tid.0 == t.settled.commit.tid.0) ≡ b → (a && b) ≡ true → t.settled.commit.tid.0 ≡ y.tid.0
@@ -146,8 +146,7 @@ pub other-writer : (sh : Shape) (h : History) (c j d l : ℕ) → (j ≡ c → �
 other-writer sh h c j d l n t = no-writer sh.base h.commits j (tid_at h.world d) l
     (λ x k. go x k (x.core.0 == j) (x.tid.0 == tid_at h.world d) refl refl)
   where
-    go : (x : Noted) → Contains h.commits x → (a b : Bool) → (x.core.0 == j) ≡ a → (x.tid.0 == tid_at h.world d) ≡ b
-        → (a && b) ≡ false
+    go : (x : Noted) → Contains h.commits x → (a b : Bool) → (x.core.0 == j) ≡ a → (x.tid.0 == tid_at h.world d) ≡ b → (a && b) ≡ false
     go x k true true q r =
         absurd (let y : tid_at h.world d ≡ x.tid.0 = grind nats in
         let z : x.core.0 ≡ t.settled.commit.core.0 = ap (λ u. u.core.0) (t.only x k y) in
@@ -162,7 +161,7 @@ one-commit : (sh : Shape) (gs : List Grant) (ys : Ways) (h : History) (c d l : �
 one-commit sh gs ys h c d l b dl ll e t s =
     let n = t.settled.commit in
     let x : live (Commits n.tid.0) (to_dir h.world n.core.0 d) + num (is_applied (h.world.dirs d) n.tid.0) ≡ 1 =
-    on-its-way sh gs ys h b.told n d (t.settled.noted) dl (stored-home sh d l n ll e s) in
+    on-its-way sh gs ys h b.told n d t.settled.noted dl (stored-home sh d l n ll e s) in
     let y : live (Commits (tid_at h.world d)) (to_dir h.world c d) + num
     (is_applied (h.world.dirs d) (tid_at h.world d)) ≡ 1 = rw (t.settled.tid, t.core) at x in
     omega (arith, y, t.sent)
@@ -186,7 +185,7 @@ answer-lines sh gs ys h c d k j l mine m s w b i z jl dl ll e a (Came x p o g f 
 answer-lines sh gs ys h c d k j l mine m s w b i z jl dl ll e a (Settles q g f n) = go (has_mark (h.world.dirs d).lines l) refl
   where
     u : ℕ
-    u = (tid_at h.world d)
+    u = tid_at h.world d
 
     t : TakenCommit sh h.commits h.world c d
     t = taken-commit sh gs h c d k m b.told.all dl i q
@@ -219,11 +218,11 @@ answer-lines sh gs ys h c d k j l mine m s w b i z jl dl ll e a (Settles q g f n
         (b.lines j d l jl dl ll e)
     go true r = taken-copies sh.base h.commits c u j l (pair h.world j d) w (record {
       cache = a.cache;
-      tag = ap (λ x. x.lines.tag l) (a.dir) ∙ g l ∙ rw r refl;
+      tag = ap (λ x. x.lines.tag l) a.dir ∙ g l ∙ rw r refl;
       old = tag-below sh h c d l (on-its-way sh gs ys h b.told) b.tags dl ll e
-          (rw (sym (t.settled.tid)) (positive-committed sh gs h.world h.commits t.settled.commit b.told.all.owners (t.settled.noted)))
-          (λ x o y. ap (λ n. n.core.0) (t.only x o (sym y)) ∙ t.core) (t.sent);
-      owner = ap (λ x. x.lines.owner l) (a.dir) ∙ f l ∙ rw r refl;
+          (rw (sym t.settled.tid) (positive-committed sh gs h.world h.commits t.settled.commit b.told.all.owners t.settled.noted))
+          (λ x o y. ap (λ n. n.core.0) (t.only x o (sym y)) ∙ t.core) t.sent;
+      owner = ap (λ x. x.lines.owner l) a.dir ∙ f l ∙ rw r refl;
       copies = λ x. (let y = none-passes mine (CopyOf l x) m (n l x) in omega (arith, y, a.lives (CopyOf l x)));
       writer = writer r (cases_eq j c);
       before = λ x o. none-later sh gs ys h j d x b jl dl o;
@@ -251,16 +250,16 @@ drop-lines sh gs ys h c d k m b i u = pairs_dir (CopiesAt sh h.commits) h.world 
     (after_answer (out_taken (pair h.world c d) k) (h.world.dirs d) [])
     (dropped-similar sh.base h.commits c l true m (pair h.world c d)
     (after_answer (out_taken (pair h.world c d) k) (h.world.dirs d) [])
-    (record { cache = refl; dir = refl; lives = λ q. live-takes q (to_dir h.world c d) k m i }) (u.commit)
+    (record { cache = refl; dir = refl; lives = λ q. live-takes q (to_dir h.world c d) k m i }) u.commit
     (λ t x y. u.late l t y) (λ x y. u.other l y) (b.lines c d l cl dl ll e)) (b.lines c d l cl dl ll e))
     (λ j n l jl dl ll e. similar-copies sh.base h.commits j l (pair h.world j d) (after_answer (pair h.world j d) (h.world.dirs d) [])
     (dropped-similar sh.base h.commits j l false m (pair h.world j d) (after_answer (pair h.world j d) (h.world.dirs d) [])
-    (record { cache = refl; dir = refl; lives = λ q. omega arith }) (u.commit) (λ t x y. u.late l t y) (λ x y. absurd (cc))
+    (record { cache = refl; dir = refl; lives = λ q. omega arith }) u.commit (λ t x y. u.late l t y) (λ x y. absurd (cc))
     (b.lines j d l jl dl ll e)) (b.lines j d l jl dl ll e))
     b.lines
 
 pub asks-lines : (sh : Shape) (gs : List Grant) (ys : Ways) (h : History) (d : ℕ) (s : DirState) (sends : Sends) → Before sh gs ys h
-    → Stays (h.world.dirs d) s → KeptLines sh h.commits (dir_asks h.world d s sends)
+    → RecordStays (h.world.dirs d) s → KeptLines sh h.commits (dir_asks h.world d s sends)
 unfolding pair
 asks-lines sh gs ys h d s sends b u = pairs_asks (CopiesAt sh h.commits) h.world d s sends
     (λ j l jl dl ll e. similar-copies sh.base h.commits j l (pair h.world j d) (after_answer (pair h.world j d) s (sends (Core j)))
@@ -314,8 +313,8 @@ step-lines sh p gs ys h e b = step_cases sh p h.world e (λ g o. KeptLines sh (a
         let a = after-grant sh u (h.world.cores c) in
         subst (λ n. KeptLines sh (and_noted n h.commits) (core_takes h.world Vendor c k o)) (sym a.commit)
         (pairs_grant (CopiesAt sh h.commits) h.world c k o
-        (λ d l cl dl ll q. copies-moved sh h.commits c d l (grant_taken (pair h.world c d) k) o q (a.commit)
-        (none-sent o (noted-grant sh u (h.world.cores c)) (a.commit) d) (copies-grant sh l u (h.world.cores c))
+        (λ d l cl dl ll q. copies-moved sh h.commits c d l (grant_taken (pair h.world c d) k) o q a.commit
+        (none-sent o (noted-grant sh u (h.world.cores c)) a.commit d) (copies-grant sh l u (h.world.cores c))
         (kept-copies sh.base h.commits c l (pair h.world c d) (grant_taken (pair h.world c d) k) refl refl refl
         (b.lines c d l cl dl ll q))) b.lines)
 
@@ -326,10 +325,10 @@ step-lines sh p gs ys h e b = step_cases sh p h.world e (λ g o. KeptLines sh (a
     taken c d k m cl i None f n a = tt
     taken c d k m cl i (Some o) f n a = subst (λ x. KeptLines sh (and_noted x h.commits) (core_takes h.world (Dir d) c k o)) (sym a.commit)
         (pairs_back (CopiesAt sh h.commits) h.world d c k o
-        (λ l cl dl ll q. back-copies sh gs ys h c d d k l m (back_taken (pair h.world c d) k) o b cl dl ll q i refl refl refl (a.commit)
-        (none-sent o n (a.commit) d) (f l))
-        (λ x r l cl dl ll q. back-copies sh gs ys h c d x k l m (pair h.world c x) o b cl dl ll q i refl refl refl (a.commit)
-        (none-sent o n (a.commit) x) (f l))
+        (λ l cl dl ll q. back-copies sh gs ys h c d d k l m (back_taken (pair h.world c d) k) o b cl dl ll q i refl refl refl a.commit
+        (none-sent o n a.commit d) (f l))
+        (λ x r l cl dl ll q. back-copies sh gs ys h c d x k l m (pair h.world c x) o b cl dl ll q i refl refl refl a.commit
+        (none-sent o n a.commit x) (f l))
         b.lines)
 
     answered : (c d k : ℕ) (m : Msg) → FromCore h.world c d k m → (a : Answer)

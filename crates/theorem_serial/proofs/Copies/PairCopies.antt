@@ -4,8 +4,7 @@ use proofs.Names
 use Names.{ℕ, ◌+◌, ◌≡◌, ◌<◌, ◌≤◌, ◌⊎◌, ◌==◌, ◌&&◌, Bool, true, false, not, cond, List, [], ◌∷◌, Some, None, arith, refl, ◌∙◌, inl, inr}
 use Names.{cases_eq, Noted, num, Dir, Shape, home, Link, Out, insert_commit, Commits, CopyOf, CopyMask, live, among, times, Pair}
 use Names.{after_move, is_this, stores_in, names_line, wrote_line, wrote_mask, nats, sym, if◌then◌else◌, ap, Msg, DirState, Kind, passes}
-use proofs.Copies.CopySends.{Conserves, mask-copy}
-use proofs.Copies.DirtyFrames.{frame_copy, frame_wrong, wrong-copy}
+use proofs.Copies.CopySends.{Conserves, mask-copy, frame_copy, frame_wrong, wrong-copy}
 use proofs.Counts.Links.{live-sends}
 use proofs.Copies.WroteLines.{Wrote, wrote-new, SameWrote, wrote-other, wrote-unknown}
 use proofs.Marks.DirRecords.{NoCommit}
@@ -71,7 +70,7 @@ copies-moved sh cs c d l v o e n z k h = record {
         moved-copies sh d l t v o e,
         rw n at (k.copies t),
         h.above t i,
-        same-cond (wrote_line sh.base cs c t l) (live (Commits t) ((after_move v o d).out)) (live (Commits t) v.out)
+        same-cond (wrote_line sh.base cs c t l) (live (Commits t) (after_move v o d).out) (live (Commits t) v.out)
             (λ y. omega (arith, z t, live-sends (Commits t) v.out (o.sends (Dir d)))),
       );
   masks = λ t i. omega (
@@ -95,7 +94,7 @@ copies-lost sh cs c d l v o e z k f h = record {
         gone t (omega (arith, i)),
         f t (omega (arith, i)),
         h.above t i,
-        same-cond (wrote_line sh.base cs c t l) (live (Commits t) ((after_move v o d).out)) (live (Commits t) v.out)
+        same-cond (wrote_line sh.base cs c t l) (live (Commits t) (after_move v o d).out) (live (Commits t) v.out)
             (λ y. omega (arith, z t, live-sends (Commits t) v.out (o.sends (Dir d)))),
       );
   masks = λ t i. omega (arith, gone t (omega (arith, i)), few-wrong l t (wrote_mask sh.base cs c t l) (after_move v o d));
@@ -146,13 +145,13 @@ copies-committed sh cs c d l v o n e q x k h =
 
     -- the commit's own copies: none before
     mine : (t : ℕ) → u ≡ t → wrote_line sh.base cs c t l ≡ false
-    mine t r = wrote-unknown sh.base cs c t l (rw r at (x.fresh))
+    mine t r = wrote-unknown sh.base cs c t l (rw r at x.fresh)
 
     new : (t : ℕ) → u ≡ t → Wrote sh.base ds c t l n
-    new t r = wrote-new sh.base n cs c t l (x.core) r (rw r at (x.fresh))
+    new t r = wrote-new sh.base n cs c t l x.core r (rw r at x.fresh)
 
     one : (t : ℕ) (b : Bool) → u ≡ t → names_line sh.base n.stores l ≡ b
-        → num (b && u == t) ≡ cond b (live (Commits t) ((after_move v o d).out)) 0
+        → num (b && u == t) ≡ cond b (live (Commits t) (after_move v o d).out) 0
     one t a r s = grind (nats, live-sends)
 
     other : (t : ℕ) → (u ≡ t → ⊥) → SameWrote sh.base cs ds c t l
@@ -162,7 +161,7 @@ copies-committed sh cs c d l v o n e q x k h =
         last a b z = grind nats
 
     above : (t : ℕ) → v.dir.lines.tag l < t → (u ≡ t) ⊎ (u ≡ t → ⊥)
-        → line_copies l t (after_move v o d) ≡ cond (wrote_line sh.base ds c t l) (live (Commits t) ((after_move v o d).out)) 0
+        → line_copies l t (after_move v o d) ≡ cond (wrote_line sh.base ds c t l) (live (Commits t) (after_move v o d).out) 0
     above t i (inl r) = let y = (new t r).line in let z : line_copies l t v ≡ 0 = h.above t i ∙ rw (mine t r) refl in
         rw y (copies t ∙ rw z (let w = one t (names_line sh.base n.stores l) r refl in omega (arith, w)))
     above t i (inr r) =
@@ -173,7 +172,7 @@ copies-committed sh cs c d l v o n e q x k h =
           copies t,
           none t (names_line sh.base n.stores l) y,
           h.above t i,
-          same-cond (wrote_line sh.base cs c t l) (live (Commits t) ((after_move v o d).out)) (live (Commits t) v.out)
+          same-cond (wrote_line sh.base cs c t l) (live (Commits t) (after_move v o d).out) (live (Commits t) v.out)
               (λ w. omega (arith, x.others t y, live-sends (Commits t) v.out (o.sends (Dir d)))),
         ))
 
@@ -221,13 +220,13 @@ same-wrong l t m v w e = rw e refl
 pub similar-copies : (base : ℕ) (cs : List Noted) (c l : ℕ) (v w : Pair) → Similar base cs c l v w → LineCopies base cs c l v
     → LineCopies base cs c l w
 similar-copies base cs c l v w s h =
-    record { owned = rw (s.tag) owned; above = λ t i. above t (rw (s.tag) at i); masks = λ t i. masks t (rw (s.tag) at i) }
+    record { owned = rw s.tag owned; above = λ t i. above t (rw s.tag at i); masks = λ t i. masks t (rw s.tag at i) }
   where
     g : ℕ
     g = v.dir.lines.tag l
 
     owned : line_copies l g w ≡ num (is_this (w.dir.lines.owner l) c)
-    owned = omega (arith, of-line l g w, of-line l g v, same-frames l g v w (s.cache), s.owned, h.owned)
+    owned = omega (arith, of-line l g w, of-line l g v, same-frames l g v w s.cache, s.owned, h.owned)
 
     above : (t : ℕ) → g < t → line_copies l t w ≡ cond (wrote_line base cs c t l) (live (Commits t) w.out) 0
     above t i =
@@ -235,7 +234,7 @@ similar-copies base cs c l v w s h =
           arith,
           of-line l t w,
           of-line l t v,
-          same-frames l t v w (s.cache),
+          same-frames l t v w s.cache,
           s.copies t i,
           h.above t i,
           same-cond (wrote_line base cs c t l) (live (Commits t) w.out) (live (Commits t) v.out) (s.commits t),
@@ -243,7 +242,7 @@ similar-copies base cs c l v w s h =
 
     masks : (t : ℕ) → g < t → line_wrong l t (wrote_mask base cs c t l) w ≡ 0
     masks t i = let m : ℕ = wrote_mask base cs c t l in
-        omega (arith, of-wrong l t m w, of-wrong l t m v, same-wrong l t m v w (s.cache), s.wrong t m, h.masks t i)
+        omega (arith, of-wrong l t m w, of-wrong l t m v, same-wrong l t m v w s.cache, s.wrong t m, h.masks t i)
 
 -- Core c's Commit of TID u takes the line over; core j has one copy of it where it is c, and else none.
 pub record TakenOver (base : ℕ) (cs : List Noted) (c u j l : ℕ) (v w : Pair) : Type 0 where
@@ -262,15 +261,15 @@ nothing-in a x e = grind nats
 pub taken-copies : (base : ℕ) (cs : List Noted) (c u j l : ℕ) (v w : Pair) → TakenOver base cs c u j l v w → LineCopies base cs j l v
     → LineCopies base cs j l w
 taken-copies base cs c u j l v w s h =
-    let owned : line_copies l u w ≡ num (c == j) = copies u ∙ h.above u (s.old) ∙ s.writer in
+    let owned : line_copies l u w ≡ num (c == j) = copies u ∙ h.above u s.old ∙ s.writer in
     record {
       owned = rw (s.tag, s.owner) owned;
-      above = λ t i. above t (rw (s.tag) at i);
-      masks = λ t i. let m : ℕ = wrote_mask base cs j t l in omega (arith, few-wrong l t m w, none t (rw (s.tag) at i));
+      above = λ t i. above t (rw s.tag at i);
+      masks = λ t i. let m : ℕ = wrote_mask base cs j t l in omega (arith, few-wrong l t m w, none t (rw s.tag at i));
     }
   where
     copies : (t : ℕ) → line_copies l t w ≡ line_copies l t v
-    copies t = omega (arith, of-line l t w, of-line l t v, same-frames l t v w (s.cache), s.copies t)
+    copies t = omega (arith, of-line l t w, of-line l t v, same-frames l t v w s.cache, s.copies t)
 
     none : (t : ℕ) → u < t → line_copies l t w ≡ 0
     none t i = copies t ∙ h.above t (omega (arith, i, s.old)) ∙ nothing-in (wrote_line base cs j t l) (live (Commits t) v.out)
@@ -300,7 +299,7 @@ pub still-similar : (base : ℕ) (cs : List Noted) (c l : ℕ) (b : Bool) (m : M
     → ((t : ℕ) → wrote_line base cs c t l ≡ true → num (b && passes (Commits t) m) ≡ 0) → Similar base cs c l v w
 still-similar base cs c l b m s v w a e f n q = record {
   cache = a.cache;
-  tag = rw (a.dir) e;
+  tag = rw a.dir e;
   owned = let y : num (is_this (w.dir.lines.owner l) c) ≡ num (is_this (v.dir.lines.owner l) c) = rw (a.dir, f) refl in
       omega (arith, y, still-live b m s v w (CopyOf l (v.dir.lines.tag l)) a (n (v.dir.lines.tag l) (omega arith)));
   copies = λ t i. still-live b m s v w (CopyOf l t) a (n t (omega (arith, i)));
@@ -315,8 +314,8 @@ pub dropped-similar : (base : ℕ) (cs : List Noted) (c l : ℕ) (b : Bool) (m :
     → Similar base cs c l v w
 dropped-similar base cs c l b m v w a n late other h = record {
   cache = a.cache;
-  tag = rw (a.dir) refl;
-  owned = let y : num (is_this (w.dir.lines.owner l) c) ≡ num (is_this (v.dir.lines.owner l) c) = rw (a.dir) refl in
+  tag = rw a.dir refl;
+  owned = let y : num (is_this (w.dir.lines.owner l) c) ≡ num (is_this (v.dir.lines.owner l) c) = rw a.dir refl in
       omega (arith, y, a.lives (CopyOf l (v.dir.lines.tag l)), here b (passes (CopyOf l (v.dir.lines.tag l)) m) refl refl);
   copies = λ t i. omega (arith, a.lives (CopyOf l t), above t i b (passes (CopyOf l t) m) refl refl);
   wrong = λ t k. omega (arith, a.lives (CopyMask l t k));
@@ -357,12 +356,12 @@ came-similar base cs c o l k b m s v w z a p own e f n = go (cases_eq k l)
         let y : (l == l) ≡ true = grind nats in
         let x : (g == g) ≡ true = grind nats in
         let r : passes (CopyOf l g) m ≡ true = p l g ∙ rw (q, y, x) refl in
-        let u : w.dir.lines.owner l ≡ None = ap (λ d. d.lines.owner l) (a.dir) ∙ f ∙ rw (q, y) refl in
+        let u : w.dir.lines.owner l ≡ None = ap (λ d. d.lines.owner l) a.dir ∙ f ∙ rw (q, y) refl in
         let i : v.dir.lines.owner l ≡ Some o = rw q at own in
         let j : num (is_this (v.dir.lines.owner l) c) ≡ num b = rw (i, sym z) (turn o c) in
         let d : num (b && passes (CopyOf l g) m) ≡ num b = rw r (all b) in record {
           cache = a.cache;
-          tag = rw (a.dir) e;
+          tag = rw a.dir e;
           owned = let t : num (is_this (w.dir.lines.owner l) c) ≡ 0 = rw u refl in omega (arith, t, j, d, a.lives (CopyOf l g));
           copies = λ t h. still-live b m s v w (CopyOf l t) a (p l t ∙ rw q (later t h));
           wrong = λ t h. omega (arith, a.lives (CopyMask l t h));

@@ -45,8 +45,7 @@ unfolding dir_takes
 takes-consumes w c d k m s sends i q j e = go (j == c) (e == d) refl refl
   where
     go : (a b : Bool) → (j == c) ≡ a → (e == d) ≡ b
-        → live q (if a && b then set (to_dir w j e) k None else to_dir w j e) + num ((a && b) && passes q m) ≡ live q
-        (to_dir w j e)
+        → live q (if a && b then set (to_dir w j e) k None else to_dir w j e) + num ((a && b) && passes q m) ≡ live q (to_dir w j e)
     go a b x y = grind (nats, live-takes)
 
 pub tag-step : (sh : Shape) (p : Program) (w : World) (e : Event) → IfSome (step sh p w e) (TagStep sh w)
@@ -87,7 +86,7 @@ tag-step sh p w e = step_cases sh p w e (λ g o. TagStep sh w o)
 
     takes : (c d k : ℕ) (m : Msg) (s : DirState) (sends : Sends) → FromCore w c d k m → Records sh (w.dirs d) c m s
         → TagStep sh w (record { world = dir_takes w c d k s sends; noted = None })
-    takes c d k m s sends i (Still y n q) = Heard refl (λ e l. same-tags d e l s (y.tags)) (same-commits c d k m s sends i n)
+    takes c d k m s sends i (Still y n q) = Heard refl (λ e l. same-tags d e l s y.tags) (same-commits c d k m s sends i n)
     takes c d k m s sends i (Came x q o g a n) = Heard refl (λ e l. same-tags d e l s g) (same-commits c d k m s sends i n)
     takes c d k m s sends i (Settles q g a n) = Taken c d k m refl i q (λ e l. new-tags d e l s g) (takes-consumes w c d k m s sends i)
 
@@ -95,8 +94,8 @@ tag-step sh p w e = step_cases sh p w e (λ g o. TagStep sh w o)
         → OfAnswer w c d k (λ v. TagStep sh w (record { world = v; noted = None })) a
     answered c d k m i Waits u = tt
     answered c d k m i Drops u = Heard refl (λ e l. same-tags d e l (w.dirs d) (λ x. refl))
-        (same-commits c d k m (w.dirs d) (λ dst. []) i (u.commit))
-    answered c d k m i (Asks s sends) u = Heard refl (λ e l. same-tags d e l s (u.tags)) (λ t j e. refl)
+        (same-commits c d k m (w.dirs d) (λ dst. []) i u.commit)
+    answered c d k m i (Asks s sends) u = Heard refl (λ e l. same-tags d e l s u.tags) (λ t j e. refl)
     answered c d k m i (Takes s sends) u = takes c d k m s sends i u
 
 -- the mask of a commit in a line at home has a word where the commit stored in the line
@@ -164,8 +163,7 @@ unheard-tags sh w v cs a b z e f h d l dl i q = rw e (h d l dl i q ∙ go a refl
 
 -- where the tags stay, and no Commit is consumed
 heard-tags : (sh : Shape) (w v : World) (cs : List Noted) → ((e l : ℕ) → (v.dirs e).lines.tag l ≡ (w.dirs e).lines.tag l)
-    → ((t j e : ℕ) → live (Commits t) (to_dir v j e) ≡ live (Commits t) (to_dir w j e)) → KeptTags sh w cs
-    → KeptTags sh v cs
+    → ((t j e : ℕ) → live (Commits t) (to_dir v j e) ≡ live (Commits t) (to_dir w j e)) → KeptTags sh w cs → KeptTags sh v cs
 unfolding settled_in_line is_settled
 heard-tags sh w v cs f g h d l dl i q = f d l ∙ h d l dl i q
     ∙ sym (last-same (settled_in_line sh v d l) (settled_in_line sh w d l) cs (λ x k. rw (g x.tid.0 x.core.0 d) refl))
@@ -187,12 +185,12 @@ taken-commit sh gs h c d k m r dl i q =
     record {
       settled = n;
       core = core;
-      only = λ x j o. same-commit h.commits x n.commit (r.owners.rising) j (n.noted) (sym o ∙ sym (n.tid));
+      only = λ x j o. same-commit h.commits x n.commit r.owners.rising j n.noted (sym o ∙ sym n.tid);
       sent = sent;
     }
   where
     u : ℕ
-    u = (tid_at h.world d)
+    u = tid_at h.world d
 
     cl : c < sh.cores
     cl = core_of_out sh h.world c d k m r.kept.told.tids i
@@ -206,8 +204,8 @@ taken-commit sh gs h c d k m r dl i q =
 
     core : n.commit.core.0 ≡ c
     core =
-        granted-once 1 gs u n.commit.core.0 c (r.owners.numbered)
-        (rw (n.tid) at (granted-at gs h.commits n.commit (r.owners.granted) (n.noted))) ((r.spared c d).owner u sent)
+        granted-once 1 gs u n.commit.core.0 c r.owners.numbered
+        (rw n.tid at (granted-at gs h.commits n.commit r.owners.granted n.noted)) ((r.spared c d).owner u sent)
 
 -- another commit is settled as before
 still-settled : (w v : World) (c d : ℕ) (m : Msg) (x : Noted) (e : ℕ) → Consumes w c d m v
@@ -228,9 +226,9 @@ settled-now sh cs w v c d m a dl q b t st =
     let x = t.settled.commit in
     let e : x.tid.0 ≡ tid_at w d = t.settled.tid in
     let one : num ((x.core.0 == c && d == d) && passes (Commits x.tid.0) m) ≡ 1 = rw (q, t.core, e) (grind nats) in
-    let before : 1 ≤ live (Commits x.tid.0) (to_dir w x.core.0 d) = rw (t.core, e) (t.sent) in
+    let before : 1 ≤ live (Commits x.tid.0) (to_dir w x.core.0 d) = rw (t.core, e) t.sent in
     let z : live (Commits x.tid.0) (to_dir v x.core.0 d) ≡ 0 =
-    omega (arith, one, before, b (Commits x.tid.0) x.core.0 d, a x d (t.settled.noted) dl st) in
+    omega (arith, one, before, b (Commits x.tid.0) x.core.0 d, a x d t.settled.noted dl st) in
     rw z refl
 
 -- where a Commit is taken, each line of its commit has its TID, which is the greatest that is settled
@@ -242,7 +240,7 @@ unfolding settled_in_line passes
 taken-here sh cs w v c d l m a dl i e q b t g h = go (has_mark (w.dirs d).lines l) refl g
   where
     u : ℕ
-    u = (tid_at w d)
+    u = tid_at w d
 
     n : Noted
     n = t.settled.commit
@@ -272,7 +270,7 @@ taken-here sh cs w v c d l m a dl i e q b t g h = go (has_mark (w.dirs d).lines 
         let s : names_line sh.base n.stores l ≡ true = line ∙ f in
         let y : settled_in_line sh v d l n ≡ true = rw (settled-now sh cs w v c d m a dl q b t (stored-home sh d l n i e s), s) refl in
         let z : n.tid.0 ≡ u = t.settled.tid in
-        omega (arith, g, z, last-least (settled_in_line sh v d l) cs n (t.settled.noted) y, last-most (settled_in_line sh v d l) cs u most)
+        omega (arith, g, z, last-least (settled_in_line sh v d l) cs n t.settled.noted y, last-most (settled_in_line sh v d l) cs u most)
     go false f g = g ∙ h ∙ sym (last-same (settled_in_line sh v d l) (settled_in_line sh w d l) cs one)
       where
         one : (x : Noted) → Contains cs x → settled_in_line sh v d l x ≡ settled_in_line sh w d l x
@@ -285,9 +283,8 @@ taken-here sh cs w v c d l m a dl i e q b t g h = go (has_mark (w.dirs d).lines 
 
 taken-tags : (sh : Shape) (cs : List Noted) (w v : World) (c d : ℕ) (m : Msg) → CommitsStand sh w cs
     → (d < sh.dirs → TakenCommit sh cs w c d) → CountsMarked sh (w.dirs d) m
-    → ((e l : ℕ)
-    → (v.dirs e).lines.tag l ≡ (if e == d && has_mark (w.dirs d).lines l then tid_at w d
-    else (w.dirs e).lines.tag l)) → Consumes w c d m v → KeptTags sh w cs → KeptTags sh v cs
+    → ((e l : ℕ) → (v.dirs e).lines.tag l ≡ (if e == d && has_mark (w.dirs d).lines l then tid_at w d else (w.dirs e).lines.tag l))
+    → Consumes w c d m v → KeptTags sh w cs → KeptTags sh v cs
 unfolding settled_in_line
 taken-tags sh cs w v c d m a t q g b h e l el i k = go (cases_eq e d)
   where
@@ -307,7 +304,7 @@ tags-out sh gs ys h o k z f t (Unheard e) = unheard-tags sh h.world o.world h.co
 tags-out sh gs ys h o k z f t (Heard n g y) = rw n (heard-tags sh h.world o.world h.commits g y t)
 tags-out sh gs ys h o k z f t (Taken c d i m n j q g b) =
     rw n (taken-tags sh h.commits h.world o.world c d m (on-its-way sh gs ys h k)
-    (λ dl. taken-commit sh gs h c d i m (k.all) dl j q) q g b t)
+    (λ dl. taken-commit sh gs h c d i m k.all dl j q) q g b t)
 
 pub start-tags : (sh : Shape) (entries : ℕ → Local) (ram : ℕ → ℕ) → KeptTags sh (start entries ram) []
 unfolding start dir_start no_lines last_of
@@ -347,15 +344,13 @@ tag-served sh w cs d l a k dl ll e =
 
 -- while a Commit of the served TID is in flight the tag is below it
 pub tag-below : (sh : Shape) (h : History) (c d l : ℕ) → CommitsStand sh h.world h.commits → KeptTags sh h.world h.commits → d < sh.dirs
-    → l < lines sh → home sh l ≡ d → 1 ≤ tid_at h.world d
-    → ((x : Noted) → Contains h.commits x → x.tid.0 ≡ tid_at h.world d → x.core.0 ≡ c)
-    → 1 ≤ live (Commits (tid_at h.world d)) (to_dir h.world c d)
-    → (h.world.dirs d).lines.tag l < tid_at h.world d
+    → l < lines sh → home sh l ≡ d → 1 ≤ tid_at h.world d → ((x : Noted) → Contains h.commits x → x.tid.0 ≡ tid_at h.world d → x.core.0 ≡ c)
+    → 1 ≤ live (Commits (tid_at h.world d)) (to_dir h.world c d) → (h.world.dirs d).lines.tag l < tid_at h.world d
 unfolding settled_in_line
 tag-below sh h c d l a k dl ll e p own s = go (tid_at h.world d) refl
   where
     u : ℕ
-    u = (tid_at h.world d)
+    u = tid_at h.world d
 
     one : (v : ℕ) → u ≡ v + 1 → (x : Noted) → Contains h.commits x → (b s : Bool) → is_settled h.world d x ≡ b
         → names_line sh.base x.stores l ≡ s → (b && s) ≡ true → x.tid.0 ≤ v
@@ -420,15 +415,15 @@ inv-tag-of sh h c d k l m u owes named stored a g cl dl ll e i =
     line = stored-in sh d l n.commit ll e ∙ ap (nat_lt 0) (sym (n.marks l)) ∙ marked (has_mark s.lines l) refl
 
     applied : is_applied s n.commit.tid.0 ≡ true
-    applied = applied-owed s n.commit.tid.0 (n.tid) owed
+    applied = applied-owed s n.commit.tid.0 n.tid owed
 
     settled : settled_in_line sh w d l n.commit ≡ true
     settled = let y : num (is_applied s n.commit.tid.0) ≡ 1 = ap num applied in
         let z : live (Commits n.commit.tid.0) (to_dir w n.commit.core.0 d) ≡ 0 =
-        omega (arith, y, a n.commit d (n.noted) dl (stored-home sh d l n.commit ll e line)) in rw (z, line) refl
+        omega (arith, y, a n.commit d n.noted dl (stored-home sh d l n.commit ll e line)) in rw (z, line) refl
 
     least : s.serving.serving ≤ s.lines.tag l
-    least = omega (arith, n.tid, last-least (settled_in_line sh w d l) h.commits n.commit (n.noted) settled, g d l dl ll e)
+    least = omega (arith, n.tid, last-least (settled_in_line sh w d l) h.commits n.commit n.noted settled, g d l dl ll e)
 
 pub inv-tag : (sh : Shape) (gs : List Grant) (h : History) (c d k l m u : ℕ) → KeptAll sh gs h → CommitsStand sh h.world h.commits
     → KeptTags sh h.world h.commits → c < sh.cores → d < sh.dirs → l < lines sh → home sh l ≡ d

@@ -185,8 +185,8 @@ on-its-way sh gs ys h k n d i dl s = omega (arith, place, one, applied-or (h.wor
         go : (0 < live (Commits t) (to_dir h.world j d)) ⊎ (live (Commits t) (to_dir h.world j d) ≤ 0)
             → live (Commits t) (to_dir h.world j d) ≡ 0
         go (inl l) =
-            absurd (e (granted-once 1 gs t j n.core.0 (k.all.owners.numbered) ((k.all.spared j d).owner t (omega (arith, l)))
-            (granted-at gs h.commits n (k.all.owners.granted) i)))
+            absurd (e (granted-once 1 gs t j n.core.0 k.all.owners.numbered ((k.all.spared j d).owner t (omega (arith, l)))
+            (granted-at gs h.commits n k.all.owners.granted i)))
         go (inr l) = omega (arith, l)
 
     one : sum_below (share (part_in Committed sh d t) h.world d) sh.cores ≡ live (Commits t) (to_dir h.world n.core.0 d)
@@ -220,8 +220,8 @@ commit-sent sh gs ys h c d s n k cl a dl e =
     go (inl q) =
         absurd (omega (
           arith,
-          uncommitted sh gs ys h c n.tid.0 k cl (a.has),
-          k.committed.only d n.tid.0 dl (k.live c d n.tid.0 cl dl (a.has) ∙ q),
+          uncommitted sh gs ys h c n.tid.0 k cl a.has,
+          k.committed.only d n.tid.0 dl (k.live c d n.tid.0 cl dl a.has ∙ q),
         ))
     go (inr q) = q
 
@@ -236,7 +236,7 @@ new-commit sh gs ys h x o k (Moved c s cl u f i q) n d z dl st = go (is_applied 
     t = n.tid.0
 
     tells : TellsCommit sh (h.world.cores c) s n
-    tells = of s.commit (sym q ∙ z) (u.tells.commits)
+    tells = of s.commit (sym q ∙ z) u.tells.commits
       where
         of : (a : Option Noted) → a ≡ Some n → IfSome a (TellsCommit sh (h.world.cores c) s) → TellsCommit sh (h.world.cores c) s n
         of a e y = rw e at y

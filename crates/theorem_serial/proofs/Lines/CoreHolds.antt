@@ -28,7 +28,7 @@ Fewer c e l = (k : ℕ) → k < 8 → is_kept e (word_at l k) ≡ true → is_ke
 pub fewer-kept : (c e : Cache) (l : ℕ) → Fewer c e l → keeps_unmodified e l ≡ true → keeps_unmodified c l ≡ true
 unfolding keeps_unmodified any_word
 fewer-kept c e l h q = let x = any_below-found (λ k. is_kept e (word_at l k)) 8 q in
-    any_below-at (λ k. is_kept c (word_at l k)) 8 x.0 (x.1) (h x.0 (x.1) (x.2))
+    any_below-at (λ k. is_kept c (word_at l k)) 8 x.0 x.1 (h x.0 x.1 x.2)
 
 pub fewer-marked : (w l : ℕ) (c : Cache) → Fewer c (marked w c) l
 unfolding marked
@@ -97,7 +97,7 @@ KeptOrModified c e l = (k : ℕ) → k < 8 → is_kept e (word_at l k) ≡ true
 either-kept : (c e : Cache) (l : ℕ) → KeptOrModified c e l → keeps_unmodified e l ≡ true
     → (keeps_unmodified c l ≡ true) ⊎ (is_modified c l ≡ true)
 unfolding keeps_unmodified is_modified any_word
-either-kept c e l h q = let x = any_below-found (λ k. is_kept e (word_at l k)) 8 q in go x.0 (x.1) (h x.0 (x.1) (x.2))
+either-kept c e l h q = let x = any_below-found (λ k. is_kept e (word_at l k)) 8 q in go x.0 x.1 (h x.0 x.1 x.2)
   where
     go : (k : ℕ) → k < 8 → (is_kept c (word_at l k) ≡ true) ⊎ (c.modified (word_at l k) ≡ true)
         → (any_below (λ k. is_kept c (word_at l k)) 8 ≡ true) ⊎ (any_below (λ k. c.modified (word_at l k)) 8 ≡ true)
@@ -172,7 +172,7 @@ ready-kept sh l id u s e h q = go (kept-committed u l s.cache q)
         inr (record {
           commit = noted u id s;
           noted = refl;
-          line = sym (modified-line sh.base s.cache s.stores l (unspilled sh s.cache s.spilled s.stores (rw e at (h.words)))) ∙ y;
+          line = sym (modified-line sh.base s.cache s.stores l (unspilled sh s.cache s.spilled s.stores (rw e at h.words))) ∙ y;
         })
 
 alone-kept : (sh : Shape) (b : Bool) (l id u : ℕ) (s : CoreState) → Words sh b s.cache s.spilled s.stores
@@ -190,7 +190,7 @@ alone-kept sh b l id u s h q = go (kept-alone u l s.spilled s.cache q)
         inr (record {
           commit = noted u id s;
           noted = refl;
-          line = sym (written-line sh.base s.cache s.spilled s.stores l (h.named))
+          line = sym (written-line sh.base s.cache s.spilled s.stores l h.named)
               ∙ first (is_modified s.cache l) (holds s.spilled l) y;
         })
 
@@ -211,20 +211,20 @@ holds-exec sh l p id s h v = each-exec sh p id s (Holds sh l s) go
     fewer o i f = record { kept = by-fewer sh l s o f; fresh = λ q. inr i }
 
     go : (x : Did sh p id s) → Holds sh l s (out x)
-    go (Reads a x z b g r f) = fewer _ (g.idle) (fewer-marked (w a) l s.cache)
+    go (Reads a x z b g r f) = fewer _ g.idle (fewer-marked (w a) l s.cache)
     go (Frames a y also n k g i f) =
-        fewer _ (g.idle) (λ j b q. fewer-stored (w a) y l also s.cache (f.read) (acts-valid s.phase refl (g.acts) (w a)) j b q)
+        fewer _ g.idle (λ j b q. fewer-stored (w a) y l also s.cache f.read (acts-valid s.phase refl g.acts (w a)) j b q)
     go (Frames_anew a y n k g i q f o) =
-        fewer _ (g.idle) (λ j b z. placed-fewer sh (line_of (w a)) l s.cache j b
+        fewer _ g.idle (λ j b z. placed-fewer sh (line_of (w a)) l s.cache j b
         (fewer-stored (w a) y l false (placed sh (line_of (w a)) s.cache) (λ q. absurd (cc))
-        (placed-reads sh (line_of (w a)) s.cache (acts-valid s.phase refl (g.acts)) (w a)) j b z))
-    go (Misses_anew a n g i q f) = fewer _ (g.idle) (placed-fewer sh (line_of (w a)) l s.cache)
-    go (Ends_alone t b e f r i) = record { kept = alone-kept sh (is_solo s.phase) l id t (after_end s b e) (h.words); fresh = λ q. inr i }
+        (placed-reads sh (line_of (w a)) s.cache (acts-valid s.phase refl g.acts) (w a)) j b z))
+    go (Misses_anew a n g i q f) = fewer _ g.idle (placed-fewer sh (line_of (w a)) l s.cache)
+    go (Ends_alone t b e f r i) = record { kept = alone-kept sh (is_solo s.phase) l id t (after_end s b e) h.words; fresh = λ q. inr i }
     go (Commits_now t e) = record { kept = ready-kept sh l id t s e h; fresh = inl }
-    go (Idles n b bytes g) = fewer _ (g.idle) (λ j b q. q)
-    go (Finds a x z b g f) = fewer _ (g.idle) (λ j b q. q)
-    go (Buffers a y u n k g i q f) = fewer _ (g.idle) (λ j b q. q)
-    go (Misses a n g i q) = fewer _ (g.idle) (λ j b q. q)
+    go (Idles n b bytes g) = fewer _ g.idle (λ j b q. q)
+    go (Finds a x z b g f) = fewer _ g.idle (λ j b q. q)
+    go (Buffers a y u n k g i q f) = fewer _ g.idle (λ j b q. q)
+    go (Misses a n g i q) = fewer _ g.idle (λ j b q. q)
     go (Room_wanted r i) = fewer _ i (λ j b q. q)
     go (Ends_run b e f r i) = fewer _ i (λ j b q. q)
 
@@ -281,8 +281,8 @@ keeps-none c l e = go (keeps_unmodified c l) refl
     go false q = refl
     go true q =
         absurd (let x = any_below-found (λ k. is_kept c (word_at l k)) 8 q in
-        let y = any_below-at (λ k. is_some (c.value (word_at l k))) 8 x.0 (x.1)
-        (valid (is_some (c.value (word_at l x.0))) (not (c.modified (word_at l x.0)) || c.read (word_at l x.0)) (x.2)) in cc)
+        let y = any_below-at (λ k. is_some (c.value (word_at l k))) 8 x.0 x.1
+        (valid (is_some (c.value (word_at l x.0))) (not (c.modified (word_at l x.0)) || c.read (word_at l x.0)) x.2) in cc)
 
 staled-fresh : (k : ℕ) (a : Option Awaited) → is_fresh (staled k a) ≡ true → is_fresh a ≡ true
 staled-fresh k a q = grind nats

@@ -9,7 +9,7 @@ use Names.{home, lines, CoreState, World, start, dir_start, Out, core_exec, core
 use Names.{core_moves, core_takes, dir_takes, dir_asks, vendor_gives, and_noted, step, GetsOf, KeptGets, live, Pair, pair, after_move}
 use Names.{back_taken, out_taken, after_answer, is_this, to_dir, to_core, FromCore, FromDir}
 use proofs.Counts.DirOutcome.{Outcome, Waiting, Spent, AsksOwner, TakesCommit, TakesCopy, outcome, among-to}
-use proofs.Copies.DirtyFrames.{frame_copy, clean-frame}
+use proofs.Copies.CopySends.{frame_copy, clean-frame}
 use proofs.Copies.LinesKept.{KeptLines}
 use proofs.Copies.PairCopies.{LineCopies, of-line}
 use proofs.Counts.Links.{live-sends, live-takes}
@@ -99,10 +99,10 @@ gets-taken : (c l : ℕ) (mine : Bool) (m : Msg) (v w : Pair) → (w.dir.lines.a
     → live (DataOf l) v.back ≤ live (DataOf l) w.back → GetsOf c l v → GetsOf c l w
 gets-taken c l mine m v w s f g h a e =
     let x = s a in
-    let z : num (mine && passes (CopyOf l (v.dir.lines.tag l)) m) ≡ 0 = rw (x.other) (none mine) in
+    let z : num (mine && passes (CopyOf l (v.dir.lines.tag l)) m) ≡ 0 = rw x.other (none mine) in
     let y : 1 ≤ live (DataOf l) w.back + live (CopyOf l (v.dir.lines.tag l)) w.out =
-    omega (arith, h (x.asked) (sym (x.owner) ∙ e), f (v.dir.lines.tag l), z, g) in
-    rw (x.tag) y
+    omega (arith, h x.asked (sym x.owner ∙ e), f (v.dir.lines.tag l), z, g) in
+    rw x.tag y
   where
     none : (b : Bool) → num (b && false) ≡ 0
     none a = grind nats
@@ -197,8 +197,7 @@ step-gets sh p w cs e h = step_cases sh p w e (λ g o. KeptLines sh (and_noted o
             was = sym (u.owners l) ∙ e
 
             go : ((w.dirs d).lines.asked l ≡ true) ⊎ ((j : ℕ) → (w.dirs d).lines.owner l ≡ Some j → 1 ≤ among (DataOf l) (sends (Core j)))
-                → 1 ≤ live (DataOf l) (after_answer (pair w j d) s (sends (Core j))).back + live (CopyOf l (s.lines.tag l))
-                (to_dir w j d)
+                → 1 ≤ live (DataOf l) (after_answer (pair w j d) s (sends (Core j))).back + live (CopyOf l (s.lines.tag l)) (to_dir w j d)
             go a = grind (nats, live-sends)
     answered c d k m i (Takes s sends) u f = λ n. from (dir_takes w c d k s sends) (pairs_dir (GetsAt sh) w c d k s sends
         (λ l cl dl ll q. gets-taken c l true m (pair w c d) (after_answer (out_taken (pair w c d) k) s (sends (Core c))) (f l)

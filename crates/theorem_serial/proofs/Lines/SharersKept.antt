@@ -60,7 +60,7 @@ sharer-moved base cs ds c l v w e f g u h = record { shares = λ q. shares (f q)
     shares : (holds_line l v ≡ true) ⊎ (CommitsLine base ds c l w × (live (GoneOf l) v.out ≡ 0))
         → (w.dir.lines.sharers l c ≡ true) ⊎ CommitsLine base ds c l w
     shares (inl x) = elim (h.shares x) [ inl x ↦ inl (rw e x) | inr x ↦ inr (g x) ]
-    shares (inr x) = inr (x.0)
+    shares (inr x) = inr x.0
 
     stays : holds_line l w ≡ true → (holds_line l v ≡ true) ⊎ (CommitsLine base ds c l w × (live (GoneOf l) v.out ≡ 0))
         → live (GoneOf l) w.out ≡ 0
@@ -80,13 +80,13 @@ sharer-answered base cs c l v w s h = record { shares = λ q. shares (held q); s
   where
     -- it held the line before, or it is filled now
     held : holds_line l w ≡ true → (holds_line l v ≡ true) ⊎ ((w.dir.lines.sharers l c ≡ true) × (live (GoneOf l) v.out ≡ 0))
-    held q = go (holds-cases l w q) (s.filled)
+    held q = go (holds-cases l w q) s.filled
       where
         go : (keeps_unmodified w.core.cache l ≡ true) ⊎ ((is_fresh w.core.awaited ≡ true) × (1 ≤ live (FillOf l) w.back))
             → (live (FillOf l) w.back ≤ live (FillOf l) v.back) ⊎ ((w.dir.lines.sharers l c ≡ true) × (live (GoneOf l) v.out ≡ 0))
             → (holds_line l v ≡ true) ⊎ ((w.dir.lines.sharers l c ≡ true) × (live (GoneOf l) v.out ≡ 0))
-        go (inl x) y = inl (holds-kept l v (ap (λ r. keeps_unmodified r.cache l) (sym (s.core)) ∙ x))
-        go (inr x) (inl y) = inl (holds-fill l v (ap (λ r. is_fresh r.awaited) (sym (s.core)) ∙ x.0) (omega (arith, x.1, y)))
+        go (inl x) y = inl (holds-kept l v (ap (λ r. keeps_unmodified r.cache l) (sym s.core) ∙ x))
+        go (inr x) (inl y) = inl (holds-fill l v (ap (λ r. is_fresh r.awaited) (sym s.core) ∙ x.0) (omega (arith, x.1, y)))
         go (inr x) (inr y) = inr y
 
     carried : holds_line l v ≡ true → (v.dir.lines.sharers l c ≡ true) ⊎ CommitsLine base cs c l v
@@ -97,7 +97,7 @@ sharer-answered base cs c l v w s h = record { shares = λ q. shares (held q); s
     shares : (holds_line l v ≡ true) ⊎ ((w.dir.lines.sharers l c ≡ true) × (live (GoneOf l) v.out ≡ 0))
         → (w.dir.lines.sharers l c ≡ true) ⊎ CommitsLine base cs c l w
     shares (inl x) = carried x (h.shares x)
-    shares (inr x) = inl (x.0)
+    shares (inr x) = inl x.0
 
     stays : (holds_line l v ≡ true) ⊎ ((w.dir.lines.sharers l c ≡ true) × (live (GoneOf l) v.out ≡ 0)) → live (GoneOf l) w.out ≡ 0
     stays a = grind nats
@@ -151,7 +151,7 @@ takes-commits sh gs ys h c d k j l mine m s sends w b i z dl ll e a r f x = go r
             (subst (λ p. wrote_line sh.base h.commits p x.tid l ≡ true) y x.line) in
             let o' : has_mark (h.world.dirs d).lines l ≡ true =
             sym (writer-line sh h c d l ll e (taken-commit sh gs h c d k m b.told.all dl i q)) ∙ n' in
-            inl (ap (λ u. u.lines.sharers l j) (a.dir) ∙ ap (λ u. s.lines.sharers l u) y ∙ f.taken l q o')
+            inl (ap (λ u. u.lines.sharers l j) a.dir ∙ ap (λ u. s.lines.sharers l u) y ∙ f.taken l q o')
 
 pub answer-sharers : (sh : Shape) (gs : List Grant) (ys : Ways) (h : History) (c d k j l : ℕ) (mine : Bool) (m : Msg) (s : DirState)
     (sends : Sends) (w : Pair) → Before sh gs ys h → FromCore h.world c d k m → (j == c) ≡ mine → j < sh.cores
@@ -170,7 +170,7 @@ answer-sharers sh gs ys h c d k j l mine m s sends w b i z jl dl ll e a r f =
   where
     kept : (s.lines.sharers l j ≡ true) ⊎ ((j ≡ c) × (passes (GoneOf l) m ≡ true))
         → (w.dir.lines.sharers l j ≡ true) ⊎ (1 ≤ live (GoneOf l) (to_dir h.world j d))
-    kept (inl q) = inl (ap (λ u. u.lines.sharers l j) (a.dir) ∙ q)
+    kept (inl q) = inl (ap (λ u. u.lines.sharers l j) a.dir ∙ q)
     kept (inr q) = let y : mine ≡ true = sym z ∙ (let p = q.0 in grind nats) in
         let n : num (mine && passes (GoneOf l) m) ≡ 1 = rw (y, q.1) refl in inr (omega (arith, n, a.lives (GoneOf l)))
 
@@ -178,9 +178,9 @@ answer-sharers sh gs ys h c d k j l mine m s sends w b i z jl dl ll e a r f =
         → (live (FillOf l) w.back ≤ live (FillOf l) (to_core h.world d j))
         ⊎ ((w.dir.lines.sharers l j ≡ true) × (live (GoneOf l) (to_dir h.world j d) ≡ 0))
     filled (inr q) = inl (omega (arith, q, a.back (FillOf l)))
-    filled (inl q) = let x = f.filled l j (omega (arith, q)) in let n : num (has_mark (h.world.dirs d).lines l) ≡ 0 = ap num (x.1) in
+    filled (inl q) = let x = f.filled l j (omega (arith, q)) in let n : num (has_mark (h.world.dirs d).lines l) ≡ 0 = ap num x.1 in
         inr (
-          ap (λ u. u.lines.sharers l j) (a.dir) ∙ x.0,
+          ap (λ u. u.lines.sharers l j) a.dir ∙ x.0,
           omega (arith, n, (b.told.all.named j d l jl dl).one, gone-acks l (to_dir h.world j d)),
         )
 
@@ -235,18 +235,18 @@ own-sharers sh gs ys h c d l o b ld cl dl ll e s k = sharer-moved sh.base h.comm
     w = after_move v o d
 
     new : (n : Noted) → o.commit ≡ Some n → n.core.0 ≡ c → NewCommit sh.base h.commits c d l v o n
-    new n q r = new-of sh gs ys h c d l o n b cl dl ll e q r (s.speaks)
+    new n q r = new-of sh gs ys h c d l o n b cl dl ll e q r s.speaks
 
     stored : (n : Noted) → o.commit ≡ Some n → names_line sh.base n.stores l ≡ true → AfterStep sh c (h.world.cores c) o
         → CommitsLine sh.base (and_noted o.commit h.commits) c l w × (live (GoneOf l) v.out ≡ 0)
-    stored n q i (inl x) = absurd (let y = sym (x.commit) ∙ q in cc)
+    stored n q i (inl x) = absurd (let y = sym x.commit ∙ q in cc)
     stored n q i (inr x) =
         let y : NewCommit sh.base h.commits c d l v o n = new n q core in (
           subst (λ a. CommitsLine sh.base (and_noted a h.commits) c l w) (sym q)
               (record {
                 tid = n.tid.0;
                 sent = omega (arith, y.sent i, live-sends (Commits n.tid.0) v.out (o.sends (Dir d)));
-                line = (wrote-new sh.base n h.commits c n.tid.0 l core refl (y.fresh)).line ∙ i;
+                line = (wrote-new sh.base n h.commits c n.tid.0 l core refl y.fresh).line ∙ i;
               }),
           unowed sh gs ys h c d l b cl (served-owed (h.world.dirs d) n.tid.0 below (s.unapplied n q (stored-home sh d l n ll e i))),
         )
@@ -256,36 +256,35 @@ own-sharers sh gs ys h c d l o b ld cl dl ll e s k = sharer-moved sh.base h.comm
 
         core : n.core.0 ≡ c
         core =
-            let same : Some x.noted ≡ Some n → n.core.0 ≡ c = λ z. let p : x.noted ≡ n = cc in rw p at (x.core) in
-            same (sym (x.commit) ∙ q)
+            let same : Some x.noted ≡ Some n → n.core.0 ≡ c = λ z. let p : x.noted ≡ n = cc in rw p at x.core in
+            same (sym x.commit ∙ q)
 
         below : n.tid.0 ≤ (tid_at h.world d)
         below = go (cases_lt (tid_at h.world d) n.tid.0)
           where
-            go : (tid_at h.world d < n.tid.0) ⊎ (n.tid.0 ≤ tid_at h.world d)
-                → n.tid.0 ≤ (tid_at h.world d)
+            go : (tid_at h.world d < n.tid.0) ⊎ (n.tid.0 ≤ tid_at h.world d) → n.tid.0 ≤ (tid_at h.world d)
             go (inr z) = z
             go (inl z) =
                 absurd (omega (
                   arith,
                   s.reached,
                   above-sent (tid_at h.world d) n.tid.0 (o.sends (Dir d)) z,
-                  commit-sent sh gs ys h c d o n b.told cl (tells o.commit q (s.speaks.tells.commits)) dl
+                  commit-sent sh gs ys h c d o n b.told cl (tells o.commit q s.speaks.tells.commits) dl
                       (stored-home sh d l n ll e i),
                 ))
 
     held : (keeps_unmodified w.core.cache l ≡ true) ⊎ ((is_fresh w.core.awaited ≡ true) × (1 ≤ live (FillOf l) w.back))
         → (holds_line l v ≡ true) ⊎ (CommitsLine sh.base (and_noted o.commit h.commits) c l w × (live (GoneOf l) v.out ≡ 0))
-    held (inl q) = elim (s.holds.kept q) [ inl x ↦ inl (holds-kept l v x) | inr x ↦ inr (stored x.commit (x.noted) (x.line) (s.after)) ]
-    held (inr q) = fresh (s.holds.fresh (q.0))
+    held (inl q) = elim (s.holds.kept q) [ inl x ↦ inl (holds-kept l v x) | inr x ↦ inr (stored x.commit x.noted x.line s.after) ]
+    held (inr q) = fresh (s.holds.fresh q.0)
       where
         fresh : (is_fresh v.core.awaited ≡ true) ⊎ (v.core.awaited ≡ None)
             → (holds_line l v ≡ true) ⊎ (CommitsLine sh.base (and_noted o.commit h.commits) c l w × (live (GoneOf l) v.out ≡ 0))
-        fresh (inl x) = inl (holds-fill l v x (q.1))
+        fresh (inl x) = inl (holds-fill l v x q.1)
         fresh (inr x) = absurd (let y : live (LoadOf l) v.out + live (FillOf l) v.back ≡ 0 = rw x at (ld c d l) in omega (arith, y, q.1))
 
     more : CommitsLine sh.base h.commits c l v → CommitsLine sh.base (and_noted o.commit h.commits) c l w
-    more x = go (s.after)
+    more x = go s.after
       where
         sent : 1 ≤ live (Commits x.tid) w.out
         sent = omega (arith, x.sent, live-sends (Commits x.tid) v.out (o.sends (Dir d)))
@@ -295,7 +294,7 @@ own-sharers sh gs ys h c d l o b ld cl dl ll e s k = sharer-moved sh.base h.comm
         line n q r false z = (wrote-other sh.base n h.commits c x.tid l z).line ∙ x.line
         line n q r true z =
             absurd (let t : n.tid.0 ≡ x.tid = tids (n.core.0 == c) (n.tid.0 == x.tid) refl z in
-            let y = wrote-unknown sh.base h.commits c x.tid l (rw t at ((new n q r).fresh)) in let u = x.line in cc)
+            let y = wrote-unknown sh.base h.commits c x.tid l (rw t at (new n q r).fresh) in let u = x.line in cc)
           where
             tids : (a b : Bool) → (n.tid.0 == x.tid) ≡ b → (a && b) ≡ true → n.tid.0 ≡ x.tid
             tids true true p f = grind nats
@@ -303,10 +302,10 @@ own-sharers sh gs ys h c d l o b ld cl dl ll e s k = sharer-moved sh.base h.comm
             tids false b p f = absurd (cc)
 
         go : AfterStep sh c (h.world.cores c) o → CommitsLine sh.base (and_noted o.commit h.commits) c l w
-        go (inl y) = subst (λ a. CommitsLine sh.base (and_noted a h.commits) c l w) (sym (y.commit))
+        go (inl y) = subst (λ a. CommitsLine sh.base (and_noted a h.commits) c l w) (sym y.commit)
             (record { tid = x.tid; sent = sent; line = x.line })
-        go (inr y) = subst (λ a. CommitsLine sh.base (and_noted a h.commits) c l w) (sym (y.commit))
-            (record { tid = x.tid; sent = sent; line = line y.noted (y.commit) (y.core) (is_of c x.tid y.noted) refl })
+        go (inr y) = subst (λ a. CommitsLine sh.base (and_noted a h.commits) c l w) (sym y.commit)
+            (record { tid = x.tid; sent = sent; line = line y.noted y.commit y.core (is_of c x.tid y.noted) refl })
 
 -- the words that a core which executes has marked read are valid
 pub reads-valid : (sh : Shape) (w : World) (c : ℕ) → OneCore sh (w.cores c) → KeptReads sh w → 1 ≤ sh.dirs → acting (w.cores c).phase ≡ true
@@ -317,8 +316,7 @@ reads-valid sh w c h k n q x r = go (w.cores c).phase refl
     s : CoreState
     s = w.cores c
 
-    valid : s.phase ≡ Running → ValidOrPassed (s.cache.value x) s.phase (tid_at w (home_of sh x))
-        → is_some (s.cache.value x) ≡ true
+    valid : s.phase ≡ Running → ValidOrPassed (s.cache.value x) s.phase (tid_at w (home_of sh x)) → is_some (s.cache.value x) ≡ true
     valid e a = grind nats
 
     go : (p : Phase) → s.phase ≡ p → is_some (s.cache.value x) ≡ true
@@ -328,9 +326,8 @@ abbrev pub SharersAt : Shape → List Noted → (core dir : ℕ) → Pair → Ty
 SharersAt sh cs c d v = (l : ℕ) → c < sh.cores → d < sh.dirs → l < lines sh → home sh l ≡ d → SharerOf sh.base cs c l v
 
 pub dir-sharers : (sh : Shape) (gs : List Grant) (ys : Ways) (h : History) (c d k : ℕ) (m : Msg) (s : DirState) (sends : Sends)
-    → Before sh gs ys h → KeptSharers sh h.world h.commits → FromCore h.world c d k m
-    → Records sh (h.world.dirs d) c m s → Shares sh (h.world.dirs d) c m s sends → (j e : ℕ)
-    → SharersAt sh h.commits j e (pair (dir_takes h.world c d k s sends) j e)
+    → Before sh gs ys h → KeptSharers sh h.world h.commits → FromCore h.world c d k m → Records sh (h.world.dirs d) c m s
+    → Shares sh (h.world.dirs d) c m s sends → (j e : ℕ) → SharersAt sh h.commits j e (pair (dir_takes h.world c d k s sends) j e)
 unfolding pair
 dir-sharers sh gs ys h c d k m s sends b t i r f = pairs_dir (SharersAt sh h.commits) h.world c d k s sends
     (λ l cl dl ll e. answer-sharers sh gs ys h c d k c l true m s sends (after_answer (out_taken (pair h.world c d) k) s (sends (Core c))) b
@@ -398,8 +395,7 @@ fill-home sh w c e k l m h i q = go (home sh l == e) refl
 
 -- v is the core's pair, with the message or without
 pub back-sharers : (sh : Shape) (w : World) (cs : List Noted) (c e d k l : ℕ) (m : Msg) (v : Pair) (o : Out) → KeptHomes sh w
-    → home sh l ≡ d → FromDir w e c k m
-    → v.core ≡ (pair w c d).core → v.dir ≡ (pair w c d).dir → v.out ≡ (pair w c d).out
+    → home sh l ≡ d → FromDir w e c k m → v.core ≡ (pair w c d).core → v.dir ≡ (pair w c d).dir → v.out ≡ (pair w c d).out
     → live (FillOf l) v.back ≤ live (FillOf l) (pair w c d).back → HoldsTaken sh l (w.cores c) m o
     → (passes (InvOf l) m ≡ false → among (GoneOf l) (o.sends (Dir d)) ≡ 0) → LoadingOf sh d l (after_move v o d)
     → SharerOf sh.base cs c l (pair w c d) → SharerOf sh.base cs c l (after_move v o d)
@@ -415,18 +411,18 @@ back-sharers sh w cs c e d k l m v o h q i vc vd vo vb f g ld t =
 
     held : (keeps_unmodified o.core.cache l ≡ true) ⊎ ((is_fresh o.core.awaited ≡ true) × (1 ≤ live (FillOf l) v.back))
         → holds_line l u ≡ true
-    held (inr r) = holds-fill l u (f.holds.fresh (r.0)) (omega (arith, r.1, vb))
+    held (inr r) = holds-fill l u (f.holds.fresh r.0) (omega (arith, r.1, vb))
     held (inl r) = kept (f.holds.kept r)
       where
         kept : (keeps_unmodified (w.cores c).cache l ≡ true) ⊎ ((passes (FillOf l) m ≡ true) × (is_fresh (w.cores c).awaited ≡ true))
             → holds_line l u ≡ true
         kept (inl y) = holds-kept l u y
         kept (inr y) =
-            let z : e ≡ d = sym (fill-home sh w c e k l m h i (y.0)) ∙ q in
-            let n : num (passes (FillOf l) m) ≡ 1 = ap num (y.0) in
+            let z : e ≡ d = sym (fill-home sh w c e k l m h i y.0) ∙ q in
+            let n : num (passes (FillOf l) m) ≡ 1 = ap num y.0 in
             let p : 1 ≤ live (FillOf l) (to_core w d c) =
             rw (sym z) (omega (arith, n, live-some (FillOf l) (to_core w e c) k m i)) in
-            holds-fill l u (y.1) p
+            holds-fill l u y.1 p
 
     more : CommitsLine sh.base cs c l u → CommitsLine sh.base cs c l x
     more y = record {

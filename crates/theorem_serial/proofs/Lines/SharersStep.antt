@@ -72,14 +72,13 @@ same-sharers base cs c l v w e f g i h =
     (record {
       core = e;
       kept = λ q. inl (f ∙ q);
-      commits = λ x. inr (record { tid = x.tid; sent = rw g (x.sent); line = x.line });
+      commits = λ x. inr (record { tid = x.tid; sent = rw g x.sent; line = x.line });
       filled = inl (rw i (omega arith));
       gone = rw g (omega arith);
     }) h
 
-dropped-sharers : (sh : Shape) (h : History) (c d k : ℕ) (m : Msg) → KeptSharers sh h.world h.commits
-    → FromCore h.world c d k m → NoCommit m
-    → KeptSharers sh (dir_takes h.world c d k (h.world.dirs d) (λ dst. [])) h.commits
+dropped-sharers : (sh : Shape) (h : History) (c d k : ℕ) (m : Msg) → KeptSharers sh h.world h.commits → FromCore h.world c d k m
+    → NoCommit m → KeptSharers sh (dir_takes h.world c d k (h.world.dirs d) (λ dst. [])) h.commits
 unfolding pair
 dropped-sharers sh h c d k m t i u = pairs_dir (SharersAt sh h.commits) h.world c d k (h.world.dirs d) (λ dst. [])
     (λ l cl dl ll q. sharer-answered sh.base h.commits c l (pair h.world c d)
@@ -128,15 +127,15 @@ asked-sharers sh h c d k m s sends g t i f = pairs_asks (SharersAt sh h.commits)
     kept : (j l : ℕ) → (s.lines.sharers l j ≡ true) ⊎ ((j ≡ c) × (passes (GoneOf l) m ≡ true))
         → (s.lines.sharers l j ≡ true) ⊎ (1 ≤ live (GoneOf l) (to_dir h.world j d))
     kept j l (inl x) = inl x
-    kept j l (inr x) = let n : num (passes (GoneOf l) m) ≡ 1 = ap num (x.1) in
-        inr (rw (x.0) (omega (arith, n, live-some (GoneOf l) (to_dir h.world c d) k m i)))
+    kept j l (inr x) = let n : num (passes (GoneOf l) m) ≡ 1 = ap num x.1 in
+        inr (rw x.0 (omega (arith, n, live-some (GoneOf l) (to_dir h.world c d) k m i)))
 
     filled : (j l : ℕ) → j < sh.cores → d < sh.dirs → (0 < among (FillOf l) (sends (Core j))) ⊎ (among (FillOf l) (sends (Core j)) ≤ 0)
         → (live (FillOf l) (after_answer (pair h.world j d) s (sends (Core j))).back ≤ live (FillOf l) (to_core h.world d j))
         ⊎ ((s.lines.sharers l j ≡ true) × (live (GoneOf l) (to_dir h.world j d) ≡ 0))
     filled j l jl dl (inr x) = inl (omega (arith, x, live-sends (FillOf l) (to_core h.world d j) (sends (Core j))))
     filled j l jl dl (inl x) = let y = f.filled l j (omega (arith, x)) in let n : num (has_mark (h.world.dirs d).lines l) ≡ 0 =
-        ap num (y.1) in inr (y.0, omega (arith, n, (g j d l jl dl).one, gone-acks l (to_dir h.world j d)))
+        ap num y.1 in inr (y.0, omega (arith, n, (g j d l jl dl).one, gone-acks l (to_dir h.world j d)))
 
 pub step-sharers : (sh : Shape) (p : Program) (gs : List Grant) (ys : Ways) (h : History) (e : Event) → Before sh gs ys h
     → KeptLoading sh h.world → KeptHomes sh h.world → KeptReads sh h.world → KeptSharers sh h.world h.commits
@@ -155,7 +154,7 @@ step-sharers sh p gs ys h e b ld hm rd t =
     (λ d u i. part-exec sh p c d u (h.world.cores c) i) (tells-exec sh p c (h.world.cores c) (b.told.all.cores c))
     (noted-exec sh p c (h.world.cores c)) (after-exec sh p c (h.world.cores c) (b.told.all.cores c))
     (clean-exec sh p c (h.world.cores c))
-    (λ d. served-exec sh p c d (tid_at h.world d) (h.world.cores c) ((b.told.all.kept.probes c d).core)))
+    (λ d. served-exec sh p c d (tid_at h.world d) (h.world.cores c) (b.told.all.kept.probes c d).core))
     (λ c x y l. moved c (core_evict sh x y (h.world.cores c)) (λ k n. holds-evict sh k x y (h.world.cores c))
     (λ d u i. part-evict sh x y d u (h.world.cores c)) (tells-evict sh x y (h.world.cores c)) (noted-evict sh x y (h.world.cores c))
     (after-evict sh c x y (h.world.cores c)) (clean-evict sh x y (h.world.cores c))
@@ -183,7 +182,7 @@ step-sharers sh p gs ys h e b ld hm rd t =
           holds = f l (omega (arith, dl));
           speaks = speaks sh h.world c o q s n;
           after = a;
-          quiet = none-gone l (o.sends (Dir d)) ((z d).acks);
+          quiet = none-gone l (o.sends (Dir d)) (z d).acks;
           reached = v d;
           unapplied = λ n q s. u n d q dl s;
         })
@@ -201,15 +200,15 @@ step-sharers sh p gs ys h e b ld hm rd t =
           holds = holds-grant sh l u (h.world.cores c);
           speaks = grant-speaks sh h.world c k u b.told.all.kept.told.tids i;
           after = inl a;
-          quiet = none-gone l (o.sends (Dir d)) ((clean-grant sh u (h.world.cores c) d).acks);
+          quiet = none-gone l (o.sends (Dir d)) (clean-grant sh u (h.world.cores c) d).acks;
           reached = served-grant sh u d (tid_at h.world d) (h.world.cores c);
-          unapplied = λ n q s. absurd (let y = sym (a.commit) ∙ q in cc);
+          unapplied = λ n q s. absurd (let y = sym a.commit ∙ q in cc);
         }) (t c d l cl dl ll q)))
-        (λ j d l jl dl ll q. subst (λ n. SharerOf sh.base (and_noted n h.commits) j l (pair h.world j d)) (sym (a.commit))
+        (λ j d l jl dl ll q. subst (λ n. SharerOf sh.base (and_noted n h.commits) j l (pair h.world j d)) (sym a.commit)
         (t j d l jl dl ll q))
 
     not-away : (c d k : ℕ) (m : Msg) → FromDir h.world d c k m → passes (InvsAway sh.dirs d) m ≡ false
-    not-away c d k m i = none-taken (InvsAway sh.dirs d) (to_core h.world d c) k m i ((b.told.all.kept.told.owed.at_home c d).invs)
+    not-away c d k m i = none-taken (InvsAway sh.dirs d) (to_core h.world d c) k m i (b.told.all.kept.told.owed.at_home c d).invs
 
     taken : (c d k : ℕ) (m : Msg) → FromDir h.world d c k m → (x : Option Out)
         → ((l : ℕ) → IfSome x (HoldsTaken sh l (h.world.cores c) m))
@@ -244,6 +243,6 @@ step-sharers sh p gs ys h e b ld hm rd t =
         → ((n : Noted) (d : ℕ) → None ≡ Some n → d < sh.dirs → stores_at sh d n.stores ≡ true
         → is_applied (h.world.dirs d) n.tid.0 ≡ false) → KeptSharers sh v h.commits) a
     answered c d k m i Waits u f = tt
-    answered c d k m i Drops u f = λ n a. dropped-sharers sh h c d k m t i (u.commit)
+    answered c d k m i Drops u f = λ n a. dropped-sharers sh h c d k m t i u.commit
     answered c d k m i (Asks s sends) u f = λ n a. asked-sharers sh h c d k m s sends b.told.all.named t i f
     answered c d k m i (Takes s sends) u f = λ n a j x l jl dl ll q. dir-sharers sh gs ys h c d k m s sends b t i u f j x l jl dl ll q

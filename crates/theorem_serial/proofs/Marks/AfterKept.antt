@@ -12,7 +12,7 @@ use proofs.Marks.CoreMarks.{stored-solo, stored-written}
 use proofs.OneCore.Said.{Empties, Flushes, Requests, Silent, Tells_alone, Tells_commit, quiet, say}
 use proofs.OneCore.Outcomes.{Commits_now, Did, Ends_alone, Given_none, Granted, Hands_out, Heard, Misses, Misses_anew, after_end, each-back}
 use proofs.OneCore.Outcomes.{each-evict, each-exec, each-grant, emptied, granted, granted_said, heard, heard-quiet, out, said}
-use proofs.Tids.CoreProbing.{KeepsHolder, noted_tid, none, holder-exec, holder-evict}
+use proofs.Tids.CoreTids.{KeepsHolder, noted_tid, none, holder-exec, holder-evict}
 use proofs.Counts.Links.{live-sends, live-takes}
 use proofs.Serving.OwnerSteps.{holder-moved}
 use proofs.Counts.StepCases.{either, moves-own, moves-other, pairs_move, pairs_grant, pairs_back, pairs_dir, pairs_asks, pairs_vendor}
@@ -84,7 +84,7 @@ after-exec sh p c s h = each-exec sh p c s (AfterStep sh c s) go
       noted = noted t c s;
       commit = refl;
       core = refl;
-      after = λ d. rw (stored-written sh s.cache s.spilled s.stores d (rw e at (h.words))) refl;
+      after = λ d. rw (stored-written sh s.cache s.spilled s.stores d (rw e at h.words)) refl;
       quiet = λ d x. quiet sh s (LoadNot x) (Tells_commit t) (λ y. refl) d;
       idle = rests t e s.awaited refl;
     })
@@ -130,11 +130,11 @@ last-below : (sh : Shape) (gs : List Grant) (c d t : ℕ) (cs : List Noted) → 
     → ((u : ℕ) → Contains gs (record { tid = u; core = c }) → u ≤ t) → last_of (stored_there sh c d) cs ≤ t
 unfolding AreGranted last_of stored_there
 last-below sh gs c d t [] a f = omega arith
-last-below sh gs c d t (m ∷ cs) a f = go (m.core.0 == c) refl (stores_at sh d m.stores) (last-below sh gs c d t cs (a.1) f)
+last-below sh gs c d t (m ∷ cs) a f = go (m.core.0 == c) refl (stores_at sh d m.stores) (last-below sh gs c d t cs a.1 f)
   where
     go : (b : Bool) → (m.core.0 == c) ≡ b → (y : Bool) → last_of (stored_there sh c d) cs ≤ t
         → max (cond (b && y) m.tid.0 0) (last_of (stored_there sh c d) cs) ≤ t
-    go true q true l = let e : m.core.0 ≡ c = grind nats in let x = f m.tid.0 (rw (sym e) (a.0)) in omega arith
+    go true q true l = let e : m.core.0 ≡ c = grind nats in let x = f m.tid.0 (rw (sym e) a.0) in omega arith
     go true q false l = omega arith
     go false q y l = omega arith
 
@@ -150,7 +150,7 @@ stays-after : (sh : Shape) (cs : List Noted) (c d : ℕ) (v : Pair) (o : Out) �
     → AfterOf sh cs c d (after_move v o d)
 stays-after sh cs c d v o y h = record {
   last = ap (λ f. f d) y.after ∙ h.last;
-  carried = rw (y.after) (omega (arith, h.carried, y.carries d, live-sends (LoadNot (v.core.last_commit d)) v.out (o.sends (Dir d))));
+  carried = rw y.after (omega (arith, h.carried, y.carries d, live-sends (LoadNot (v.core.last_commit d)) v.out (o.sends (Dir d))));
 }
 
 -- a core that commits, whose commits so far have smaller TIDs
@@ -215,7 +215,7 @@ step-after sh p gs w cs e y k g ld h = step_cases sh p w e (λ x o. KeptAfter sh
     idle c d n l = let x = ld c d l in omega (arith, rw n at x)
 
     lower : (c t : ℕ) → 1 ≤ holder t (pair w c 0) → (d : ℕ) → last_of (stored_there sh c d) cs ≤ t
-    lower c t x d = last-below sh gs c d t cs (y.granted) (λ u q. g c 0 t u x q)
+    lower c t x d = last-below sh gs c d t cs y.granted (λ u q. g c 0 t u x q)
 
     commits : (c : ℕ) (o : Out) (q : Notes_commit sh c (w.cores c) o) → 1 ≤ holder q.noted.tid.0 (pair w c 0)
         → KeptAfter sh (core_moves w c o) (insert_commit q.noted cs)
@@ -256,8 +256,7 @@ step-after sh p gs w cs e y k g ld h = step_cases sh p w e (λ x o. KeptAfter sh
         (λ cl dl. let z = stays-after sh cs c d (pair w c d) o a (h c d cl dl) in record { last = z.last; carried = z.carried })
         (λ b n cl dl. let z = stays-after sh cs c b (pair w c b) o a (h c b cl dl) in record { last = z.last; carried = z.carried }) h)
 
-    takes : (c d i : ℕ) (m : Msg) (s : DirState) (sends : Sends) → FromCore w c d i m
-        → KeptAfter sh (dir_takes w c d i s sends) cs
+    takes : (c d i : ℕ) (m : Msg) (s : DirState) (sends : Sends) → FromCore w c d i m → KeptAfter sh (dir_takes w c d i s sends) cs
     takes c d i m s sends q = pairs_dir P w c d i s sends
         (λ cl dl. record {
           last = (h c d cl dl).last;
@@ -270,8 +269,7 @@ step-after sh p gs w cs e y k g ld h = step_cases sh p w e (λ x o. KeptAfter sh
         })
         (λ j n cl dl. record { last = (h j d cl dl).last; carried = (h j d cl dl).carried }) h
 
-    answered : (c d i : ℕ) (m : Msg) → FromCore w c d i m → (a : Answer)
-        → OfAnswer w c d i (λ v. KeptAfter sh v cs) a
+    answered : (c d i : ℕ) (m : Msg) → FromCore w c d i m → (a : Answer) → OfAnswer w c d i (λ v. KeptAfter sh v cs) a
     answered c d i m q Waits = tt
     answered c d i m q Drops = takes c d i m (w.dirs d) (λ dst. []) q
     answered c d i m q (Asks s sends) =

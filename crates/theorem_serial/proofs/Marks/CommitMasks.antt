@@ -1,26 +1,179 @@
--- The masks of the Marks that a core sends: the words that it has modified, and at a commit those that it stored.
+-- What a commit says of its Marks: how many it counts, and that their masks are the words that it stored.
+use Rattle.base_lemmas.proofs.Lemmas.{eq-self}
 use Rattle.theorem_serial.proofs
 use proofs.Names
-use Names.{ℕ, ◌≡◌, ◌≤◌, Bool, true, false, List, [], ◌∷◌, ◌==◌, None, IfSome, if◌then◌else◌, arith, refl, ap, ◌⊎◌, inl, inr, Program, num}
-use Names.{word_at, mask_of, Dir, Msg, InvAck, ProbeReply, Fill, Mark, DataReq, Inv, Shape, home, Cache, modified_mask, written_lines}
-use Names.{CoreState, Phase, Running, AwaitTid, DoomedTid, Overflowing, Link, to, marks_for, Out, commit, committed_core}
-use Names.{phase_after_commit, core_exec, core_evict, from_dir, probe_reply, fill, data_request, invalidate, ignored, MarkOf, MarkMask}
-use Names.{live, among, passes, has_marked, marked_by, has_tid, moves, solo_commit, nats, solo_marks_or_skip, solo_write_backs}
-use Names.{solo_writes_at, commit_sends, written_mask, is_modified, stores_line, stored_mask, solo_sends, is_written, ◌+◌, any_below}
-use Names.{writes_at, AnyCommit, stores_in, stores_at, CommitOf, Spilled, Commits, OneCore, nat_lt, Commit, Noted, lines, Ready, noted}
-use Names.{◌&&◌, Some, Solo, not, sym, ◌∙◌}
-use proofs.Counts.Links.{among-flat_map_none, among-fewer, live-fewer, among-append}
-use proofs.Tids.CoreProbing.{tid-after}
+use Names.{ℕ, zero, suc, ◌+◌, ◌≡◌, ◌<◌, ◌≤◌, Bool, true, false, List, [], ◌∷◌, ◌++◌, ◌==◌, ◌&&◌, IfSome, nat_lt, if◌then◌else◌, flat_map}
+use Names.{arith, refl, ◌∙◌, Program, num, those, count_below, Dir, Msg, Skip, Mark, Commit, WriteBack, Shape, home, lines, Cache}
+use Names.{is_modified, writes_at, Spilled, holds, spilled_mask, spilled_words, CoreState, Phase, Ready, Solo, Out, commit, commit_sends}
+use Names.{solo_sends, solo_marks_or_skip, solo_write_backs, solo_writes_at, is_written, written_mask, core_exec, core_evict, from_dir}
+use Names.{sum_below, Kind, MarkOf, AnyCommit, CommitOf, among, passes, has_marked, stores_line, marked_by, may_commit, has_tid}
+use Names.{solo_commit, nats, None, ap, ◌⊎◌, inl, inr, word_at, mask_of, InvAck, ProbeReply, Fill, DataReq, Inv, modified_mask}
+use Names.{written_lines, Running, AwaitTid, DoomedTid, Overflowing, Link, to, marks_for, committed_core, phase_after_commit, probe_reply}
+use Names.{fill, data_request, invalidate, ignored, MarkMask, live, moves, stored_mask, any_below, stores_in, stores_at, Commits, OneCore}
+use Names.{Noted, noted, Some, not, sym}
+use proofs.Serving.CoreCommits.{heard-free, few-of}
+use proofs.Counts.Links.{among-append, total-same, among-fewer, among-flat_map_none, live-fewer}
+use proofs.Marks.CoreMarks.{one-mark, marks-only, unspilled, stored-line, stored-any, stored-cases, modified-line, modified-stored}
+use proofs.Marks.CoreMarks.{written-line, written-stored}
+use proofs.Marks.CoreMarking.{mine, told-commit, has-ready, Unsaid, unsaid-quiet, unsaid-nothing, unsaid-append, acked, idle}
+use proofs.OneCore.Said.{quiet, Empties, Wants, say}
+use proofs.OneCore.Outcomes.{Commits_now, Did, each-exec, out, each-evict, emptied, Ends_alone, after_end, each-back, heard, said, Ends_run}
+use proofs.OneCore.Outcomes.{Room_wanted}
+use proofs.Tids.CoreTids.{tid-after}
 use proofs.OneCore.CoreSteps.{Steady, did-steady, fill-steady, data-steady, ignored-steady, Hurt, Unhurt, Rolled, Doomed, Aborted, Gave_up}
 use proofs.OneCore.CoreSteps.{Invalidated, invalidate-cases, Replied, Ignored, Probed, Left_alone, reply-cases, steady-emptied}
-use proofs.Marks.CoreMarking.{Unsaid, unsaid-quiet, unsaid-nothing, unsaid-append, acked, idle, mine, told-commit, has-ready}
 use proofs.Marks.CoreMarkingTakes.{unmarked}
-use proofs.OneCore.Outcomes.{Commits_now, Did, each-exec, out, each-evict, emptied, Ends_alone, Ends_run, Room_wanted, after_end, each-back}
-use proofs.OneCore.Outcomes.{heard, said}
-use proofs.OneCore.Said.{Wants, say, quiet, Empties}
-use proofs.Serving.CoreCommits.{heard-free, few-of}
-use proofs.Marks.CoreCounts.{is-commit, is-alone, has-solo}
-use proofs.Marks.CoreMarks.{unspilled, stored-line, stored-any, stored-cases, modified-line, modified-stored, written-line, written-stored}
+
+-- A Commit that a core sends counts the Marks that it has sent, or sends with it.
+
+-- the Marks of a TID that a core has sent and sends
+abbrev marks_after : Shape → (dir tid : ℕ) → CoreState → Out → ℕ → ℕ
+marks_after sh d t s o l = among (MarkOf t l) (o.sends (Dir d)) + marked_by sh s d l
+
+-- a Commit is of the core's TID, and counts them
+pub record Counts (sh : Shape) (d t n : ℕ) (s : CoreState) (o : Out) : Type 0 where
+  pub held : has_tid s.phase t ≡ true
+  pub each : (l : ℕ) → marks_after sh d t s o l ≤ num (nat_lt l (lines sh))
+  pub sum : sum_below (marks_after sh d t s o) (lines sh) ≡ n
+
+abbrev pub CountsAll : Shape → (dir tid : ℕ) → CoreState → Out → Type 0
+CountsAll sh d t s o = (n : ℕ) → 1 ≤ among (CommitOf t n) (o.sends (Dir d)) → Counts sh d t n s o
+
+pub total-num : (p : ℕ → Bool) (n : ℕ) → sum_below (λ l. num (p l)) n ≡ count_below p n
+unfolding sum_below count_below
+total-num p zero = refl
+total-num p (suc n) = omega (arith, total-num p n)
+
+-- as many as there are lines with p
+counts-lines : (sh : Shape) (d t n : ℕ) (s : CoreState) (o : Out) (p : ℕ → Bool) → has_tid s.phase t ≡ true → count_below p (lines sh) ≡ n
+    → ((l : ℕ) → marks_after sh d t s o l ≡ num (nat_lt l (lines sh) && p l)) → Counts sh d t n s o
+counts-lines sh d t n s o p h e f = record {
+  held = h;
+  each = λ l. omega (arith, f l, few (nat_lt l (lines sh)) (p l));
+  sum = total-same (marks_after sh d t s o) (λ l. num (p l)) (lines sh) (λ l x. f l ∙ below l x) ∙ total-num p (lines sh) ∙ e;
+}
+  where
+    few : (a b : Bool) → num (a && b) ≤ num a
+    few a b = grind nats
+
+    below : (l : ℕ) → l < lines sh → num (nat_lt l (lines sh) && p l) ≡ num (p l)
+    below l x = let b : nat_lt l (lines sh) ≡ true = grind nats in rw b refl
+
+-- none is sent
+of-any : (t n : ℕ) (m : Msg) → num (passes (CommitOf t n) m) ≤ num (passes AnyCommit m)
+unfolding passes
+of-any t n m = grind nats
+
+pub few-any : (t n : ℕ) (ms : List Msg) → among (CommitOf t n) ms ≤ among AnyCommit ms
+few-any t n ms = among-fewer (CommitOf t n) AnyCommit (of-any t n) ms
+
+counts-none : (sh : Shape) (d t : ℕ) (s : CoreState) (o : Out) → among AnyCommit (o.sends (Dir d)) ≡ 0 → CountsAll sh d t s o
+counts-none sh d t s o z n x = absurd (omega (arith, x, z, few-any t n (o.sends (Dir d))))
+
+-- a core whose directories are all ready
+pub is-commit : (sh : Shape) (c : Cache) (u d t n : ℕ) → 1 ≤ among (CommitOf t n) (commit_sends sh c u (Dir d))
+    → (u ≡ t) × (count_below (λ l. d == home sh l && is_modified c l) (lines sh) ≡ n)
+unfolding commit_sends among passes
+is-commit sh c u d t n x =
+    go (nat_lt d sh.dirs) (writes_at sh c d) (u == t) (count_below (λ l. d == home sh l && is_modified c l) (lines sh) == n) refl refl x
+  where
+    go : (a b e f : Bool) → (u == t) ≡ e → (count_below (λ l. d == home sh l && is_modified c l) (lines sh) == n) ≡ f
+        → 1 ≤ among (CommitOf t n)
+        (if a then (if b then Commit u (count_below (λ l. d == home sh l && is_modified c l) (lines sh)) ∷ [] else []) else [])
+        → (u ≡ t) × (count_below (λ l. d == home sh l && is_modified c l) (lines sh) ≡ n)
+    go true true true true p q y = (grind nats, grind nats)
+    go true true true false p q y = absurd (grind nats)
+    go true true false f p q y = absurd (grind nats)
+    go true false e f p q y = absurd (omega (arith, y))
+    go false b e f p q y = absurd (omega (arith, y))
+
+pub has-solo : (u : ℕ) (q : Phase) → q ≡ Solo u → has_tid q u ≡ true
+unfolding has_tid
+has-solo u q e = rw e (eq-self u)
+
+counts-ready : (sh : Shape) (c d t u : ℕ) (s : CoreState) → s.phase ≡ Ready u → s.owing d ≡ false → CountsAll sh d t s (commit sh c u s)
+unfolding commit marked_by has_marked stores_line
+counts-ready sh c d t u s ph ow n x =
+    let p : ℕ → Bool = λ l. d == home sh l && is_modified s.cache l in
+    let r : (u ≡ t) × (count_below p (lines sh) ≡ n) = is-commit sh s.cache u d t n x in
+    counts-lines sh d t n s (commit sh c u s) p (mine u t s.phase (has-ready u s.phase ph) r.0) r.1
+    (λ l. rw (ph, ow) (omega (arith, (told-commit sh s.cache u d t l).1)))
+
+-- a core alone
+pub is-alone : (sh : Shape) (c : Cache) (sp : Spilled) (u d t n : ℕ) → 1 ≤ among (CommitOf t n) (solo_sends sh c sp u (Dir d))
+    → (u ≡ t) × (count_below (λ l. d == home sh l && is_written c sp l) (lines sh) ≡ n)
+    × ((l : ℕ) → among (MarkOf t l) (solo_sends sh c sp u (Dir d)) ≡ num (nat_lt l (lines sh) && (d == home sh l && is_written c sp l)))
+unfolding solo_sends solo_marks_or_skip solo_write_backs among passes
+is-alone sh c sp u d t n x = go (nat_lt d sh.dirs) (solo_writes_at sh c sp d) x
+  where
+    p : ℕ → Bool
+    p k = d == home sh k && is_written c sp k
+
+    backs : (k : Kind) → ((x m : ℕ) (ws : List ℕ) → num (passes k (WriteBack x m ws u)) ≡ 0) → among k (solo_write_backs sh sp u d) ≡ 0
+    backs k e = among-flat_map_none k (λ x. WriteBack x (spilled_mask sp x) (spilled_words sp x) u ∷ [])
+        (λ x. omega (arith, e x (spilled_mask sp x) (spilled_words sp x))) (those (λ x. d == home sh x && holds sp x) (lines sh))
+
+    marks : List Msg
+    marks = flat_map (λ k. Mark k (written_mask c sp k) u ∷ []) (those p (lines sh))
+
+    sends : (a w : Bool) → List Msg
+    sends a w =
+        if a then (if w then marks ++ Commit u (count_below p (lines sh)) ∷ [] else Skip u ∷ []) ++ solo_write_backs sh sp u d else []
+
+    counted : among (CommitOf t n) (sends true true) ≡ num ((u == t) && (count_below p (lines sh) == n))
+    counted =
+        rw (
+          among-append,
+          among-append,
+          marks-only (CommitOf t n) p (written_mask c sp) u (lines sh) (λ x m. refl),
+          backs (CommitOf t n) (λ x m ws. refl),
+        ) (omega arith)
+
+    skipped : among (CommitOf t n) (sends true false) ≡ 0
+    skipped = rw (among-append, backs (CommitOf t n) (λ x m ws. refl)) (omega arith)
+
+    marked : u ≡ t → (l : ℕ) → among (MarkOf t l) (sends true true) ≡ num (nat_lt l (lines sh) && p l)
+    marked e l = let b : (u == t) ≡ true = grind nats in
+        rw (among-append, among-append, one-mark p (written_mask c sp) u t l (lines sh), backs (MarkOf t l) (λ x m ws. refl), b)
+        (omega arith)
+
+    both : (e f : Bool) → (u == t) ≡ e → (count_below p (lines sh) == n) ≡ f → 1 ≤ num (e && f) → (u ≡ t) × (count_below p (lines sh) ≡ n)
+    both true true q r y = (grind nats, grind nats)
+    both true false q r y = absurd (omega (arith, y))
+    both false f q r y = absurd (omega (arith, y))
+
+    go : (a w : Bool) → 1 ≤ among (CommitOf t n) (sends a w) → (u ≡ t) × (count_below p (lines sh) ≡ n)
+        × ((l : ℕ) → among (MarkOf t l) (sends a w) ≡ num (nat_lt l (lines sh) && p l))
+    go false w y = absurd (omega (arith, y))
+    go true false y = absurd (omega (arith, y, skipped))
+    go true true y = let r = both (u == t) (count_below p (lines sh) == n) refl refl (omega (arith, y, counted)) in (r.0, r.1, marked r.0)
+
+counts-alone : (sh : Shape) (d t u : ℕ) (s : CoreState) (o : Out) → s.phase ≡ Solo u → o.sends ≡ solo_sends sh s.cache s.spilled u
+    → CountsAll sh d t s o
+unfolding marked_by has_marked
+counts-alone sh d t u s o q se n x = let f = is-alone sh s.cache s.spilled u d t n (rw se at x) in
+    counts-lines sh d t n s o (λ k. d == home sh k && is_written s.cache s.spilled k) (mine u t s.phase (has-solo u s.phase q) f.0) f.1
+    (λ l. rw (se, q) (omega (arith, f.2 l)))
+
+pub counts-exec : (sh : Shape) (p : Program) (c d t : ℕ) (s : CoreState) → (may_commit s.phase ≡ true → s.owing d ≡ false)
+    → IfSome (core_exec sh p c s) (λ o. CountsAll sh d t s o)
+unfolding passes solo_commit
+counts-exec sh p c d t s f = each-exec sh p c s (λ o. CountsAll sh d t s o) go
+  where
+    go : (x : Did sh p c s) → CountsAll sh d t s (out x)
+    go (Ends_alone u l o g q i) = counts-alone sh d t u s (solo_commit sh c u (after_end s l o)) q refl
+    go (Commits_now u e) = counts-ready sh c d t u s e (f (rw e refl))
+    go x = counts-none sh d t s (out x) (quiet sh s AnyCommit (said x) (λ y. refl) d)
+
+pub counts-evict : (sh : Shape) (x y d t : ℕ) (s : CoreState) → IfSome (core_evict sh x y s) (λ o. CountsAll sh d t s o)
+unfolding passes
+counts-evict sh x y d t s = each-evict sh x y s (λ o. CountsAll sh d t s o)
+    (λ k q u z. counts-none sh d t s (emptied sh x y k s) (quiet sh s AnyCommit (Empties k) (λ y. refl) d))
+
+pub counts-back : (sh : Shape) (e d t : ℕ) (s : CoreState) (m : Msg) → IfSome (from_dir sh e s m) (λ o. CountsAll sh d t s o)
+counts-back sh e d t s m = each-back sh e s (λ m o. CountsAll sh d t s o) (λ y. counts-none sh d t s (heard y) (heard-free y d)) m
+
+-- The masks of the Marks that a core sends: the words that it has modified, and at a commit those that it stored.
 
 -- The Marks that a core sends have as masks the words that it has modified, and these stay while it has its TID.
 
@@ -75,7 +228,8 @@ gone sh d t l s o q e h =
     record { sent = λ x. absurd (none x); stays = λ x. absurd (none x) }
 
 masking-steady : (sh : Shape) (d t l : ℕ) (s : CoreState) (o : Out) → Steady s o → Masking sh d t l s o
-masking-steady sh d t l s o y = masking-unsaid sh d t l s o (unsaid-quiet t l (o.sends (Dir d)) (y.quiet d)) (λ x. go (has_marked s.phase) refl)
+masking-steady sh d t l s o y = masking-unsaid sh d t l s o (unsaid-quiet t l (o.sends (Dir d)) (y.quiet d))
+    (λ x. go (has_marked s.phase) refl)
   where
     go : (b : Bool) → has_marked s.phase ≡ b → (marked_by sh s d l ≡ 0) ⊎ (modified_mask o.core.cache l ≡ modified_mask s.cache l)
     go false e = inl (unmarked sh s d l e)
@@ -120,7 +274,8 @@ masking-replied sh e u d t l s o (Probed ph ow ph' ow' ca se cm) =
   where
     go : (b : Bool) → among (MarkMask t l (modified_mask s.cache l)) (if b then marks_for sh s.cache u e else []) ≡ 0
     go a = grind (nats, masked-for, few-masked, unsaid-nothing)
-masking-replied sh e u d t l s o (Left_alone ph ow ph' ow' ca se cm) = masking-unsaid sh d t l s o (rw (ap (λ f. f (Dir d)) se) (unsaid-nothing t l))
+masking-replied sh e u d t l s o (Left_alone ph ow ph' ow' ca se cm) = masking-unsaid sh d t l s o
+    (rw (ap (λ f. f (Dir d)) se) (unsaid-nothing t l))
     (λ x. inr (mask-same o.core.cache s.cache l ca))
 
 pub masking-back : (sh : Shape) (e d t l : ℕ) (s : CoreState) (m : Msg) → IfSome (from_dir sh e s m) (λ o. Masking sh d t l s o)
@@ -201,13 +356,13 @@ storing-ready sh c d t u s ph h x = record {
     sent = commit-some t (commit_sends sh s.cache u (Dir d)) x
 
     same : u ≡ t
-    same = (is-commit sh s.cache u d t sent.0 (sent.1)).0
+    same = (is-commit sh s.cache u d t sent.0 sent.1).0
 
     owing : s.owing d ≡ false
     owing = h.owing d (rw ph refl)
 
     line : (l : ℕ) → num (nat_lt l (lines sh) && (d == home sh l && is_modified s.cache l)) ≡ num (nat_lt 0 (stored_mask sh d s.stores l))
-    line l = rw (modified-line sh.base s.cache s.stores l (unspilled sh s.cache s.spilled s.stores (rw ph at (h.words))))
+    line l = rw (modified-line sh.base s.cache s.stores l (unspilled sh s.cache s.spilled s.stores (rw ph at h.words)))
         (stored-line sh d s.stores l)
 
     marks : (l : ℕ)
@@ -219,7 +374,7 @@ storing-ready sh c d t u s ph h x = record {
     before : (l : ℕ) → (stored_mask sh d s.stores l ≡ stores_in sh.base s.stores l) ⊎ (stored_mask sh d s.stores l ≡ 0)
         → (num (has_marked s.phase && (not (s.owing d) && (nat_lt l (lines sh) && (d == home sh l && is_modified s.cache l)))) ≡ 0)
         ⊎ (stored_mask sh d s.stores l ≡ modified_mask s.cache l)
-    before l (inl e) = inr (e ∙ modified-stored sh.base s.cache s.stores l (unspilled sh s.cache s.spilled s.stores (rw ph at (h.words))))
+    before l (inl e) = inr (e ∙ modified-stored sh.base s.cache s.stores l (unspilled sh s.cache s.spilled s.stores (rw ph at h.words)))
     before l (inr e) = let z : num (nat_lt 0 (stored_mask sh d s.stores l)) ≡ 0 = rw e refl in inl (omega (arith, marks l, z))
 
 -- a core alone marks what its stores name
@@ -261,21 +416,21 @@ storing-alone sh c d t u s r o ph cm st se h x = record {
     sent = commit-some t all (rw se at x)
 
     same : u ≡ t
-    same = (is-alone sh s.cache s.spilled u d t sent.0 (sent.1)).0
+    same = (is-alone sh s.cache s.spilled u d t sent.0 sent.1).0
 
     nothing : (l : ℕ) → marked_by sh s d l ≡ 0
     nothing l = unmarked sh s d l (alone u s.phase ph)
 
     line : (l : ℕ) → num (nat_lt l (lines sh) && (d == home sh l && is_written s.cache s.spilled l)) ≡ num
         (nat_lt 0 (stored_mask sh d s.stores l))
-    line l = rw (written-line sh.base s.cache s.spilled s.stores l (h.words.named)) (stored-line sh d s.stores l)
+    line l = rw (written-line sh.base s.cache s.spilled s.stores l h.words.named) (stored-line sh d s.stores l)
 
     marks : (l : ℕ) → among (MarkOf t l) all ≡ num (nat_lt 0 (stored_mask sh d s.stores l))
-    marks l = omega (arith, (is-alone sh s.cache s.spilled u d t sent.0 (sent.1)).2 l, line l)
+    marks l = omega (arith, (is-alone sh s.cache s.spilled u d t sent.0 sent.1).2 l, line l)
 
     right : (l : ℕ) → (stored_mask sh d s.stores l ≡ stores_in sh.base s.stores l) ⊎ (stored_mask sh d s.stores l ≡ 0)
         → among (MarkMask t l (stored_mask sh d s.stores l)) all ≡ 0
-    right l (inl e) = rw (e ∙ written-stored sh.base s.cache s.spilled s.stores l (h.words.named))
+    right l (inl e) = rw (e ∙ written-stored sh.base s.cache s.spilled s.stores l h.words.named)
         (alone-masked sh s.cache s.spilled u d t l)
     right l (inr e) = let z : num (nat_lt 0 (stored_mask sh d s.stores l)) ≡ 0 = rw e refl in
         omega (arith, few-masked t l (stored_mask sh d s.stores l) all, marks l, z)

@@ -8,7 +8,7 @@ use Names.{Phase, Running, AwaitTid, Ready, Overflowing, Solo, to, skip_all, abo
 use Names.{commit_sends, solo_sends, core_exec, core_evict, Resolves, Protocol, Marks, MarkOf, EmptyMarks, Skips, among, passes, has_marked}
 use Names.{stores_line, marked_by, has_tid, opens, Outcome, moves, solo_commit, nats}
 use proofs.Counts.Links.{among-append}
-use proofs.Tids.CoreProbing.{tid-after}
+use proofs.Tids.CoreTids.{tid-after}
 use proofs.OneCore.CoreSteps.{Steady, did-steady, steady-emptied}
 use proofs.Marks.CoreMarks.{solo-mark, solo-full, solo-skips, solo-owned}
 use proofs.OneCore.Said.{Wants, say}
@@ -115,7 +115,7 @@ pub marking-steady : (sh : Shape) (d t l : ℕ) (s : CoreState) (o : Out) → St
 marking-steady sh d t l s o y = silent sh d t l s o (unsaid-quiet t l (o.sends (Dir d)) (y.quiet d))
     (λ x. (
       rw y.phase at x,
-      marked-same sh s o.core d l (y.phase) (ap (λ f. f d) (y.owing))
+      marked-same sh s o.core d l y.phase (ap (λ f. f d) y.owing)
           (λ m. stores-same sh o.core.cache s.cache d l (y.modified (idle s.phase m))),
     ))
 
@@ -126,8 +126,7 @@ silent-none sh d t l s o q e h u = silent sh d t l s o u (λ k. let x : has_tid 
 
 -- it has none any more, and has spoken of its TID u without a Mark
 pub last-words : (sh : Shape) (d t l u : ℕ) (s : CoreState) (o : Out) (q : Phase) → o.core.phase ≡ q → has_tid q t ≡ false
-    → ((u ≡ t) → has_tid s.phase t ≡ true)
-    → (among EmptyMarks (o.sends (Dir d)) ≡ 0) → (among (MarkOf t l) (o.sends (Dir d)) ≡ 0)
+    → ((u ≡ t) → has_tid s.phase t ≡ true) → (among EmptyMarks (o.sends (Dir d)) ≡ 0) → (among (MarkOf t l) (o.sends (Dir d)) ≡ 0)
     → ((among (Marks t) (o.sends (Dir d)) + among (Resolves t) (o.sends (Dir d)) ≡ 0) ⊎ (u ≡ t))
     → (1 ≤ among (Skips t) (o.sends (Dir d)) → (has_tid s.phase t ≡ true) × (marked_by sh s d l ≡ 0)) → Marking sh d t l s o
 last-words sh d t l u s o q e h f w m a k = record {
@@ -224,7 +223,7 @@ marking-exec sh p c d t l s = each-exec sh p c s (λ o. Marking sh d t l s o) go
   where
     ready : (u : ℕ) → s.phase ≡ Ready u → Marking sh d t l s (commit sh c u s)
     ready u e = let f = told-commit sh s.cache u d t l in last-words sh d t l u s (commit sh c u s) (phase_after_commit s.ended) refl
-        (tid-after s.ended t) (λ z. mine u t s.phase (has-ready u s.phase e) z) (f.0) (f.1) (is-tid u t _ (swap (cases_eq u t)) (f.3))
+        (tid-after s.ended t) (λ z. mine u t s.phase (has-ready u s.phase e) z) f.0 f.1 (is-tid u t _ (swap (cases_eq u t)) f.3)
         (λ x. absurd (omega (arith, x, f.2)))
 
     go : (x : Did sh p c s) → Marking sh d t l s (out x)

@@ -78,7 +78,7 @@ marking-hurt sh x d t l s o i = go i.hurt
         let f = told-skip sh u d t l in
         let g = told (skip_all sh u (Dir d)) (ap (λ h. h (Dir d)) se) in
         let own : (among (Marks t) (skip_all sh u (Dir d)) + among (Resolves t) (skip_all sh u (Dir d)) ≡ 0) ⊎ (u ≡ t) =
-        is-tid u t _ (swap (cases_eq u t)) (f.2) in
+        is-tid u t _ (swap (cases_eq u t)) f.2 in
         last-words sh d t l u s o Running ph' refl (λ z. mine u t s.phase (has-of u s.phase (inr ph)) z) (g.0 ∙ f.0) (g.1 ∙ f.1)
         (is-tid u t _ (swap (cases_eq u t)) (λ q. g.3 ∙ f.2 q))
         (λ y. (

@@ -49,7 +49,7 @@ some-mask p _ l e = rw e (omega arith)
 pub modified-full : (c : Cache) (l : ℕ) → is_modified c l ≡ true → 0 < modified_mask c l
 unfolding is_modified any_word modified_mask
 modified-full c l e = let x = any_below-found (λ k. c.modified (word_at l k)) 8 e in
-    some-mask (λ k. c.modified (word_at l k)) (x.0) (x.1) (x.2)
+    some-mask (λ k. c.modified (word_at l k)) x.0 x.1 x.2
 
 pub holds-found : (sp : Spilled) (l : ℕ) → holds sp l ≡ true → (k : ℕ) × (k < 8) × (is_some (sp (word_at l k)) ≡ true)
 unfolding holds any_word
@@ -69,8 +69,8 @@ written-full c sp l e = go (is_modified c l) refl
     right k q = grind arith
 
     go : (b : Bool) → is_modified c l ≡ b → 0 < mask_of p
-    go true q = let x = any_below-found (λ k. c.modified (word_at l k)) 8 q in some-mask p (x.0) (x.1) (left (x.0) (x.2))
-    go false q = let x = holds-found sp l (grind arith) in some-mask p (x.0) (x.1) (right (x.0) (x.2))
+    go true q = let x = any_below-found (λ k. c.modified (word_at l k)) 8 q in some-mask p x.0 x.1 (left x.0 x.2)
+    go false q = let x = holds-found sp l (grind arith) in some-mask p x.0 x.1 (right x.0 x.2)
 
 -- what a core sends
 pub marks-for : (sh : Shape) (c : Cache) (u e t l : ℕ) → among (MarkOf t l) (marks_for sh c u e) ≡ num ((u == t) && stores_line sh c e l)
@@ -194,7 +194,7 @@ mask-any p = go (any_below p 8) refl
         one true q = let a : any_below p 8 ≡ true = any_below-at p 8 k l q in absurd (cc)
 
     go : (b : Bool) → any_below p 8 ≡ b → nat_lt 0 (mask_of p) ≡ any_below p 8
-    go true e = let r = any_below-found p 8 e in let n : 0 < mask_of p = some-mask p (r.0) (r.1) (r.2) in rw e (grind nats)
+    go true e = let r = any_below-found p 8 e in let n : 0 < mask_of p = some-mask p r.0 r.1 r.2 in rw e (grind nats)
     go false e = rw (e, mask_of-none p (none e)) refl
 
 any-or : (p q : ℕ → Bool) (n : ℕ) → any_below (λ k. p k || q k) n ≡ (any_below p n || any_below q n)

@@ -13,13 +13,12 @@ use proofs.Serving.CoreCommits.{granted-free}
 use proofs.Counts.Links.{live-sends, total-same, total-plus, total-le, live-fewer, live-takes}
 use proofs.Counts.StepCases.{dir-own, dir-other, asks-own, pairs_move, pairs_grant, pairs_back, pairs_dir, pairs_asks, pairs_vendor}
 use proofs.Counts.StepCases.{OfAnswer, step_cases}
-use proofs.Marks.CoreCounts.{Counts, CountsAll, total-num, few-any, counts-exec, counts-evict, counts-back}
+use proofs.Marks.CommitMasks.{Counts, CountsAll, total-num, few-any, counts-exec, counts-evict, counts-back}
 use proofs.Marks.CoreMarking.{Marking, marking-exec, marking-evict}
 use proofs.Marks.CoreMarkingTakes.{marking-back, granting}
-use proofs.Marks.DirMarks.{Marked, Stays, MarkedBy, dir-marked}
+use proofs.Marks.DirRecords.{Marked, Stays, MarkedBy, dir-marked, CountsMarked, OwesBy, dir-owes}
 use proofs.Marks.MarksKept.{holds, open-untold, taken-less, empty-one, skip-unmarked, only-there, no-request, no-empty}
 use proofs.Marks.MarksKept.{taken-back as back-marks, kinds}
-use proofs.Marks.DirRecords.{CountsMarked, OwesBy, dir-owes}
 use proofs.Serving.DirDue.{Due, DueBy, dir-due, still-due}
 use proofs.Serving.KeptSteps.{core_of_back, core_of_out, once_at, marks_home, acks_owed}
 use proofs.Tids.Commits.{granted-once}
@@ -79,9 +78,9 @@ counted-moved sh gs c d t v o cl y k m free unowed h = record {
 
     sums : (n : ℕ) → d < sh.dirs → Counts sh d t n v.core o → CountsMarks sh n t (after_move v o d)
     sums n dl a = record {
-      each = λ l. omega (arith, all-sent sh t l d v o ((m l).held cl dl (a.held)), a.each l);
+      each = λ l. omega (arith, all-sent sh t l d v o ((m l).held cl dl a.held), a.each l);
       sum = total-same (λ l. marks_of t l (after_move v o d)) (λ l. among (MarkOf t l) (o.sends (Dir d)) + marked_by sh v.core d l)
-          (lines sh) (λ l x. all-sent sh t l d v o ((m l).held cl dl (a.held))) ∙ a.sum;
+          (lines sh) (λ l x. all-sent sh t l d v o ((m l).held cl dl a.held)) ∙ a.sum;
     }
 
     counted : (n : ℕ) → d < sh.dirs → 1 ≤ live (CommitOf t n) (v.out ++ sent_all (o.sends (Dir d)))
@@ -96,9 +95,8 @@ counted-moved sh gs c d t v o cl y k m free unowed h = record {
 -- a directory answers: of a TID whose Commit is in flight the Marks stay, in flight or handled
 pub marks-stay : (sh : Shape) (d t l : ℕ) (v : Pair) (m : Msg) (s : DirState) (ms : List Msg) (k : Link) → Marked v.dir m s
     → (live (MarkOf t l) k + num (passes (MarkOf t l) m) ≡ live (MarkOf t l) v.out)
-    → (m ≡ Skip v.dir.serving.serving → has_mark v.dir.lines l ≡ false)
-    → passes EmptyMarks m ≡ false → s.serving.serving ≤ t → marks_of t l v ≤ 1
-    → marks_of t l (after_answer (record v { out = k }) s ms) ≡ marks_of t l v
+    → (m ≡ Skip v.dir.serving.serving → has_mark v.dir.lines l ≡ false) → passes EmptyMarks m ≡ false → s.serving.serving ≤ t
+    → marks_of t l v ≤ 1 → marks_of t l (after_answer (record v { out = k }) s ms) ≡ marks_of t l v
 unfolding marks_of
 marks-stay sh d t l v m s ms k y eqn skip nonempty ahead one = holds v.dir s m t l (live (MarkOf t l) v.out) (live (MarkOf t l) k)
     (live (MarkOf t l) v.out + num (v.dir.serving.serving == t && has_mark v.dir.lines l)) y eqn skip nonempty one (λ x. ahead) refl
@@ -136,7 +134,7 @@ unfolding share part pair handled
 open-unowed sh w c d k l x h = go (cases_lt 0 (w.dirs d).owed)
   where
     t : ℕ
-    t = (tid_at w d)
+    t = tid_at w d
 
     go : (0 < (w.dirs d).owed) ⊎ ((w.dirs d).owed ≤ 0) → (w.dirs d).owed ≡ 0
     go (inr q) = omega (arith, q)
@@ -221,7 +219,7 @@ unfolding pair
 none-left sh gs w cs c j d k m y a h cl i q l dl = go (cases_eq j c)
   where
     u : ℕ
-    u = (tid_at w d)
+    u = tid_at w d
 
     n : ℕ
     n = count_below (has_mark (w.dirs d).lines) (lines sh)
@@ -236,7 +234,7 @@ none-left sh gs w cs c j d k m y a h cl i q l dl = go (cases_eq j c)
         → live (MarkOf u l) (to_dir w j d) ≡ 0
     other e (inr z) = omega (arith, z)
     other e (inl z) =
-        absurd (e (granted-once 1 gs u j c (y.numbered) ((a j d u l).owner (omega (arith, z, (kinds u l (to_dir w j d)).0)))
+        absurd (e (granted-once 1 gs u j c y.numbered ((a j d u l).owner (omega (arith, z, (kinds u l (to_dir w j d)).0)))
         ((a c d u l).owner (omega (arith, sent, is-word u n (to_dir w c d))))))
 
     go : (j ≡ c) ⊎ (j ≡ c → ⊥) → live (MarkOf u l) (to_dir w j d) ≡ 0
@@ -253,11 +251,11 @@ dir-counted sh gs w cs c d k ack m s sends b y a h z cl i u p o =
     (λ t x. counted-answered sh gs c d t (pair w c d) m s (sends (Core c)) (set (to_dir w c d) k None) u
     (λ q. taken-less k q (to_dir w c d) m i) (λ l q. live-takes (MarkOf t l) (to_dir w c d) k m i) skip nonempty
     (λ dl. subst (λ v. 1 ≤ live (Resolves t) v.out → v.dir.serving.serving ≤ t) (dir-own w c d k s sends)
-    (told-ahead sh new c d t (z.tids) x dl)) (serves p.served) (owes c o) (a c d t 0) (h c d t x))
+    (told-ahead sh new c d t z.tids x dl)) (serves p.served) (owes c o) (a c d t 0) (h c d t x))
     (λ j n t x. counted-answered sh gs j d t (pair w j d) m s (sends (Core j)) (to_dir w j d) u (λ q. omega arith)
     (λ l. only-there sh gs w cs c j d k t l m y a i n) skip nonempty
     (λ dl. subst (λ v. 1 ≤ live (Resolves t) v.out → v.dir.serving.serving ≤ t) (dir-other w c d k s sends j n)
-    (told-ahead sh new j d t (z.tids) x dl)) (serves p.served) (owes j o) (a j d t 0) (h j d t x))
+    (told-ahead sh new j d t z.tids x dl)) (serves p.served) (owes j o) (a j d t 0) (h j d t x))
     h
   where
     new : World
@@ -267,16 +265,14 @@ dir-counted sh gs w cs c d k ack m s sends b y a h z cl i u p o =
     skip l = skip-unmarked sh gs w c d k m l b a i
 
     nonempty : passes EmptyMarks m ≡ false
-    nonempty = empty-one (to_dir w c d) k m i ((a c d 0 0).words)
+    nonempty = empty-one (to_dir w c d) k m i (a c d 0 0).words
 
-    serves : {B : Type 0} → ((s.serving.serving ≡ tid_at w d) × B) ⊎ (s.owed ≡ 0)
-        → (s.serving.serving ≡ tid_at w d) ⊎ (s.owed ≡ 0)
-    serves (inl q) = inl (q.0)
+    serves : {B : Type 0} → ((s.serving.serving ≡ tid_at w d) × B) ⊎ (s.owed ≡ 0) → (s.serving.serving ≡ tid_at w d) ⊎ (s.owed ≡ 0)
+    serves (inl q) = inl q.0
     serves (inr q) = inr q
 
     owes : (j : ℕ) → (s.owed ≤ (w.dirs d).owed) ⊎ CountsMarked sh (w.dirs d) m
-        → (1 ≤ s.owed → 1 ≤ (w.dirs d).owed)
-        ⊎ ((l : ℕ) → d < sh.dirs → live (MarkOf (tid_at w d) l) (to_dir w j d) ≡ 0)
+        → (1 ≤ s.owed → 1 ≤ (w.dirs d).owed) ⊎ ((l : ℕ) → d < sh.dirs → live (MarkOf (tid_at w d) l) (to_dir w j d) ≡ 0)
     owes j (inl q) = inl (λ x. omega (arith, q, x))
     owes j (inr q) = inr (none-left sh gs w cs c j d k m y a h cl i q)
 
@@ -286,10 +282,10 @@ asks-counted : (sh : Shape) (gs : List Grant) (w : World) (d : ℕ) (s : DirStat
 unfolding pair
 asks-counted sh gs w d s sends a h z u o = pairs_asks (λ j e v. (t : ℕ) → j < sh.cores → CountedOf sh e t v) w d s sends
     (λ j t x. counted-answered sh gs j d t (pair w j d) TidReq s (sends (Core j)) (to_dir w j d)
-    (Stays (u.0) (u.1) (λ b e q. let f = no-request b e in absurd (cc))) (λ q. omega arith)
+    (Stays u.0 u.1 (λ b e q. let f = no-request b e in absurd (cc))) (λ q. omega arith)
     (λ l q. rw (no-request t l) (omega arith)) (λ l e. absurd (cc)) no-empty
     (λ dl. subst (λ v. 1 ≤ live (Resolves t) v.out → v.dir.serving.serving ≤ t) (asks-own w d s sends j)
-    (told-ahead sh new j d t (z.tids) x dl)) (inl (u.0)) (inl (λ q. omega (arith, q, o))) (a j d t 0) (h j d t x))
+    (told-ahead sh new j d t z.tids x dl)) (inl u.0) (inl (λ q. omega (arith, q, o))) (a j d t 0) (h j d t x))
     h
   where
     new : World
@@ -340,7 +336,7 @@ step-counted sh p gs w cs e z y x a h = step_cases sh p w e (λ g o. KeptTold sh
     (λ b t l. marking-back sh d b t l (w.cores c) m) (λ b t. counts-back sh d b t (w.cores c) m))
     (λ c d k m i. answered c d k m i (core_of_out sh w c d k m z.told.tids i) (dir_deliver sh (w.dirs d) c m) (dir-marked sh (w.dirs d) c m)
     (dir-owes sh (w.dirs d) c m)
-    (dir-due sh d (w.dirs d) c m (once_at sh w c d k m z.told i) ((z.told.owed.at_home c d).marked) (marks_home sh w c d k m z.told.owed i)
+    (dir-due sh d (w.dirs d) c m (once_at sh w c d k m z.told i) (z.told.owed.at_home c d).marked (marks_home sh w c d k m z.told.owed i)
     (acks_owed sh w c d k m z.told.owed (core_of_out sh w c d k m z.told.tids i) i)))
     (λ c k i n. pairs_vendor P w c k (λ d t cl. given sh d t k (pair w c d) (h c d t cl))
     (λ j d q t cl. passed sh d t (pair w j d) (h j d t cl)))
@@ -371,12 +367,11 @@ step-counted sh p gs w cs e z y x a h = step_cases sh p w e (λ g o. KeptTold sh
     taken c d k cl None u f = tt
     taken c d k cl (Some o) u f = λ n. pairs_back P w d c k o (λ t l. back c d k t o cl u (f d t)) (λ b r t l. own c b t o cl u (f b t)) h
 
-    answered : (c d k : ℕ) (m : Msg) → FromCore w c d k m → c < sh.cores → (b : Answer) → MarkedBy (w.dirs d) m b
-        → OwesBy sh (w.dirs d) m b → DueBy sh d (w.dirs d) (num (passes Acks m)) b
-        → OfAnswer w c d k (λ v. KeptTold sh v → KeptCounted sh v) b
+    answered : (c d k : ℕ) (m : Msg) → FromCore w c d k m → c < sh.cores → (b : Answer) → MarkedBy (w.dirs d) m b → OwesBy sh (w.dirs d) m b
+        → DueBy sh d (w.dirs d) (num (passes Acks m)) b → OfAnswer w c d k (λ v. KeptTold sh v → KeptCounted sh v) b
     answered c d k m i cl Waits u o p = tt
     answered c d k m i cl Drops u o p = λ n. dir-counted sh gs w cs c d k 0 m (w.dirs d) (λ dst. []) z.told y a h n cl i
-        (Stays refl (λ l. refl) u) (still-due sh d (w.dirs d) ((z.told.owed.at_home c d).marked)) (inl (omega arith))
+        (Stays refl (λ l. refl) u) (still-due sh d (w.dirs d) (z.told.owed.at_home c d).marked) (inl (omega arith))
     answered c d k m i cl (Asks s sends) u o p = λ n. asks-counted sh gs w d s sends a h n u o
     answered c d k m i cl (Takes s sends) u o p =
         λ n. dir-counted sh gs w cs c d k (num (passes Acks m)) m s sends z.told y a h n cl i u p o

@@ -15,7 +15,7 @@ use proofs.Counts.StepCases.{pairs_move, pairs_grant, pairs_back, pairs_dir, pai
 use proofs.Marks.CoreMarking.{Marking, few, at-most-one, marking-exec, marking-evict}
 use proofs.Marks.CoreMarkingTakes.{Granting, marking-back, granting}
 use proofs.Marks.CoreMarks.{stores-writes}
-use proofs.Marks.DirMarks.{Marked, Stays, MarkedBy, dir-marked, marks-grow, marks-count}
+use proofs.Marks.DirRecords.{Marked, Stays, MarkedBy, dir-marked, marks-grow, marks-count}
 use proofs.Serving.KeptSteps.{core_of_grant, core_of_back}
 use proofs.Serving.OwnerSteps.{grant-alone}
 use proofs.Tids.Commits.{granted-once}
@@ -49,7 +49,7 @@ marks-moved sh gs c d t l v o y cl alone mine free h = record {
         quiet x (cases_lt 0 (among (MarkOf t l) (o.sends (Dir d)))),
       );
   skipped = λ dl x. skipped dl x (cases_lt 0 (among (Skips t) (o.sends (Dir d))));
-  held = λ a dl x. let k = y.kept x in omega (arith, h.held a dl (k.0), k.1, live-sends (MarkOf t l) v.out (o.sends (Dir d)));
+  held = λ a dl x. let k = y.kept x in omega (arith, h.held a dl k.0, k.1, live-sends (MarkOf t l) v.out (o.sends (Dir d)));
 }
   where
     f : (among (MarkOf t l) (o.sends (Dir d)) ≤ among (Marks t) (o.sends (Dir d)))
@@ -77,7 +77,7 @@ marks-moved sh gs c d t l v o y cl alone mine free h = record {
         ⊎ (among (Skips t) (o.sends (Dir d)) ≤ 0)
         → live (MarkOf t l) (v.out ++ sent_all (o.sends (Dir d))) + num (v.dir.serving.serving == t && has_mark v.dir.lines l) ≡ 0
     skipped dl x (inl z) = let k = y.skips (omega (arith, z)) in
-        omega (arith, h.held cl dl (k.0), k.1, live-sends (MarkOf t l) v.out (o.sends (Dir d)))
+        omega (arith, h.held cl dl k.0, k.1, live-sends (MarkOf t l) v.out (o.sends (Dir d)))
     skipped dl x (inr z) =
         let b : 1 ≤ live (Skips t) v.out = omega (arith, x, z, live-sends (Skips t) v.out (o.sends (Dir d))) in
         omega (
@@ -144,7 +144,7 @@ marks-granted sh gs c d t l k u v o i one mine y h = go (cases_eq u t)
         (y t).marks,
         live-sends (MarkOf t l) v.out (o.sends (Dir d)),
       );
-      held = λ a dl x. absurd (n (((y t).kept dl x).0));
+      held = λ a dl x. absurd (n ((y t).kept dl x).0);
     }
 
 -- a directory answers
@@ -324,8 +324,7 @@ skip-unmarked sh gs w c d k m l z h i e =
 
 -- a Mark of a TID comes from one core, to which the TID was granted
 pub only-there : (sh : Shape) (gs : List Grant) (w : World) (cs : List Noted) (c j d k t l : ℕ) (m : Msg) → KeptOwners sh gs w cs
-    → KeptMarks sh gs w → FromCore w c d k m → (j ≡ c → ⊥)
-    → (Contains gs (record { tid = t; core = j })) ⊎ (1 ≤ num (nat_le w.next t))
+    → KeptMarks sh gs w → FromCore w c d k m → (j ≡ c → ⊥) → (Contains gs (record { tid = t; core = j })) ⊎ (1 ≤ num (nat_le w.next t))
     → live (MarkOf t l) (to_dir w j d) + num (passes (MarkOf t l) m) ≡ live (MarkOf t l) (to_dir w j d)
 unfolding marks_of pair
 only-there sh gs w cs c j d k t l m y h i n q = go (passes (MarkOf t l) m) refl
@@ -335,7 +334,7 @@ only-there sh gs w cs c j d k t l m y h i n q = go (passes (MarkOf t l) m) refl
 
     not : 1 ≤ live (MarkOf t l) (to_dir w c d) → (Contains gs (record { tid = t; core = j })) ⊎ (1 ≤ num (nat_le w.next t)) → ⊥
     not x (inl a) =
-        n (granted-once 1 gs t j c (y.numbered) a ((h c d t l).owner (omega (arith, x, (kinds t l (to_dir w c d)).0))))
+        n (granted-once 1 gs t j c y.numbered a ((h c d t l).owner (omega (arith, x, (kinds t l (to_dir w c d)).0))))
     not x (inr b) = omega (arith, x, (h c d t l).fresh (omega (arith, b)))
 
     go : (p : Bool) → passes (MarkOf t l) m ≡ p → live (MarkOf t l) (to_dir w j d) + num (passes (MarkOf t l) m) ≡ live
@@ -362,11 +361,11 @@ dir-marks sh gs w cs c d k m s sends a y h z i u = pairs_dir (λ j e v. (t l : �
     skip l = skip-unmarked sh gs w c d k m l a h i
 
     nonempty : passes EmptyMarks m ≡ false
-    nonempty = empty-one (to_dir w c d) k m i ((h c d 0 0).words)
+    nonempty = empty-one (to_dir w c d) k m i (h c d 0 0).words
 
     reached : (j t : ℕ) → j < sh.cores → d < sh.dirs → opens (w.cores j).phase (writes_at sh (w.cores j).cache d) t ≡ true
         → s.serving.serving ≤ t
-    reached j t x l o = rw (tid_at, eq-self d) at (open-ahead sh v j d t (z.tids) x l o)
+    reached j t x l o = rw (tid_at, eq-self d) at (open-ahead sh v j d t z.tids x l o)
 
 pub no-request : (t l : ℕ) → passes (MarkOf t l) TidReq ≡ false
 unfolding passes
@@ -382,7 +381,7 @@ asks-marks : (sh : Shape) (gs : List Grant) (w : World) (cs : List Noted) (d : �
 unfolding dir_asks pair
 asks-marks sh gs w cs d s sends y h z u = pairs_asks (λ j e v. (t l : ℕ) → MarksOf sh gs j e t l v) w d s sends
     (λ j t l. marks-answered sh gs j d t l (pair w j d) TidReq s (sends (Core j)) (to_dir w j d)
-    (Stays (u.0) (u.1) (λ a b q. let e = no-request a b in absurd (cc))) (λ x. omega arith) (λ q. rw (no-request t l) (omega arith))
+    (Stays u.0 u.1 (λ a b q. let e = no-request a b in absurd (cc))) (λ x. omega arith) (λ q. rw (no-request t l) (omega arith))
     (λ e. absurd (cc)) (is-granted sh gs w cs j t y) (reached j t) no-empty (h j d t l))
     h
   where
@@ -391,7 +390,7 @@ asks-marks sh gs w cs d s sends y h z u = pairs_asks (λ j e v. (t l : ℕ) → 
 
     reached : (j t : ℕ) → j < sh.cores → d < sh.dirs → opens (w.cores j).phase (writes_at sh (w.cores j).cache d) t ≡ true
         → s.serving.serving ≤ t
-    reached j t x l o = rw (tid_at, eq-self d) at (open-ahead sh v j d t (z.tids) x l o)
+    reached j t x l o = rw (tid_at, eq-self d) at (open-ahead sh v j d t z.tids x l o)
 
 pub taken-back : (sh : Shape) (gs : List Grant) (w : World) (c d k t l : ℕ) → MarksOf sh gs c d t l (pair w c d)
     → MarksOf sh gs c d t l (back_taken (pair w c d) k)

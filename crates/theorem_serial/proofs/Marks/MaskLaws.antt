@@ -7,7 +7,7 @@ use Names.{CoreState, World, Link, start, History, run, Any, Commits, CommitOf, 
 use Names.{stores_line, marked_by, KeptMarks, wrong_marks, KeptMasks, AlwaysSince, MarkedByServed, MarksOfCommits, Grant, grants_from}
 use Names.{IsRising, Pair, pair, stored_mask, stores_at, MarkedWith, KeptStored, nats, tid_at, to_dir, IfSome_then}
 use proofs.Counts.Links.{total-same, live-fewer}
-use proofs.Marks.CoreCounts.{total-num}
+use proofs.Marks.CommitMasks.{total-num}
 use proofs.Marks.CountsKept.{none-away}
 use proofs.Marks.StoredKept.{taken-marks, one-commit}
 use proofs.Run.AllInvariants.{run-all}
@@ -18,7 +18,7 @@ rising-at : (last k : ℕ) (cs : List Noted) (x : Noted) → IsRising last cs �
 unfolding IsRising
 rising-at last k [] x h l e = absurd (omega arith)
 rising-at last zero (c ∷ cs) x h l e = let q : c.tid.0 ≡ x.tid.0 = ap (λ y. y.tid.0) e in omega (arith, h.0)
-rising-at last (suc k) (c ∷ cs) x h l e = omega (arith, h.0, rising-at c.tid.0 k cs x (h.1) (omega arith) e)
+rising-at last (suc k) (c ∷ cs) x h l e = omega (arith, h.0, rising-at c.tid.0 k cs x h.1 (omega arith) e)
 
 same-at : (last i j : ℕ) (cs : List Noted) (x y : Noted) → IsRising last cs → x.tid.0 ≡ y.tid.0 → i < length cs → slice_index_or cs i x ≡ x
     → j < length cs → slice_index_or cs j y ≡ y → x ≡ y
@@ -26,13 +26,13 @@ unfolding IsRising
 same-at last i j [] x y h t a p b q = absurd (omega arith)
 same-at last zero zero (c ∷ cs) x y h t a p b q = sym p ∙ q
 same-at last zero (suc j) (c ∷ cs) x y h t a p b q = let r : c.tid.0 ≡ x.tid.0 = ap (λ z. z.tid.0) p in
-    absurd (omega (arith, t, rising-at c.tid.0 j cs y (h.1) (omega arith) q))
+    absurd (omega (arith, t, rising-at c.tid.0 j cs y h.1 (omega arith) q))
 same-at last (suc i) zero (c ∷ cs) x y h t a p b q = let r : c.tid.0 ≡ y.tid.0 = ap (λ z. z.tid.0) q in
-    absurd (omega (arith, t, rising-at c.tid.0 i cs x (h.1) (omega arith) p))
-same-at last (suc i) (suc j) (c ∷ cs) x y h t a p b q = same-at c.tid.0 i j cs x y (h.1) t (omega arith) p (omega arith) q
+    absurd (omega (arith, t, rising-at c.tid.0 i cs x h.1 (omega arith) p))
+same-at last (suc i) (suc j) (c ∷ cs) x y h t a p b q = same-at c.tid.0 i j cs x y h.1 t (omega arith) p (omega arith) q
 
 pub same-commit : (cs : List Noted) (x y : Noted) → IsRising 0 cs → Contains cs x → Contains cs y → x.tid.0 ≡ y.tid.0 → x ≡ y
-same-commit cs x y h a b t = same-at 0 a.0 b.0 cs x y h t (a.1) (a.2) (b.1) (b.2)
+same-commit cs x y h a b t = same-at 0 a.0 b.0 cs x y h t a.1 a.2 b.1 b.2
 
 -- a marked line is a Mark of the served TID
 marked-one : (l : ℕ) (v : Pair) → has_mark v.dir.lines l ≡ true → 1 ≤ marks_of v.dir.serving.serving l v
@@ -57,8 +57,7 @@ served-marks sh gs w m q = record {
   masked = λ c d l x y t h. marked-right l (modified_mask (w.cores c).cache l) (pair w c d) h (q c d (tid_at w d) l x y t);
 }
   where
-    granted : (d l : ℕ) → has_mark (w.dirs d).lines l ≡ true → (tid_at w d < w.next) ⊎ (w.next ≤ tid_at w d)
-        → tid_at w d < w.next
+    granted : (d l : ℕ) → has_mark (w.dirs d).lines l ≡ true → (tid_at w d < w.next) ⊎ (w.next ≤ tid_at w d) → tid_at w d < w.next
     granted d l h (inl x) = x
     granted d l h (inr x) = let n : num (nat_le w.next (tid_at w d)) ≡ 1 = grind nats in
         absurd (omega (arith, marked-one l (pair w 0 d) h, (m 0 d (tid_at w d) l).fresh (omega (arith, n))))
@@ -82,7 +81,7 @@ commits-marks sh gs h k = record { stored = stored; counted = counted; sent = se
     w = h.world
 
     inside : (x : Noted) (d : ℕ) → 1 ≤ live (Commits x.tid.0) (to_dir w x.core.0 d) → x.core.0 < sh.cores
-    inside x d o = inside_from sh x.core.0 (live Any (to_dir w x.core.0 d)) ((k.kept.told.tids.inside x.core.0 d).out)
+    inside x d o = inside_from sh x.core.0 (live Any (to_dir w x.core.0 d)) (k.kept.told.tids.inside x.core.0 d).out
         (omega (arith, o, few-any x.tid.0 (to_dir w x.core.0 d)))
 
     sent : (x : Noted) (d l : ℕ) → Contains h.commits x → d < sh.dirs → 1 ≤ live (Commits x.tid.0) (to_dir w x.core.0 d)
@@ -90,13 +89,13 @@ commits-marks sh gs h k = record { stored = stored; counted = counted; sent = se
     sent x d l c dl o =
         let y = (k.stored x.core.0 d x.tid.0).sent (inside x d o) dl o in
         subst (λ z. MarkedWith x.tid.0 l (stored_mask sh d z.stores l) (pair w x.core.0 d))
-        (same-commit h.commits y.commit x (k.owners.rising) (y.noted) c (y.tid)) (y.marks l)
+        (same-commit h.commits y.commit x k.owners.rising y.noted c y.tid) (y.marks l)
 
     stored : (x : Noted) (d : ℕ) → Contains h.commits x → d < sh.dirs → 1 ≤ live (Commits x.tid.0) (to_dir w x.core.0 d)
         → stores_at sh d x.stores ≡ true
     stored x d c dl o =
         let y = (k.stored x.core.0 d x.tid.0).sent (inside x d o) dl o in
-        subst (λ z. stores_at sh d z.stores ≡ true) (same-commit h.commits y.commit x (k.owners.rising) (y.noted) c (y.tid)) (y.stored)
+        subst (λ z. stores_at sh d z.stores ≡ true) (same-commit h.commits y.commit x k.owners.rising y.noted c y.tid) y.stored
 
     counted : (x : Noted) (d n : ℕ) → Contains h.commits x → d < sh.dirs → 1 ≤ live (CommitOf x.tid.0 n) (to_dir w x.core.0 d)
         → count_below (λ l. nat_lt 0 (stored_mask sh d x.stores l)) (lines sh) ≡ n
@@ -105,7 +104,7 @@ commits-marks sh gs h k = record { stored = stored; counted = counted; sent = se
         omega (arith, o, few-commits x.tid.0 n (to_dir w x.core.0 d)) in
         sym (total-num (λ l. nat_lt 0 (stored_mask sh d x.stores l)) (lines sh))
         ∙ total-same (λ l. num (nat_lt 0 (stored_mask sh d x.stores l))) (λ l. marks_of x.tid.0 l (pair w x.core.0 d)) (lines sh)
-        (λ l b. sym ((sent x d l c dl z).one)) ∙ ((k.counted x.core.0 d x.tid.0 (inside x d z)).counted n dl o).sum
+        (λ l b. sym (sent x d l c dl z).one) ∙ ((k.counted x.core.0 d x.tid.0 (inside x d z)).counted n dl o).sum
 
     taken : (x : Noted) (d l : ℕ) → Contains h.commits x → d < sh.dirs → tid_at w d ≡ x.tid.0
         → 1 ≤ live (CommitOf x.tid.0 (count_below (has_mark (w.dirs d).lines) (lines sh))) (to_dir w x.core.0 d)
@@ -123,7 +122,7 @@ commits-marks sh gs h k = record { stored = stored; counted = counted; sent = se
     owed x d l c dl e o =
         let y = (k.stored 0 d 0).settled dl o in
         subst (λ z. (w.dirs d).lines.mark l ≡ stored_mask sh d z.stores l)
-        (same-commit h.commits y.commit x (k.owners.rising) (y.noted) c (y.tid ∙ e)) (y.marks l)
+        (same-commit h.commits y.commit x k.owners.rising y.noted c (y.tid ∙ e)) (y.marks l)
 
 -- along every run
 from_all : (P : Shape → List Noted → World → Type 0)
@@ -137,7 +136,7 @@ pub masks_stored : Always KeptMasks
 masks_stored = from_all (λ sh cs w. KeptMasks sh w) (λ sh gs h k. k.masks)
 
 pub marked_by_served : Always MarkedByServed
-marked_by_served = from_all (λ sh cs w. MarkedByServed sh w) (λ sh gs h k. served-marks sh gs h.world (k.marks) (k.masks))
+marked_by_served = from_all (λ sh cs w. MarkedByServed sh w) (λ sh gs h k. served-marks sh gs h.world k.marks k.masks)
 
 pub commits_stored : AlwaysSince KeptStored
 commits_stored = from_all KeptStored (λ sh gs h k. k.stored)

@@ -13,7 +13,7 @@ use proofs.Counts.StepCases.{pairs_move, pairs_grant, pairs_back, pairs_dir, pai
 use proofs.Marks.CoreMarking.{Marking, marking-exec, marking-evict, few}
 use proofs.Marks.CoreMarkingTakes.{Granting, marking-back, granting}
 use proofs.Marks.CommitMasks.{Masking, live-masked, passes-masked, masking-exec, masking-evict, masking-back}
-use proofs.Marks.DirMarks.{Marked, Stays, MarkedBy, dir-marked, marks-grow}
+use proofs.Marks.DirRecords.{Marked, Stays, MarkedBy, dir-marked, marks-grow}
 use proofs.Marks.MarksKept.{marks-granted, has-granted, is-granted, skip-unmarked, only-there, kinds, falls, taken-less}
 use proofs.Serving.KeptSteps.{core_of_back}
 use proofs.Serving.OwnerSteps.{grant-alone}
@@ -31,7 +31,7 @@ masks-moved : (sh : Shape) (gs : List Grant) (c d t l : ℕ) (v : Pair) (o : Out
     → c < sh.cores → d < sh.dirs → MarksOf sh gs c d t l v → MaskedOf t l v → MaskedOf t l (after_move v o d)
 unfolding wrong_marks
 masks-moved sh gs c d t l v o y z cl dl m h = λ x. let k = y.kept x in
-    omega (arith, live-sends (MarkMask t l q) v.out (o.sends (Dir d)), z.sent x, before (k.0) (z.stays x))
+    omega (arith, live-sends (MarkMask t l q) v.out (o.sends (Dir d)), z.sent x, before k.0 (z.stays x))
   where
     q : ℕ
     q = modified_mask o.core.cache l
@@ -76,9 +76,8 @@ masks-answered t l v m s ms k y eqn skip h = λ x. wrong-falls v.dir s m t l (mo
 
 -- a message from another core is no Mark of this core's TID
 pub masked-there : (sh : Shape) (gs : List Grant) (w : World) (cs : List Noted) (c j d k t l q : ℕ) (m : Msg) → KeptOwners sh gs w cs
-    → KeptMarks sh gs w → FromCore w c d k m → (j ≡ c → ⊥)
-    → Contains gs (record { tid = t; core = j }) → live (MarkMask t l q) (to_dir w j d) + num (passes (MarkMask t l q) m) ≡ live
-    (MarkMask t l q) (to_dir w j d)
+    → KeptMarks sh gs w → FromCore w c d k m → (j ≡ c → ⊥) → Contains gs (record { tid = t; core = j })
+    → live (MarkMask t l q) (to_dir w j d) + num (passes (MarkMask t l q) m) ≡ live (MarkMask t l q) (to_dir w j d)
 masked-there sh gs w cs c j d k t l q m y h i n g =
     let z : num (passes (MarkOf t l) m) ≡ 0 = omega (arith, only-there sh gs w cs c j d k t l m y h i n (inl g)) in
     omega (arith, passes-masked t l q m z)
@@ -153,7 +152,7 @@ step-masks sh p gs w cs e z y b h = step_cases sh p w e (λ g o. KeptMasks sh o.
     answered c d k m i Waits u = tt
     answered c d k m i Drops u = dir-masks sh gs w cs c d k m (w.dirs d) (λ dst. []) z.told y b h i (Stays refl (λ l. refl) u)
     answered c d k m i (Asks s sends) u =
-        pairs_asks P w d s sends (λ j t l x r. masks-asked t l (pair w j d) s (sends (Core j)) (u.0) (u.1 l) (h j d t l x r))
+        pairs_asks P w d s sends (λ j t l x r. masks-asked t l (pair w j d) s (sends (Core j)) u.0 (u.1 l) (h j d t l x r))
         (λ c d t l x r. h c d t l x r)
     answered c d k m i (Takes s sends) u = dir-masks sh gs w cs c d k m s sends z.told y b h i u
 
@@ -234,7 +233,7 @@ step-one-mark sh p gs w cs e z y b h = step_cases sh p w e (λ g o. OneMark sh o
     (λ c r q x. moved c x (core_evict sh r q (w.cores c)) (λ d t l. marking-evict sh r q d t l (w.cores c)))
     (λ c k u i. pairs_grant P w c k (grant sh u (w.cores c))
     (λ d t l x r. one-granted t l d k (pair w c d) (grant sh u (w.cores c))
-    ((granting sh u d t l (w.cores c) (granted_waits (pair w c d) k u i (z.told.tids.requests c d))).marks) (h c d t l x r))
+    (granting sh u d t l (w.cores c) (granted_waits (pair w c d) k u i (z.told.tids.requests c d))).marks (h c d t l x r))
     (λ c d t l x r. h c d t l x r))
     (λ c d k m i. taken c d k (core_of_back sh w c d k m z.told.tids i) (from_dir sh d (w.cores c) m)
     (λ e t l. marking-back sh d e t l (w.cores c) m))
@@ -259,12 +258,11 @@ step-one-mark sh p gs w cs e z y b h = step_cases sh p w e (λ g o. OneMark sh o
     taken c d k a (Some o) u = pairs_back P w d c k o (λ t l x r. own c d t l o x r (u d t l)) (λ e n t l x r. own c e t l o x r (u e t l))
         (λ c d t l x r. h c d t l x r)
 
-    answered : (c d k : ℕ) (m : Msg) → FromCore w c d k m → (a : Answer) → MarkedBy (w.dirs d) m a
-        → OfAnswer w c d k (λ v. OneMark sh v) a
+    answered : (c d k : ℕ) (m : Msg) → FromCore w c d k m → (a : Answer) → MarkedBy (w.dirs d) m a → OfAnswer w c d k (λ v. OneMark sh v) a
     answered c d k m i Waits u = tt
     answered c d k m i Drops u = dir-one sh gs w cs c d k m (w.dirs d) (λ dst. []) z.told y b h i (Stays refl (λ l. refl) u)
     answered c d k m i (Asks s sends) u =
-        pairs_asks P w d s sends (λ j t l x r. one-asked t l (pair w j d) s (sends (Core j)) (u.0) (u.1 l) (h j d t l x r))
+        pairs_asks P w d s sends (λ j t l x r. one-asked t l (pair w j d) s (sends (Core j)) u.0 (u.1 l) (h j d t l x r))
         (λ c d t l x r. h c d t l x r)
     answered c d k m i (Takes s sends) u = dir-one sh gs w cs c d k m s sends z.told y b h i u
 

@@ -14,16 +14,14 @@ use proofs.Counts.DirOutcome.{Outcome, Waiting, Spent, AsksOwner, TakesProbe, Ta
 use proofs.Counts.Links.{among-append, among-flat_map_none, live-sends, live-takes, total-le, live-fewer, none-taken, among-fewer}
 use proofs.Counts.StepCases.{dir-own, dir-other, pairs_move, pairs_grant, pairs_back, pairs_dir, pairs_asks, pairs_vendor, OfAnswer}
 use proofs.Counts.StepCases.{step_cases, asks-own}
-use proofs.Marks.DirMarks.{Marked, Stays, Clears, Skipped, Marks as IsMarked, MarkedBy, dir-marked}
+use proofs.Marks.DirRecords.{Marked, Stays, Clears, Skipped, Marks as IsMarked, MarkedBy, dir-marked, CountsMarked, OwesBy, dir-owes}
 use proofs.Marks.MarksKept.{taken-less, is-mark}
-use proofs.Marks.DirRecords.{CountsMarked, OwesBy, dir-owes}
 use proofs.OneCore.CoreSteps.{fill-steady, data-steady, Invalidated, invalidate-cases, reply-cases}
 use proofs.Serving.CoreDue.{Clean, clean-hurt, clean-replied, clean-steady, CleanOut, clean-exec, clean-evict, clean-grant}
 use proofs.Serving.DirDue.{Due, DueBy, dir-due, still-due, none-quiet, Quiet}
 use proofs.Serving.KeptSteps.{core_of_out, once_at, marks_home, acks_owed, BackDue, back-due}
 use proofs.Tids.Commits.{only-one}
-use proofs.Tids.DirTids.{unserved}
-use proofs.Tids.TidSteps.{live-some}
+use proofs.Tids.TidSteps.{unserved, live-some}
 
 -- What nodes send of invalidations and acknowledgements, line by line.
 
@@ -256,13 +254,13 @@ dir-named sh w c d k ack m s sends b g h z cl i u p o n =
         first r x (inl y) = named-quiet l (pair w j d) s (sends (Core j)) q (marks-same sh w c d k m s g cl dl i x r o u l) (y j) a
             (h j d l jl dl)
         first r x (inr y) =
-            let t = none-due sh w j d b jl (unserved (w.dirs d) m (once_at sh w c d k m b i) (y.0)) in
+            let t = none-due sh w j d b jl (unserved (w.dirs d) m (once_at sh w c d k m b i) y.0) in
             named-first l (pair w j d) s (sends (Core j)) q (marks-same sh w c d k m s g cl dl i x r o u l) (y.1 j) (omega (arith, t))
             (omega (arith, t, f))
 
         serves : {B : Type 0} → 1 ≤ s.owed → ((s.serving.serving ≡ tid_at w d) × B) ⊎ (s.owed ≡ 0)
             → NamedOf l (after_answer (record (pair w j d) { out = q }) s (sends (Core j)))
-        serves x (inl y) = first (y.0) x n
+        serves x (inl y) = first y.0 x n
         serves x (inr y) = absurd (omega (arith, x, y))
 
         go : (0 < s.owed) ⊎ (s.owed ≤ 0) → NamedOf l (after_answer (record (pair w j d) { out = q }) s (sends (Core j)))
@@ -285,10 +283,9 @@ unfolding pair
 away-back e d c l w m o n a h = let b : (d == e) ≡ false = grind nats in
     named-moved l d 0 (pair w c d) o (to_core w d c) (rw b at a) (omega arith) (omega arith) h
 
-pub passed-away : (sh : Shape) (w : World) (c e k : ℕ) (m : Msg) → KeptTold sh w → FromDir w e c k m
-    → passes (InvsAway sh.dirs e) m ≡ false
+pub passed-away : (sh : Shape) (w : World) (c e k : ℕ) (m : Msg) → KeptTold sh w → FromDir w e c k m → passes (InvsAway sh.dirs e) m ≡ false
 unfolding pair
-passed-away sh w c e k m z i = none-taken (InvsAway sh.dirs e) (to_core w e c) k m i ((z.owed.at_home c e).invs)
+passed-away sh w c e k m z i = none-taken (InvsAway sh.dirs e) (to_core w e c) k m i (z.owed.at_home c e).invs
 
 pub step-named : (sh : Shape) (p : Program) (w : World) (e : Event) → Kept sh w → KeptCounted sh w → KeptNamed sh w
     → IfSome (step sh p w e) (λ o. KeptTold sh o.world → KeptNamed sh o.world)
@@ -302,7 +299,7 @@ step-named sh p w e z g h = step_cases sh p w e (λ x o. KeptTold sh o.world →
     (λ b l. acks-line sh d b l (w.cores c) m (passed-away sh w c d k m z.told i)))
     (λ c d k m i. answered c d k m i (core_of_out sh w c d k m z.told.tids i) (dir_deliver sh (w.dirs d) c m) (dir-marked sh (w.dirs d) c m)
     (dir-owes sh (w.dirs d) c m)
-    (dir-due sh d (w.dirs d) c m (once_at sh w c d k m z.told i) ((z.told.owed.at_home c d).marked) (marks_home sh w c d k m z.told.owed i)
+    (dir-due sh d (w.dirs d) c m (once_at sh w c d k m z.told i) (z.told.owed.at_home c d).marked (marks_home sh w c d k m z.told.owed i)
     (acks_owed sh w c d k m z.told.owed (core_of_out sh w c d k m z.told.tids i) i)) (dir-names sh (w.dirs d) c m))
     (λ c k i n. pairs_vendor P w c k (λ d l x y. record { one = (h c d l x y).one; mask = (h c d l x y).mask })
     (λ j d q l x y. record { one = (h j d l x y).one; mask = (h j d l x y).mask }))
@@ -322,12 +319,11 @@ step-named sh p w e z g h = step_cases sh p w e (λ x o. KeptTold sh o.world →
     taken c d k m i (Some o) u = λ n. pairs_back P w d c k o (λ l x y. near-back k d d c l sh w m o i (u d l) (h c d l x y))
         (λ b r l x y. away-back d b c l w m o r (u b l) (h c b l x y)) h
 
-    answered : (c d k : ℕ) (m : Msg) → FromCore w c d k m → c < sh.cores → (b : Answer) → MarkedBy (w.dirs d) m b
-        → OwesBy sh (w.dirs d) m b → DueBy sh d (w.dirs d) (num (passes Acks m)) b → NamesBy (w.dirs d) m b
-        → OfAnswer w c d k (λ v. KeptTold sh v → KeptNamed sh v) b
+    answered : (c d k : ℕ) (m : Msg) → FromCore w c d k m → c < sh.cores → (b : Answer) → MarkedBy (w.dirs d) m b → OwesBy sh (w.dirs d) m b
+        → DueBy sh d (w.dirs d) (num (passes Acks m)) b → NamesBy (w.dirs d) m b → OfAnswer w c d k (λ v. KeptTold sh v → KeptNamed sh v) b
     answered c d k m i cl Waits u o p n = tt
     answered c d k m i cl Drops u o p n = λ t. dir-named sh w c d k 0 m (w.dirs d) (λ dst. []) z.told g h t cl i (Stays refl (λ l. refl) u)
-        (still-due sh d (w.dirs d) ((z.told.owed.at_home c d).marked)) (inl (omega arith)) (inl none-quiet)
+        (still-due sh d (w.dirs d) (z.told.owed.at_home c d).marked) (inl (omega arith)) (inl none-quiet)
     answered c d k m i cl (Asks s sends) u o p n =
         λ t. pairs_asks P w d s sends
         (λ j l x y. named-quiet l (pair w j d) s (sends (Core j)) (to_dir w j d) (u.1 l) (n j) (omega arith) (h j d l x y)) h
@@ -358,8 +354,7 @@ no-acks sh w j d k z = go (cases_lt j sh.cores)
     go (inr l) = omega (arith, (k.tids.inside j d).out l, live-fewer Acks Any acks-any (to_dir w j d))
 
 -- a directory whose TID isn't granted yet is owed nothing
-next-unacked : (sh : Shape) (w : World) (j d : ℕ) → KeptTold sh w → d < sh.dirs → tid_at w d ≡ w.next
-    → live Acks (pair w j d).out ≡ 0
+next-unacked : (sh : Shape) (w : World) (j d : ℕ) → KeptTold sh w → d < sh.dirs → tid_at w d ≡ w.next → live Acks (pair w j d).out ≡ 0
 unfolding handled pair
 next-unacked sh w j d k l e = go (cases_eq (w.dirs d).owed 0)
   where
@@ -371,7 +366,7 @@ next-unacked sh w j d k l e = go (cases_eq (w.dirs d).owed 0)
 unacked-answered : (sh : Shape) (gs : List Grant) (c d : ℕ) (v q : Pair) {B : Type 0}
     → ((q.dir.serving.serving ≡ v.dir.serving.serving) × B) ⊎ (q.dir.owed ≡ 0) → live Acks q.out ≤ live Acks v.out
     → (q.dir.owed ≡ 0 → live Acks q.out ≡ 0) → UnackedOf sh gs c d v → UnackedOf sh gs c d q
-unacked-answered sh gs c d v q (inl e) f z h l g = omega (arith, f, h l (rw (e.0) at g))
+unacked-answered sh gs c d v q (inl e) f z h l g = omega (arith, f, h l (rw e.0 at g))
 unacked-answered sh gs c d v q (inr e) f z h l g = z e
 
 dir-unacked : (sh : Shape) (gs : List Grant) (w : World) (c e k ack : ℕ) (m : Msg) (s : DirState) (sends : Sends) → KeptUnacked sh gs w
@@ -379,11 +374,11 @@ dir-unacked : (sh : Shape) (gs : List Grant) (w : World) (c e k ack : ℕ) (m : 
     → KeptUnacked sh gs (dir_takes w c e k s sends)
 unfolding pair
 dir-unacked sh gs w c e k ack m s sends h z i u = pairs_dir (UnackedOf sh gs) w c e k s sends
-    (unacked-answered sh gs c e (pair w c e) (after_answer (out_taken (pair w c e) k) s (sends (Core c))) (u.served)
+    (unacked-answered sh gs c e (pair w c e) (after_answer (out_taken (pair w c e) k) s (sends (Core c))) u.served
     (omega (arith, live-takes Acks (to_dir w c e) k m i))
     (subst (λ q. q.dir.owed ≡ 0 → live Acks q.out ≡ 0) (dir-own w c e k s sends) (no-acks sh (dir_takes w c e k s sends) c e z))
     (h c e))
-    (λ j n. unacked-answered sh gs j e (pair w j e) (after_answer (pair w j e) s (sends (Core j))) (u.served) (omega arith)
+    (λ j n. unacked-answered sh gs j e (pair w j e) (after_answer (pair w j e) s (sends (Core j))) u.served (omega arith)
     (subst (λ q. q.dir.owed ≡ 0 → live Acks q.out ≡ 0) (dir-other w c e k s sends j n)
     (no-acks sh (dir_takes w c e k s sends) j e z)) (h j e)) h
 
@@ -403,7 +398,7 @@ step-unacked sh p gs w e z y h = step_cases sh p w e (λ g o. KeptTold sh o.worl
     )) h))
     (λ c d k m i. taken c d k m i (from_dir sh d (w.cores c) m) (back-due sh d (w.cores c) m (passed-away sh w c d k m z.told i)))
     (λ c d k m i. answered c d k m i (dir_deliver sh (w.dirs d) c m)
-    (dir-due sh d (w.dirs d) c m (once_at sh w c d k m z.told i) ((z.told.owed.at_home c d).marked) (marks_home sh w c d k m z.told.owed i)
+    (dir-due sh d (w.dirs d) c m (once_at sh w c d k m z.told i) (z.told.owed.at_home c d).marked (marks_home sh w c d k m z.told.owed i)
     (acks_owed sh w c d k m z.told.owed (core_of_out sh w c d k m z.told.tids i) i)))
     (λ c k i n. pairs_vendor (UnackedOf sh (gs ++ record { tid = w.next; core = c } ∷ [])) w c k
     (λ d l g. more c c d l (Contains-append_cases gs (one c) (record { tid = tid_at w d; core = c }) g))
@@ -445,10 +440,10 @@ step-unacked sh p gs w e z y h = step_cases sh p w e (λ g o. KeptTold sh o.worl
     answered c d k m i Waits u = tt
     answered c d k m i Drops u =
         λ n. rw append-nil (dir-unacked sh gs w c d k 0 m (w.dirs d) (λ dst. []) h n i
-        (still-due sh d (w.dirs d) ((z.told.owed.at_home c d).marked)))
+        (still-due sh d (w.dirs d) (z.told.owed.at_home c d).marked))
     answered c d k m i (Asks s sends) u =
         λ n. rw append-nil (pairs_asks P w d s sends
-        (λ j. unacked-answered sh gs j d (pair w j d) (after_answer (pair w j d) s (sends (Core j))) (u.served) (omega arith)
+        (λ j. unacked-answered sh gs j d (pair w j d) (after_answer (pair w j d) s (sends (Core j))) u.served (omega arith)
         (subst (λ q. q.dir.owed ≡ 0 → live Acks q.out ≡ 0) (asks-own w d s sends j) (no-acks sh (dir_asks w d s sends) j d n))
         (h j d)) h)
     answered c d k m i (Takes s sends) u = λ n. rw append-nil (dir-unacked sh gs w c d k (num (passes Acks m)) m s sends h n i u)

@@ -22,8 +22,7 @@ unfolding holder
 has-holder t v e = rw e (omega arith)
 
 -- an invalidation carries the served TID
-served-inv : (sh : Shape) (w : World) (c e k l m u : ℕ) → KeptTold sh w → FromDir w e c k (Inv l m u)
-    → u ≡ tid_at w e
+served-inv : (sh : Shape) (w : World) (c e k l m u : ℕ) → KeptTold sh w → FromDir w e c k (Inv l m u) → u ≡ tid_at w e
 unfolding pair passes
 served-inv sh w c e k l m u z i = go (cases_eq u (tid_at w e))
   where
@@ -39,15 +38,13 @@ served-inv sh w c e k l m u z i = go (cases_eq u (tid_at w e))
               (Inv l m u) i,
         ))
 
-inv-home : (sh : Shape) (w : World) (c e k l m u : ℕ) → KeptTold sh w → FromDir w e c k (Inv l m u)
-    → home sh l ≡ e
+inv-home : (sh : Shape) (w : World) (c e k l m u : ℕ) → KeptTold sh w → FromDir w e c k (Inv l m u) → home sh l ≡ e
 unfolding passes
 inv-home sh w c e k l m u z i = let a = passed-away sh w c e k (Inv l m u) z i in grind nats
 
 -- and this isn't the TID of the core that it goes to
 not-own : (sh : Shape) (gs : List Grant) (w : World) (cs : List Noted) (c e k l m u : ℕ) → e < sh.dirs → KeptOwners sh gs w cs
-    → SparesCommitter sh gs w → FromDir w e c k (Inv l m u)
-    → has_tid (w.cores c).phase (tid_at w e) ≡ true → ⊥
+    → SparesCommitter sh gs w → FromDir w e c k (Inv l m u) → has_tid (w.cores c).phase (tid_at w e) ≡ true → ⊥
 unfolding pair passes
 not-own sh gs w cs c e k l m u b y s i h =
     let g : Contains gs (record { tid = tid_at w e; core = c }) =
@@ -56,8 +53,7 @@ not-own sh gs w cs c e k l m u b y s i h =
 
 -- so the directory has passed the TID of a core that is ahead of it
 inv-passes : (sh : Shape) (gs : List Grant) (w : World) (cs : List Noted) (c e k l m u d : ℕ) → d < sh.dirs → KeptTold sh w
-    → KeptOwners sh gs w cs → SparesCommitter sh gs w → FromDir w e c k (Inv l m u)
-    → PassesTid sh (w.cores c) d (tid_at w d) l u
+    → KeptOwners sh gs w cs → SparesCommitter sh gs w → FromDir w e c k (Inv l m u) → PassesTid sh (w.cores c) d (tid_at w d) l u
 inv-passes sh gs w cs c e k l m u d b z y s i a t h n = rw q (go (cases_eq t u))
   where
     q : d ≡ e
@@ -71,8 +67,7 @@ inv-passes sh gs w cs c e k l m u d b z y s i a t h n = rw q (go (cases_eq t u))
     go (inr r) = omega (arith, x)
 
 admitted : (sh : Shape) (gs : List Grant) (w : World) (cs : List Noted) (c e k : ℕ) (m : Msg) (d : ℕ) → d < sh.dirs → KeptTold sh w
-    → KeptOwners sh gs w cs → SparesCommitter sh gs w → FromDir w e c k m
-    → Admits sh (w.cores c) d (tid_at w d) m
+    → KeptOwners sh gs w cs → SparesCommitter sh gs w → FromDir w e c k m → Admits sh (w.cores c) d (tid_at w d) m
 admitted sh gs w cs c e k (Inv l m u) d b z y s i = inv-passes sh gs w cs c e k l m u d b z y s i
 admitted sh gs w cs c e k _ d b z y s i = tt
 
@@ -129,5 +124,5 @@ read-words sh gs w cs y last k c d x b l a e q r = go b q (k c d a x e r)
     go : (b : Option ℕ) → IsBound b v → ValidOrPassed ((w.cores c).cache.value x) (w.cores c).phase (tid_at w d)
         → (is_some ((w.cores c).cache.value x) ≡ true) ⊎ IsPassed b (tid_at w d)
     go b q (inl z) = inl z
-    go None q (inr z) = absurd (omega (arith, q z.0, has-holder z.0 v (z.1)))
-    go (Some t) q (inr z) = inr (omega (arith, z.2, last c d z.0 t (has-holder z.0 v (z.1)) (y.held c d t q)))
+    go None q (inr z) = absurd (omega (arith, q z.0, has-holder z.0 v z.1))
+    go (Some t) q (inr z) = inr (omega (arith, z.2, last c d z.0 t (has-holder z.0 v z.1) (y.held c d t q)))

@@ -19,11 +19,10 @@ use proofs.Serving.CoreCommits.{granted-free, few-of}
 use proofs.Marks.CoreMarking.{Marking, marking-exec, marking-evict}
 use proofs.Marks.CoreMarkingTakes.{marking-back, granting}
 use proofs.Marks.CountsKept.{none-sent, marks-stay, told-ahead, is-commit, none-away}
-use proofs.Marks.DirMarks.{Marked, Stays, MarkedBy, dir-marked}
+use proofs.Marks.DirRecords.{Marked, Stays, MarkedBy, dir-marked, CountsMarked, OwesBy, dir-owes}
 use proofs.Marks.MarksKept.{open-untold, taken-less, empty-one, skip-unmarked, only-there, no-request, no-empty, taken-back as back-marks}
 use proofs.Marks.ModifiedMasksKept.{wrong-few, wrong-falls, masked-there}
 use proofs.Marks.NamedKept.{marks-same}
-use proofs.Marks.DirRecords.{CountsMarked, OwesBy, dir-owes}
 use proofs.Serving.CommitSteps.{ofs-resolve}
 use proofs.Serving.DirDue.{Due, DueBy, dir-due, still-due}
 use proofs.Serving.KeptSteps.{core_of_back, core_of_out, once_at, marks_home, acks_owed}
@@ -44,7 +43,7 @@ insert-has n (c ∷ cs) = go (nat_lt n.tid.0 c.tid.0) (insert-has n cs)
 insert-keeps : (n : Noted) (cs : List Noted) (x : Noted) → Contains cs x → Contains (insert_commit n cs) x
 unfolding insert_commit
 insert-keeps n [] x h = absurd (omega (arith, h.1))
-insert-keeps n (c ∷ cs) x h = go (nat_lt n.tid.0 c.tid.0) h.0 (h.1) (h.2) (insert-keeps n cs x)
+insert-keeps n (c ∷ cs) x h = go (nat_lt n.tid.0 c.tid.0) h.0 h.1 h.2 (insert-keeps n cs x)
   where
     go : (b : Bool) (k : ℕ) → k < suc (length cs) → slice_index_or (c ∷ cs) k x ≡ x → (Contains cs x → Contains (insert_commit n cs) x)
         → Contains (if b then n ∷ c ∷ cs else c ∷ insert_commit n cs) x
@@ -88,9 +87,8 @@ with-none t l q d v o z h = record {
 
 -- it commits what it has marked, and marks
 with-all : (t l q d b : ℕ) (v : Pair) (o : Out) → marks_of t l v ≡ b → among (MarkOf t l) (o.sends (Dir d)) + b ≡ num (nat_lt 0 q)
-    → among (MarkMask t l q) (o.sends (Dir d)) ≡ 0
-    → (b ≡ 0) ⊎ (q ≡ modified_mask v.core.cache l) → wrong_marks t l (modified_mask v.core.cache l) v ≡ 0
-    → MarkedWith t l q (after_move v o d)
+    → among (MarkMask t l q) (o.sends (Dir d)) ≡ 0 → (b ≡ 0) ⊎ (q ≡ modified_mask v.core.cache l)
+    → wrong_marks t l (modified_mask v.core.cache l) v ≡ 0 → MarkedWith t l q (after_move v o d)
 unfolding marks_of wrong_marks
 with-all t l q d b v o e m r k h = record {
   one = omega (arith, e, m, live-sends (MarkOf t l) v.out (o.sends (Dir d)));
@@ -115,12 +113,12 @@ stored-moved sh gs cs c d t v o cl y s m q free h =
     new : d < sh.dirs → Storing sh c d t v.core o → MarkedCommit sh (and_noted o.commit cs) c d t (after_move v o d)
     new dl k = record {
       commit = k.commit;
-      noted = noted-has o.commit cs k.commit (k.noted);
+      noted = noted-has o.commit cs k.commit k.noted;
       tid = k.tid;
       core = k.core;
       stored = k.stored;
-      marks = λ l. with-all t l (stored_mask sh d k.commit.stores l) d (marked_by sh v.core d l) v o ((m l).held cl dl (k.held)) (k.marks l)
-          (k.right l) (k.before l) (q dl l (k.held));
+      marks = λ l. with-all t l (stored_mask sh d k.commit.stores l) d (marked_by sh v.core d l) v o ((m l).held cl dl k.held) (k.marks l)
+          (k.right l) (k.before l) (q dl l k.held);
     }
 
     sent : d < sh.dirs → 1 ≤ live (Commits t) (v.out ++ sent_all (o.sends (Dir d)))
@@ -128,7 +126,7 @@ stored-moved sh gs cs c d t v o cl y s m q free h =
     sent dl x (inr z) = new dl (s (omega (arith, x, z, live-sends (Commits t) v.out (o.sends (Dir d)))))
     sent dl x (inl z) = let k = h.sent cl dl (omega (arith, z)) in record {
       commit = k.commit;
-      noted = noted-keeps o.commit cs k.commit (k.noted);
+      noted = noted-keeps o.commit cs k.commit k.noted;
       tid = k.tid;
       core = k.core;
       stored = k.stored;
@@ -201,7 +199,7 @@ stored-answered sh gs cs j d t v m s ms k y less ones wrongs skip nonempty ahead
         stays l q a b jl dl w = record {
           one = marks-stay sh d t l v m s ms k y (ones l b) (skip l) nonempty (ahead jl dl a) (omega (arith, w.one, num-most (nat_lt 0 q)))
               ∙ w.one;
-          right = wrong-falls v.dir s m t l q (live (MarkMask t l q) v.out) (live (MarkMask t l q) k) y (wrongs l q b) (skip l) (w.right);
+          right = wrong-falls v.dir s m t l q (live (MarkMask t l q) v.out) (live (MarkMask t l q) k) y (wrongs l q b) (skip l) w.right;
         }
 
 -- where a directory takes the Commit, and none of its Marks is in flight, the marks are the words that it stored
@@ -228,7 +226,7 @@ taken-stored sh w cs c d k m g h cl dl i q =
     }
   where
     u : ℕ
-    u = (tid_at w d)
+    u = tid_at w d
 
     n : ℕ
     n = count_below (has_mark (w.dirs d).lines) (lines sh)
@@ -250,21 +248,20 @@ taken-stored sh w cs c d k m g h cl dl i q =
 
 dir-stored : (sh : Shape) (gs : List Grant) (w : World) (cs : List Noted) (c d k ack : ℕ) (m : Msg) (s : DirState) (sends : Sends)
     → KeptTold sh w → KeptOwners sh gs w cs → KeptMarks sh gs w → KeptCounted sh w → KeptStored sh cs w
-    → KeptTold sh (dir_takes w c d k s sends) → c < sh.cores → FromCore w c d k m
-    → Marked (w.dirs d) m s → Due sh d (w.dirs d) ack s sends → (s.owed ≤ (w.dirs d).owed) ⊎ CountsMarked sh (w.dirs d) m
-    → KeptStored sh cs (dir_takes w c d k s sends)
+    → KeptTold sh (dir_takes w c d k s sends) → c < sh.cores → FromCore w c d k m → Marked (w.dirs d) m s → Due sh d (w.dirs d) ack s sends
+    → (s.owed ≤ (w.dirs d).owed) ⊎ CountsMarked sh (w.dirs d) m → KeptStored sh cs (dir_takes w c d k s sends)
 unfolding pair
 dir-stored sh gs w cs c d k ack m s sends b y a g h z cl i u p o = pairs_dir (λ j e v. (t : ℕ) → StoredOf sh cs j e t v) w c d k s sends
     (λ t. stored-answered sh gs cs c d t (pair w c d) m s (sends (Core c)) (set (to_dir w c d) k None) u
     (λ x. taken-less k x (to_dir w c d) m i) (λ l x. live-takes (MarkOf t l) (to_dir w c d) k m i)
     (λ l q x. live-takes (MarkMask t l q) (to_dir w c d) k m i) skip nonempty
     (λ jl dl. subst (λ v. 1 ≤ live (Resolves t) v.out → v.dir.serving.serving ≤ t) (dir-own w c d k s sends)
-    (told-ahead sh new c d t (z.tids) jl dl)) settles (a c d t 0) (h c d t))
+    (told-ahead sh new c d t z.tids jl dl)) settles (a c d t 0) (h c d t))
     (λ j n t. stored-answered sh gs cs j d t (pair w j d) m s (sends (Core j)) (to_dir w j d) u (λ x. omega arith)
     (λ l x. only-there sh gs w cs c j d k t l m y a i n (inl x)) (λ l q x. masked-there sh gs w cs c j d k t l q m y a i n x) skip
     nonempty
     (λ jl dl. subst (λ v. 1 ≤ live (Resolves t) v.out → v.dir.serving.serving ≤ t) (dir-other w c d k s sends j n)
-    (told-ahead sh new j d t (z.tids) jl dl)) settles (a j d t 0) (h j d t))
+    (told-ahead sh new j d t z.tids jl dl)) settles (a j d t 0) (h j d t))
     h
   where
     new : World
@@ -274,19 +271,18 @@ dir-stored sh gs w cs c d k ack m s sends b y a g h z cl i u p o = pairs_dir (λ
     skip l = skip-unmarked sh gs w c d k m l b a i
 
     nonempty : passes EmptyMarks m ≡ false
-    nonempty = empty-one (to_dir w c d) k m i ((a c d 0 0).words)
+    nonempty = empty-one (to_dir w c d) k m i (a c d 0 0).words
 
     -- what the directory serves is settled already, or by this message
     before : d < sh.dirs → 1 ≤ s.owed → (s.owed ≤ (w.dirs d).owed) ⊎ CountsMarked sh (w.dirs d) m → SettledCommit sh cs d (w.dirs d)
     before dl x (inl q) = (h c d 0).settled dl (omega (arith, x, q))
     before dl x (inr q) = taken-stored sh w cs c d k m g h cl dl i q
 
-    serves : {B : Type 0} → 1 ≤ s.owed → ((s.serving.serving ≡ tid_at w d) × B) ⊎ (s.owed ≡ 0)
-        → s.serving.serving ≡ (tid_at w d)
+    serves : {B : Type 0} → 1 ≤ s.owed → ((s.serving.serving ≡ tid_at w d) × B) ⊎ (s.owed ≡ 0) → s.serving.serving ≡ (tid_at w d)
     serves x a = grind nats
 
     settles : d < sh.dirs → 1 ≤ s.owed → SettledCommit sh cs d s
-    settles dl x = let n = before dl x o in let e = serves x (p.served) in record {
+    settles dl x = let n = before dl x o in let e = serves x p.served in record {
       commit = n.commit;
       noted = n.noted;
       tid = n.tid ∙ sym e;
@@ -300,10 +296,10 @@ asks-stored : (sh : Shape) (gs : List Grant) (w : World) (cs : List Noted) (d : 
 unfolding pair
 asks-stored sh gs w cs d s sends a h z u o = pairs_asks (λ j e v. (t : ℕ) → StoredOf sh cs j e t v) w d s sends
     (λ j t. stored-answered sh gs cs j d t (pair w j d) TidReq s (sends (Core j)) (to_dir w j d)
-    (Stays (u.0) (u.1) (λ b e q. let f = no-request b e in absurd (cc))) (λ q. omega arith) (λ l x. none t l)
+    (Stays u.0 u.1 (λ b e q. let f = no-request b e in absurd (cc))) (λ q. omega arith) (λ l x. none t l)
     (λ l q x. omega (arith, passes-masked t l q TidReq (ap num (no-request t l)))) (λ l e. absurd (cc)) no-empty
     (λ jl dl. subst (λ v. 1 ≤ live (Resolves t) v.out → v.dir.serving.serving ≤ t) (asks-own w d s sends j)
-    (told-ahead sh (dir_asks w d s sends) j d t (z.tids) jl dl)) settles (a j d t 0) (h j d t))
+    (told-ahead sh (dir_asks w d s sends) j d t z.tids jl dl)) settles (a j d t 0) (h j d t))
     h
   where
     none : {x : ℕ} (t l : ℕ) → x + num (passes (MarkOf t l) TidReq) ≡ x
@@ -311,7 +307,7 @@ asks-stored sh gs w cs d s sends a h z u o = pairs_asks (λ j e v. (t : ℕ) →
 
     settles : d < sh.dirs → 1 ≤ s.owed → SettledCommit sh cs d s
     settles dl x = let n = (h 0 d 0).settled dl (omega (arith, x, o)) in
-        record { commit = n.commit; noted = n.noted; tid = n.tid ∙ sym (u.0); stored = n.stored; marks = λ l. u.1 l ∙ n.marks l }
+        record { commit = n.commit; noted = n.noted; tid = n.tid ∙ sym u.0; stored = n.stored; marks = λ l. u.1 l ∙ n.marks l }
 
 -- another pair in which the Marks, the Commits and the directory are the same
 same-stored : (sh : Shape) (cs : List Noted) (c d t : ℕ) (v w : Pair) → w.out ≡ v.out → w.dir ≡ v.dir → StoredOf sh cs c d t v
@@ -325,7 +321,7 @@ same-stored sh cs c d t v w e f h = record {
         tid = k.tid;
         core = k.core;
         stored = k.stored;
-        marks = λ l. record { one = rw (e, f) ((k.marks l).one); right = rw (e, f) ((k.marks l).right) };
+        marks = λ l. record { one = rw (e, f) (k.marks l).one; right = rw (e, f) (k.marks l).right };
       };
   settled = λ dl x. rw f (h.settled dl (rw f at x));
 }
@@ -351,7 +347,7 @@ step-stored sh p gs w cs e z y x a g q h = step_cases sh p w e (λ r o. KeptTold
     (λ b t l. marking-back sh d b t l (w.cores c) m) (λ b t. storing-back sh d c b t (w.cores c) m))
     (λ c d k m i. answered c d k m i (core_of_out sh w c d k m z.told.tids i) (dir_deliver sh (w.dirs d) c m) (dir-marked sh (w.dirs d) c m)
     (dir-owes sh (w.dirs d) c m)
-    (dir-due sh d (w.dirs d) c m (once_at sh w c d k m z.told i) ((z.told.owed.at_home c d).marked) (marks_home sh w c d k m z.told.owed i)
+    (dir-due sh d (w.dirs d) c m (once_at sh w c d k m z.told i) (z.told.owed.at_home c d).marked (marks_home sh w c d k m z.told.owed i)
     (acks_owed sh w c d k m z.told.owed (core_of_out sh w c d k m z.told.tids i) i)))
     (λ c k i n. pairs_vendor (P None) w c k (λ d t. same-stored sh cs c d t (pair w c d) (after_grant (pair w c d) k) refl refl (h c d t))
     (λ j d r t. same-stored sh cs j d t (pair w j d) (after_other_grant (pair w j d)) refl refl (h j d t)))
@@ -388,12 +384,11 @@ step-stored sh p gs w cs e z y x a g q h = step_cases sh p w e (λ r o. KeptTold
     taken c d k cl (Some o) u f = λ n. pairs_back (P o.commit) w d c k o (λ t. back c d k t o cl u (f d t))
         (λ b r t. own c b t o cl u (f b t)) (more o.commit)
 
-    answered : (c d k : ℕ) (m : Msg) → FromCore w c d k m → c < sh.cores → (b : Answer) → MarkedBy (w.dirs d) m b
-        → OwesBy sh (w.dirs d) m b → DueBy sh d (w.dirs d) (num (passes Acks m)) b
-        → OfAnswer w c d k (λ v. KeptTold sh v → KeptStored sh cs v) b
+    answered : (c d k : ℕ) (m : Msg) → FromCore w c d k m → c < sh.cores → (b : Answer) → MarkedBy (w.dirs d) m b → OwesBy sh (w.dirs d) m b
+        → DueBy sh d (w.dirs d) (num (passes Acks m)) b → OfAnswer w c d k (λ v. KeptTold sh v → KeptStored sh cs v) b
     answered c d k m i cl Waits u o p = tt
     answered c d k m i cl Drops u o p = λ n. dir-stored sh gs w cs c d k 0 m (w.dirs d) (λ dst. []) z.told y a g h n cl i
-        (Stays refl (λ l. refl) u) (still-due sh d (w.dirs d) ((z.told.owed.at_home c d).marked)) (inl (omega arith))
+        (Stays refl (λ l. refl) u) (still-due sh d (w.dirs d) (z.told.owed.at_home c d).marked) (inl (omega arith))
     answered c d k m i cl (Asks s sends) u o p = λ n. asks-stored sh gs w cs d s sends a h n u o
     answered c d k m i cl (Takes s sends) u o p =
         λ n. dir-stored sh gs w cs c d k (num (passes Acks m)) m s sends z.told y a g h n cl i u p o

@@ -81,11 +81,11 @@ one-flush sh d l m ws t e s = record { away = omega (arith, at-home sh d l e); w
 dirty-full : (c : Cache) (l : ℕ) → is_dirty c l ≡ true → 0 < dirty_mask c l
 unfolding is_dirty any_word dirty_mask
 dirty-full c l e = let x = any_below-found (λ k. is_some (c.dirty (word_at l k))) 8 e in
-    some-mask (λ k. is_some (c.dirty (word_at l k))) (x.0) (x.1) (x.2)
+    some-mask (λ k. is_some (c.dirty (word_at l k))) x.0 x.1 x.2
 
 spilled-full : (sp : Spilled) (l : ℕ) → holds sp l ≡ true → 0 < spilled_mask sp l
 unfolding spilled_mask
-spilled-full sp l e = let x = holds-found sp l e in some-mask (λ k. is_some (sp (word_at l k))) (x.0) (x.1) (x.2)
+spilled-full sp l e = let x = holds-found sp l e in some-mask (λ k. is_some (sp (word_at l k))) x.0 x.1 x.2
 
 homely-flushed : (sh : Shape) (c : Cache) (l : ℕ) → HomelyOut sh (flush_line sh c l)
 unfolding flush_line dirty_copy
@@ -117,12 +117,12 @@ homely-solo sh c sp u d =
         (those (λ k. d == home sh k && holds sp k) (lines sh)))
     backs = homely-those sh d (λ k. WriteBack k (spilled_mask sp k) (spilled_words sp k) u ∷ []) (λ k. d == home sh k && holds sp k)
         (lines sh) (λ l e. let x = and-both (d == home sh l) (holds sp l) e in
-        one-back sh d l (spilled_mask sp l) (spilled_words sp l) u (eq-from d (home sh l) (x.0)) (spilled-full sp l (x.1)))
+        one-back sh d l (spilled_mask sp l) (spilled_words sp l) u (eq-from d (home sh l) x.0) (spilled-full sp l x.1))
 
     marks : Homely sh d (flat_map (λ k. Mark k (written_mask c sp k) u ∷ []) (those (λ k. d == home sh k && is_written c sp k) (lines sh)))
     marks = homely-those sh d (λ k. Mark k (written_mask c sp k) u ∷ []) (λ k. d == home sh k && is_written c sp k) (lines sh)
         (λ l e. let x = and-both (d == home sh l) (is_written c sp l) e in
-        one-mark sh d l (written_mask c sp l) u (eq-from d (home sh l) (x.0)) (written-full c sp l (x.1)))
+        one-mark sh d l (written_mask c sp l) u (eq-from d (home sh l) x.0) (written-full c sp l x.1))
 
     last : Homely sh d (Commit u (count_below (λ k. d == home sh k && is_written c sp k) (lines sh)) ∷ [])
     last = record { away = refl; words = refl }
@@ -151,7 +151,7 @@ homely-marks sh c u e d =
     homely-to sh e d (marks_for sh c u e)
     (λ q. homely-those sh d (λ k. Mark k (modified_mask c k) u ∷ []) (λ k. e == home sh k && is_modified c k) (lines sh)
     (λ l x. let y = and-both (e == home sh l) (is_modified c l) x in
-    one-mark sh d l (modified_mask c l) u (rw q (eq-from e (home sh l) (y.0))) (modified-full c l (y.1))))
+    one-mark sh d l (modified_mask c l) u (rw q (eq-from e (home sh l) y.0)) (modified-full c l y.1)))
 
 -- so is all that a core sends
 homely-said : (sh : Shape) (s : CoreState) (q : Said) → HomelyOut sh (say sh s q)

@@ -65,7 +65,7 @@ one-store sh ls ss m w k =
 -- the same frames, and the same loads and stores
 pub same-memory : (sh : Shape) (s r : CoreState) → r.cache.held ≡ s.cache.held → r.loads ≡ s.loads → r.stores ≡ s.stores → CoreInMemory sh s
     → CoreInMemory sh r
-same-memory sh s r f l t k = record { frames = λ m e. k.frames m (rw f at e); accesses = rw (l, t) (k.accesses) }
+same-memory sh s r f l t k = record { frames = λ m e. k.frames m (rw f at e); accesses = rw (l, t) k.accesses }
 
 -- a new frame is of a line in memory
 placed-frames : (sh : Shape) (l : ℕ) (c : Cache) → l < lines sh → FramesInMemory sh c → FramesInMemory sh (placed sh l c)
@@ -81,7 +81,7 @@ placed-frames sh l c m h k e = go (free_way sh c (set_of sh l)) e
 -- where the program accesses memory alone, so does the instruction at hand
 in-memory : (sh : Shape) (p : Program) (s : CoreState) (need : Need) (a : ℕ) → StaysInMemory sh p → Acting p s need → AccessAt a need
     → WordInMemory sh (word_of sh.base a)
-in-memory sh p s need a i g at = go need at (rw (g.need) at (i s.local))
+in-memory sh p s need a i g at = go need at (rw g.need at (i s.local))
   where
     go : (need : Need) → AccessAt a need → NeedInMemory sh need → WordInMemory sh (word_of sh.base a)
     go (Loads b z) e n = rw e at n
@@ -92,15 +92,15 @@ in-memory sh p s need a i g at = go need at (rw (g.need) at (i s.local))
 -- one more load, one more store
 stored-memory : (sh : Shape) (s : CoreState) (a : ℕ) (k : Storing s a) → WordInMemory sh (word_of sh.base a) → CoreInMemory sh s
     → AccessesInMemory sh k.loads (s.stores ++ k.store ∷ [])
-stored-memory sh s a k w h = go (k.loaded)
+stored-memory sh s a k w h = go k.loaded
   where
     more : AccessesInMemory sh s.loads (s.stores ++ k.store ∷ [])
-    more = one-store sh s.loads s.stores k.store (rw (k.addr) w) (h.accesses)
+    more = one-store sh s.loads s.stores k.store (rw k.addr w) h.accesses
 
     go : (k.loads ≡ s.loads) ⊎ ((m : Load) × (m.addr ≡ a) × (k.loads ≡ s.loads ++ m ∷ []))
         → AccessesInMemory sh k.loads (s.stores ++ k.store ∷ [])
     go (inl e) = rw e more
-    go (inr z) = rw (z.2) (one-load sh s.loads (s.stores ++ k.store ∷ []) z.0 (rw (z.1) w) more)
+    go (inr z) = rw z.2 (one-load sh s.loads (s.stores ++ k.store ∷ []) z.0 (rw z.1 w) more)
 
 pub exec-memory : (sh : Shape) (p : Program) (id : ℕ) (s : CoreState) → StaysInMemory sh p → CoreInMemory sh s
     → IfSome (core_exec sh p id s) (OutInMemory sh)
@@ -115,7 +115,7 @@ exec-memory sh p id s i k = each-exec sh p id s (OutInMemory sh) go
       record {
         frames = k.frames;
         accesses = one-load sh s.loads s.stores (load_of a z (part x a z)) (w a (Loads a z) g refl)
-            (k.accesses);
+            k.accesses;
       },
       tt,
     )
@@ -123,7 +123,7 @@ exec-memory sh p id s i k = each-exec sh p id s (OutInMemory sh) go
       record {
         frames = k.frames;
         accesses = one-load sh s.loads s.stores (load_of a z (part x a z)) (w a (Loads a z) g refl)
-            (k.accesses);
+            k.accesses;
       },
       tt,
     )
@@ -133,13 +133,13 @@ exec-memory sh p id s i k = each-exec sh p id s (OutInMemory sh) go
         (record { frames = k.frames; accesses = stored-memory sh s a q (w a n g (stores-access n a at)) k }, tt)
     go (Frames_anew a y n q g at e f h) = (
       record {
-        frames = placed-frames sh (line_of (word_of sh.base a)) s.cache (w a n g (stores-access n a at)) (k.frames);
+        frames = placed-frames sh (line_of (word_of sh.base a)) s.cache (w a n g (stores-access n a at)) k.frames;
         accesses = stored-memory sh s a q (w a n g (stores-access n a at)) k;
       },
       tt,
     )
     go (Misses_anew a n g at e f) =
-        (record { frames = placed-frames sh (line_of (word_of sh.base a)) s.cache (w a n g at) (k.frames); accesses = k.accesses }, tt)
+        (record { frames = placed-frames sh (line_of (word_of sh.base a)) s.cache (w a n g at) k.frames; accesses = k.accesses }, tt)
     go (Ends_alone t l e f r n) = (record { frames = k.frames; accesses = nothing-used sh }, k.accesses)
     go (Commits_now t r) = (record { frames = k.frames; accesses = nothing-used sh }, k.accesses)
     go _ = (same-memory sh s _ refl refl refl k, tt)
@@ -172,14 +172,14 @@ stored-at sh ss l i e =
 
 -- a line with a word in memory is one of memory
 line-memory : (sh : Shape) (p : ℕ → Bool) → ((x : ℕ) → p x ≡ true → WordInMemory sh x) → (l : ℕ) → any_word p l ≡ true → l < lines sh
-line-memory sh p h l e = let x = line-found p l e in let i : line_of x.0 < lines sh = h x.0 (x.2) in omega (arith, i, x.1)
+line-memory sh p h l e = let x = line-found p l e in let i : line_of x.0 < lines sh = h x.0 x.2 in omega (arith, i, x.1)
 
 pub accesses_at_homes : AccessesAtHomes
 unfolding loads_at names_line
 accesses_at_homes sh ls ss k = record {
   loaded = λ x e. at-home sh (loads_word sh.base ls) (line_of x) (k.loaded x e) (line-has (loads_word sh.base ls) x e);
   stored = λ x e. stored-at sh ss (line_of x) (k.stored x e) (line-has (stores_word sh.base ss) x e);
-  in_line = λ l e. let i = line-memory sh (stores_word sh.base ss) (k.stored) l e in (i, stored-at sh ss l i e);
+  in_line = λ l e. let i = line-memory sh (stores_word sh.base ss) k.stored l e in (i, stored-at sh ss l i e);
 }
 
 -- marked words have frames
@@ -235,7 +235,7 @@ nothing-sent sh d = none-outside sh
 dirty-memory : (sh : Shape) (c : Cache) (l : ℕ) → IsCache sh c → FramesInMemory sh c → is_dirty c l ≡ true → l < lines sh
 unfolding is_dirty
 dirty-memory sh c l k f e = let x = line-found (λ w. is_some (c.dirty w)) l e in
-    rw (x.1) at (f (line_of x.0) (go x.0 (c.held (line_of x.0)) refl (k.dirty x.0 (x.2))))
+    rw x.1 at (f (line_of x.0) (go x.0 (c.held (line_of x.0)) refl (k.dirty x.0 x.2)))
   where
     go : (x : ℕ) (b : Bool) → c.held (line_of x) ≡ b → is_some (c.value x) ≡ true → c.held (line_of x) ≡ true
     go x a q v = grind nats

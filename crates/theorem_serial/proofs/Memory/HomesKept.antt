@@ -240,16 +240,16 @@ step-homes sh p w e z h = step_cases sh p w e (λ g o. KeptHomes sh o.world)
     home-lines c d = lines-of sh d (pair w c d) (h c d)
 
     passed : (c d k : ℕ) (m : Msg) → FromCore w c d k m → passes (LinesAway sh.dirs d) m ≡ false
-    passed c d k m i = none-taken (LinesAway sh.dirs d) (to_dir w c d) k m i ((h c d 0).out)
+    passed c d k m i = none-taken (LinesAway sh.dirs d) (to_dir w c d) k m i (h c d 0).out
 
     sent : (c d : ℕ) (o : Out) → HomelyOut sh o.sends → (l : ℕ)
         → HomeOf sh d l (record (pair w c d) { core = o.core; out = to_dir w c d ++ sent_all (o.sends (Dir d)) })
     sent c d o a l = home-of sh d (record (pair w c d) { core = o.core; out = to_dir w c d ++ sent_all (o.sends (Dir d)) })
         (home-lines c d)
         (omega (arith, (h c d l).out, (a d).away, live-sends (LinesAway sh.dirs d) (to_dir w c d) (o.sends (Dir d))))
-        ((h c d l).back)
+        (h c d l).back
         (omega (arith, (h c d l).some_out, (a d).words, live-sends NoWord (to_dir w c d) (o.sends (Dir d))))
-        ((h c d l).some_back) l
+        (h c d l).some_back l
 
     moved : (c : ℕ) (x : Option Out) → IfSome x (λ o. HomelyOut sh o.sends) → IfSome x (λ o. KeptHomes sh (core_moves w c o))
     moved c None a = tt
@@ -301,9 +301,9 @@ step-homes sh p w e z h = step_cases sh p w e (λ g o. KeptHomes sh o.world)
         → KeptHomes sh (dir_takes w c d k s sends)
     keep c d k m s sends i u = pairs_dir P w c d k s sends
         (replies c d (out_taken (pair w c d) k) s (sends (Core c))
-        (λ l. home-of sh d (out_taken (pair w c d) k) (home-lines c d) (less l) ((h c d l).back) (fewer l) ((h c d l).some_back) l)
-        (less 0) (fewer 0) (u.lines) (u.homely c))
-        (λ j n. replies j d (pair w j d) s (sends (Core j)) (h j d) ((h j d 0).out) ((h j d 0).some_out) (u.lines) (u.homely j)) h
+        (λ l. home-of sh d (out_taken (pair w c d) k) (home-lines c d) (less l) (h c d l).back (fewer l) (h c d l).some_back l)
+        (less 0) (fewer 0) u.lines (u.homely c))
+        (λ j n. replies j d (pair w j d) s (sends (Core j)) (h j d) (h j d 0).out (h j d 0).some_out u.lines (u.homely j)) h
       where
         less : (l : ℕ) → live (LinesAway sh.dirs d) (out_taken (pair w c d) k).out ≡ 0
         less l = omega (arith, (h c d l).out, live-takes (LinesAway sh.dirs d) (to_dir w c d) k m i)
@@ -311,13 +311,12 @@ step-homes sh p w e z h = step_cases sh p w e (λ g o. KeptHomes sh o.world)
         fewer : (l : ℕ) → live NoWord (out_taken (pair w c d) k).out ≡ 0
         fewer l = omega (arith, (h c d l).some_out, live-takes NoWord (to_dir w c d) k m i)
 
-    answered : (c d k : ℕ) (m : Msg) → FromCore w c d k m → (a : Answer) → HomesBy sh d a
-        → OfAnswer w c d k (λ v. KeptHomes sh v) a
+    answered : (c d k : ℕ) (m : Msg) → FromCore w c d k m → (a : Answer) → HomesBy sh d a → OfAnswer w c d k (λ v. KeptHomes sh v) a
     answered c d k m i Waits u = tt
     answered c d k m i Drops u = keep c d k m (w.dirs d) (λ dst. []) i (record { lines = home-lines c d; homely = λ j. homely-none sh d })
     answered c d k m i (Asks s sends) u =
         pairs_asks P w d s sends
-        (λ j. replies j d (pair w j d) s (sends (Core j)) (h j d) ((h j d 0).out) ((h j d 0).some_out) (u.lines) (u.homely j)) h
+        (λ j. replies j d (pair w j d) s (sends (Core j)) (h j d) (h j d 0).out (h j d 0).some_out u.lines (u.homely j)) h
     answered c d k m i (Takes s sends) u = keep c d k m s sends i u
 
 pub start-homes : (sh : Shape) (entries : ℕ → Local) (ram : ℕ → ℕ) → KeptHomes sh (start entries ram)

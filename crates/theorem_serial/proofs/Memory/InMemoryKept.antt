@@ -159,14 +159,12 @@ step-copies sh p w e a k h = step_cases sh p w e (λ g o. NoCopiesOutside sh o.w
     taken c d n None f = tt
     taken c d n (Some o) f = pairs_back P w d c n o (sent c o f d) (λ b i. sent c o f b) h
 
-    consumed : (c d n : ℕ) (m : Msg) (s : DirState) (sends : Sends) → FromCore w c d n m
-        → NoCopiesOutside sh (dir_takes w c d n s sends)
+    consumed : (c d n : ℕ) (m : Msg) (s : DirState) (sends : Sends) → FromCore w c d n m → NoCopiesOutside sh (dir_takes w c d n s sends)
     consumed c d n m s sends q =
         pairs_dir P w c d n s sends (λ l t i. omega (arith, h c d l t i, live-takes (CopyOf l t) (to_dir w c d) n m q))
         (λ j i. h j d) h
 
-    answered : (c d n : ℕ) (m : Msg) → FromCore w c d n m → (x : Answer)
-        → OfAnswer w c d n (λ v. NoCopiesOutside sh v) x
+    answered : (c d n : ℕ) (m : Msg) → FromCore w c d n m → (x : Answer) → OfAnswer w c d n (λ v. NoCopiesOutside sh v) x
     answered c d n m q Waits = tt
     answered c d n m q Drops = consumed c d n m (w.dirs d) (λ dst. []) q
     answered c d n m q (Asks s sends) = pairs_asks P w d s sends (λ j. h j d) h
@@ -192,7 +190,7 @@ unfolding core_moves core_takes dir_takes dir_asks vendor_gives
 step-memory sh p w e i k = step_cases sh p w e (λ g o. StepInMemory sh o)
     (λ c l. moved c (core_exec sh p c (w.cores c)) (exec-memory sh p c (w.cores c) i (k c)))
     (λ c x y l. moved c (core_evict sh x y (w.cores c)) (evict-memory sh x y (w.cores c) (k c)))
-    (λ c n t q. let z = grant-memory sh t (w.cores c) (k c) in (put c (grant sh t (w.cores c)).core (z.0), z.1))
+    (λ c n t q. let z = grant-memory sh t (w.cores c) (k c) in (put c (grant sh t (w.cores c)).core z.0, z.1))
     (λ c d n m q. taken c d n (from_dir sh d (w.cores c) m) (back-memory sh d (w.cores c) m (k c)))
     (λ c d n m q. answered c d n (dir_deliver sh (w.dirs d) c m))
     (λ c n q. (k, tt))
@@ -203,12 +201,12 @@ step-memory sh p w e i k = step_cases sh p w e (λ g o. StepInMemory sh o)
     moved : (c : ℕ) (x : Option Out) → IfSome x (OutInMemory sh)
         → IfSome x (λ o. StepInMemory sh (record { world = core_moves w c o; noted = o.commit }))
     moved c None h = tt
-    moved c (Some o) h = (put c o.core (h.0), h.1)
+    moved c (Some o) h = (put c o.core h.0, h.1)
 
     taken : (c d n : ℕ) (x : Option Out) → IfSome x (OutInMemory sh)
         → IfSome x (λ o. StepInMemory sh (record { world = core_takes w (Dir d) c n o; noted = o.commit }))
     taken c d n None h = tt
-    taken c d n (Some o) h = (put c o.core (h.0), h.1)
+    taken c d n (Some o) h = (put c o.core h.0, h.1)
 
     answered : (c d n : ℕ) (a : Answer) → OfAnswer w c d n (λ v. StepInMemory sh (record { world = v; noted = None })) a
     answered c d n Waits = tt
@@ -231,7 +229,7 @@ step-in-memory sh p h e i k = go (step sh p h.world e) (step-cores sh p h.world 
     go : (x : Option Stepped) → IfSome x (λ o. KeptCores sh o.world) → IfSome x (StepInMemory sh)
         → IfSome x (λ o. NoCopiesOutside sh o.world) → IfSome (recorded h x) (λ g. KeptInMemory sh g)
     go None a q f = tt
-    go (Some o) a q f = record { alone = a; cores = q.0; copies = f; commits = noted-memory sh o.noted h.commits (q.1) k.commits }
+    go (Some o) a q f = record { alone = a; cores = q.0; copies = f; commits = noted-memory sh o.noted h.commits q.1 k.commits }
 
 run_from-memory : (sh : Shape) (p : Program) (es : List Event) (h : History) → StaysInMemory sh p → KeptInMemory sh h
     → IfSome (run_from sh p es h) (λ r. KeptInMemory sh r)

@@ -91,11 +91,11 @@ last-gives : (sh : Shape) (p : Program) (s : CoreState) (us : Uses) (need : Need
     → IsSomeAnd (steps sh.base p (suc s.n) (begun s.saved ram)) (Gives (finished p need 0 s))
 unfolding steps
 last-gives sh p s us need t i ph n f ram sm ag =
-    let follows : FollowsIn sh p s us (Solo t) = subst (FollowsIn sh p s us) ph (f.steps) in
+    let follows : FollowsIn sh p s us (Solo t) = subst (FollowsIn sh p s us) ph f.steps in
     go (steps sh.base p s.n (begun s.saved ram)) (follows ram sm ag)
   where
     goes : s.ended ≡ Goes
-    goes = rw ph at (f.ends)
+    goes = rw ph at f.ends
 
     go : (x : Option Attempt) → IsSomeAnd x (Reaches s ram) → IsSomeAnd (then_step sh.base p x) (Gives (finished p need 0 s))
     go None h = h
@@ -122,9 +122,9 @@ ready-leaves sh p c t s e = Closes t s (record {
   after = refl;
   ended = refl;
   stores = refl;
-  ends = λ us f. ends (rw e at (f.ends));
+  ends = λ us f. ends (rw e at f.ends);
   gives = λ us f ram sm ag. reaches-gives s ram (steps sh.base p s.n (begun s.saved ram))
-      (follows us (subst (FollowsIn sh p s us) e (f.steps)) ram sm ag);
+      (follows us (subst (FollowsIn sh p s us) e f.steps) ram sm ag);
 })
   where
     ends : EndFits (Ready t) s.ended → HasEnded s.ended
@@ -148,11 +148,11 @@ exec-leaves sh p c s = each-exec sh p c s (Leaves sh p c s) go
       after = refl;
       ended = refl;
       stores = refl;
-      ends = λ us g. subst (λ (v : CoreState). HasEnded v.ended) (f.is) (ended-ends p s (f.need) (f.end));
+      ends = λ us g. subst (λ (v : CoreState). HasEnded v.ended) f.is (ended-ends p s f.need f.end);
       gives = λ us g ram sm ag. let c : suc s.n ≡ s.n + 1 = omega arith in
           subst (λ (m : ℕ). IsSomeAnd (steps sh.base p m (begun s.saved ram)) (Gives (after_end s l e))) c
-          (subst (λ (v : CoreState). IsSomeAnd (steps sh.base p (suc s.n) (begun s.saved ram)) (Gives v)) (f.is)
-          (last-gives sh p s us (f.need) t (f.end) r (f.at) g ram sm ag));
+          (subst (λ (v : CoreState). IsSomeAnd (steps sh.base p (suc s.n) (begun s.saved ram)) (Gives v)) f.is
+          (last-gives sh p s us f.need t f.end r f.at g ram sm ag));
     })
     go (Commits_now t e) = ready-leaves sh p c t s e
     go _ = Stays refl refl refl

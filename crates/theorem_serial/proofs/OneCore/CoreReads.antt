@@ -39,11 +39,11 @@ ReadOf sh d n s = (x : ℕ) → home_of sh x ≡ d → s.cache.read x ≡ true �
 
 pub read-kept : (sh : Shape) (d n : ℕ) (s r : CoreState) → Reading s r → ReadOf sh d n s → ReadOf sh d n r
 read-kept sh d n s r (Cleared h) k x e y = absurd (let z = h x in cc)
-read-kept sh d n s r (Kept tid words) k x e y = elim (words x y) [ inl z ↦ inl z | inr z ↦ before (z.1) (k x e (z.0)) ]
+read-kept sh d n s r (Kept tid words) k x e y = elim (words x y) [ inl z ↦ inl z | inr z ↦ before z.1 (k x e z.0) ]
   where
     before : r.cache.value x ≡ s.cache.value x → ValidOrPassed (s.cache.value x) s.phase n → ValidOrPassed (r.cache.value x) r.phase n
     before v (inl z) = inl (rw v z)
-    before v (inr z) = inr (z.0, tid z.0 (z.1), z.2)
+    before v (inr z) = inr (z.0, tid z.0 z.1, z.2)
 
 pub reads-same : (c : Cache) (x : ℕ) → StillRead c c x
 reads-same c x e = inr (e, refl)
@@ -86,7 +86,7 @@ reads-placed : (sh : Shape) (l v : ℕ) (c : Cache) → StillRead c (placed sh l
 reads-placed sh l v c h = inr (sym (read-placed sh l c v) ∙ h, value-placed sh l c v)
 
 reads-then : (b c d : Cache) (v : ℕ) → StillRead b c v → StillRead c d v → StillRead b d v
-reads-then b c d v f g h = elim (g h) [ inl y ↦ inl y | inr y ↦ further (y.1) (f (y.0)) ]
+reads-then b c d v f g h = elim (g h) [ inl y ↦ inl y | inr y ↦ further y.1 (f y.0) ]
   where
     further : d.value v ≡ c.value v → (is_some (c.value v) ≡ true) ⊎ ((b.read v ≡ true) × (c.value v ≡ b.value v))
         → (is_some (d.value v) ≡ true) ⊎ ((b.read v ≡ true) × (d.value v ≡ b.value v))
@@ -176,7 +176,7 @@ unhurt sh l m u d n s v p k x e y = go (hit l m x) refl
     ahead false b f q = absurd (cc)
 
     passed : l ≡ line_of x → may_be_above u s.phase ≡ false → (t : ℕ) × (has_tid s.phase t ≡ true) × (t < n)
-    passed i a = let z = tid-ahead u s.phase a in (z.0, z.1, p (rw i e) z.0 (z.1) (z.2))
+    passed i a = let z = tid-ahead u s.phase a in (z.0, z.1, p (rw i e) z.0 z.1 z.2)
 
     go : (b : Bool) → hit l m x ≡ b → ValidOrPassed (if b && not (s.cache.modified x) then None else s.cache.value x) s.phase n
     go false q = k x e y
@@ -294,18 +294,18 @@ spilled-solo sh s v h e = grind nats
 -- the word is stored, and loaded before where the instruction changes it
 storing : (sh : Shape) (s r : CoreState) (a : ℕ) (k : Storing s a) → r.phase ≡ s.phase → r.loads ≡ k.loads
     → touched r.cache (word_of sh.base a) ≡ true → ((v : ℕ) → touched s.cache v ≡ true → touched r.cache v ≡ true) → Loading sh s r
-storing sh s r a k p l t m = go (is_solo s.phase) refl (k.loaded)
+storing sh s r a k p l t m = go (is_solo s.phase) refl k.loaded
   where
     go : (b : Bool) → is_solo s.phase ≡ b → (k.loads ≡ s.loads) ⊎ ((y : Load) × (y.addr ≡ a) × (k.loads ≡ s.loads ++ y ∷ []))
         → Loading sh s r
     go true q z = Alone_now (rw p q)
     go false q (inl z) = kept sh s r q (l ∙ z) m
-    go false q (inr z) = one-more sh s r z.0 q (l ∙ z.2) (rw (z.1) t) m
+    go false q (inr z) = one-more sh s r z.0 q (l ∙ z.2) (rw z.1 t) m
 
 did-loading : {sh : Shape} {p : Program} {c : ℕ} {s : CoreState} → OneCore sh s → (x : Did sh p c s) → Loading sh s (out x).core
 unfolding commit solo_commit committed_core
 did-loading {sh} {p} {c} {s} h (Finds a x z l g (inl f)) = Alone_now (spilled-solo sh s (word_of sh.base a) h f)
-did-loading {sh} {p} {c} {s} h (Finds a x z l g (inr f)) = Alone_now (acts-alone s.phase (g.acts) f)
+did-loading {sh} {p} {c} {s} h (Finds a x z l g (inr f)) = Alone_now (acts-alone s.phase g.acts f)
 did-loading {sh} {p} {c} {s} h (Reads a x z l g r f) = one-more sh s _ (load_of a z (part x a z)) (rw r refl) refl
     (marked-now (word_of sh.base a) s.cache) (λ v t. marked-touched (word_of sh.base a) v s.cache t)
 did-loading {sh} {p} {c} {s} h (Buffers a y v n k g i q f) = Alone_now (spilled-solo sh s v h f)

@@ -94,7 +94,7 @@ evicted-modified x y l c e m v = rw e (go (l == line_of v) refl)
     go : (b : Bool) → (l == line_of v) ≡ b → ((if b then false else c.modified v) ≡ c.modified v)
         × ((if b then false else c.read v) ≡ c.read v)
     go false q = (refl, refl)
-    go true q = let u = unmarked-word c l v m (grind nats) in (sym (u.0), sym (u.1))
+    go true q = let u = unmarked-word c l v m (grind nats) in (sym u.0, sym u.1)
 
 pub steady-emptied : (sh : Shape) (x y : ℕ) (s : CoreState) (l : ℕ) → s.cache.at x y ≡ Some l → is_awaited s.awaited l ≡ false
     → (is_marked s.cache l ≡ false) ⊎ (is_solo s.phase ≡ true) → Steady s (emptied sh x y l s)

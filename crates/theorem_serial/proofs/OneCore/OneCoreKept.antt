@@ -18,7 +18,7 @@ use proofs.OneCore.Outcomes.{Given_room, Hurt_alone, Reply_room, each-evict, eac
 use proofs.OneCore.Outcomes.{each-back, rolled, Fills, Given, Heard, heard}
 use proofs.OneCore.WordsKept.{words-marked, words-placed, words-stored, words-buffered, words-committed, words-evicted}
 use proofs.OneCore.WordsKept.{words-evicted_unmarked, words-filled, words-invalidated, words-cleaned, words-rolled, words-alone, words-none}
-use proofs.OneCore.CoreProbes.{none-below, all-replied}
+use proofs.OneCore.CoreAsks.{none-below, all-replied}
 use proofs.Counts.StepCases.{OfAnswer, step_cases}
 
 -- Executing an instruction keeps what holds of a core by itself.
@@ -52,7 +52,7 @@ framed-held sh s w k a = grind nats
 waits : {sh : Shape} (s : CoreState) (go : Phase) → s.phase ≡ Running → OneCore sh s → s.awaited ≡ None → is_solo go ≡ false
     → awaits_replies go ≡ false → rests go ≡ false → OneCore sh (record s { phase = go })
 waits {sh} s go e h n a b c = record {
-  words = rw a (subst (λ q. Words sh (is_solo q) s.cache s.spilled s.stores) e (h.words));
+  words = rw a (subst (λ q. Words sh (is_solo q) s.cache s.spilled s.stores) e h.words);
   awaited = λ x q. absurd (cc);
   owing = λ d q. h.owing d (rw e refl);
   owers = h.owers;
@@ -87,7 +87,7 @@ committed_one sh s r e o n w m = record {
 commit_one : (sh : Shape) (id t : ℕ) (s : CoreState) → s.phase ≡ Ready t → OneCore sh s → OneCore sh (commit sh id t s).core
 unfolding commit committed_core committed
 commit_one sh id t s e h = committed_one sh s (commit sh id t s).core refl (λ d. h.owing d (rw e refl)) (idle s.awaited refl)
-    (λ b. words-committed sh b t s.cache s.spilled (h.words.cache) (h.words.spilled_alone (rw e refl)))
+    (λ b. words-committed sh b t s.cache s.spilled h.words.cache (h.words.spilled_alone (rw e refl)))
     (record { n = refl; loads = refl; stores = refl; console = refl; unread = λ w. refl; unmodified = λ w. refl })
   where
     idle : (a : Option Awaited) → s.awaited ≡ a → a ≡ None
@@ -106,11 +106,11 @@ exec_one sh p id s h = each-exec sh p id s (λ o. OneCore sh o.core) go
 
     done : (need : Need) (r : CoreState) → Acting p s need → r.phase ≡ s.phase → r.owing ≡ s.owing → r.awaited ≡ s.awaited
         → Words sh (is_solo s.phase) r.cache r.spilled r.stores → OneCore sh r
-    done need r g e f a y = executing sh s r (g.acts) e f h y (λ b q. let z : None ≡ Some b = sym (a ∙ g.idle) ∙ q in absurd (cc))
+    done need r g e f a y = executing sh s r g.acts e f h y (λ b q. let z : None ≡ Some b = sym (a ∙ g.idle) ∙ q in absurd (cc))
 
     asked : (need : Need) (l : ℕ) (r : CoreState) → Acting p s need → r.phase ≡ s.phase → r.owing ≡ s.owing → r.awaited ≡ awaiting l
         → Words sh (is_solo s.phase) r.cache r.spilled r.stores → r.cache.held l ≡ true → OneCore sh r
-    asked need l r g e f a y d = executing sh s r (g.acts) e f h y (λ b q. let i : b.line ≡ l = sym (ap line_or_none (sym a ∙ q)) in rw i d)
+    asked need l r g e f a y d = executing sh s r g.acts e f h y (λ b q. let i : b.line ≡ l = sym (ap line_or_none (sym a ∙ q)) in rw i d)
       where
         line_or_none : Option Awaited → ℕ
         line_or_none None = l
@@ -125,14 +125,14 @@ exec_one sh p id s h = each-exec sh p id s (λ o. OneCore sh o.core) go
     go (Reads a x z l g r v) = done (Loads a z) (after_load s l (load_of a z (part x a z)) (marked (w a) s.cache)) g refl refl refl
         (marked_words sh (w a) x s v r k)
     go (Buffers a y v n q g i e f) = done n (after_store s a q s.cache (put s.spilled (w a) (Some y))) g refl refl refl
-        (words-buffered sh (is_solo s.phase) s.cache (w a) y s.spilled s.stores (q.store) v e f (ap (word_of sh.base) (q.addr)) k)
+        (words-buffered sh (is_solo s.phase) s.cache (w a) y s.spilled s.stores q.store v e f (ap (word_of sh.base) q.addr) k)
     go (Frames a y also n q g i f) = done n (after_store s a q (stored (w a) y also s.cache) s.spilled) g refl refl refl
-        (words-stored sh (is_solo s.phase) s.cache (w a) y also s.spilled s.stores (q.store) (framed-held sh s (w a) (k.cache) (f.held))
-        (f.unspilled) (f.alone) (ap (word_of sh.base) (q.addr)) k)
+        (words-stored sh (is_solo s.phase) s.cache (w a) y also s.spilled s.stores q.store (framed-held sh s (w a) k.cache f.held)
+        f.unspilled f.alone (ap (word_of sh.base) q.addr) k)
     go (Frames_anew a y n q g i e f u) =
         done n (after_store s a q (stored (w a) y false (placed sh (line_of (w a)) s.cache)) s.spilled) g refl refl refl
-        (words-stored sh (is_solo s.phase) (placed sh (line_of (w a)) s.cache) (w a) y false s.spilled s.stores (q.store)
-        (placed-held sh (line_of (w a)) s.cache f) u (λ z. refl) (ap (word_of sh.base) (q.addr)) (anew (line_of (w a)) e))
+        (words-stored sh (is_solo s.phase) (placed sh (line_of (w a)) s.cache) (w a) y false s.spilled s.stores q.store
+        (placed-held sh (line_of (w a)) s.cache f) u (λ z. refl) (ap (word_of sh.base) q.addr) (anew (line_of (w a)) e))
     go (Misses a n g i e) = asked n (line_of (w a)) (record s { awaited = awaiting (line_of (w a)) }) g refl refl refl k e
     go (Misses_anew a n g i e f) =
         asked n (line_of (w a)) (record s { awaited = awaiting (line_of (w a)); cache = placed sh (line_of (w a)) s.cache }) g refl refl
@@ -149,7 +149,7 @@ exec_one sh p id s h = each-exec sh p id s (λ o. OneCore sh o.core) go
         }) i refl refl refl
     go (Ends_alone t l e f r i) = committed_one sh (after_end s l e) (solo_commit sh id t (after_end s l e)).core refl
         (λ d. h.owing d (rw r refl)) i
-        (λ b. words-committed sh b t (words_dropped s.spilled s.cache) none_spilled (words_dropped-keeps sh s.spilled s.cache (k.cache))
+        (λ b. words-committed sh b t (words_dropped s.spilled s.cache) none_spilled (words_dropped-keeps sh s.spilled s.cache k.cache)
         (λ w. refl))
         (record { n = refl; loads = refl; stores = refl; console = refl; unread = λ w. refl; unmodified = λ w. refl })
     go (Commits_now t r) = commit_one sh id t s r h
@@ -172,8 +172,8 @@ evicted-unmodified c s y v h = grind nats
 pub evict_one : (sh : Shape) (x y : ℕ) (s : CoreState) → OneCore sh s → IfSome (core_evict sh x y s) (λ o. OneCore sh o.core)
 evict_one sh x y s h = each-evict sh x y s (λ o. OneCore sh o.core) (λ l e q m. record {
   words = words-evicted sh (is_solo s.phase) s.cache x y l s.spilled s.stores e
-      (λ z v i. words-evicted_unmarked sh s.cache l v (unmarked l z m) i) (h.words);
-  awaited = λ b r. let z = h.awaited b r in (z.0, evicted-held s.cache x y l b.line e (another l s.awaited q b r) (z.1));
+      (λ z v i. words-evicted_unmarked sh s.cache l v (unmarked l z m) i) h.words;
+  awaited = λ b r. let z = h.awaited b r in (z.0, evicted-held s.cache x y l b.line e (another l s.awaited q b r) z.1);
   owing = h.owing;
   owers = h.owers;
   rested = λ r. let z = h.rested r in
@@ -182,8 +182,8 @@ evict_one sh x y s h = each-evict sh x y s (λ o. OneCore sh o.core) (λ l e q m
         loads = z.loads;
         stores = z.stores;
         console = z.console;
-        unread = λ v. evicted-unread s.cache x y v (z.unread);
-        unmodified = λ v. evicted-unmodified s.cache x y v (z.unmodified);
+        unread = λ v. evicted-unread s.cache x y v z.unread;
+        unmodified = λ v. evicted-unmodified s.cache x y v z.unmodified;
       };
 })
   where
@@ -202,7 +202,7 @@ rephased : (sh : Shape) (s r : CoreState) (q go : Phase) → s.phase ≡ q → e
     → rests go ≡ false → r.cache ≡ s.cache → r.spilled ≡ s.spilled → r.stores ≡ s.stores → r.awaited ≡ s.awaited
     → ((d : ℕ) → awaits_replies go ≡ false → r.owing d ≡ false) → ((d : ℕ) → sh.dirs ≤ d → r.owing d ≡ false) → OneCore sh s → OneCore sh r
 rephased sh s r q go e x f y z c p t w o b h = record {
-  words = rw (f, y, c, p, t) (subst (λ k. Words sh (is_solo k) s.cache s.spilled s.stores) e (h.words));
+  words = rw (f, y, c, p, t) (subst (λ k. Words sh (is_solo k) s.cache s.spilled s.stores) e h.words);
   awaited = λ a k. absurd (idle sh s q e x h a (sym w ∙ k));
   owing = λ d k. o d (rw f at k);
   owers = b;
@@ -252,7 +252,7 @@ executes-rests _ a e = cc
 data_one : (sh : Shape) (l : ℕ) (s : CoreState) → OneCore sh s → OneCore sh (record s { cache = cleaned l s.cache })
 unfolding cleaned
 data_one sh l s h = record {
-  words = words-cleaned sh (is_solo s.phase) s.cache l s.spilled s.stores (h.words);
+  words = words-cleaned sh (is_solo s.phase) s.cache l s.spilled s.stores h.words;
   awaited = h.awaited;
   owing = h.owing;
   owers = h.owers;
@@ -264,7 +264,7 @@ data_one sh l s h = record {
 without_one : (sh : Shape) (l m : ℕ) (s : CoreState) → OneCore sh s → OneCore sh (words_invalidated l m s)
 unfolding words_invalidated invalidated
 without_one sh l m s h = record {
-  words = words-invalidated sh (is_solo s.phase) s.cache l m s.spilled s.stores (h.words);
+  words = words-invalidated sh (is_solo s.phase) s.cache l m s.spilled s.stores h.words;
   awaited = λ b k. held b s.awaited refl k;
   owing = h.owing;
   owers = h.owers;
@@ -275,7 +275,7 @@ without_one sh l m s h = record {
     held : (b : Awaited) (a : Option Awaited) → s.awaited ≡ a → staled l a ≡ Some b
         → (executes s.phase ≡ true) × (s.cache.held b.line ≡ true)
     held b None q k = absurd (cc)
-    held b (Some a) q k = let i : a.line ≡ b.line = ap (line_of_some a.line) k in let z = h.awaited a q in (z.0, rw i at (z.1))
+    held b (Some a) q k = let i : a.line ≡ b.line = ap (line_of_some a.line) k in let z = h.awaited a q in (z.0, rw i at z.1)
       where
         line_of_some : ℕ → Option Awaited → ℕ
         line_of_some d None = d
@@ -287,8 +287,8 @@ rolled_one : (sh : Shape) (s r : CoreState) (q : Phase) → OneCore sh s → r.p
     → r.owing ≡ (λ d. false) → r.awaited ≡ s.awaited → (executes q ≡ true) ⊎ (executes s.phase ≡ false) → OneCore sh r
 unfolding rolled_back
 rolled_one sh s r q h e a c p n l t o w z x = record {
-  words = rw (e, c, t) (words-rolled sh (is_solo q) s.cache r.spilled (h.words.cache) p);
-  awaited = λ b k. let y = h.awaited b (sym z ∙ k) in (rw e (active x (y.0)), rw c (y.1));
+  words = rw (e, c, t) (words-rolled sh (is_solo q) s.cache r.spilled h.words.cache p);
+  awaited = λ b k. let y = h.awaited b (sym z ∙ k) in (rw e (active x y.0), rw c y.1);
   owing = λ d k. rw w refl;
   owers = λ d k. rw w refl;
   rested = λ k. record { n = n; loads = l; stores = t; console = o; unread = λ v. rw c refl; unmodified = λ v. rw c refl };
@@ -315,7 +315,7 @@ back_one sh e s m h = each-back sh e s (λ m o. OneCore sh o.core) go m
           awaited = λ b k. absurd (cc);
           owing = h.owing;
           owers = h.owers;
-          rested = λ k. absurd (executes-rests s.phase ((h.awaited a q).0) k);
+          rested = λ k. absurd (executes-rests s.phase (h.awaited a q).0 k);
         }
 
     hurt : (l m : ℕ) (q : Phase) (sp : Spilled) → awaits_replies q ≡ false → ((w : ℕ) → sp w ≡ None)
@@ -337,7 +337,7 @@ back_one sh e s m h = each-back sh e s (λ m o. OneCore sh o.core) go m
     go (Reply_room u v q o r) = rephased sh s _ (Overflowing (Some u)) (Overflowing (Some u)) q refl q refl refl refl refl refl refl
         (λ d k. absurd (cc)) far h
     go (Last_room u v q o r) = record {
-      words = words-alone sh s.cache s.spilled s.stores (subst (λ k. Words sh (is_solo k) s.cache s.spilled s.stores) q (h.words));
+      words = words-alone sh s.cache s.spilled s.stores (subst (λ k. Words sh (is_solo k) s.cache s.spilled s.stores) q h.words);
       awaited = λ a k. absurd (idle sh s (Overflowing (Some u)) q refl h a k);
       owing = λ d k. none r d;
       owers = far;
@@ -345,8 +345,8 @@ back_one sh e s m h = each-back sh e s (λ m o. OneCore sh o.core) go m
     }
     go (Fills l ws a q i f) =
         filled_one a (filled l ws s.cache) q
-        (words-filled sh (is_solo s.phase) s.cache l ws s.spilled s.stores (rw i at ((h.awaited a q).1)) (h.words))
-    go (Fills_none l ws a q i f) = filled_one a s.cache q (h.words)
+        (words-filled sh (is_solo s.phase) s.cache l ws s.spilled s.stores (rw i at (h.awaited a q).1) h.words)
+    go (Fills_none l ws a q i f) = filled_one a s.cache q h.words
     go (Hands_out l) = data_one sh l s h
     go (Hurt_none l m u n) = without_one sh l m s h
     go (Hurt_running l m u v q) = hurt l m Running s.spilled refl (h.words.spilled_alone (rw q refl)) (inl refl)

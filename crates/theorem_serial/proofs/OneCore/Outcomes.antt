@@ -223,7 +223,7 @@ each-exec sh p c s P k = go s.phase refl
 
     buffers_held : (need : Need) (x a y : ℕ) → Acting p s need → (at : StoresAt a need) → holds s.spilled (line_of (w a)) ≡ true
         → P (moves (finished p need x (stored_in_buffer (w a) y s)) nothing)
-    buffers_held need x a y g at h = let f = holds-word s.spilled (line_of (w a)) h in buffers need x a y f.0 g at (f.1) (f.2)
+    buffers_held need x a y g at h = let f = holds-word s.spilled (line_of (w a)) h in buffers need x a y f.0 g at f.1 f.2
 
     frames : (need : Need) (x a y : ℕ) (also : Bool) → Acting p s need → (at : StoresAt a need) → Framing sh s a also
         → P (moves (finished p need x (stored_in_frame (w a) y also s)) (flush_line sh s.cache (line_of (w a))))

@@ -107,7 +107,7 @@ quiet sh s k (Tells_alone t) h d = go (nat_lt d sh.dirs) (solo_writes_at sh s.ca
   where
     each : (x : Piece) → ((passes k (Mark x.line x.mask t) ≡ false) × (passes k (Commit t x.count) ≡ false))
         × ((passes k (Skip t) ≡ false) × (passes k (WriteBack x.line x.mask x.words t) ≡ false))
-    each x = let z = neither _ _ (h x) in (neither _ _ (z.0), neither _ _ (z.1))
+    each x = let z = neither _ _ (h x) in (neither _ _ z.0, neither _ _ z.1)
 
     n : ℕ
     n = count_below (λ l. d == home sh l && is_written s.cache s.spilled l) (lines sh)
@@ -125,15 +125,15 @@ quiet sh s k (Tells_alone t) h d = go (nat_lt d sh.dirs) (solo_writes_at sh s.ca
 
     back : among k backs ≡ 0
     back = among-flat_map_none k (λ l. WriteBack l (spilled_mask s.spilled l) (spilled_words s.spilled l) t ∷ [])
-        (λ l. rw ((each (record { line = l; mask = spilled_mask s.spilled l; words = spilled_words s.spilled l; tag = t; count = 0 })).1.1)
+        (λ l. rw (each (record { line = l; mask = spilled_mask s.spilled l; words = spilled_words s.spilled l; tag = t; count = 0 })).1.1
         refl) (those (λ l. d == home sh l && holds s.spilled l) (lines sh))
 
     mark : among k marks ≡ 0
     mark = marks-quiet k (written_mask s.cache s.spilled) t _ (λ x. (each x).0.0)
 
     go : (a b : Bool) → among k (if a then (if b then marks ++ Commit t n ∷ [] else Skip t ∷ []) ++ backs else []) ≡ 0
-    go true true = rw (among-append, among-append) (omega (arith, mark, back, one-quiet k (Commit t n) true ((each of).0.1)))
-    go true false = rw among-append (omega (arith, back, one-quiet k (Skip t) true ((each of).1.0)))
+    go true true = rw (among-append, among-append) (omega (arith, mark, back, one-quiet k (Commit t n) true (each of).0.1))
+    go true false = rw among-append (omega (arith, back, one-quiet k (Skip t) true (each of).1.0))
     go false b = refl
 quiet sh s k (Answers t) h d = go (nat_lt d sh.dirs) (writes_at sh s.cache d) (writes_at sh s.cache d || reads_at sh s.cache d)
   where
@@ -144,8 +144,8 @@ quiet sh s k (Answers t) h d = go (nat_lt d sh.dirs) (writes_at sh s.cache d) (w
     go true b c =
         rw among-append (omega (
           arith,
-          one-quiet k (Skip t) (not b) ((neither _ _ (h of)).0),
-          one-quiet k (Probe t) c ((neither _ _ (h of)).1),
+          one-quiet k (Skip t) (not b) (neither _ _ (h of)).0,
+          one-quiet k (Probe t) c (neither _ _ (h of)).1,
         ))
     go false b c = refl
 quiet sh s k (Skips_all t) h d = one-quiet k (Skip t) (nat_lt d sh.dirs) (h (record { line = 0; mask = 0; words = []; tag = t; count = 0 }))

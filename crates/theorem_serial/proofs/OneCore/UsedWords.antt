@@ -60,8 +60,7 @@ same_word base here there a ram need ap agree w r = grind (nats, a.ram, ap.store
 
 -- the word that a store leaves
 same_patched : (base : ℕ) (here there : ℕ → ℕ) (a : Attempt) (ram : ℕ → ℕ) (addr : ℕ) (size : Size) (value : ℕ)
-    → Apart base here there a ram
-    → IsMemory here → IsMemory there → addr % bytes_of size ≡ 0
+    → Apart base here there a ram → IsMemory here → IsMemory there → addr % bytes_of size ≡ 0
     → ((w : ℕ) → reads_word base (Stores addr size value) w ≡ true → ram w ≡ a.ram w)
     → patched (ram (word_of base addr)) addr size value ≡ patched (a.ram (word_of base addr)) addr size value
 same_patched base here there a ram addr b value ap mh mt al reads =
@@ -104,11 +103,11 @@ apart-stored base here there a ram addr size value ap e = record {
 
     here_kept : (w : ℕ) (b : Bool) → (word_of base addr == w) ≡ b → (stores_word base a.stores w || (b || false)) ≡ false
         → (if b then patched (a.ram (word_of base addr)) addr size value else a.ram w) ≡ here w
-    here_kept w b q h = let k = kept (stores_word base a.stores w) b h in rw (k.1) (ap.kept_here w k.0)
+    here_kept w b q h = let k = kept (stores_word base a.stores w) b h in rw k.1 (ap.kept_here w k.0)
 
     there_kept : (w : ℕ) (b : Bool) → (word_of base addr == w) ≡ b → (stores_word base a.stores w || (b || false)) ≡ false
         → (if b then patched (ram (word_of base addr)) addr size value else ram w) ≡ there w
-    there_kept w b q h = let k = kept (stores_word base a.stores w) b h in rw (k.1) (ap.kept_there w k.0)
+    there_kept w b q h = let k = kept (stores_word base a.stores w) b h in rw k.1 (ap.kept_there w k.0)
 
 same_from : (base : ℕ) (here there : ℕ → ℕ) (a : Attempt) (ram : ℕ → ℕ) (other : Option Attempt) → Apart base here there a ram
     → other ≡ Some (record a { ram = ram }) → SameAttempt base here there a other
@@ -122,8 +121,7 @@ unfolding loaded
 same_loaded base ram other addr size e = rw e refl
 
 same_step : (base : ℕ) (p : Program) (here there : ℕ → ℕ) (a : Attempt) (ram : ℕ → ℕ) (need : Need) → Apart base here there a ram
-    → IsMemory here → IsMemory there → AlignedNeed need
-    → ((w : ℕ) → reads_word base need w ≡ true → ram w ≡ a.ram w)
+    → IsMemory here → IsMemory there → AlignedNeed need → ((w : ℕ) → reads_word base need w ≡ true → ram w ≡ a.ram w)
     → SameAttempt base here there (stepped base p a need) (Some (stepped base p (record a { ram = ram }) need))
 same_step base p here there a ram Nothing ap mh mt al reads =
     same_from base here there (stepped base p a Nothing) ram _
@@ -151,12 +149,10 @@ same_step base p here there a ram x ap mh mt al reads =
 
 -- one more instruction, where the words that it uses agree
 same_then : (base : ℕ) (p : Program) (here there : ℕ → ℕ) (a : Attempt) (other : Option Attempt) → Aligned p → IsMemory here
-    → IsMemory there
-    → SameAttempt base here there a other
-    → ((w : ℕ) → uses_next base p (Some a) w ≡ true → here w ≡ there w)
+    → IsMemory there → SameAttempt base here there a other → ((w : ℕ) → uses_next base p (Some a) w ≡ true → here w ≡ there w)
     → MatchOption (then_step base p (Some a)) (then_step base p other ≡ None) (λ b. SameAttempt base here there b (then_step base p other))
 unfolding plain_step
-same_then base p here there a other al mh mt f agree = rw (f.same) (go a.outcome)
+same_then base p here there a other al mh mt f agree = rw f.same (go a.outcome)
   where
     apart : Apart base here there a f.ram
     apart = record { stored = f.stored; kept_here = f.kept_here; kept_there = f.kept_there }
@@ -171,8 +167,7 @@ abbrev SameOrNone : (base : ℕ) (here there : ℕ → ℕ) → Option Attempt �
 SameOrNone base here there one other = MatchOption one (other ≡ None) (λ a. SameAttempt base here there a other)
 
 then_same : (base : ℕ) (p : Program) (here there : ℕ → ℕ) (one other : Option Attempt) → Aligned p → IsMemory here → IsMemory there
-    → SameOrNone base here there one other
-    → ((w : ℕ) → uses_next base p one w ≡ true → here w ≡ there w)
+    → SameOrNone base here there one other → ((w : ℕ) → uses_next base p one w ≡ true → here w ≡ there w)
     → SameOrNone base here there (then_step base p one) (then_step base p other)
 then_same base p here there None other al mh mt f agree = rw f refl
 then_same base p here there (Some a) other al mh mt f agree = same_then base p here there a other al mh mt f agree
@@ -303,5 +298,5 @@ attempts_sound sh p entries ram gs ys views m h k c b l n bound runs small =
     go : Agrees (views c) (values_for sh ram h.world h.commits c b) ⊎ Doomed sh h.world c b → SoundOrDoomed sh p ram h.world h.commits c b
     go (inl a) =
         inl (follows-in sh p (h.world.cores c) (views c) (h.world.cores c).phase runs
-        ((k.carried_views.attempt_follows_from_its_view c).steps) (values_for sh ram h.world h.commits c b) small a)
+        (k.carried_views.attempt_follows_from_its_view c).steps (values_for sh ram h.world h.commits c b) small a)
     go (inr d) = inr d

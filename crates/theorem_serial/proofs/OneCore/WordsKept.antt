@@ -30,14 +30,14 @@ same-words sh solo c d sp ss i r m t k = record {
   spilled_alone = k.spilled_alone;
   unread_alone = λ s w. r w s ∙ k.unread_alone s w;
   named = λ w. rw (m w) (k.named w);
-  clean = λ v w e s. let x = k.clean v w e s in (m w ∙ x.0, t w (x.1));
+  clean = λ v w e s. let x = k.clean v w e s in (m w ∙ x.0, t w x.1);
 }
 
 pub words-marked : (sh : Shape) (c : Cache) (w x : ℕ) (sp : Spilled) (ss : List Stored) → c.value w ≡ Some x → Words sh false c sp ss
     → Words sh false (marked w c) sp ss
 unfolding marked
 words-marked sh c w x sp ss e k =
-    same-words sh false c (marked w c) sp ss (marked-keeps sh w c (held_valued sh c w x (k.cache) e) (k.cache))
+    same-words sh false c (marked w c) sp ss (marked-keeps sh w c (held_valued sh c w x k.cache e) k.cache)
     (λ v q. absurd (cc)) (λ v. refl) (λ v q. q) k
 
 pub placed-marks : (sh : Shape) (l : ℕ) (c : Cache) (v : ℕ)
@@ -52,7 +52,7 @@ placed-marks sh l c v = go (free_way sh c (set_of sh l))
 
 pub words-placed : (sh : Shape) (solo : Bool) (c : Cache) (l : ℕ) (sp : Spilled) (ss : List Stored) → c.held l ≡ false
     → Words sh solo c sp ss → Words sh solo (placed sh l c) sp ss
-words-placed sh solo c l sp ss e k = same-words sh solo c (placed sh l c) sp ss (placed-keeps sh l c e (k.cache)) (λ v q. (same v).0)
+words-placed sh solo c l sp ss e k = same-words sh solo c (placed sh l c) sp ss (placed-keeps sh l c e k.cache) (λ v q. (same v).0)
     (λ v. (same v).1) (λ v q. (same v).2 ∙ q) k
   where
     same : (v : ℕ) → ((placed sh l c).read v ≡ c.read v) × ((placed sh l c).modified v ≡ c.modified v)
@@ -76,7 +76,7 @@ pub words-stored : (sh : Shape) (solo : Bool) (c : Cache) (w x : ℕ) (also : Bo
     → Words sh solo c sp ss → Words sh solo (stored w x also c) sp (ss ++ s ∷ [])
 unfolding stored
 words-stored sh solo c w x also sp ss s h u a e k = record {
-  cache = stored-keeps sh w x also c h (k.cache);
+  cache = stored-keeps sh w x also c h k.cache;
   spilled_alone = k.spilled_alone;
   unread_alone = λ q v. unread q v (w == v);
   named = λ v. named v (v == w) refl ∙ sym (names-more sh.base ss s w v e);
@@ -132,7 +132,7 @@ pub words-evicted : (sh : Shape) (solo : Bool) (c : Cache) (s y l : ℕ) (sp : S
     → Words sh solo (evicted s y c) (spill_line l c sp) ss
 unfolding spill_line
 words-evicted sh solo c s y l sp ss e m k = record {
-  cache = evicted-keeps sh s y c (k.cache);
+  cache = evicted-keeps sh s y c k.cache;
   spilled_alone = λ a w. spilled a w (l == line_of w) refl;
   unread_alone = λ a w. (evicted-fields c s y l w e).0 ∙ unread a w (l == line_of w);
   named = λ w. named w (l == line_of w) (c.modified w) refl refl;
@@ -149,9 +149,9 @@ words-evicted sh solo c s y l sp ss e m k = record {
     named : (w : ℕ) (b n : Bool) → (l == line_of w) ≡ b → c.modified w ≡ n
         → ((evicted s y c).modified w || is_some (if (l == line_of w) && c.modified w then Some (unwrap_or (c.value w) 0) else sp w))
         ≡ stores_word sh.base ss w
-    named w false n q r = rw ((evicted-fields c s y l w e).1) (rw q (k.named w))
-    named w true true q r = rw ((evicted-fields c s y l w e).1) (rw (q, r) (sym (or-left (c.modified w) (is_some (sp w)) r) ∙ k.named w))
-    named w true false q r = rw ((evicted-fields c s y l w e).1) (rw (q, r) (sym (or_other (c.modified w) (is_some (sp w)) r) ∙ k.named w))
+    named w false n q r = rw (evicted-fields c s y l w e).1 (rw q (k.named w))
+    named w true true q r = rw (evicted-fields c s y l w e).1 (rw (q, r) (sym (or-left (c.modified w) (is_some (sp w)) r) ∙ k.named w))
+    named w true false q r = rw (evicted-fields c s y l w e).1 (rw (q, r) (sym (or_other (c.modified w) (is_some (sp w)) r) ∙ k.named w))
 
     clean : (v w : ℕ) → line_of v ≡ line_of w → is_some (if (l == line_of v) && c.modified v then Some (unwrap_or (c.value v) 0) else sp v)
         ≡ true → (b : Bool) → (l == line_of w) ≡ b → ((evicted s y c).modified w ≡ false) × ((evicted s y c).dirty w ≡ None)
@@ -159,18 +159,18 @@ words-evicted sh solo c s y l sp ss e m k = record {
     clean v w q r false p =
         let z : (l == line_of v) ≡ false = rw q p in
         let x = k.clean v w q (rw z at r) in
-        ((evicted-fields c s y l w e).1 ∙ rw p (x.0), (evicted-fields c s y l w e).2 ∙ rw p (x.1))
+        ((evicted-fields c s y l w e).1 ∙ rw p x.0, (evicted-fields c s y l w e).2 ∙ rw p x.1)
 
 pub words-filled : (sh : Shape) (solo : Bool) (c : Cache) (l : ℕ) (ws : List ℕ) (sp : Spilled) (ss : List Stored) → c.held l ≡ true
     → Words sh solo c sp ss → Words sh solo (filled l ws c) sp ss
 unfolding filled
-words-filled sh solo c l ws sp ss e k = same-words sh solo c (filled l ws c) sp ss (filled-keeps sh l ws c e (k.cache)) (λ v q. refl)
+words-filled sh solo c l ws sp ss e k = same-words sh solo c (filled l ws c) sp ss (filled-keeps sh l ws c e k.cache) (λ v q. refl)
     (λ v. refl) (λ v q. q) k
 
 pub words-invalidated : (sh : Shape) (solo : Bool) (c : Cache) (l m : ℕ) (sp : Spilled) (ss : List Stored) → Words sh solo c sp ss
     → Words sh solo (invalidated l m c) sp ss
 unfolding invalidated
-words-invalidated sh solo c l m sp ss k = same-words sh solo c (invalidated l m c) sp ss (invalidated-keeps sh l m c (k.cache))
+words-invalidated sh solo c l m sp ss k = same-words sh solo c (invalidated l m c) sp ss (invalidated-keeps sh l m c k.cache)
     (λ v q. refl) (λ v. refl) (λ v q. clean (hit l m v && not (c.modified v)) q) k
   where
     clean : {x : Option ℕ} (b : Bool) → x ≡ None → (if b then None else x) ≡ None
@@ -180,7 +180,7 @@ words-invalidated sh solo c l m sp ss k = same-words sh solo c (invalidated l m 
 pub words-cleaned : (sh : Shape) (solo : Bool) (c : Cache) (l : ℕ) (sp : Spilled) (ss : List Stored) → Words sh solo c sp ss
     → Words sh solo (cleaned l c) sp ss
 unfolding cleaned
-words-cleaned sh solo c l sp ss k = same-words sh solo c (cleaned l c) sp ss (cleaned-keeps sh l c (k.cache)) (λ v q. refl) (λ v. refl)
+words-cleaned sh solo c l sp ss k = same-words sh solo c (cleaned l c) sp ss (cleaned-keeps sh l c k.cache) (λ v q. refl) (λ v. refl)
     (λ v q. clean (l == line_of v) q) k
   where
     clean : {x : Option ℕ} (b : Bool) → x ≡ None → (if b then None else x) ≡ None
@@ -217,7 +217,7 @@ pub words-alone : (sh : Shape) (c : Cache) (sp : Spilled) (ss : List Stored) →
 unfolding read_cleared
 words-alone sh c sp ss k =
     record {
-      cache = read_cleared-keeps sh c (k.cache);
+      cache = read_cleared-keeps sh c k.cache;
       spilled_alone = λ a w. absurd (cc);
       unread_alone = λ a w. refl;
       named = k.named;

@@ -75,15 +75,15 @@ closes_twice base p here there core (Some a) other e m mo f = go a.outcome refl
     go : (o : Outcome) → a.outcome ≡ o → TwiceIf base p here there core (close here core a (end_of o)) (close_if there core other)
     go Goes q = tt
     go Ended q = λ agree. let g = f agree in
-        rw (g.same) (subst (λ x. Twice base p here there core (closed here core a Run, a)
+        rw g.same (subst (λ x. Twice base p here there core (closed here core a Run, a)
         (close there core (record a { ram = g.ram }) (end_of x))) (sym q)
         (close_twice base p here there core a Run g.ram m (rw g.same at mo) e g.stored g.kept_here g.kept_there))
     go (Halted code) q = λ agree. let g = f agree in
-        rw (g.same) (subst (λ x. Twice base p here there core (closed here core a (Halt code), a)
+        rw g.same (subst (λ x. Twice base p here there core (closed here core a (Halt code), a)
         (close there core (record a { ram = g.ram }) (end_of x))) (sym q)
         (close_twice base p here there core a (Halt code) g.ram m (rw g.same at mo) e g.stored g.kept_here g.kept_there))
     go (Trapped code) q = λ agree. let g = f agree in
-        rw (g.same) (subst (λ x. Twice base p here there core (closed here core a (Trap code), a)
+        rw g.same (subst (λ x. Twice base p here there core (closed here core a (Trap code), a)
         (close there core (record a { ram = g.ram }) (end_of x))) (sym q)
         (close_twice base p here there core a (Trap code) g.ram m (rw g.same at mo) e g.stored g.kept_here g.kept_there))
 
@@ -112,8 +112,7 @@ same_named base p n l here there al mh mt = go (steps base p n (begun l here)) r
     go (Some a) q u f = λ agree. f (λ w t. agree w (u w t))
 
 pub transaction_twice : (base : ℕ) (p : Program) (here there : Plain) (core n : ℕ) → Aligned p → IsMemory here.ram → IsMemory there.ram
-    → there.cores core ≡ here.cores core
-    → TwiceIf base p here there core (transaction base p here core n) (transaction base p there core n)
+    → there.cores core ≡ here.cores core → TwiceIf base p here there core (transaction base p here core n) (transaction base p there core n)
 unfolding transaction begun
 transaction_twice base p here there core n al mh mt e = rw e (run_twice base p here there core (here.cores core).ended _ _
     (closes_twice base p here there core (steps base p n (begun (here.cores core).local here.ram))
@@ -151,19 +150,19 @@ unfolding orders_core commits_store commits_touch commit_of
 again_then base p o os here there done rest other more t again cores words =
     let r = again t.plain t.memory_there (λ c h. middle_cores c h (o.core == c) refl)
     (λ w h. middle_words w h (stores_word base done.1.stores w) refl) in
-    rw (t.same) (rw (r.same) (record {
+    rw t.same (rw r.same (record {
       plain = r.plain;
       same = refl;
       ran = λ c h. ran r c (orders_core os c) refl h;
       idle_here = λ c h. let k = neither (o.core == c) (orders_core os c) h in
-          r.idle_here c (k.1) ∙ t.others_here c (λ e. differ c e (k.0));
+          r.idle_here c k.1 ∙ t.others_here c (λ e. differ c e k.0);
       idle_there = λ c h. let k = neither (o.core == c) (orders_core os c) h in
-          r.idle_there c (k.1) ∙ t.others_there c (λ e. differ c e (k.0));
+          r.idle_there c k.1 ∙ t.others_there c (λ e. differ c e k.0);
       stored = λ w h. stored r w (commits_store base rest.1 w) refl h;
       kept_here = λ w h. let k = neither (stores_word base done.1.stores w) (commits_store base rest.1 w) h in
-          r.kept_here w (k.1) ∙ t.kept_here w (k.0);
+          r.kept_here w k.1 ∙ t.kept_here w k.0;
       kept_there = λ w h. let k = neither (stores_word base done.1.stores w) (commits_store base rest.1 w) h in
-          r.kept_there w (k.1) ∙ t.kept_there w (k.0);
+          r.kept_there w k.1 ∙ t.kept_there w k.0;
     }))
   where
     differ : (c : ℕ) → c ≡ o.core → (o.core == c) ≡ false → ⊥
@@ -195,7 +194,7 @@ unfolding commits_touch commit_of
 rest_again base p o os here there done None other more cores t again = tt
 rest_again base p o os here there done (Some rest) other more cores t again = λ words.
     let u : Twice base p here there o.core done other = t (λ w h. words w (or-left _ _ h)) in
-    again_then base p o os here there done rest other more u (λ k mk c w. again k (u.memory) mk c w) cores words
+    again_then base p o os here there done rest other more u (λ k mk c w. again k u.memory mk c w) cores words
 
 when_again : (base : ℕ) (p : Program) (o : Order) (os : List Order) (here there : Plain) (b : Bool) (one other : Option (Plain × Attempt))
     (more : Plain → Option (Plain × List Commit))
@@ -222,8 +221,7 @@ when_again base p o os here there true (Some done) other more t again =
     swap (Some d) f = λ cores words. f cores words
 
 pub serial_again : (base : ℕ) (p : Program) (last : ℕ) (os : List Order) (here there : Plain) → Aligned p → IsMemory here.ram
-    → IsMemory there.ram
-    → AgainIf base os here there (serial base p last os here) (serial base p last os there)
+    → IsMemory there.ram → AgainIf base os here there (serial base p last os here) (serial base p last os there)
 unfolding serial orders_core commits_store
 serial_again base p last [] here there al mh mt = λ cores words. record {
   plain = there;
@@ -264,7 +262,7 @@ memory_then : (base : ℕ) (p : Program) (o : Order) (m : Plain) (b : Bool) (one
     → IfSome (if b then after_order more o one else None) (λ r. IsMemory r.0.ram)
 memory_then base p o m false one other more t h = tt
 memory_then base p o m true None other more t h = tt
-memory_then base p o m true (Some d) other more t h = go (more d.0) (h d.0 (t.memory))
+memory_then base p o m true (Some d) other more t h = go (more d.0) (h d.0 t.memory)
   where
     go : (x : Option (Plain × List Commit)) → IfSome x (λ r. IsMemory r.0.ram)
         → IfSome (and_commit (commit_of o d.1) x) (λ r. IsMemory r.0.ram)
@@ -326,13 +324,13 @@ order_inserted base p last early late o m start done end a before after al mm c 
     let ms : IsMemory start.ram = rw c.first at (serial-memory base p last early m al mm) in
     let t : Twice base p start start o.core (done, a) (Some (done, a)) =
     rw c.executed at (transaction_once base p start o.core o.n al ms) in
-    let f = rw c.then_late at (serial_again base p (last_tid last early) late start done al ms (t.memory)) in
+    let f = rw c.then_late at (serial_again base p (last_tid last early) late start done al ms t.memory) in
     let g : Again base late start done (end, after) (serial base p (last_tid last early) late done) =
-    f (λ k h. t.others_here k (differs late k o.core (c.another_core) h))
+    f (λ k h. t.others_here k (differs late k o.core c.another_core h))
     (λ w h. sym (t.kept_here w (untouched w h (stores_word base a.stores w) refl))) in
     inserted_again base p late o start done end a before after (serial base p last (early ++ o ∷ late) m)
-    (serial base p (last_tid last early) late done) (c.another_core) (c.apart) t g
-    (whole_inserted base p last early late o m start done end (g.plain) a before after c (g.same))
+    (serial base p (last_tid last early) late done) c.another_core c.apart t g
+    (whole_inserted base p last early late o m start done end g.plain a before after c g.same)
   where
     untouched : (w : ℕ) → commits_touch base after w ≡ true → (b : Bool) → stores_word base a.stores w ≡ b
         → stores_word base a.stores w ≡ false

@@ -55,7 +55,7 @@ each-listed P (n ∷ ns) h = (h n (0, omega arith, refl), each-listed P ns (λ k
 pub each-behind : (P : Noted → Type 0) (t : ℕ) (ns : List Noted) → Each P ns → Each P (behind t ns)
 unfolding Each behind
 each-behind P t [] h = tt
-each-behind P t (n ∷ ns) h = go (nat_lt t n.tid.0) (each-behind P t ns (h.1))
+each-behind P t (n ∷ ns) h = go (nat_lt t n.tid.0) (each-behind P t ns h.1)
   where
     go : (b : Bool) → Each P (behind t ns) → Each P (if b then n ∷ ns else behind t ns)
     go true e = h
@@ -64,27 +64,27 @@ each-behind P t (n ∷ ns) h = go (nat_lt t n.tid.0) (each-behind P t ns (h.1))
 pub each-both : (P Q : Noted → Type 0) (ns : List Noted) → Each P ns → Each Q ns → Each (λ n. P n × Q n) ns
 unfolding Each
 each-both P Q [] h k = tt
-each-both P Q (n ∷ ns) h k = ((h.0, k.0), each-both P Q ns (h.1) (k.1))
+each-both P Q (n ∷ ns) h k = ((h.0, k.0), each-both P Q ns h.1 k.1)
 
 pub each-then : (P Q : Noted → Type 0) (ns : List Noted) → ((n : Noted) → P n → Q n) → Each P ns → Each Q ns
 unfolding Each
 each-then P Q [] f h = tt
-each-then P Q (n ∷ ns) f h = (f n (h.0), each-then P Q ns f (h.1))
+each-then P Q (n ∷ ns) f h = (f n h.0, each-then P Q ns f h.1)
 
 -- by rising TID: those behind it are larger, those before it smaller where none has it
 above-last : (t last : ℕ) (ns : List Noted) → t ≤ last → IsRising last ns → Each (λ n. t < n.tid.0) ns
 unfolding Each IsRising
 above-last t last [] l r = tt
-above-last t last (n ∷ ns) l r = let q : last < n.tid.0 = r.0 in (omega (arith, l, q), above-last t n.tid.0 ns (omega (arith, l, q)) (r.1))
+above-last t last (n ∷ ns) l r = let q : last < n.tid.0 = r.0 in (omega (arith, l, q), above-last t n.tid.0 ns (omega (arith, l, q)) r.1)
 
 pub behind-larger : (t last : ℕ) (ns : List Noted) → IsRising last ns → Each (λ n. t < n.tid.0) (behind t ns)
 unfolding Each IsRising behind
 behind-larger t last [] r = tt
-behind-larger t last (n ∷ ns) r = go (nat_lt t n.tid.0) refl (behind-larger t n.tid.0 ns (r.1))
+behind-larger t last (n ∷ ns) r = go (nat_lt t n.tid.0) refl (behind-larger t n.tid.0 ns r.1)
   where
     go : (b : Bool) → nat_lt t n.tid.0 ≡ b → Each (λ k. t < k.tid.0) (behind t ns)
         → Each (λ k. t < k.tid.0) (if b then n ∷ ns else behind t ns)
-    go true q e = let l : t < n.tid.0 = grind nats in (l, above-last t n.tid.0 ns (omega (arith, l)) (r.1))
+    go true q e = let l : t < n.tid.0 = grind nats in (l, above-last t n.tid.0 ns (omega (arith, l)) r.1)
     go false q e = e
 
 pub before-smaller : (t : ℕ) (ns : List Noted) → times t ns ≡ 0 → Each (λ n. n.tid.0 < t) (before t ns)
@@ -114,13 +114,13 @@ behind-below t (n ∷ ns) = go (nat_lt t n.tid.0) refl (behind-below t ns)
 pub orders-another : (c : ℕ) (ns : List Noted) → Each (λ n. (n.core.0 == c) ≡ false) ns → orders_core (map order_of_commit ns) c ≡ false
 unfolding Each orders_core
 orders-another c [] h = refl
-orders-another c (n ∷ ns) h = rw (h.0) (orders-another c ns (h.1))
+orders-another c (n ∷ ns) h = rw h.0 (orders-another c ns h.1)
 
 pub touch-none : (base w : ℕ) (ns : List Noted) → Each (λ n. (loads_word base n.loads w || stores_word base n.stores w) ≡ false) ns
     → commits_touch base ns w ≡ false
 unfolding Each commits_touch
 touch-none base w [] h = refl
-touch-none base w (n ∷ ns) h = rw (h.0) (touch-none base w ns (h.1))
+touch-none base w (n ∷ ns) h = rw h.0 (touch-none base w ns h.1)
 
 -- The serial execution that gave the commits, cut in two, and what it makes of each word.
 
@@ -169,7 +169,7 @@ serial-cut base p last (n ∷ early) late m end h = go (nat_lt last n.tid.0) ref
     go false q x e g f = absurd (cc)
     go true q None e g f = absurd (cc)
     go true q (Some d) e g f = let r = found d.0 (commit_of (order_of_commit n) d.1) (serial base p n.tid.0 os d.0) refl g in
-        made true q d e (r.0) refl (f d.0 (r.1))
+        made true q d e r.0 refl (f d.0 r.1)
 
 -- what it makes of a word
 after_stores-last : (base : ℕ) (ss : List Stored) (s : Stored) (x y : ℕ)
@@ -269,13 +269,13 @@ after-counted : (base : ℕ) (s : DirState) (c b : Option ℕ) (x : ℕ) (es : L
     → after_commits base s c b x es y ≡ all_stores base x es y
 unfolding after_commits all_stores Each
 after-counted base s c b x [] y h = refl
-after-counted base s c b x (e ∷ es) y h = rw (h.0) (after-counted base s c b x es (after_stores base e.stores x y) (h.1))
+after-counted base s c b x (e ∷ es) y h = rw h.0 (after-counted base s c b x es (after_stores base e.stores x y) h.1)
 
 after-uncounted : (base : ℕ) (s : DirState) (c b : Option ℕ) (x : ℕ) (es : List Noted) (y : ℕ) → Each (λ n. counts s c b n ≡ false) es
     → after_commits base s c b x es y ≡ y
 unfolding after_commits Each
 after-uncounted base s c b x [] y h = refl
-after-uncounted base s c b x (e ∷ es) y h = rw (h.0) (after-uncounted base s c b x es y (h.1))
+after-uncounted base s c b x (e ∷ es) y h = rw h.0 (after-uncounted base s c b x es y h.1)
 
 counts-before : (s : DirState) (c : Option ℕ) (t : ℕ) (n : Noted) → t ≤ s.serving.serving → n.tid.0 < t → counts s c (Some t) n ≡ true
 unfolding counts is_applied
@@ -327,17 +327,17 @@ pub agrees-before : (sh : Shape) (ram there : ℕ → ℕ) (w : World) (cs : Lis
 agrees-before sh ram there w cs c t [] i r z is free l v = tt
 agrees-before sh ram there w cs c t (u ∷ us) i r z is free l v = (
   go ((v (home_of sh u.0) (home-below sh u.0 i)).0 refl),
-  agrees-before sh ram there w cs c t us i r z is free (l.1)
+  agrees-before sh ram there w cs c t us i r z is free l.1
       (λ d k. (v d k).1),
 )
   where
     go : (u.1 ≡ value_at sh.base ram cs (w.dirs (home_of sh u.0)) (Some c) (Some t) u.0)
         ⊎ IsDoomed (Some t) u.0 (pair w c (home_of sh u.0)) → there u.0 ≡ u.1
-    go (inl e) = is u.0 ∙ sym (e ∙ value-before sh.base ram cs (w.dirs (home_of sh u.0)) (Some c) t u.0 r z (l.0))
-    go (inr h) = absurd (undoomed w c (home_of sh u.0) t u.0 (l.0) (free (home_of sh u.0)) h)
+    go (inl e) = is u.0 ∙ sym (e ∙ value-before sh.base ram cs (w.dirs (home_of sh u.0)) (Some c) t u.0 r z l.0)
+    go (inr h) = absurd (undoomed w c (home_of sh u.0) t u.0 l.0 (free (home_of sh u.0)) h)
 
 -- the last TID before it
 pub last-below : (t last : ℕ) (ns : List Noted) → last < t → Each (λ n. n.tid.0 < t) ns → last_tid last (map order_of_commit ns) < t
 unfolding Each
 last-below t last [] l h = l
-last-below t last (n ∷ ns) l h = last-below t n.tid.0 ns (h.0) (h.1)
+last-below t last (n ∷ ns) l h = last-below t n.tid.0 ns h.0 h.1

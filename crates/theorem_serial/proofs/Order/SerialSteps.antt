@@ -198,11 +198,11 @@ unfolding holder pair
 stand sh p entries ram gs ys views m h c t u k l y = record {
   below = l;
   may = y;
-  positive = numbered-least 1 gs (record { tid = t; core = c }) (k.carried.granted_tids_are_those_below_next.0) (owned.0);
+  positive = numbered-least 1 gs (record { tid = t; core = c }) k.carried.granted_tids_are_those_below_next.0 owned.0;
   fresh = owned.1;
   last = λ n i e. k.carried.live_tid_is_the_last_granted_to_its_core c 0 t n.tid.0 held
       (subst (λ q. Contains gs (record { tid = n.tid.0; core = q })) e
-      (granted-at gs h.commits n (k.carried.commits_are_of_granted_tids.1) i));
+      (granted-at gs h.commits n k.carried.commits_are_of_granted_tids.1 i));
   reached = reached;
   untold = untold;
 }
@@ -228,11 +228,11 @@ stand sh p entries ram gs ys views m h c t u k l y = record {
 
     reached : (x : ℕ) → (is_solo s.phase ≡ false → s.cache.read x ≡ true) → t ≤ (tid_at h.world (home_of sh x))
     reached x r =
-        let i : home sh (line_of x) < sh.dirs = home-below sh x (u.dirs) in
+        let i : home sh (line_of x) < sh.dirs = home-below sh x u.dirs in
         let a : asks_dir s.phase (writes_at sh s.cache (home_of sh x) || reads_at sh s.cache (home_of sh x)) ≡ true =
         may-asks t s.phase _ y (λ q. either (writes_at sh s.cache (home_of sh x)) _ (marked.read x (r q))) in
         let o : s.owing (home_of sh x) ≡ false = k.carried.directory_that_replied_serves_the_tid.replied c (home_of sh x) l i
-        ((may-commits t s.phase y).0) in
+        (may-commits t s.phase y).0 in
         let z : tid_of s.phase ≤ tid_at h.world (home_of sh x) =
         k.carried.directory_that_replied_serves_the_tid.reached c (home_of sh x) l i a o in
         omega (arith, z, (may-commits t s.phase y).1)
@@ -242,7 +242,7 @@ stand sh p entries ram gs ys views m h c t u k l y = record {
     modified x e q = grind nats
 
     untold : (x : ℕ) → stores_word sh.base s.stores x ≡ true → ys (home_of sh x) t ≡ Untold
-    untold x e = k.carried.live_tid_is_open_where_it_must_be.held c (home_of sh x) t l (home-below sh x (u.dirs)) has
+    untold x e = k.carried.live_tid_is_open_where_it_must_be.held c (home_of sh x) t l (home-below sh x u.dirs) has
         ∙ may-untold t s.phase (writes_at sh s.cache (home_of sh x)) y (λ q. marked.modified x (modified x e q))
 
 -- every word of the view is at a home that has reached the TID
@@ -270,7 +270,7 @@ later-apart sh p entries ram gs ys views m h c t x n u k s e i l =
 
     given : worked_at sh n (home_of sh x) ≡ true → ⊥
     given w = let g : is_given_up (ys (home_of sh x) t) ≡ true = k.carried.smaller_tid_is_given_up_where_a_larger_one_worked.0 n
-        (home_of sh x) t i (home-below sh x (u.dirs)) w s.positive l s.fresh in
+        (home_of sh x) t i (home-below sh x u.dirs) w s.positive l s.fresh in
         let f : is_given_up (ys (home_of sh x) t) ≡ false = rw (s.untold x e) refl in cc
 
     either : (a b : Bool) → b ≡ true → (a || b) ≡ true
@@ -289,43 +289,43 @@ pub closed-core : (sh : Shape) (p : Program) (entries : ℕ → Local) (ram : �
     → Closing sh p c t (h.world.cores c) r o → ClosedSerial sh.base p h.commits c t r (plain_start entries ram) m
 unfolding plain_start pair
 closed-core sh p entries ram gs ys views m h c t r o u k l f = closed-serial sh.base p h.commits c t (h.world.cores c).saved r
-    (plain_start entries ram) m cut (fits-aligned p (u.fits)) (u.small) small can
+    (plain_start entries ram) m cut (fits-aligned p u.fits) u.small small can
   where
     s : Stand sh h ys c t
-    s = stand sh p entries ram gs ys views m h c t u k l (f.phase)
+    s = stand sh p entries ram gs ys views m h c t u k l f.phase
 
     cut : SerialCut sh.base p 0 (before t h.commits) (behind t h.commits) (plain_start entries ram) m
     cut = serial-cut sh.base p 0 (before t h.commits) (behind t h.commits) (plain_start entries ram) m
         (subst (λ q. serial sh.base p 0 (map order_of_commit q) (plain_start entries ram) ≡ Some (m, q)) (cut-joined t h.commits)
-        (k.commits_are_serial))
+        k.commits_are_serial)
 
     small : IsMemory cut.start.ram
     small =
-        rw (cut.first) at (serial-memory sh.base p 0 (map order_of_commit (before t h.commits)) (plain_start entries ram)
-        (fits-aligned p (u.fits)) (u.small))
+        rw cut.first at (serial-memory sh.base p 0 (map order_of_commit (before t h.commits)) (plain_start entries ram)
+        (fits-aligned p u.fits) u.small)
 
     words : (x : ℕ) → cut.start.ram x ≡ all_stores sh.base x (before t h.commits) (ram x)
-    words x = rw (cut.first) at (serial-holds sh.base p 0 (map order_of_commit (before t h.commits)) (plain_start entries ram) x)
+    words x = rw cut.first at (serial-holds sh.base p 0 (map order_of_commit (before t h.commits)) (plain_start entries ram) x)
 
     agrees : Agrees (views c) cut.start.ram
-    agrees = agrees-before sh ram cut.start.ram h.world h.commits c t (views c) (u.dirs) (k.carried.commits_are_of_granted_tids.0) s.fresh
+    agrees = agrees-before sh ram cut.start.ram h.world h.commits c t (views c) u.dirs k.carried.commits_are_of_granted_tids.0 s.fresh
         words
         (λ d. k.carried.owed_counts_invs_and_acks.served c d)
         (uses-reached sh h ys c t true (views c) s
-        (view-stands t (h.world.cores c) (views c) s.may ((k.carried_views.read_marks_are_the_view c).stand)))
+        (view-stands t (h.world.cores c) (views c) s.may (k.carried_views.read_marks_are_the_view c).stand))
         (λ d i. k.viewed_word_is_current_or_doomed c d (Some t) l i (may-bound h.world c d t s.may))
 
     listed : Each (λ n. Contains h.commits n × (t < n.tid.0)) (behind t h.commits)
     listed = each-both (Contains h.commits) (λ n. t < n.tid.0) (behind t h.commits)
         (each-behind (Contains h.commits) t h.commits (each-listed (Contains h.commits) h.commits (λ n i. i)))
-        (behind-larger t 0 h.commits (k.carried.commits_are_of_granted_tids.0))
+        (behind-larger t 0 h.commits k.carried.commits_are_of_granted_tids.0)
 
     another : (n : Noted) → Contains h.commits n × (t < n.tid.0) → (n.core.0 == c) ≡ false
     another n i = go (n.core.0 == c) refl
       where
         go : (b : Bool) → (n.core.0 == c) ≡ b → b ≡ false
         go false q = refl
-        go true q = absurd (let e : n.core.0 ≡ c = grind nats in omega (arith, s.last n (i.0) e, i.1))
+        go true q = absurd (let e : n.core.0 ≡ c = grind nats in omega (arith, s.last n i.0 e, i.1))
 
     can : CanClose sh.base p h.commits c t (h.world.cores c).saved r m cut.start
     can = record {
@@ -342,8 +342,8 @@ closed-core sh p entries ram gs ys views m h c t r o u k l f = closed-serial sh.
           λ x e. touch-none sh.base x (behind t h.commits)
           (each-then (λ n. Contains h.commits n × (t < n.tid.0))
           (λ n. (loads_word sh.base n.loads x || stores_word sh.base n.stores x) ≡ false) (behind t h.commits)
-          (λ n i. later-apart sh p entries ram gs ys views m h c t x n u k s (sym (ap (λ q. stores_word sh.base q x) (f.stores)) ∙ e) (i.0)
-          (i.1)) listed);
+          (λ n i. later-apart sh p entries ram gs ys views m h c t x n u k s (sym (ap (λ q. stores_word sh.base q x) f.stores) ∙ e) i.0
+          i.1) listed);
     }
 
 -- what an event left and noted
@@ -397,26 +397,26 @@ events_serial sh p entries ram gs ys views m h e u k =
         one : (o : Out) → Leaves sh p c (h.world.cores c) o
             → After sh p entries ram h (record { world = core_moves h.world c o; noted = o.commit })
         one o (Stays n v i) = kept-serial sh p entries ram h m (record { world = core_moves h.world c o; noted = o.commit }) n
-            (k.commits_are_serial)
+            k.commits_are_serial
             (λ j y. rested-core sh h.world c j o m (record { commit = n; saved = v; ends = i }) (k.committed_cores_are_serial j y))
         one o (Closes t r f) =
             let g : ClosedSerial sh.base p h.commits c t r (plain_start entries ram) m =
             closed-core sh p entries ram gs ys views m h c t r o u k l f in
             record {
               plain = g.plain;
-              commits = subst (λ q. CommitsSerial sh p entries ram (and_noted q h.commits) g.plain) (sym (f.commit)) (g.commits);
+              commits = subst (λ q. CommitsSerial sh p entries ram (and_noted q h.commits) g.plain) (sym f.commit) g.commits;
               cores = λ j y. closed-cores sh p h.world h.commits c t j r o (plain_start entries ram) m g f
                   (k.committed_cores_are_serial j y);
             }
 
     rested : (c : ℕ) (o : Out) (w : World) → w.cores ≡ (λ j. if j == c then o.core else h.world.cores j)
         → CheckpointStays (h.world.cores c) o → After sh p entries ram h (record { world = w; noted = o.commit })
-    rested c o w q r = kept-serial sh p entries ram h m (record { world = w; noted = o.commit }) (r.commit) (k.commits_are_serial)
+    rested c o w q r = kept-serial sh p entries ram h m (record { world = w; noted = o.commit }) r.commit k.commits_are_serial
         (λ j y. subst (λ f. CoreSerial (f j) (m.cores j)) (sym q) (rested-core sh h.world c j o m r (k.committed_cores_are_serial j y)))
 
     same : (w : World) → w.cores ≡ h.world.cores → After sh p entries ram h (record { world = w; noted = None })
-    same w q = kept-serial sh p entries ram h m (record { world = w; noted = None }) refl (k.commits_are_serial)
-        (subst (λ f. (j : ℕ) → j < sh.cores → CoreSerial (f j) (m.cores j)) (sym q) (k.committed_cores_are_serial))
+    same w q = kept-serial sh p entries ram h m (record { world = w; noted = None }) refl k.commits_are_serial
+        (subst (λ f. (j : ℕ) → j < sh.cores → CoreSerial (f j) (m.cores j)) (sym q) k.committed_cores_are_serial)
 
     evicts : (c x y : ℕ) → c < sh.cores
         → IfSome (core_evict sh x y (h.world.cores c))

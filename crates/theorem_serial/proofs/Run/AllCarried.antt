@@ -192,9 +192,9 @@ proved sh p entries ram es h s r = record {
 step-all : (sh : Shape) (p : Program) (entries : ℕ → Local) (ram : ℕ → ℕ) (o : Memo) (h : History) (e : Event) → Suits sh p ram
     → AllOf sh p entries ram o h
     → IfSome (next_history sh p h e) (λ g. Proved sh p (memo_after sh p h e o) g → AllOf sh p entries ram (memo_after sh p h e o) g)
-step-all sh p entries ram o h e s a = go (next_history sh p h e) (homes_kept sh p entries ram o.gs o.ys o.vs (a.0) h e s (a.1))
-    (words_kept sh p entries ram o.gs o.ys o.vs (a.0) h e s (a.1)) (keeps_views sh p entries ram o.gs o.ys o.vs (a.0) h e (a.1))
-    (events_serial sh p entries ram o.gs o.ys o.vs (a.0) h e s (a.1))
+step-all sh p entries ram o h e s a = go (next_history sh p h e) (homes_kept sh p entries ram o.gs o.ys o.vs a.0 h e s a.1)
+    (words_kept sh p entries ram o.gs o.ys o.vs a.0 h e s a.1) (keeps_views sh p entries ram o.gs o.ys o.vs a.0 h e a.1)
+    (events_serial sh p entries ram o.gs o.ys o.vs a.0 h e s a.1)
   where
     n : Memo
     n = memo_after sh p h e o
@@ -222,8 +222,8 @@ step-all sh p entries ram o h e s a = go (next_history sh p h e) (homes_kept sh 
             viewed_word_is_current_or_doomed = views.0;
             commits_are_serial = d.commits;
             committed_cores_are_serial = d.cores;
-            seen_words_are_serial = seen_follows sh p entries ram n.gs n.ys d.plain g s.dirs k.carried k.memory (homes.0)
-                (homes.1) d.commits;
+            seen_words_are_serial = seen_follows sh p entries ram n.gs n.ys d.plain g s.dirs k.carried k.memory homes.0
+                homes.1 d.commits;
           },
         )
 

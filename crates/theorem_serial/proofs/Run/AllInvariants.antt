@@ -30,17 +30,17 @@ start-spared sh entries ram c d = record { owner = λ t l. absurd (omega arith);
 
 pub step-all : (sh : Shape) (p : Program) (gs : List Grant) (h : History) (e : Event) → KeptAll sh gs h
     → IfSome (recorded h (step sh p h.world e)) (λ g. KeptAll sh (gs ++ granted_by h.world e) g)
-step-all sh p gs h e k = go (step sh p h.world e) (step-kept sh p h.world e (k.kept))
-    (step-owners sh p gs h.world h.commits e (k.kept.told.tids) (k.owners)) (step-cores sh p h.world e (k.cores))
-    (step-committing sh p h.world e (k.kept) (k.committing))
-    (step-probing sh p gs h.world h.commits e (k.kept) (k.owners) (k.cores) (k.probing))
-    (step-last sh p gs h.world h.commits e (k.kept.told.tids) (k.owners) (k.last))
-    (step-spared sh p gs h.world h.commits e (k.kept) (k.owners) (k.spared))
-    (step-marks sh p gs h.world h.commits e (k.kept) (k.owners) (k.marks))
-    (step-counted sh p gs h.world h.commits e (k.kept) (k.owners) (k.cores) (k.marks) (k.counted)) (step-whole sh p h.world e (k.whole))
-    (step-named sh p h.world e (k.kept) (k.counted) (k.named)) (step-asked sh p h.world e (k.asked))
-    (step-masks sh p gs h.world h.commits e (k.kept) (k.owners) (k.marks) (k.masks))
-    (step-stored sh p gs h.world h.commits e (k.kept) (k.owners) (k.cores) (k.marks) (k.counted) (k.masks) (k.stored))
+step-all sh p gs h e k = go (step sh p h.world e) (step-kept sh p h.world e k.kept)
+    (step-owners sh p gs h.world h.commits e k.kept.told.tids k.owners) (step-cores sh p h.world e k.cores)
+    (step-committing sh p h.world e k.kept k.committing)
+    (step-probing sh p gs h.world h.commits e k.kept k.owners k.cores k.probing)
+    (step-last sh p gs h.world h.commits e k.kept.told.tids k.owners k.last)
+    (step-spared sh p gs h.world h.commits e k.kept k.owners k.spared)
+    (step-marks sh p gs h.world h.commits e k.kept k.owners k.marks)
+    (step-counted sh p gs h.world h.commits e k.kept k.owners k.cores k.marks k.counted) (step-whole sh p h.world e k.whole)
+    (step-named sh p h.world e k.kept k.counted k.named) (step-asked sh p h.world e k.asked)
+    (step-masks sh p gs h.world h.commits e k.kept k.owners k.marks k.masks)
+    (step-stored sh p gs h.world h.commits e k.kept k.owners k.cores k.marks k.counted k.masks k.stored)
   where
     go : (x : Option Stepped) → IfSome x (λ o. Kept sh o.world)
         → IfSome x (λ o. KeptOwners sh (gs ++ granted_by h.world e) o.world (and_noted o.noted h.commits))
@@ -61,14 +61,14 @@ step-all sh p gs h e k = go (step sh p h.world e) (step-kept sh p h.world e (k.k
           committing = d;
           probing = f;
           last = l;
-          spared = q (a.told);
-          marks = m (a.told);
-          counted = n (a.told);
+          spared = q a.told;
+          marks = m a.told;
+          counted = n a.told;
           whole = r;
-          named = y (a.told);
+          named = y a.told;
           asked = z;
           masks = u;
-          stored = v (a.told);
+          stored = v a.told;
         }
 
 run_from-all : (sh : Shape) (p : Program) (es : List Event) (gs : List Grant) (h : History) → KeptAll sh gs h
@@ -115,7 +115,7 @@ one_probe_from sh w k c d t h = (k c d t).held h
 
 pub one_probe : Always OneProbe
 one_probe sh p entries ram es = IfSome_then (run sh p (start entries ram) es) (run-all sh p entries ram es)
-    (λ r h. one_probe_from sh r.world (h.probing))
+    (λ r h. one_probe_from sh r.world h.probing)
 
 pub last_granted : HoldsLast
 last_granted sh p entries ram es = IfSome_then (run sh p (start entries ram) es) (run-all sh p entries ram es) (λ r h. h.last)

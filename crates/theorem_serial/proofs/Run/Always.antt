@@ -11,7 +11,7 @@ use Names.{grant, Answer, Waits, Drops, Asks, Takes, dir_deliver, Stepped, step,
 use Names.{run_from}
 use proofs.Counts.Links.{total-le}
 use proofs.Serving.KeptSteps.{run-kept, core_of_grant, core_of_back, step-kept, start-all}
-use proofs.Tids.CoreProbing.{KeepsHolder, holder-exec, holder-evict, holder-grant, holder-back}
+use proofs.Tids.CoreTids.{KeepsHolder, holder-exec, holder-evict, holder-grant, holder-back}
 use proofs.Counts.StepCases.{OfAnswer, step_cases}
 
 from_kept : (P : Shape → World → Type 0) → ((sh : Shape) (w : World) → Kept sh w → P sh w) → Always P
@@ -79,7 +79,7 @@ serves sh w c d t k l x o r =
     let q = total-le (share (part sh d t) w d) sh.cores c l in
     let n : num (opens (w.cores c).phase (writes_at sh (w.cores c).cache d) t) ≡ 1 = rw o refl in
     let a = opens-asks (w.cores c).phase (writes_at sh (w.cores c).cache d) (reads_at sh (w.cores c).cache d) t o in
-    let low = (k.probes c d).core.reached x (a.0) r in
+    let low = (k.probes c d).core.reached x a.0 r in
     let z : num (nat_lt t (tid_at w d)) ≡ 0 = omega (arith, p, q, n) in
     let high : tid_at w d ≤ t = not_below t (tid_at w d) z in
     omega (arith, low, a.1, high)
@@ -133,7 +133,7 @@ step-by sh p w e h = step_cases sh p w e (λ g o. NotedByCore sh o.noted)
 inserted-by : (sh : Shape) (n : Noted) (cs : List Noted) → n.core.0 < sh.cores → AreByCores sh cs → AreByCores sh (insert_commit n cs)
 unfolding AreBy insert_commit
 inserted-by sh n [] l k = (grind nats, tt)
-inserted-by sh n (c ∷ cs) l k = go (nat_lt n.tid.0 c.tid.0) (grind nats) (inserted-by sh n cs l (k.1))
+inserted-by sh n (c ∷ cs) l k = go (nat_lt n.tid.0 c.tid.0) (grind nats) (inserted-by sh n cs l k.1)
   where
     go : (b : Bool) → is_core sh n.core.0 ≡ true → AreByCores sh (insert_commit n cs)
         → AreByCores sh (if b then n ∷ c ∷ cs else c ∷ insert_commit n cs)

@@ -79,6 +79,6 @@ tried_fails = record {
   word =
       λ k. unequal 7 2 refl (home-of tried tried_ram (with_word tried_end.world 1 24 7) tried_end.commits 1 24 k refl one-two refl refl
       refl);
-  commit = λ k. unequal 1 0 refl ((k 1 0 2 2 one-two zero-two (let q : 2 < 4 = omega arith in q) refl zero-two).one);
+  commit = λ k. unequal 1 0 refl (k 1 0 2 2 one-two zero-two (let q : 2 < 4 = omega arith in q) refl zero-two).one;
   uncommitted = λ k. neither (unequal 2 0 refl) no (k 1 1 24 2 one-two one-two refl refl refl);
 }

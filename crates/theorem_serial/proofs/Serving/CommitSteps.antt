@@ -19,7 +19,7 @@ use proofs.Serving.DirDue.{Due, DueBy, dir-due, still-due, none-quiet, SparesOwn
 use proofs.Serving.DirDue.{rises-still}
 use proofs.Serving.KeptSteps.{step-kept, start-all, marks_home, acks_owed, invs-few, core_of_out, once_at}
 use proofs.Tids.Commits.{granted-once, only-one}
-use proofs.Tids.CoreProbing.{KeepsHolder, noted_tid, none, holder-exec, holder-evict, holder-back}
+use proofs.Tids.CoreTids.{KeepsHolder, noted_tid, none, holder-exec, holder-evict, holder-back}
 
 -- Every event keeps that a Commit in flight is of the served TID, and so does every run.
 committing-moved : (v : Pair) (o : Out) (d : ℕ) → Served d v.dir.serving.serving o → CommittingOf v → CommittingOf (after_move v o d)
@@ -27,14 +27,14 @@ committing-moved v o d y h = omega (arith, live-sends (CommitsAbove v.dir.servin
 
 committing-answered : (v : Pair) (s : DirState) (sends : Sends) (ms : List Msg) → Rises v.dir s sends → CommittingOf v
     → CommittingOf (after_answer v s ms)
-committing-answered v s sends ms u h = omega (arith, fewer-above v.dir.serving.serving s.serving.serving v.out (u.rises))
+committing-answered v s sends ms u h = omega (arith, fewer-above v.dir.serving.serving s.serving.serving v.out u.rises)
 
 committing-taken : (v : Pair) (k : ℕ) (m : Msg) (s : DirState) (sends : Sends) (ms : List Msg) → slice_index_or v.out k None ≡ Some m
     → Rises v.dir s sends → CommittingOf v → CommittingOf (after_answer (out_taken v k) s ms)
 committing-taken v k m s sends ms i u h =
     omega (
       arith,
-      fewer-above v.dir.serving.serving s.serving.serving v.out (u.rises),
+      fewer-above v.dir.serving.serving s.serving.serving v.out u.rises,
       live-takes (CommitsAbove s.serving.serving) v.out k m i,
     )
 
@@ -42,7 +42,7 @@ pub step-committing : (sh : Shape) (p : Program) (w : World) (e : Event) → Kep
     → IfSome (step sh p w e) (λ o. KeptCommitting o.world)
 unfolding pair
 step-committing sh p w e z h = step_cases sh p w e (λ g o. KeptCommitting o.world)
-    (λ c l. moved c (core_exec sh p c (w.cores c)) (λ d. served-exec sh p c d (tid_at w d) (w.cores c) ((z.probes c d).core)))
+    (λ c l. moved c (core_exec sh p c (w.cores c)) (λ d. served-exec sh p c d (tid_at w d) (w.cores c) (z.probes c d).core))
     (λ c x y l. moved c (core_evict sh x y (w.cores c)) (λ d. served-evict sh x y d (tid_at w d) (w.cores c)))
     (λ c k t i. pairs_grant P w c k (grant sh t (w.cores c))
     (λ d. committing-moved (grant_taken (pair w c d) k) (grant sh t (w.cores c)) d
@@ -70,8 +70,7 @@ step-committing sh p w e z h = step_cases sh p w e (λ g o. KeptCommitting o.wor
     dir c d k m s sends i u = pairs_dir P w c d k s sends (committing-taken (pair w c d) k m s sends (sends (Core c)) i u (h c d))
         (λ j n. committing-answered (pair w j d) s sends (sends (Core j)) u (h j d)) h
 
-    answered : (c d k : ℕ) (m : Msg) → FromCore w c d k m → (a : Answer) → RisesBy (w.dirs d) a
-        → OfAnswer w c d k (λ v. KeptCommitting v) a
+    answered : (c d k : ℕ) (m : Msg) → FromCore w c d k m → (a : Answer) → RisesBy (w.dirs d) a → OfAnswer w c d k (λ v. KeptCommitting v) a
     answered c d k m i Waits u = tt
     answered c d k m i Drops u = dir c d k m (w.dirs d) (λ dst. []) i (rises-still (w.dirs d))
     answered c d k m i (Asks s sends) u =
@@ -116,8 +115,7 @@ pub commits_served : (sh : Shape) (w : World) → Kept sh w → KeptCommitting w
 unfolding handled share part pair
 commits_served sh w z k c d t l x o = go (cases_order (tid_at w d) t)
   where
-    go : (tid_at w d ≡ t) ⊎ ((tid_at w d < t) ⊎ (t < tid_at w d))
-        → tid_at w d ≡ t
+    go : (tid_at w d ≡ t) ⊎ ((tid_at w d < t) ⊎ (t < tid_at w d)) → tid_at w d ≡ t
     go (inl e) = e
     go (inr (inl e)) = absurd (omega (arith, ofs-above (tid_at w d) t (to_dir w c d) e, k c d, o))
     go (inr (inr e)) =
@@ -135,7 +133,7 @@ unfolding run
 commits_are_served sh p entries ram es =
     let first : History = record { world = start entries ram; commits = [] } in
     IfSome_then (run_from sh p es first) (run_from-committing sh p es first (start-all sh entries ram) (start-committing entries ram))
-    (λ r h. commits_served sh r.world (h.0) (h.1))
+    (λ r h. commits_served sh r.world h.0 h.1)
 
 -- Every event keeps that no invalidation goes to the core that committed.
 
@@ -167,23 +165,20 @@ spared-answered sh gs j d v s ms f o = record { owner = o; own = f }
 
 -- what a directory has sent and sends to a core that its served TID was granted to
 spared-back : (sh : Shape) (gs : List Grant) (w : World) (c e k j ack : ℕ) (m : Msg) (s : DirState) (sends : Sends) → IsNumbered 1 gs
-    → SparesCommitter sh gs w → FromCore w c e k m
-    → Due sh e (w.dirs e) ack s sends → SparesOwn (w.dirs e) c m sends
-    → (s.owed ≡ 0 → live Invs (to_core w e j ++ sent_all (sends (Core j))) ≡ 0)
-    → e < sh.dirs → Contains gs (record { tid = s.serving.serving; core = j })
-    → live Invs (to_core w e j ++ sent_all (sends (Core j))) ≡ 0
+    → SparesCommitter sh gs w → FromCore w c e k m → Due sh e (w.dirs e) ack s sends → SparesOwn (w.dirs e) c m sends
+    → (s.owed ≡ 0 → live Invs (to_core w e j ++ sent_all (sends (Core j))) ≡ 0) → e < sh.dirs
+    → Contains gs (record { tid = s.serving.serving; core = j }) → live Invs (to_core w e j ++ sent_all (sends (Core j))) ≡ 0
 unfolding pair
-spared-back sh gs w c e k j ack m s sends y h i u p z l g = elim (u.served) [ inl q ↦ stays (q.0) | inr q ↦ z q ]
+spared-back sh gs w c e k j ack m s sends y h i u p z l g = elim u.served [ inl q ↦ stays q.0 | inr q ↦ z q ]
   where
     taken : passes (Commits (tid_at w e)) m ≡ true → 1 ≤ live (Commits (tid_at w e)) (to_dir w c e)
     taken q = let n : num (passes (Commits (tid_at w e)) m) ≡ 1 = ap num q in
         omega (arith, live-takes (Commits (tid_at w e)) (to_dir w c e) k m i)
 
-    sent : Contains gs (record { tid = tid_at w e; core = j }) → SparesOwn (w.dirs e) c m sends
-        → among Invs (sends (Core j)) ≡ 0
+    sent : Contains gs (record { tid = tid_at w e; core = j }) → SparesOwn (w.dirs e) c m sends → among Invs (sends (Core j)) ≡ 0
     sent a (inl q) = q j
     sent a (inr q) = let x : c ≡ j =
-        granted-once 1 gs (tid_at w e) c j y ((h c e).owner (tid_at w e) (taken (q.1))) a in
+        granted-once 1 gs (tid_at w e) c j y ((h c e).owner (tid_at w e) (taken q.1)) a in
         ap (λ b. among Invs (sends (Core b))) (sym x) ∙ q.0
 
     stays : s.serving.serving ≡ tid_at w e → live Invs (to_core w e j ++ sent_all (sends (Core j))) ≡ 0
@@ -197,7 +192,7 @@ unfolding dir_takes pair
 dir-spared sh gs w c e k m s sends y h z i u p = pairs_dir (SparedOf sh gs) w c e k s sends
     (spared-answered sh gs c e (out_taken (pair w c e) k) s (sends (Core c)) (back c)
     (λ t l. (h c e).owner t (omega (arith, live-takes (Commits t) (to_dir w c e) k m i))))
-    (λ j n. spared-answered sh gs j e (pair w j e) s (sends (Core j)) (back j) ((h j e).owner)) h
+    (λ j n. spared-answered sh gs j e (pair w j e) s (sends (Core j)) (back j) (h j e).owner) h
   where
     v : World
     v = dir_takes w c e k s sends
@@ -212,24 +207,22 @@ asks-spared : (sh : Shape) (gs : List Grant) (w : World) (e : ℕ) (s : DirState
     → SparesCommitter sh gs (dir_asks w e s sends)
 unfolding dir_asks pair
 asks-spared sh gs w e s sends h z u p =
-    pairs_asks (SparedOf sh gs) w e s sends (λ j. spared-answered sh gs j e (pair w j e) s (sends (Core j)) (back j) ((h j e).owner)) h
+    pairs_asks (SparedOf sh gs) w e s sends (λ j. spared-answered sh gs j e (pair w j e) s (sends (Core j)) (back j) (h j e).owner) h
   where
     v : World
     v = dir_asks w e s sends
 
     back : (j : ℕ) → e < sh.dirs → Contains gs (record { tid = s.serving.serving; core = j })
         → live Invs (to_core w e j ++ sent_all (sends (Core j))) ≡ 0
-    back j l g = go (u.served)
+    back j l g = go u.served
       where
-        go : ((s.serving.serving ≡ tid_at w e)
-            × ((j : ℕ) → among (InvsNot (tid_at w e)) (sends (Core j)) ≡ 0)) ⊎ (s.owed ≡ 0)
+        go : ((s.serving.serving ≡ tid_at w e) × ((j : ℕ) → among (InvsNot (tid_at w e)) (sends (Core j)) ≡ 0)) ⊎ (s.owed ≡ 0)
             → live Invs (to_core w e j ++ sent_all (sends (Core j))) ≡ 0
-        go (inl q) = omega (arith, (h j e).own l (rw (q.0) at g), p j, live-sends Invs (to_core w e j) (sends (Core j)))
+        go (inl q) = omega (arith, (h j e).own l (rw q.0 at g), p j, live-sends Invs (to_core w e j) (sends (Core j)))
         go (inr q) = rw (eq-self e) at (no-invs sh v e j z (rw (eq-self e) q))
 
 -- a directory whose TID isn't granted yet is owed nothing
-next-quiet : (sh : Shape) (w : World) (d j : ℕ) → KeptTold sh w → d < sh.dirs → tid_at w d ≡ w.next
-    → live Invs (to_core w d j) ≡ 0
+next-quiet : (sh : Shape) (w : World) (d j : ℕ) → KeptTold sh w → d < sh.dirs → tid_at w d ≡ w.next → live Invs (to_core w d j) ≡ 0
 unfolding handled
 next-quiet sh w d j k l e = go (cases_eq (w.dirs d).owed 0)
   where
@@ -291,7 +284,7 @@ step-spared sh p gs w cs e z y h = step_cases sh p w e (λ g o. KeptTold sh o.wo
     (λ t l. absurd (no-commit sh u t (w.cores c) l)) (record { owner = (h c d).owner; own = (h c d).own })) h))
     (λ c d k m i. taken c d k m i (from_dir sh d (w.cores c) m) (holder-back sh d c (w.cores c) m) (noted-back sh d (w.cores c) m))
     (λ c d k m i. answered c d k m i (dir_deliver sh (w.dirs d) c m)
-    (dir-due sh d (w.dirs d) c m (once_at sh w c d k m z.told i) ((z.told.owed.at_home c d).marked) (marks_home sh w c d k m z.told.owed i)
+    (dir-due sh d (w.dirs d) c m (once_at sh w c d k m z.told i) (z.told.owed.at_home c d).marked (marks_home sh w c d k m z.told.owed i)
     (acks_owed sh w c d k m z.told.owed (core_of_out sh w c d k m z.told.tids i) i))
     (dir-spares sh (w.dirs d) c m))
     (λ c k i n. vendor-spared sh gs w c k h z.told)
@@ -318,12 +311,11 @@ step-spared sh p gs w cs e z y h = step_cases sh p w e (λ g o. KeptTold sh o.wo
         }))
         (λ e q. spared-moved sh gs c e (pair w c e) o b (λ t l. noted c t o a l) (h c e)) h)
 
-    answered : (c d k : ℕ) (m : Msg) → FromCore w c d k m → (a : Answer)
-        → DueBy sh d (w.dirs d) (num (passes Acks m)) a → SparesBy (w.dirs d) c m a
-        → OfAnswer w c d k (λ v. KeptTold sh v → SparesCommitter sh (gs ++ []) v) a
+    answered : (c d k : ℕ) (m : Msg) → FromCore w c d k m → (a : Answer) → DueBy sh d (w.dirs d) (num (passes Acks m)) a
+        → SparesBy (w.dirs d) c m a → OfAnswer w c d k (λ v. KeptTold sh v → SparesCommitter sh (gs ++ []) v) a
     answered c d k m i Waits u p = tt
     answered c d k m i Drops u p =
-        λ n. rw append-nil (dir-spared sh gs w c d k m (w.dirs d) (λ dst. []) (y.numbered) h n i
-        (rw u (still-due sh d (w.dirs d) ((z.told.owed.at_home c d).marked))) (inl none-quiet))
+        λ n. rw append-nil (dir-spared sh gs w c d k m (w.dirs d) (λ dst. []) y.numbered h n i
+        (rw u (still-due sh d (w.dirs d) (z.told.owed.at_home c d).marked)) (inl none-quiet))
     answered c d k m i (Asks s sends) u p = λ n. rw append-nil (asks-spared sh gs w d s sends h n u p)
-    answered c d k m i (Takes s sends) u p = λ n. rw append-nil (dir-spared sh gs w c d k m s sends (y.numbered) h n i u p)
+    answered c d k m i (Takes s sends) u p = λ n. rw append-nil (dir-spared sh gs w c d k m s sends y.numbered h n i u p)

@@ -8,7 +8,7 @@ use proofs.Counts.Links.{among-fewer, live-fewer, among-append, among-flat_map_n
 use proofs.OneCore.Said.{quiet, Empties, Flushes, Silent, Tells_alone, say}
 use proofs.OneCore.Outcomes.{Commits_now, Did, each-exec, out, each-evict, emptied, Ends_alone, Given_none, Granted, Hands_out, Heard}
 use proofs.OneCore.Outcomes.{each-back, each-grant, granted, granted_said, heard, heard-quiet, said}
-use proofs.Tids.CoreProbing.{noted_tid}
+use proofs.Tids.CoreTids.{noted_tid}
 
 -- A core sends a Commit only to directories that have reached its TID.
 

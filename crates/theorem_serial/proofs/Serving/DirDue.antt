@@ -13,7 +13,7 @@ use proofs.Counts.DirOutcome.{NoneOwed}
 use proofs.Counts.Links.{live-fewer, among-append, total-zero, total-same, among-fewer, among-flat_map_none}
 use proofs.Counts.StepCases.{differ}
 use proofs.Serving.CoreDue.{among-those_none}
-use proofs.Tids.DirTids.{OnceAt, unserved}
+use proofs.Tids.TidSteps.{OnceAt, unserved}
 
 -- A directory sends invalidations only where it takes the Commit of the served TID, and none to the core that commits.
 

@@ -15,13 +15,12 @@ use proofs.Counts.DirOutcome.{AnswersInside, dir-inside}
 use proofs.Counts.Links.{live-sends, live-takes, total-le, total-zero, live-fewer, none-taken}
 use proofs.Counts.StepCases.{differ, given, pairs_move, pairs_grant, pairs_back, pairs_dir, pairs_asks, pairs_vendor, sum_move, sum_grant}
 use proofs.Counts.StepCases.{sum_back, sum_back_away, sum_dir, sum_dir_away, sum_asks_here, sum_asks_away, sum_vendor, OfAnswer, step_cases}
-use proofs.OneCore.CoreProbes.{StaysReached, none-asked, asked-back, asked-exec, asked-evict, asked-grant}
+use proofs.OneCore.CoreAsks.{StaysReached, none-asked, asked-back, asked-exec, asked-evict, asked-grant}
 use proofs.Serving.CoreDue.{Clean, CleanOut, AcksHome, acks-back, clean-exec, clean-evict, clean-grant}
 use proofs.Serving.DirDue.{Due, nots-invs, at-home, DueBy, dir-due, still-due, Rises, fewer-above, RisesBy, dir-rises, rises-still}
 use proofs.Tids.CoreTids.{KeepsRequests, requests-exec, requests-evict, requests-back, KeepsPart, part-exec, part-evict, part-back}
-use proofs.Tids.DirTids.{HandledBy, OnceAt, dir-handled, skipped-above}
-use proofs.Tids.TidSteps.{move-kept, grant-kept, back-kept, dir-kept, asks-kept, vendor-kept, start-kept, inside_from, any-one, live-some}
-use proofs.Tids.TidSteps.{once-there, no_sends}
+use proofs.Tids.TidSteps.{HandledBy, OnceAt, dir-handled, skipped-above, move-kept, grant-kept, back-kept, dir-kept, asks-kept, vendor-kept}
+use proofs.Tids.TidSteps.{start-kept, inside_from, any-one, live-some, once-there, no_sends}
 
 -- Each kind of event keeps what is owed equal to what is in flight.
 due-moved : (sh : Shape) (v : Pair) (o : Out) (d : ℕ) → Clean sh d (o.sends (Dir d)) → due (after_move v o d) + 0 ≡ due v + 0
@@ -42,7 +41,7 @@ pub move-owed : (sh : Shape) (w : World) (c : ℕ) (o : Out) → KeptOwed sh w �
 unfolding core_moves
 move-owed sh w c o k l y = record {
   owed = λ d. let e = sum_move due sh.cores w c o d 0 0 l (due-moved sh (pair w c d) o d (y d)) in omega (arith, k.owed d);
-  at_home = pairs_move (λ c d v. AtHomeOf sh d v) w c o (λ d. home-moved sh d (pair w c d) o ((y d).marks) ((y d).far) (k.at_home c d))
+  at_home = pairs_move (λ c d v. AtHomeOf sh d v) w c o (λ d. home-moved sh d (pair w c d) o (y d).marks (y d).far (k.at_home c d))
       k.at_home;
 }
 
@@ -55,7 +54,7 @@ grant-owed sh w c k o h l y = record {
 }
   where
     granted : (d : ℕ) → AtHomeOf sh d (after_move (grant_taken (pair w c d) k) o d)
-    granted d = let m = home-moved sh d (pair w c d) o ((y d).marks) ((y d).far) (h.at_home c d) in
+    granted d = let m = home-moved sh d (pair w c d) o (y d).marks (y d).far (h.at_home c d) in
         record { served = m.served; invs = m.invs; marks = m.marks; far = m.far; marked = m.marked }
 
 -- a core takes a message of a directory
@@ -68,7 +67,7 @@ pub record BackDue (sh : Shape) (e : ℕ) (m : Msg) (o : Out) : Type 0 where
   pub far : (d : ℕ) → sh.dirs ≤ d → among AnyResolve (o.sends (Dir d)) ≡ 0
 
 back-clean : (sh : Shape) (e : ℕ) (m : Msg) (o : Out) → passes Invs m ≡ false → CleanOut sh o → BackDue sh e m o
-back-clean sh e m o q y = record { here = rw q ((y e).acks); away = λ d n. (y d).acks; marks = λ d. (y d).marks; far = λ d. (y d).far }
+back-clean sh e m o q y = record { here = rw q (y e).acks; away = λ d n. (y d).acks; marks = λ d. (y d).marks; far = λ d. (y d).far }
 
 back-inv : (sh : Shape) (e l k u : ℕ) (o : Out) → home sh l ≡ e → ((d : ℕ) → AcksHome sh l d (o.sends (Dir d))) → BackDue sh e (Inv l k u) o
 unfolding passes
@@ -121,14 +120,13 @@ back-owed sh w e c k m o h l i y = record {
     owed : (d : ℕ) → (d ≡ e) ⊎ (d ≡ e → ⊥) → OwedAt sh (core_takes w (Dir e) c k o) d
     owed d (inr n) = let q = sum_back_away due sh.cores w e c k o d 0 0 n l (due-away (pair w c d) d o (y.away d n)) in
         omega (arith, h.owed d)
-    owed d (inl n) = rw n (let q = sum_back due sh.cores w c k o e 0 0 l (due-back (pair w c e) e k m o i (y.here)) in
+    owed d (inl n) = rw n (let q = sum_back due sh.cores w c k o e 0 0 l (due-back (pair w c e) e k m o i y.here) in
         omega (arith, h.owed e))
 
 -- what is taken from a directory's link is at home there
-pub taken_home : (sh : Shape) (w : World) (e c k : ℕ) (m : Msg) → KeptOwed sh w → FromDir w e c k m
-    → passes (InvsAway sh.dirs e) m ≡ false
+pub taken_home : (sh : Shape) (w : World) (e c k : ℕ) (m : Msg) → KeptOwed sh w → FromDir w e c k m → passes (InvsAway sh.dirs e) m ≡ false
 unfolding pair
-taken_home sh w e c k m h i = none-taken (InvsAway sh.dirs e) (to_core w e c) k m i ((h.at_home c e).invs)
+taken_home sh w e c k m h i = none-taken (InvsAway sh.dirs e) (to_core w e c) k m i (h.at_home c e).invs
 
 pub backs-owed : (sh : Shape) (w : World) (e c k : ℕ) (m : Msg) → KeptOwed sh w → c < sh.cores → FromDir w e c k m
     → IfSome (from_dir sh e (w.cores c) m) (λ o. KeptOwed sh (core_takes w (Dir e) c k o))
@@ -188,19 +186,17 @@ home-taken sh d k m v i h = record {
 }
 
 owed-answered : (sh : Shape) (w : World) (c e k : ℕ) (m : Msg) (s : DirState) (sends : Sends) → OwedAt sh w e → c < sh.cores
-    → FromCore w c e k m
-    → Due sh e (w.dirs e) (num (passes Acks m)) s sends → OwedAt sh (dir_takes w c e k s sends) e
+    → FromCore w c e k m → Due sh e (w.dirs e) (num (passes Acks m)) s sends → OwedAt sh (dir_takes w c e k s sends) e
 unfolding dir_takes pair
 owed-answered sh w c e k m s sends h l i u =
     let p = sum_dir due (λ j. among Invs (sends (Core j))) sh.cores w c k s sends e (num (passes Acks m)) 0 l
     (due-answered (pair w c e) k m s (sends (Core c)) i) (λ j n. due-other (pair w j e) s (sends (Core j))) in
     rw (eq-self e) (omega (arith, h, u.owed))
 
-served-back : (sh : Shape) (w : World) (e j ack : ℕ) (s : DirState) (sends : Sends)
-    → live (InvsNot (tid_at w e)) (to_core w e j) ≡ 0 → Due sh e (w.dirs e) ack s sends
-    → (s.owed ≡ 0 → live (InvsNot s.serving.serving) (to_core w e j ++ sent_all (sends (Core j))) ≡ 0)
+served-back : (sh : Shape) (w : World) (e j ack : ℕ) (s : DirState) (sends : Sends) → live (InvsNot (tid_at w e)) (to_core w e j) ≡ 0
+    → Due sh e (w.dirs e) ack s sends → (s.owed ≡ 0 → live (InvsNot s.serving.serving) (to_core w e j ++ sent_all (sends (Core j))) ≡ 0)
     → live (InvsNot s.serving.serving) (to_core w e j ++ sent_all (sends (Core j))) ≡ 0
-served-back sh w e j ack s sends h u z = go (u.served)
+served-back sh w e j ack s sends h u z = go u.served
   where
     go : ((s.serving.serving ≡ tid_at w e) × ((j : ℕ) → among (InvsNot (tid_at w e)) (sends (Core j)) ≡ 0))
         ⊎ (s.owed ≡ 0) → live (InvsNot s.serving.serving) (to_core w e j ++ sent_all (sends (Core j))) ≡ 0
@@ -229,8 +225,8 @@ dir-owed sh w c e k m s sends h z l i u = record {
     owed d (inr n) = let p = sum_dir_away due sh.cores w c e k s sends d n in rw (differ d e n) (omega (arith, h.owed d))
 
     back_of : (j : ℕ) → live (InvsNot s.serving.serving) (to_core w e j ++ sent_all (sends (Core j))) ≡ 0
-    back_of j = served-back sh w e j (num (passes Acks m)) s sends ((h.at_home j e).served) u
-        (λ x. rw (eq-self e) at (none-due sh v e j s.serving.serving ((z.inside j e).back) here (rw (eq-self e) x)))
+    back_of j = served-back sh w e j (num (passes Acks m)) s sends (h.at_home j e).served u
+        (λ x. rw (eq-self e) at (none-due sh v e j s.serving.serving (z.inside j e).back here (rw (eq-self e) x)))
 
 -- a directory asks
 pub asks-owed : (sh : Shape) (w : World) (e : ℕ) (s : DirState) (sends : Sends) → KeptOwed sh w → KeptTids sh (dir_asks w e s sends)
@@ -256,8 +252,8 @@ asks-owed sh w e s sends h z u = record {
     owed d (inr n) = let p = sum_asks_away due sh.cores w e s sends d n in rw (differ d e n) (omega (arith, h.owed d))
 
     back_of : (j : ℕ) → live (InvsNot s.serving.serving) (to_core w e j ++ sent_all (sends (Core j))) ≡ 0
-    back_of j = served-back sh w e j 0 s sends ((h.at_home j e).served) u
-        (λ x. rw (eq-self e) at (none-due sh v e j s.serving.serving ((z.inside j e).back) here (rw (eq-self e) x)))
+    back_of j = served-back sh w e j 0 s sends (h.at_home j e).served u
+        (λ x. rw (eq-self e) at (none-due sh v e j s.serving.serving (z.inside j e).back here (rw (eq-self e) x)))
 
 -- the vendor grants
 pub vendor-owed : (sh : Shape) (w : World) (c k : ℕ) → KeptOwed sh w → c < sh.cores → KeptOwed sh (vendor_gives w c k (given w c))
@@ -271,11 +267,11 @@ vendor-owed sh w c k h l = record {
   where
     next : (v : Pair) (d : ℕ) (x : Pair) → x.dir ≡ v.dir → x.out ≡ v.out → x.back ≡ v.back → AtHomeOf sh d v → AtHomeOf sh d x
     next v d x e f g a = record {
-      served = rw (e, g) (a.served);
-      invs = rw g (a.invs);
-      marks = rw f (a.marks);
-      far = rw f (a.far);
-      marked = rw e (a.marked);
+      served = rw (e, g) a.served;
+      invs = rw g a.invs;
+      marks = rw f a.marks;
+      far = rw f a.far;
+      marked = rw e a.marked;
     }
 
 share-start : (entries : ℕ → Local) (ram : ℕ → ℕ) (d j : ℕ) → share due (start entries ram) d j ≡ 0
@@ -297,7 +293,7 @@ start-owed sh entries ram = record {
 pub marks_home : (sh : Shape) (w : World) (c e k : ℕ) (m : Msg) → KeptOwed sh w → FromCore w c e k m
     → passes (MarksAway sh.dirs e) m ≡ false
 unfolding pair
-marks_home sh w c e k m h i = none-taken (MarksAway sh.dirs e) (to_dir w c e) k m i ((h.at_home c e).marks)
+marks_home sh w c e k m h i = none-taken (MarksAway sh.dirs e) (to_dir w c e) k m i (h.at_home c e).marks
 
 pub acks_owed : (sh : Shape) (w : World) (c e k : ℕ) (m : Msg) → KeptOwed sh w → c < sh.cores → FromCore w c e k m
     → num (passes Acks m) ≤ (w.dirs e).owed
@@ -344,14 +340,14 @@ back-probes sh w e c k m o h i r = pairs_back (λ c d v. ReachedOf sh d v) w e c
 reply-low : (sh : Shape) (w : World) (e c k : ℕ) (m : Msg) → KeptProbes sh w → FromDir w e c k m
     → passes (RepliesAbove (tid_at w e)) m ≡ false
 unfolding pair
-reply-low sh w e c k m h i = none-taken (RepliesAbove (tid_at w e)) (to_core w e c) k m i ((h c e).replies)
+reply-low sh w e c k m h i = none-taken (RepliesAbove (tid_at w e)) (to_core w e c) k m i (h c e).replies
 
 pub backs-probes : (sh : Shape) (w : World) (e c k : ℕ) (m : Msg) → KeptProbes sh w → FromDir w e c k m
     → IfSome (from_dir sh e (w.cores c) m) (λ o. KeptProbes sh (core_takes w (Dir e) c k o))
 unfolding pair
 backs-probes sh w e c k m h i =
     go (from_dir sh e (w.cores c) m)
-    (λ d. asked-back sh e d (tid_at w d) (w.cores c) m (λ q. rw q (reply-low sh w e c k m h i)) ((h c d).core))
+    (λ d. asked-back sh e d (tid_at w d) (w.cores c) m (λ q. rw q (reply-low sh w e c k m h i)) (h c d).core)
   where
     go : (x : Option Out) → ((d : ℕ) → StaysReached sh d (tid_at w d) (w.cores c) x)
         → IfSome x (λ o. KeptProbes sh (core_takes w (Dir e) c k o))
@@ -361,13 +357,13 @@ backs-probes sh w e c k m h i =
 reached-answered : (sh : Shape) (d : ℕ) (v : Pair) (s : DirState) (sends : Sends) (j : ℕ) → Rises v.dir s sends → ReachedOf sh d v
     → ReachedOf sh d (after_answer v s (sends (Core j)))
 reached-answered sh d v s sends j u h = record {
-  core = later sh d v.dir.serving.serving s.serving.serving v.core (u.rises) (h.core);
+  core = later sh d v.dir.serving.serving s.serving.serving v.core u.rises h.core;
   replies =
       omega (
         arith,
         live-sends (RepliesAbove s.serving.serving) v.back (sends (Core j)),
         u.replies j,
-        fewer-above v.dir.serving.serving s.serving.serving v.back (u.rises),
+        fewer-above v.dir.serving.serving s.serving.serving v.back u.rises,
         h.replies,
       );
 }
@@ -398,24 +394,22 @@ start-probes sh entries ram c d = record { core = none-asked sh d _ _ Running re
 -- the core that a message comes from or goes to is one of the machine
 pub core_of_grant : (sh : Shape) (w : World) (c k : ℕ) (m : Msg) → KeptTids sh w → in_flight w.net Vendor (Core c) k ≡ Some m → c < sh.cores
 unfolding pair
-core_of_grant sh w c k m h i = inside_from sh c (live Any (w.net Vendor (Core c))) ((h.inside c 0).grants)
+core_of_grant sh w c k m h i = inside_from sh c (live Any (w.net Vendor (Core c))) (h.inside c 0).grants
     (any-one (w.net Vendor (Core c)) k m i)
 
-pub core_of_back : (sh : Shape) (w : World) (c d k : ℕ) (m : Msg) → KeptTids sh w → FromDir w d c k m
-    → c < sh.cores
+pub core_of_back : (sh : Shape) (w : World) (c d k : ℕ) (m : Msg) → KeptTids sh w → FromDir w d c k m → c < sh.cores
 unfolding pair
-core_of_back sh w c d k m h i = inside_from sh c (live Any (to_core w d c)) ((h.inside c d).back)
+core_of_back sh w c d k m h i = inside_from sh c (live Any (to_core w d c)) (h.inside c d).back
     (any-one (to_core w d c) k m i)
 
-pub core_of_out : (sh : Shape) (w : World) (c d k : ℕ) (m : Msg) → KeptTids sh w → FromCore w c d k m
-    → c < sh.cores
+pub core_of_out : (sh : Shape) (w : World) (c d k : ℕ) (m : Msg) → KeptTids sh w → FromCore w c d k m → c < sh.cores
 unfolding pair
-core_of_out sh w c d k m h i = inside_from sh c (live Any (to_dir w c d)) ((h.inside c d).out)
+core_of_out sh w c d k m h i = inside_from sh c (live Any (to_dir w c d)) (h.inside c d).out
     (any-one (to_dir w c d) k m i)
 
 pub core_of_ask : (sh : Shape) (w : World) (c k : ℕ) (m : Msg) → KeptTids sh w → in_flight w.net (Core c) Vendor k ≡ Some m → c < sh.cores
 unfolding pair
-core_of_ask sh w c k m h i = inside_from sh c (live Any (w.net (Core c) Vendor)) ((h.inside c 0).asks)
+core_of_ask sh w c k m h i = inside_from sh c (live Any (w.net (Core c) Vendor)) (h.inside c 0).asks
     (any-one (w.net (Core c) Vendor) k m i)
 
 resolves-any : (t : ℕ) (m : Msg) → num (passes (Resolves t) m) ≤ num (passes AnyResolve m)
@@ -427,8 +421,7 @@ unfolding handled
 handled-once s owed t = let a = skipped-above s t in grind nats
 
 -- what a TID's message tells of it, also at a directory that the machine doesn't have
-pub once_at : (sh : Shape) (w : World) (c d k : ℕ) (m : Msg) → KeptTold sh w → FromCore w c d k m
-    → OnceAt (w.dirs d) m
+pub once_at : (sh : Shape) (w : World) (c d k : ℕ) (m : Msg) → KeptTold sh w → FromCore w c d k m → OnceAt (w.dirs d) m
 unfolding pair
 once_at sh w c d k m h i t = go (cases_lt d sh.dirs)
   where
@@ -461,18 +454,18 @@ answers : (sh : Shape) (w : World) (c d k : ℕ) (m : Msg) → KeptTold sh w →
 unfolding pair
 answers sh w c d k m h i Waits n q u = tt
 answers sh w c d k m h i Drops n q u =
-    let t = dir-kept sh w c d k m (w.dirs d) (λ dst. []) h.tids i (λ j x. no_sends) ((h.tids.inside c d).owners)
+    let t = dir-kept sh w c d k m (w.dirs d) (λ dst. []) h.tids i (λ j x. no_sends) (h.tids.inside c d).owners
     (λ t x. rw (q t x) (omega arith)) in
     record {
       tids = t;
       owed = dir-owed sh w c d k m (w.dirs d) (λ dst. []) h.owed t (core_of_out sh w c d k m h.tids i) i
-          (rw u (still-due sh d (w.dirs d) ((h.owed.at_home c d).marked)));
+          (rw u (still-due sh d (w.dirs d) (h.owed.at_home c d).marked));
     }
 answers sh w c d k m h i (Asks s sends) n q u =
-    let t = asks-kept sh w d s sends h.tids (n.0) (n.1) q in
+    let t = asks-kept sh w d s sends h.tids n.0 n.1 q in
     record { tids = t; owed = asks-owed sh w d s sends h.owed t u }
 answers sh w c d k m h i (Takes s sends) n q u =
-    let t = dir-kept sh w c d k m s sends h.tids i (n.0) (n.1) q in
+    let t = dir-kept sh w c d k m s sends h.tids i n.0 n.1 q in
     record { tids = t; owed = dir-owed sh w c d k m s sends h.owed t (core_of_out sh w c d k m h.tids i) i u }
 
 step-told : (sh : Shape) (p : Program) (w : World) (e : Event) → KeptTold sh w → IfSome (step sh p w e) (λ o. KeptTold sh o.world)
@@ -490,19 +483,19 @@ step-told sh p w e h = step_cases sh p w e (λ g o. KeptTold sh o.world)
     (λ c d k m i. backs sh w c d k m h i (from_dir sh d (w.cores c) m) (requests-back sh d (w.cores c) m)
     (λ e t x. part-back sh d e t (w.cores c) m x) (backs-owed sh w d c k m h.owed (core_of_back sh w c d k m h.tids i) i))
     (λ c d k m i. answers sh w c d k m h i (dir_deliver sh (w.dirs d) c m)
-    (dir-inside sh (w.dirs d) c m (core_of_out sh w c d k m h.tids i) ((h.tids.inside c d).owners))
+    (dir-inside sh (w.dirs d) c m (core_of_out sh w c d k m h.tids i) (h.tids.inside c d).owners)
     (λ t x. dir-handled sh (w.dirs d) c m t (once_at sh w c d k m h i))
-    (dir-due sh d (w.dirs d) c m (once_at sh w c d k m h i) ((h.owed.at_home c d).marked) (marks_home sh w c d k m h.owed i)
+    (dir-due sh d (w.dirs d) c m (once_at sh w c d k m h i) (h.owed.at_home c d).marked (marks_home sh w c d k m h.owed i)
     (acks_owed sh w c d k m h.owed (core_of_out sh w c d k m h.tids i) i)))
     (λ c k i. record { tids = vendor-kept sh w c k h.tids i; owed = vendor-owed sh w c k h.owed (core_of_ask sh w c k TidReq h.tids i) })
 
 step-probes : (sh : Shape) (p : Program) (w : World) (e : Event) → KeptProbes sh w → IfSome (step sh p w e) (λ o. KeptProbes sh o.world)
 unfolding pair
 step-probes sh p w e h = step_cases sh p w e (λ g o. KeptProbes sh o.world)
-    (λ c l. moved c (core_exec sh p c (w.cores c)) (λ d. asked-exec sh p c d (tid_at w d) (w.cores c) ((h c d).core)))
-    (λ c x y l. moved c (core_evict sh x y (w.cores c)) (λ d. asked-evict sh x y d (tid_at w d) (w.cores c) ((h c d).core)))
+    (λ c l. moved c (core_exec sh p c (w.cores c)) (λ d. asked-exec sh p c d (tid_at w d) (w.cores c) (h c d).core))
+    (λ c x y l. moved c (core_evict sh x y (w.cores c)) (λ d. asked-evict sh x y d (tid_at w d) (w.cores c) (h c d).core))
     (λ c k t i. grant-probes sh w c k (grant sh t (w.cores c)) h
-    (λ d. asked-grant sh t d (tid_at w d) (w.cores c) ((h c d).core)))
+    (λ d. asked-grant sh t d (tid_at w d) (w.cores c) (h c d).core))
     (λ c d k m i. backs-probes sh w d c k m h i)
     (λ c d k m i. answered c d k (dir_deliver sh (w.dirs d) c m) (dir-rises sh (w.dirs d) c m))
     (λ c k i. vendor-probes sh w c k h)

@@ -8,7 +8,7 @@ use Names.{Phase, Running, AwaitTid, DoomedTid, Probing, Ready, Overflowing, Sol
 use Names.{phase_after_commit, core_exec, core_evict, from_dir, grant, grant_in_phase, is_probed, probing_or_ready, all_replied, fill}
 use Names.{data_request, invalidate, probe_reply, Answer, Waits, dir_deliver, core_moves, core_takes, dir_takes, dir_asks, vendor_gives}
 use Names.{step, OwingFits, awaits_replies, asks_dir, solo_commit, nats}
-use proofs.OneCore.CoreProbes.{none-below, all-replied}
+use proofs.OneCore.CoreAsks.{none-below, all-replied}
 use proofs.OneCore.CoreSteps.{reads_at-same, fill-steady, data-steady, Hurt, Unhurt, Rolled, Doomed, Aborted, Gave_up, Invalidated}
 use proofs.OneCore.CoreSteps.{invalidate-cases, Replied, Ignored, Probed, Left_alone, reply-cases, steady-emptied, Steady, did-steady}
 use proofs.Counts.StepCases.{OfAnswer, step_cases}
@@ -44,7 +44,7 @@ same-owing : (sh : Shape) (s r : CoreState) → r.phase ≡ s.phase → r.owing 
     → (writes_at sh r.cache d || reads_at sh r.cache d) ≡ (writes_at sh s.cache d || reads_at sh s.cache d)) → OwingFits sh s
     → OwingFits sh r
 same-owing sh s r e f g h = record {
-  asked = λ d o. let a : s.owing d ≡ true = rw f at o in ((h.asked d a).0, rw (e, g (h.waits d a) d) ((h.asked d a).1));
+  asked = λ d o. let a : s.owing d ≡ true = rw f at o in ((h.asked d a).0, rw (e, g (h.waits d a) d) (h.asked d a).1);
   waits = λ d o. rw e (h.waits d (rw f at o));
   some = λ a l. rw f (h.some (rw e at a) l);
 }
@@ -90,8 +90,8 @@ owing-grant sh t s h = go s.phase refl
         → OwingFits sh (record s { owing = is_probed sh s.cache; phase = probing_or_ready b t })
     probed true q = record { asked = λ d o. asks d o; waits = λ d o. refl; some = λ a l. q }
     probed false q = record {
-      asked = λ d o. absurd (let y = none-below (is_probed sh s.cache) sh.dirs d ((asks d o).0) q in cc);
-      waits = λ d o. absurd (let y = none-below (is_probed sh s.cache) sh.dirs d ((asks d o).0) q in cc);
+      asked = λ d o. absurd (let y = none-below (is_probed sh s.cache) sh.dirs d (asks d o).0 q in cc);
+      waits = λ d o. absurd (let y = none-below (is_probed sh s.cache) sh.dirs d (asks d o).0 q in cc);
       some = λ a. absurd (cc);
     }
 
@@ -128,7 +128,7 @@ one-less sh e s r goes wait ph ow n f w h = by (all_replied sh (put s.owing e fa
     by : (b : Bool) → all_replied sh (put s.owing e false) ≡ b → OwingFits sh r
     by true q =
         let p : r.phase ≡ goes = rw q at ph in
-        let none : (d : ℕ) → r.owing d ≡ true → ⊥ = λ d o. let z = all-replied sh (put s.owing e false) d ((h.asked d (old d o)).0) q in
+        let none : (d : ℕ) → r.owing d ≡ true → ⊥ = λ d o. let z = all-replied sh (put s.owing e false) d (h.asked d (old d o)).0 q in
         let y : put s.owing e false d ≡ true = rw ow at o in cc in
         record {
           asked = λ d o. absurd (none d o);
@@ -138,7 +138,7 @@ one-less sh e s r goes wait ph ow n f w h = by (all_replied sh (put s.owing e fa
     by false q =
         let p : r.phase ≡ wait = rw q at ph in
         record {
-          asked = λ d o. ((h.asked d (old d o)).0, rw p (f d ((h.asked d (old d o)).1)));
+          asked = λ d o. ((h.asked d (old d o)).0, rw p (f d (h.asked d (old d o)).1));
           waits = λ d o. rw p w;
           some = λ a l. rw ow (not-all sh (put s.owing e false) q);
         }

@@ -15,7 +15,7 @@ use proofs.Counts.StepCases.{OfAnswer, step_cases, given, pairs_move, pairs_gran
 use proofs.Counts.StepCases.{sum_back_away, sum_vendor, pairs_dir, pairs_asks}
 use proofs.Serving.KeptSteps.{core_of_grant, core_of_back, core_of_ask, step-kept, start-all}
 use proofs.Tids.Commits.{times-insert, insert-rising, insert-granted, granted-more, numbered-more, numbered-least, numbered-most, only-one}
-use proofs.Tids.CoreProbing.{KeepsHolder, noted_tid, none, holder-exec, holder-evict, holder-grant, holder-back}
+use proofs.Tids.CoreTids.{KeepsHolder, noted_tid, none, holder-exec, holder-evict, holder-grant, holder-back}
 
 -- a core's part after its step
 pub holder-moved : (v : Pair) (o : Out) (d t c : ℕ) → KeepsHolder c none v.core o
@@ -33,8 +33,7 @@ pub times-noted : (t : ℕ) (n : Option Noted) (cs : List Noted) → times t (an
 times-noted t a cs = grind (nats, times-insert)
 
 commits_after : (sh : Shape) (gs : List Grant) (w : World) (cs : List Noted) (c : ℕ) (n : Option Noted) → KeptOwners sh gs w cs
-    → c < sh.cores
-    → ((t : ℕ) → noted_tid t n ≤ holder t (pair w c 0)) → IfSome n (λ x. x.core.0 ≡ c)
+    → c < sh.cores → ((t : ℕ) → noted_tid t n ≤ holder t (pair w c 0)) → IfSome n (λ x. x.core.0 ≡ c)
     → AreGranted gs (and_noted n cs) × IsRising 0 (and_noted n cs)
 unfolding share
 commits_after sh gs w cs c None k l h o = (k.granted, k.rising)
@@ -42,19 +41,16 @@ commits_after sh gs w cs c (Some n) k l h o =
     let one : num (n.tid.0 == n.tid.0) ≡ 1 = grind nats in
     let mine : 1 ≤ holder n.tid.0 (pair w c 0) = omega (arith, h n.tid.0) in
     let has : Contains gs (record { tid = n.tid.0; core = c }) = k.held c 0 n.tid.0 mine in
-    let least : 1 ≤ n.tid.0 = numbered-least 1 gs (record { tid = n.tid.0; core = c }) (k.numbered) has in
+    let least : 1 ≤ n.tid.0 = numbered-least 1 gs (record { tid = n.tid.0; core = c }) k.numbered has in
     let zero : times n.tid.0 cs ≡ 0 = omega (arith, k.once n.tid.0, total-le (share (holder n.tid.0) w 0) sh.cores c l) in
-    (insert-granted gs n cs (k.granted) (rw o has), insert-rising 0 n cs (k.rising) least zero)
+    (insert-granted gs n cs k.granted (rw o has), insert-rising 0 n cs k.rising least zero)
 
 -- all that a step of core c owes; f: the core's part after it
 moved-owners : (sh : Shape) (gs : List Grant) (w v : World) (cs : List Noted) (c : ℕ) (n : Option Noted) (f : ℕ → ℕ) → KeptOwners sh gs w cs
-    → c < sh.cores
-    → v.next ≡ w.next
+    → c < sh.cores → v.next ≡ w.next
     → ((t : ℕ) → sum_of (holder t) sh.cores v 0 + holder t (pair w c 0) ≡ sum_of (holder t) sh.cores w 0 + f t)
-    → ((t : ℕ) → f t + noted_tid t n ≤ holder t (pair w c 0))
-    → IfSome n (λ x. x.core.0 ≡ c)
-    → ((j d t : ℕ) → 1 ≤ holder t (pair v j d) → Contains gs (record { tid = t; core = j }))
-    → KeptOwners sh gs v (and_noted n cs)
+    → ((t : ℕ) → f t + noted_tid t n ≤ holder t (pair w c 0)) → IfSome n (λ x. x.core.0 ≡ c)
+    → ((j d t : ℕ) → 1 ≤ holder t (pair v j d) → Contains gs (record { tid = t; core = j })) → KeptOwners sh gs v (and_noted n cs)
 moved-owners sh gs w v cs c n f k l e s h o held =
     let a = commits_after sh gs w cs c n k l (λ t. omega (arith, h t)) o in
     record {
@@ -81,7 +77,7 @@ move-owners sh gs w cs c o k l h = moved-owners sh gs w (core_moves w c o) cs c 
     (λ t. sum_move (holder t) sh.cores w c o 0 (holder t (pair w c 0)) (holder t (after_move (pair w c 0) o 0)) l
     (swap (holder t (after_move (pair w c 0) o 0)) (holder t (pair w c 0))))
     (λ t. holder-moved (pair w c 0) o 0 t c h)
-    (h.own)
+    h.own
     (pairs_move (HeldBy gs) w c o (λ d t x. k.held c d t (omega (arith, holder-moved (pair w c d) o d t c h))) k.held)
 
 grant-owners : (sh : Shape) (gs : List Grant) (w : World) (cs : List Noted) (c k u : ℕ) (o : Out) → KeptOwners sh gs w cs → c < sh.cores
@@ -93,7 +89,7 @@ grant-owners sh gs w cs c k u o h l i y = moved-owners sh gs w (core_takes w Ven
     (λ t. sum_grant (holder t) sh.cores w c k o 0 (holder t (pair w c 0)) (holder t (after_move (grant_taken (pair w c 0) k) o 0)) l
     (swap (holder t (after_move (grant_taken (pair w c 0) k) o 0)) (holder t (pair w c 0))))
     (λ t. holder-granted (pair w c 0) o 0 t c k u i y)
-    (y.own)
+    y.own
     (pairs_grant (HeldBy gs) w c k o (λ d t x. h.held c d t (omega (arith, holder-granted (pair w c d) o d t c k u i y))) h.held)
 
 back-owners : (sh : Shape) (gs : List Grant) (w : World) (cs : List Noted) (e c k : ℕ) (o : Out) → KeptOwners sh gs w cs → c < sh.cores
@@ -103,7 +99,7 @@ back-owners sh gs w cs e c k o h l y = moved-owners sh gs w (core_takes w (Dir e
     (λ t. holder t (after_move (pair w c 0) o 0)) h l refl
     (λ t. sum t (cases_eq 0 e))
     (λ t. holder-moved (pair w c 0) o 0 t c y)
-    (y.own)
+    y.own
     (pairs_back (HeldBy gs) w e c k o (λ t x. h.held c e t (omega (arith, holder-moved (pair w c e) o e t c y)))
     (λ d n t x. h.held c d t (omega (arith, holder-moved (pair w c d) o d t c y))) h.held)
   where
@@ -159,9 +155,9 @@ vendor-owners sh gs w cs c k h l = record {
       grind nats in omega (arith, h.once t);
   held = pairs_vendor (HeldBy (gs ++ g ∷ [])) w c k (λ d t x. own d t x (cases_eq w.next t))
       (λ j d n t x. Contains-append_left gs (g ∷ []) (record { tid = t; core = j }) (h.held j d t (rw (sym (other t (pair w j d))) x)));
-  numbered = numbered-more 1 gs g (h.numbered) (omega (arith, h.next));
+  numbered = numbered-more 1 gs g h.numbered (omega (arith, h.next));
   next = omega (arith, h.next, length-append gs (g ∷ []));
-  granted = granted-more gs (g ∷ []) cs (h.granted);
+  granted = granted-more gs (g ∷ []) cs h.granted;
   rising = h.rising;
 }
   where
@@ -227,7 +223,7 @@ run_from-owners : (sh : Shape) (p : Program) (es : List Event) (gs : List Grant)
 unfolding run_from grants_from next_history
 run_from-owners sh p [] gs h k o = rw append-nil o
 run_from-owners sh p (e ∷ es) gs h k o =
-    go (step sh p h.world e) (step-kept sh p h.world e k) (step-owners sh p gs h.world h.commits e (k.told.tids) o)
+    go (step sh p h.world e) (step-kept sh p h.world e k) (step-owners sh p gs h.world h.commits e k.told.tids o)
     (λ g q x. run_from-owners sh p es (gs ++ granted_by h.world e) g q x)
   where
     go : (x : Option Stepped) → IfSome x (λ y. Kept sh y.world)
@@ -329,7 +325,7 @@ step-last sh p gs w cs e z y h = step_cases sh p w e (λ g o. LastGranted (gs ++
             ⊎ Contains (g c ∷ []) (record { tid = x; core = c }) → x ≤ t
         one (inr a) m = let b : num (w.next == t) ≡ 0 = let f : (w.next == t) ≡ false = grind nats in ap num f in
             absurd (omega (arith, holder-given (pair w c d) k t, z0, q))
-        one (inl a) (inl m) = omega (arith, numbered-most 1 gs (record { tid = x; core = c }) (y.numbered) m, y.next)
+        one (inl a) (inl m) = omega (arith, numbered-most 1 gs (record { tid = x; core = c }) y.numbered m, y.next)
         one (inl a) (inr m) = let f : w.next ≡ x = ap (λ r. r.tid) (only-one (g c) (record { tid = x; core = c }) m) in omega arith
 
     other : (c j d t x : ℕ) → (j ≡ c → ⊥) → 1 ≤ holder t (after_other_grant (pair w j d)) → Contains gs (record { tid = x; core = j })

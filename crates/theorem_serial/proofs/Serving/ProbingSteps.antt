@@ -16,7 +16,7 @@ use proofs.OneCore.CoreSteps.{fill-steady, data-steady, invalidate-cases, Replie
 use proofs.Serving.DirDue.{RepliesBy, dir-replies, none-replied, Replying}
 use proofs.Serving.KeptSteps.{core_of_grant}
 use proofs.Serving.OwnerSteps.{grant-alone}
-use proofs.Tids.CoreProbing.{Unprobed, unprobed-steady, unprobed-exec, unprobed-evict, unprobed-hurt, granted, none-marks, none-to, Granted}
+use proofs.Tids.CoreTids.{Unprobed, unprobed-steady, unprobed-exec, unprobed-evict, unprobed-hurt, granted, none-marks, none-to, Granted}
 use proofs.Tids.TidSteps.{granted_waits, live-some, is_mine, not_mine}
 
 -- Every event keeps that a probe or reply in flight is of a TID that was granted to its core.
@@ -143,8 +143,8 @@ start-probed entries ram c d t x = absurd (omega (arith, x))
 probing-moved : (v : Pair) (o : Out) (d t : ℕ) → Unprobed v.core o → ProbingOf d t v → ProbingOf d t (after_move v o d)
 probing-moved v o d t y h = record {
   fresh = λ l. omega (arith, h.fresh l, live-sends (Probes t) v.out (o.sends (Dir d)), y.sent d t);
-  held = λ k. let x = y.kept d t k in let q : num (o.core.owing d) ≡ num (v.core.owing d) = ap num (x.1) in
-      omega (arith, h.held (x.0), live-sends (Probes t) v.out (o.sends (Dir d)), y.sent d t);
+  held = λ k. let x = y.kept d t k in let q : num (o.core.owing d) ≡ num (v.core.owing d) = ap num x.1 in
+      omega (arith, h.held x.0, live-sends (Probes t) v.out (o.sends (Dir d)), y.sent d t);
 }
 
 -- a core takes its grant, which is the only one of its TID
@@ -172,7 +172,7 @@ probing-granted v o d t k u i one y hu h = go (cases_eq u t)
             live-sends (Probes t) v.out (o.sends (Dir d)),
             y.sent d t n,
           );
-      held = λ x. absurd (n ((y.kept d t x).0));
+      held = λ x. absurd (n (y.kept d t x).0);
     }
 
 -- a core takes a reply
@@ -201,7 +201,7 @@ probing-taken v o e k u x t i n f h = record {
   held = λ y. let z = f y in
       omega (
         arith,
-        h.held (z.0),
+        h.held z.0,
         z.1,
         live-takes (Replies t) v.back k (ProbeReply u x) i,
         live-sends (Probes t) v.out (o.sends (Dir e)),
@@ -215,8 +215,8 @@ probing-away : (v : Pair) (o : Out) (d t : ℕ) → ((d t : ℕ) → among (Prob
     → ProbingOf d t v → ProbingOf d t (after_move v o d)
 probing-away v o d t n f h = record {
   fresh = λ l. omega (arith, h.fresh l, live-sends (Probes t) v.out (o.sends (Dir d)), n d t);
-  held = λ y. let z = f y in let q : num (o.core.owing d) ≡ num (v.core.owing d) = ap num (z.1) in
-      omega (arith, h.held (z.0), live-sends (Probes t) v.out (o.sends (Dir d)), n d t);
+  held = λ y. let z = f y in let q : num (o.core.owing d) ≡ num (v.core.owing d) = ap num z.1 in
+      omega (arith, h.held z.0, live-sends (Probes t) v.out (o.sends (Dir d)), n d t);
 }
 
 -- what a reply does to the replies owed
@@ -265,7 +265,7 @@ counts sh e u s o idle (Left_alone g f ph ow mo se cm) =
 probing-replied : (v : Pair) (o : Out) (e k u x t : ℕ) → slice_index_or v.back k None ≡ Some (ProbeReply u x) → Counts e u v.core o
     → ProbingOf e t v → ProbingOf e t (after_move (back_taken v k) o e)
 unfolding passes
-probing-replied v o e k u x t i y h = probing-taken v o e k u x t i (y.sent) (λ z. let w = y.here t z in (w.0, here (w.0) (w.1))) h
+probing-replied v o e k u x t i y h = probing-taken v o e k u x t i y.sent (λ z. let w = y.here t z in (w.0, here w.0 w.1)) h
   where
     some : (u ≡ t) → 1 ≤ live (Replies t) v.back
     some q = let r : num (u == t) ≡ 1 = let b : (u == t) ≡ true = grind nats in rw b refl in
@@ -274,7 +274,7 @@ probing-replied v o e k u x t i y h = probing-taken v o e k u x t i (y.sent) (λ
     here : has_tid v.core.phase t ≡ true → (num (v.core.owing e) ≡ num (o.core.owing e) + num (u == t))
         ⊎ ((u ≡ t) × (v.core.owing e ≡ false)) → num (v.core.owing e) ≡ num (o.core.owing e) + num (u == t)
     here z (inl q) = q
-    here z (inr q) = let n : num (v.core.owing e) ≡ 0 = ap num (q.1) in absurd (omega (arith, h.held z, some (q.0), n))
+    here z (inr q) = let n : num (v.core.owing e) ≡ 0 = ap num q.1 in absurd (omega (arith, h.held z, some q.0, n))
 
 -- a core that has a TID and waits for no reply is owed none
 idle_of : (sh : Shape) (s : CoreState) (e t : ℕ) → OneCore sh s → Idle e t s
@@ -368,17 +368,15 @@ step-probing sh p gs w cs e z y x h = step_cases sh p w e (λ g o. KeptProbing o
         pairs_back P w e c k o (λ t. probing-moved (back_taken (pair w c e) k) o e t u (dropped (pair w c e) e k m t i (f t) (h c e t)))
         (λ d n t. probing-moved (pair w c d) o d t u (h c d t)) h
 
-    reply : (c e k u v : ℕ) → FromDir w e c k (ProbeReply u v)
-        → KeptProbing (core_takes w (Dir e) c k (probe_reply sh e u (w.cores c)))
+    reply : (c e k u v : ℕ) → FromDir w e c k (ProbeReply u v) → KeptProbing (core_takes w (Dir e) c k (probe_reply sh e u (w.cores c)))
     reply c e k u v i =
         let a = counts sh e u (w.cores c) (probe_reply sh e u (w.cores c)) (λ t. idle_of sh (w.cores c) e t (x c))
         (reply-cases sh e u (w.cores c)) in
         pairs_back P w e c k (probe_reply sh e u (w.cores c))
         (λ t. probing-replied (pair w c e) (probe_reply sh e u (w.cores c)) e k u v t i a (h c e t))
-        (λ d n t. probing-away (pair w c d) (probe_reply sh e u (w.cores c)) d t (a.sent) (λ q. a.away d t n q) (h c d t)) h
+        (λ d n t. probing-away (pair w c d) (probe_reply sh e u (w.cores c)) d t a.sent (λ q. a.away d t n q) (h c d t)) h
 
-    taken : (c d k : ℕ) (m : Msg) → FromDir w d c k m
-        → IfSome (from_dir sh d (w.cores c) m) (λ o. KeptProbing (core_takes w (Dir d) c k o))
+    taken : (c d k : ℕ) (m : Msg) → FromDir w d c k m → IfSome (from_dir sh d (w.cores c) m) (λ o. KeptProbing (core_takes w (Dir d) c k o))
     taken c d k (ProbeReply u v) i = reply c d k u v i
     taken c d k (Fill l ws) i =
         quiet c d k (Fill l ws) _ i (no-reply_fill l ws)
@@ -397,8 +395,7 @@ step-probing sh p gs w cs e z y x h = step_cases sh p w e (λ g o. KeptProbing o
         pairs_dir P w c d k s sends (λ t. probing-exchanged (pair w c d) s (sends (Core c)) d t k m i (u.own t) (h c d t))
         (λ j n t. probing-answered (pair w j d) s (sends (Core j)) d t (u.others j t n) (h j d t)) h
 
-    answered : (c d k : ℕ) (m : Msg) → FromCore w c d k m → (a : Answer) → RepliesBy m c a
-        → OfAnswer w c d k (λ v. KeptProbing v) a
+    answered : (c d k : ℕ) (m : Msg) → FromCore w c d k m → (a : Answer) → RepliesBy m c a → OfAnswer w c d k (λ v. KeptProbing v) a
     answered c d k m i Waits u = tt
     answered c d k m i Drops u =
         dir c d k m (w.dirs d) (λ dst. []) i (record { own = λ t. none-replied t ∙ sym (u t); others = λ j t n. none-replied t })

@@ -19,7 +19,7 @@ pub insert-rising : (last : ℕ) (n : Noted) (cs : List Noted) → IsRising last
     → IsRising last (insert_commit n cs)
 unfolding IsRising insert_commit times
 insert-rising last n [] r l z = (l, tt)
-insert-rising last n (c ∷ cs) r l z = go (nat_lt n.tid.0 c.tid.0) refl (λ k. insert-rising c.tid.0 n cs (r.1) k (omega arith))
+insert-rising last n (c ∷ cs) r l z = go (nat_lt n.tid.0 c.tid.0) refl (λ k. insert-rising c.tid.0 n cs r.1 k (omega arith))
   where
     above : nat_lt n.tid.0 c.tid.0 ≡ false → c.tid.0 < n.tid.0
     above q = grind nats
@@ -33,7 +33,7 @@ pub insert-granted : (gs : List Grant) (n : Noted) (cs : List Noted) → AreGran
     → Contains gs (record { tid = n.tid.0; core = n.core.0 }) → AreGranted gs (insert_commit n cs)
 unfolding AreGranted insert_commit
 insert-granted gs n [] a h = (h, tt)
-insert-granted gs n (c ∷ cs) a h = go (nat_lt n.tid.0 c.tid.0) (insert-granted gs n cs (a.1) h)
+insert-granted gs n (c ∷ cs) a h = go (nat_lt n.tid.0 c.tid.0) (insert-granted gs n cs a.1 h)
   where
     go : (b : Bool) → AreGranted gs (insert_commit n cs) → AreGranted gs (if b then n ∷ c ∷ cs else c ∷ insert_commit n cs)
     go true r = (h, (a.0, a.1))
@@ -42,33 +42,33 @@ insert-granted gs n (c ∷ cs) a h = go (nat_lt n.tid.0 c.tid.0) (insert-granted
 pub granted-more : (gs hs : List Grant) (cs : List Noted) → AreGranted gs cs → AreGranted (gs ++ hs) cs
 unfolding AreGranted
 granted-more gs hs [] a = tt
-granted-more gs hs (c ∷ cs) a = (Contains-append_left gs hs (record { tid = c.tid.0; core = c.core.0 }) (a.0), granted-more gs hs cs (a.1))
+granted-more gs hs (c ∷ cs) a = (Contains-append_left gs hs (record { tid = c.tid.0; core = c.core.0 }) a.0, granted-more gs hs cs a.1)
 
 pub numbered-more : (n : ℕ) (gs : List Grant) (g : Grant) → IsNumbered n gs → g.tid ≡ n + length gs → IsNumbered n (gs ++ g ∷ [])
 unfolding IsNumbered
 numbered-more n [] g h e = (omega arith, tt)
-numbered-more n (x ∷ gs) g h e = (h.0, numbered-more (n + 1) gs g (h.1) (omega arith))
+numbered-more n (x ∷ gs) g h e = (h.0, numbered-more (n + 1) gs g h.1 (omega arith))
 
 numbered-at : (n k : ℕ) (gs : List Grant) (g : Grant) → IsNumbered n gs → k < length gs → slice_index_or gs k g ≡ g → n ≤ g.tid
 unfolding IsNumbered
 numbered-at n k [] g h l e = absurd (omega arith)
 numbered-at n zero (x ∷ gs) g h l e = let q : x.tid ≡ g.tid = ap (λ y. y.tid) e in omega (arith, h.0)
-numbered-at n (suc k) (x ∷ gs) g h l e = omega (arith, numbered-at (n + 1) k gs g (h.1) (omega arith) e)
+numbered-at n (suc k) (x ∷ gs) g h l e = omega (arith, numbered-at (n + 1) k gs g h.1 (omega arith) e)
 
 -- no TID is below the first
 pub numbered-least : (n : ℕ) (gs : List Grant) (g : Grant) → IsNumbered n gs → Contains gs g → n ≤ g.tid
-numbered-least n gs g h c = numbered-at n c.0 gs g h (c.1) (c.2)
+numbered-least n gs g h c = numbered-at n c.0 gs g h c.1 c.2
 
 numbered-below : (n k : ℕ) (gs : List Grant) (g : Grant) → IsNumbered n gs → k < length gs → slice_index_or gs k g ≡ g
     → g.tid < n + length gs
 unfolding IsNumbered
 numbered-below n k [] g h l e = absurd (omega arith)
 numbered-below n zero (x ∷ gs) g h l e = let q : x.tid ≡ g.tid = ap (λ y. y.tid) e in omega (arith, h.0)
-numbered-below n (suc k) (x ∷ gs) g h l e = omega (arith, numbered-below (n + 1) k gs g (h.1) (omega arith) e)
+numbered-below n (suc k) (x ∷ gs) g h l e = omega (arith, numbered-below (n + 1) k gs g h.1 (omega arith) e)
 
 -- each TID is below the next
 pub numbered-most : (n : ℕ) (gs : List Grant) (g : Grant) → IsNumbered n gs → Contains gs g → g.tid < n + length gs
-numbered-most n gs g h c = numbered-below n c.0 gs g h (c.1) (c.2)
+numbered-most n gs g h c = numbered-below n c.0 gs g h c.1 c.2
 
 -- what a list of one holds
 pub only-one : (g x : Grant) → Contains (g ∷ []) x → g ≡ x
@@ -80,20 +80,20 @@ unfolding IsNumbered
 unique-at n i j [] g h o t a p b q = absurd (omega arith)
 unique-at n zero zero (x ∷ gs) g h o t a p b q = sym p ∙ q
 unique-at n zero (suc j) (x ∷ gs) g h o t a p b q = let r : x.tid ≡ g.tid = ap (λ y. y.tid) p in
-    absurd (omega (arith, o.0, numbered-at (n + 1) j gs h (o.1) (omega arith) q))
+    absurd (omega (arith, o.0, numbered-at (n + 1) j gs h o.1 (omega arith) q))
 unique-at n (suc i) zero (x ∷ gs) g h o t a p b q = let r : x.tid ≡ h.tid = ap (λ y. y.tid) q in
-    absurd (omega (arith, o.0, numbered-at (n + 1) i gs g (o.1) (omega arith) p))
-unique-at n (suc i) (suc j) (x ∷ gs) g h o t a p b q = unique-at (n + 1) i j gs g h (o.1) t (omega arith) p (omega arith) q
+    absurd (omega (arith, o.0, numbered-at (n + 1) i gs g o.1 (omega arith) p))
+unique-at n (suc i) (suc j) (x ∷ gs) g h o t a p b q = unique-at (n + 1) i j gs g h o.1 t (omega arith) p (omega arith) q
 
 -- a TID was granted to one core
 pub granted-once : (n : ℕ) (gs : List Grant) (t c d : ℕ) → IsNumbered n gs → Contains gs (record { tid = t; core = c })
     → Contains gs (record { tid = t; core = d }) → c ≡ d
 granted-once n gs t c d o a b =
-    ap (λ g. g.core) (unique-at n a.0 b.0 gs (record { tid = t; core = c }) (record { tid = t; core = d }) o refl (a.1) (a.2) (b.1) (b.2))
+    ap (λ g. g.core) (unique-at n a.0 b.0 gs (record { tid = t; core = c }) (record { tid = t; core = d }) o refl a.1 a.2 b.1 b.2)
 
 -- Which commits are listed after a further one, and that TIDs count from 1.
 contains-cases : (x n : Noted) (xs : List Noted) → Contains (x ∷ xs) n → (x ≡ n) ⊎ Contains xs n
-contains-cases x n xs c = go c.0 (c.1) (c.2)
+contains-cases x n xs c = go c.0 c.1 c.2
   where
     go : (k : ℕ) → k < suc (length xs) → slice_index_or (x ∷ xs) k n ≡ n → (x ≡ n) ⊎ Contains xs n
     go zero l e = inl e
@@ -103,11 +103,11 @@ pub granted-at : (gs : List Grant) (cs : List Noted) (n : Noted) → AreGranted 
     → Contains gs (record { tid = n.tid.0; core = n.core.0 })
 unfolding AreGranted
 granted-at gs [] n a c = absurd (omega (arith, c.1))
-granted-at gs (x ∷ cs) n a c = go (contains-cases x n cs c) (λ k. granted-at gs cs n (a.1) k)
+granted-at gs (x ∷ cs) n a c = go (contains-cases x n cs c) (λ k. granted-at gs cs n a.1 k)
   where
     go : (x ≡ n) ⊎ Contains cs n → (Contains cs n → Contains gs (record { tid = n.tid.0; core = n.core.0 }))
         → Contains gs (record { tid = n.tid.0; core = n.core.0 })
-    go (inl e) f = rw e at (a.0)
+    go (inl e) f = rw e at a.0
     go (inr k) f = f k
 
 pub inserted : (x n : Noted) (cs : List Noted) → Contains (insert_commit x cs) n → (x ≡ n) ⊎ Contains cs n
@@ -131,7 +131,7 @@ inserted x n (c ∷ cs) k = go (nat_lt x.tid.0 c.tid.0) k (λ q. inserted x n cs
 -- TIDs count from 1
 pub positive-granted : (sh : Shape) (gs : List Grant) (w : World) (cs : List Noted) (c t : ℕ) → KeptOwners sh gs w cs
     → 1 ≤ holder t (pair w c 0) → 1 ≤ t
-positive-granted sh gs w cs c t o h = numbered-least 1 gs (record { tid = t; core = c }) (o.numbered) (o.held c 0 t h)
+positive-granted sh gs w cs c t o h = numbered-least 1 gs (record { tid = t; core = c }) o.numbered (o.held c 0 t h)
 
 pub positive-held : (sh : Shape) (gs : List Grant) (w : World) (cs : List Noted) (c t : ℕ) → KeptOwners sh gs w cs
     → has_tid (w.cores c).phase t ≡ true → 1 ≤ t
@@ -141,8 +141,8 @@ positive-held sh gs w cs c t o h = let n : num (has_tid (w.cores c).phase t) ≡
 
 pub positive-committed : (sh : Shape) (gs : List Grant) (w : World) (cs : List Noted) (n : Noted) → KeptOwners sh gs w cs → Contains cs n
     → 1 ≤ n.tid.0
-positive-committed sh gs w cs n o k = numbered-least 1 gs (record { tid = n.tid.0; core = n.core.0 }) (o.numbered)
-    (granted-at gs cs n (o.granted) k)
+positive-committed sh gs w cs n o k = numbered-least 1 gs (record { tid = n.tid.0; core = n.core.0 }) o.numbered
+    (granted-at gs cs n o.granted k)
 
 -- The greatest TID of the commits that pass a test.
 later : (m : Noted) (cs : List Noted) (x : Noted) → Contains cs x → Contains (m ∷ cs) x
@@ -171,4 +171,4 @@ at-least p (m ∷ cs) x zero e l h = let y : p m ≡ true = rw (ap {A = Noted} p
 at-least p (m ∷ cs) x (suc k) e l h = omega (arith, at-least p cs x k e (omega (arith, l)) h)
 
 pub last-least : (p : Noted → Bool) (cs : List Noted) (x : Noted) → Contains cs x → p x ≡ true → x.tid.0 ≤ last_of p cs
-last-least p cs x k h = at-least p cs x k.0 (k.2) (omega (arith, k.1)) h
+last-least p cs x k h = at-least p cs x k.0 k.2 (omega (arith, k.1)) h

@@ -1,17 +1,124 @@
--- Each kind of event keeps the invariants.
+-- Every event keeps what is known of TIDs in flight, at cores and at directories.
 use Rattle.base_lemmas.proofs.Lemmas.{eq-self}
 use Rattle.theorem_serial.proofs
 use proofs.Names
+use Names.{ℕ, ◌+◌, ◌-◌, ◌≡◌, ◌<◌, ◌≤◌, Bool, true, false, ◌==◌, nat_lt, if◌then◌else◌, arith, refl, num, count_below, has_mark, Serving}
+use Names.{advance, kept, is_skipped, Msg, Skip, Commit, Abort, Shape, lines, advance-rises, advance-past, advance-stops, advance-keeps}
+use Names.{kept-skips, DirState, Answer, Waits, Drops, Asks, Takes, dir_deliver, invalidation_count, Resolves, passes, handled, nats}
 use Names.{after_other_grant, slice_index_or, first_serving, waits_for_tid, vendor_start, vendor_gives, after_answer, first-skips}
 use Names.{grant_taken, after_grant, core_start, core_moves, core_takes, after_move, back_taken, ResolvedAt, dir_start, in_flight}
-use Names.{sum_below, dir_takes, out_taken, RequestOf, cases_lt, cases_eq, no_lines, TidGrant, DirState, dir_asks, AnyGrant, Resolves}
-use Names.{InsideOf, KeptTids, AsksTid, handled, nat_le, Vendor, TidReq, Grants, passes, false, arith, subst, Local, Shape, World, start}
-use Names.{Sends, grant, among, share, opens, Bool, true, List, ◌==◌, Some, None, refl, Core, Link, Kind, live, Pair, pair, part, ◌+◌, ◌≡◌}
-use Names.{◌<◌, ◌≤◌, ◌∷◌, sym, ◌⊎◌, inl, inr, num, Dir, Msg, Out, Any, [], ℕ, nats, to_dir, to_core, FromCore, FromDir}
+use Names.{sum_below, dir_takes, out_taken, RequestOf, cases_lt, cases_eq, no_lines, TidGrant, dir_asks, AnyGrant, InsideOf, KeptTids}
+use Names.{AsksTid, nat_le, Vendor, TidReq, Grants, subst, Local, World, start, Sends, grant, among, share, opens, List, Some, None, Core}
+use Names.{Link, Kind, live, Pair, pair, part, ◌∷◌, sym, ◌⊎◌, inl, inr, Dir, Out, Any, [], to_dir, to_core, FromCore, FromDir}
+use proofs.Counts.DirOutcome.{Outcome, Waiting, Spent, TakesSkip, TakesAbort, TakesCommit, TakesAck, TakesCopy, IsSpent, SkipPassed}
+use proofs.Counts.DirOutcome.{AbortPassed, CopyPassed, outcome}
 use proofs.Counts.Links.{live-sends, live-takes, total-le, total-zero}
 use proofs.Counts.StepCases.{sum_back_away, pairs_vendor, sum_dir_away, pairs_grant, pairs_move, pairs_back, pairs_asks, sum_vendor}
 use proofs.Counts.StepCases.{pairs_dir, sum_grant, sum_move, sum_back, sum_asks, sum_dir, differ, given}
 use proofs.Tids.CoreTids.{KeepsRequests, requests-grant, KeepsPart, part-grant}
+
+-- What a directory's rules do to the TIDs that it has handled.
+
+pub skipped-above : (s : Serving) (t : ℕ) → is_skipped s t ≡ true → s.serving < t
+unfolding is_skipped
+skipped-above s t h = grind nats
+
+advance-stops_at : (s : Serving) (t : ℕ) → t ≡ (advance s).serving → is_skipped s t ≡ false
+advance-stops_at s t e = rw e (advance-stops s)
+
+-- to move on is to have passed one more TID
+pub advance-count : (s : Serving) (t : ℕ)
+    → num (nat_lt t (advance s).serving) + num (is_skipped (advance s) t) ≡ num (nat_lt t (s.serving + 1)) + num (is_skipped s t)
+advance-count s t = grind (nats, advance-rises, advance-past, advance-stops_at, advance-keeps, skipped-above)
+
+-- to keep a larger TID is to have handled it
+kept-count : (s : Serving) (t u : ℕ) → s.serving < u → is_skipped s u ≡ false
+    → num (is_skipped (kept u s) t) ≡ num (is_skipped s t) + num (u == t)
+kept-count s t u l e = grind (nats, kept-skips)
+
+-- what an answer makes of the TIDs handled, where none is handled and on its way at once
+abbrev pub HandledMore : DirState → Msg → (tid : ℕ) → DirState → Type 0
+HandledMore s m t new = handled new.serving new.owed t ≡ handled s.serving s.owed t + num (passes (Resolves t) m)
+
+abbrev pub HandledBy : DirState → Msg → (tid : ℕ) → Answer → Type 0
+HandledBy s m t Waits = Unit {0}
+HandledBy s m t Drops = num (passes (Resolves t) m) ≡ 0
+HandledBy s m t (Asks new sends) = handled new.serving new.owed t ≡ handled s.serving s.owed t
+HandledBy s m t (Takes new sends) = HandledMore s m t new
+
+abbrev pub OnceAt : DirState → Msg → Type 0
+OnceAt s m = (t : ℕ) → num (passes (Resolves t) m) + handled s.serving s.owed t ≤ 1
+
+-- nothing is owed and the served TID is on its way: the directory moves on
+moved_on-handled : (s : Serving) (t : ℕ) → handled (advance s) 0 t ≡ handled s 0 t + num (s.serving == t)
+unfolding handled
+moved_on-handled s t = let a = advance-count s t in grind nats
+
+pub unserved : (s : DirState) (m : Msg) → OnceAt s m → passes (Resolves s.serving.serving) m ≡ true → s.owed ≡ 0
+unfolding handled
+unserved s m h e = let o = h s.serving.serving in grind nats
+
+-- a TID that is on its way hasn't been passed, and isn't kept
+passed_twice : (s : DirState) (m : Msg) (u : ℕ) → OnceAt s m → passes (Resolves u) m ≡ true → u < s.serving.serving → ⊥
+unfolding handled
+passed_twice s m u h e l = let o = h u in grind nats
+
+not_kept : (s : DirState) (m : Msg) (u : ℕ) → OnceAt s m → passes (Resolves u) m ≡ true → is_skipped s.serving u ≡ false
+unfolding handled
+not_kept s m u h e = let o = h u in grind nats
+
+-- the served TID is resolved: the directory moves on
+resolved_served : (s : DirState) (m : Msg) (u t : ℕ) → OnceAt s m → s.serving.serving ≡ u → passes (Resolves u) m ≡ true
+    → num (passes (Resolves t) m) ≡ num (u == t)
+    → handled (advance s.serving) s.owed t ≡ handled s.serving s.owed t + num (passes (Resolves t) m)
+resolved_served s m u t h e f g =
+    let o : s.owed ≡ 0 = unserved s m h (rw e f) in
+    rw (o, g, moved_on-handled s.serving t, e) refl
+
+-- a larger TID is resolved: it is kept
+resolved_ahead : (s : DirState) (m : Msg) (u t : ℕ) → OnceAt s m → s.serving.serving < u → passes (Resolves u) m ≡ true
+    → num (passes (Resolves t) m) ≡ num (u == t)
+    → handled (kept u s.serving) s.owed t ≡ handled s.serving s.owed t + num (passes (Resolves t) m)
+unfolding handled kept
+resolved_ahead s m u t h l f g = omega (arith, kept-count s.serving t u l (not_kept s m u h f), g)
+
+owed-handled : (s : Serving) (n t : ℕ) → 0 < n → handled s n t ≡ handled s 0 t + num (s.serving == t)
+unfolding handled
+owed-handled s n t l = grind nats
+
+pub dir-handled : (sh : Shape) (s : DirState) (c : ℕ) (m : Msg) (t : ℕ) → OnceAt s m → HandledBy s m t (dir_deliver sh s c m)
+unfolding passes
+dir-handled sh s c m t = go (outcome sh s c m)
+  where
+    -- what is owed for a commit settles it
+    settled : (b : Bool) (n : ℕ) → (n == 0) ≡ b → handled (if b then advance s.serving else s.serving) n t ≡ handled s.serving 0 t + num
+        (s.serving.serving == t)
+    settled a n e = grind (nats, moved_on-handled, owed-handled)
+
+    spent : {m : Msg} → IsSpent s c m → OnceAt s m → num (passes (Resolves t) m) ≡ 0
+    spent (SkipPassed u l) h = absurd (passed_twice s (Skip u) u h (eq-self u) l)
+    spent (AbortPassed u l) h = absurd (passed_twice s (Abort u) u h (eq-self u) l)
+    spent (CopyPassed m l k ws g y i e) h = rw (y.alike (Resolves t)) refl
+    spent _ h = refl
+
+    resolved : (m : Msg) (u : ℕ) (b : Bool) → (s.serving.serving == u) ≡ b → s.serving.serving ≤ u → passes (Resolves u) m ≡ true
+        → num (passes (Resolves t) m) ≡ num (u == t) → OnceAt s m
+        → handled (if b then advance s.serving else kept u s.serving) s.owed t ≡ handled s.serving s.owed t + num (passes (Resolves t) m)
+    resolved m u true e l p q h = resolved_served s m u t h (grind nats) p q
+    resolved m u false e l p q h = resolved_ahead s m u t h (grind nats) p q
+
+    go : {m : Msg} {a : Answer} → Outcome sh s c m a → OnceAt s m → HandledBy s m t a
+    go (Waiting m) h = tt
+    go (Spent m i) h = spent i h
+    go (TakesSkip u b e l) h = resolved (Skip u) u b e l (eq-self u) refl h
+    go (TakesAbort u b e l) h = resolved (Abort u) u b e l (eq-self u) refl h
+    go (TakesCommit b e) h = let o : s.owed ≡ 0 = unserved s (Commit s.serving.serving (count_below (has_mark s.lines) (lines sh))) h
+        (eq-self s.serving.serving) in rw o (settled b (invalidation_count sh s.lines c) e)
+    go (TakesAck l k b i e) h = omega (arith, settled b (s.owed - 1) e, owed-handled s.serving s.owed t i)
+    go (TakesCopy m l k ws g y e o) h = rw (y.alike (Resolves t)) (omega arith)
+    go _ h = omega arith
+
+-- Each kind of event keeps the invariants.
 
 -- a message in flight is counted
 pub live-some : (k : Kind) (l : Link) (i : ℕ) (m : Msg) → slice_index_or l i None ≡ Some m → num (passes k m) ≤ live k l
@@ -57,7 +164,7 @@ pub move-kept : (sh : Shape) (w : World) (c : ℕ) (o : Out) → KeptTids sh w �
     → ((d t : ℕ) → d < sh.dirs → KeepsPart sh d t 0 (w.cores c) o) → KeptTids sh (core_moves w c o)
 unfolding pair core_moves
 move-kept sh w c o k l r p = record {
-  inside = pairs_move (λ c d v. InsideOf sh c v) w c o (λ d. within sh c _ l ((k.inside c d).owners)) k.inside;
+  inside = pairs_move (λ c d v. InsideOf sh c v) w c o (λ d. within sh c _ l (k.inside c d).owners) k.inside;
   requests = pairs_move (λ c d v. RequestOf v) w c o (λ d. request-moved (pair w c d) o d r (k.requests c d)) k.requests;
   resolved = λ d t h. let e = sum_move (part sh d t) sh.cores w c o d 0 0 l (part-moved sh d t (pair w c d) o (p d t h)) in
       omega (arith, k.resolved d t h);
@@ -87,12 +194,12 @@ pub grant-kept : (sh : Shape) (w : World) (c k u : ℕ) → KeptTids sh w → in
     → KeptTids sh (core_takes w Vendor c k (grant sh u (w.cores c)))
 unfolding pair core_takes
 grant-kept sh w c k u h e =
-    let l : c < sh.cores = inside_from sh c (live Any (w.net Vendor (Core c))) ((h.inside c 0).grants)
+    let l : c < sh.cores = inside_from sh c (live Any (w.net Vendor (Core c))) (h.inside c 0).grants
     (any-one (w.net Vendor (Core c)) k (TidGrant u) e) in
     let wt : waits_for_tid (w.cores c).phase ≡ true = granted_waits (pair w c 0) k u e (h.requests c 0) in
     let o : Out = grant sh u (w.cores c) in
     record {
-      inside = pairs_grant (λ c d v. InsideOf sh c v) w c k o (λ d. within sh c _ l ((h.inside c d).owners)) h.inside;
+      inside = pairs_grant (λ c d v. InsideOf sh c v) w c k o (λ d. within sh c _ l (h.inside c d).owners) h.inside;
       requests = pairs_grant (λ c d v. RequestOf v) w c k o
           (λ d. request-granted (pair w c d) k u o d e (requests-grant sh u (w.cores c) wt) (h.requests c d)) h.requests;
       resolved = λ d t x. let e =
@@ -101,16 +208,15 @@ grant-kept sh w c k u h e =
     }
 
 -- a core takes a message of a directory
-pub back-kept : (sh : Shape) (w : World) (e c k : ℕ) (m : Msg) (o : Out) → KeptTids sh w → FromDir w e c k m
-    → KeepsRequests 0 (w.cores c) o → ((d t : ℕ) → d < sh.dirs → KeepsPart sh d t 0 (w.cores c) o)
-    → KeptTids sh (core_takes w (Dir e) c k o)
+pub back-kept : (sh : Shape) (w : World) (e c k : ℕ) (m : Msg) (o : Out) → KeptTids sh w → FromDir w e c k m → KeepsRequests 0 (w.cores c) o
+    → ((d t : ℕ) → d < sh.dirs → KeepsPart sh d t 0 (w.cores c) o) → KeptTids sh (core_takes w (Dir e) c k o)
 unfolding pair core_takes part
 back-kept sh w e c k m o h i r p =
-    let l : c < sh.cores = inside_from sh c (live Any (to_core w e c)) ((h.inside c e).back)
+    let l : c < sh.cores = inside_from sh c (live Any (to_core w e c)) (h.inside c e).back
     (any-one (to_core w e c) k m i) in
     record {
-      inside = pairs_back (λ c d v. InsideOf sh c v) w e c k o (within sh c _ l ((h.inside c e).owners))
-          (λ d n. within sh c _ l ((h.inside c d).owners)) h.inside;
+      inside = pairs_back (λ c d v. InsideOf sh c v) w e c k o (within sh c _ l (h.inside c e).owners)
+          (λ d n. within sh c _ l (h.inside c d).owners) h.inside;
       requests = pairs_back (λ c d v. RequestOf v) w e c k o (request-moved (back_taken (pair w c e) k) o e r (h.requests c e))
           (λ d n. request-moved (pair w c d) o d r (h.requests c d)) h.requests;
       resolved = λ d t x. resolved l d t x (cases_eq d e);
@@ -182,14 +288,13 @@ pub no_sends : among Any [] ≡ 0
 unfolding among
 no_sends = refl
 
-pub dir-kept : (sh : Shape) (w : World) (c e k : ℕ) (m : Msg) (s : DirState) (sends : Sends) → KeptTids sh w
-    → FromCore w c e k m
+pub dir-kept : (sh : Shape) (w : World) (c e k : ℕ) (m : Msg) (s : DirState) (sends : Sends) → KeptTids sh w → FromCore w c e k m
     → ((j : ℕ) → sh.cores ≤ j → among Any (sends (Core j)) ≡ 0) → ((l o : ℕ) → s.lines.owner l ≡ Some o → o < sh.cores)
     → ((t : ℕ) → e < sh.dirs → handled s.serving s.owed t ≡ handled (w.dirs e).serving (w.dirs e).owed t + num (passes (Resolves t) m))
     → KeptTids sh (dir_takes w c e k s sends)
 unfolding pair dir_takes
 dir-kept sh w c e k m s sends h i q ow hd =
-    let l : c < sh.cores = inside_from sh c (live Any (to_dir w c e)) ((h.inside c e).out)
+    let l : c < sh.cores = inside_from sh c (live Any (to_dir w c e)) (h.inside c e).out
     (any-one (to_dir w c e) k m i) in
     record {
       inside = pairs_dir (λ c d v. InsideOf sh c v) w c e k s sends (within sh c _ l ow)
@@ -243,10 +348,10 @@ pub vendor-kept : (sh : Shape) (w : World) (c k : ℕ) → KeptTids sh w → in_
     → KeptTids sh (vendor_gives w c k (given w c))
 unfolding pair vendor_gives
 vendor-kept sh w c k h i =
-    let l : c < sh.cores = inside_from sh c (live Any (w.net (Core c) Vendor)) ((h.inside c 0).asks)
+    let l : c < sh.cores = inside_from sh c (live Any (w.net (Core c) Vendor)) (h.inside c 0).asks
     (any-one (w.net (Core c) Vendor) k TidReq i) in
     record {
-      inside = pairs_vendor (λ c d v. InsideOf sh c v) w c k (λ d. within sh c _ l ((h.inside c d).owners))
+      inside = pairs_vendor (λ c d v. InsideOf sh c v) w c k (λ d. within sh c _ l (h.inside c d).owners)
           (λ j d n. inside-next sh j (pair w j d) (h.inside j d));
       requests = pairs_vendor (λ c d v. RequestOf v) w c k (λ d. request-given (pair w c d) k i (h.requests c d)) (λ j d n. h.requests j d);
       resolved = λ d t x.

@@ -182,7 +182,7 @@ words-back sh x e s m h = each-back sh e s (WordBack sh x s) go m
     hurt k m u y f g told = cases (cases_eq k l)
       where
         cases : (k ≡ l) ⊎ (k ≡ l → ⊥) → WordBack sh x s (Inv k m u) (heard y)
-        cases (inl q) = Lost m u (rw q refl) (λ t e. let y = here k m t (sym f ∙ e) in (y.0, g (rw (y.0) refl) ∙ y.1)) told
+        cases (inl q) = Lost m u (rw q refl) (λ t e. let y = here k m t (sym f ∙ e) in (y.0, g (rw y.0 refl) ∙ y.1)) told
         cases (inr q) = let z = away k m q in Carried (word-still sh x s (heard y) (f ∙ z.0) (λ d. g d ∙ z.1) told)
 
     none : (y : Heard sh e s) → ((t : ℕ) → Unheard (CopyOf l t) (heard_said y)) → ((t : ℕ) (b : Bool) → hears_ack (CopyOf l t) y b ≡ false)

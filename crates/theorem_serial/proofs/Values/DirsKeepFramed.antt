@@ -8,7 +8,7 @@ use Names.{Takes, dir_takes, dir_asks, KeptAfter, KeptOwned, stored_there, FillO
 use Names.{CommitsInMemory, LoadsInMemory, pair, is_this, is_applied, CommitsStand, stores_at, stores_word, counts, value_at, word_copies}
 use Names.{HomeWords, last_of, nats, home_of, tid_at, to_dir, to_core, FromCore}
 use proofs.Counts.StepCases.{differ, either, asks-own, OfAnswer}
-use proofs.Lines.LoadsKept.{FillsBy}
+use proofs.Lines.LineOwners.{FillsBy}
 use proofs.Memory.CoreInMemory.{accesses_at_homes}
 use proofs.Tids.Commits.{last-least}
 use proofs.Tids.TidSteps.{live-some}
@@ -22,8 +22,7 @@ unfolding among
 none-among x y = refl
 
 taken-quietly : (sh : Shape) (ram : ℕ → ℕ) (w : World) (cs : List Noted) (c d k : ℕ) (m : Msg) (s : DirState) (sends : Sends)
-    → CommitsInMemory sh cs → CommitsStand sh w cs → KeptHeld sh ram w cs → FromCore w c d k m
-    → ((t : ℕ) → passes (Commits t) m ≡ false)
+    → CommitsInMemory sh cs → CommitsStand sh w cs → KeptHeld sh ram w cs → FromCore w c d k m → ((t : ℕ) → passes (Commits t) m ≡ false)
     → ((j x y : ℕ) → among (FillNot x y) (sends (Core j)) ≡ 0) → CommitsStand sh (dir_takes w c d k s sends) cs
     → KeptHeld sh ram (dir_takes w c d k s sends) cs
 unfolding pair
@@ -79,8 +78,7 @@ commit-passed sh cs c d a b n k s e l q =
 -- The word at home is as the core sees it, where its line has no owner and the core's last commit there is passed.
 home-word : (sh : Shape) (ram : ℕ → ℕ) (w : World) (cs : List Noted) (c d x : ℕ) → CommitsInMemory sh cs → KeptOwned sh w
     → HomeWords sh ram w cs → KeptAfter sh w cs → ((j : ℕ) → IsCache sh (w.cores j).cache) → c < sh.cores → d < sh.dirs
-    → line_of x < lines sh → home_of sh x ≡ d
-    → (w.dirs d).lines.owner (line_of x) ≡ None → (w.cores c).last_commit d < tid_at w d
+    → line_of x < lines sh → home_of sh x ≡ d → (w.dirs d).lines.owner (line_of x) ≡ None → (w.cores c).last_commit d < tid_at w d
     → (w.dirs d).words x ≡ value_at sh.base ram cs (w.dirs d) (Some c) None x
 unfolding pair
 home-word sh ram w cs c d x inside owned words after caches cl dl il e o p = words.at_home d x dl e none
@@ -103,7 +101,7 @@ home-word sh ram w cs c d x inside owned words after caches cl dl il e o p = wor
     alike n k true s =
         inl (counts-passed (w.dirs d) c n
         (commit-passed sh cs c d ((w.cores c).last_commit d) (tid_at w d) n k
-        (rw e at ((accesses_at_homes sh n.loads n.stores (inside n k)).stored x s)) ((after c d cl dl).last) p))
+        (rw e at ((accesses_at_homes sh n.loads n.stores (inside n k)).stored x s)) (after c d cl dl).last p))
 
 -- a load request carries the core's last commit there
 carried-after : (sh : Shape) (w : World) (cs : List Noted) (c d k l a : ℕ) → KeptAfter sh w cs → c < sh.cores → d < sh.dirs
@@ -125,9 +123,8 @@ carried-after sh w cs c d k l a h cl dl i = go (a == (w.cores c).last_commit d) 
 
 pub answered-load : (sh : Shape) (ram : ℕ → ℕ) (w : World) (cs : List Noted) (c d k l a : ℕ) → CommitsInMemory sh cs → CommitsStand sh w cs
     → KeptHeld sh ram w cs → KeptOwned sh w → HomeWords sh ram w cs → KeptAfter sh w cs → ((j : ℕ) → IsCache sh (w.cores j).cache)
-    → LoadsInMemory sh w → c < sh.cores → d < sh.dirs → FromCore w c d k (LoadReq l a)
-    → (b : Answer) → FillsBy c (LoadReq l a) b → FillsHome c l a (w.dirs d) b
-    → OfAnswer w c d k (λ v. CommitsStand sh v cs → KeptHeld sh ram v cs) b
+    → LoadsInMemory sh w → c < sh.cores → d < sh.dirs → FromCore w c d k (LoadReq l a) → (b : Answer) → FillsBy c (LoadReq l a) b
+    → FillsHome c l a (w.dirs d) b → OfAnswer w c d k (λ v. CommitsStand sh v cs → KeptHeld sh ram v cs) b
 unfolding pair passes
 answered-load sh ram w cs c d k l a inside before h owned words last caches loads cl dl i Waits f g = tt
 answered-load sh ram w cs c d k l a inside before h owned words last caches loads cl dl i Drops f g =
@@ -147,7 +144,7 @@ answered-load sh ram w cs c d k l a inside before h owned words last caches load
         omega (arith, z, live-some (LoadOf l) (to_dir w c d) k (LoadReq l a) i)
 
     current : (x : ℕ) → home_of sh x ≡ d → l ≡ line_of x → (w.dirs d).words x ≡ value_at sh.base ram cs (w.dirs d) (Some c) None x
-    current x e q = home-word sh ram w cs c d x inside owned words last caches cl dl (rw q at (loads c d l loading)) e (rw q at (g.unowned))
+    current x e q = home-word sh ram w cs c d x inside owned words last caches cl dl (rw q at (loads c d l loading)) e (rw q at g.unowned)
         (omega (arith, g.passed, carried-after sh w cs c d k l a last cl dl i))
 
     other : (j b : ℕ) → (j ≡ c → ⊥) → num (j == c && l == b) ≡ 0

@@ -73,7 +73,7 @@ unfolding placed
 fades-placed sh l v c = fades-placed_at (free_way sh c (set_of sh l)) (set_of sh l) l v c
 
 fades-then : (b c d : Cache) (v : ℕ) → Fades b c v → Fades c d v → Fades b d v
-fades-then b c d v f g y e h = let k = g y e h in f y (k.0) (k.1)
+fades-then b c d v f g y e h = let k = g y e h in f y k.0 k.1
 
 -- executing
 dropped : (o : Option ℕ) (v : Option ℕ) (y : ℕ) → (if is_some o then None else v) ≡ Some y → (v ≡ Some y) × (o ≡ None)
@@ -100,8 +100,8 @@ framing-exec sh p c s = each-exec sh p c s (Framing c s) go
         Stays refl (fading s _ refl
         (λ v. fades-then s.cache (placed sh (line_of (w a)) s.cache) (stored (w a) y false (placed sh (line_of (w a)) s.cache)) v
         (fades-placed sh (line_of (w a)) v s.cache) (fades-stored (w a) y v false (placed sh (line_of (w a)) s.cache))))
-    go (Misses a n g i q) = Stays refl (asked (line_of (w a)) _ (g.idle) (fades-same s.cache))
-    go (Misses_anew a n g i q f) = Stays refl (asked (line_of (w a)) _ (g.idle) (λ v. fades-placed sh (line_of (w a)) v s.cache))
+    go (Misses a n g i q) = Stays refl (asked (line_of (w a)) _ g.idle (fades-same s.cache))
+    go (Misses_anew a n g i q f) = Stays refl (asked (line_of (w a)) _ g.idle (λ v. fades-placed sh (line_of (w a)) v s.cache))
     go (Ends_alone t l e f r i) =
         Closes (record {
           tid = t;
@@ -300,7 +300,7 @@ comes-back sh e s m = each-back sh e s (Coming s) go m
 -- the frames fade, and the link from the home stays
 pub held-fades : (x y : ℕ) (v w : Pair) → w.back ≡ v.back → Fading v.core w.core → HeldOf x y v → HeldOf x y w
 held-fades x y v w b f h =
-    record { framed = λ z p q. let k = f.words x z p q in rw b (h.framed z (k.0) (k.1)); filled = λ p. rw b (h.filled (f.fresh p)) }
+    record { framed = λ z p q. let k = f.words x z p q in rw b (h.framed z k.0 k.1); filled = λ p. rw b (h.filled (f.fresh p)) }
 
 -- a message is taken that is no invalidation of the word
 pub held-quietly : (x y k : ℕ) (v w : Pair) (m : Msg) → get_or v.back k None ≡ Some m → w.back ≡ set v.back k None
@@ -324,7 +324,7 @@ held-quietly x y k v w m i b n f h = rebuilt
 
     rebuilt : HeldOf x y w
     rebuilt =
-        record { framed = λ z p q. let k = f.words x z p q in framed (h.framed z (k.0) (k.1)); filled = λ p. filled (h.filled (f.fresh p)) }
+        record { framed = λ z p q. let k = f.words x z p q in framed (h.framed z k.0 k.1); filled = λ p. filled (h.filled (f.fresh p)) }
 
 -- no Fill of a line is in flight to a core that awaits none, or another
 pub no-fill : (sh : Shape) (d l : ℕ) (v : Pair) → is_awaited v.core.awaited l ≡ false → LoadingOf sh d l v → live (FillOf l) v.back ≡ 0
@@ -355,7 +355,7 @@ held-invalid sh d x y k l m u v o i f loading h = go (hit l m x) refl
 
     go : (b : Bool) → hit l m x ≡ b → HeldOf x y (after_move (back_taken v k) o d)
     go true q = gone q
-    go false q = held-quietly x y k v (after_move (back_taken v k) o d) (Inv l m u) i refl q (f.rests.1) h
+    go false q = held-quietly x y k v (after_move (back_taken v k) o d) (Inv l m u) i refl q f.rests.1 h
 
 -- a Fill is taken
 filled-is : (x y z l : ℕ) (ws : List ℕ) → num (passes (FillNot x y) (Fill l ws)) ≡ 0 → (l == line_of x) ≡ true
@@ -387,8 +387,8 @@ held-filled sh d x y k l ws v o i f loading h = record { framed = λ z p q. fram
     framed : (z : ℕ) → ((v.core.cache.value x ≡ Some z) × (v.core.cache.modified x ≡ false))
         ⊎ ((l == line_of x ≡ true) × (get_or ws (place_of x) 0 ≡ z) × (is_stale v.core.awaited ≡ false))
         → (z ≡ y) ⊎ (1 ≤ live (InvWord x) (set v.back k None))
-    framed z (inl q) = kept (h.framed z (q.0) (q.1))
-    framed z (inr q) = new z (q.0) (q.1) (h.filled (q.2))
+    framed z (inl q) = kept (h.framed z q.0 q.1)
+    framed z (inr q) = new z q.0 q.1 (h.filled q.2)
 
     less : (live (FillNot x y) v.back ≡ 0) ⊎ (1 ≤ live (InvWord x) v.back) → (live (FillNot x y) (set v.back k None) ≡ 0)
         ⊎ (1 ≤ live (InvWord x) (set v.back k None))
@@ -405,7 +405,7 @@ held-filled sh d x y k l ws v o i f loading h = record { framed = λ z p q. fram
 
     filled : is_stale o.core.awaited ≡ false → ((a : Awaited) × (v.core.awaited ≡ Some a) × ((a.line == l) ≡ true))
         ⊎ (o.core.awaited ≡ v.core.awaited) → (live (FillNot x y) (set v.back k None) ≡ 0) ⊎ (1 ≤ live (InvWord x) (set v.back k None))
-    filled p (inl a) = inl (omega (arith, none a.0 (a.1) (a.2) (l == line_of x) refl, few-not x y (set v.back k None)))
+    filled p (inl a) = inl (omega (arith, none a.0 a.1 a.2 (l == line_of x) refl, few-not x y (set v.back k None)))
     filled p (inr e) = less (h.filled (rw e at p))
 
 -- a Fill of another directory is taken
@@ -416,11 +416,11 @@ held-elsewhere sh d x y l ws v o n f loading h = record { framed = λ z p q. fra
     framed : (z : ℕ) → ((v.core.cache.value x ≡ Some z) × (v.core.cache.modified x ≡ false))
         ⊎ ((l == line_of x ≡ true) × (get_or ws (place_of x) 0 ≡ z) × (is_stale v.core.awaited ≡ false))
         → (z ≡ y) ⊎ (1 ≤ live (InvWord x) v.back)
-    framed z (inl q) = h.framed z (q.0) (q.1)
+    framed z (inl q) = h.framed z q.0 q.1
     framed z (inr q) = absurd (let e = q.0 in cc)
 
     filled : is_stale o.core.awaited ≡ false → ((a : Awaited) × (v.core.awaited ≡ Some a) × ((a.line == l) ≡ true))
         ⊎ (o.core.awaited ≡ v.core.awaited) → (live (FillNot x y) v.back ≡ 0) ⊎ (1 ≤ live (InvWord x) v.back)
     filled p (inl a) =
-        inl (omega (arith, no-fill sh d (line_of x) v (awaits-other l x a.0 v.core.awaited (a.1) (a.2) n) loading, few-not x y v.back))
+        inl (omega (arith, no-fill sh d (line_of x) v (awaits-other l x a.0 v.core.awaited a.1 a.2 n) loading, few-not x y v.back))
     filled p (inr e) = h.filled (rw e at p)

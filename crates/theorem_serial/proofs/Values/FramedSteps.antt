@@ -12,7 +12,7 @@ use Names.{granted_by, Pair, pair, after_move, back_taken, grant_taken, after_gr
 use Names.{stores_word, after_stores, counts, value_at, UnmodifiedWords, FilledWords, Ways, ways_after, sent_by, Contains, nats, home_of}
 use Names.{FromCore, FromDir}
 use proofs.Counts.StepCases.{either, moves-own, moves-other, pairs_move, pairs_grant, pairs_back, pairs_vendor, OfAnswer, node_cases}
-use proofs.Lines.LoadsKept.{dir-fills}
+use proofs.Lines.LineOwners.{dir-fills}
 use proofs.Values.FramedCores.{no-fill, held-fades, held-quietly, held-invalid, held-filled, held-elsewhere, Coming, Quiet, Takes, Brings}
 use proofs.Values.FramedCores.{OnlyFades, comes-back, fading-grant, Closing, Framing, Stays, Closes, fades-same, fading, framing-exec}
 use proofs.Values.FramedCores.{fading-evict}
@@ -70,7 +70,7 @@ pub value-own : (sh : Shape) (p : Program) (entries : ℕ → Local) (ram : ℕ 
     (value_at sh.base ram h.commits (h.world.dirs (home_of sh x)) (Some c) None x)
 unfolding noted
 value-own sh p entries ram gs ys views m h c x o u k l g e = value-insert sh.base ram (noted g.tid c g.last) h.commits d (Some c) None x
-    (k.carried.commits_are_of_granted_tids.0) silent
+    k.carried.commits_are_of_granted_tids.0 silent
     ∙ (own-value sh.base d c g.tid x _ g.last ∙ ap (λ q. after_stores sh.base q x (value_at sh.base ram h.commits d (Some c) None x))
     g.stores)
   where
@@ -125,7 +125,7 @@ committed sh p entries ram gs ys views m h c o u k held l g = subst (λ q. KeptH
     cs = insert_commit new h.commits
 
     home-of : ℕ → ℕ
-    home-of x = (home_of sh x)
+    home-of x = home_of sh x
 
     spilled : (x : ℕ) → (is_solo s.phase ≡ true → s.spilled x ≡ None) → s.spilled x ≡ None
     spilled x f = grind nats
@@ -148,7 +148,7 @@ committed sh p entries ram gs ys views m h c o u k held l g = subst (λ q. KeptH
         (after_move (pair h.world c (home-of x)) o (home-of x))
     own x dl = record {
       framed = λ z a b. let w = g.words x z a in
-          framed x z (w.0) (spilled x (w.1)) (s.cache.modified x) refl (held c (home-of x) x l dl refl);
+          framed x z w.0 (spilled x w.1) (s.cache.modified x) refl (held c (home-of x) x l dl refl);
       filled =
           λ a. inl (omega (
             arith,
@@ -159,7 +159,7 @@ committed sh p entries ram gs ys views m h c o u k held l g = subst (λ q. KeptH
     }
       where
         none : is_awaited s.awaited (line_of x) ≡ false
-        none = rw (rests-none g.tid s.phase s.awaited g.phase (g.rests.0) (λ w q. (k.carried.awaited_line_has_a_frame c w q).0)) refl
+        none = rw (rests-none g.tid s.phase s.awaited g.phase g.rests.0 (λ w q. (k.carried.awaited_line_has_a_frame c w q).0)) refl
 
     own' : (d x : ℕ) → d < sh.dirs → home_of sh x ≡ d
         → HeldOf x (value_at sh.base ram cs (h.world.dirs d) (Some c) None x) (after_move (pair h.world c d) o d)
@@ -232,12 +232,12 @@ step-held sh p entries ram gs ys views m h e u k held = node_cases sh p w e (λ 
         → IfSome x (λ o. R (record { world = core_moves w c o; noted = o.commit }))
     emptied c None f = tt
     emptied c (Some o) f =
-        quietly c o (core_moves w c o) (f.0)
-        (pairs_move P w c o (λ d x cl dl q. held-fades x _ (pair w c d) (after_move (pair w c d) o d) refl (f.1) (held c d x cl dl q)) held)
+        quietly c o (core_moves w c o) f.0
+        (pairs_move P w c o (λ d x cl dl q. held-fades x _ (pair w c d) (after_move (pair w c d) o d) refl f.1 (held c d x cl dl q)) held)
 
     granted : (c n : ℕ) (o : Out) → OnlyFades (w.cores c) o → KeptHeld sh ram (core_takes w Vendor c n o) (and_noted o.commit h.commits)
-    granted c n o f = subst (λ q. KeptHeld sh ram (core_takes w Vendor c n o) (and_noted q h.commits)) (sym (f.0))
-        (pairs_grant P w c n o (λ d x cl dl q. held-fades x _ (pair w c d) (after_move (grant_taken (pair w c d) n) o d) refl (f.1)
+    granted c n o f = subst (λ q. KeptHeld sh ram (core_takes w Vendor c n o) (and_noted q h.commits)) (sym f.0)
+        (pairs_grant P w c n o (λ d x cl dl q. held-fades x _ (pair w c d) (after_move (grant_taken (pair w c d) n) o d) refl f.1
         (held c d x cl dl q)) held)
 
     loading : (c d x : ℕ) → LoadingOf sh d (line_of x) (pair w c d)
@@ -245,17 +245,17 @@ step-held sh p entries ram gs ys views m h e u k held = node_cases sh p w e (λ 
 
     come : (c d n : ℕ) (a : Msg) → FromDir w d c n a → (o : Out) → Coming (w.cores c) a o
         → R (record { world = core_takes w (Dir d) c n o; noted = o.commit })
-    come c d n a i o (Quiet z f) = quietly c o (core_takes w (Dir d) c n o) (f.0) (pairs_back P w d c n o
-        (λ x cl dl q. held-quietly x _ n (pair w c d) (after_move (back_taken (pair w c d) n) o d) a i refl (z x) (f.1)
+    come c d n a i o (Quiet z f) = quietly c o (core_takes w (Dir d) c n o) f.0 (pairs_back P w d c n o
+        (λ x cl dl q. held-quietly x _ n (pair w c d) (after_move (back_taken (pair w c d) n) o d) a i refl (z x) f.1
         (held c d x cl dl q))
-        (λ b r x cl dl q. held-fades x _ (pair w c b) (after_move (pair w c b) o b) refl (f.1) (held c b x cl dl q)) held)
-    come c d n a i o (Takes l t v e f) = quietly c o (core_takes w (Dir d) c n o) (f.rests.0) (pairs_back P w d c n o
+        (λ b r x cl dl q. held-fades x _ (pair w c b) (after_move (pair w c b) o b) refl f.1 (held c b x cl dl q)) held)
+    come c d n a i o (Takes l t v e f) = quietly c o (core_takes w (Dir d) c n o) f.rests.0 (pairs_back P w d c n o
         (λ x cl dl q. held-invalid sh d x _ n l t v (pair w c d) o (i ∙ ap (λ y. Some y) e) f (loading c d x) (held c d x cl dl q))
-        (λ b r x cl dl q. held-fades x _ (pair w c b) (after_move (pair w c b) o b) refl (f.rests.1) (held c b x cl dl q)) held)
-    come c d n a i o (Brings l ws e f) = quietly c o (core_takes w (Dir d) c n o) (f.commit) (pairs_back P w d c n o
+        (λ b r x cl dl q. held-fades x _ (pair w c b) (after_move (pair w c b) o b) refl f.rests.1 (held c b x cl dl q)) held)
+    come c d n a i o (Brings l ws e f) = quietly c o (core_takes w (Dir d) c n o) f.commit (pairs_back P w d c n o
         (λ x cl dl q. held-filled sh d x _ n l ws (pair w c d) o (i ∙ ap (λ y. Some y) e) f (loading c d x) (held c d x cl dl q))
         (λ b r x cl dl q. held-elsewhere sh b x _ l ws (pair w c b) o
-        (fill-home sh b d n l x ws (pair w c d) (i ∙ ap (λ y. Some y) e) ((k.carried.records_and_messages_are_at_home c d 0).back) q
+        (fill-home sh b d n l x ws (pair w c d) (i ∙ ap (λ y. Some y) e) (k.carried.records_and_messages_are_at_home c d 0).back q
         r) f (loading c b x) (held c b x cl dl q)) held)
 
     taken : (c d n : ℕ) (a : Msg) → FromDir w d c n a → (x : Option Out) → IfSome x (Coming (w.cores c) a)
@@ -263,23 +263,22 @@ step-held sh p entries ram gs ys views m h e u k held = node_cases sh p w e (λ 
     taken c d n a i None f = tt
     taken c d n a i (Some o) f = come c d n a i o f
 
-    quiet : (c d n : ℕ) (a : Msg) → FromCore w c d n a → ((t : ℕ) → passes (Commits t) a ≡ false)
-        → ((l : ℕ) → passes (LoadOf l) a ≡ false)
+    quiet : (c d n : ℕ) (a : Msg) → FromCore w c d n a → ((t : ℕ) → passes (Commits t) a ≡ false) → ((l : ℕ) → passes (LoadOf l) a ≡ false)
         → OfAnswer w c d n (λ v. R (record { world = v; noted = None })) (dir_deliver sh (w.dirs d) c a)
-    quiet c d n a i f g = answered-quietly sh ram w h.commits c d n a (k.carried_in_memory.commits_stay_in_memory)
-        (k.carried.commit_is_on_its_way_or_applied) held i f g (dir_deliver sh (w.dirs d) c a) (dir-fills sh (w.dirs d) c a)
+    quiet c d n a i f g = answered-quietly sh ram w h.commits c d n a k.carried_in_memory.commits_stay_in_memory
+        k.carried.commit_is_on_its_way_or_applied held i f g (dir_deliver sh (w.dirs d) c a) (dir-fills sh (w.dirs d) c a)
 
     answered : (c d n : ℕ) (a : Msg) → c < sh.cores → d < sh.dirs → FromCore w c d n a
         → OfAnswer w c d n (λ v. R (record { world = v; noted = None })) (dir_deliver sh (w.dirs d) c a)
-    answered c d n (LoadReq l a) cl dl i = answered-load sh ram w h.commits c d n l a (k.carried_in_memory.commits_stay_in_memory)
-        (k.carried.commit_is_on_its_way_or_applied) held (k.carried.owned_line_has_one_copy_with_its_tag) (k.home_words_are_current)
-        (k.carried.after_is_the_last_commit_there) (k.carried.frames_stand_in_their_sets)
-        (k.carried_in_memory.loads_in_flight_are_of_lines_in_memory) cl dl i
+    answered c d n (LoadReq l a) cl dl i = answered-load sh ram w h.commits c d n l a k.carried_in_memory.commits_stay_in_memory
+        k.carried.commit_is_on_its_way_or_applied held k.carried.owned_line_has_one_copy_with_its_tag k.home_words_are_current
+        k.carried.after_is_the_last_commit_there k.carried.frames_stand_in_their_sets
+        k.carried_in_memory.loads_in_flight_are_of_lines_in_memory cl dl i
         (dir_deliver sh (w.dirs d) c (LoadReq l a)) (dir-fills sh (w.dirs d) c (LoadReq l a)) (load-home c l a (w.dirs d))
-    answered c d n (Commit t b) cl dl i = answered-commit sh ram w h.commits c d n (Commit t b) (k.carried_in_memory.commits_stay_in_memory)
-        (k.carried.commit_is_on_its_way_or_applied) held (k.carried.commits_are_of_granted_tids.0) (k.carried.committing_tid_is_served)
-        (k.carried.marks_sent_are_in_flight_or_handled.1) (k.carried.marks_sent_are_the_lines_stored.2) (k.carried.one_load_request_or_fill)
-        (k.carried.holder_is_a_sharer) cl dl i (λ l. refl)
+    answered c d n (Commit t b) cl dl i = answered-commit sh ram w h.commits c d n (Commit t b) k.carried_in_memory.commits_stay_in_memory
+        k.carried.commit_is_on_its_way_or_applied held k.carried.commits_are_of_granted_tids.0 k.carried.committing_tid_is_served
+        k.carried.marks_sent_are_in_flight_or_handled.1 k.carried.marks_sent_are_the_lines_stored.2 k.carried.one_load_request_or_fill
+        k.carried.holder_is_a_sharer cl dl i (λ l. refl)
         (dir_deliver sh (w.dirs d) c (Commit t b)) (dir-fills sh (w.dirs d) c (Commit t b)) (commit-invalidates sh c t b (w.dirs d))
     answered c d n m cl dl i = quiet c d n m i (λ t. refl) (λ l. refl)
 
@@ -301,5 +300,5 @@ words_kept sh p entries ram gs ys views m h e u k =
         → IfSome (recorded h x) (λ g. Carried sh (gs ++ granted_by h.world e) (ways_after (sent_by sh p h.world e) ys) g
         → UnmodifiedWords sh ram g.world g.commits × FilledWords sh ram g.world g.commits)
     go None f = tt
-    go (Some o) f = λ r. let s = f (r.commit_is_on_its_way_or_applied) in
+    go (Some o) f = λ r. let s = f r.commit_is_on_its_way_or_applied in
         (λ c d x y cl dl q a b. (s c d x cl dl q).framed y a b, λ c d x cl dl q a. (s c d x cl dl q).filled a)

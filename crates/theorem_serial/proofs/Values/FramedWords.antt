@@ -15,7 +15,7 @@ use Names.{◌≤◌, ◌⊎◌, not, inl, inr, num, Msg, Dir, suc, ◌∷◌, s
 use Names.{to_core, FromCore}
 use proofs.Counts.Links.{live-sends, live-fewer, among-fewer, num-same, live-takes, among-append}
 use proofs.Counts.StepCases.{either, dir-own, dir-other, pairs_dir, pairs_asks, differ, OfAnswer}
-use proofs.Lines.LoadsKept.{FillsBy}
+use proofs.Lines.LineOwners.{FillsBy}
 use proofs.Marks.CoreMarks.{some-mask}
 use proofs.Marks.MaskLaws.{same-commit}
 use proofs.Marks.DirRecords.{CountsMarked}
@@ -178,8 +178,7 @@ unfolding pair
 commits-other w c d k s sends j t n = ap (λ v. live (Commits t) v.out) (dir-other w c d k s sends j n)
 
 pub commits-own : (w : World) (c d k : ℕ) (m : Msg) (s : DirState) (sends : Sends) (t : ℕ) → FromCore w c d k m
-    → passes (Commits t) m ≡ false → live (Commits t) ((dir_takes w c d k s sends).net (Core c) (Dir d)) ≡ live (Commits t)
-    (to_dir w c d)
+    → passes (Commits t) m ≡ false → live (Commits t) ((dir_takes w c d k s sends).net (Core c) (Dir d)) ≡ live (Commits t) (to_dir w c d)
 unfolding pair
 commits-own w c d k m s sends t i p = ap (λ v. live (Commits t) v.out) (dir-own w c d k s sends)
     ∙ (let z : num (passes (Commits t) m) ≡ 0 = rw p refl in omega (arith, z, live-takes (Commits t) (to_dir w c d) k m i))
@@ -302,8 +301,7 @@ idle sh w cs j d l loading shares s n =
 
     split : (a b : Bool) → keeps_unmodified (w.cores j).cache l ≡ a
         → (is_fresh (w.cores j).awaited && nat_lt 0 (live (FillOf l) (to_core w d j))) ≡ b
-        → (keeps_unmodified (w.cores j).cache l ≡ false)
-        × (is_stale (w.cores j).awaited ≡ false → live (FillOf l) (to_core w d j) ≡ 0)
+        → (keeps_unmodified (w.cores j).cache l ≡ false) × (is_stale (w.cores j).awaited ≡ false → live (FillOf l) (to_core w d j) ≡ 0)
     split true b p q = absurd (told (rw p refl))
     split false true p q = absurd (told (rw (p, q) refl))
     split false false p q = (p, none (w.cores j).awaited refl q)
@@ -322,8 +320,7 @@ one-committer sh w cs c j d u rising served stored cl jl dl a b =
 
 pub answered-commit : (sh : Shape) (ram : ℕ → ℕ) (w : World) (cs : List Noted) (c d k : ℕ) (m : Msg) → CommitsInMemory sh cs
     → CommitsStand sh w cs → KeptHeld sh ram w cs → IsRising 0 cs → CommitsAreServed sh w → KeptCounted sh w → KeptStored sh cs w
-    → KeptLoading sh w → KeptSharers sh w cs → c < sh.cores → d < sh.dirs → FromCore w c d k m
-    → ((l : ℕ) → passes (LoadOf l) m ≡ false)
+    → KeptLoading sh w → KeptSharers sh w cs → c < sh.cores → d < sh.dirs → FromCore w c d k m → ((l : ℕ) → passes (LoadOf l) m ≡ false)
     → (b : Answer) → FillsBy c m b → Invalidates sh c (w.dirs d) m b → OfAnswer w c d k (λ v. CommitsStand sh v cs → KeptHeld sh ram v cs) b
 unfolding pair passes
 answered-commit sh ram w cs c d k m inside before h rising served counted stored loading sharers cl dl i lm Waits f g = tt
@@ -335,13 +332,13 @@ answered-commit sh ram w cs c d k m inside before h rising served counted stored
     (λ n. other j x out jl n e after (stores_word sh.base was.commit.stores x) refl)) h
   where
     t : ℕ
-    t = (tid_at w d)
+    t = tid_at w d
 
     was : SettledCommit sh cs d (w.dirs d)
-    was = taken-stored sh w cs c d k m counted stored cl dl i (g.0)
+    was = taken-stored sh w cs c d k m counted stored cl dl i g.0
 
     j' : (FromCore w c d k (Commit t (count_below (has_mark (w.dirs d).lines) (lines sh))))
-    j' = i ∙ ap (λ x. Some x) (g.0)
+    j' = i ∙ ap (λ x. Some x) g.0
 
     one : num (passes (Commits t) (Commit t (count_below (has_mark (w.dirs d).lines) (lines sh)))) ≡ 1
     one = rw (same t) refl
@@ -389,9 +386,9 @@ answered-commit sh ram w cs c d k m inside before h rising served counted stored
         shared : (b : Bool) → (w.dirs d).lines.sharers (line_of x) j ≡ b
             → HeldOf x (value_at sh.base ram cs s (Some j) None x) (after_answer (record (pair w j d) { out = out }) s (sends (Core j)))
         shared true q = held-invalidated x _ (pair w j d) out s (sends (Core j))
-            (rw (g.1 j) (sharer-told sh (w.dirs d).lines c t j x il jl n (marked.0) (marked.1) q))
+            (rw (g.1 j) (sharer-told sh (w.dirs d).lines c t j x il jl n marked.0 marked.1 q))
         shared false q =
-            held-idle x _ _ (z.0) (λ p. omega (
+            held-idle x _ _ z.0 (λ p. omega (
               arith,
               z.1 p,
               live-sends (FillOf (line_of x)) (to_core w d j) (sends (Core j)),
@@ -403,4 +400,4 @@ answered-commit sh ram w cs c d k m inside before h rising served counted stored
                 × (is_stale (w.cores j).awaited ≡ false → live (FillOf (line_of x)) (to_core w d j) ≡ 0)
             z = idle sh w cs j d (line_of x) loading (sharers j d (line_of x) jl dl il e) q
                 (λ r. n (one-committer sh w cs c j d r.tid rising served stored cl jl dl
-                (omega (arith, one, live-some (Commits t) (to_dir w c d) k _ j')) (r.sent)))
+                (omega (arith, one, live-some (Commits t) (to_dir w c d) k _ j')) r.sent))

@@ -36,9 +36,9 @@ unstored-alike : (sh : Shape) (x d g u : ℕ) (o : Out) (v : Pair) → CommitsWo
     → v.core.cache.modified x ≡ false → v.core.spilled x ≡ None → Alike x g v (after_move v o d)
 unfolding word_copies
 unstored-alike sh x d g u o v w m z = record {
-  copies = rw (a.0) (omega (arith, a.1.1 g d, live-sends (CopyWord x g) v.out (o.sends (Dir d))));
+  copies = rw a.0 (omega (arith, a.1.1 g d, live-sends (CopyWord x g) v.out (o.sends (Dir d))));
   have = λ t y q. record {
-    framed = λ r. a.1.0 ∙ q.framed (sym (a.0) ∙ r);
+    framed = λ r. a.1.0 ∙ q.framed (sym a.0 ∙ r);
     sent = omega (arith, a.1.1 t d, among-others x t y (o.sends (Dir d)), q.sent, live-sends (CopyNot x t y) v.out (o.sends (Dir d)));
   };
 }
@@ -59,7 +59,7 @@ unfolding word_copies
 stored-others sh x d g u o v w m z n = record {
   copies = rw z (omega (arith, clean (o.core.cache.dirty x) refl, w.sent g d n, live-sends (CopyWord x g) v.out (o.sends (Dir d))));
   have = λ y q. record {
-    framed = λ r. absurd (n (sym ((w.framed g m r).0)));
+    framed = λ r. absurd (n (sym (w.framed g m r).0));
     sent = omega (arith, w.sent g d n, among-others x g y (o.sends (Dir d)), q.sent, live-sends (CopyNot x g y) v.out (o.sends (Dir d)));
   };
 }
@@ -74,7 +74,7 @@ new-copies : (sh : Shape) (x d u y : ℕ) (ram : ℕ → ℕ) (o : Out) (v : Pai
     → CopiesHave x u y (after_move v o d)
 unfolding word_copies sees
 new-copies sh x d u y ram o v w m valid none s = record {
-  framed = λ r. (let f = w.framed u m r in f.1.1 ∙ framed (v.core.cache.value x) refl (f.1.0));
+  framed = λ r. (let f = w.framed u m r in f.1.1 ∙ framed (v.core.cache.value x) refl f.1.0);
   sent =
       omega (
         arith,
@@ -135,7 +135,7 @@ commit-keeps sh p entries ram gs ys views m h c o u k l g f =
     word x = f new g.commit x
 
     old : KeptValues sh ram w h.commits
-    old = values-of sh ram w h.commits (k.home_words_are_current) (k.copy_above_the_tag_has_the_committed_words)
+    old = values-of sh ram w h.commits k.home_words_are_current k.copy_above_the_tag_has_the_committed_words
 
     served : (x : ℕ) → stores_word sh.base s.stores x ≡ true → Serves sh h c g.tid x
     served x e = stored-served sh p entries ram gs ys views m h c g.tid x u k l g.phase e
@@ -162,7 +162,7 @@ commit-keeps sh p entries ram gs ys views m h c o u k l g f =
     }
       where
         d : ℕ
-        d = (home_of sh x)
+        d = home_of sh x
 
         none : (i : Bool) (j : Option ℕ) (b : Bool) → (i || is_some j) ≡ b → b ≡ false → (i ≡ false) × (j ≡ None)
         none false None b e z = (refl, refl)
@@ -171,7 +171,7 @@ commit-keeps sh p entries ram gs ys views m h c o u k l g f =
 
         a : Alike x (tag_of w d x) (pair w c d) (after_move (pair w c d) o d)
         a = let y = none (s.cache.modified x) (s.spilled x) (stores_word sh.base s.stores x) (k.carried.stored_words_are_those_named c x) q
-            in unstored-alike sh x d (tag_of w d x) g.tid o (pair w c d) (word x) (y.0) (y.1)
+            in unstored-alike sh x d (tag_of w d x) g.tid o (pair w c d) (word x) y.0 y.1
     own x dl true q = record {
       copies = (others (tag_of w d x) untag).copies;
       tagged = (others (tag_of w d x) untag).have _ ((old d x dl refl).in_copies c l);
@@ -184,7 +184,7 @@ commit-keeps sh p entries ram gs ys views m h c o u k l g f =
     }
       where
         d : ℕ
-        d = (home_of sh x)
+        d = home_of sh x
 
         inside : line_of x < lines sh
         inside = (k.carried_in_memory.attempts_stay_in_memory c).accesses.stored x q
@@ -199,7 +199,7 @@ commit-keeps sh p entries ram gs ys views m h c o u k l g f =
         others t n = stored-others sh x d t g.tid o (pair w c d) (word x) named (clean (s.cache.modified x) refl (s.spilled x) refl named) n
 
         untag : g.tid ≡ tag_of w d x → ⊥
-        untag = untagged sh h d (line_of x) g.tid (k.carried.line_tag_is_the_last_settled_writer) dl inside refl st.positive st.fresh
+        untag = untagged sh h d (line_of x) g.tid k.carried.line_tag_is_the_last_settled_writer dl inside refl st.positive st.fresh
 
         seen : (r : ℕ → ℕ) × (sees s r x ≡ after_stores sh.base s.stores x (value_of sh ram w h.commits d (Some c) x))
         seen = stored-seen sh p entries ram gs ys views m h c g.tid x u k l g.phase q
@@ -226,13 +226,13 @@ commit-keeps sh p entries ram gs ys views m h c o u k l g f =
 
     at-home : (x : ℕ) → home_of sh x < sh.dirs → ValuesAt sh ram (core_moves w c o) cs (home_of sh x) x
     at-home x dl = record {
-      at_home = λ q. (old d x dl refl).at_home (λ j jl. sym ((each j jl).copies) ∙ q j jl) ∙ sym same;
-      in_copies = λ j jl. subst (λ y. CopiesHave x (tag_of w d x) y (pair (core_moves w c o) j d)) (sym same) ((each j jl).tagged);
+      at_home = λ q. (old d x dl refl).at_home (λ j jl. sym (each j jl).copies ∙ q j jl) ∙ sym same;
+      in_copies = λ j jl. subst (λ y. CopiesHave x (tag_of w d x) y (pair (core_moves w c o) j d)) (sym same) (each j jl).tagged;
       above = λ j t jl i. (each j jl).above t i;
     }
       where
         d : ℕ
-        d = (home_of sh x)
+        d = home_of sh x
 
         same : value_of sh ram w cs d None x ≡ value_of sh ram w h.commits d None x
         same = value-skip sh.base ram new h.commits (w.dirs d) None None x (quiet x (stores_word sh.base s.stores x) refl)
@@ -264,7 +264,7 @@ step-values : (sh : Shape) (p : Program) (entries : ℕ → Local) (ram : ℕ �
 unfolding core_moves core_takes
 step-values sh p entries ram gs ys views m h e u k = node_cases sh p w e (λ x g o. KeepsValues sh ram h o)
     (λ c l. executed c l (core_exec sh p c (w.cores c)) (framing-exec sh p c (w.cores c))
-    (commits-exec sh p c (w.cores c) (b.caches c) ((k.carried.marks_fit_the_phase c).spilled))
+    (commits-exec sh p c (w.cores c) (b.caches c) (k.carried.marks_fit_the_phase c).spilled)
     (words-exec sh p c (w.cores c) (b.caches c)))
     (λ c x y l. evicted c (core_evict sh x y (w.cores c)) (words-evict sh x y (w.cores c) (b.caches c)))
     (λ c n t i. let o = grant sh t (w.cores c) in quietly o.commit (core_takes w Vendor c n o) (grant-stays sh t (w.cores c)).commit
@@ -298,8 +298,8 @@ step-values sh p entries ram gs ys views m h e u k = node_cases sh p w e (λ x g
         → IfSome x (λ o. KeepsValues sh ram h (record { world = core_moves w c o; noted = o.commit }))
     evicted c None a = tt
     evicted c (Some o) a =
-        quietly o.commit (core_moves w c o) (a.0)
-        (alike-keeps sh ram w (core_moves w c o) h.commits refl (moved-alike sh w c o (a.1)) b.values)
+        quietly o.commit (core_moves w c o) a.0
+        (alike-keeps sh ram w (core_moves w c o) h.commits refl (moved-alike sh w c o a.1) b.values)
 
     taken : (c d n : ℕ) (a : Msg) → FromDir w d c n a → (x : Option Out) → IfSome x (CheckpointStays (w.cores c))
         → ((y : ℕ) → IfSome x (WordBack sh y (w.cores c) a))

@@ -14,7 +14,7 @@ use proofs.Copies.TagsKept.{tag-below, applied-owed, TakenCommit, takes-consumes
 use proofs.Copies.WroteLines.{wrote-at}
 use proofs.Counts.Links.{num-same}
 use proofs.Counts.StepCases.{given, OfAnswer}
-use proofs.Marks.DirRecords.{NoCopy, Stays, Records, Still, Came, Settles, Dropped, RecordsBy, CountsMarked}
+use proofs.Marks.DirRecords.{NoCopy, RecordStays, Records, Still, Came, Settles, Dropped, RecordsBy, CountsMarked}
 use proofs.Marks.MaskLaws.{same-commit}
 use proofs.Marks.CoreMarks.{stored-line, stored-cases}
 use proofs.Memory.CoreInMemory.{line-has}
@@ -39,15 +39,15 @@ taken-of sh ram h c d k m b cl dl i q = record {
         noted = n.noted;
         tid = n.tid;
         stored = n.stored;
-        marks = λ l. b.marks.taken n.commit d l (n.noted) dl (sym (n.tid)) counted;
+        marks = λ l. b.marks.taken n.commit d l n.noted dl (sym n.tid) counted;
       };
   core = n.core;
-  only = λ x j o. same-commit h.commits x n.commit (b.rising) j (n.noted) (sym o ∙ sym (n.tid));
+  only = λ x j o. same-commit h.commits x n.commit b.rising j n.noted (sym o ∙ sym n.tid);
   sent = sent;
 }
   where
     u : ℕ
-    u = (tid_at h.world d)
+    u = tid_at h.world d
 
     r : ℕ
     r = count_below (has_mark (h.world.dirs d).lines) (lines sh)
@@ -84,7 +84,7 @@ applied-after : (sh : Shape) (ram : ℕ → ℕ) (h : History) (c d k : ℕ) (m 
 applied-after sh ram h c d k m v s y i t = go (c == y.core.0) refl
   where
     u : ℕ
-    u = (tid_at h.world d)
+    u = tid_at h.world d
 
     before : ℕ
     before = live (Commits y.tid.0) (to_dir h.world y.core.0 d)
@@ -183,7 +183,7 @@ unmarked-values sh ram h c d k x m v s e t r = quiet-keep sh ram h.world v h.com
 
     unstored : (b : Bool) → stores_word sh.base t.settled.commit.stores x ≡ b → b ≡ false
     unstored false q = refl
-    unstored true q = absurd (let i : line_of x < lines sh = (s.known.inside t.settled.commit (t.settled.noted)).stored x q in
+    unstored true q = absurd (let i : line_of x < lines sh = (s.known.inside t.settled.commit t.settled.noted).stored x q in
         let y : names_line sh.base t.settled.commit.stores (line_of x) ≡ has_mark (h.world.dirs d).lines
         (line_of x) = marked-line sh h c d (line_of x) i e t in let z : names_line sh.base t.settled.commit.stores (line_of x)
         ≡ true = line-has (stores_word sh.base t.settled.commit.stores) x q in cc)
@@ -198,8 +198,8 @@ unfolding wrote_mask
 wrote-has sh h c d x t q =
     let at-place : (x : ℕ) → word_at (line_of x) (place_of x) ≡ x = λ x. omega arith in
     has-mask_of (λ k. wrote sh.base h.commits c (tid_at h.world d) (word_at (line_of x) k)) (place_of x) (omega arith)
-    ∙ rw (at-place x, sym (t.core), sym (t.settled.tid))
-    (wrote-at sh.base h.commits t.settled.commit x t.settled.noted.0 q (t.settled.noted.1) (t.settled.noted.2))
+    ∙ rw (at-place x, sym t.core, sym t.settled.tid)
+    (wrote-at sh.base h.commits t.settled.commit x t.settled.noted.0 q t.settled.noted.1 t.settled.noted.2)
 
 -- so that the core's copy has each of them
 stored-copied : (sh : Shape) (ram : ℕ → ℕ) (h : History) (c d x : ℕ) → Known sh ram h → c < sh.cores → d < sh.dirs → home_of sh x ≡ d
@@ -213,7 +213,7 @@ stored-copied sh ram h c d x b cl dl e t i r o q =
     let w : wrote_line sh.base h.commits c u (line_of x) ≡ true = writer-line sh h c d (line_of x) i e t ∙ r in
     let z : copies_with (line_of x) u (pair h.world c d) ≡ live (Commits u) (to_dir h.world c d) = rw w at a.one in
     let n = copy-has sh x u (wrote_mask sh.base h.commits c u (line_of x)) (pair h.world c d) (b.caches c) (wrote-has sh h c d x t q)
-    (a.framed) (a.sent) in
+    a.framed a.sent in
     omega (arith, z, n, t.sent)
 
 full-has : (k : ℕ) → k < 8 → has full k ≡ true
@@ -257,9 +257,8 @@ none-old sh ram h c d j x b jl dl e t i r q = go (b.whole d (line_of x) (unowed 
 cond-zero : (b : Bool) (n : ℕ) → n ≡ 0 → cond b n 0 ≡ 0
 cond-zero a n e = grind nats
 
-marked-values : (sh : Shape) (ram : ℕ → ℕ) (h : History) (c d k x : ℕ) (m : Msg) (v : World) → Settled sh ram h c d k m v
-    → home_of sh x ≡ d → TakenCommit sh h.commits h.world c d → has_mark (h.world.dirs d).lines (line_of x) ≡ true
-    → ValuesAt sh ram v h.commits d x
+marked-values : (sh : Shape) (ram : ℕ → ℕ) (h : History) (c d k x : ℕ) (m : Msg) (v : World) → Settled sh ram h c d k m v → home_of sh x ≡ d
+    → TakenCommit sh h.commits h.world c d → has_mark (h.world.dirs d).lines (line_of x) ≡ true → ValuesAt sh ram v h.commits d x
 unfolding pair
 marked-values sh ram h c d k x m v s e t r = record {
   at_home = λ p. at-home (stores_word sh.base t.settled.commit.stores x) refl (λ j jl. rw tag at (p j jl));
@@ -271,7 +270,7 @@ marked-values sh ram h c d k x m v s e t r = record {
     b = s.known
 
     u : ℕ
-    u = (tid_at h.world d)
+    u = tid_at h.world d
 
     i : line_of x < lines sh
     i = mask-inside sh d (line_of x) t.settled.commit.stores ((h.world.dirs d).lines.mark (line_of x)) (t.settled.marks (line_of x)) r
@@ -279,8 +278,8 @@ marked-values sh ram h c d k x m v s e t r = record {
     old : tag_of h.world d x < u
     old =
         tag-below sh h c d (line_of x) b.stand b.tags s.dir i e
-        (rw (sym (t.settled.tid)) (rising-above 0 h.commits t.settled.commit (b.rising) (t.settled.noted)))
-        (λ y o z. ap (λ n. n.core.0) (t.only y o (sym z)) ∙ t.core) (t.sent)
+        (rw (sym t.settled.tid) (rising-above 0 h.commits t.settled.commit b.rising t.settled.noted))
+        (λ y o z. ap (λ n. n.core.0) (t.only y o (sym z)) ∙ t.core) t.sent
 
     tag : tag_of v d x ≡ u
     tag = s.tags (line_of x) ∙ rw r refl
@@ -289,14 +288,13 @@ marked-values sh ram h c d k x m v s e t r = record {
     new = value_of sh ram v h.commits d None x
 
     same-core : (j : ℕ) → v.cores j ≡ h.world.cores j
-    same-core j = ap (λ f. f j) (s.answers.cores)
+    same-core j = ap (λ f. f j) s.answers.cores
 
     -- a core without a copy of the line
     none : (j y z : ℕ) → j < sh.cores → tag_of h.world d x < y
-        → cond (wrote_line sh.base h.commits j y (line_of x)) (live (Commits y) (to_dir h.world j d)) 0 ≡ 0
-        → CopiesHave x y z (pair v j d)
+        → cond (wrote_line sh.base h.commits j y (line_of x)) (live (Commits y) (to_dir h.world j d)) 0 ≡ 0 → CopiesHave x y z (pair v j d)
     none j y z jl l o = have-still x y z z (pair h.world j d) (pair v j d) (same-core j) (omega (arith, s.answers.net (CopyNot x y z) j d))
-        refl (none-copied sh x y z (pair h.world j d) (b.caches j) ((b.above j d (line_of x) y jl (s.dir) i e l).one ∙ o))
+        refl (none-copied sh x y z (pair h.world j d) (b.caches j) ((b.above j d (line_of x) y jl s.dir i e l).one ∙ o))
 
     above : (j y : ℕ) → j < sh.cores → u < y → CopiesHave x y (value_of sh ram v h.commits d (Some j) x) (pair v j d)
     above j y jl l = none j y (value_of sh ram v h.commits d (Some j) x) jl (omega (arith, old, l))
@@ -306,12 +304,12 @@ marked-values sh ram h c d k x m v s e t r = record {
         later : (0 < live (Commits y) (to_dir h.world j d)) ⊎ (live (Commits y) (to_dir h.world j d) ≤ 0)
             → live (Commits y) (to_dir h.world j d) ≡ 0
         later (inr z) = omega (arith, z)
-        later (inl z) = absurd (let w : u ≡ y = b.served j d y jl (s.dir) (omega (arith, z)) in omega (arith, w, l))
+        later (inl z) = absurd (let w : u ≡ y = b.served j d y jl s.dir (omega (arith, z)) in omega (arith, w, l))
 
     copied : (j : ℕ) → j < sh.cores → (j ≡ c) ⊎ (j ≡ c → ⊥) → CopiesHave x u new (pair v j d)
     copied j jl (inl q) = have-still x u (value_of sh ram h.world h.commits d (Some j) x) new (pair h.world j d) (pair v j d) (same-core j)
         (omega (arith, s.answers.net (CopyNot x u (value_of sh ram h.world h.commits d (Some j) x)) j d))
-        (rw q (value-after sh ram h c d k x m v s e)) ((b.values d x (s.dir) e).above j u jl old)
+        (rw q (value-after sh ram h c d k x m v s e)) ((b.values d x s.dir e).above j u jl old)
     copied j jl (inr q) = none j u new jl old (rw (other-writer sh h c j d (line_of x) q t) refl)
 
     at-home : (y : Bool) → stores_word sh.base t.settled.commit.stores x ≡ y → ((j : ℕ) → j < sh.cores → word_copies x u (pair v j d) ≡ 0)
@@ -325,14 +323,14 @@ marked-values sh ram h c d k x m v s e t r = record {
           unconsumed (c == c && d == d) (passes (CopyWord x u) m)
               (no-word (passes (CopyWord x u) m) refl),
         )) in
-        omega (arith, z, p c (s.core), stored-copied sh ram h c d x b (s.core) (s.dir) e t i r old q))
+        omega (arith, z, p c s.core, stored-copied sh ram h c d x b s.core s.dir e t i r old q))
       where
         no-word : (b : Bool) → passes (CopyWord x u) m ≡ b → b ≡ false
         no-word false q = refl
         no-word true q =
             absurd (let o : num (passes (CopyWord x u) m) ≡ 1 = ap num q in
             let z : num (passes (CopyOf (line_of x) u) m) ≡ 0 = ap num (s.copies (line_of x) u) in omega (arith, o, z, word-line x u m))
-    at-home false q p = s.words x ∙ (b.values d x (s.dir) e).at_home (λ j jl. none-old sh ram h c d j x b jl (s.dir) e t i r q)
+    at-home false q p = s.words x ∙ (b.values d x s.dir e).at_home (λ j jl. none-old sh ram h c d j x b jl s.dir e t i r q)
         ∙ sym (unstored-value sh ram h c d k x m v s e t q None)
 
 pub settled-values : (sh : Shape) (ram : ℕ → ℕ) (h : History) (c d k x : ℕ) (m : Msg) (v : World) → Settled sh ram h c d k m v
@@ -366,7 +364,7 @@ known sh p entries ram gs ys views m h k = record {
   named = k.carried.inv_and_ack_name_a_marked_line;
   spared = λ c d l dl o t. (k.carried.no_inv_to_the_core_that_committed.0 c d).own dl
       (rw t at (k.carried.owner_is_the_core_of_the_tag d l c o));
-  values = values-of sh ram h.world h.commits (k.home_words_are_current) (k.copy_above_the_tag_has_the_committed_words);
+  values = values-of sh ram h.world h.commits k.home_words_are_current k.copy_above_the_tag_has_the_committed_words;
 }
 
 -- a directory's answer
@@ -431,7 +429,8 @@ drops sh ram h c d k m b cl dl i t n = taken sh ram h c d k m (h.world.dirs d) (
     (λ x e a r. dropped-values sh ram h c d k x m (dir_takes h.world c d k (h.world.dirs d) (λ dst. [])) b cl dl e i a r n)
 
 asks : (sh : Shape) (ram : ℕ → ℕ) (h : History) (d : ℕ) (s : DirState) (sends : Sends) → Known sh ram h
-    → CommitsStand sh (dir_asks h.world d s sends) h.commits → ((x : ℕ) → s.words x ≡ (h.world.dirs d).words x) → Stays (h.world.dirs d) s
+    → CommitsStand sh (dir_asks h.world d s sends) h.commits → ((x : ℕ) → s.words x ≡ (h.world.dirs d).words x)
+    → RecordStays (h.world.dirs d) s
     → KeptValues sh ram (dir_asks h.world d s sends) h.commits
 unfolding dir_asks
 asks sh ram h d s sends b t f y e x el q = go (cases_eq e d)
@@ -449,7 +448,7 @@ asks sh ram h d s sends b t f y e x el q = go (cases_eq e d)
       words = ap (λ z. z.words x) (asked r) ∙ f x ∙ rw r refl;
       copies = λ j. refl;
       others = λ j u z. omega arith;
-      value = same-value sh ram h.world v h.commits e x (b.stand) t (b.inside) el q (λ n o z. refl);
+      value = same-value sh ram h.world v h.commits e x b.stand t b.inside el q (λ n o z. refl);
     }) (b.values e x el q)
     go (inr n) = same-values sh ram h.world v h.commits e x refl (away e d s h.world.dirs n) (λ l j. refl) (b.values e x el q)
 

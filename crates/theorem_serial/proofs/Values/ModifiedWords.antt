@@ -37,10 +37,10 @@ stored-served sh p entries ram gs ys views m h c t x u k l y e =
     s = h.world.cores c
 
     d : ℕ
-    d = (home_of sh x)
+    d = home_of sh x
 
     dl : d < sh.dirs
-    dl = home-below sh x (u.dirs)
+    dl = home-below sh x u.dirs
 
     st : Stand sh h ys c t
     st = stand sh p entries ram gs ys views m h c t u k l y
@@ -55,7 +55,7 @@ stored-served sh p entries ram gs ys views m h c t x u k l y e =
 
     serving : tid_at h.world d ≡ t
     serving = k.carried.directory_that_replied_serves_the_tid.serves c d t l dl (opens-may t s.phase (writes_at sh s.cache d) y writes)
-        (k.carried.directory_that_replied_serves_the_tid.replied c d l dl ((may-commits t s.phase y).0))
+        (k.carried.directory_that_replied_serves_the_tid.replied c d l dl (may-commits t s.phase y).0)
 
     none : (0 < (h.world.dirs d).owed) ⊎ ((h.world.dirs d).owed ≤ 0) → (h.world.dirs d).owed ≡ 0
     none (inr q) = omega (arith, q)
@@ -67,7 +67,7 @@ stored-served sh p entries ram gs ys views m h c t x u k l y e =
 pub times-listed : (t : ℕ) (cs : List Noted) (n : Noted) → Contains cs n → n.tid.0 ≡ t → 1 ≤ times t cs
 unfolding times
 times-listed t [] n k e = absurd (omega (arith, k.1))
-times-listed t (x ∷ cs) n k e = go k.0 (k.1) (k.2) (λ j. times-listed t cs n j e)
+times-listed t (x ∷ cs) n k e = go k.0 k.1 k.2 (λ j. times-listed t cs n j e)
   where
     go : (i : ℕ) → i < suc (length cs) → slice_index_or (x ∷ cs) i n ≡ n → (Contains cs n → 1 ≤ times t cs)
         → 1 ≤ num (x.tid.0 == t) + times t cs
@@ -106,22 +106,22 @@ stored-seen sh p entries ram gs ys views m h c t x u k l y e =
     cut : SerialCut sh.base p 0 (before t h.commits) (behind t h.commits) (plain_start entries ram) m
     cut = serial-cut sh.base p 0 (before t h.commits) (behind t h.commits) (plain_start entries ram) m
         (subst (λ q. serial sh.base p 0 (map order_of_commit q) (plain_start entries ram) ≡ Some (m, q)) (cut-joined t h.commits)
-        (k.commits_are_serial))
+        k.commits_are_serial)
 
     small : IsMemory cut.start.ram
     small =
-        rw (cut.first) at (serial-memory sh.base p 0 (map order_of_commit (before t h.commits)) (plain_start entries ram)
-        (fits-aligned p (u.fits)) (u.small))
+        rw cut.first at (serial-memory sh.base p 0 (map order_of_commit (before t h.commits)) (plain_start entries ram)
+        (fits-aligned p u.fits) u.small)
 
     words : (x : ℕ) → cut.start.ram x ≡ all_stores sh.base x (before t h.commits) (ram x)
-    words x = rw (cut.first) at (serial-holds sh.base p 0 (map order_of_commit (before t h.commits)) (plain_start entries ram) x)
+    words x = rw cut.first at (serial-holds sh.base p 0 (map order_of_commit (before t h.commits)) (plain_start entries ram) x)
 
     agrees : Agrees (views c) cut.start.ram
-    agrees = agrees-before sh ram cut.start.ram h.world h.commits c t (views c) (u.dirs) (k.carried.commits_are_of_granted_tids.0) st.fresh
+    agrees = agrees-before sh ram cut.start.ram h.world h.commits c t (views c) u.dirs k.carried.commits_are_of_granted_tids.0 st.fresh
         words
         (λ d. k.carried.owed_counts_invs_and_acks.served c d)
         (uses-reached sh h ys c t true (views c) st
-        (view-stands t (h.world.cores c) (views c) st.may ((k.carried_views.read_marks_are_the_view c).stand)))
+        (view-stands t (h.world.cores c) (views c) st.may (k.carried_views.read_marks_are_the_view c).stand))
         (λ d i. k.viewed_word_is_current_or_doomed c d (Some t) l i (may-bound h.world c d t st.may))
 
     runs : (q : Phase) → May t q → q ≡ Halted → ⊥
@@ -129,7 +129,7 @@ stored-seen sh p entries ram gs ys views m h c t x u k l y e =
     runs q (inr i) j = absurd (let a : Solo t ≡ Halted = sym i ∙ j in cc)
 
     follows : IsSomeAnd (steps sh.base p s.n (begun s.saved cut.start.ram)) (Reaches s cut.start.ram)
-    follows = follows-in sh p s (views c) s.phase (runs s.phase y) ((k.carried_views.attempt_follows_from_its_view c).steps) cut.start.ram
+    follows = follows-in sh p s (views c) s.phase (runs s.phase y) (k.carried_views.attempt_follows_from_its_view c).steps cut.start.ram
         small agrees
 
     smaller : (n : Noted) → Contains h.commits n → n.core.0 ≡ c → n.tid.0 < t
@@ -141,7 +141,7 @@ stored-seen sh p entries ram gs ys views m h c t x u k l y e =
 
     current : cut.start.ram x ≡ value_at sh.base ram h.commits dir (Some c) None x
     current =
-        words x ∙ (sym (value-before sh.base ram h.commits dir (Some c) t x (k.carried.commits_are_of_granted_tids.0) st.fresh
+        words x ∙ (sym (value-before sh.base ram h.commits dir (Some c) t x k.carried.commits_are_of_granted_tids.0 st.fresh
         (omega (arith, served.serving)))
         ∙ value-alike sh.base ram h.commits dir (Some c) (Some t) dir (Some c) None x
         (λ n i. inl (counts-until dir c t n served.serving served.owed (smaller n i))))

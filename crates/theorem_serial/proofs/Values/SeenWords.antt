@@ -9,7 +9,7 @@ use Names.{Pair, is_this, stores_word, after_stores, counts, after_commits, word
 use Names.{nat_le, subst, order_of_commit, lines, seen, World, History, plain_start, copies_with, settled_in_line, Commits, CopyOf, live}
 use Names.{Carried, CarriedInMemory, Grant, pair, SeenFollows, is_settled, is_applied, MarkedCommit, stores_at, value_at, CopiesHave}
 use Names.{HomeWords, CopiesAbove, Ways, Committed, names_line, wrote_line, nats, home_of, to_dir}
-use proofs.Copies.DirtyFrames.{some-dirty, tag-of}
+use proofs.Copies.CopySends.{some-dirty, tag-of}
 use proofs.Counts.Links.{live-fewer}
 use proofs.Memory.CoreInMemory.{accesses_at_homes, line-has}
 use proofs.Order.SerialParts.{Each, all_stores, home-below, each-listed, serial-holds}
@@ -27,8 +27,8 @@ pub after-all : (base : ℕ) (s : DirState) (c b : Option ℕ) (x : ℕ) (ns : L
     → after_commits base s c b x ns y ≡ all_stores base x ns y
 unfolding after_commits all_stores Each
 after-all base s c b x [] y h = refl
-after-all base s c b x (n ∷ ns) y h = ap (after_commits base s c b x ns) (one (h.0))
-    ∙ after-all base s c b x ns (after_stores base n.stores x y) (h.1)
+after-all base s c b x (n ∷ ns) y h = ap (after_commits base s c b x ns) (one h.0)
+    ∙ after-all base s c b x ns (after_stores base n.stores x y) h.1
   where
     silent : stores_word base n.stores x ≡ false → (k : Bool)
         → (if k then after_stores base n.stores x y else y) ≡ after_stores base n.stores x y
@@ -46,13 +46,13 @@ unfolding IsRising
 above-first last [] n r k l e = absurd (omega (arith, l))
 above-first last (m ∷ ns) n r zero l e = let i : m ≡ n = e in let j : last < m.tid.0 = r.0 in rw i at j
 above-first last (m ∷ ns) n r (suc k) l e = let i : last < m.tid.0 = r.0 in let j : m.tid.0 < n.tid.0 =
-    above-first m.tid.0 ns n (r.1) k (omega (arith, l)) e in omega (arith, i, j)
+    above-first m.tid.0 ns n r.1 k (omega (arith, l)) e in omega (arith, i, j)
 
 -- a TID has one commit
 pub one-commit : (last : ℕ) (ns : List Noted) (a b : Noted) → IsRising last ns → Contains ns a → Contains ns b → a.tid.0 ≡ b.tid.0 → a ≡ b
 unfolding IsRising
 one-commit last [] a b r i j e = absurd (omega (arith, i.1))
-one-commit last (m ∷ ns) a b r i j e = go (i.0) (i.1) (i.2) (j.0) (j.1) (j.2) (λ k l. one-commit m.tid.0 ns a b (r.1) k l e)
+one-commit last (m ∷ ns) a b r i j e = go i.0 i.1 i.2 j.0 j.1 j.2 (λ k l. one-commit m.tid.0 ns a b r.1 k l e)
   where
     go : (k : ℕ) → k < suc (length ns) → slice_index_or (m ∷ ns) k a ≡ a → (n : ℕ) → n < suc (length ns) → slice_index_or (m ∷ ns) n b ≡ b
         → (Contains ns a → Contains ns b → a ≡ b) → a ≡ b
@@ -62,7 +62,7 @@ one-commit last (m ∷ ns) a b r i j e = go (i.0) (i.1) (i.2) (j.0) (j.1) (j.2) 
 pub last-under : (p : Noted → Bool) (t : ℕ) (ns : List Noted) → 1 ≤ t → Each (λ n. p n ≡ true → n.tid.0 < t) ns → last_of p ns < t
 unfolding last_of Each
 last-under p t [] l h = l
-last-under p t (n ∷ ns) l h = go (p n) (h.0) (last-under p t ns l (h.1))
+last-under p t (n ∷ ns) l h = go (p n) h.0 (last-under p t ns l h.1)
   where
     go : (b : Bool) → (b ≡ true → n.tid.0 < t) → last_of p ns < t → max (cond b n.tid.0 0) (last_of p ns) < t
     go a f i = grind nats
@@ -72,7 +72,7 @@ pub wrote-word : (base : ℕ) (ns : List Noted) (n : Noted) (x : ℕ) → Contai
     → wrote base ns n.core.0 n.tid.0 x ≡ true
 unfolding wrote
 wrote-word base [] n x i s = absurd (omega (arith, i.1))
-wrote-word base (m ∷ ns) n x i s = go (i.0) (i.1) (i.2) (λ k. wrote-word base ns n x k s)
+wrote-word base (m ∷ ns) n x i s = go i.0 i.1 i.2 (λ k. wrote-word base ns n x k s)
   where
     c : (n.core.0 == n.core.0) ≡ true
     c = grind nats
@@ -96,7 +96,7 @@ pub wrote-none : (base : ℕ) (ns : List Noted) (c t x : ℕ) → Each (λ n. n.
     → wrote base ns c t x ≡ false
 unfolding wrote Each
 wrote-none base [] c t x h = refl
-wrote-none base (n ∷ ns) c t x h = rw (wrote-none base ns c t x (h.1)) (go (n.core.0 == c) (n.tid.0 == t) refl)
+wrote-none base (n ∷ ns) c t x h = rw (wrote-none base ns c t x h.1) (go (n.core.0 == c) (n.tid.0 == t) refl)
   where
     go : (a b : Bool) → (n.tid.0 == t) ≡ b → ((a && (b && stores_word base n.stores x)) || false) ≡ false
     go a b q = grind nats
@@ -188,14 +188,14 @@ applied-or-flying sh ram gs ys ends h x n k i s =
     go (search (λ c. live (Commits n.tid.0) (to_dir h.world c (home_of sh x))) sh.cores)
   where
     d : ℕ
-    d = (home_of sh x)
+    d = home_of sh x
 
     stored : stores_at sh d n.stores ≡ true
     stored = (accesses_at_homes sh n.loads n.stores (k.inside.commits_stay_in_memory n i)).stored x s
 
     positive : 1 ≤ n.tid.0
-    positive = numbered-least 1 gs (record { tid = n.tid.0; core = n.core.0 }) (k.carried.granted_tids_are_those_below_next.0)
-        (granted-at gs h.commits n (k.carried.commits_are_of_granted_tids.1) i)
+    positive = numbered-least 1 gs (record { tid = n.tid.0; core = n.core.0 }) k.carried.granted_tids_are_those_below_next.0
+        (granted-at gs h.commits n k.carried.commits_are_of_granted_tids.1 i)
 
     committed : ys d n.tid.0 ≡ Committed
     committed = k.carried.committed_tid_is_given_up_where_it_stored_nothing.stored n d i (home-below sh x k.dirs) ∙ rw stored refl
@@ -257,8 +257,7 @@ outside-word sh ram gs ys ends h x k out =
 -- a copy above the line's tag is of the served TID
 above-none : (sh : Shape) (ram : ℕ → ℕ) (gs : List Grant) (ys : Ways) (ends : ℕ → ℕ) (h : History) (x c g : ℕ) → Known sh ram gs ys ends h
     → line_of x < lines sh → c < sh.cores → (at sh h.world x).lines.tag (line_of x) < g
-    → live (Commits g) (to_dir h.world c (home_of sh x)) ≡ 0
-    → copies_with (line_of x) g (pair h.world c (home_of sh x)) ≡ 0
+    → live (Commits g) (to_dir h.world c (home_of sh x)) ≡ 0 → copies_with (line_of x) g (pair h.world c (home_of sh x)) ≡ 0
 unfolding pair
 above-none sh ram gs ys ends h x c g k i l t z = grind nats
 
@@ -306,17 +305,17 @@ record Coming (sh : Shape) (h : History) (x c : ℕ) (n : Noted) : Type 0 where
 only-coming : (sh : Shape) (ram : ℕ → ℕ) (gs : List Grant) (ys : Ways) (ends : ℕ → ℕ) (h : History) (x c e : ℕ) (n m : Noted)
     → Known sh ram gs ys ends h → Coming sh h x c n → Contains h.commits m → e < sh.cores
     → 1 ≤ live (Commits m.tid.0) (to_dir h.world e (home_of sh x)) → m ≡ n
-only-coming sh ram gs ys ends h x c e n m k f i l s = one-commit 0 h.commits m n (k.carried.commits_are_of_granted_tids.0) i (f.listed)
-    (sym (k.carried.committing_tid_is_served e (home_of sh x) m.tid.0 l (home-below sh x k.dirs) s) ∙ sym (f.tid))
+only-coming sh ram gs ys ends h x c e n m k f i l s = one-commit 0 h.commits m n k.carried.commits_are_of_granted_tids.0 i f.listed
+    (sym (k.carried.committing_tid_is_served e (home_of sh x) m.tid.0 l (home-below sh x k.dirs) s) ∙ sym f.tid)
 
 coming-core : (sh : Shape) (ram : ℕ → ℕ) (gs : List Grant) (ys : Ways) (ends : ℕ → ℕ) (h : History) (x c e : ℕ) (n : Noted)
     → Known sh ram gs ys ends h → Coming sh h x c n
     → 1 ≤ live (Commits (at sh h.world x).serving.serving) (to_dir h.world e (home_of sh x)) → e ≡ c
 unfolding pair
 coming-core sh ram gs ys ends h x c e n k f s =
-    granted-once 1 gs (at sh h.world x).serving.serving e c (k.carried.granted_tids_are_those_below_next.0)
+    granted-once 1 gs (at sh h.world x).serving.serving e c k.carried.granted_tids_are_those_below_next.0
     ((k.carried.no_inv_to_the_core_that_committed.0 e (home_of sh x)).owner (at sh h.world x).serving.serving s)
-    ((k.carried.no_inv_to_the_core_that_committed.0 c (home_of sh x)).owner (at sh h.world x).serving.serving (f.sent))
+    ((k.carried.no_inv_to_the_core_that_committed.0 c (home_of sh x)).owner (at sh h.world x).serving.serving f.sent)
 
 -- it didn't store the word
 other-word : (sh : Shape) (ram : ℕ → ℕ) (gs : List Grant) (ys : Ways) (ends : ℕ → ℕ) (h : History) (x c : ℕ) (n : Noted)
@@ -332,11 +331,10 @@ other-word sh ram gs ys ends h x c n k i f s =
     applied m j t (inl e) = e
     applied m j t (inr y) =
         absurd (let o : stores_word sh.base m.stores x ≡ false = ap (λ z. stores_word sh.base z.stores x)
-        (only-coming sh ram gs ys ends h x c (y.0) n m k f j (y.1) (y.2)) ∙ s in cc)
+        (only-coming sh ram gs ys ends h x c y.0 n m k f j y.1 y.2) ∙ s in cc)
 
     none : (e g : ℕ) → e < sh.cores → (at sh h.world x).lines.tag (line_of x) < g → (b : Bool)
-        → nat_le 1 (live (Commits g) (to_dir h.world e (home_of sh x))) ≡ b
-        → word_copies x g (pair h.world e (home_of sh x)) ≡ 0
+        → nat_le 1 (live (Commits g) (to_dir h.world e (home_of sh x))) ≡ b → word_copies x g (pair h.world e (home_of sh x)) ≡ 0
     none e g l t false q = let y = few-copies sh x g (pair h.world e (home_of sh x)) (k.carried.frames_stand_in_their_sets e) in
         let z : live (Commits g) (to_dir h.world e (home_of sh x)) ≡ 0 = grind nats in
         omega (arith, y, above-none sh ram gs ys ends h x e g k i l t z)
@@ -349,7 +347,7 @@ other-word sh ram gs ys ends h x c n k i f s =
         (home-below sh x k.dirs) i refl t)
         (wrote-none sh.base h.commits e g x (each-listed (λ m. m.tid.0 ≡ g → stores_word sh.base m.stores x ≡ false) h.commits
         (λ m j u. ap (λ z. stores_word sh.base z.stores x)
-        (one-commit 0 h.commits m n (k.carried.commits_are_of_granted_tids.0) j (f.listed) (u ∙ (sym y ∙ sym (f.tid))))
+        (one-commit 0 h.commits m n k.carried.commits_are_of_granted_tids.0 j f.listed (u ∙ (sym y ∙ sym f.tid)))
         ∙ s)))
 
 -- it stored the word: its TID is the greatest
@@ -366,19 +364,19 @@ coming-below sh ram gs ys ends h x c n k i f =
   where
     positive : 1 ≤ (at sh h.world x).serving.serving
     positive = numbered-least 1 gs (record { tid = (at sh h.world x).serving.serving; core = c })
-        (k.carried.granted_tids_are_those_below_next.0)
-        ((k.carried.no_inv_to_the_core_that_committed.0 c (home_of sh x)).owner (at sh h.world x).serving.serving (f.sent))
+        k.carried.granted_tids_are_those_below_next.0
+        ((k.carried.no_inv_to_the_core_that_committed.0 c (home_of sh x)).owner (at sh h.world x).serving.serving f.sent)
 
     stands : (m : Noted) → Contains h.commits m → names_line sh.base m.stores (line_of x) ≡ true
         → live (Commits m.tid.0) (to_dir h.world m.core.0 (home_of sh x)) + num (is_applied (at sh h.world x) m.tid.0) ≡ 1
     stands m j e = k.carried.commit_is_on_its_way_or_applied m (home_of sh x) j (home-below sh x k.dirs)
-        (((accesses_at_homes sh m.loads m.stores (k.inside.commits_stay_in_memory m j)).in_line (line_of x) e).1)
+        ((accesses_at_homes sh m.loads m.stores (k.inside.commits_stay_in_memory m j)).in_line (line_of x) e).1
 
     -- the served one isn't settled
     served : (m : Noted) → Contains h.commits m → m.tid.0 ≡ (at sh h.world x).serving.serving
         → live (Commits m.tid.0) (to_dir h.world m.core.0 (home_of sh x)) ≡ 0 → ⊥
     served m j e z =
-        let o : m ≡ n = one-commit 0 h.commits m n (k.carried.commits_are_of_granted_tids.0) j (f.listed) (e ∙ sym (f.tid)) in
+        let o : m ≡ n = one-commit 0 h.commits m n k.carried.commits_are_of_granted_tids.0 j f.listed (e ∙ sym f.tid) in
         let q : m.core.0 ≡ c = ap (λ y. y.core.0) o ∙ f.core in
         let y : live (Commits (at sh h.world x).serving.serving) (to_dir h.world c (home_of sh x)) ≡ 0 =
         subst (λ t. live (Commits t) (to_dir h.world c (home_of sh x)) ≡ 0) e
@@ -429,14 +427,13 @@ stored-word sh ram gs ys ends h x c n k i f s = record {
     below = coming-below sh ram gs ys ends h x c n k i f
 
     later : (e g : ℕ) → e < sh.cores → (at sh h.world x).serving.serving < g → (b : Bool)
-        → nat_le 1 (live (Commits g) (to_dir h.world e (home_of sh x))) ≡ b
-        → live (Commits g) (to_dir h.world e (home_of sh x)) ≡ 0
+        → nat_le 1 (live (Commits g) (to_dir h.world e (home_of sh x))) ≡ b → live (Commits g) (to_dir h.world e (home_of sh x)) ≡ 0
     later e g l u a q = grind nats
 
     counted : (m : Noted) → Contains h.commits m → (is_applied (at sh h.world x) m.tid.0 ≡ true) ⊎ Flying sh h.world x m.tid.0
         → (is_this (Some c) m.core.0 || is_applied (at sh h.world x) m.tid.0) ≡ true
     counted m j (inl e) = rw e ((elim (is_this (Some c) m.core.0) as (λ b. (b || true) ≡ true) [ true ↦ refl | false ↦ refl ]))
-    counted m j (inr y) = let o : m.core.0 ≡ c = ap (λ z. z.core.0) (only-coming sh ram gs ys ends h x c (y.0) n m k f j (y.1) (y.2))
+    counted m j (inr y) = let o : m.core.0 ≡ c = ap (λ z. z.core.0) (only-coming sh ram gs ys ends h x c y.0 n m k f j y.1 y.2)
         ∙ f.core in let q : (c == m.core.0) ≡ true = grind nats in rw q refl
 
     value : value_at sh.base ram h.commits (at sh h.world x) (Some c) None x ≡ ends x
@@ -456,8 +453,8 @@ stored-word sh ram gs ys ends h x c n k i f s = record {
 
     written : wrote sh.base h.commits c (at sh h.world x).serving.serving x ≡ true
     written =
-        subst (λ j. wrote sh.base h.commits c j x ≡ true) (f.tid)
-        (subst (λ j. wrote sh.base h.commits j n.tid.0 x ≡ true) (f.core) (wrote-word sh.base h.commits n x (f.listed) s))
+        subst (λ j. wrote sh.base h.commits c j x ≡ true) f.tid
+        (subst (λ j. wrote sh.base h.commits j n.tid.0 x ≡ true) f.core (wrote-word sh.base h.commits n x f.listed s))
 
     kept : AboveOf sh.base h.commits c (line_of x) (at sh h.world x).serving.serving (pair h.world c (home_of sh x))
     kept = k.carried.copy_above_the_tag_is_of_a_commit_in_flight c (home_of sh x) (line_of x)
@@ -477,7 +474,7 @@ stored-word sh ram gs ys ends h x c n k i f s = record {
       one,
       copy-has sh x (at sh h.world x).serving.serving (wrote_mask sh.base h.commits c (at sh h.world x).serving.serving (line_of x))
           (pair h.world c (home_of sh x)) (k.carried.frames_stand_in_their_sets c)
-          (mask-wrote sh.base h.commits c (at sh h.world x).serving.serving x ∙ written) (kept.framed) (kept.sent),
+          (mask-wrote sh.base h.commits c (at sh h.world x).serving.serving x ∙ written) kept.framed kept.sent,
     )
 
 -- any word
@@ -499,21 +496,20 @@ word-seen sh ram gs ys ends h x k = go (nat_lt (line_of x) (lines sh)) refl
         → seen sh h.world x ≡ ends x
     flying i (inr z) = seen-greatest sh h.world x ((at sh h.world x).lines.tag (line_of x)) (ends x)
         (quiet-word sh ram gs ys ends h x k i z)
-    flying i (inl f) = word (k.carried.marks_sent_are_the_lines_stored.2 (f.0) (home_of sh x) (at sh h.world x).serving.serving).sent
+    flying i (inl f) = word (k.carried.marks_sent_are_the_lines_stored.2 f.0 (home_of sh x) (at sh h.world x).serving.serving).sent
       where
-        by : (m : MarkedCommit sh h.commits (f.0) (home_of sh x) (at sh h.world x).serving.serving
-            (pair h.world (f.0) (home_of sh x))) → (b : Bool) → stores_word sh.base m.commit.stores x ≡ b
-            → seen sh h.world x ≡ ends x
+        by : (m : MarkedCommit sh h.commits f.0 (home_of sh x) (at sh h.world x).serving.serving (pair h.world f.0 (home_of sh x)))
+            → (b : Bool) → stores_word sh.base m.commit.stores x ≡ b → seen sh h.world x ≡ ends x
         by m true s = seen-greatest sh h.world x (at sh h.world x).serving.serving (ends x)
-            (stored-word sh ram gs ys ends h x (f.0) m.commit k i (coming sh h x (f.0) (f.1) (f.2) m) s)
+            (stored-word sh ram gs ys ends h x f.0 m.commit k i (coming sh h x f.0 f.1 f.2 m) s)
         by m false s = seen-greatest sh h.world x ((at sh h.world x).lines.tag (line_of x)) (ends x)
-            (other-word sh ram gs ys ends h x (f.0) m.commit k i (coming sh h x (f.0) (f.1) (f.2) m) s)
+            (other-word sh ram gs ys ends h x f.0 m.commit k i (coming sh h x f.0 f.1 f.2 m) s)
 
         word : (f.0 < sh.cores → home_of sh x < sh.dirs
-            → 1 ≤ live (Commits (at sh h.world x).serving.serving) (to_dir h.world (f.0) (home_of sh x))
-            → MarkedCommit sh h.commits (f.0) (home_of sh x) (at sh h.world x).serving.serving
-            (pair h.world (f.0) (home_of sh x))) → seen sh h.world x ≡ ends x
-        word g = let m = g (f.1) (home-below sh x k.dirs) (f.2) in by m (stores_word sh.base m.commit.stores x) refl
+            → 1 ≤ live (Commits (at sh h.world x).serving.serving) (to_dir h.world f.0 (home_of sh x))
+            → MarkedCommit sh h.commits f.0 (home_of sh x) (at sh h.world x).serving.serving
+            (pair h.world f.0 (home_of sh x))) → seen sh h.world x ≡ ends x
+        word g = let m = g f.1 (home-below sh x k.dirs) f.2 in by m (stores_word sh.base m.commit.stores x) refl
 
     go : (b : Bool) → nat_lt (line_of x) (lines sh) ≡ b → seen sh h.world x ≡ ends x
     go true q =

@@ -87,7 +87,7 @@ value-skip base ram n cs s c b x h = after-skip base s c b x n cs (ram x) h
 pub rising-above : (last : ℕ) (cs : List Noted) (n : Noted) → IsRising last cs → Contains cs n → last < n.tid.0
 unfolding IsRising
 rising-above last [] n r k = absurd (omega (arith, k.1))
-rising-above last (m ∷ cs) n r k = go k.0 (k.1) (k.2) (λ j. rising-above m.tid.0 cs n (r.1) j)
+rising-above last (m ∷ cs) n r k = go k.0 k.1 k.2 (λ j. rising-above m.tid.0 cs n r.1 j)
   where
     go : (i : ℕ) → i < suc (length cs) → slice_index_or (m ∷ cs) i n ≡ n → (Contains cs n → m.tid.0 < n.tid.0) → last < n.tid.0
     go a l e f = grind nats
@@ -99,14 +99,14 @@ unfolding after_commits insert_commit IsRising
 after-insert base s c b x last n [] y r h = refl
 after-insert base s c b x last n (m ∷ cs) y r h =
     go (nat_lt n.tid.0 m.tid.0) refl
-    (after-insert base s c b x m.tid.0 n cs (with_commit base s c b x m y) (r.1) (λ k i l. h k (later-held m k cs i) l))
+    (after-insert base s c b x m.tid.0 n cs (with_commit base s c b x m y) r.1 (λ k i l. h k (later-held m k cs i) l))
   where
     above : n.tid.0 < m.tid.0 → (k : Noted) → Contains (m ∷ cs) k → IsSilent base s c b x k
-    above l k i = h k i (go i.0 (i.1) (i.2))
+    above l k i = h k i (go i.0 i.1 i.2)
       where
         go : (j : ℕ) → j < suc (length cs) → slice_index_or (m ∷ cs) j k ≡ k → n.tid.0 < k.tid.0
         go zero p e = let q : m.tid.0 ≡ k.tid.0 = ap (λ z. z.tid.0) e in omega (arith, q, l)
-        go (suc j) p e = omega (arith, l, rising-above m.tid.0 cs k (r.1) (j, omega (arith, p), e))
+        go (suc j) p e = omega (arith, l, rising-above m.tid.0 cs k r.1 (j, omega (arith, p), e))
 
     go : (k : Bool) → nat_lt n.tid.0 m.tid.0 ≡ k → after_commits base s c b x (insert_commit n cs) (with_commit base s c b x m y)
         ≡ with_commit base s c b x n (after_commits base s c b x cs (with_commit base s c b x m y))
@@ -138,7 +138,7 @@ tagged t (b ∷ bs) = num (b.tag == t) + tagged t bs
 top-append : (t y : ℕ) (xs bs : List Copy) → Top t y xs → Top t y bs → Top t y (xs ++ bs)
 unfolding Top
 top-append t y [] bs h k = k
-top-append t y (a ∷ xs) bs h k = (h.0, h.1, top-append t y xs bs (h.2) k)
+top-append t y (a ∷ xs) bs h k = (h.0, h.1, top-append t y xs bs h.2 k)
 
 tagged-append : (t : ℕ) (xs bs : List Copy) → tagged t (xs ++ bs) ≡ tagged t xs + tagged t bs
 unfolding tagged
@@ -150,7 +150,7 @@ newest-top : (t y : ℕ) (a : Copy) (bs : List Copy) → Top t y bs → a.tag �
 unfolding newest Top tagged
 newest-top t y a [] h l (inl e) = e.1
 newest-top t y a [] h l (inr e) = absurd (omega (arith, e))
-newest-top t y a (b ∷ bs) h l e = go (b.tag == t) refl (nat_le a.tag b.tag) refl (λ c. newest-top t y c bs (h.2))
+newest-top t y a (b ∷ bs) h l e = go (b.tag == t) refl (nat_le a.tag b.tag) refl (λ c. newest-top t y c bs h.2)
   where
     below : b.tag ≤ t
     below = h.0
@@ -204,7 +204,7 @@ on-link x t y (None ∷ l) f z = on-link x t y l f z
 on-link x t y (Some m ∷ l) f z =
     let a = on-way x t y m (λ g i. omega (arith, f g i)) (omega (arith, z)) in
     let b = on-link x t y l (λ g i. omega (arith, f g i)) (omega (arith, z)) in
-    (top-append t y (copy_of x m) (copies_on x l) (a.0) (b.0), omega (arith, tagged-append t (copy_of x m) (copies_on x l), a.1, b.1))
+    (top-append t y (copy_of x m) (copies_on x l) a.0 b.0, omega (arith, tagged-append t (copy_of x m) (copies_on x l), a.1, b.1))
 
 in-frame : (t y : ℕ) (value dirty : Option ℕ) → ((g : ℕ) → t < g → num (is_this dirty g) ≡ 0) → (dirty ≡ Some t → value ≡ Some y)
     → Top t y (copy_in value dirty) × (tagged t (copy_in value dirty) ≡ num (is_this dirty t))
@@ -224,10 +224,10 @@ core-copies : (sh : Shape) (w : World) (x t y c : ℕ) → ((g : ℕ) → t < g 
     → Top t y (copies_of sh w x c) × (tagged t (copies_of sh w x c) ≡ word_copies x t (pair w c (home_of sh x)))
 unfolding copies_of word_copies pair
 core-copies sh w x t y c f h =
-    let a = in-frame t y ((w.cores c).cache.value x) ((w.cores c).cache.dirty x) (λ g i. omega (arith, f g i)) (h.framed) in
-    let b = on-link x t y (to_dir w c (home_of sh x)) (λ g i. omega (arith, f g i)) (h.sent) in (
+    let a = in-frame t y ((w.cores c).cache.value x) ((w.cores c).cache.dirty x) (λ g i. omega (arith, f g i)) h.framed in
+    let b = on-link x t y (to_dir w c (home_of sh x)) (λ g i. omega (arith, f g i)) h.sent in (
       top-append t y (copy_in ((w.cores c).cache.value x) ((w.cores c).cache.dirty x))
-          (copies_on x (to_dir w c (home_of sh x))) (a.0) (b.0),
+          (copies_on x (to_dir w c (home_of sh x))) a.0 b.0,
       omega (
         arith,
         tagged-append t (copy_in ((w.cores c).cache.value x) ((w.cores c).cache.dirty x))

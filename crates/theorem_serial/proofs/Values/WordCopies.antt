@@ -8,7 +8,7 @@ use Names.{line_of, place_of, word_at, has, hit, Msg, WriteBack, Flush, Shape, C
 use Names.{Link, copies_with, CopyOf, CopyMask, CopyWord, CopyNot, live, among, passes, Pair, is_this, word_copies, CopiesHave, ◌⊎◌, cond}
 use Names.{unwrap_or, get_or, if◌then◌else◌, inl, inr, cases_eq, eight, Dir, home, dirty_words, dirty_copy, CoreState, Out, to, flush_of}
 use Names.{flush_line, write_back_line, nats, home_of}
-use proofs.Copies.DirtyFrames.{some-dirty, tag-of}
+use proofs.Copies.CopySends.{some-dirty, tag-of}
 use proofs.Counts.Links.{live-fewer, among-fewer}
 
 -- The copies of a word: no more than those of its line, and all of them where the copies have the word in their mask.
@@ -239,8 +239,7 @@ pub flushed-words : (sh : Shape) (k x : ℕ) (c : Cache) → IsCache sh c → Wo
 unfolding flush_line
 flushed-words sh k x c h = at-home sh k x c (flush_of (dirty_copy c k)) (flush-leaves sh k x c h)
 
-pub back-home-words : (sh : Shape) (k x : ℕ) (c : Cache) → IsCache sh c →
-    WordLeaves k x c (write_back_line sh c k (Dir (home_of sh x)))
+pub back-home-words : (sh : Shape) (k x : ℕ) (c : Cache) → IsCache sh c → WordLeaves k x c (write_back_line sh c k (Dir (home_of sh x)))
 unfolding write_back_line
 back-home-words sh k x c h = at-home sh k x c (write_back_of (dirty_copy c k)) (back-leaves sh k x c h)
 

@@ -65,13 +65,13 @@ pub stands-keep : (sh : Shape) (ram : ℕ → ℕ) (w v : World) (cs : List Note
     → ValuesAt sh ram v cs d x
 unfolding pair
 stands-keep sh ram w v cs d x s h = record {
-  at_home = λ p. s.home (λ c cl. rw (s.tag) at (p c cl)) ∙ sym (s.value None);
+  at_home = λ p. s.home (λ c cl. rw s.tag at (p c cl)) ∙ sym (s.value None);
   in_copies =
-      λ c cl. rw (s.tag) (have-still x (tag_of w d x) (value_of sh ram w cs d None x) (value_of sh ram v cs d None x) (pair w c d)
-      (pair v c d) (ap (λ f. f c) (s.cores)) (s.others c (tag_of w d x) (value_of sh ram w cs d None x)) (s.value None)
+      λ c cl. rw s.tag (have-still x (tag_of w d x) (value_of sh ram w cs d None x) (value_of sh ram v cs d None x) (pair w c d)
+      (pair v c d) (ap (λ f. f c) s.cores) (s.others c (tag_of w d x) (value_of sh ram w cs d None x)) (s.value None)
       (h.in_copies c cl));
   above = λ c t cl i. have-still x t (value_of sh ram w cs d (Some c) x) (value_of sh ram v cs d (Some c) x) (pair w c d) (pair v c d)
-      (ap (λ f. f c) (s.cores)) (s.others c t (value_of sh ram w cs d (Some c) x)) (s.value (Some c)) (h.above c t cl (rw (s.tag) at i));
+      (ap (λ f. f c) s.cores) (s.others c t (value_of sh ram w cs d (Some c) x)) (s.value (Some c)) (h.above c t cl (rw s.tag at i));
 }
 
 -- the same where no copy with the line's tag is consumed
@@ -97,14 +97,13 @@ quiet-keep sh ram w v cs d x q h = stands-keep sh ram w v cs d x (record {
   tag = q.tag;
   others = q.others;
   value = q.value;
-  home = λ p. q.words ∙ h.at_home (λ c cl. same-copies x (tag_of w d x) (pair w c d) (pair v c d) (ap (λ f. f c) (q.cores)) (q.copies c)
+  home = λ p. q.words ∙ h.at_home (λ c cl. same-copies x (tag_of w d x) (pair w c d) (pair v c d) (ap (λ f. f c) q.cores) (q.copies c)
       ∙ p c cl);
 }) h
 
 -- the same where neither the directory nor what was sent to it is different
 pub same-values : (sh : Shape) (ram : ℕ → ℕ) (w v : World) (cs : List Noted) (d x : ℕ) → v.cores ≡ w.cores → v.dirs d ≡ w.dirs d
-    → ((k : Kind) (c : ℕ) → live k (to_dir v c d) ≡ live k (to_dir w c d)) → ValuesAt sh ram w cs d x
-    → ValuesAt sh ram v cs d x
+    → ((k : Kind) (c : ℕ) → live k (to_dir v c d) ≡ live k (to_dir w c d)) → ValuesAt sh ram w cs d x → ValuesAt sh ram v cs d x
 same-values sh ram w v cs d x e f g h = quiet-keep sh ram w v cs d x (record {
   cores = e;
   tag = ap (λ s. s.lines.tag (line_of x)) f;
@@ -202,13 +201,13 @@ taken-values sh ram h c d k x m v b cl dl e i a n t (Left w f) = quiet-keep sh r
         unconsumed (j == c && d == d) (passes (CopyWord x (tag_of h.world d x)) m) (f (tag_of h.world d x)),
       );
   others = λ j u y. omega (arith, a.net (CopyNot x u y) j d);
-  value = same-value sh ram h.world v h.commits d x (b.stand) (a.stand) (b.inside) dl e (quiet-commits sh h c d x m v a n);
+  value = same-value sh ram h.world v h.commits d x b.stand a.stand b.inside dl e (quiet-commits sh h c d x m v a n);
 }) (b.values d x dl e)
 taken-values sh ram h c d k x m v b cl dl e i a n t (Home f g) = stands-keep sh ram h.world v h.commits d x (record {
   cores = a.cores;
   tag = t;
   others = λ j u y. omega (arith, a.net (CopyNot x u y) j d);
-  value = same-value sh ram h.world v h.commits d x (b.stand) (a.stand) (b.inside) dl e (quiet-commits sh h c d x m v a n);
+  value = same-value sh ram h.world v h.commits d x b.stand a.stand b.inside dl e (quiet-commits sh h c d x m v a n);
   home = λ p. came ((v.dirs d).words x == y) refl;
 }) (b.values d x dl e)
   where
@@ -244,7 +243,7 @@ dropped-values sh ram h c d k x m v b cl dl e i a f n = quiet-keep sh ram h.worl
             (old (passes (CopyWord x g) m) refl),
       );
   others = λ j u y. omega (arith, a.net (CopyNot x u y) j d);
-  value = same-value sh ram h.world v h.commits d x (b.stand) (a.stand) (b.inside) dl e (quiet-commits sh h c d x m v a n.commit);
+  value = same-value sh ram h.world v h.commits d x b.stand a.stand b.inside dl e (quiet-commits sh h c d x m v a n.commit);
 }) (b.values d x dl e)
   where
     l : ℕ
@@ -270,5 +269,5 @@ dropped-values sh ram h c d k x m v b cl dl e i a f n = quiet-keep sh ram h.worl
 -- at another directory
 pub away-values : (sh : Shape) (ram : ℕ → ℕ) (h : History) (c d e x : ℕ) (m : Msg) (v : World) → Known sh ram h → (e ≡ d → ⊥) → e < sh.dirs
     → home_of sh x ≡ e → Answers sh h c d m v → v.dirs e ≡ h.world.dirs e → ValuesAt sh ram v h.commits e x
-away-values sh ram h c d e x m v b n el q a f = same-values sh ram h.world v h.commits e x (a.cores) f
+away-values sh ram h c d e x m v b n el q a f = same-values sh ram h.world v h.commits e x a.cores f
     (λ k j. omega (arith, a.net k j e, elsewhere (j == c) (e == d) (passes k m) (grind nats))) (b.values e x el q)

@@ -30,7 +30,7 @@ still-alike sh w c d x cl dl e = record { copies = refl; have = λ t y h. h }
 pub alike-keeps : (sh : Shape) (ram : ℕ → ℕ) (w v : World) (cs : List Noted) → v.dirs ≡ w.dirs → AllPairs (AlikeAt sh w) v
     → KeptValues sh ram w cs → KeptValues sh ram v cs
 alike-keeps sh ram w v cs f a k d x dl e = record {
-  at_home = λ p. ap (λ z. (z d).words x) f ∙ (k d x dl e).at_home (λ c cl. sym ((a c d x cl dl e).copies) ∙ rw tag at (p c cl))
+  at_home = λ p. ap (λ z. (z d).words x) f ∙ (k d x dl e).at_home (λ c cl. sym (a c d x cl dl e).copies ∙ rw tag at (p c cl))
       ∙ sym (value None);
   in_copies = λ c cl. subst (λ y. CopiesHave x (tag_of v d x) y (pair v c d)) (sym (value None))
       (rw tag ((a c d x cl dl e).have (tag_of w d x) (value_of sh ram w cs d None x) ((k d x dl e).in_copies c cl)));
@@ -64,9 +64,9 @@ carried-alike sh x d g o a b e h m = record { copies = copies; have = have }
     have : (t y : ℕ) → CopiesHave x t y a → CopiesHave x t y b
     have t y q = record {
       framed =
-          λ r. (let f = h.framed t (sym (ap (λ c. c.cache.dirty x) (m.core)) ∙ r) in ap (λ c. c.cache.value x) (m.core) ∙ f.1
-          ∙ q.framed (f.0));
-      sent = rw (m.out) (let z : among (CopyNot x t y) (o.sends (Dir d)) ≡ 0 = rw e at (h.sent t y (q.framed)) in
+          λ r. (let f = h.framed t (sym (ap (λ c. c.cache.dirty x) m.core) ∙ r) in ap (λ c. c.cache.value x) m.core ∙ f.1
+          ∙ q.framed f.0);
+      sent = rw m.out (let z : among (CopyNot x t y) (o.sends (Dir d)) ≡ 0 = rw e at (h.sent t y q.framed) in
           omega (arith, z, q.sent, live-sends (CopyNot x t y) a.out (o.sends (Dir d))));
     }
 
@@ -95,9 +95,9 @@ lost-alike sh x d g o a b n f z m = record { copies = copies; have = have }
     have : (t y : ℕ) → CopiesHave x t y a → CopiesHave x t y b
     have t y q = record {
       framed =
-          λ r. (let h = f t (sym (ap (λ c. c.cache.dirty x) (m.core)) ∙ r) in ap (λ c. c.cache.value x) (m.core) ∙ h.1 ∙ q.framed (h.0));
+          λ r. (let h = f t (sym (ap (λ c. c.cache.dirty x) m.core) ∙ r) in ap (λ c. c.cache.value x) m.core ∙ h.1 ∙ q.framed h.0);
       sent =
-          rw (m.out) (omega (
+          rw m.out (omega (
             arith,
             z t,
             q.sent,
@@ -108,8 +108,7 @@ lost-alike sh x d g o a b n f z m = record { copies = copies; have = have }
     }
 
 -- an invalidation comes from the line's home
-inv-home : (sh : Shape) (ram : ℕ → ℕ) (h : History) (c e k l m u : ℕ) → Known sh ram h
-    → FromDir h.world e c k (Inv l m u) → home sh l ≡ e
+inv-home : (sh : Shape) (ram : ℕ → ℕ) (h : History) (c e k l m u : ℕ) → Known sh ram h → FromDir h.world e c k (Inv l m u) → home sh l ≡ e
 unfolding passes
 inv-home sh ram h c e k l m u b i = go (home sh l == e) refl
   where
@@ -163,7 +162,7 @@ none-with-tag sh ram h c d k x m u b cl dl ll e i = let y : copies_with (line_of
         which false r = refl
         which true r =
             absurd (let z : o ≡ c = grind nats in
-            omega (arith, t.sent, b.spared c d (line_of x) dl (q ∙ ap (λ n. Some n) z) (t.tag)))
+            omega (arith, t.sent, b.spared c d (line_of x) dl (q ∙ ap (λ n. Some n) z) t.tag))
 
 -- a core moves, takes a grant, takes a message of a directory
 pub moved-alike : (sh : Shape) (w : World) (c : ℕ) (o : Out) → Carries sh (w.cores c) o → AllPairs (AlikeAt sh w) (core_moves w c o)
@@ -193,9 +192,8 @@ taken-one sh ram h c e d k x m o v b cl dl q i (Lost p u r f z) n =
     (none-with-tag sh ram h c d k x p u b cl dl (inv-inside sh ram h c d k (line_of x) p u b cl dl (rw w j)) q (rw w j)) f
     (λ t. rw q at (z t)) n
 
-pub taken-alike : (sh : Shape) (ram : ℕ → ℕ) (h : History) (c e k : ℕ) (m : Msg) (o : Out) → Known sh ram h
-    → FromDir h.world e c k m → ((x : ℕ) → WordBack sh x (h.world.cores c) m o)
-    → AllPairs (AlikeAt sh h.world) (core_takes h.world (Dir e) c k o)
+pub taken-alike : (sh : Shape) (ram : ℕ → ℕ) (h : History) (c e k : ℕ) (m : Msg) (o : Out) → Known sh ram h → FromDir h.world e c k m
+    → ((x : ℕ) → WordBack sh x (h.world.cores c) m o) → AllPairs (AlikeAt sh h.world) (core_takes h.world (Dir e) c k o)
 unfolding pair
 taken-alike sh ram h c e k m o b i f = pairs_back (AlikeAt sh h.world) h.world e c k o
     (λ x cl dl q. taken-one sh ram h c e e k x m o (after_move (back_taken (pair h.world c e) k) o e) b cl dl q i (f x)

@@ -52,8 +52,7 @@ sent-dooms b x u n f p l e h i =
 
 -- the Commits in flight to a directory where it takes a message
 pub commits-after : (w : World) (c d k t : ℕ) (m : Msg) (s : DirState) (sends : Sends) (j : ℕ) → FromCore w c d k m
-    → passes (Commits t) m ≡ false → live (Commits t) ((dir_takes w c d k s sends).net (Core j) (Dir d)) ≡ live (Commits t)
-    (to_dir w j d)
+    → passes (Commits t) m ≡ false → live (Commits t) ((dir_takes w c d k s sends).net (Core j) (Dir d)) ≡ live (Commits t) (to_dir w j d)
 unfolding pair
 commits-after w c d k t m s sends j i f = either j c own other
   where
@@ -128,8 +127,7 @@ holds-word v x r e =
 -- each core sees the values that it saw, or the invalidation that it is sent dooms the use
 pub commit-value : (sh : Shape) (gs : List Grant) (ys : Ways) (ram : ℕ → ℕ) (h : History) → Carried sh gs ys h
     → CommitsInMemory sh h.commits → (v : World) → CommitsStand sh v h.commits → (c d u : ℕ) → Taken sh h.world c d u
-    → ((n : Noted) → (n.tid.0 ≡ u → ⊥) → live (Commits n.tid.0) (to_dir v n.core.0 d) ≡ live (Commits n.tid.0)
-    (to_dir h.world n.core.0 d))
+    → ((n : Noted) → (n.tid.0 ≡ u → ⊥) → live (Commits n.tid.0) (to_dir v n.core.0 d) ≡ live (Commits n.tid.0) (to_dir h.world n.core.0 d))
     → (j : ℕ) → StaysOrDooms sh ram h.commits j d (pair h.world j d) (v.dirs d) (invalidations sh (h.world.dirs d).lines c u (Core j))
 unfolding pair invalidations invs_to counts stored_mask stores_in hit any_word is_invalidated
 commit-value sh gs ys ram h k mem v stand c d u t f j b jl dl bound x y e seen = below (is_below b u) refl
@@ -138,7 +136,7 @@ commit-value sh gs ys ram h k mem v stand c d u t f j b jl dl bound x y e seen =
     w = h.world
 
     m : MarkedCommit sh h.commits c d u (pair w c d)
-    m = (k.marks_sent_are_the_lines_stored.2 c d u).sent t.core dl (t.commit)
+    m = (k.marks_sent_are_the_lines_stored.2 c d u).sent t.core dl t.commit
 
     n : Noted
     n = m.commit
@@ -155,7 +153,7 @@ commit-value sh gs ys ram h k mem v stand c d u t f j b jl dl bound x y e seen =
         one o i true q (inl z) = inl (g o i z q)
         one o i true q (inr z) =
             inl (counts-alike (w.dirs d) (v.dirs d) (Some j) b o
-            (applied-same sh h.commits w v o d (k.commit_is_on_its_way_or_applied) stand i dl
+            (applied-same sh h.commits w v o d k.commit_is_on_its_way_or_applied stand i dl
             (stored-at-home sh h.commits o d x mem i e q) (f o z)))
 
     -- the core's bound isn't above the commit
@@ -164,20 +162,20 @@ commit-value sh gs ys ram h k mem v stand c d u t f j b jl dl bound x y e seen =
 
     -- the commit is the core's own
     granted : Contains gs (record { tid = u; core = c })
-    granted = (k.no_inv_to_the_core_that_committed.0 c d).owner u (t.commit)
+    granted = (k.no_inv_to_the_core_that_committed.0 c d).owner u t.commit
 
     own : j ≡ c → (o : Noted) → Contains h.commits o → o.tid.0 ≡ u → counts (w.dirs d) (Some j) b o ≡ counts (v.dirs d) (Some j) b o
     own q o i z =
         let g : Contains gs (record { tid = u; core = o.core.0 }) =
-        rw z at (granted-at gs h.commits o (k.commits_are_of_granted_tids.1) i) in
-        let r : o.core.0 ≡ c = granted-once 1 gs u o.core.0 c (k.granted_tids_are_those_below_next.0) g granted in
+        rw z at (granted-at gs h.commits o k.commits_are_of_granted_tids.1 i) in
+        let r : o.core.0 ≡ c = granted-once 1 gs u o.core.0 c k.granted_tids_are_those_below_next.0 g granted in
         let a : is_this (Some j) o.core.0 ≡ true = rw (q, r) (eq-self c) in
         rw a refl
 
     -- the commit doesn't store the word
     unstored : stores_word sh.base n.stores x ≡ false → (o : Noted) → Contains h.commits o → o.tid.0 ≡ u
         → stores_word sh.base o.stores x ≡ true → ⊥
-    unstored q o i z s = let r : o ≡ n = same-commit h.commits o n (k.commits_are_of_granted_tids.0) i (m.noted) (z ∙ sym (m.tid)) in
+    unstored q o i z s = let r : o ≡ n = same-commit h.commits o n k.commits_are_of_granted_tids.0 i m.noted (z ∙ sym m.tid) in
         let a : stores_word sh.base n.stores x ≡ true = rw r at s in true≢false (sym a ∙ q)
 
     -- the commit stores the word, and an invalidation of it is sent to the core
@@ -186,10 +184,10 @@ commit-value sh gs ys ram h k mem v stand c d u t f j b jl dl bound x y e seen =
     hits ne q s = sent-dooms b x u (lines sh) (w.dirs d).lines.mark (is_invalidated sh (w.dirs d).lines c j) inside invalid hit-mark q
       where
         inside : line_of x < lines sh
-        inside = (mem n (m.noted)).stored x s
+        inside = (mem n m.noted).stored x s
 
         mark : (w.dirs d).lines.mark (line_of x) ≡ stored_mask sh d n.stores (line_of x)
-        mark = k.commit_counts_the_lines.taken n d (line_of x) (m.noted) dl (t.serving ∙ sym (m.tid)) (rw (m.tid, m.core) (t.sent))
+        mark = k.commit_counts_the_lines.taken n d (line_of x) m.noted dl (t.serving ∙ sym m.tid) (rw (m.tid, m.core) t.sent)
 
         place : word_at (line_of x) (place_of x) ≡ x
         place = omega arith
@@ -224,16 +222,16 @@ commit-value sh gs ys ram h k mem v stand c d u t f j b jl dl bound x y e seen =
             go (inl r) = r
             go (inr z) =
                 let p = solo-tid (w.cores j).phase z in
-                let o : b ≡ Some p.0 = bound-own sh gs ys h k j d p.0 b jl (solo-holds (w.cores j).phase p.0 (p.1)) bound in
-                let r = (solo-served sh gs ys h k j d p.0 jl dl (p.1)).serving in
+                let o : b ≡ Some p.0 = bound-own sh gs ys h k j d p.0 b jl (solo-holds (w.cores j).phase p.0 p.1) bound in
+                let r = (solo-served sh gs ys h k j d p.0 jl dl p.1).serving in
                 let l : nat_lt u p.0 ≡ true = rw o at q in
-                absurd (not-ahead p.0 u (tid_at w d) l (t.serving) (omega (arith, r)))
+                absurd (not-ahead p.0 u (tid_at w d) l t.serving (omega (arith, r)))
 
         valid : (b : Option ℕ) → is_below b u ≡ true → (is_some ((w.cores j).cache.value x) ≡ true) ⊎ IsPassed b (tid_at w d)
             → is_some ((w.cores j).cache.value x) ≡ true
         valid b q (inl a) = a
         valid None q (inr a) = absurd a
-        valid (Some z) q (inr a) = absurd (not-ahead z u (tid_at w d) q (t.serving) (omega (arith, a)))
+        valid (Some z) q (inr a) = absurd (not-ahead z u (tid_at w d) q t.serving (omega (arith, a)))
 
         holds : holds_line (line_of x) (pair w j d) ≡ true
         holds = holds-word (pair w j d) x read (valid b q (k.read_mark_is_valid_or_passed j d x b jl dl e bound read))
@@ -242,9 +240,9 @@ commit-value sh gs ys ram h k mem v stand c d u t f j b jl dl bound x y e seen =
             → (w.dirs d).lines.sharers (line_of x) j ≡ true
         sharer (inl a) = a
         sharer (inr a) =
-            let z : u ≡ a.tid = sym (t.serving) ∙ k.committing_tid_is_served j d a.tid jl dl (a.sent) in
-            let g : Contains gs (record { tid = u; core = j }) = rw z ((k.no_inv_to_the_core_that_committed.0 j d).owner a.tid (a.sent)) in
-            absurd (ne (granted-once 1 gs u j c (k.granted_tids_are_those_below_next.0) g granted))
+            let z : u ≡ a.tid = sym t.serving ∙ k.committing_tid_is_served j d a.tid jl dl a.sent in
+            let g : Contains gs (record { tid = u; core = j }) = rw z ((k.no_inv_to_the_core_that_committed.0 j d).owner a.tid a.sent) in
+            absurd (ne (granted-once 1 gs u j c k.granted_tids_are_those_below_next.0 g granted))
 
         invalid : is_invalidated sh (w.dirs d).lines c j (line_of x) ≡ true
         invalid = rw (
@@ -325,8 +323,7 @@ plain-views sh ram cs vs w c d k m a mem st q h i f = go a
 
 commit-views : (sh : Shape) (gs : List Grant) (ys : Ways) (ram : ℕ → ℕ) (vs : ℕ → Uses) (h : History) (c d k u n : ℕ) → Carried sh gs ys h
     → CommitsInMemory sh h.commits → AllSeen vs h.world → AllNear sh ram h.commits vs h.world → c < sh.cores
-    → FromCore h.world c d k (Commit u n)
-    → OfAnswer h.world c d k (NearAfter sh ram h.commits vs) (dir_commit sh c u n (h.world.dirs d))
+    → FromCore h.world c d k (Commit u n) → OfAnswer h.world c d k (NearAfter sh ram h.commits vs) (dir_commit sh c u n (h.world.dirs d))
 unfolding dir_commit passes
 commit-views sh gs ys ram vs h c d k u n y mem q near cl i =
     go (s.serving.serving == u) refl (count_below (has_mark s.lines) (lines sh) == n) refl
@@ -376,18 +373,16 @@ commit-views sh gs ys ram vs h c d k u n y mem q near cl i =
 
 pub answered-views : (sh : Shape) (gs : List Grant) (ys : Ways) (ram : ℕ → ℕ) (vs : ℕ → Uses) (h : History) (c d k : ℕ) (m : Msg)
     → Carried sh gs ys h → CommitsInMemory sh h.commits → AllSeen vs h.world → AllNear sh ram h.commits vs h.world → c < sh.cores
-    → FromCore h.world c d k m
-    → OfAnswer h.world c d k (NearAfter sh ram h.commits vs) (dir_deliver sh (h.world.dirs d) c m)
+    → FromCore h.world c d k m → OfAnswer h.world c d k (NearAfter sh ram h.commits vs) (dir_deliver sh (h.world.dirs d) c m)
 unfolding dir_deliver passes
 answered-views sh gs ys ram vs h c d k m y mem q near cl i = go m i
   where
     plain : (m : Msg) → FromCore h.world c d k m → ((t : ℕ) → passes (Commits t) m ≡ false)
         → OfAnswer h.world c d k (NearAfter sh ram h.commits vs) (dir_deliver sh (h.world.dirs d) c m)
     plain m i f = plain-views sh ram h.commits vs h.world c d k m (dir_deliver sh (h.world.dirs d) c m) mem
-        (y.commit_is_on_its_way_or_applied) q near i f
+        y.commit_is_on_its_way_or_applied q near i f
 
-    go : (m : Msg) → FromCore h.world c d k m
-        → OfAnswer h.world c d k (NearAfter sh ram h.commits vs) (dir_deliver sh (h.world.dirs d) c m)
+    go : (m : Msg) → FromCore h.world c d k m → OfAnswer h.world c d k (NearAfter sh ram h.commits vs) (dir_deliver sh (h.world.dirs d) c m)
     go (Commit u n) i = commit-views sh gs ys ram vs h c d k u n y mem q near cl i
     go TidReq i = tt
     go (TidGrant u) i = tt

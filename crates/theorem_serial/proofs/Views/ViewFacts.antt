@@ -22,8 +22,8 @@ own-holder w c d t e = rw e (omega arith)
 pub one-holder : (sh : Shape) (gs : List Grant) (ys : Ways) (h : History) → Carried sh gs ys h → (c d e t u : ℕ) → c < sh.cores
     → 1 ≤ holder t (pair h.world c d) → 1 ≤ holder u (pair h.world c e) → t ≡ u
 one-holder sh gs ys h k c d e t u l a b =
-    let x : u ≤ t = k.live_tid_is_the_last_granted_to_its_core c d t u a ((k.live_tid_is_granted_to_its_core c e u l b).0) in
-    let y : t ≤ u = k.live_tid_is_the_last_granted_to_its_core c e u t b ((k.live_tid_is_granted_to_its_core c d t l a).0) in
+    let x : u ≤ t = k.live_tid_is_the_last_granted_to_its_core c d t u a (k.live_tid_is_granted_to_its_core c e u l b).0 in
+    let y : t ≤ u = k.live_tid_is_the_last_granted_to_its_core c e u t b (k.live_tid_is_granted_to_its_core c d t l a).0 in
     omega arith
 
 -- so it is the core's bound
@@ -53,8 +53,8 @@ open-served sh gs ys h k c d t cl dl e o f = record { serving = s; owed = go (ca
     go (inl l) =
         let y : Settled sh ys h.world d t =
         k.owed_only_where_settled d t dl
-        (numbered-least 1 gs (record { tid = t; core = c }) (k.granted_tids_are_those_below_next.0) (g.0)) s (omega (arith, l)) in
-        absurd (omega (arith, g.1, k.committed_tid_is_given_up_where_it_stored_nothing.only d t dl (y.committed)))
+        (numbered-least 1 gs (record { tid = t; core = c }) k.granted_tids_are_those_below_next.0 g.0) s (omega (arith, l)) in
+        absurd (omega (arith, g.1, k.committed_tid_is_given_up_where_it_stored_nothing.only d t dl y.committed))
 
 -- such a TID isn't applied there
 pub served-unapplied : (w : World) (d t : ℕ) → IsServed w d t → is_applied (w.dirs d) t ≡ false
@@ -116,17 +116,17 @@ solo-undoomed sh gs ys h k c d x b cl dl e =
     omega (
       arith,
       few-dooms b x (pair h.world c d).back,
-      unowed-none sh gs ys h k c d cl ((solo-served sh gs ys h k c d t.0 cl dl (t.1)).owed),
+      unowed-none sh gs ys h k c d cl (solo-served sh gs ys h k c d t.0 cl dl t.1).owed,
     )
 
 -- uses
 pub each-two : (P Q R : ℕ → ℕ → Type 0) (us : Uses) → ((x y : ℕ) → P x y → Q x y → R x y) → EachUse P us → EachUse Q us → EachUse R us
 each-two P Q R [] f a b = tt
-each-two P Q R (u ∷ us) f a b = (f u.0 u.1 (a.0) (b.0), each-two P Q R us f (a.1) (b.1))
+each-two P Q R (u ∷ us) f a b = (f u.0 u.1 a.0 b.0, each-two P Q R us f a.1 b.1)
 
 pub each-one : (P Q : ℕ → ℕ → Type 0) (us : Uses) → ((x y : ℕ) → P x y → Q x y) → EachUse P us → EachUse Q us
 each-one P Q [] f a = tt
-each-one P Q (u ∷ us) f a = (f u.0 u.1 (a.0), each-one P Q us f (a.1))
+each-one P Q (u ∷ us) f a = (f u.0 u.1 a.0, each-one P Q us f a.1)
 
 -- a used word is marked read, or the core is alone
 abbrev pub IsSeen : Cache → Phase → (word value : ℕ) → Type 0
@@ -134,7 +134,7 @@ IsSeen c q x y = (c.read x ≡ true) ⊎ (is_solo q ≡ true)
 
 stand-seen : (gone : Bool) (c : Cache) (q : Phase) (us : Uses) → AllStand gone c us → EachUse (IsSeen c q) us
 stand-seen gone c q [] s = tt
-stand-seen gone c q (u ∷ us) s = (inl (s.0.marked), stand-seen gone c q us (s.1))
+stand-seen gone c q (u ∷ us) s = (inl s.0.marked, stand-seen gone c q us s.1)
 
 alone-seen : (c : Cache) (t : ℕ) (us : Uses) → EachUse (IsSeen c (Solo t)) us
 alone-seen c t [] = tt
@@ -176,7 +176,7 @@ doomed-again sh gs ys h k c d x y b cl dl e i s l = go s
 listed-once : (cs : List Noted) (n : Noted) → Contains cs n → 1 ≤ times n.tid.0 cs
 unfolding times
 listed-once [] n k = absurd (omega (arith, k.1))
-listed-once (m ∷ cs) n k = go k.0 (k.1) (k.2) (λ j. listed-once cs n j)
+listed-once (m ∷ cs) n k = go k.0 k.1 k.2 (λ j. listed-once cs n j)
   where
     go : (i : ℕ) → i < suc (length cs) → slice_index_or (m ∷ cs) i n ≡ n → (Contains cs n → 1 ≤ times n.tid.0 cs)
         → 1 ≤ num (m.tid.0 == n.tid.0) + times n.tid.0 cs
@@ -190,7 +190,7 @@ listed-below sh gs ys h k n i =
       arith,
       k.granted_tids_are_those_below_next.1,
       numbered-most 1 gs (record { tid = n.tid.0; core = n.core.0 })
-          (k.granted_tids_are_those_below_next.0) (granted-at gs h.commits n (k.commits_are_of_granted_tids.1) i),
+          k.granted_tids_are_those_below_next.0 (granted-at gs h.commits n k.commits_are_of_granted_tids.1 i),
     )
 
 -- a bound above all that count is as good as none
@@ -220,7 +220,7 @@ solo-value sh gs ys ram h k c d t x cl dl e = value-bounded sh.base ram h.commit
     own : (n : Noted) → Contains h.commits n → n.core.0 ≡ c → n.tid.0 < t
     own n i q =
         let g : Contains gs (record { tid = n.tid.0; core = c }) =
-        rw q at (granted-at gs h.commits n (k.commits_are_of_granted_tids.1) i) in
+        rw q at (granted-at gs h.commits n k.commits_are_of_granted_tids.1 i) in
         let l : n.tid.0 ≤ t = k.live_tid_is_the_last_granted_to_its_core c d t n.tid.0 held g in
         go (cases_lt n.tid.0 t) l
       where
@@ -278,4 +278,4 @@ word-next sh gs ys h k c d x cl dl i =
 
     served : tid_at h.world d < h.world.next
     served = let z = (k.marks_sent_are_the_lines_stored.2 c d 0).settled dl owed in
-        omega (arith, z.tid, listed-below sh gs ys h k z.commit (z.noted))
+        omega (arith, z.tid, listed-below sh gs ys h k z.commit z.noted)

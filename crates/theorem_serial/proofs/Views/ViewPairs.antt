@@ -8,7 +8,7 @@ use Names.{grant, grant_in_phase, probing_or_ready, is_probed, from_dir, is_viol
 use Names.{rolls_back, has_tid, waits_for_tid, EachUse, cond, rests, ◌&&◌, after_other_grant, slice_index_or, after_answer, grant_taken}
 use Names.{after_grant, after_move, back_taken, out_taken, TidGrant, DirState, sent_all, value_at, IsBound, Grants, passes, holder, among}
 use Names.{dooms, List, live, Pair, ◌<◌, ◌≤◌, nats, home_of}
-use proofs.Tids.CoreProbing.{tid-probing}
+use proofs.Tids.CoreTids.{tid-probing}
 use proofs.OneCore.Outcomes.{Acts, Buffers, Commits_now, Did, Ends_alone, Ends_run, Finds, Frames, Frames_anew, Idles, Misses, Misses_anew}
 use proofs.OneCore.Outcomes.{Reads, Room_wanted, after_end, each-exec, out, Heard, Hurt_alone, Hurt_none, Hurt_probing, Hurt_running}
 use proofs.OneCore.Outcomes.{Hurt_waiting, Last_probing, Last_room, each-back, each-evict, heard, message}
@@ -86,7 +86,7 @@ used-each P base s need f = go need
 
 pub each-append : (P : ℕ → ℕ → Type 0) (us vs : Uses) → EachUse P us → EachUse P vs → EachUse P (us ++ vs)
 each-append P [] vs a b = b
-each-append P (u ∷ us) vs a b = (a.0, each-append P us vs (a.1) b)
+each-append P (u ∷ us) vs a b = (a.0, each-append P us vs a.1 b)
 
 -- evictions
 pub evict-view : (sh : Shape) (x y : ℕ) (s : CoreState) → IfSome (core_evict sh x y s) (λ o. (o.commit ≡ None) × Keeps s o.core)

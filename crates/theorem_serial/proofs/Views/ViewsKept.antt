@@ -1,26 +1,197 @@
--- Every event keeps that a viewed word has the value that it has for its core, or that the attempt is doomed.
-use Rattle.base_lemmas.proofs.Lemmas.{hit-line}
+-- Every event keeps what is known of each core's view.
+use Rattle.base_lemmas.proofs.Lemmas.{eq-self, hit-line}
 use Rattle.rules_maps.specs.CacheLook.{reads_masked}
 use Rattle.theorem_serial.specs.KeepsViews.{KeepsViews}
 use Rattle.theorem_serial.proofs
 use proofs.Names
-use Names.{ℕ, ◌≡◌, ◌<◌, ◌≤◌, ◌⊎◌, ◌&&◌, Bool, true, false, List, [], Option, Some, None, IfSome, nat_lt, arith, refl, ap, sym, subst, ◌∙◌}
-use Names.{inl, inr, num, hit, Core, Dir, Vendor, Msg, TidReq, TidGrant, Inv, Shape, put, DoomedTid, in_flight, Out, from_dir, grant}
-use Names.{is_violated, may_be_above, History, core_takes, vendor_gives, and_noted, Uses, Views, uses_delivered, Invs, InvWord, passes}
-use Names.{live, Carried, Grant, Pair, pair, after_move, grant_taken, back_taken, IsBound, value_at, dooms, Ways, hit-reads, ◌++◌, Program}
-use Names.{line_of, home, core_exec, core_evict, Answer, Waits, Drops, Asks, Takes, dir_deliver, Stepped, core_moves, dir_takes, dir_asks}
-use Names.{step, next_history, recorded, UsesStand, uses_executed, views_after, CarriedViews, granted_by, IsDoomed, ViewedWords}
-use Names.{HaltedUsesNone, sent_by, ways_after, nats, home_of, to_core, FromDir, IfSome_then}
-use proofs.Counts.StepCases.{AllPairs, given, OfAnswer, new_uses, event_cases, pairs_grant, pairs_back, pairs_vendor}
-use proofs.OneCore.CoreReads.{tid-ahead}
-use proofs.Serving.OwnerSteps.{asking-none}
-use proofs.Tids.TidSteps.{live-some, granted_waits}
-use proofs.Views.ViewPairs.{Keeps, Gets, grant-view, Spares, Back, Empties, Stays, back-view, NearAt, ViewOf, view-empty, view-moves}
-use proofs.Views.ViewPairs.{view-takes, view-grants, view-other, view-given}
+use Names.{ℕ, ◌≡◌, ◌<◌, ◌≤◌, ◌⊎◌, ◌==◌, ◌&&◌, Bool, true, false, List, [], ◌++◌, Option, Some, None, IfSome, arith, refl, sym, subst, ◌∙◌}
+use Names.{inl, inr, put, Noted, Program, writes_at, Shape, CoreState, Phase, Running, AwaitTid, DoomedTid, Probing, Ready, Overflowing}
+use Names.{Solo, Halted, World, Out, core_exec, core_evict, History, core_moves, and_noted, insert_commit, Uses, Views, uses_executed}
+use Names.{InvWord, live, Carried, CarriedInMemory, Grant, holder, Pair, pair, after_move, may_commit, IsBound, is_applied, has_tid, opens}
+use Names.{waits_for_tid, RequestOf, stores_word, is_below, counts, value_at, dooms, UnmodifiedWords, Ways, nats, home_of, IfSome_then}
+use Names.{nat_lt, ap, num, hit, Core, Dir, Vendor, Msg, TidReq, TidGrant, Inv, in_flight, from_dir, grant, is_violated, may_be_above}
+use Names.{core_takes, vendor_gives, uses_delivered, Invs, passes, grant_taken, back_taken, hit-reads, line_of, home, Answer, Waits, Drops}
+use Names.{Asks, Takes, dir_deliver, Stepped, dir_takes, dir_asks, step, next_history, recorded, UsesStand, views_after, CarriedViews}
+use Names.{granted_by, IsDoomed, ViewedWords, HaltedUsesNone, sent_by, ways_after, to_core, FromDir}
+use proofs.OneCore.Outcomes.{Acts}
+use proofs.Serving.OwnerSteps.{grant-any, asking-none}
+use proofs.Memory.CoreInMemory.{marks_at_homes}
+use proofs.Counts.StepCases.{differ, either, pairs_move, new_uses, AllPairs, given, OfAnswer, event_cases, pairs_grant, pairs_back}
+use proofs.Counts.StepCases.{pairs_vendor}
+use proofs.Values.ValueAt.{IsSilent, value-skip}
+use proofs.Views.ViewPairs.{Keeps, Exec, Goes, Commits, exec-view, used-each, each-append, evict-view, NearAt, ViewOf, view-empty}
+use proofs.Views.ViewPairs.{view-moves, Gets, grant-view, Spares, Back, Empties, Stays, back-view, view-takes, view-grants, view-other}
+use proofs.Views.ViewPairs.{view-given}
 use proofs.Views.ViewDirs.{AllNear, AllSeen, NearAfter, answered-views}
-use proofs.Views.ViewFacts.{IsSeen, doomed-again, uses-seen, each-two, each-one, bound-own, few-doom, solo-undoomed, value-bounded}
-use proofs.Views.ViewFacts.{listed-below, word-next}
-use proofs.Views.ViewSteps.{put-own, near-put, exec-views, evict-views}
+use proofs.Views.ViewFacts.{bound-own, open-served, served-unapplied, solo-holds, solo-undoomed, each-one, solo-value, IsSeen, doomed-again}
+use proofs.Views.ViewFacts.{uses-seen, each-two, few-doom, value-bounded, listed-below, word-next}
+use proofs.OneCore.CoreReads.{tid-ahead}
+use proofs.Tids.TidSteps.{live-some, granted_waits}
+
+-- What a core does, and what the vendor grants, leaves every core's view near: each used word has its value, or it is doomed.
+
+-- the views where one core's has changed
+pub put-own : (vs : Views) (c : ℕ) (us : Uses) → put vs c us c ≡ us
+put-own vs c us = rw (eq-self c) refl
+
+put-other : (vs : Views) (c j : ℕ) (us : Uses) → (j ≡ c → ⊥) → put vs c us j ≡ vs j
+put-other vs c j us n = rw (differ j c n) refl
+
+-- a view that is near, and the others as they were
+pub near-put : (sh : Shape) (ram : ℕ → ℕ) (cs : List Noted) (vs : Views) (w : World) (c : ℕ) (us : Uses)
+    → ((d : ℕ) → ViewOf sh ram cs us c d (pair w c d)) → ((j d : ℕ) → (j ≡ c → ⊥) → ViewOf sh ram cs (vs j) j d (pair w j d))
+    → AllNear sh ram cs (put vs c us) w
+near-put sh ram cs vs w c us f g j d = either j c
+    (λ e. rw e (subst (λ z. ViewOf sh ram cs z c d (pair w c d)) (sym (put-own vs c us)) (f d)))
+    (λ n. subst (λ z. ViewOf sh ram cs z j d (pair w j d)) (sym (put-other vs c j us n)) (g j d n))
+
+-- instructions
+
+-- no TID is on its way to a core that runs
+running-bound : (v : Pair) (b : Option ℕ) → RequestOf v → v.core.phase ≡ Running → IsBound b v → b ≡ None
+unfolding holder waits_for_tid has_tid
+running-bound v a r e i = grind (nats, grant-any, v.grants)
+
+not-halted : (q : Phase) → Acts q → q ≡ Halted → ⊥
+not-halted q a e = rw e at a
+
+-- a valid word that isn't modified is near when it is used
+used-near : (sh : Shape) (gs : List Grant) (ys : Ways) (ram : ℕ → ℕ) (h : History) → Carried sh gs ys h
+    → UnmodifiedWords sh ram h.world h.commits → (c d : ℕ) (b : Option ℕ) → c < sh.cores → d < sh.dirs → Acts (h.world.cores c).phase
+    → IsBound b (pair h.world c d) → (x y : ℕ) → (h.world.cores c).cache.modified x ≡ false → (h.world.cores c).cache.value x ≡ Some y
+    → NearAt sh ram h.commits c d b (pair h.world c d) x y
+unfolding pair
+used-near sh gs ys ram h k um c d b cl dl a i x y mo va e = go (h.world.cores c).phase refl a (um c d x y cl dl e va mo)
+  where
+    go : (q : Phase) → (h.world.cores c).phase ≡ q → Acts q → (y ≡ value_at sh.base ram h.commits (h.world.dirs d) (Some c) None x)
+        ⊎ (1 ≤ live (InvWord x) (pair h.world c d).back)
+        → (y ≡ value_at sh.base ram h.commits (h.world.dirs d) (Some c) b x) ⊎ (1 ≤ live (dooms b x) (pair h.world c d).back)
+    go Running q a r = let z : b ≡ None = running-bound (pair h.world c d) b (k.one_tid_request_or_grant c d) q i in rw z r
+    go (Solo t) q a (inl r) = let z : b ≡ Some t = bound-own sh gs ys h k c d t b cl (solo-holds (h.world.cores c).phase t q) i in
+        rw z (inl (r ∙ solo-value sh gs ys ram h k c d t x cl dl q))
+    go (Solo t) q a (inr r) = absurd (omega (arith, r, solo-undoomed sh gs ys h k c d x None cl dl (rw q refl)))
+    go AwaitTid q a r = absurd a
+    go DoomedTid q a r = absurd a
+    go (Probing t) q a r = absurd a
+    go (Ready t) q a r = absurd a
+    go (Overflowing t) q a r = absurd a
+    go Halted q a r = absurd a
+
+-- a commit changes no value for another core
+unapplied : (sh : Shape) (gs : List Grant) (ys : Ways) (h : History) → Carried sh gs ys h → CarriedInMemory sh h → (c d t x : ℕ)
+    → c < sh.cores → d < sh.dirs → ((h.world.cores c).phase ≡ Ready t) ⊎ ((h.world.cores c).phase ≡ Solo t) → home_of sh x ≡ d
+    → stores_word sh.base (h.world.cores c).stores x ≡ true → is_applied (h.world.dirs d) t ≡ false
+unfolding opens has_tid
+unapplied sh gs ys h k m c d t x cl dl ph e s =
+    served-unapplied h.world d t
+    (open-served sh gs ys h k c d t cl dl (holds ph) (opened ph) (k.directory_that_replied_serves_the_tid.replied c d cl dl (commits ph)))
+  where
+    eq : (t == t) ≡ true
+    eq = eq-self t
+
+    holds : ((h.world.cores c).phase ≡ Ready t) ⊎ ((h.world.cores c).phase ≡ Solo t) → has_tid (h.world.cores c).phase t ≡ true
+    holds a = grind nats
+
+    commits : ((h.world.cores c).phase ≡ Ready t) ⊎ ((h.world.cores c).phase ≡ Solo t) → may_commit (h.world.cores c).phase ≡ true
+    commits a = grind nats
+
+    modified : (h.world.cores c).phase ≡ Ready t → (h.world.cores c).cache.modified x ≡ true
+    modified q = grind nats
+
+    opened : ((h.world.cores c).phase ≡ Ready t) ⊎ ((h.world.cores c).phase ≡ Solo t)
+        → opens (h.world.cores c).phase (writes_at sh (h.world.cores c).cache d) t ≡ true
+    opened (inl q) =
+        let a : writes_at sh (h.world.cores c).cache (home_of sh x) ≡ true =
+        (marks_at_homes sh (h.world.cores c).cache (k.frames_stand_in_their_sets c) (m.frames_are_of_lines_in_memory c)).modified x
+        (modified q) in
+        rw (q, rw e at a) (rw eq refl)
+    opened (inr q) = rw q eq
+
+silent-other : (sh : Shape) (gs : List Grant) (ys : Ways) (h : History) → Carried sh gs ys h → CarriedInMemory sh h
+    → (c d j t x : ℕ) (n : Noted) (b : Option ℕ) → c < sh.cores → d < sh.dirs → (j ≡ c → ⊥)
+    → ((h.world.cores c).phase ≡ Ready t) ⊎ ((h.world.cores c).phase ≡ Solo t) → n.tid.0 ≡ t → n.core.0 ≡ c
+    → n.stores ≡ (h.world.cores c).stores → home_of sh x ≡ d → IsSilent sh.base (h.world.dirs d) (Some j) b x n
+unfolding counts
+silent-other sh gs ys h k m c d j t x n b cl dl ne ph tn cn st e = go (stores_word sh.base n.stores x) refl
+  where
+    go : (q : Bool) → stores_word sh.base n.stores x ≡ q → IsSilent sh.base (h.world.dirs d) (Some j) b x n
+    go false q = inr q
+    go true q =
+        let a : is_applied (h.world.dirs d) n.tid.0 ≡ false = rw tn (unapplied sh gs ys h k m c d t x cl dl ph e (rw st at q)) in
+        let o : (j == n.core.0) ≡ false = rw cn (differ j c ne) in
+        inl (rw (o, a) ((elim (is_below b n.tid.0) as (λ a. (a && false) ≡ false) [ true ↦ refl | false ↦ refl ])))
+
+pub exec-views : (sh : Shape) (p : Program) (gs : List Grant) (ys : Ways) (ram : ℕ → ℕ) (vs : Views) (h : History) → Carried sh gs ys h
+    → CarriedInMemory sh h → UnmodifiedWords sh ram h.world h.commits → AllNear sh ram h.commits vs h.world → (c : ℕ) → c < sh.cores
+    → IfSome (core_exec sh p c (h.world.cores c))
+    (λ o. AllNear sh ram (and_noted o.commit h.commits) (put vs c (uses_executed (Some o) (vs c) (new_uses sh p h.world c)))
+    (core_moves h.world c o))
+unfolding pair core_moves
+exec-views sh p gs ys ram vs h k m um near c cl = IfSome_then (core_exec sh p c w_core) (exec-view sh p c w_core) kind
+  where
+    w_core : CoreState
+    w_core = h.world.cores c
+
+    new : Uses
+    new = new_uses sh p h.world c
+
+    goes : (o : Out) → Acts w_core.phase → Keeps w_core o.core → AllNear sh ram h.commits (put vs c (vs c ++ new)) (core_moves h.world c o)
+    goes o a q = pairs_move (λ j d v. ViewOf sh ram h.commits (put vs c (vs c ++ new) j) j d v) h.world c o
+        (λ d. view-moves sh ram h.commits (put vs c (vs c ++ new) c) c d d (pair h.world c d) o q (all c d)) all
+      where
+        mine : (d : ℕ) → ViewOf sh ram h.commits (vs c ++ new) c d (pair h.world c d)
+        mine d = record {
+          near = λ b cl dl i. each-append (NearAt sh ram h.commits c d b (pair h.world c d)) (vs c) new ((near c d).near b cl dl i)
+              (used-each (NearAt sh ram h.commits c d b (pair h.world c d)) sh.base w_core (p.need w_core.local)
+              (used-near sh gs ys ram h k um c d b cl dl a i));
+          halted = λ e. absurd (not-halted w_core.phase a e);
+        }
+
+        all : AllNear sh ram h.commits (put vs c (vs c ++ new)) h.world
+        all = near-put sh ram h.commits vs h.world c (vs c ++ new) mine (λ j d n. near j d)
+
+    commits : (o : Out) (t : ℕ) (n : Noted) → (w_core.phase ≡ Ready t) ⊎ (w_core.phase ≡ Solo t) → n.tid.0 ≡ t → n.core.0 ≡ c
+        → n.stores ≡ w_core.stores → AllNear sh ram (insert_commit n h.commits) (put vs c []) (core_moves h.world c o)
+    commits o t n ph tn cn st = pairs_move (λ j d v. ViewOf sh ram (insert_commit n h.commits) (put vs c [] j) j d v) h.world c o
+        (λ d. subst (λ z. ViewOf sh ram (insert_commit n h.commits) z c d (after d)) (sym (put-own vs c []))
+        (view-empty sh ram (insert_commit n h.commits) c d (after d)))
+        (near-put sh ram (insert_commit n h.commits) vs h.world c []
+        (λ d. view-empty sh ram (insert_commit n h.commits) c d (pair h.world c d)) others)
+      where
+        after : ℕ → Pair
+        after d = after_move (pair h.world c d) o d
+
+        others : (j d : ℕ) → (j ≡ c → ⊥) → ViewOf sh ram (insert_commit n h.commits) (vs j) j d (pair h.world j d)
+        others j d ne = record {
+          near = λ b jl dl i. each-one (NearAt sh ram h.commits j d b (pair h.world j d))
+              (NearAt sh ram (insert_commit n h.commits) j d b (pair h.world j d)) (vs j)
+              (λ x y f e. one b dl x y e (f e)) ((near j d).near b jl dl i);
+          halted = (near j d).halted;
+        }
+          where
+            one : (b : Option ℕ) → d < sh.dirs → (x y : ℕ) → home_of sh x ≡ d
+                → (y ≡ value_at sh.base ram h.commits (h.world.dirs d) (Some j) b x) ⊎ (1 ≤ live (dooms b x) (pair h.world j d).back)
+                → (y ≡ value_at sh.base ram (insert_commit n h.commits) (h.world.dirs d) (Some j) b x)
+                ⊎ (1 ≤ live (dooms b x) (pair h.world j d).back)
+            one b dl x y e (inl r) =
+                inl (r ∙ sym (value-skip sh.base ram n h.commits (h.world.dirs d) (Some j) b x
+                (silent-other sh gs ys h k m c d j t x n b cl dl ne ph tn cn st e)))
+            one b dl x y e (inr r) = inr r
+
+    kind : (o : Out) → Exec w_core c o → AllNear sh ram (and_noted o.commit h.commits) (put vs c (uses_executed (Some o) (vs c) new))
+        (core_moves h.world c o)
+    kind o (Goes a e q) = rw e (goes o a q)
+    kind o (Commits t n ph e tn cn st) = rw e (commits o t n ph tn cn st)
+
+-- evictions
+pub evict-views : (sh : Shape) (ram : ℕ → ℕ) (vs : Views) (h : History) → AllNear sh ram h.commits vs h.world → (c x y : ℕ)
+    → IfSome (core_evict sh x y (h.world.cores c)) (λ o. AllNear sh ram (and_noted o.commit h.commits) vs (core_moves h.world c o))
+unfolding pair core_moves
+evict-views sh ram vs h near c x y = IfSome_then (core_evict sh x y (h.world.cores c)) (evict-view sh x y (h.world.cores c)) (λ o a.
+    rw a.0 (pairs_move (λ j d v. ViewOf sh ram h.commits (vs j) j d v) h.world c o
+    (λ d. view-moves sh ram h.commits (vs c) c d d (pair h.world c d) o a.1 (near c d)) near))
+
+-- Every event keeps that a viewed word has the value that it has for its core, or that the attempt is doomed.
 
 -- What a core takes from the vendor and from directories, and what the vendor grants, leaves every core's view near.
 
@@ -42,13 +213,13 @@ grant-views sh gs ys ram vs h y near dm c k u i =
 
     own : Gets u (h.world.cores c) (vs c) o → (d : ℕ) → ViewOf sh ram h.commits (vs c) c d (after d)
     own (inl e) d = subst (λ z. ViewOf sh ram h.commits z c d (after d)) (sym e) (view-empty sh ram h.commits c d (after d))
-    own (inr g) d = view-grants sh ram h.commits (vs c) c d d k u (pair h.world c d) o i (g.0) (g.1) (near c d)
+    own (inr g) d = view-grants sh ram h.commits (vs c) c d d k u (pair h.world c d) o i g.0 g.1 (near c d)
 
     go : (o.commit ≡ None) × Gets u (h.world.cores c) (vs c) o
         → AllNear sh ram (and_noted o.commit h.commits) (put vs c (vs c)) (core_takes h.world Vendor c k o)
-    go a = subst (λ z. AllNear sh ram (and_noted z h.commits) (put vs c (vs c)) (core_takes h.world Vendor c k o)) (sym (a.0))
+    go a = subst (λ z. AllNear sh ram (and_noted z h.commits) (put vs c (vs c)) (core_takes h.world Vendor c k o)) (sym a.0)
         (pairs_grant (λ j d v. ViewOf sh ram h.commits (put vs c (vs c) j) j d v) h.world c k o
-        (λ d. subst (λ z. ViewOf sh ram h.commits z c d (after d)) (sym (put-own vs c (vs c))) (own (a.1) d))
+        (λ d. subst (λ z. ViewOf sh ram h.commits z c d (after d)) (sym (put-own vs c (vs c))) (own a.1 d))
         (near-put sh ram h.commits vs h.world c (vs c) (near c) (λ j d n. near j d)))
 
 -- an invalidation that rolls nothing back dooms no use
@@ -77,7 +248,7 @@ spares-inv sh gs ys h k' c d k l n u x y b cl dl i v g s = go (passes (dooms b x
         let a = ahead (reads_masked l n (h.world.cores c).cache) (may_be_above u (h.world.cores c).phase)
         (hit-reads l n (h.world.cores c).cache x r f (hit-line l n x f)) v in
         let t = tid-ahead u (h.world.cores c).phase a in
-        below t.0 (t.2) (bound-own sh gs ys h k' c d t.0 b cl (t.1) g) q
+        below t.0 t.2 (bound-own sh gs ys h k' c d t.0 b cl t.1 g) q
     no q (inr r) = let o : num (passes (dooms b x) (Inv l n u)) ≡ 1 = ap num q in
         omega (arith, o, solo-undoomed sh gs ys h k' c d x b cl dl r, live-some (dooms b x) (to_core h.world d c) k (Inv l n u) i)
 
@@ -107,7 +278,7 @@ pub back-views : (sh : Shape) (gs : List Grant) (ys : Ways) (ram : ℕ → ℕ) 
     (core_takes h.world (Dir d) c k o))
 unfolding pair
 back-views sh gs ys ram vs h y seen near dm c d k m i =
-    IfSome_then (from_dir sh d (h.world.cores c) m) (back-view sh d (h.world.cores c) m (vs c) (dm c) ((near c 0).halted)) kind
+    IfSome_then (from_dir sh d (h.world.cores c) m) (back-view sh d (h.world.cores c) m (vs c) (dm c) (near c 0).halted) kind
   where
     us : Uses
     us = uses_delivered (h.world.cores c) m (vs c)
@@ -174,7 +345,7 @@ from-pairs sh p ram gs ys vs h k q a = (viewed, λ c e. (a c 0).halted e)
         (IsSeen (h.world.cores c).cache (h.world.cores c).phase)
         (λ x y. home sh (line_of x) ≡ d → (y ≡ value_at sh.base ram h.commits (h.world.dirs d) (Some c) b x)
         ⊎ IsDoomed b x (pair h.world c d)) (vs c) one ((a c d).near b cl dl i)
-        (uses-seen (h.world.cores c).cache (h.world.cores c).phase (vs c) ((q.read_marks_are_the_view c).stand) (λ e. (a c 0).halted e))
+        (uses-seen (h.world.cores c).cache (h.world.cores c).phase (vs c) (q.read_marks_are_the_view c).stand (λ e. (a c 0).halted e))
       where
         one : (x y : ℕ) → NearAt sh ram h.commits c d b (pair h.world c d) x y → IsSeen (h.world.cores c).cache (h.world.cores c).phase x y
             → home_of sh x ≡ d → (y ≡ value_at sh.base ram h.commits (h.world.dirs d) (Some c) b x) ⊎ IsDoomed b x (pair h.world c d)
@@ -195,7 +366,7 @@ to-pairs sh ram vs h a n c d =
     one : (b : Option ℕ) (x y : ℕ) → (y ≡ value_at sh.base ram h.commits (h.world.dirs d) (Some c) b x) ⊎ IsDoomed b x (pair h.world c d)
         → (y ≡ value_at sh.base ram h.commits (h.world.dirs d) (Some c) b x) ⊎ (1 ≤ live (dooms b x) (pair h.world c d).back)
     one b x y (inl r) = inl r
-    one b x y (inr r) = inr (r.hit)
+    one b x y (inr r) = inr r.hit
 
 -- the state after an event
 abbrev After : History → Stepped → History
@@ -229,11 +400,11 @@ keeps_views sh p entries ram gs ys views m h e k =
     near = to-pairs sh ram views h k.viewed_word_is_current_or_doomed k.no_view_after_the_halt
 
     seen : AllSeen views h.world
-    seen c = uses-seen (h.world.cores c).cache (h.world.cores c).phase (views c) ((k.carried_views.read_marks_are_the_view c).stand)
+    seen c = uses-seen (h.world.cores c).cache (h.world.cores c).phase (views c) (k.carried_views.read_marks_are_the_view c).stand
         (k.no_view_after_the_halt c)
 
     doomed : (c : ℕ) → (h.world.cores c).phase ≡ DoomedTid → views c ≡ []
-    doomed c q = subst (UsesStand (h.world.cores c).cache (views c)) q ((k.carried_views.read_marks_are_the_view c).stand)
+    doomed c q = subst (UsesStand (h.world.cores c).cache (views c)) q (k.carried_views.read_marks_are_the_view c).stand
 
     after : (vs : Views) (o : Stepped) → AllNear sh ram (and_noted o.noted h.commits) vs o.world → Keeping sh p ram h vs o
     after vs o a gs ys y q = from-pairs sh p ram gs ys vs (After h o) y q a
@@ -250,13 +421,13 @@ keeps_views sh p entries ram gs ys views m h e k =
     answered c d i Drops f =
         λ gs ys y q. from-pairs sh p ram gs ys views
         (record { world = dir_takes h.world c d i (h.world.dirs d) (λ dst. []); commits = h.commits }) y q
-        (f (y.commit_is_on_its_way_or_applied))
+        (f y.commit_is_on_its_way_or_applied)
     answered c d i (Asks s sends) f =
         λ gs ys y q. from-pairs sh p ram gs ys views (record { world = dir_asks h.world d s sends; commits = h.commits }) y q
-        (f (y.commit_is_on_its_way_or_applied))
+        (f y.commit_is_on_its_way_or_applied)
     answered c d i (Takes s sends) f =
         λ gs ys y q. from-pairs sh p ram gs ys views (record { world = dir_takes h.world c d i s sends; commits = h.commits }) y q
-        (f (y.commit_is_on_its_way_or_applied))
+        (f y.commit_is_on_its_way_or_applied)
 
     recording : (x : Option Stepped) → IfSome x (Keeping sh p ram h (views_after sh p h.world e views))
         → IfSome (recorded h x) (λ g. Carried sh (gs ++ granted_by h.world e) (ways_after (sent_by sh p h.world e) ys) g

@@ -78,7 +78,7 @@ pub record Tells (sh : Shape) (s : CoreState) (o : Out) : Type 0 where
   pub commits : IfSome o.commit (TellsCommit sh s o)
 
 tells-steady : (sh : Shape) (s : CoreState) (o : Out) → Steady s o → Tells sh s o
-tells-steady sh s o y = record { skips = λ d t l e. inl (go d t s.phase refl (rw (y.phase) at e)); commits = rw (y.commit) tt }
+tells-steady sh s o y = record { skips = λ d t l e. inl (go d t s.phase refl (rw y.phase at e)); commits = rw y.commit tt }
   where
     written : (Acts s.phase → ⊥) → (d : ℕ) → writes_at sh o.core.cache d ≡ writes_at sh s.cache d
     written h d = writes_at-same sh o.core.cache s.cache d (y.modified h)
@@ -112,13 +112,13 @@ tells-alone sh c u s l e q h = tells-none sh s (solo_commit sh c u (after_end s 
 })
   where
     words : Words sh true s.cache s.spilled s.stores
-    words = rw q at (h.words)
+    words = rw q at h.words
 
 tells-committed : (sh : Shape) (id u : ℕ) (s : CoreState) → s.phase ≡ Ready u → OneCore sh s → Tells sh s (commit sh id u s)
 unfolding commit committed_core noted has_tid live_way
 tells-committed sh id u s e h = tells-none sh s (commit sh id u s) (phase_after_commit s.ended) refl (skips-after s.ended) (record {
   has = rw e (grind nats);
-  told = λ d l. rw e (rw (← stored-written sh s.cache s.spilled s.stores d (rw e at (h.words))) (ready-told sh s.cache u d l));
+  told = λ d l. rw e (rw (← stored-written sh s.cache s.spilled s.stores d (rw e at h.words)) (ready-told sh s.cache u d l));
 })
 
 pub tells-exec : (sh : Shape) (p : Program) (c : ℕ) (s : CoreState) → OneCore sh s → IfSome (core_exec sh p c s) (λ o. Tells sh s o)
@@ -178,7 +178,7 @@ tells-hurt : (sh : Shape) (l : ℕ) (s : CoreState) (o : Out) → Invalidated sh
 tells-hurt sh l s o i = go i.hurt
   where
     quiet : IfSome o.commit (TellsCommit sh s o)
-    quiet = rw (i.commit) tt
+    quiet = rw i.commit tt
 
     go : Hurt sh s o.core i.sends → Tells sh s o
     go (Unhurt ph ow mo re se) = record {

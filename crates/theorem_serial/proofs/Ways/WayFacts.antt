@@ -13,11 +13,11 @@ use proofs.Counts.Links.{total-le, total-zero, num-one}
 use proofs.Run.AllInvariants.{step-all, all-at-start}
 use proofs.Serving.CommitSteps.{commits_served}
 use proofs.Tids.Commits.{positive-granted}
-use proofs.Tids.DirTids.{skipped-above}
-use proofs.Ways.ToldSteps.{ByCore, Speaks, step-speaks, step-live-out, step-committed-out}
+use proofs.Tids.TidSteps.{skipped-above}
+use proofs.Ways.ToldSteps.{ByCore, Speaks, step-speaks, step-live-out, step-committed-out, Loads, Later, step-loads, step-later, loads-out}
+use proofs.Ways.ToldSteps.{worked-out}
 use proofs.Ways.WayParts.{parts_in, resolved-split, in-way}
 use proofs.Ways.WaySteps.{step-ways, start-ways}
-use proofs.Ways.WorkedSteps.{Loads, Later, step-loads, step-later, loads-out, worked-out}
 
 -- The ways in which each TID was given to each directory, through every event and along every run.
 pub step-run : (sh : Shape) (p : Program) (gs : List Grant) (ys : Ways) (h : History) (e : Event) → KeptRun sh gs ys h
@@ -186,19 +186,16 @@ settled-way : (sh : Shape) (w : World) (d t : ℕ) → WayAt sh w d t Committed 
 unfolding kept_in
 settled-way sh w d t h z = go (nat_lt t (tid_at w d)) refl
   where
-    go : (b : Bool) → nat_lt t (tid_at w d) ≡ b
-        → (t < tid_at w d) ⊎ ((tid_at w d ≡ t) × (1 ≤ (w.dirs d).owed))
+    go : (b : Bool) → nat_lt t (tid_at w d) ≡ b → (t < tid_at w d) ⊎ ((tid_at w d ≡ t) × (1 ≤ (w.dirs d).owed))
     go true q = inl (grind nats)
     go false q = let n : num (nat_lt t (tid_at w d)) ≡ 0 = ap num q in
         inr (served (num-one ((t == tid_at w d) && nat_lt 0 (w.dirs d).owed) (omega (arith, h, z, n))))
       where
-        served : ((t == tid_at w d) && nat_lt 0 (w.dirs d).owed) ≡ true
-            → (tid_at w d ≡ t) × (1 ≤ (w.dirs d).owed)
+        served : ((t == tid_at w d) && nat_lt 0 (w.dirs d).owed) ≡ true → (tid_at w d ≡ t) × (1 ≤ (w.dirs d).owed)
         served q = (grind nats, grind nats)
 
 -- no Commit is in flight where the sum is 0
-pub none-sent : (sh : Shape) (w : World) (c d t : ℕ) → c < sh.cores → parts_in Committed sh w d t ≡ 0
-    → live (Commits t) (to_dir w c d) ≡ 0
+pub none-sent : (sh : Shape) (w : World) (c d t : ℕ) → c < sh.cores → parts_in Committed sh w d t ≡ 0 → live (Commits t) (to_dir w c d) ≡ 0
 unfolding share part_in pair
 none-sent sh w c d t l z = omega (arith, z, total-le (share (part_in Committed sh d t) w d) sh.cores c l)
 
@@ -216,11 +213,11 @@ ways-fit sh ys w d t r h = record {
   kept = λ k. (kept-way sh w d t (ys d t) r h k, skipped-above (w.dirs d).serving t k);
   passed = λ p. passed (passed-way sh w d t (ys d t) r h p);
   owed = λ s o. is_settled (owed-way sh w d t (ys d t) r h s o);
-  settled = λ s. settled-way sh w d t (rw (s.committed) at h) (all-none sh w d t (s.handled));
+  settled = λ s. settled-way sh w d t (rw s.committed at h) (all-none sh w d t s.handled);
 }
   where
     is_settled : (ys d t ≡ Committed) × (parts_in Committed sh w d t ≡ 0) → Settled sh ys w d t
-    is_settled a = record { committed = a.0; handled = λ c l. none-sent sh w c d t l (a.1) }
+    is_settled a = record { committed = a.0; handled = λ c l. none-sent sh w c d t l a.1 }
 
     passed : (is_given_up (ys d t) ≡ true) ⊎ ((ys d t ≡ Committed) × (parts_in Committed sh w d t ≡ 0))
         → (is_given_up (ys d t) ≡ true) ⊎ Settled sh ys w d t
@@ -268,13 +265,12 @@ committed_where_stored = told_from CommittedWhereStored (λ sh gs ys h k. k.comm
 -- What became of the TIDs below a committed one.
 
 -- a Commit in flight is of the served TID, and else it was handled
-reached-in : (sh : Shape) (w : World) (d u : ℕ) → CommitsAreServed sh w → d < sh.dirs → WayAt sh w d u Committed
-    → u ≤ tid_at w d
+reached-in : (sh : Shape) (w : World) (d u : ℕ) → CommitsAreServed sh w → d < sh.dirs → WayAt sh w d u Committed → u ≤ tid_at w d
 unfolding kept_in share part_in pair
 reached-in sh w d u k l h = go (parts_in Committed sh w d u) refl
   where
     sent : (c : ℕ) × (c < sh.cores) × (1 ≤ share (part_in Committed sh d u) w d c) → u ≤ (tid_at w d)
-    sent r = omega (arith, k r.0 d u (r.1) l (r.2))
+    sent r = omega (arith, k r.0 d u r.1 l r.2)
 
     go : (x : ℕ) → parts_in Committed sh w d u ≡ x → u ≤ (tid_at w d)
     go a e = grind (nats, some-part)
@@ -293,7 +289,7 @@ passed sh gs ys h d t k l p q = go (passed-way sh h.world d t (ys d t) (k.all.ke
     go : (is_given_up (ys d t) ≡ true) ⊎ ((ys d t ≡ Committed) × (parts_in Committed sh h.world d t ≡ 0))
         → (is_given_up (ys d t) ≡ true) ⊎ Settled sh ys h.world d t
     go (inl a) = inl a
-    go (inr a) = inr (record { committed = a.0; handled = λ c m. none-sent sh h.world c d t m (a.1) })
+    go (inr a) = inr (record { committed = a.0; handled = λ c m. none-sent sh h.world c d t m a.1 })
 
 pub smaller_are_resolved : AlwaysTold SmallerAreResolved
 smaller_are_resolved = told_from SmallerAreResolved (λ sh gs ys h k d u l e. record {

@@ -11,13 +11,12 @@ use Names.{core_takes, dir_takes, dir_asks, vendor_gives, step, live, among, Pai
 use Names.{out_taken, after_grant, after_other_grant, share, opens, ResolvedAt, Kept, KeptTold, Way, Untold, Skipped, Aborted, Committed}
 use Names.{Ways, told_by, ways_after, sent_by, first_ways, part_in, kept_in, WayAt, KeptWays, FromCore}
 use proofs.Counts.DirOutcome.{Outcome, Waiting, Spent, AsksOwner, TakesSkip, TakesAbort, TakesCommit, TakesAck, outcome}
-use proofs.Tids.DirTids.{OnceAt, unserved, advance-count}
+use proofs.Tids.TidSteps.{OnceAt, unserved, advance-count, granted_waits}
 use proofs.Counts.Links.{live-sends, live-takes, total-zero}
 use proofs.Counts.StepCases.{differ, given, sum_move, sum_grant, sum_back, sum_back_away, sum_dir, sum_dir_away, sum_asks, sum_vendor}
 use proofs.Counts.StepCases.{OfAnswer, sent_cases}
 use proofs.Serving.KeptSteps.{core_of_grant, core_of_back, core_of_out, core_of_ask, once_at}
 use proofs.Tids.CoreTids.{KeepsPart, part-exec, part-evict, part-grant, part-back}
-use proofs.Tids.TidSteps.{granted_waits}
 use proofs.Ways.WayParts.{parts_in, resolved-split, gained, lost, told-moved, told-nothing}
 
 -- What a directory keeps as skipped is a TID of which a Skip or an Abort came, and it is owed acknowledgements only for one whose
@@ -276,9 +275,8 @@ step-ways sh p ys w e z h = sent_cases sh p w e (λ x g o. KeptTold sh o.world �
     taken c e k l None q = tt
     taken c e k l (Some o) q = λ n d t x y. way-back sh w e c k d t o (ys d t) l (q d t x) (z.told.tids.resolved d t x) (h d t x y)
 
-    dir : (c d k : ℕ) (m : Msg) (s : DirState) (sends : Sends) → FromCore w c d k m
-        → ((t : ℕ) → Heard (w.dirs d) m t s) → KeptTold sh (dir_takes w c d k s sends)
-        → KeptWays sh (ways_after nothing ys) (dir_takes w c d k s sends)
+    dir : (c d k : ℕ) (m : Msg) (s : DirState) (sends : Sends) → FromCore w c d k m → ((t : ℕ) → Heard (w.dirs d) m t s)
+        → KeptTold sh (dir_takes w c d k s sends) → KeptWays sh (ways_after nothing ys) (dir_takes w c d k s sends)
     dir c e k m s sends i u n d t x y =
         rw (told-nothing t (ys d t))
         (way-dir sh w c e k m s sends d t (ys d t) (core_of_out sh w c e k m z.told.tids i) i (u t) (z.told.tids.resolved d t x)
@@ -289,7 +287,7 @@ step-ways sh p ys w e z h = sent_cases sh p w e (λ x g o. KeptTold sh o.world �
     answered c d k m i Waits u = tt
     answered c d k m i Drops u = dir c d k m (w.dirs d) (λ dst. []) i (λ t. heard-still (w.dirs d) m t)
     answered c e k m i (Asks s sends) u =
-        λ n d t x y. rw (told-nothing t (ys d t)) (way-asks sh w e s sends d t (ys d t) ((u t).0) ((u t).1) (h d t x y))
+        λ n d t x y. rw (told-nothing t (ys d t)) (way-asks sh w e s sends d t (ys d t) (u t).0 (u t).1 (h d t x y))
     answered c d k m i (Takes s sends) u = dir c d k m s sends i u
 
 share-start : (sh : Shape) (entries : ℕ → Local) (ram : ℕ → ℕ) (d t j : ℕ) → share (part_in Untold sh d t) (start entries ram) d j ≡ 0
