@@ -91,7 +91,7 @@ unfoldable pub use Rattle.theorem_attempt.specs.Follows.{sees}
 pub use Rattle.theorem_attempt.specs.Marks.{UsesStand, AllStand, AttemptFits, MarksFit}
 pub use Rattle.theorem_attempt.specs.Views.{Views, uses_delivered, views_after, uses_executed, no_views, rolls_back, uses_violated}
 unfoldable pub use Rattle.theorem_attempt.specs.Views.{views_from}
-pub use Rattle.theorem_serial.proofs.Phrases.{nats, home_of, tid_at, to_dir, to_core, FromCore, FromDir}
+pub use Rattle.theorem_serial.proofs.Phrases.{nats, tested, grant_to, home_of, tid_at, to_dir, to_core, FromCore, FromDir}
 pub use Rattle.theorem_serial.specs.Theorem.{Suits, AllHold, IsSerialExecution, RunsAreSerial}
 pub use Rattle.theorem_serial.specs.Alone.{ReadFits, IsApart, OwingFits, PhaseFits}
 pub use Rattle.theorem_serial.specs.AtHomes.{MarkedAtHomes, AccessesAtHomes, MarksAtHomes, UsedAtHomes, WrittenInMemory}

@@ -8,7 +8,7 @@ use Names.{written_mask, read_cleared, is_modified, solo_commit, invalidated, ro
 use Names.{CoreState, stores_in, core_exec, any_word, cases_eq, ◌≡◌, from_dir, is_some, word_at, mask_of, Spilled, OneCore, Program}
 use Names.{word_of, line_of, IsCache, cleaned, ◌<◌, nothing, is_solo, Option, commit, IfSome, filled, CopyOf, passes, stored, marked}
 use Names.{placed, false, arith, Shape, lines, Cache, holds, Ready, noted, Words, moves, grant, among, ◌==◌, ◌&&◌, ◌||◌, Bool, true, not}
-use Names.{Some, None, refl, home, sym, ◌∙◌, num, Dir, ◌+◌, ◌≤◌, ◌⊎◌, inl, inr, hit, Msg, Inv, Out, ℕ, nats}
+use Names.{Some, None, refl, home, sym, ◌∙◌, num, Dir, ◌+◌, ◌≤◌, ◌⊎◌, inl, inr, hit, Msg, Inv, Out, ℕ, nats, ◌≢◌}
 use proofs.Copies.CopySends.{few-masks, commit-copies, solo-copies, solo-wrong, flushed-leaves, back-home-leaves, Conserves}
 use proofs.Copies.CopySends.{conserves-still, conserves-sent, framed-dirty, wrong-copy, IsClean, clean-frame, committed-frame, frame_copy}
 use proofs.Copies.CopySends.{fewer-frame}
@@ -95,10 +95,10 @@ spilled-only c sp l h =
       h 7 (omega arith),
     ) refl
 
-pub alone-copies : (sh : Shape) (b : Bool) (l id u : ℕ) (s : CoreState) → l < lines sh → home sh l < sh.dirs
+pub alone-copies : {sh : Shape} {b : Bool} (l id u : ℕ) (s : CoreState) → l < lines sh → home sh l < sh.dirs
     → Words sh b s.cache s.spilled s.stores → Conserves sh l s (solo_commit sh id u s)
 unfolding solo_commit committed_core committed words_dropped noted names_line is_written
-alone-copies sh b l id u s i j h = go (holds s.spilled l) refl
+alone-copies {sh} {b} l id u s i j h = go (holds s.spilled l) refl
   where
     after : Cache
     after = committed u (words_dropped s.spilled s.cache)
@@ -184,10 +184,10 @@ pub record InMemory (sh : Shape) (l : ℕ) : Type 0 where
   pub home : home sh l < sh.dirs
 
 -- executing
-pub copies-exec : (sh : Shape) (l : ℕ) (p : Program) (id : ℕ) (s : CoreState) → InMemory sh l → OneCore sh s
+pub copies-exec : {sh : Shape} (l : ℕ) (p : Program) (id : ℕ) {s : CoreState} → InMemory sh l → OneCore sh s
     → IfSome (core_exec sh p id s) (Conserves sh l s)
 unfolding passes marked stored
-copies-exec sh l p id s m h = each-exec sh p id s (Conserves sh l s) go
+copies-exec {sh} l p id {s} m h = each-exec sh p id s (Conserves sh l s) go
   where
     w : ℕ → ℕ
     w a = word_of sh.base a
@@ -195,20 +195,20 @@ copies-exec sh l p id s m h = each-exec sh p id s (Conserves sh l s) go
     frames : (a y : ℕ) (also : Bool) (r : CoreState)
         → ((v : ℕ) → r.cache.dirty v ≡ (if line_of (w a) == line_of v then None else s.cache.dirty v))
         → Conserves sh l s (moves r (say sh s (Flushes (line_of (w a)))))
-    frames a y also r e = conserves-sent sh l (line_of (w a)) s (moves r (say sh s (Flushes (line_of (w a))))) refl e
+    frames a y also r e = conserves-sent sh s (moves r (say sh s (Flushes (line_of (w a))))) refl e
         (flushed-leaves sh l (line_of (w a)) s.cache)
 
     go : (x : Did sh p id s) → Conserves sh l s (out x)
     go (Frames a y also n k g i f) = frames a y also (after_store s a k (stored (w a) y also s.cache) s.spilled) (λ v. refl)
     go (Frames_anew a y n k g i q f h2) =
         conserves-still sh l s (moves (after_store s a k (stored (w a) y false (placed sh (line_of (w a)) s.cache)) s.spilled) nothing) refl
-        (λ j i. framed-dirty sh (w a) y s.cache h.words.cache q (word_at l j))
+        (λ j i. framed-dirty (w a) y h.words.cache q (word_at l j))
         (λ t. quiet sh s (CopyOf l t) Silent (λ y. refl) (home sh l))
     go (Misses_anew a n g i q f) =
         conserves-still sh l s (moves (record s { awaited = awaiting (line_of (w a)); cache = placed sh (line_of (w a)) s.cache })
         (say sh s (Requests (line_of (w a))))) refl (λ j i. dirty-placed sh (line_of (w a)) s.cache (word_at l j))
         (λ t. quiet sh s (CopyOf l t) (Requests (line_of (w a))) (λ y. refl) (home sh l))
-    go (Ends_alone t b e f r i) = let x = alone-copies sh (is_solo s.phase) l id t (after_end s b e) m.line m.home h.words in
+    go (Ends_alone t b e f r i) = let x = alone-copies l id t (after_end s b e) m.line m.home h.words in
         record { copies = x.copies; wrong = x.wrong }
     go (Commits_now t e) = ready-copies sh l id t s e h
     go x = conserves-still sh l s (out x) refl (λ k i. refl) (λ t. quiet sh s (CopyOf l t) (said x) (λ y. refl) (home sh l))
@@ -216,12 +216,12 @@ copies-exec sh l p id s m h = each-exec sh p id s (Conserves sh l s) go
 pub copies-evict : (sh : Shape) (l x y : ℕ) (s : CoreState) → IfSome (core_evict sh x y s) (Conserves sh l s)
 copies-evict sh l x y s =
     each-evict sh x y s (Conserves sh l s)
-    (λ k e a m. conserves-sent sh l k s (emptied sh x y k s) refl (λ v. dirty-evicted x y s.cache v k e) (back-home-leaves sh l k s.cache))
+    (λ k e a m. conserves-sent sh s (emptied sh x y k s) refl (λ v. dirty-evicted x y s.cache v k e) (back-home-leaves sh l k s.cache))
 
 -- messages
 
 -- a word of another line isn't hit
-pub missed : (k m l w : ℕ) → line_of w ≡ l → (k ≡ l → ⊥) → hit k m w ≡ false
+pub missed : (k m l w : ℕ) → line_of w ≡ l → k ≢ l → hit k m w ≡ false
 unfolding hit
 missed k m l w e n = let z : (k == line_of w) ≡ false = rw e (grind nats) in rw z refl
 
@@ -245,7 +245,7 @@ pub copies-back : (sh : Shape) (l e : ℕ) (s : CoreState) (m : Msg) → IsCache
 unfolding invalidated rolled_back cleaned filled read_cleared passes
 copies-back sh l e s m h = each-back sh e s (BackStep sh l s) go m
   where
-    away : (k m : ℕ) → (k ≡ l → ⊥) → (j : ℕ) → j < 8 → (invalidated k m s.cache).dirty (word_at l j) ≡ s.cache.dirty (word_at l j)
+    away : (k m : ℕ) → k ≢ l → (j : ℕ) → j < 8 → (invalidated k m s.cache).dirty (word_at l j) ≡ s.cache.dirty (word_at l j)
     away k m n j i = let z : line_of (word_at l j) ≡ l = line_of-word_at l j i in
         none (hit k m (word_at l j)) (s.cache.modified (word_at l j)) (missed k m l (word_at l j) z n)
       where
@@ -265,13 +265,11 @@ copies-back sh l e s m h = each-back sh e s (BackStep sh l s) go m
     hurt : (k m u : ℕ) (x : Heard sh e s) → (heard x).commit ≡ None
         → ((v : ℕ) → (heard x).core.cache.dirty v ≡ (invalidated k m s.cache).dirty v)
         → ((t : ℕ) → among (CopyOf l t) ((heard x).sends (Dir (home sh l))) ≡ 0) → BackStep sh l s (Inv k m u) (heard x)
-    hurt k m u x n f told = cases (cases_eq k l)
-      where
-        cases : (k ≡ l) ⊎ (k ≡ l → ⊥) → BackStep sh l s (Inv k m u) (heard x)
-        cases (inl q) =
-            Invalidates m u (rw q refl) n
-            (λ t. omega (arith, told t, fewer-frame sh s.cache (heard x).core.cache l h (λ j i. rw (f (word_at l j)) (here k m j i)) t))
-        cases (inr q) = Kept (conserves-still sh l s (heard x) n (λ j i. f (word_at l j) ∙ away k m q j i) told)
+    hurt k m u x n f told = elim (cases_eq k l) [
+      | inl q ↦ Invalidates m u (rw q refl) n
+          (λ t. omega (arith, told t, fewer-frame sh s.cache (heard x).core.cache l h (λ j i. rw (f (word_at l j)) (here k m j i)) t))
+      | inr q ↦ Kept (conserves-still sh l s (heard x) n (λ j i. f (word_at l j) ∙ away k m q j i) told)
+    ]
 
     none : (x : Heard sh e s) → ((t : ℕ) → Unheard (CopyOf l t) (heard_said x)) → ((t : ℕ) (b : Bool) → hears_ack (CopyOf l t) x b ≡ false)
         → (t : ℕ) → among (CopyOf l t) ((heard x).sends (Dir (home sh l))) ≡ 0
@@ -279,7 +277,7 @@ copies-back sh l e s m h = each-back sh e s (BackStep sh l s) go m
 
     go : (x : Heard sh e s) → BackStep sh l s (message x) (heard x)
     go (Hands_out k) =
-        Kept (conserves-sent sh l k s (moves (record s { cache = cleaned k s.cache }) (say sh s (Flushes k))) refl
+        Kept (conserves-sent sh s (moves (record s { cache = cleaned k s.cache }) (say sh s (Flushes k))) refl
         (λ v. refl) (flushed-leaves sh l k s.cache))
     go (Hurt_none k m u n) = hurt k m u (Hurt_none k m u n) refl (λ v. refl) (none (Hurt_none k m u n) (λ t y. refl) (λ t b. refl))
     go (Hurt_running k m u v q) =

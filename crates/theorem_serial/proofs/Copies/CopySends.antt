@@ -10,7 +10,7 @@ use Names.{is_modified, dirty_tag, dirty_mask, modified_mask, first_of_line, any
 use Names.{◌∷◌, ◌++◌, nat_lt, flat_map, flat_map-append, those, count_below, Dir, Msg, Skip, Mark, Commit, WriteBack, Flush, home, lines}
 use Names.{dirty_words, dirty_copy, Spilled, holds, spilled_mask, spilled_words, commit_sends, solo_sends, solo_marks_or_skip}
 use Names.{solo_write_backs, solo_writes_at, is_written, written_mask, to, flush_of, flush_line, write_back_line, CopyOf, CopyMask, among}
-use Names.{passes, stored, cases_eq, Noted, line_of, placed, CoreState, Out, stores_in, names_line}
+use Names.{passes, stored, cases_eq, Noted, line_of, placed, CoreState, Out, stores_in, names_line, ◌≢◌, tested}
 use proofs.Counts.Links.{among-append, among-flat_map_none}
 
 -- The copies of a line in a core's frame, by the dirty words of the line.
@@ -122,8 +122,8 @@ unfolding is_dirty any_word
 some-dirty c l k t i e = any_below-at (λ k. is_some (c.dirty (word_at l k))) 8 k i (rw e refl)
 
 -- the tag of a word that is dirty is that of its line
-pub tag-of : (sh : Shape) (c : Cache) (l k t : ℕ) → IsCache sh c → k < 8 → c.dirty (word_at l k) ≡ Some t → dirty_tag c l ≡ t
-tag-of sh c l k t h i e =
+pub tag-of : {sh : Shape} {c : Cache} (l k t : ℕ) → IsCache sh c → k < 8 → c.dirty (word_at l k) ≡ Some t → dirty_tag c l ≡ t
+tag-of {c} l k t h i e =
     let x = dirty-found c l (some-dirty c l k t i e) in
     h.one_tag (word_at l x.0) (word_at l k) (dirty_tag c l) t (line_of-word_at l x.0 x.1 ∙ sym (line_of-word_at l k i)) x.2 e
 
@@ -138,7 +138,7 @@ fewer-frame sh c e l h f t = go (is_dirty e l) refl
         → (e.dirty (word_at l k) ≡ None) ⊎ (e.dirty (word_at l k) ≡ c.dirty (word_at l k))
         → (is_dirty c l ≡ true) × (dirty_tag c l ≡ dirty_tag e l)
     found k i y (inl n) = absurd (let z = sym y ∙ n in cc)
-    found k i y (inr s) = (some-dirty c l k (dirty_tag e l) i (sym s ∙ y), tag-of sh c l k (dirty_tag e l) h i (sym s ∙ y))
+    found k i y (inr s) = (some-dirty c l k (dirty_tag e l) i (sym s ∙ y), tag-of l k (dirty_tag e l) h i (sym s ∙ y))
 
     go : (b : Bool) → is_dirty e l ≡ b → num (b && dirty_tag e l == t) ≤ num (is_dirty c l && dirty_tag c l == t)
     go false q = omega arith
@@ -147,25 +147,24 @@ fewer-frame sh c e l h f t = go (is_dirty e l) refl
 -- where the modified words become dirty
 none-modified : (c : Cache) (l : ℕ) → is_modified c l ≡ false → (k : ℕ) → k < 8 → c.modified (word_at l k) ≡ false
 unfolding is_modified any_word
-none-modified c l e k i = go (c.modified (word_at l k)) refl
-  where
-    go : (b : Bool) → c.modified (word_at l k) ≡ b → c.modified (word_at l k) ≡ false
-    go false q = q
-    go true q = absurd (let a = any_below-at (λ k. c.modified (word_at l k)) 8 k i q in cc)
+none-modified c l e k i = elim (tested (c.modified (word_at l k))) [
+  | inr q ↦ q
+  | inl q ↦ absurd (let a = any_below-at (λ k. c.modified (word_at l k)) 8 k i q in cc)
+]
 
 -- the words that were modified are dirty with this tag, and the others as they were
 abbrev pub Committed : Cache → Cache → (line tag : ℕ) → Type 0
 Committed c e l u = (k : ℕ) → k < 8 → e.dirty (word_at l k) ≡ (if c.modified (word_at l k) then Some u else c.dirty (word_at l k))
 
 -- a line with modified words has no dirty one
-no-dirty : (sh : Shape) (c : Cache) (l : ℕ) → IsCache sh c → is_modified c l ≡ true → IsClean c l
+no-dirty : {sh : Shape} {c : Cache} (l : ℕ) → IsCache sh c → is_modified c l ≡ true → IsClean c l
 unfolding is_modified any_word
-no-dirty sh c l h m k i = let x = any_below-found (λ k. c.modified (word_at l k)) 8 m in
+no-dirty {c} l h m k i = let x = any_below-found (λ k. c.modified (word_at l k)) 8 m in
     h.either (word_at l x.0) (word_at l k) (line_of-word_at l x.0 x.1 ∙ sym (line_of-word_at l k i)) x.2
 
 new-dirty : (sh : Shape) (c e : Cache) (l u : ℕ) → IsCache sh c → Committed c e l u → is_modified c l ≡ true → (k : ℕ) → k < 8
     → e.dirty (word_at l k) ≡ (if c.modified (word_at l k) then Some u else None)
-new-dirty sh c e l u h f m k i = rw (no-dirty sh c l h m k i) at (f k i)
+new-dirty sh c e l u h f m k i = rw (no-dirty l h m k i) at (f k i)
 
 dirty-modified : (c e : Cache) (l u : ℕ) → ((k : ℕ) → k < 8 → e.dirty (word_at l k) ≡ (if c.modified (word_at l k) then Some u else None))
     → (is_dirty e l ≡ is_modified c l) × (dirty_mask e l ≡ modified_mask c l)
@@ -212,7 +211,7 @@ committed-frame sh c e l u h f = go (is_modified c l) refl
         is a q = grind nats
 
     clean : is_modified c l ≡ true → is_dirty c l ≡ false
-    clean m = clean-dirty c l (no-dirty sh c l h m)
+    clean m = clean-dirty c l (no-dirty l h m)
 
     go : (b : Bool) → is_modified c l ≡ b
         → ((t : ℕ) → num (is_dirty e l && dirty_tag e l == t) ≡ num (is_dirty c l && dirty_tag c l == t) + num (b && u == t))
@@ -243,7 +242,7 @@ few-masks l t n (m ∷ ms) = omega (arith, mask-copy l t n m, few-masks l t n ms
 -- what leaves a frame of line k is the frame's copy of it
 pub record Leaves (l k : ℕ) (c : Cache) (ms : List Msg) : Type 0 where
   pub same : k ≡ l → ((t : ℕ) → among (CopyOf l t) ms ≡ frame_copy c l t) × ((t n : ℕ) → among (CopyMask l t n) ms ≡ frame_wrong c l t n)
-  pub other : (k ≡ l → ⊥) → (t : ℕ) → among (CopyOf l t) ms ≡ 0
+  pub other : k ≢ l → (t : ℕ) → among (CopyOf l t) ms ≡ 0
 
 leaves-none : (l k : ℕ) (c : Cache) → is_dirty c k ≡ false → Leaves l k c []
 unfolding frame_copy frame_wrong among
@@ -283,9 +282,9 @@ back-leaves l k c = go (is_dirty c k) refl
     go true q = leaves-one l k c (WriteBack k (dirty_mask c k) (dirty_words c k) (dirty_tag c k)) q (λ t. refl) (λ t n. refl)
 
 -- they go to the line's home
-at-home : (sh : Shape) (l k : ℕ) (c : Cache) (ms : List Msg) → Leaves l k c ms → Leaves l k c (to (Dir (home sh k)) ms (Dir (home sh l)))
+at-home : (sh : Shape) {l k : ℕ} {c : Cache} {ms : List Msg} → Leaves l k c ms → Leaves l k c (to (Dir (home sh k)) ms (Dir (home sh l)))
 unfolding among
-at-home sh l k c ms h = go (home sh l == home sh k) refl
+at-home sh {l} {k} {c} {ms} h = go (home sh l == home sh k) refl
   where
     go : (b : Bool) → (home sh l == home sh k) ≡ b → Leaves l k c (if b then ms else [])
     go true q = h
@@ -296,11 +295,11 @@ at-home sh l k c ms h = go (home sh l == home sh k) refl
 
 pub flushed-leaves : (sh : Shape) (l k : ℕ) (c : Cache) → Leaves l k c (flush_line sh c k (Dir (home sh l)))
 unfolding flush_line
-flushed-leaves sh l k c = at-home sh l k c (flush_of (dirty_copy c k)) (flush-leaves l k c)
+flushed-leaves sh l k c = at-home sh (flush-leaves l k c)
 
 pub back-home-leaves : (sh : Shape) (l k : ℕ) (c : Cache) → Leaves l k c (write_back_line sh c k (Dir (home sh l)))
 unfolding write_back_line
-back-home-leaves sh l k c = at-home sh l k c (write_back_of (dirty_copy c k)) (back-leaves l k c)
+back-home-leaves sh l k c = at-home sh (back-leaves l k c)
 
 -- copies of some lines, one each
 one-back : (p : ℕ → Bool) (f : ℕ → ℕ) (ws : ℕ → List ℕ) (u t l n : ℕ)
@@ -419,27 +418,25 @@ conserves-still sh l s o e h z =
     }
 
 -- the dirty words of line k are sent, and become clean
-pub conserves-sent : (sh : Shape) (l k : ℕ) (s : CoreState) (o : Out) → o.commit ≡ None
+pub conserves-sent : (sh : Shape) {l k : ℕ} (s : CoreState) (o : Out) → o.commit ≡ None
     → ((v : ℕ) → o.core.cache.dirty v ≡ (if k == line_of v then None else s.cache.dirty v)) → Leaves l k s.cache (o.sends (Dir (home sh l)))
     → Conserves sh l s o
-conserves-sent sh l k s o e h y = go (cases_eq k l)
+conserves-sent sh {l} {k} s o e h y = elim (cases_eq k l) [
+  | inl q ↦ let x = y.same q in
+      let z : (k == l) ≡ true = grind nats in
+      let f : (t : ℕ) → frame_copy o.core.cache l t ≡ 0 = clean-frame o.core.cache l (λ i j. at-line i j true z) in record {
+        copies = λ t. rw e (omega (arith, f t, x.0 t));
+        wrong = λ t m. rw e (omega (arith, f t, wrong-copy o.core.cache l t m, x.1 t m));
+      }
+  | inr q ↦ let z : (k == l) ≡ false = grind nats in conserves-still sh l s o e (λ i j. at-line i j false z) (y.other q)
+]
   where
     at-line : (i : ℕ) → i < 8 → (b : Bool) → (k == l) ≡ b
         → o.core.cache.dirty (word_at l i) ≡ (if b then None else s.cache.dirty (word_at l i))
     at-line i j b q = let z : line_of (word_at l i) ≡ l = line_of-word_at l i j in h (word_at l i) ∙ rw (z, q) refl
 
-    go : (k ≡ l) ⊎ (k ≡ l → ⊥) → Conserves sh l s o
-    go (inl q) =
-        let x = y.same q in
-        let z : (k == l) ≡ true = grind nats in
-        let f : (t : ℕ) → frame_copy o.core.cache l t ≡ 0 = clean-frame o.core.cache l (λ i j. at-line i j true z) in record {
-          copies = λ t. rw e (omega (arith, f t, x.0 t));
-          wrong = λ t m. rw e (omega (arith, f t, wrong-copy o.core.cache l t m, x.1 t m));
-        }
-    go (inr q) = let z : (k == l) ≡ false = grind nats in conserves-still sh l s o e (λ i j. at-line i j false z) (y.other q)
-
 -- nor after a store into it
-pub framed-dirty : (sh : Shape) (w x : ℕ) (c : Cache) → IsCache sh c → c.held (line_of w) ≡ false → (v : ℕ)
+pub framed-dirty : {sh : Shape} (w x : ℕ) {c : Cache} → IsCache sh c → c.held (line_of w) ≡ false → (v : ℕ)
     → (stored w x false (placed sh (line_of w) c)).dirty v ≡ c.dirty v
 unfolding stored
-framed-dirty sh w x c h e v = grind (nats, dirty-placed, unheld-clean)
+framed-dirty w x h e v = grind (nats, dirty-placed, unheld-clean)

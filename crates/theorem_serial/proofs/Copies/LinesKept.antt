@@ -6,7 +6,7 @@ use Names.{ℕ, ◌+◌, ◌≡◌, ◌<◌, ◌≤◌, ◌==◌, false, List, O
 use Names.{Shape, home, lines, World, Out, core_moves, History, and_noted, insert_commit, KeptTags, KeptLineOwners, Commits, live, among}
 use Names.{KeptRun, Grant, times, Pair, pair, after_move, share, part, Ways, part_in, nats, to_dir, true, [], Local, any_below, any_word}
 use Names.{Cache, empty_cache, is_dirty, dirty_tag, dirty_mask, no_lines, start, core_start, dir_start, copies_with, AboveOf, KeptAbove}
-use Names.{OwnedOf, KeptOwned, wrote, wrote_line, wrote_mask}
+use Names.{OwnedOf, KeptOwned, wrote, wrote_line, wrote_mask, ◌≢◌}
 use proofs.Serving.CommitSteps.{ofs-resolve}
 use proofs.Marks.AfterKept.{AfterStep}
 use proofs.Copies.CopySends.{Conserves, frame_copy, frame_wrong}
@@ -50,16 +50,16 @@ unfolding pair
 conserves-pair sh w c d l o k = k
 
 -- a commit that the core notes
-pub new-of : (sh : Shape) (gs : List Grant) (ys : Ways) (h : History) (c d l : ℕ) (o : Out) (n : Noted) → Before sh gs ys h → c < sh.cores
-    → d < sh.dirs → l < lines sh → home sh l ≡ d → o.commit ≡ Some n → n.core.0 ≡ c → Speaks sh h.world c o
+pub new-of : {sh : Shape} {gs : List Grant} {ys : Ways} {h : History} {c d : ℕ} (l : ℕ) {o : Out} {n : Noted} → Before sh gs ys h
+    → c < sh.cores → d < sh.dirs → l < lines sh → home sh l ≡ d → o.commit ≡ Some n → n.core.0 ≡ c → Speaks sh h.world c o
     → NewCommit sh.base h.commits c d l (pair h.world c d) o n
 unfolding pair share part part_in
-new-of sh gs ys h c d l o n b cl dl ll e q r u = record {
+new-of {sh} {gs} {ys} {h} {c} {d} l {o} {n} b cl dl ll e q r u = record {
   fresh = fresh;
   core = r;
-  tag = λ s f. untagged sh h d l n.tid.0 b.tags dl ll e (positive-held sh gs h.world h.commits c n.tid.0 b.told.all.owners tells.has)
+  tag = λ s f. untagged sh h d l n.tid.0 b.tags dl ll e (positive-held c n.tid.0 b.told.all.owners tells.has)
       fresh f;
-  sent = λ s. sent (commit-sent sh gs ys h c d o n b.told cl tells dl (stored-home sh d l n ll e s));
+  sent = λ s. sent (commit-sent c d b.told cl tells dl (stored-home sh l n ll e s));
   others = λ t f. let z : among (Commits t) (o.sends (Dir d)) ≤ num (n.tid.0 == t) = rw q at (u.noted d t) in
       let y : num (n.tid.0 == t) ≡ 0 = ap num f in omega (arith, z, y);
 }
@@ -71,7 +71,7 @@ new-of sh gs ys h c d l o n b cl dl ll e q r u = record {
         of a e y = rw e at y
 
     fresh : times n.tid.0 h.commits ≡ 0
-    fresh = uncommitted sh gs ys h c n.tid.0 b.told cl tells.has
+    fresh = uncommitted c n.tid.0 b.told cl tells.has
 
     sent : 1 ≤ among (Commits n.tid.0) (o.sends (Dir d)) → live (Commits n.tid.0) (to_dir h.world c d) + among (Commits n.tid.0)
         (o.sends (Dir d)) ≡ 1
@@ -106,23 +106,23 @@ own-lines sh gs ys h c d o b a l cl dl ll e = go a.after
 
     go : AfterStep sh c (h.world.cores c) o → LineCopies sh.base (and_noted o.commit h.commits) c l (after_move (pair h.world c d) o d)
     go (inl x) = subst (λ n. LineCopies sh.base (and_noted n h.commits) c l (after_move (pair h.world c d) o d)) (sym x.commit)
-        (copies-moved sh h.commits c d l (pair h.world c d) o e x.commit (quiet x.commit) keeps (b.lines c d l cl dl ll e))
+        (copies-moved sh o e x.commit (quiet x.commit) keeps (b.lines c d l cl dl ll e))
     go (inr x) = subst (λ n. LineCopies sh.base (and_noted n h.commits) c l (after_move (pair h.world c d) o d)) (sym x.commit)
-        (copies-committed sh h.commits c d l (pair h.world c d) o x.noted e x.commit
-        (new-of sh gs ys h c d l o x.noted b cl dl ll e x.commit x.core a.speaks) keeps (b.lines c d l cl dl ll e))
+        (copies-committed c d l o e x.commit
+        (new-of l b cl dl ll e x.commit x.core a.speaks) keeps (b.lines c d l cl dl ll e))
 
 -- another core's: what it wrote stays
-more-lines : (base : ℕ) (n : Noted) (cs : List Noted) (j l : ℕ) (v : Pair) → (n.core.0 == j) ≡ false → LineCopies base cs j l v
+more-lines : {base : ℕ} (n : Noted) {cs : List Noted} (j l : ℕ) {v : Pair} → (n.core.0 == j) ≡ false → LineCopies base cs j l v
     → LineCopies base (insert_commit n cs) j l v
-more-lines base n cs j l v e h =
+more-lines {base} n {cs} j l e h =
     let same : (t : ℕ) → SameWrote base cs (insert_commit n cs) j t l = λ t. wrote-other base n cs j t l (rw e refl) in
     record { owned = h.owned; above = λ t i. rw (same t).line (h.above t i); masks = λ t i. rw (same t).mask (h.masks t i) }
 
-other-lines : (sh : Shape) (h : History) (c j d : ℕ) (o : Out) → (j ≡ c → ⊥) → KeptLines sh h.commits h.world
+other-lines : (sh : Shape) (h : History) (c j d : ℕ) (o : Out) → j ≢ c → KeptLines sh h.commits h.world
     → AfterStep sh c (h.world.cores c) o → CopiesAt sh (and_noted o.commit h.commits) j d (pair h.world j d)
 other-lines sh h c j d o n k (inl x) = subst (λ a. CopiesAt sh (and_noted a h.commits) j d (pair h.world j d)) (sym x.commit) (k j d)
 other-lines sh h c j d o n k (inr x) = subst (λ a. CopiesAt sh (and_noted a h.commits) j d (pair h.world j d)) (sym x.commit)
-    (λ l cl dl ll e. more-lines sh.base x.noted h.commits j l (pair h.world j d) (let y = x.core in grind nats)
+    (λ l cl dl ll e. more-lines x.noted j l (let y = x.core in grind nats)
     (k j d l cl dl ll e))
 
 pub moved-lines : (sh : Shape) (gs : List Grant) (ys : Ways) (h : History) (c : ℕ) (o : Out) → Before sh gs ys h → Acts sh h.world c o
@@ -136,28 +136,28 @@ moved-lines sh gs ys h c o b a j d = either j c
 -- The facts of the list on copies, from what is kept of each line in memory; and that the start has it.
 
 -- no frame that is dirty with the tag has another mask
-right-mask : (c : Cache) (l t n : ℕ) → frame_wrong c l t n ≡ 0 → is_dirty c l ≡ true → dirty_tag c l ≡ t → dirty_mask c l ≡ n
+right-mask : (c : Cache) (l t : ℕ) {n : ℕ} → frame_wrong c l t n ≡ 0 → is_dirty c l ≡ true → dirty_tag c l ≡ t → dirty_mask c l ≡ n
 unfolding frame_wrong
-right-mask c l t n z d e = grind nats
+right-mask c l t z d e = grind nats
 
-above-one : (base : ℕ) (cs : List Noted) (c l t : ℕ) (v : Pair) → LineCopies base cs c l v → v.dir.lines.tag l < t → AboveOf base cs c l t v
+above-one : {base : ℕ} {cs : List Noted} (c l t : ℕ) {v : Pair} → LineCopies base cs c l v → v.dir.lines.tag l < t → AboveOf base cs c l t v
 unfolding copies_with line_copies line_wrong frame_copy
-above-one base cs c l t v h i = record {
+above-one {base} {cs} c l t {v} h i = record {
   one = h.above t i;
-  framed = right-mask v.core.cache l t (wrote_mask base cs c t l) (omega (arith, h.masks t i));
+  framed = right-mask v.core.cache l t (omega (arith, h.masks t i));
   sent = omega (arith, h.masks t i);
 }
 
-owned-one : (base : ℕ) (cs : List Noted) (c l : ℕ) (v : Pair) → LineCopies base cs c l v → OwnedOf c l v
+owned-one : {base : ℕ} {cs : List Noted} {c l : ℕ} {v : Pair} → LineCopies base cs c l v → OwnedOf c l v
 unfolding copies_with line_copies frame_copy
-owned-one base cs c l v h = h.owned
+owned-one h = h.owned
 
 pub above-from : (sh : Shape) (cs : List Noted) (w : World) → KeptLines sh cs w → KeptAbove sh w cs
 unfolding pair
-above-from sh cs w k c d l t cl dl ll e i = above-one sh.base cs c l t (pair w c d) (k c d l cl dl ll e) i
+above-from sh cs w k c d l t cl dl ll e i = above-one c l t (k c d l cl dl ll e) i
 
 pub owned-from : (sh : Shape) (cs : List Noted) (w : World) → KeptLines sh cs w → KeptOwned sh w
-owned-from sh cs w k c d l cl dl ll e = owned-one sh.base cs c l (pair w c d) (k c d l cl dl ll e)
+owned-from sh cs w k c d l cl dl ll e = owned-one (k c d l cl dl ll e)
 
 -- at the start
 no-line : (base c t l : ℕ) → wrote_line base [] c t l ≡ false

@@ -7,7 +7,7 @@ use Names.{cases_lt, Noted, num, Core, Dir, Msg, Inv, Shape, home, lines, Out, H
 use Names.{pair, after_move, Ways, wrote_line, ◌+◌, ◌&&◌, nat_lt, [], Contains, subst, cases_eq, has_mark, DirState, Sends, dir_takes}
 use Names.{dir_asks, CopyOf, after_answer, out_taken, is_applied, names_line, IfSome, Program, Vendor, Event, core_exec, core_evict}
 use Names.{from_dir, grant, Answer, Waits, Drops, Asks, Takes, dir_deliver, core_moves, core_takes, and_noted, step, grant_taken}
-use Names.{back_taken, after_grant, after_other_grant, is_this, nats, tid_at, to_dir, to_core, FromCore, FromDir}
+use Names.{back_taken, after_grant, after_other_grant, is_this, nats, tid_at, to_dir, to_core, FromCore, FromDir, ◌≢◌, tested}
 use proofs.Copies.PairCopies.{Answered, none-passes, still-similar, dropped-similar, came-similar, similar-copies, taken-copies}
 use proofs.Copies.PairCopies.{line_copies, LineCopies, copies-moved, copies-lost}
 use proofs.Copies.CopyRules.{BackStep, Kept, Invalidates, InMemory, copies-exec, copies-evict, copies-grant, copies-back}
@@ -31,9 +31,9 @@ use proofs.Ways.ToldSteps.{speaks}
 -- Every message that is taken keeps the copies of each line in memory.
 
 -- a pair in which nothing is different that the copies go by
-pub kept-copies : (base : ℕ) (cs : List Noted) (c l : ℕ) (v w : Pair) → w.core ≡ v.core → w.dir ≡ v.dir → w.out ≡ v.out
+pub kept-copies : {base : ℕ} {cs : List Noted} {c l : ℕ} {v : Pair} (w : Pair) → w.core ≡ v.core → w.dir ≡ v.dir → w.out ≡ v.out
     → LineCopies base cs c l v → LineCopies base cs c l w
-kept-copies base cs c l v w e f g = similar-copies base cs c l v w (record {
+kept-copies {base} {cs} {c} {l} {v} w e f g = similar-copies v w (record {
   cache = rw e refl;
   tag = rw f refl;
   owned = rw (f, g) refl;
@@ -43,25 +43,28 @@ kept-copies base cs c l v w e f g = similar-copies base cs c l v w (record {
 })
 
 -- no Commit of a TID above the served one is in flight
-pub none-later : (sh : Shape) (gs : List Grant) (ys : Ways) (h : History) (c d t : ℕ) → Before sh gs ys h → c < sh.cores → d < sh.dirs
+pub none-later : {sh : Shape} {gs : List Grant} {ys : Ways} {h : History} (c d t : ℕ) → Before sh gs ys h → c < sh.cores → d < sh.dirs
     → tid_at h.world d < t → live (Commits t) (to_dir h.world c d) ≡ 0
-none-later sh gs ys h c d t b cl dl l = go (cases_lt 0 (live (Commits t) (to_dir h.world c d)))
-  where
-    go : (0 < live (Commits t) (to_dir h.world c d)) ⊎ (live (Commits t) (to_dir h.world c d) ≤ 0)
-        → live (Commits t) (to_dir h.world c d) ≡ 0
-    go (inl x) = absurd (let y = commits_served sh h.world b.told.all.kept b.told.all.committing c d t cl dl (omega (arith, x)) in
-        omega (arith, y, l))
-    go (inr x) = omega (arith, x)
+none-later {sh} {h} c d t b cl dl l = elim (cases_lt 0 (live (Commits t) (to_dir h.world c d))) [
+  | inl x ↦ absurd (let y = commits_served b.told.all.kept b.told.all.committing c d t cl dl (omega (arith, x)) in
+      omega (arith, y, l))
+  | inr x ↦ omega (arith, x)
+]
 
-pub cond-none : (b : Bool) (x : ℕ) → x ≡ 0 → cond b x 0 ≡ 0
-cond-none a x e = grind nats
+pub cond-none : (b : Bool) {x : ℕ} → x ≡ 0 → cond b x 0 ≡ 0
+cond-none a e = grind nats
 
 -- a core to which an invalidation of the line is in flight has no copy that counts
 none-counted : (sh : Shape) (gs : List Grant) (ys : Ways) (h : History) (c d k l m u t : ℕ) → Before sh gs ys h → c < sh.cores → d < sh.dirs
     → l < lines sh → home sh l ≡ d → FromDir h.world d c k (Inv l m u) → (h.world.dirs d).lines.tag l ≤ t
     → line_copies l t (pair h.world c d) ≡ 0
 unfolding pair
-none-counted sh gs ys h c d k l m u t b cl dl ll e i le = go (cases_lt ((h.world.dirs d).lines.tag l) t)
+none-counted sh gs ys h c d k l m u t b cl dl ll e i le = elim (cases_lt ((h.world.dirs d).lines.tag l) t) [
+  | inl y ↦ (b.lines c d l cl dl ll e).above t y ∙ cond-none (wrote_line sh.base h.commits c t l)
+      (none-later c d t b cl dl (omega (arith, y, x.tag)))
+  | inr y ↦ let z : t ≡ (h.world.dirs d).lines.tag l = omega (arith, le, y) in
+      rw z ((b.lines c d l cl dl ll e).owned ∙ mine ((h.world.dirs d).lines.owner l) refl)
+]
   where
     x : Invalidating sh h c d l
     x = inv-tag sh gs h c d k l m u b.told.all (on-its-way sh gs ys h b.told) b.tags cl dl ll e i
@@ -75,73 +78,65 @@ none-counted sh gs ys h c d k l m u t b cl dl ll e i le = go (cases_lt ((h.world
         which true r = absurd (let z : o ≡ c = grind nats in let w = b.owners d l c (q ∙ ap (λ n. Some n) z) in
             omega (arith, x.sent, (b.told.all.spared c d).own dl (rw x.tag at w)))
 
-    go : ((h.world.dirs d).lines.tag l < t) ⊎ (t ≤ (h.world.dirs d).lines.tag l) → line_copies l t (pair h.world c d) ≡ 0
-    go (inl y) = (b.lines c d l cl dl ll e).above t y ∙ cond-none (wrote_line sh.base h.commits c t l)
-        (live (Commits t) (to_dir h.world c d)) (none-later sh gs ys h c d t b cl dl (omega (arith, y, x.tag)))
-    go (inr y) = let z : t ≡ (h.world.dirs d).lines.tag l = omega (arith, le, y) in
-        rw z ((b.lines c d l cl dl ll e).owned ∙ mine ((h.world.dirs d).lines.owner l) refl)
-
 -- an invalidation comes from the line's home
-inv-home : (sh : Shape) (gs : List Grant) (ys : Ways) (h : History) (c e k l m u : ℕ) → Before sh gs ys h
+inv-home : {sh : Shape} {gs : List Grant} {ys : Ways} (h : History) (c e k l m u : ℕ) → Before sh gs ys h
     → FromDir h.world e c k (Inv l m u) → home sh l ≡ e
 unfolding pair passes
-inv-home sh gs ys h c e k l m u b i = go (home sh l == e) refl
-  where
-    go : (y : Bool) → (home sh l == e) ≡ y → home sh l ≡ e
-    go true q = grind nats
-    go false q =
-        absurd (let n : num (not ((l % sh.dirs) == e)) ≡ 1 = rw q refl in
-        omega (
-          arith,
-          n,
-          live-some (InvsAway sh.dirs e) (to_core h.world e c) k (Inv l m u) i,
-          (b.told.all.kept.told.owed.at_home c e).invs,
-        ))
+inv-home {sh} h c e k l m u b i = elim (tested (home sh l == e)) [
+  | inl q ↦ grind nats
+  | inr q ↦ absurd (let n : num (not ((l % sh.dirs) == e)) ≡ 1 = rw q refl in
+      omega (
+        arith,
+        n,
+        live-some (InvsAway sh.dirs e) (to_core h.world e c) k (Inv l m u) i,
+        (b.told.all.kept.told.owed.at_home c e).invs,
+      ))
+]
 
 -- a core takes a message of directory e; v is the pair, with the message or without
-pub back-copies : (sh : Shape) (gs : List Grant) (ys : Ways) (h : History) (c e d k l : ℕ) (m : Msg) (v : Pair) (o : Out)
+pub back-copies : {sh : Shape} {gs : List Grant} {ys : Ways} (h : History) (c e d k l : ℕ) {m : Msg} (v : Pair) (o : Out)
     → Before sh gs ys h → c < sh.cores → d < sh.dirs → l < lines sh → home sh l ≡ d → FromDir h.world e c k m
     → v.core ≡ (pair h.world c d).core → v.dir ≡ (pair h.world c d).dir → v.out ≡ (pair h.world c d).out → o.commit ≡ None
     → ((t : ℕ) → among (Commits t) (o.sends (Dir d)) ≡ 0) → BackStep sh l (h.world.cores c) m o
     → LineCopies sh.base h.commits c l (after_move v o d)
 unfolding pair line_copies
-back-copies sh gs ys h c e d k l m v o b cl dl ll q i vc vd vo n z (Kept x) =
-    copies-moved sh h.commits c d l v o q n z (rw vc x)
-    (kept-copies sh.base h.commits c l (pair h.world c d) v vc vd vo (b.lines c d l cl dl ll q))
-back-copies sh gs ys h c e d k l m v o b cl dl ll q i vc vd vo n z (Invalidates x u r a f) =
+back-copies {sh} h c e d k l v o b cl dl ll q i vc vd vo n z (Kept x) =
+    copies-moved sh o q n z (rw vc x)
+    (kept-copies v vc vd vo (b.lines c d l cl dl ll q))
+back-copies {sh} {gs} {ys} h c e d k l v o b cl dl ll q i vc vd vo n z (Invalidates x u r a f) =
     let j : FromDir h.world e c k (Inv l x u) = i ∙ ap (λ y. Some y) r in
-    let w : d ≡ e = sym q ∙ inv-home sh gs ys h c e k l x u b j in
+    let w : d ≡ e = sym q ∙ inv-home h c e k l x u b j in
     let p : FromDir h.world d c k (Inv l x u) = rw w j in
     copies-lost sh h.commits c d l v o q z (λ t. rw vc (f t))
     (λ t g. rw (vc, vo) (none-counted sh gs ys h c d k l x u t b cl dl ll q p (rw vd at g)))
-    (kept-copies sh.base h.commits c l (pair h.world c d) v vc vd vo (b.lines c d l cl dl ll q))
+    (kept-copies v vc vd vo (b.lines c d l cl dl ll q))
 
 -- Every answer of a directory keeps the copies of each line in memory.
 
 -- a line that the commit whose Commit is taken stored, and one that it didn't
 
 -- the commit stored just the lines that are marked
-pub marked-line : (sh : Shape) (h : History) (c d l : ℕ) → l < lines sh → home sh l ≡ d → (t : TakenCommit sh h.commits h.world c d)
+pub marked-line : {sh : Shape} (h : History) {c d : ℕ} (l : ℕ) → l < lines sh → home sh l ≡ d → (t : TakenCommit sh h.commits h.world c d)
     → names_line sh.base t.settled.commit.stores l ≡ has_mark (h.world.dirs d).lines l
-marked-line sh h c d l ll e t = stored-in sh d l t.settled.commit ll e ∙ ap (nat_lt 0) (sym (t.settled.marks l))
+marked-line {sh} h {d} l ll e t = stored-in sh d l t.settled.commit ll e ∙ ap (nat_lt 0) (sym (t.settled.marks l))
 
 -- of the core that committed; no other core has a commit with this TID
-pub writer-line : (sh : Shape) (h : History) (c d l : ℕ) → l < lines sh → home sh l ≡ d → TakenCommit sh h.commits h.world c d
+pub writer-line : {sh : Shape} (h : History) {c d : ℕ} (l : ℕ) → l < lines sh → home sh l ≡ d → TakenCommit sh h.commits h.world c d
     → wrote_line sh.base h.commits c (tid_at h.world d) l ≡ has_mark (h.world.dirs d).lines l
-writer-line sh h c d l ll e t =
+writer-line {sh} h {c} {d} l ll e t =
     let n = t.settled.commit in
     let x = wrote-listed sh.base h.commits n l t.settled.noted
     (λ y k o. t.only y k (sym t.settled.tid ∙ tids y (y.core.0 == n.core.0) (y.tid.0 == n.tid.0) refl o)) in
     subst (λ p. wrote_line sh.base h.commits c p l ≡ has_mark (h.world.dirs d).lines l) t.settled.tid
     (subst (λ p. wrote_line sh.base h.commits p n.tid.0 l ≡ has_mark (h.world.dirs d).lines l) t.core
-    (x.line ∙ marked-line sh h c d l ll e t))
+    (x.line ∙ marked-line h l ll e t))
   where
     tids : (y : Noted) (a b : Bool) → (y.tid.0 == t.settled.commit.tid.0) ≡ b → (a && b) ≡ true → t.settled.commit.tid.0 ≡ y.tid.0
     tids y true true q o = grind nats
     tids y true false q o = absurd (cc)
     tids y false b q o = absurd (cc)
 
-pub other-writer : (sh : Shape) (h : History) (c j d l : ℕ) → (j ≡ c → ⊥) → TakenCommit sh h.commits h.world c d
+pub other-writer : (sh : Shape) (h : History) (c j d l : ℕ) → j ≢ c → TakenCommit sh h.commits h.world c d
     → wrote_line sh.base h.commits j (tid_at h.world d) l ≡ false
 other-writer sh h c j d l n t = no-writer sh.base h.commits j (tid_at h.world d) l
     (λ x k. go x k (x.core.0 == j) (x.tid.0 == tid_at h.world d) refl refl)
@@ -161,7 +156,7 @@ one-commit : (sh : Shape) (gs : List Grant) (ys : Ways) (h : History) (c d l : �
 one-commit sh gs ys h c d l b dl ll e t s =
     let n = t.settled.commit in
     let x : live (Commits n.tid.0) (to_dir h.world n.core.0 d) + num (is_applied (h.world.dirs d) n.tid.0) ≡ 1 =
-    on-its-way sh gs ys h b.told n d t.settled.noted dl (stored-home sh d l n ll e s) in
+    on-its-way sh gs ys h b.told n d t.settled.noted dl (stored-home sh l n ll e s) in
     let y : live (Commits (tid_at h.world d)) (to_dir h.world c d) + num
     (is_applied (h.world.dirs d) (tid_at h.world d)) ≡ 1 = rw (t.settled.tid, t.core) at x in
     omega (arith, y, t.sent)
@@ -171,24 +166,41 @@ unfolding passes
 commit-passes sh s m x q = rw q refl
 
 -- the directory's answer as core j sees it; mine: the message was j's
-answer-lines : (sh : Shape) (gs : List Grant) (ys : Ways) (h : History) (c d k j l : ℕ) (mine : Bool) (m : Msg) (s : DirState) (w : Pair)
-    → Before sh gs ys h → FromCore h.world c d k m → (j == c) ≡ mine → j < sh.cores → d < sh.dirs → l < lines sh
-    → home sh l ≡ d → Answered mine m s (pair h.world j d) w → Records sh (h.world.dirs d) c m s → LineCopies sh.base h.commits j l w
+answer-lines : (sh : Shape) {gs : List Grant} {ys : Ways} (h : History) {c : ℕ} (d k j l : ℕ) {mine : Bool} (m : Msg) (s : DirState)
+    (w : Pair) → Before sh gs ys h → FromCore h.world c d k m → (j == c) ≡ mine → j < sh.cores → d < sh.dirs → l < lines sh → home sh l ≡ d
+    → Answered mine m s (pair h.world j d) w → Records sh (h.world.dirs d) c m s → LineCopies sh.base h.commits j l w
 unfolding pair
-answer-lines sh gs ys h c d k j l mine m s w b i z jl dl ll e a (Still y n q) =
-    similar-copies sh.base h.commits j l (pair h.world j d) w
-    (still-similar sh.base h.commits j l mine m s (pair h.world j d) w a (y.tags l) (y.owners l) (λ t g. q l t)
+answer-lines sh h d k j l {mine} m s w b i z jl dl ll e a (Still y n q) =
+    similar-copies (pair h.world j d) w
+    (still-similar sh.base h.commits j l a (y.tags l) (y.owners l) (λ t g. q l t)
     (λ t g. none-passes mine (Commits t) m (n t))) (b.lines j d l jl dl ll e)
-answer-lines sh gs ys h c d k j l mine m s w b i z jl dl ll e a (Came x p o g f n) =
-    similar-copies sh.base h.commits j l (pair h.world j d) w
-    (came-similar sh.base h.commits j c l x mine m s (pair h.world j d) w z a p o (g l) (f l) n) (b.lines j d l jl dl ll e)
-answer-lines sh gs ys h c d k j l mine m s w b i z jl dl ll e a (Settles q g f n) = go (has_mark (h.world.dirs d).lines l) refl
+answer-lines sh h {c} d k j l {mine} m s w b i z jl dl ll e a (Came x p o g f n) =
+    similar-copies (pair h.world j d) w
+    (came-similar sh.base h.commits j c l x m s w z a p o (g l) (f l) n) (b.lines j d l jl dl ll e)
+answer-lines sh {gs} {ys} h {c} d k j l {mine} m s w b i z jl dl ll e a (Settles q g f n) = elim
+    (tested (has_mark (h.world.dirs d).lines l)) [
+      | inr r ↦ similar-copies (pair h.world j d) w
+          (still-similar sh.base h.commits j l a (g l ∙ rw r refl) (f l ∙ rw r refl) (λ x o. n l x) (quiet r))
+          (b.lines j d l jl dl ll e)
+      | inl r ↦ taken-copies c u j l w (record {
+        cache = a.cache;
+        tag = ap (λ x. x.lines.tag l) a.dir ∙ g l ∙ rw r refl;
+        old = tag-below sh h c d l (on-its-way sh gs ys h b.told) b.tags dl ll e
+            (rw (sym t.settled.tid) (positive-committed t.settled.commit b.told.all.owners t.settled.noted))
+            (λ x o y. ap (λ n. n.core.0) (t.only x o (sym y)) ∙ t.core) t.sent;
+        owner = ap (λ x. x.lines.owner l) a.dir ∙ f l ∙ rw r refl;
+        copies = λ x. (let y = none-passes mine (CopyOf l x) m (n l x) in omega (arith, y, a.lives (CopyOf l x)));
+        writer = writer r (cases_eq j c);
+        before = λ x o. none-later j d x b jl dl o;
+        after = λ x o. (let y = none-later j d x b jl dl o in omega (arith, y, a.lives (Commits x)));
+      }) (b.lines j d l jl dl ll e)
+    ]
   where
     u : ℕ
     u = tid_at h.world d
 
     t : TakenCommit sh h.commits h.world c d
-    t = taken-commit sh gs h c d k m b.told.all dl i q
+    t = taken-commit c d k b.told.all dl i q
 
     -- only the Commit of the served TID is consumed, of a commit that didn't store this line
     quiet : has_mark (h.world.dirs d).lines l ≡ false → (x : ℕ) → wrote_line sh.base h.commits j x l ≡ true
@@ -199,35 +211,17 @@ answer-lines sh gs ys h c d k j l mine m s w b i z jl dl ll e a (Settles q g f n
         which false v e0 e1 e2 = rw (sym e2) refl
         which true false e0 e1 e2 = none-passes mine (Commits x) m (commit-passes sh (h.world.dirs d) m x q ∙ e1)
         which true true e0 e1 e2 = absurd (let v : j ≡ c = grind nats in let y' : u ≡ x = grind nats in
-            let o : wrote_line sh.base h.commits c u l ≡ true = rw (v, sym y') at y in let p = writer-line sh h c d l ll e t in cc)
+            let o : wrote_line sh.base h.commits c u l ≡ true = rw (v, sym y') at y in let p = writer-line h l ll e t in cc)
 
-    writer : has_mark (h.world.dirs d).lines l ≡ true → (j ≡ c) ⊎ (j ≡ c → ⊥)
+    writer : has_mark (h.world.dirs d).lines l ≡ true → (j ≡ c) ⊎ (j ≢ c)
         → cond (wrote_line sh.base h.commits j u l) (live (Commits u) (to_dir h.world j d)) 0 ≡ num (c == j)
     writer r (inl x) =
-        let y : wrote_line sh.base h.commits j u l ≡ true = rw x (writer-line sh h c d l ll e t ∙ r) in
+        let y : wrote_line sh.base h.commits j u l ≡ true = rw x (writer-line h l ll e t ∙ r) in
         let n : live (Commits u) (to_dir h.world j d) ≡ 1 =
-        rw x (one-commit sh gs ys h c d l b dl ll e t (marked-line sh h c d l ll e t ∙ r)) in
+        rw x (one-commit sh gs ys h c d l b dl ll e t (marked-line h l ll e t ∙ r)) in
         let p : (c == j) ≡ true = grind nats in
         rw (y, p) n
     writer r (inr x) = let y : (c == j) ≡ false = grind nats in rw (other-writer sh h c j d l x t, y) refl
-
-    go : (r : Bool) → has_mark (h.world.dirs d).lines l ≡ r → LineCopies sh.base h.commits j l w
-    go false r =
-        similar-copies sh.base h.commits j l (pair h.world j d) w
-        (still-similar sh.base h.commits j l mine m s (pair h.world j d) w a (g l ∙ rw r refl) (f l ∙ rw r refl) (λ x o. n l x) (quiet r))
-        (b.lines j d l jl dl ll e)
-    go true r = taken-copies sh.base h.commits c u j l (pair h.world j d) w (record {
-      cache = a.cache;
-      tag = ap (λ x. x.lines.tag l) a.dir ∙ g l ∙ rw r refl;
-      old = tag-below sh h c d l (on-its-way sh gs ys h b.told) b.tags dl ll e
-          (rw (sym t.settled.tid) (positive-committed sh gs h.world h.commits t.settled.commit b.told.all.owners t.settled.noted))
-          (λ x o y. ap (λ n. n.core.0) (t.only x o (sym y)) ∙ t.core) t.sent;
-      owner = ap (λ x. x.lines.owner l) a.dir ∙ f l ∙ rw r refl;
-      copies = λ x. (let y = none-passes mine (CopyOf l x) m (n l x) in omega (arith, y, a.lives (CopyOf l x)));
-      writer = writer r (cases_eq j c);
-      before = λ x o. none-later sh gs ys h j d x b jl dl o;
-      after = λ x o. (let y = none-later sh gs ys h j d x b jl dl o in omega (arith, y, a.lives (Commits x)));
-    }) (b.lines j d l jl dl ll e)
 
 -- with the world's frames
 pub dir-lines : (sh : Shape) (gs : List Grant) (ys : Ways) (h : History) (c d k : ℕ) (m : Msg) (s : DirState) (sends : Sends)
@@ -235,34 +229,34 @@ pub dir-lines : (sh : Shape) (gs : List Grant) (ys : Ways) (h : History) (c d k 
     → KeptLines sh h.commits (dir_takes h.world c d k s sends)
 unfolding pair
 dir-lines sh gs ys h c d k m s sends b i r = pairs_dir (CopiesAt sh h.commits) h.world c d k s sends
-    (λ l cl dl ll e. answer-lines sh gs ys h c d k c l true m s (after_answer (out_taken (pair h.world c d) k) s (sends (Core c))) b i
+    (λ l cl dl ll e. answer-lines sh h d k c l m s (after_answer (out_taken (pair h.world c d) k) s (sends (Core c))) b i
     (eq-self c) cl dl ll e (record { cache = refl; dir = refl; lives = λ q. live-takes q (to_dir h.world c d) k m i }) r)
-    (λ j n l jl dl ll e. answer-lines sh gs ys h c d k j l false m s (after_answer (pair h.world j d) s (sends (Core j))) b i
+    (λ j n l jl dl ll e. answer-lines sh h d k j l m s (after_answer (pair h.world j d) s (sends (Core j))) b i
     (differ j c n) jl dl ll e (record { cache = refl; dir = refl; lives = λ q. omega arith }) r)
     b.lines
 
-pub drop-lines : (sh : Shape) (gs : List Grant) (ys : Ways) (h : History) (c d k : ℕ) (m : Msg) → Before sh gs ys h
+pub drop-lines : {sh : Shape} {gs : List Grant} {ys : Ways} (h : History) (c d k : ℕ) (m : Msg) → Before sh gs ys h
     → FromCore h.world c d k m → Dropped (h.world.dirs d) c m
     → KeptLines sh h.commits (dir_takes h.world c d k (h.world.dirs d) (λ dst. []))
 unfolding pair
-drop-lines sh gs ys h c d k m b i u = pairs_dir (CopiesAt sh h.commits) h.world c d k (h.world.dirs d) (λ dst. [])
-    (λ l cl dl ll e. similar-copies sh.base h.commits c l (pair h.world c d)
+drop-lines {sh} h c d k m b i u = pairs_dir (CopiesAt sh h.commits) h.world c d k (h.world.dirs d) (λ dst. [])
+    (λ l cl dl ll e. similar-copies (pair h.world c d)
     (after_answer (out_taken (pair h.world c d) k) (h.world.dirs d) [])
-    (dropped-similar sh.base h.commits c l true m (pair h.world c d)
+    (dropped-similar true m
     (after_answer (out_taken (pair h.world c d) k) (h.world.dirs d) [])
     (record { cache = refl; dir = refl; lives = λ q. live-takes q (to_dir h.world c d) k m i }) u.commit
     (λ t x y. u.late l t y) (λ x y. u.other l y) (b.lines c d l cl dl ll e)) (b.lines c d l cl dl ll e))
-    (λ j n l jl dl ll e. similar-copies sh.base h.commits j l (pair h.world j d) (after_answer (pair h.world j d) (h.world.dirs d) [])
-    (dropped-similar sh.base h.commits j l false m (pair h.world j d) (after_answer (pair h.world j d) (h.world.dirs d) [])
+    (λ j n l jl dl ll e. similar-copies (pair h.world j d) (after_answer (pair h.world j d) (h.world.dirs d) [])
+    (dropped-similar false m (after_answer (pair h.world j d) (h.world.dirs d) [])
     (record { cache = refl; dir = refl; lives = λ q. omega arith }) u.commit (λ t x y. u.late l t y) (λ x y. absurd (cc))
     (b.lines j d l jl dl ll e)) (b.lines j d l jl dl ll e))
     b.lines
 
-pub asks-lines : (sh : Shape) (gs : List Grant) (ys : Ways) (h : History) (d : ℕ) (s : DirState) (sends : Sends) → Before sh gs ys h
+pub asks-lines : {sh : Shape} {gs : List Grant} {ys : Ways} (h : History) (d : ℕ) (s : DirState) (sends : Sends) → Before sh gs ys h
     → RecordStays (h.world.dirs d) s → KeptLines sh h.commits (dir_asks h.world d s sends)
 unfolding pair
-asks-lines sh gs ys h d s sends b u = pairs_asks (CopiesAt sh h.commits) h.world d s sends
-    (λ j l jl dl ll e. similar-copies sh.base h.commits j l (pair h.world j d) (after_answer (pair h.world j d) s (sends (Core j)))
+asks-lines {sh} h d s sends b u = pairs_asks (CopiesAt sh h.commits) h.world d s sends
+    (λ j l jl dl ll e. similar-copies (pair h.world j d) (after_answer (pair h.world j d) s (sends (Core j)))
     (record {
       cache = refl;
       tag = u.tags l;
@@ -281,21 +275,21 @@ pub step-lines : (sh : Shape) (p : Program) (gs : List Grant) (ys : Ways) (h : H
     → IfSome (step sh p h.world e) (λ o. KeptLines sh (and_noted o.noted h.commits) o.world)
 unfolding pair
 step-lines sh p gs ys h e b = step_cases sh p h.world e (λ g o. KeptLines sh (and_noted o.noted h.commits) o.world)
-    (λ c l. moved c (core_exec sh p c (h.world.cores c)) (λ x m. copies-exec sh x p c (h.world.cores c) m (b.told.all.cores c))
-    (λ d t i. part-exec sh p c d t (h.world.cores c) i) (tells-exec sh p c (h.world.cores c) (b.told.all.cores c))
-    (noted-exec sh p c (h.world.cores c)) (after-exec sh p c (h.world.cores c) (b.told.all.cores c)))
+    (λ c l. moved c (core_exec sh p c (h.world.cores c)) (λ x m. copies-exec x p c m (b.told.all.cores c))
+    (λ d t i. part-exec sh p c d t (h.world.cores c) i) (tells-exec p c (b.told.all.cores c))
+    (noted-exec sh p c (h.world.cores c)) (after-exec p c (b.told.all.cores c)))
     (λ c x y l. moved c (core_evict sh x y (h.world.cores c)) (λ k m. copies-evict sh k x y (h.world.cores c))
     (λ d t i. part-evict sh x y d t (h.world.cores c)) (tells-evict sh x y (h.world.cores c)) (noted-evict sh x y (h.world.cores c))
     (after-evict sh c x y (h.world.cores c)))
     (λ c k u i. granted c k u)
-    (λ c d k m i. taken c d k m (core_of_back sh h.world c d k m b.told.all.kept.told.tids i) i (from_dir sh d (h.world.cores c) m)
+    (λ c d k m i. taken c d k m (core_of_back c d k b.told.all.kept.told.tids i) i (from_dir sh d (h.world.cores c) m)
     (λ l. copies-back sh l d (h.world.cores c) m (b.told.all.cores c).words.cache) (noted-back sh d (h.world.cores c) m)
     (after-back sh d (h.world.cores c) m))
     (λ c d k m i. answered c d k m i (dir_deliver sh (h.world.dirs d) c m) (dir-records sh (h.world.dirs d) c m))
     (λ c k i. pairs_vendor (CopiesAt sh h.commits) h.world c k
-    (λ d l cl dl ll q. kept-copies sh.base h.commits c l (pair h.world c d) (after_grant (pair h.world c d) k) refl refl refl
+    (λ d l cl dl ll q. kept-copies (after_grant (pair h.world c d) k) refl refl refl
     (b.lines c d l cl dl ll q))
-    (λ j d n l jl dl ll q. kept-copies sh.base h.commits j l (pair h.world j d) (after_other_grant (pair h.world j d)) refl refl
+    (λ j d n l jl dl ll q. kept-copies (after_other_grant (pair h.world j d)) refl refl
     refl (b.lines j d l jl dl ll q)))
   where
     moved : (c : ℕ) (x : Option Out) → ((l : ℕ) → InMemory sh l → IfSome x (Conserves sh l (h.world.cores c)))
@@ -313,9 +307,9 @@ step-lines sh p gs ys h e b = step_cases sh p h.world e (λ g o. KeptLines sh (a
         let a = after-grant sh u (h.world.cores c) in
         subst (λ n. KeptLines sh (and_noted n h.commits) (core_takes h.world Vendor c k o)) (sym a.commit)
         (pairs_grant (CopiesAt sh h.commits) h.world c k o
-        (λ d l cl dl ll q. copies-moved sh h.commits c d l (grant_taken (pair h.world c d) k) o q a.commit
+        (λ d l cl dl ll q. copies-moved sh o q a.commit
         (none-sent o (noted-grant sh u (h.world.cores c)) a.commit d) (copies-grant sh l u (h.world.cores c))
-        (kept-copies sh.base h.commits c l (pair h.world c d) (grant_taken (pair h.world c d) k) refl refl refl
+        (kept-copies (grant_taken (pair h.world c d) k) refl refl refl
         (b.lines c d l cl dl ll q))) b.lines)
 
     taken : (c d k : ℕ) (m : Msg) → c < sh.cores → FromDir h.world d c k m → (x : Option Out)
@@ -325,15 +319,15 @@ step-lines sh p gs ys h e b = step_cases sh p h.world e (λ g o. KeptLines sh (a
     taken c d k m cl i None f n a = tt
     taken c d k m cl i (Some o) f n a = subst (λ x. KeptLines sh (and_noted x h.commits) (core_takes h.world (Dir d) c k o)) (sym a.commit)
         (pairs_back (CopiesAt sh h.commits) h.world d c k o
-        (λ l cl dl ll q. back-copies sh gs ys h c d d k l m (back_taken (pair h.world c d) k) o b cl dl ll q i refl refl refl a.commit
+        (λ l cl dl ll q. back-copies h c d d k l (back_taken (pair h.world c d) k) o b cl dl ll q i refl refl refl a.commit
         (none-sent o n a.commit d) (f l))
-        (λ x r l cl dl ll q. back-copies sh gs ys h c d x k l m (pair h.world c x) o b cl dl ll q i refl refl refl a.commit
+        (λ x r l cl dl ll q. back-copies h c d x k l (pair h.world c x) o b cl dl ll q i refl refl refl a.commit
         (none-sent o n a.commit x) (f l))
         b.lines)
 
     answered : (c d k : ℕ) (m : Msg) → FromCore h.world c d k m → (a : Answer)
         → RecordsBy sh (h.world.dirs d) c m a → OfAnswer h.world c d k (λ v. KeptLines sh h.commits v) a
     answered c d k m i Waits u = tt
-    answered c d k m i Drops u = drop-lines sh gs ys h c d k m b i u
-    answered c d k m i (Asks s sends) u = asks-lines sh gs ys h d s sends b u
+    answered c d k m i Drops u = drop-lines h c d k m b i u
+    answered c d k m i (Asks s sends) u = asks-lines h d s sends b u
     answered c d k m i (Takes s sends) u = dir-lines sh gs ys h c d k m s sends b i u

@@ -4,6 +4,7 @@ use proofs.Names
 use Names.{ℕ, ◌+◌, ◌≡◌, ◌<◌, ◌≤◌, ◌⊎◌, ◌==◌, ◌&&◌, Bool, true, false, not, cond, List, [], ◌∷◌, Some, None, arith, refl, ◌∙◌, inl, inr}
 use Names.{cases_eq, Noted, num, Dir, Shape, home, Link, Out, insert_commit, Commits, CopyOf, CopyMask, live, among, times, Pair}
 use Names.{after_move, is_this, stores_in, names_line, wrote_line, wrote_mask, nats, sym, if◌then◌else◌, ap, Msg, DirState, Kind, passes}
+use Names.{◌≢◌}
 use proofs.Copies.CopySends.{Conserves, mask-copy, frame_copy, frame_wrong, wrong-copy}
 use proofs.Counts.Links.{live-sends}
 use proofs.Copies.WroteLines.{Wrote, wrote-new, SameWrote, wrote-other, wrote-unknown}
@@ -58,11 +59,11 @@ pub same-cond : (b : Bool) (x y : ℕ) → (b ≡ true → x ≡ y) → cond b x
 same-cond a x y h = grind nats
 
 -- nothing is committed
-pub copies-moved : (sh : Shape) (cs : List Noted) (c d l : ℕ) (v : Pair) (o : Out) → home sh l ≡ d → o.commit ≡ None
+pub copies-moved : (sh : Shape) {cs : List Noted} {c d l : ℕ} {v : Pair} (o : Out) → home sh l ≡ d → o.commit ≡ None
     → ((t : ℕ) → among (Commits t) (o.sends (Dir d)) ≡ 0) → Conserves sh l v.core o → LineCopies sh.base cs c l v
     → LineCopies sh.base cs c l (after_move v o d)
 unfolding line_copies line_wrong
-copies-moved sh cs c d l v o e n z k h = record {
+copies-moved sh {cs} {c} {d} {l} {v} o e n z k h = record {
   owned = omega (arith, moved-copies sh d l (v.dir.lines.tag l) v o e, rw n at (k.copies (v.dir.lines.tag l)), h.owned);
   above =
       λ t i. omega (
@@ -114,10 +115,10 @@ pub record NewCommit (base : ℕ) (cs : List Noted) (c d l : ℕ) (v : Pair) (o 
   pub sent : names_line base n.stores l ≡ true → live (Commits n.tid.0) v.out + among (Commits n.tid.0) (o.sends (Dir d)) ≡ 1
   pub others : (t : ℕ) → (n.tid.0 == t) ≡ false → among (Commits t) (o.sends (Dir d)) ≡ 0
 
-pub copies-committed : (sh : Shape) (cs : List Noted) (c d l : ℕ) (v : Pair) (o : Out) (n : Noted) → home sh l ≡ d → o.commit ≡ Some n
+pub copies-committed : {sh : Shape} {cs : List Noted} (c d l : ℕ) {v : Pair} (o : Out) {n : Noted} → home sh l ≡ d → o.commit ≡ Some n
     → NewCommit sh.base cs c d l v o n → Conserves sh l v.core o → LineCopies sh.base cs c l v
     → LineCopies sh.base (insert_commit n cs) c l (after_move v o d)
-copies-committed sh cs c d l v o n e q x k h =
+copies-committed {sh} {cs} c d l {v} o {n} e q x k h =
     record { owned = owned; above = λ t i. above t i (cases_eq n.tid.0 t); masks = λ t i. masks t i (cases_eq n.tid.0 t) }
   where
     u : ℕ
@@ -154,13 +155,13 @@ copies-committed sh cs c d l v o n e q x k h =
         → num (b && u == t) ≡ cond b (live (Commits t) (after_move v o d).out) 0
     one t a r s = grind (nats, live-sends)
 
-    other : (t : ℕ) → (u ≡ t → ⊥) → SameWrote sh.base cs ds c t l
+    other : (t : ℕ) → u ≢ t → SameWrote sh.base cs ds c t l
     other t r = wrote-other sh.base n cs c t l (let y : (u == t) ≡ false = grind nats in last (n.core.0 == c) (u == t) y)
       where
         last : (a b : Bool) → b ≡ false → (a && b) ≡ false
         last a b z = grind nats
 
-    above : (t : ℕ) → v.dir.lines.tag l < t → (u ≡ t) ⊎ (u ≡ t → ⊥)
+    above : (t : ℕ) → v.dir.lines.tag l < t → (u ≡ t) ⊎ (u ≢ t)
         → line_copies l t (after_move v o d) ≡ cond (wrote_line sh.base ds c t l) (live (Commits t) (after_move v o d).out) 0
     above t i (inl r) = let y = (new t r).line in let z : line_copies l t v ≡ 0 = h.above t i ∙ rw (mine t r) refl in
         rw y (copies t ∙ rw z (let w = one t (names_line sh.base n.stores l) r refl in omega (arith, w)))
@@ -176,7 +177,7 @@ copies-committed sh cs c d l v o n e q x k h =
               (λ w. omega (arith, x.others t y, live-sends (Commits t) v.out (o.sends (Dir d)))),
         ))
 
-    masks : (t : ℕ) → v.dir.lines.tag l < t → (u ≡ t) ⊎ (u ≡ t → ⊥) → line_wrong l t (wrote_mask sh.base ds c t l) (after_move v o d) ≡ 0
+    masks : (t : ℕ) → v.dir.lines.tag l < t → (u ≡ t) ⊎ (u ≢ t) → line_wrong l t (wrote_mask sh.base ds c t l) (after_move v o d) ≡ 0
     masks t i (inl r) =
         let y = (new t r).mask in
         let z : line_copies l t v ≡ 0 = h.above t i ∙ rw (mine t r) refl in
@@ -217,9 +218,9 @@ same-frames l t v w e = rw e refl
 same-wrong : (l t m : ℕ) (v w : Pair) → w.core.cache ≡ v.core.cache → frame_wrong w.core.cache l t m ≡ frame_wrong v.core.cache l t m
 same-wrong l t m v w e = rw e refl
 
-pub similar-copies : (base : ℕ) (cs : List Noted) (c l : ℕ) (v w : Pair) → Similar base cs c l v w → LineCopies base cs c l v
+pub similar-copies : {base : ℕ} {cs : List Noted} {c l : ℕ} (v w : Pair) → Similar base cs c l v w → LineCopies base cs c l v
     → LineCopies base cs c l w
-similar-copies base cs c l v w s h =
+similar-copies {base} {cs} {c} {l} v w s h =
     record { owned = rw s.tag owned; above = λ t i. above t (rw s.tag at i); masks = λ t i. masks t (rw s.tag at i) }
   where
     g : ℕ
@@ -255,12 +256,12 @@ pub record TakenOver (base : ℕ) (cs : List Noted) (c u j l : ℕ) (v w : Pair)
   pub before : (t : ℕ) → u < t → live (Commits t) v.out ≡ 0
   pub after : (t : ℕ) → u < t → live (Commits t) w.out ≡ 0
 
-nothing-in : (b : Bool) (x : ℕ) → x ≡ 0 → cond b x 0 ≡ 0
-nothing-in a x e = grind nats
+nothing-in : (b : Bool) {x : ℕ} → x ≡ 0 → cond b x 0 ≡ 0
+nothing-in a e = grind nats
 
-pub taken-copies : (base : ℕ) (cs : List Noted) (c u j l : ℕ) (v w : Pair) → TakenOver base cs c u j l v w → LineCopies base cs j l v
-    → LineCopies base cs j l w
-taken-copies base cs c u j l v w s h =
+pub taken-copies : {base : ℕ} {cs : List Noted} (c u j l : ℕ) {v : Pair} (w : Pair) → TakenOver base cs c u j l v w
+    → LineCopies base cs j l v → LineCopies base cs j l w
+taken-copies {base} {cs} c u j l {v} w s h =
     let owned : line_copies l u w ≡ num (c == j) = copies u ∙ h.above u s.old ∙ s.writer in
     record {
       owned = rw (s.tag, s.owner) owned;
@@ -272,11 +273,11 @@ taken-copies base cs c u j l v w s h =
     copies t = omega (arith, of-line l t w, of-line l t v, same-frames l t v w s.cache, s.copies t)
 
     none : (t : ℕ) → u < t → line_copies l t w ≡ 0
-    none t i = copies t ∙ h.above t (omega (arith, i, s.old)) ∙ nothing-in (wrote_line base cs j t l) (live (Commits t) v.out)
+    none t i = copies t ∙ h.above t (omega (arith, i, s.old)) ∙ nothing-in (wrote_line base cs j t l)
         (s.before t i)
 
     above : (t : ℕ) → u < t → line_copies l t w ≡ cond (wrote_line base cs j t l) (live (Commits t) w.out) 0
-    above t i = none t i ∙ sym (nothing-in (wrote_line base cs j t l) (live (Commits t) w.out) (s.after t i))
+    above t i = none t i ∙ sym (nothing-in (wrote_line base cs j t l) (s.after t i))
 
 -- Each answer of a directory leaves the copies of a line similar, but that a Commit takes the lines over that it stored.
 
@@ -289,37 +290,37 @@ pub record Answered (mine : Bool) (m : Msg) (s : DirState) (v w : Pair) : Type 0
 pub none-passes : (b : Bool) (k : Kind) (m : Msg) → passes k m ≡ false → num (b && passes k m) ≡ 0
 none-passes a k m e = grind nats
 
-still-live : (b : Bool) (m : Msg) (s : DirState) (v w : Pair) (k : Kind) → Answered b m s v w → passes k m ≡ false
+still-live : {b : Bool} {m : Msg} {s : DirState} {v w : Pair} (k : Kind) → Answered b m s v w → passes k m ≡ false
     → live k w.out ≡ live k v.out
-still-live b m s v w k a e = omega (arith, a.lives k, none-passes b k m e)
+still-live {b} {m} k a e = omega (arith, a.lives k, none-passes b k m e)
 
-pub still-similar : (base : ℕ) (cs : List Noted) (c l : ℕ) (b : Bool) (m : Msg) (s : DirState) (v w : Pair) → Answered b m s v w
+pub still-similar : (base : ℕ) (cs : List Noted) (c l : ℕ) {b : Bool} {m : Msg} {s : DirState} {v w : Pair} → Answered b m s v w
     → s.lines.tag l ≡ v.dir.lines.tag l → s.lines.owner l ≡ v.dir.lines.owner l
     → ((t : ℕ) → v.dir.lines.tag l ≤ t → passes (CopyOf l t) m ≡ false)
     → ((t : ℕ) → wrote_line base cs c t l ≡ true → num (b && passes (Commits t) m) ≡ 0) → Similar base cs c l v w
-still-similar base cs c l b m s v w a e f n q = record {
+still-similar base cs c l {b} {m} {s} {v} {w} a e f n q = record {
   cache = a.cache;
   tag = rw a.dir e;
   owned = let y : num (is_this (w.dir.lines.owner l) c) ≡ num (is_this (v.dir.lines.owner l) c) = rw (a.dir, f) refl in
-      omega (arith, y, still-live b m s v w (CopyOf l (v.dir.lines.tag l)) a (n (v.dir.lines.tag l) (omega arith)));
-  copies = λ t i. still-live b m s v w (CopyOf l t) a (n t (omega (arith, i)));
+      omega (arith, y, still-live (CopyOf l (v.dir.lines.tag l)) a (n (v.dir.lines.tag l) (omega arith)));
+  copies = λ t i. still-live (CopyOf l t) a (n t (omega (arith, i)));
   wrong = λ t k. omega (arith, a.lives (CopyMask l t k));
   commits = λ t y. omega (arith, a.lives (Commits t), q t y);
 }
 
 -- a dropped copy isn't counted
-pub dropped-similar : (base : ℕ) (cs : List Noted) (c l : ℕ) (b : Bool) (m : Msg) (v w : Pair) → Answered b m v.dir v w → NoCommit m
-    → ((t : ℕ) → b ≡ true → passes (CopyOf l t) m ≡ true → t ≤ v.dir.lines.tag l)
+pub dropped-similar : {base : ℕ} {cs : List Noted} {c l : ℕ} (b : Bool) (m : Msg) {v : Pair} (w : Pair) → Answered b m v.dir v w
+    → NoCommit m → ((t : ℕ) → b ≡ true → passes (CopyOf l t) m ≡ true → t ≤ v.dir.lines.tag l)
     → (b ≡ true → passes (CopyOf l (v.dir.lines.tag l)) m ≡ true → is_this (v.dir.lines.owner l) c ≡ false) → LineCopies base cs c l v
     → Similar base cs c l v w
-dropped-similar base cs c l b m v w a n late other h = record {
+dropped-similar {c} {l} b m {v} w a n late other h = record {
   cache = a.cache;
   tag = rw a.dir refl;
   owned = let y : num (is_this (w.dir.lines.owner l) c) ≡ num (is_this (v.dir.lines.owner l) c) = rw a.dir refl in
       omega (arith, y, a.lives (CopyOf l (v.dir.lines.tag l)), here b (passes (CopyOf l (v.dir.lines.tag l)) m) refl refl);
   copies = λ t i. omega (arith, a.lives (CopyOf l t), above t i b (passes (CopyOf l t) m) refl refl);
   wrong = λ t k. omega (arith, a.lives (CopyMask l t k));
-  commits = λ t y. still-live b m v.dir v w (Commits t) a (n t);
+  commits = λ t y. still-live (Commits t) a (n t);
 }
   where
     g : ℕ
@@ -337,11 +338,11 @@ dropped-similar base cs c l b m v w a n late other h = record {
     here false y e f = refl
 
 -- the owner's copy comes home
-pub came-similar : (base : ℕ) (cs : List Noted) (c o l k : ℕ) (b : Bool) (m : Msg) (s : DirState) (v w : Pair) → (c == o) ≡ b
+pub came-similar : (base : ℕ) (cs : List Noted) (c o l k : ℕ) {b : Bool} (m : Msg) (s : DirState) {v : Pair} (w : Pair) → (c == o) ≡ b
     → Answered b m s v w → ((l t : ℕ) → passes (CopyOf l t) m ≡ ((k == l) && (v.dir.lines.tag k == t))) → v.dir.lines.owner k ≡ Some o
     → s.lines.tag l ≡ v.dir.lines.tag l → s.lines.owner l ≡ (if l == k then None else v.dir.lines.owner l) → NoCommit m
     → Similar base cs c l v w
-came-similar base cs c o l k b m s v w z a p own e f n = go (cases_eq k l)
+came-similar base cs c o l k {b} m s {v} w z a p own e f n = go (cases_eq k l)
   where
     g : ℕ
     g = v.dir.lines.tag l
@@ -349,9 +350,9 @@ came-similar base cs c o l k b m s v w z a p own e f n = go (cases_eq k l)
     quiet : (t : ℕ) → wrote_line base cs c t l ≡ true → num (b && passes (Commits t) m) ≡ 0
     quiet t y = none-passes b (Commits t) m (n t)
 
-    go : (k ≡ l) ⊎ (k ≡ l → ⊥) → Similar base cs c l v w
+    go : (k ≡ l) ⊎ (k ≢ l) → Similar base cs c l v w
     go (inr q) = let y : (k == l) ≡ false = grind nats in let x : (l == k) ≡ false = grind nats in
-        still-similar base cs c l b m s v w a e (rw x at f) (λ t i. p l t ∙ rw y refl) quiet
+        still-similar base cs c l a e (rw x at f) (λ t i. p l t ∙ rw y refl) quiet
     go (inl q) =
         let y : (l == l) ≡ true = grind nats in
         let x : (g == g) ≡ true = grind nats in
@@ -363,7 +364,7 @@ came-similar base cs c o l k b m s v w z a p own e f n = go (cases_eq k l)
           cache = a.cache;
           tag = rw a.dir e;
           owned = let t : num (is_this (w.dir.lines.owner l) c) ≡ 0 = rw u refl in omega (arith, t, j, d, a.lives (CopyOf l g));
-          copies = λ t h. still-live b m s v w (CopyOf l t) a (p l t ∙ rw q (later t h));
+          copies = λ t h. still-live (CopyOf l t) a (p l t ∙ rw q (later t h));
           wrong = λ t h. omega (arith, a.lives (CopyMask l t h));
           commits = λ t h. omega (arith, a.lives (Commits t), quiet t h);
         }

@@ -9,7 +9,7 @@ use Names.{Answer, Waits, Drops, Asks, Takes, dir_deliver, core_moves, core_take
 use Names.{and_noted, step, settled_in_line, KeptTags, Kind, Commits, live, passes, KeptAll, KeptRun, pair, Grant, is_settled, is_applied}
 use Names.{CommitsStand, stored_mask, stores_at, SettledCommit, stores_word, Ways, names_line, last_of, ◌∷◌, cases_lt, Inv, Invs, InvOf}
 use Names.{KeptNamed, due, OwedAt, times, share, KeptStored, inl, inr, ◌-◌, subst, insert_commit, nats, tid_at, to_dir, to_core, FromCore}
-use Names.{FromDir}
+use Names.{FromDir, ◌≢◌, tested}
 use proofs.Copies.WroteLines.{on-its-way, applied-or}
 use proofs.Counts.Links.{num-same, live-takes, total-le}
 use proofs.Counts.StepCases.{OfAnswer, step_cases}
@@ -109,10 +109,10 @@ stored-in sh d l n i e =
     (rw (a, b) at (stored-line sh d n.stores l))
 
 -- a commit that stored in a line stored at the line's home
-pub stored-home : (sh : Shape) (d l : ℕ) (n : Noted) → l < lines sh → home sh l ≡ d → names_line sh.base n.stores l ≡ true
+pub stored-home : (sh : Shape) {d : ℕ} (l : ℕ) (n : Noted) → l < lines sh → home sh l ≡ d → names_line sh.base n.stores l ≡ true
     → stores_at sh d n.stores ≡ true
 unfolding stores_at
-stored-home sh d l n i e s = any_below-at (λ k. nat_lt 0 (stored_mask sh d n.stores k)) (lines sh) l i (sym (stored-in sh d l n i e) ∙ s)
+stored-home sh {d} l n i e s = any_below-at (λ k. nat_lt 0 (stored_mask sh d n.stores k)) (lines sh) l i (sym (stored-in sh d l n i e) ∙ s)
 
 -- tests of a commit that stored in a line or not
 same-test : (a b s : Bool) → (s ≡ true → a ≡ b) → (a && s) ≡ (b && s)
@@ -127,7 +127,7 @@ unfolding settled_in_line is_settled
 unheard-tags sh w v cs a b z e f h d l dl i q = rw e (h d l dl i q ∙ go a refl)
   where
     here : (x : Noted) → names_line sh.base x.stores l ≡ true → stores_at sh d x.stores ≡ true
-    here x s = stored-home sh d l x i q s
+    here x s = stored-home sh l x i q s
 
     one : (x : Noted) → Contains cs x → settled_in_line sh v d l x ≡ settled_in_line sh w d l x
     one x k = same-test (is_settled v d x) (is_settled w d x) (names_line sh.base x.stores l) (λ s.
@@ -138,21 +138,19 @@ unheard-tags sh w v cs a b z e f h d l dl i q = rw e (h d l dl i q ∙ go a refl
         rw y refl)
 
     new : (n : Noted) → a ≡ Some n → Contains (and_noted a cs) n → settled_in_line sh v d l n ≡ false
-    new n r k = go (names_line sh.base n.stores l) refl
-      where
-        go : (s : Bool) → names_line sh.base n.stores l ≡ s → settled_in_line sh v d l n ≡ false
-        go false s = rw s (grind arith)
-        go true s =
-            let y : live (Commits n.tid.0) (to_dir v n.core.0 d) + num (is_applied (w.dirs d) n.tid.0) ≡ 1 =
-            rw e at (z n d k dl (here n s)) in
-            let u : num (is_applied (w.dirs d) n.tid.0) ≡ 0 = ap num (f n d r dl (here n s)) in
-            let x : live (Commits n.tid.0) (to_dir v n.core.0 d) ≡ 1 = omega (arith, y, u) in
-            rw x refl
+    new n r k = elim (tested (names_line sh.base n.stores l)) [
+      | inr s ↦ rw s (grind arith)
+      | inl s ↦ let y : live (Commits n.tid.0) (to_dir v n.core.0 d) + num (is_applied (w.dirs d) n.tid.0) ≡ 1 =
+          rw e at (z n d k dl (here n s)) in
+          let u : num (is_applied (w.dirs d) n.tid.0) ≡ 0 = ap num (f n d r dl (here n s)) in
+          let x : live (Commits n.tid.0) (to_dir v n.core.0 d) ≡ 1 = omega (arith, y, u) in
+          rw x refl
+    ]
 
     go : (b : Option Noted) → a ≡ b → last_of (settled_in_line sh w d l) cs ≡ last_of (settled_in_line sh v d l) (and_noted b cs)
     go None r = sym (last-same (settled_in_line sh v d l) (settled_in_line sh w d l) cs one)
     go (Some n) r =
-        let x : settled_in_line sh v d l n ≡ false = new n r (noted-has a cs n r) in
+        let x : settled_in_line sh v d l n ≡ false = new n r (noted-has cs r) in
         let m : last_of (settled_in_line sh v d l) (insert_commit n cs) ≡ max (cond (settled_in_line sh v d l n) n.tid.0 0)
         (last_of (settled_in_line sh v d l) cs) = last-insert (settled_in_line sh v d l) n cs in
         let y : last_of (settled_in_line sh v d l) cs ≡ last_of (settled_in_line sh w d l) cs =
@@ -178,10 +176,10 @@ pub record TakenCommit (sh : Shape) (cs : List Noted) (w : World) (c d : ℕ) : 
   pub only : (x : Noted) → Contains cs x → tid_at w d ≡ x.tid.0 → x ≡ settled.commit
   pub sent : 1 ≤ live (Commits (tid_at w d)) (to_dir w c d)
 
-pub taken-commit : (sh : Shape) (gs : List Grant) (h : History) (c d k : ℕ) (m : Msg) → KeptAll sh gs h → d < sh.dirs
+pub taken-commit : {sh : Shape} {gs : List Grant} {h : History} (c d k : ℕ) {m : Msg} → KeptAll sh gs h → d < sh.dirs
     → FromCore h.world c d k m → CountsMarked sh (h.world.dirs d) m → TakenCommit sh h.commits h.world c d
 unfolding pair passes
-taken-commit sh gs h c d k m r dl i q =
+taken-commit {sh} {gs} {h} c d k {m} r dl i q =
     record {
       settled = n;
       core = core;
@@ -193,10 +191,10 @@ taken-commit sh gs h c d k m r dl i q =
     u = tid_at h.world d
 
     cl : c < sh.cores
-    cl = core_of_out sh h.world c d k m r.kept.told.tids i
+    cl = core_of_out c d k r.kept.told.tids i
 
     n : SettledCommit sh h.commits d (h.world.dirs d)
-    n = taken-stored sh h.world h.commits c d k m r.counted r.stored cl dl i q
+    n = taken-stored h.world c k r.counted r.stored cl dl i q
 
     sent : 1 ≤ live (Commits u) (to_dir h.world c d)
     sent = let one : num (passes (Commits u) m) ≡ 1 = rw q (grind nats) in
@@ -218,11 +216,11 @@ unfolding is_settled
 none-sent w d x y = grind nats
 
 -- the commit is settled once its Commit is taken
-settled-now : (sh : Shape) (cs : List Noted) (w v : World) (c d : ℕ) (m : Msg) → CommitsStand sh w cs → d < sh.dirs
+settled-now : {sh : Shape} {cs : List Noted} (w v : World) (c d : ℕ) (m : Msg) → CommitsStand sh w cs → d < sh.dirs
     → CountsMarked sh (w.dirs d) m → Consumes w c d m v → (t : TakenCommit sh cs w c d) → stores_at sh d t.settled.commit.stores ≡ true
     → is_settled v d t.settled.commit ≡ true
 unfolding is_settled passes
-settled-now sh cs w v c d m a dl q b t st =
+settled-now w v c d m a dl q b t st =
     let x = t.settled.commit in
     let e : x.tid.0 ≡ tid_at w d = t.settled.tid in
     let one : num ((x.core.0 == c && d == d) && passes (Commits x.tid.0) m) ≡ 1 = rw (q, t.core, e) (grind nats) in
@@ -262,13 +260,13 @@ taken-here sh cs w v c d l m a dl i e q b t g h = go (has_mark (w.dirs d).lines 
         below false f z k o r false r' s = absurd (cc)
         below false false z k true r true r' s = absurd (let y = other x z in cc)
         below false true z k true r true r' s =
-            applied-served (w.dirs d) x.tid.0 (omega (arith, a x d j dl (stored-home sh d l x i e r), none-sent w d x k))
+            applied-served (w.dirs d) x.tid.0 (omega (arith, a x d j dl (stored-home sh l x i e r), none-sent w d x k))
 
     go : (f : Bool) → has_mark (w.dirs d).lines l ≡ f → (v.dirs d).lines.tag l ≡ (if f then u else (w.dirs d).lines.tag l)
         → (v.dirs d).lines.tag l ≡ last_of (settled_in_line sh v d l) cs
     go true f g =
         let s : names_line sh.base n.stores l ≡ true = line ∙ f in
-        let y : settled_in_line sh v d l n ≡ true = rw (settled-now sh cs w v c d m a dl q b t (stored-home sh d l n i e s), s) refl in
+        let y : settled_in_line sh v d l n ≡ true = rw (settled-now w v c d m a dl q b t (stored-home sh l n i e s), s) refl in
         let z : n.tid.0 ≡ u = t.settled.tid in
         omega (arith, g, z, last-least (settled_in_line sh v d l) cs n t.settled.noted y, last-most (settled_in_line sh v d l) cs u most)
     go false f g = g ∙ h ∙ sym (last-same (settled_in_line sh v d l) (settled_in_line sh w d l) cs one)
@@ -286,15 +284,14 @@ taken-tags : (sh : Shape) (cs : List Noted) (w v : World) (c d : ℕ) (m : Msg) 
     → ((e l : ℕ) → (v.dirs e).lines.tag l ≡ (if e == d && has_mark (w.dirs d).lines l then tid_at w d else (w.dirs e).lines.tag l))
     → Consumes w c d m v → KeptTags sh w cs → KeptTags sh v cs
 unfolding settled_in_line
-taken-tags sh cs w v c d m a t q g b h e l el i k = go (cases_eq e d)
-  where
-    go : (e ≡ d) ⊎ (e ≡ d → ⊥) → (v.dirs e).lines.tag l ≡ last_of (settled_in_line sh v e l) cs
-    go (inl p) = subst (λ e. (v.dirs e).lines.tag l ≡ last_of (settled_in_line sh v e l) cs) (sym p)
-        (let dl = rw p at el in let y : (d == d) ≡ true = grind nats in
-        taken-here sh cs w v c d l m a dl i (k ∙ p) q b (t dl) (rw y at (g d l)) (h d l dl i (k ∙ p)))
-    go (inr p) = let y : (e == d) ≡ false = grind nats in (rw y at (g e l)) ∙ h e l el i k
-        ∙ sym (last-same (settled_in_line sh v e l) (settled_in_line sh w e l) cs
-        (λ x j. rw (still-settled w v c d m x e b (inl (rw y (and-false (x.core.0 == c))))) refl))
+taken-tags sh cs w v c d m a t q g b h e l el i k = elim (cases_eq e d) [
+  | inl p ↦ subst (λ e. (v.dirs e).lines.tag l ≡ last_of (settled_in_line sh v e l) cs) (sym p)
+      (let dl = rw p at el in let y : (d == d) ≡ true = grind nats in
+      taken-here sh cs w v c d l m a dl i (k ∙ p) q b (t dl) (rw y at (g d l)) (h d l dl i (k ∙ p)))
+  | inr p ↦ let y : (e == d) ≡ false = grind nats in (rw y at (g e l)) ∙ h e l el i k
+      ∙ sym (last-same (settled_in_line sh v e l) (settled_in_line sh w e l) cs
+      (λ x j. rw (still-settled w v c d m x e b (inl (rw y (and-false (x.core.0 == c))))) refl))
+]
 
 pub tags-out : (sh : Shape) (gs : List Grant) (ys : Ways) (h : History) (o : Stepped) → KeptRun sh gs ys h
     → CommitsStand sh o.world (and_noted o.noted h.commits)
@@ -304,7 +301,7 @@ tags-out sh gs ys h o k z f t (Unheard e) = unheard-tags sh h.world o.world h.co
 tags-out sh gs ys h o k z f t (Heard n g y) = rw n (heard-tags sh h.world o.world h.commits g y t)
 tags-out sh gs ys h o k z f t (Taken c d i m n j q g b) =
     rw n (taken-tags sh h.commits h.world o.world c d m (on-its-way sh gs ys h k)
-    (λ dl. taken-commit sh gs h c d i m k.all dl j q) q g b t)
+    (λ dl. taken-commit c d i k.all dl j q) q g b t)
 
 pub start-tags : (sh : Shape) (entries : ℕ → Local) (ram : ℕ → ℕ) → KeptTags sh (start entries ram) []
 unfolding start dir_start no_lines last_of
@@ -338,7 +335,7 @@ tag-served sh w cs d l a k dl ll e =
   where
     one : (x : Noted) → Contains cs x → (b s : Bool) → is_settled w d x ≡ b → names_line sh.base x.stores l ≡ s → (b && s) ≡ true
         → x.tid.0 ≤ (tid_at w d)
-    one x j true true q r f = applied-served (w.dirs d) x.tid.0 (omega (arith, a x d j dl (stored-home sh d l x ll e r), none-sent w d x q))
+    one x j true true q r f = applied-served (w.dirs d) x.tid.0 (omega (arith, a x d j dl (stored-home sh l x ll e r), none-sent w d x q))
     one x j true false q r f = absurd (cc)
     one x j false s q r f = absurd (cc)
 
@@ -354,17 +351,15 @@ tag-below sh h c d l a k dl ll e p own s = go (tid_at h.world d) refl
 
     one : (v : ℕ) → u ≡ v + 1 → (x : Noted) → Contains h.commits x → (b s : Bool) → is_settled h.world d x ≡ b
         → names_line sh.base x.stores l ≡ s → (b && s) ≡ true → x.tid.0 ≤ v
-    one v y x j true true q r f = below (cases_lt v x.tid.0)
+    one v y x j true true q r f = elim (cases_lt v x.tid.0) [
+      | inr z ↦ z
+      | inl z ↦ absurd (let i : x.tid.0 ≡ u = omega (arith, z, most, y) in
+          let n : live (Commits u) (to_dir h.world c d) ≡ 0 = rw (i, own x j i) at (none-sent h.world d x q) in
+          omega (arith, s, n))
+    ]
       where
         most : x.tid.0 ≤ u
-        most = applied-served (h.world.dirs d) x.tid.0 (omega (arith, a x d j dl (stored-home sh d l x ll e r), none-sent h.world d x q))
-
-        below : (v < x.tid.0) ⊎ (x.tid.0 ≤ v) → x.tid.0 ≤ v
-        below (inr z) = z
-        below (inl z) =
-            absurd (let i : x.tid.0 ≡ u = omega (arith, z, most, y) in
-            let n : live (Commits u) (to_dir h.world c d) ≡ 0 = rw (i, own x j i) at (none-sent h.world d x q) in
-            omega (arith, s, n))
+        most = applied-served (h.world.dirs d) x.tid.0 (omega (arith, a x d j dl (stored-home sh l x ll e r), none-sent h.world d x q))
     one v y x j true false q r f = absurd (cc)
     one v y x j false s q r f = absurd (cc)
 
@@ -420,7 +415,7 @@ inv-tag-of sh h c d k l m u owes named stored a g cl dl ll e i =
     settled : settled_in_line sh w d l n.commit ≡ true
     settled = let y : num (is_applied s n.commit.tid.0) ≡ 1 = ap num applied in
         let z : live (Commits n.commit.tid.0) (to_dir w n.commit.core.0 d) ≡ 0 =
-        omega (arith, y, a n.commit d n.noted dl (stored-home sh d l n.commit ll e line)) in rw (z, line) refl
+        omega (arith, y, a n.commit d n.noted dl (stored-home sh l n.commit ll e line)) in rw (z, line) refl
 
     least : s.serving.serving ≤ s.lines.tag l
     least = omega (arith, n.tid, last-least (settled_in_line sh w d l) h.commits n.commit n.noted settled, g d l dl ll e)

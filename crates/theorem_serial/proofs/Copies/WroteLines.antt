@@ -6,7 +6,7 @@ use Names.{if◌then◌else◌, arith, refl, ap, ◌∙◌, Noted, num, any_belo
 use Names.{stores_word, names_line, wrote, wrote_line, wrote_mask, ◌+◌, ◌≤◌, ◌⊎◌, sym, subst, inl, inr, cases_eq, cases_lt, Dir, Shape}
 use Names.{sum_below, DirState, History, Commits, live, KeptRun, Grant, pair, share, is_applied, CommitsStand, stores_at, Skipped}
 use Names.{Committed, Ways, part_in, kept_in, WayAt, Some, writes_at, Msg, Out, Sends, Stepped, Resolves, among, holder, has_tid, part}
-use Names.{handled, live_way, Option, IfSome, nats, to_dir}
+use Names.{handled, live_way, Option, IfSome, nats, to_dir, ◌≢◌}
 use proofs.Counts.Links.{total-zero, total-le}
 use proofs.Marks.MaskLaws.{few-any}
 use proofs.Serving.CommitSteps.{of-resolves}
@@ -54,10 +54,10 @@ pub record Wrote (base : ℕ) (cs : List Noted) (c t l : ℕ) (n : Noted) : Type
   pub line : wrote_line base cs c t l ≡ names_line base n.stores l
   pub mask : wrote_mask base cs c t l ≡ stores_in base n.stores l
 
-wrote-all : (base : ℕ) (cs : List Noted) (c t l : ℕ) (n : Noted) → ((w : ℕ) → wrote base cs c t w ≡ stores_word base n.stores w)
+wrote-all : {base : ℕ} {cs : List Noted} {c t l : ℕ} {n : Noted} → ((w : ℕ) → wrote base cs c t w ≡ stores_word base n.stores w)
     → Wrote base cs c t l n
 unfolding wrote_line wrote_mask names_line stores_in
-wrote-all base cs c t l n h =
+wrote-all {base} {cs} {c} {t} {l} {n} h =
     record {
       line = same-line (wrote base cs c t) (stores_word base n.stores) h l;
       mask = same-mask (wrote base cs c t) (stores_word base n.stores) h l;
@@ -68,7 +68,7 @@ pub wrote-new : (base : ℕ) (n : Noted) (cs : List Noted) (c t l : ℕ) → n.c
     → Wrote base (insert_commit n cs) c t l n
 wrote-new base n cs c t l e f z =
     let own : (b : Bool) → (((c == c) && ((t == t) && b)) || false) ≡ b = λ b. grind nats in
-    wrote-all base (insert_commit n cs) c t l n
+    wrote-all
     (λ w. wrote-insert base n cs c t w ∙ rw (wrote-none base cs c t w z, e, f) (own (stores_word base n.stores w)))
 
 -- what another one stored stays
@@ -143,7 +143,7 @@ wrote-only base (x ∷ cs) n c t w s h = rw (wrote-only base cs n c t w s (λ y 
 
 pub wrote-listed : (base : ℕ) (cs : List Noted) (n : Noted) (l : ℕ) → Contains cs n
     → ((x : Noted) → Contains cs x → is_of n.core.0 n.tid.0 x ≡ true → x ≡ n) → Wrote base cs n.core.0 n.tid.0 l n
-wrote-listed base cs n l k h = wrote-all base cs n.core.0 n.tid.0 l n (λ w. go w (stores_word base n.stores w) refl)
+wrote-listed base cs n l k h = wrote-all (λ w. go w (stores_word base n.stores w) refl)
   where
     go : (w : ℕ) (b : Bool) → stores_word base n.stores w ≡ b → wrote base cs n.core.0 n.tid.0 w ≡ b
     go w a s = grind (nats, wrote-at, wrote-only)
@@ -151,12 +151,12 @@ wrote-listed base cs n l k h = wrote-all base cs n.core.0 n.tid.0 l n (λ w. go 
 -- A commit is on its way to each directory where it stored, or applied there.
 
 -- the only number of a sum that isn't zero
-total-only : (f : ℕ → ℕ) (n c : ℕ) → ((j : ℕ) → j < n → (j ≡ c → ⊥) → f j ≡ 0) → (n ≤ c → f c ≡ 0) → sum_below f n ≡ f c
+total-only : (f : ℕ → ℕ) (n c : ℕ) → ((j : ℕ) → j < n → j ≢ c → f j ≡ 0) → (n ≤ c → f c ≡ 0) → sum_below f n ≡ f c
 unfolding sum_below
 total-only f zero c h z = sym (z (omega arith))
 total-only f (suc n) c h z = go (cases_eq n c) (λ g. total-only f n c (λ j l i. h j (omega arith) i) g)
   where
-    go : (n ≡ c) ⊎ (n ≡ c → ⊥) → ((n ≤ c → f c ≡ 0) → sum_below f n ≡ f c) → sum_below f n + f n ≡ f c
+    go : (n ≡ c) ⊎ (n ≢ c) → ((n ≤ c → f c ≡ 0) → sum_below f n ≡ f c) → sum_below f n + f n ≡ f c
     go a g = grind (nats, total-zero)
 
 pub applied-or : (s : DirState) (t : ℕ)
@@ -177,17 +177,14 @@ on-its-way sh gs ys h k n d i dl s = omega (arith, place, one, applied-or (h.wor
         k.committed.stored n d i dl ∙ told (stores_at sh d n.stores) s
 
     place : WayAt sh h.world d t Committed
-    place = subst (WayAt sh h.world d t) way (k.ways d t dl (positive-committed sh gs h.world h.commits n k.all.owners i))
+    place = subst (WayAt sh h.world d t) way (k.ways d t dl (positive-committed n k.all.owners i))
 
-    other : (j : ℕ) → (j ≡ n.core.0 → ⊥) → live (Commits t) (to_dir h.world j d) ≡ 0
-    other j e = go (cases_lt 0 (live (Commits t) (to_dir h.world j d)))
-      where
-        go : (0 < live (Commits t) (to_dir h.world j d)) ⊎ (live (Commits t) (to_dir h.world j d) ≤ 0)
-            → live (Commits t) (to_dir h.world j d) ≡ 0
-        go (inl l) =
-            absurd (e (granted-once 1 gs t j n.core.0 k.all.owners.numbered ((k.all.spared j d).owner t (omega (arith, l)))
-            (granted-at gs h.commits n k.all.owners.granted i)))
-        go (inr l) = omega (arith, l)
+    other : (j : ℕ) → j ≢ n.core.0 → live (Commits t) (to_dir h.world j d) ≡ 0
+    other j e = elim (cases_lt 0 (live (Commits t) (to_dir h.world j d))) [
+      | inl l ↦ absurd (e (granted-once 1 gs t j n.core.0 k.all.owners.numbered ((k.all.spared j d).owner t (omega (arith, l)))
+          (granted-at gs h.commits n k.all.owners.granted i)))
+      | inr l ↦ omega (arith, l)
+    ]
 
     one : sum_below (share (part_in Committed sh d t) h.world d) sh.cores ≡ live (Commits t) (to_dir h.world n.core.0 d)
     one = total-only (share (part_in Committed sh d t) h.world d) sh.cores n.core.0 (λ j l e. other j e)
@@ -200,17 +197,17 @@ few-resolves t [] = omega arith
 few-resolves t (m ∷ ms) = omega (arith, of-resolves t m, few-resolves t ms)
 
 -- a TID that a core has is of no commit yet
-pub uncommitted : (sh : Shape) (gs : List Grant) (ys : Ways) (h : History) (c t : ℕ) → KeptRun sh gs ys h → c < sh.cores
+pub uncommitted : {sh : Shape} {gs : List Grant} {ys : Ways} {h : History} (c t : ℕ) → KeptRun sh gs ys h → c < sh.cores
     → has_tid (h.world.cores c).phase t ≡ true → times t h.commits ≡ 0
 unfolding share holder pair
-uncommitted sh gs ys h c t k l e = let one : num (has_tid (h.world.cores c).phase t) ≡ 1 = ap num e in
+uncommitted {sh} {h} c t k l e = let one : num (has_tid (h.world.cores c).phase t) ≡ 1 = ap num e in
     omega (arith, one, k.all.owners.once t, total-le (share (holder t) h.world 0) sh.cores c l)
 
 -- it sends a Commit to each directory where it stored
-pub commit-sent : (sh : Shape) (gs : List Grant) (ys : Ways) (h : History) (c d : ℕ) (s : Out) (n : Noted) → KeptRun sh gs ys h
+pub commit-sent : {sh : Shape} {gs : List Grant} {ys : Ways} {h : History} (c d : ℕ) {s : Out} {n : Noted} → KeptRun sh gs ys h
     → c < sh.cores → TellsCommit sh (h.world.cores c) s n → d < sh.dirs → stores_at sh d n.stores ≡ true
     → 1 ≤ among (Commits n.tid.0) (s.sends (Dir d))
-commit-sent sh gs ys h c d s n k cl a dl e =
+commit-sent {sh} {gs} {ys} {h} c d {s} {n} k cl a dl e =
     let there : (b : Bool) → b ≡ true → (if b then Committed else Skipped) ≡ Committed = λ b q. rw q refl in
     go (told-committed (s.sends (Dir d)) n.tid.0 (live_way (h.world.cores c).phase (writes_at sh (h.world.cores c).cache d))
     (a.told d dl ∙ there (stores_at sh d n.stores) e))
@@ -220,17 +217,17 @@ commit-sent sh gs ys h c d s n k cl a dl e =
     go (inl q) =
         absurd (omega (
           arith,
-          uncommitted sh gs ys h c n.tid.0 k cl a.has,
+          uncommitted c n.tid.0 k cl a.has,
           k.committed.only d n.tid.0 dl (k.live c d n.tid.0 cl dl a.has ∙ q),
         ))
     go (inr q) = q
 
-pub new-commit : (sh : Shape) (gs : List Grant) (ys : Ways) (h : History) (x : Sends) (o : Stepped) → KeptRun sh gs ys h
+pub new-commit : {sh : Shape} {gs : List Grant} {ys : Ways} {h : History} {x : Sends} {o : Stepped} → KeptRun sh gs ys h
     → ByCore sh h.world (Speaks sh h.world) x o → (n : Noted) (d : ℕ) → o.noted ≡ Some n → d < sh.dirs → stores_at sh d n.stores ≡ true
     → is_applied (h.world.dirs d) n.tid.0 ≡ false
 unfolding share part part_in handled pair
-new-commit sh gs ys h x o k (Still e i q) n d z dl st = absurd (let y = sym q ∙ z in cc)
-new-commit sh gs ys h x o k (Moved c s cl u f i q) n d z dl st = go (is_applied (h.world.dirs d) n.tid.0) refl
+new-commit k (Still e i q) n d z dl st = absurd (let y = sym q ∙ z in cc)
+new-commit {sh} {gs} {ys} {h} k (Moved c s cl u f i q) n d z dl st = go (is_applied (h.world.dirs d) n.tid.0) refl
   where
     t : ℕ
     t = n.tid.0
@@ -242,7 +239,7 @@ new-commit sh gs ys h x o k (Moved c s cl u f i q) n d z dl st = go (is_applied 
         of a e y = rw e at y
 
     unhandled : num (is_applied (h.world.dirs d) t) ≤ 0
-    unhandled = place (commit-sent sh gs ys h c d s n k cl tells dl st)
+    unhandled = place (commit-sent c d k cl tells dl st)
       where
         place : 1 ≤ among (Commits t) (s.sends (Dir d)) → num (is_applied (h.world.dirs d) t) ≤ 0
         place l =

@@ -197,10 +197,10 @@ ack-outcome sh s c l b = go (s.owed == 0) refl
     go true p = Spent (InvAck l b) (NoneOwed l b (grind nats))
     go false p = next b (s.owed - 1 == 0) refl (grind nats)
 
-back-outcome : (sh : Shape) (s : DirState) (c l k : ℕ) (ws : List ℕ) (g : ℕ) (m : Msg) → IsCopy m l k ws g
+back-outcome : {sh : Shape} {s : DirState} {c : ℕ} (l k : ℕ) (ws : List ℕ) (g : ℕ) {m : Msg} → IsCopy m l k ws g
     → Outcome sh s c m (write_back c l k ws g s)
 unfolding write_back came_home with_asked with_owner judge
-back-outcome sh s c l k ws g m y = go (nat_lt (s.lines.tag l) g) (s.lines.tag l == g) (is_owner (s.lines.owner l) c) refl refl refl
+back-outcome {sh} {s} {c} l k ws g {m} y = go (nat_lt (s.lines.tag l) g) (s.lines.tag l == g) (is_owner (s.lines.owner l) c) refl refl refl
   where
     own : (o : Option ℕ) → is_owner o c ≡ true → o ≡ Some c
     own a h = grind nats
@@ -225,8 +225,8 @@ outcome sh s c (LoadReq l a) = load-outcome sh s c l a
 outcome sh s c (Mark l k t) = mark-outcome sh s c l k t
 outcome sh s c (Commit t n) = commit-outcome sh s c t n
 outcome sh s c (InvAck l b) = ack-outcome sh s c l b
-outcome sh s c (WriteBack l k ws g) = back-outcome sh s c l k ws g (WriteBack l k ws g) (record { alike = λ q. refl })
-outcome sh s c (Flush l k ws g) = back-outcome sh s c l k ws g (Flush l k ws g) (record { alike = λ q. flush-alike q l k ws g })
+outcome sh s c (WriteBack l k ws g) = back-outcome l k ws g (record { alike = λ q. refl })
+outcome sh s c (Flush l k ws g) = back-outcome l k ws g (record { alike = λ q. flush-alike q l k ws g })
 outcome sh s c m = Waiting m
 
 -- what is sent, by kind

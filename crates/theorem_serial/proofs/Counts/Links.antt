@@ -4,7 +4,7 @@ use proofs.Names
 use Names.{◌≡◌, ◌≤◌, Bool, true, false, arith, refl, num, ℕ, zero, suc, ◌+◌, ◌<◌, ◌≢◌, List, [], ◌∷◌, ◌++◌, set, get_or, Some, None, ap}
 use Names.{◌⊎◌, cases_eq, Msg, Link, sent_all, sum_below, Kind, live, among, passes, ◌==◌, ◌&&◌, flat_map, Dir, Mark, Shape, Cache}
 use Names.{writes_at, modified_mask, written_lines, Spilled, skip_all, probe_all, abort_written, marks_for, commit_sends, solo_sends}
-use Names.{solo_marks_or_skip, solo_write_backs, grant_sends, Resolves, Protocol, nats}
+use Names.{solo_marks_or_skip, solo_write_backs, grant_sends, Resolves, Protocol, nats, tested, inl, inr}
 
 pub num-one : (b : Bool) → 1 ≤ num b → b ≡ true
 num-one a h = grind nats
@@ -36,12 +36,11 @@ live-takes k (Some x ∷ l) (suc i) m e = omega (arith, live-takes k l i m e)
 live-takes k (None ∷ l) (suc i) m e = live-takes k l i m e
 
 -- a message of a kind of which none is in flight isn't taken
-pub none-taken : (q : Kind) (l : Link) (i : ℕ) (m : Msg) → get_or l i None ≡ Some m → live q l ≡ 0 → passes q m ≡ false
-none-taken q l i m e z = go (passes q m) refl
-  where
-    go : (b : Bool) → passes q m ≡ b → passes q m ≡ false
-    go false h = h
-    go true h = let n : num (passes q m) ≡ 1 = ap num h in absurd (omega (arith, n, z, live-takes q l i m e))
+pub none-taken : (q : Kind) (l : Link) (i : ℕ) {m : Msg} → get_or l i None ≡ Some m → live q l ≡ 0 → passes q m ≡ false
+none-taken q l i {m} e z = elim (tested (passes q m)) [
+  | inr h ↦ h
+  | inl h ↦ let n : num (passes q m) ≡ 1 = ap num h in absurd (omega (arith, n, z, live-takes q l i m e))
+]
 
 pub among-append : (k : Kind) (a b : List Msg) → among k (a ++ b) ≡ among k a + among k b
 unfolding among
@@ -76,7 +75,7 @@ unfolding sum_below
 total-le f zero j l = absurd (omega arith)
 total-le f (suc n) j l = go (cases_eq j n) (total-le f n j)
   where
-    go : (j ≡ n) ⊎ (j ≡ n → ⊥) → (j < n → f j ≤ sum_below f n) → f j ≤ sum_below f n + f n
+    go : (j ≡ n) ⊎ (j ≢ n) → (j < n → f j ≤ sum_below f n) → f j ≤ sum_below f n + f n
     go a r = grind nats
 
 pub total-at : (f g : ℕ → ℕ) (n c : ℕ) → c < n → ((j : ℕ) → j ≢ c → f j ≡ g j) → sum_below f n + g c ≡ sum_below g n + f c
@@ -84,7 +83,7 @@ unfolding sum_below
 total-at f g zero c l h = absurd (omega arith)
 total-at f g (suc n) c l h = go (cases_eq c n) (λ k. total-at f g n c k h)
   where
-    go : (c ≡ n) ⊎ (c ≡ n → ⊥) → (c < n → sum_below f n + g c ≡ sum_below g n + f c) → sum_below f n + f n + g c ≡ sum_below g n + g n + f c
+    go : (c ≡ n) ⊎ (c ≢ n) → (c < n → sum_below f n + g c ≡ sum_below g n + f c) → sum_below f n + f n + g c ≡ sum_below g n + g n + f c
     go a r = grind (nats, total-same)
 
 pub total-zero : (f : ℕ → ℕ) (n : ℕ) → ((j : ℕ) → j < n → f j ≡ 0) → sum_below f n ≡ 0

@@ -10,10 +10,10 @@ use Names.{after_other_grant, share, sum_of, Option, Some, None, IfSome, nat_lt,
 use Names.{TidReq, Shape, in_flight, Sends, nothing, core_exec, core_evict, core_deliver, grant, Answer, Waits, Drops, Asks, Takes}
 use Names.{dir_deliver, Stepped, step, if_core_moves, if_core_takes, answered, delivered, if_in_flight, happens, names_nodes, is_node}
 use Names.{Grant, grant_for, granted_by, sends_of, sends_for, sent_by, Uses, used_by, Views, uses_executed, uses_delivered, views_after}
-use Names.{put, nats, FromCore, FromDir}
+use Names.{put, nats, FromCore, FromDir, grant_to, ◌≢◌}
 use proofs.Counts.Links.{total-same, total-at, total-plus}
 
-pub differ : (j c : ℕ) → (j ≡ c → ⊥) → (j == c) ≡ false
+pub differ : (j c : ℕ) → j ≢ c → (j == c) ≡ false
 differ j c h = grind nats
 
 append-none : (l : Link) → l ++ [] ≡ l
@@ -25,7 +25,7 @@ pub moves-own : (w : World) (c : ℕ) (o : Out) (d : ℕ) → pair (core_moves w
 unfolding pair core_moves
 moves-own w c o d = rw (eq-self c) refl
 
-pub moves-other : (w : World) (c : ℕ) (o : Out) (j d : ℕ) → (j ≡ c → ⊥) → pair (core_moves w c o) j d ≡ pair w j d
+pub moves-other : (w : World) (c : ℕ) (o : Out) (j d : ℕ) → j ≢ c → pair (core_moves w c o) j d ≡ pair w j d
 unfolding pair core_moves
 moves-other w c o j d h = rw (differ j c h) refl
 
@@ -34,7 +34,7 @@ grant-own : (w : World) (c k : ℕ) (o : Out) (d : ℕ) → pair (core_takes w V
 unfolding pair core_takes
 grant-own w c k o d = rw (eq-self c) refl
 
-grant-other : (w : World) (c k : ℕ) (o : Out) (j d : ℕ) → (j ≡ c → ⊥) → pair (core_takes w Vendor c k o) j d ≡ pair w j d
+grant-other : (w : World) (c k : ℕ) (o : Out) (j d : ℕ) → j ≢ c → pair (core_takes w Vendor c k o) j d ≡ pair w j d
 unfolding pair core_takes
 grant-other w c k o j d h = rw (differ j c h) refl
 
@@ -43,12 +43,11 @@ pub back-own : (w : World) (c k : ℕ) (o : Out) (d : ℕ) → pair (core_takes 
 unfolding pair core_takes
 back-own w c k o d = rw (eq-self c) (rw (eq-self d) refl)
 
-pub back-away : (w : World) (e c k : ℕ) (o : Out) (d : ℕ) → (d ≡ e → ⊥)
-    → pair (core_takes w (Dir e) c k o) c d ≡ after_move (pair w c d) o d
+pub back-away : (w : World) (e c k : ℕ) (o : Out) (d : ℕ) → d ≢ e → pair (core_takes w (Dir e) c k o) c d ≡ after_move (pair w c d) o d
 unfolding pair core_takes
 back-away w e c k o d h = rw (eq-self c) (rw (differ d e h) refl)
 
-back-other : (w : World) (e c k : ℕ) (o : Out) (j d : ℕ) → (j ≡ c → ⊥) → pair (core_takes w (Dir e) c k o) j d ≡ pair w j d
+back-other : (w : World) (e c k : ℕ) (o : Out) (j d : ℕ) → j ≢ c → pair (core_takes w (Dir e) c k o) j d ≡ pair w j d
 unfolding pair core_takes
 back-other w e c k o j d h = rw (differ j c h) (rw (and-false (d == e)) refl)
 
@@ -58,12 +57,12 @@ pub dir-own : (w : World) (c d k : ℕ) (s : DirState) (sends : Node → List Ms
 unfolding pair dir_takes
 dir-own w c d k s sends = rw (eq-self c) (rw (eq-self d) refl)
 
-pub dir-other : (w : World) (c d k : ℕ) (s : DirState) (sends : Node → List Msg) (j : ℕ) → (j ≡ c → ⊥)
+pub dir-other : (w : World) (c d k : ℕ) (s : DirState) (sends : Node → List Msg) (j : ℕ) → j ≢ c
     → pair (dir_takes w c d k s sends) j d ≡ after_answer (pair w j d) s (sends (Core j))
 unfolding pair dir_takes
 dir-other w c d k s sends j h = rw (differ j c h) (rw (eq-self d) refl)
 
-dir-away : (w : World) (c e k : ℕ) (s : DirState) (sends : Node → List Msg) (j d : ℕ) → (d ≡ e → ⊥)
+dir-away : (w : World) (c e k : ℕ) (s : DirState) (sends : Node → List Msg) (j d : ℕ) → d ≢ e
     → pair (dir_takes w c e k s sends) j d ≡ pair w j d
 unfolding pair dir_takes
 dir-away w c e k s sends j d h = rw (differ d e h) (rw (and-false (j == c)) refl)
@@ -73,8 +72,7 @@ pub asks-own : (w : World) (d : ℕ) (s : DirState) (sends : Node → List Msg) 
 unfolding pair dir_asks
 asks-own w d s sends j = rw (eq-self d) refl
 
-asks-away : (w : World) (e : ℕ) (s : DirState) (sends : Node → List Msg) (j d : ℕ) → (d ≡ e → ⊥)
-    → pair (dir_asks w e s sends) j d ≡ pair w j d
+asks-away : (w : World) (e : ℕ) (s : DirState) (sends : Node → List Msg) (j d : ℕ) → d ≢ e → pair (dir_asks w e s sends) j d ≡ pair w j d
 unfolding pair dir_asks
 asks-away w e s sends j d h = rw (differ d e h) refl
 
@@ -88,12 +86,12 @@ vendor-own : (w : World) (c k d : ℕ) → pair (vendor_gives w c k (given w c))
 unfolding pair vendor_gives
 vendor-own w c k d = rw (eq-self c) refl
 
-vendor-other : (w : World) (c k j d : ℕ) → (j ≡ c → ⊥) → pair (vendor_gives w c k (given w c)) j d ≡ after_other_grant (pair w j d)
+vendor-other : (w : World) (c k j d : ℕ) → j ≢ c → pair (vendor_gives w c k (given w c)) j d ≡ after_other_grant (pair w j d)
 unfolding pair vendor_gives sent_all
 vendor-other w c k j d h = rw (differ j c h) (rw (append-none (w.net Vendor (Core j))) refl)
 
 -- what holds of all pairs
-pub either : {A : Type 0} → (j c : ℕ) → (j ≡ c → A) → ((j ≡ c → ⊥) → A) → A
+pub either : {A : Type 0} → (j c : ℕ) → (j ≡ c → A) → ((j ≢ c) → A) → A
 either {A = A} j c f g = elim (cases_eq j c) [ inl e ↦ f e | inr h ↦ g h ]
 
 abbrev pub AllPairs : (ℕ → ℕ → Pair → Type 0) → World → Type 0
@@ -112,7 +110,7 @@ pairs_grant P w c k o own all j d = either j c
     (λ h. subst (P j d) (sym (grant-other w c k o j d h)) (all j d))
 
 pub pairs_back : (P : ℕ → ℕ → Pair → Type 0) (w : World) (e c k : ℕ) (o : Out) → P c e (after_move (back_taken (pair w c e) k) o e)
-    → ((d : ℕ) → (d ≡ e → ⊥) → P c d (after_move (pair w c d) o d)) → AllPairs P w → AllPairs P (core_takes w (Dir e) c k o)
+    → ((d : ℕ) → d ≢ e → P c d (after_move (pair w c d) o d)) → AllPairs P w → AllPairs P (core_takes w (Dir e) c k o)
 pairs_back P w e c k o own away all j d = either j c
     (λ q. either d e
     (λ r. rw (q, r) (subst (P c e) (sym (back-own w c k o e)) own))
@@ -121,7 +119,7 @@ pairs_back P w e c k o own away all j d = either j c
 
 pub pairs_dir : (P : ℕ → ℕ → Pair → Type 0) (w : World) (c e k : ℕ) (s : DirState) (sends : Node → List Msg)
     → P c e (after_answer (out_taken (pair w c e) k) s (sends (Core c)))
-    → ((j : ℕ) → (j ≡ c → ⊥) → P j e (after_answer (pair w j e) s (sends (Core j)))) → AllPairs P w → AllPairs P (dir_takes w c e k s sends)
+    → ((j : ℕ) → j ≢ c → P j e (after_answer (pair w j e) s (sends (Core j)))) → AllPairs P w → AllPairs P (dir_takes w c e k s sends)
 pairs_dir P w c e k s sends own others all j d = either d e
     (λ q. either j c
     (λ r. rw (q, r) (subst (P c e) (sym (dir-own w c e k s sends)) own))
@@ -135,14 +133,14 @@ pairs_asks P w e s sends own all j d = either d e
     (λ h. subst (P j d) (sym (asks-away w e s sends j d h)) (all j d))
 
 pub pairs_vendor : (P : ℕ → ℕ → Pair → Type 0) (w : World) (c k : ℕ) → ((d : ℕ) → P c d (after_grant (pair w c d) k))
-    → ((j d : ℕ) → (j ≡ c → ⊥) → P j d (after_other_grant (pair w j d))) → AllPairs P (vendor_gives w c k (given w c))
+    → ((j d : ℕ) → j ≢ c → P j d (after_other_grant (pair w j d))) → AllPairs P (vendor_gives w c k (given w c))
 pairs_vendor P w c k own others j d = either j c
     (λ e. rw e (subst (P c d) (sym (vendor-own w c k d)) (own d)))
     (λ h. subst (P j d) (sym (vendor-other w c k j d h)) (others j d h))
 
 -- sums over the cores
 shares_at : (f : Pair → ℕ) (n : ℕ) (v w : World) (c d x y : ℕ) → c < n → f (pair v c d) + x ≡ f (pair w c d) + y
-    → ((j : ℕ) → (j ≡ c → ⊥) → pair v j d ≡ pair w j d) → sum_of f n v d + x ≡ sum_of f n w d + y
+    → ((j : ℕ) → j ≢ c → pair v j d ≡ pair w j d) → sum_of f n v d + x ≡ sum_of f n w d + y
 unfolding share
 shares_at f n v w c d x y l e others = omega (arith, total-at (share f v d) (share f w d) n c l (λ j h. ap f (others j h)))
 
@@ -162,7 +160,7 @@ pub sum_back : (f : Pair → ℕ) (n : ℕ) (w : World) (c k : ℕ) (o : Out) (d
 sum_back f n w c k o d x y l e = shares_at f n (core_takes w (Dir d) c k o) w c d x y l (rw (back-own w c k o d) e)
     (λ j h. back-other w d c k o j d h)
 
-pub sum_back_away : (f : Pair → ℕ) (n : ℕ) (w : World) (e c k : ℕ) (o : Out) (d x y : ℕ) → (d ≡ e → ⊥) → c < n
+pub sum_back_away : (f : Pair → ℕ) (n : ℕ) (w : World) (e c k : ℕ) (o : Out) (d x y : ℕ) → d ≢ e → c < n
     → f (after_move (pair w c d) o d) + x ≡ f (pair w c d) + y → sum_of f n (core_takes w (Dir e) c k o) d + x ≡ sum_of f n w d + y
 sum_back_away f n w e c k o d x y h l q = shares_at f n (core_takes w (Dir e) c k o) w c d x y l (rw (back-away w e c k o d h) q)
     (λ j h. back-other w e c k o j d h)
@@ -170,7 +168,7 @@ sum_back_away f n w e c k o d x y h l q = shares_at f n (core_takes w (Dir e) c 
 -- g is what each other core's part grows by
 pub sum_dir : (f : Pair → ℕ) (g : ℕ → ℕ) (n : ℕ) (w : World) (c k : ℕ) (s : DirState) (sends : Node → List Msg) (d x y : ℕ) → c < n
     → f (after_answer (out_taken (pair w c d) k) s (sends (Core c))) + x ≡ f (pair w c d) + g c + y
-    → ((j : ℕ) → (j ≡ c → ⊥) → f (after_answer (pair w j d) s (sends (Core j))) ≡ f (pair w j d) + g j)
+    → ((j : ℕ) → j ≢ c → f (after_answer (pair w j d) s (sends (Core j))) ≡ f (pair w j d) + g j)
     → sum_of f n (dir_takes w c d k s sends) d + x ≡ sum_of f n w d + sum_below g n + y
 unfolding share
 sum_dir f g n w c k s sends d x y l e others =
@@ -182,7 +180,7 @@ sum_dir f g n w c k s sends d x y l e others =
     let own : share f v d c + x ≡ share f w d c + g c + y = rw (dir-own w c d k s sends) e in
     omega arith
 
-pub sum_dir_away : (f : Pair → ℕ) (n : ℕ) (w : World) (c e k : ℕ) (s : DirState) (sends : Node → List Msg) (d : ℕ) → (d ≡ e → ⊥)
+pub sum_dir_away : (f : Pair → ℕ) (n : ℕ) (w : World) (c e k : ℕ) (s : DirState) (sends : Node → List Msg) (d : ℕ) → d ≢ e
     → sum_of f n (dir_takes w c e k s sends) d ≡ sum_of f n w d
 unfolding share
 sum_dir_away f n w c e k s sends d h = total-same (share f (dir_takes w c e k s sends) d) (share f w d) n
@@ -202,14 +200,14 @@ unfolding share
 sum_asks_here f g n w s sends d h = total-plus (share f w d) g (share f (dir_asks w d s sends) d) n
     (λ j l. ap f (asks-own w d s sends j) ∙ h j)
 
-pub sum_asks_away : (f : Pair → ℕ) (n : ℕ) (w : World) (e : ℕ) (s : DirState) (sends : Node → List Msg) (d : ℕ) → (d ≡ e → ⊥)
+pub sum_asks_away : (f : Pair → ℕ) (n : ℕ) (w : World) (e : ℕ) (s : DirState) (sends : Node → List Msg) (d : ℕ) → d ≢ e
     → sum_of f n (dir_asks w e s sends) d ≡ sum_of f n w d
 unfolding share
 sum_asks_away f n w e s sends d h = total-same (share f (dir_asks w e s sends) d) (share f w d) n
     (λ j l. ap f (asks-away w e s sends j d h))
 
 pub sum_vendor : (f : Pair → ℕ) (n : ℕ) (w : World) (c k d x y : ℕ) → c < n → f (after_grant (pair w c d) k) + x ≡ f (pair w c d) + y
-    → ((j : ℕ) → (j ≡ c → ⊥) → f (after_other_grant (pair w j d)) ≡ f (pair w j d))
+    → ((j : ℕ) → j ≢ c → f (after_other_grant (pair w j d)) ≡ f (pair w j d))
     → sum_of f n (vendor_gives w c k (given w c)) d + x ≡ sum_of f n w d + y
 unfolding share
 sum_vendor f n w c k d x y l e others =
@@ -277,7 +275,7 @@ FromEvents sh p w vs R Dirs G =
     (record { world = core_takes w (Dir d) c k o; noted = o.commit })))
     → Dirs (λ v. R vs nothing [] (record { world = v; noted = None }))
     → ((c k : ℕ) → in_flight w.net (Core c) Vendor k ≡ Some TidReq
-    → R vs nothing (record { tid = w.next; core = c } ∷ []) (record { world = vendor_gives w c k (given w c); noted = None }))
+    → R vs nothing (grant_to w.next c ∷ []) (record { world = vendor_gives w c k (given w c); noted = None }))
     → G
 
 pub event_cases : (sh : Shape) (p : Program) (w : World) (vs : Views) (e : Event) (R : Views → Sends → List Grant → Stepped → Type 0)

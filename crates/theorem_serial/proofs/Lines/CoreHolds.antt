@@ -7,7 +7,7 @@ use Names.{read_cleared, committed, words_dropped, Spilled, any_below-found, any
 use Names.{Program, word_of, Shape, set_of, free_way, placed, placed_at, holds, CoreState, Phase, Running, Ready, Solo, Out, is_solo}
 use Names.{commit, committed_core, noted, solo_commit, is_written, grant, core_exec, core_evict, is_fresh, OneCore, Words, acting}
 use Names.{names_line, put, none_spilled, DoomedTid, moves, List, arith, Dir, Msg, ProbeReply, Inv, home, keeps, filled, cleaned, Awaited}
-use Names.{nothing, from_dir, staled, is_awaited, FillOf, GoneOf, InvOf, among, passes, ◌/◌}
+use Names.{nothing, from_dir, staled, is_awaited, FillOf, GoneOf, InvOf, among, passes, ◌/◌, tested}
 use proofs.Marks.CoreMarks.{unspilled, modified-line, written-line}
 use proofs.OneCore.Outcomes.{Acts, Buffers, Commits_now, Did, Ends_alone, Ends_run, Finds, Frames, Frames_anew, Given_none, Granted, Idles}
 use proofs.OneCore.Outcomes.{Misses, Misses_anew, Reads, Room_wanted, after_end, each-evict, each-exec, each-grant, emptied, granted, out}
@@ -163,41 +163,35 @@ placed-reads sh k c h = elim (free_way sh c (set_of sh k)) as (λ a. ReadsValid 
 -- commits
 ready-kept : (sh : Shape) (l id u : ℕ) (s : CoreState) → s.phase ≡ Ready u → OneCore sh s → KeptBy sh l s (commit sh id u s)
 unfolding commit committed_core noted names_line
-ready-kept sh l id u s e h q = go (kept-committed u l s.cache q)
-  where
-    go : (keeps_unmodified s.cache l ≡ true) ⊎ (is_modified s.cache l ≡ true)
-        → (keeps_unmodified s.cache l ≡ true) ⊎ StoredLine sh l (commit sh id u s)
-    go (inl y) = inl y
-    go (inr y) =
-        inr (record {
-          commit = noted u id s;
-          noted = refl;
-          line = sym (modified-line sh.base s.cache s.stores l (unspilled sh s.cache s.spilled s.stores (rw e at h.words))) ∙ y;
-        })
+ready-kept sh l id u s e h q = elim (kept-committed u l s.cache q) [
+  | inl y ↦ inl y
+  | inr y ↦ inr (record {
+    commit = noted u id s;
+    noted = refl;
+    line = sym (modified-line sh.base s.cache s.stores l (unspilled sh s.cache s.spilled s.stores (rw e at h.words))) ∙ y;
+  })
+]
 
-alone-kept : (sh : Shape) (b : Bool) (l id u : ℕ) (s : CoreState) → Words sh b s.cache s.spilled s.stores
+alone-kept : {sh : Shape} {b : Bool} (l id u : ℕ) (s : CoreState) → Words sh b s.cache s.spilled s.stores
     → KeptBy sh l s (solo_commit sh id u s)
 unfolding solo_commit committed_core noted names_line is_written
-alone-kept sh b l id u s h q = go (kept-alone u l s.spilled s.cache q)
+alone-kept {sh} l id u s h q = elim (kept-alone u l s.spilled s.cache q) [
+  | inl y ↦ inl y
+  | inr y ↦ inr (record {
+    commit = noted u id s;
+    noted = refl;
+    line = sym (written-line sh.base s.cache s.spilled s.stores l h.named)
+        ∙ first (is_modified s.cache l) (holds s.spilled l) y;
+  })
+]
   where
     first : (x y : Bool) → x ≡ true → (x || y) ≡ true
     first a y e = grind nats
 
-    go : (keeps_unmodified s.cache l ≡ true) ⊎ (is_modified s.cache l ≡ true)
-        → (keeps_unmodified s.cache l ≡ true) ⊎ StoredLine sh l (solo_commit sh id u s)
-    go (inl y) = inl y
-    go (inr y) =
-        inr (record {
-          commit = noted u id s;
-          noted = refl;
-          line = sym (written-line sh.base s.cache s.spilled s.stores l h.named)
-              ∙ first (is_modified s.cache l) (holds s.spilled l) y;
-        })
-
-pub holds-exec : (sh : Shape) (l : ℕ) (p : Program) (id : ℕ) (s : CoreState) → OneCore sh s → (acting s.phase ≡ true → ReadsValid s.cache)
+pub holds-exec : {sh : Shape} (l : ℕ) (p : Program) (id : ℕ) {s : CoreState} → OneCore sh s → (acting s.phase ≡ true → ReadsValid s.cache)
     → IfSome (core_exec sh p id s) (Holds sh l s)
 unfolding commit committed_core
-holds-exec sh l p id s h v = each-exec sh p id s (Holds sh l s) go
+holds-exec {sh} l p id {s} h v = each-exec sh p id s (Holds sh l s) go
   where
     w : ℕ → ℕ
     w a = word_of sh.base a
@@ -219,7 +213,7 @@ holds-exec sh l p id s h v = each-exec sh p id s (Holds sh l s) go
         (fewer-stored (w a) y l false (placed sh (line_of (w a)) s.cache) (λ q. absurd (cc))
         (placed-reads sh (line_of (w a)) s.cache (acts-valid s.phase refl g.acts) (w a)) j b z))
     go (Misses_anew a n g i q f) = fewer _ g.idle (placed-fewer sh (line_of (w a)) l s.cache)
-    go (Ends_alone t b e f r i) = record { kept = alone-kept sh (is_solo s.phase) l id t (after_end s b e) h.words; fresh = λ q. inr i }
+    go (Ends_alone t b e f r i) = record { kept = alone-kept l id t (after_end s b e) h.words; fresh = λ q. inr i }
     go (Commits_now t e) = record { kept = ready-kept sh l id t s e h; fresh = inl }
     go (Idles n b bytes g) = fewer _ g.idle (λ j b q. q)
     go (Finds a x z b g f) = fewer _ g.idle (λ j b q. q)
@@ -233,8 +227,8 @@ holds-evict sh l x y s =
     each-evict sh x y s (Holds sh l s)
     (λ k e a m. record { kept = by-fewer sh l s (emptied sh x y k s) (fewer-evicted x y l s.cache); fresh = inl })
 
-pub holds-grant : (sh : Shape) (l u : ℕ) (s : CoreState) → Holds sh l s (grant sh u s)
-holds-grant sh l u s = each-grant sh u s (Holds sh l s) go
+pub holds-grant : {sh : Shape} (l u : ℕ) {s : CoreState} → Holds sh l s (grant sh u s)
+holds-grant {sh} l u {s} = each-grant sh u s (Holds sh l s) go
   where
     go : (x : Granted sh u s) → Holds sh l s (granted x)
     go (Given_none e) = record { kept = inl; fresh = inl }
@@ -252,22 +246,20 @@ pub record Gone (l : ℕ) (s : CoreState) : Type 0 where
   pub kept : keeps_unmodified s.cache l ≡ false
   pub stale : is_awaited s.awaited l ≡ true → is_fresh s.awaited ≡ false
 
-still : (l : ℕ) (s : CoreState) (m : Msg) (o : Out) → Fewer s.cache o.core.cache l
+still : {l : ℕ} {s : CoreState} {m : Msg} {o : Out} → Fewer s.cache o.core.cache l
     → (is_fresh o.core.awaited ≡ true → is_fresh s.awaited ≡ true) → HoldsBack l s m o
-still l s m o h f = record { kept = λ q. inl (fewer-kept s.cache o.core.cache l h q); fresh = f }
+still {l} {s} {o} h f = record { kept = λ q. inl (fewer-kept s.cache o.core.cache l h q); fresh = f }
 
 -- a Fill of line k adds no word of another
 filled-kept : (k l : ℕ) (ws : List ℕ) (c : Cache) → keeps_unmodified (filled k ws c) l ≡ true
     → (keeps_unmodified c l ≡ true) ⊎ ((k == l) ≡ true)
 unfolding filled
-filled-kept k l ws c q = go (k == l) refl
-  where
-    go : (b : Bool) → (k == l) ≡ b → (keeps_unmodified c l ≡ true) ⊎ ((k == l) ≡ true)
-    go true e = inr e
-    go false e =
-        inl (fewer-kept c (filled k ws c) l
-        (λ j i r. (let z : (word_at l j) / 8 ≡ l = omega (arith, i) in let y : (k == (word_at l j) / 8) ≡ false = rw (z, e) refl in
-        rw y at r)) q)
+filled-kept k l ws c q = elim (tested (k == l)) [
+  | inl e ↦ inr e
+  | inr e ↦ inl (fewer-kept c (filled k ws c) l
+      (λ j i r. (let z : (word_at l j) / 8 ≡ l = omega (arith, i) in let y : (k == (word_at l j) / 8) ≡ false = rw (z, e) refl in
+      rw y at r)) q)
+]
 
 -- invalidations
 keeps-none : (c : Cache) (l : ℕ) → keeps c l ≡ false → keeps_unmodified c l ≡ false
@@ -301,7 +293,7 @@ holds-back sh l e s m = each-back sh e s (HoldsTaken sh l s) go m
   where
     other : (m : Msg) (o : Out) → passes (InvOf l) m ≡ false → Fewer s.cache o.core.cache l
         → (is_fresh o.core.awaited ≡ true → is_fresh s.awaited ≡ true) → HoldsTaken sh l s m o
-    other m o n h f = record { holds = still l s m o h f; gone = λ q. absurd (cc) }
+    other m o n h f = record { holds = still h f; gone = λ q. absurd (cc) }
 
     -- the words of the awaited line come
     added : (k : ℕ) (ws : List ℕ) (a : Awaited) → s.awaited ≡ Some a → a.stale ≡ false
@@ -314,7 +306,7 @@ holds-back sh l e s m = each-back sh e s (HoldsTaken sh l s) go m
     hurt : (k m u : ℕ) (r : CoreState) (q : Said) → Fewer (invalidated k m s.cache) r.cache l → r.awaited ≡ staled k s.awaited
         → Unheard (GoneOf l) q → HoldsTaken sh l s (Inv k m u) (acked sh k r (say sh s q))
     hurt k m u r q f e h = record {
-      holds = still l s (Inv k m u) (acked sh k r (say sh s q)) (λ j i z. fewer-invalidated k m l s.cache j i (f j i z))
+      holds = still (λ j i z. fewer-invalidated k m l s.cache j i (f j i z))
           (λ z. staled-fresh k s.awaited (rw e at z));
       gone = λ z. gone (grind nats) (keeps r.cache k) refl;
     }

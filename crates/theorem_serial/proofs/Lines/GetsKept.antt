@@ -7,7 +7,7 @@ use Names.{Shape, DirState, Sends, to, Answer, Asks, Takes, dir_deliver, CopyOf,
 use Names.{None, IfSome, subst, Noted, Program, Local, num, line_of, word_at, cleaned, no_lines, Dir, Vendor, Fill, ProbeReply, Inv, Event}
 use Names.{home, lines, CoreState, World, start, dir_start, Out, core_exec, core_evict, from_dir, grant, data_request, Waits, Drops}
 use Names.{core_moves, core_takes, dir_takes, dir_asks, vendor_gives, and_noted, step, GetsOf, KeptGets, live, Pair, pair, after_move}
-use Names.{back_taken, out_taken, after_answer, is_this, to_dir, to_core, FromCore, FromDir}
+use Names.{back_taken, out_taken, after_answer, is_this, to_dir, to_core, FromCore, FromDir, tested}
 use proofs.Counts.DirOutcome.{Outcome, Waiting, Spent, AsksOwner, TakesCommit, TakesCopy, outcome, among-to}
 use proofs.Copies.CopySends.{frame_copy, clean-frame}
 use proofs.Copies.LinesKept.{KeptLines}
@@ -150,20 +150,18 @@ step-gets sh p w cs e h = step_cases sh p w e (λ g o. KeptLines sh (and_noted o
     own : (c d k : ℕ) (m : Msg) (o : Out) → FromDir w d c k m
         → ((l : ℕ) → passes (DataOf l) m ≡ true → (t : ℕ) → frame_copy o.core.cache l t ≡ 0)
         → KeptLines sh (and_noted o.commit cs) (core_takes w (Dir d) c k o) → GetsAt sh c d (after_move (back_taken (pair w c d) k) o d)
-    own c d k m o i f n l cl dl ll q = go (passes (DataOf l) m) refl
-      where
-        go : (b : Bool) → passes (DataOf l) m ≡ b → GetsOf c l (after_move (back_taken (pair w c d) k) o d)
-        go true r = gets-answered sh.base (and_noted o.commit cs) c l (after_move (back_taken (pair w c d) k) o d)
-            (subst (LineCopies sh.base (and_noted o.commit cs) c l) (back-own w c k o d) (n c d l cl dl ll q)) (f l r)
-        go false r =
-            λ a e. (let z : num (passes (DataOf l) m) ≡ 0 = ap num r in
-            omega (
-              arith,
-              h c d l cl dl ll q a e,
-              z,
-              live-takes (DataOf l) (to_core w d c) k m i,
-              live-sends (CopyOf l ((w.dirs d).lines.tag l)) (to_dir w c d) (o.sends (Dir d)),
-            ))
+    own c d k m o i f n l cl dl ll q = elim (tested (passes (DataOf l) m)) [
+      | inl r ↦ gets-answered sh.base (and_noted o.commit cs) c l (after_move (back_taken (pair w c d) k) o d)
+          (subst (LineCopies sh.base (and_noted o.commit cs) c l) (back-own w c k o d) (n c d l cl dl ll q)) (f l r)
+      | inr r ↦ λ a e. (let z : num (passes (DataOf l) m) ≡ 0 = ap num r in
+          omega (
+            arith,
+            h c d l cl dl ll q a e,
+            z,
+            live-takes (DataOf l) (to_core w d c) k m i,
+            live-sends (CopyOf l ((w.dirs d).lines.tag l)) (to_dir w c d) (o.sends (Dir d)),
+          ))
+    ]
 
     taken : (c d k : ℕ) (m : Msg) → FromDir w d c k m → (x : Option Out)
         → ((l : ℕ) → passes (DataOf l) m ≡ true → IfSome x (λ o. (t : ℕ) → frame_copy o.core.cache l t ≡ 0))

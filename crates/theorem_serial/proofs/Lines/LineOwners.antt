@@ -8,7 +8,7 @@ use Names.{ProbeReply, DataReq, Shape, DirState, World, start, core_start, Out, 
 use Names.{Drops, Asks, Takes, dir_deliver, home_words, core_moves, core_takes, step, LoadingOf, KeptLoading, LoadOf, FillOf, live, among}
 use Names.{passes, Pair, pair, nats, to_dir, to_core, FromCore, FromDir, no_lines, dir_start, Commit, true, List, ◌++◌, Contains}
 use Names.{if◌then◌else◌, ap, Contains-append_left, has_mark, KeptLineOwners, Commits, Grant, granted_by, SparesCommitter, Stepped, tid_at}
-use Names.{inr, WhollyOrHome, KeptWhole}
+use Names.{inr, WhollyOrHome, KeptWhole, grant_to, ◌≢◌}
 use proofs.Counts.DirOutcome.{Outcome, Waiting, Spent, AsksOwner, TakesProbe, TakesLoad, TakesCommit, TakesCopy, IsSpent, CopyPassed}
 use proofs.Counts.DirOutcome.{outcome, among-none, among-to, none-to, none-invalidations, TakesAbort, TakesMark, TakesAck}
 use proofs.Counts.Links.{live-sends, live-takes}
@@ -89,7 +89,7 @@ step-loading sh p w e h = step_cases sh p w e (λ g o. KeptLoading sh o.world)
     self : (d : ℕ) (b : Bool) → num (d == d && b) ≡ num b
     self d b = rw (eq-self d) refl
 
-    other : (d e : ℕ) (b : Bool) → (d ≡ e → ⊥) → num (d == e && b) ≡ 0
+    other : (d e : ℕ) (b : Bool) → d ≢ e → num (d == e && b) ≡ 0
     other d e b n = rw (differ d e n) refl
 
     taken : (c d k : ℕ) (m : Msg) → FromDir w d c k m → (x : Option Out)
@@ -177,12 +177,12 @@ start-asked sh entries ram d l a = absurd (cc)
 
 -- the owners of one directory's lines
 abbrev LineOwners : List Grant → DirState → Type 0
-LineOwners gs s = (l c : ℕ) → s.lines.owner l ≡ Some c → Contains gs (record { tid = s.lines.tag l; core = c })
+LineOwners gs s = (l c : ℕ) → s.lines.owner l ≡ Some c → Contains gs (grant_to (s.lines.tag l) c)
 
 more-granted : (gs new : List Grant) (w : World) (e : Event) (x : Option Stepped) → IfSome x (λ o. (d : ℕ) → LineOwners gs (o.world.dirs d))
     → IfSome x (λ o. KeptLineOwners (gs ++ new) o.world)
 more-granted gs new w e None h = tt
-more-granted gs new w e (Some o) h = λ d l j q. Contains-append_left gs new (record { tid = (o.world.dirs d).lines.tag l; core = j })
+more-granted gs new w e (Some o) h = λ d l j q. Contains-append_left gs new (grant_to ((o.world.dirs d).lines.tag l) j)
     (h d l j q)
 
 pub step-line-owners : (sh : Shape) (p : Program) (gs : List Grant) (w : World) (e : Event) → SparesCommitter sh gs w → KeptLineOwners gs w
@@ -195,7 +195,7 @@ step-line-owners sh p gs w e y h =
     -- the core of the Commit owns the lines with its TID
     taken : (c d k n : ℕ) → FromCore w c d k (Commit (tid_at w d) n) → (x j : ℕ) (b : Bool)
         → (if b then Some c else (w.dirs d).lines.owner x) ≡ Some j
-        → Contains gs (record { tid = (if b then tid_at w d else (w.dirs d).lines.tag x); core = j })
+        → Contains gs (grant_to (if b then tid_at w d else (w.dirs d).lines.tag x) j)
     taken c d k n i x j false q = h d x j q
     taken c d k n i x j true q =
         let u : ℕ = tid_at w d in

@@ -8,7 +8,7 @@ use Names.{num, has_mark, Core, Dir, Msg, Shape, home, lines, DirState, Link, Se
 use Names.{pair, Ways, wrote_line, Option, IfSome, Out, and_noted, insert_commit, KeptLoading, LoadOf, CommitsAbove, due, after_move, share}
 use Names.{is_applied, stores_at, names_line, is_some, CoreState, Phase, Running, World, core_moves, dir_takes, KeptSharers, OneCore}
 use Names.{acting, after_answer, out_taken, has_tid, ◌%◌, not, is_awaited, KeptHomes, LoadingOf, InvOf, LinesAway, nats, home_of, tid_at}
-use Names.{to_dir, to_core, FromCore, FromDir}
+use Names.{to_dir, to_core, FromCore, FromDir, ◌≢◌, tested}
 use proofs.Copies.LinesKept.{Before, new-of}
 use proofs.Copies.LinesStep.{writer-line, commit-passes}
 use proofs.Copies.PairCopies.{NewCommit}
@@ -51,11 +51,11 @@ unfolding holds_line
 holds-fill l v q i = grind nats
 
 -- a core's event: what it holds it held before, or it has committed the line and has acknowledged nothing of it
-pub sharer-moved : (base : ℕ) (cs ds : List Noted) (c l : ℕ) (v w : Pair) → w.dir ≡ v.dir
+pub sharer-moved : {base : ℕ} {cs ds : List Noted} {c l : ℕ} {v w : Pair} → w.dir ≡ v.dir
     → (holds_line l w ≡ true → (holds_line l v ≡ true) ⊎ (CommitsLine base ds c l w × (live (GoneOf l) v.out ≡ 0)))
     → (CommitsLine base cs c l v → CommitsLine base ds c l w) → (holds_line l w ≡ true → live (GoneOf l) w.out ≡ live (GoneOf l) v.out)
     → SharerOf base cs c l v → SharerOf base ds c l w
-sharer-moved base cs ds c l v w e f g u h = record { shares = λ q. shares (f q); stays = λ q. stays q (f q) }
+sharer-moved {base} {ds} {c} {l} {v} {w} e f g u h = record { shares = λ q. shares (f q); stays = λ q. stays q (f q) }
   where
     shares : (holds_line l v ≡ true) ⊎ (CommitsLine base ds c l w × (live (GoneOf l) v.out ≡ 0))
         → (w.dir.lines.sharers l c ≡ true) ⊎ CommitsLine base ds c l w
@@ -74,9 +74,9 @@ pub record SharerStep (base : ℕ) (cs : List Noted) (c l : ℕ) (v w : Pair) : 
   pub filled : (live (FillOf l) w.back ≤ live (FillOf l) v.back) ⊎ ((w.dir.lines.sharers l c ≡ true) × (live (GoneOf l) v.out ≡ 0))
   pub gone : live (GoneOf l) w.out ≤ live (GoneOf l) v.out
 
-pub sharer-answered : (base : ℕ) (cs : List Noted) (c l : ℕ) (v w : Pair) → SharerStep base cs c l v w → SharerOf base cs c l v
+pub sharer-answered : {base : ℕ} {cs : List Noted} {c l : ℕ} (v w : Pair) → SharerStep base cs c l v w → SharerOf base cs c l v
     → SharerOf base cs c l w
-sharer-answered base cs c l v w s h = record { shares = λ q. shares (held q); stays = λ q. stays (held q) }
+sharer-answered {base} {cs} {c} {l} v w s h = record { shares = λ q. shares (held q); stays = λ q. stays (held q) }
   where
     -- it held the line before, or it is filled now
     held : holds_line l w ≡ true → (holds_line l v ≡ true) ⊎ ((w.dir.lines.sharers l c ≡ true) × (live (GoneOf l) v.out ≡ 0))
@@ -121,12 +121,12 @@ pub record Seen (mine : Bool) (j : ℕ) (m : Msg) (s : DirState) (sends : Sends)
   pub back : (k : Kind) → live k w.back ≡ live k v.back + among k (sends (Core j))
 
 -- a Commit that the directory takes is of the lines that are marked
-takes-commits : (sh : Shape) (gs : List Grant) (ys : Ways) (h : History) (c d k j l : ℕ) (mine : Bool) (m : Msg) (s : DirState)
-    (sends : Sends) (w : Pair) → Before sh gs ys h → FromCore h.world c d k m → (j == c) ≡ mine → d < sh.dirs
-    → l < lines sh → home sh l ≡ d → Seen mine j m s sends (pair h.world j d) w → Records sh (h.world.dirs d) c m s
-    → Shares sh (h.world.dirs d) c m s sends
-    → CommitsLine sh.base h.commits j l (pair h.world j d) → (w.dir.lines.sharers l j ≡ true) ⊎ CommitsLine sh.base h.commits j l w
-takes-commits sh gs ys h c d k j l mine m s sends w b i z dl ll e a r f x = go r
+takes-commits : {sh : Shape} {gs : List Grant} {ys : Ways} (h : History) (c d k j l : ℕ) {mine : Bool} (m : Msg)
+    (s : DirState) {sends : Sends} (w : Pair) → Before sh gs ys h → FromCore h.world c d k m → (j == c) ≡ mine → d < sh.dirs → l < lines sh
+    → home sh l ≡ d → Seen mine j m s sends (pair h.world j d) w → Records sh (h.world.dirs d) c m s
+    → Shares sh (h.world.dirs d) c m s sends → CommitsLine sh.base h.commits j l (pair h.world j d)
+    → (w.dir.lines.sharers l j ≡ true) ⊎ CommitsLine sh.base h.commits j l w
+takes-commits {sh} {gs} h c d k j l {mine} m s w b i z dl ll e a r f x = go r
   where
     same : num (mine && passes (Commits x.tid) m) ≡ 0 → (w.dir.lines.sharers l j ≡ true) ⊎ CommitsLine sh.base h.commits j l w
     same n = inr (record { tid = x.tid; sent = omega (arith, x.sent, n, a.lives (Commits x.tid)); line = x.line })
@@ -150,20 +150,20 @@ takes-commits sh gs ys h c d k j l mine m s sends w b i z dl ll e a r f x = go r
             subst (λ p. wrote_line sh.base h.commits c p l ≡ true) (sym t)
             (subst (λ p. wrote_line sh.base h.commits p x.tid l ≡ true) y x.line) in
             let o' : has_mark (h.world.dirs d).lines l ≡ true =
-            sym (writer-line sh h c d l ll e (taken-commit sh gs h c d k m b.told.all dl i q)) ∙ n' in
+            sym (writer-line h l ll e (taken-commit c d k b.told.all dl i q)) ∙ n' in
             inl (ap (λ u. u.lines.sharers l j) a.dir ∙ ap (λ u. s.lines.sharers l u) y ∙ f.taken l q o')
 
-pub answer-sharers : (sh : Shape) (gs : List Grant) (ys : Ways) (h : History) (c d k j l : ℕ) (mine : Bool) (m : Msg) (s : DirState)
-    (sends : Sends) (w : Pair) → Before sh gs ys h → FromCore h.world c d k m → (j == c) ≡ mine → j < sh.cores
-    → d < sh.dirs → l < lines sh → home sh l ≡ d → Seen mine j m s sends (pair h.world j d) w → Records sh (h.world.dirs d) c m s
-    → Shares sh (h.world.dirs d) c m s sends
-    → SharerOf sh.base h.commits j l (pair h.world j d) → SharerOf sh.base h.commits j l w
+pub answer-sharers : {sh : Shape} {gs : List Grant} {ys : Ways} {h : History} {c d : ℕ}
+    (k : ℕ) {j l : ℕ} {mine : Bool} {m : Msg} {s : DirState} {sends : Sends} (w : Pair) → Before sh gs ys h → FromCore h.world c d k m
+    → (j == c) ≡ mine → j < sh.cores → d < sh.dirs → l < lines sh → home sh l ≡ d → Seen mine j m s sends (pair h.world j d) w
+    → Records sh (h.world.dirs d) c m s → Shares sh (h.world.dirs d) c m s sends → SharerOf sh.base h.commits j l (pair h.world j d)
+    → SharerOf sh.base h.commits j l w
 unfolding pair
-answer-sharers sh gs ys h c d k j l mine m s sends w b i z jl dl ll e a r f =
-    sharer-answered sh.base h.commits j l (pair h.world j d) w (record {
+answer-sharers {sh} {gs} {ys} {h} {c} {d} k {j} {l} {mine} {m} {s} {sends} w b i z jl dl ll e a r f =
+    sharer-answered (pair h.world j d) w (record {
       core = a.core;
       kept = λ q. kept (f.kept l j q);
-      commits = takes-commits sh gs ys h c d k j l mine m s sends w b i z dl ll e a r f;
+      commits = takes-commits h c d k j l m s w b i z dl ll e a r f;
       filled = filled (cases_lt 0 (among (FillOf l) (sends (Core j))));
       gone = omega (arith, a.lives (GoneOf l));
     })
@@ -200,10 +200,10 @@ pub record Sharing (sh : Shape) (w : History) (c d l : ℕ) (o : Out) : Type 0 w
   pub unapplied : (n : Noted) → o.commit ≡ Some n → stores_at sh d n.stores ≡ true → is_applied (w.world.dirs d) n.tid.0 ≡ false
 
 -- a directory that isn't owed anything has none acknowledged
-unowed : (sh : Shape) (gs : List Grant) (ys : Ways) (h : History) (c d l : ℕ) → Before sh gs ys h → c < sh.cores → (h.world.dirs d).owed ≡ 0
+unowed : {sh : Shape} {gs : List Grant} {ys : Ways} (h : History) (c d l : ℕ) → Before sh gs ys h → c < sh.cores → (h.world.dirs d).owed ≡ 0
     → live (GoneOf l) (to_dir h.world c d) ≡ 0
 unfolding share due pair
-unowed sh gs ys h c d l b cl z =
+unowed {sh} h c d l b cl z =
     omega (
       arith,
       z,
@@ -220,12 +220,12 @@ served-owed s t l e = go (nat_lt t s.serving.serving) (t == s.serving.serving) (
         → num (is_applied s t) ≡ num a + num (b && c) → s.owed ≡ 0
     go a b d p q r x = grind nats
 
-pub own-sharers : (sh : Shape) (gs : List Grant) (ys : Ways) (h : History) (c d l : ℕ) (o : Out) → Before sh gs ys h
+pub own-sharers : {sh : Shape} {gs : List Grant} {ys : Ways} {h : History} {c d l : ℕ} (o : Out) → Before sh gs ys h
     → KeptLoading sh h.world → c < sh.cores → d < sh.dirs → l < lines sh → home sh l ≡ d → Sharing sh h c d l o
     → SharerOf sh.base h.commits c l (pair h.world c d)
     → SharerOf sh.base (and_noted o.commit h.commits) c l (after_move (pair h.world c d) o d)
 unfolding pair
-own-sharers sh gs ys h c d l o b ld cl dl ll e s k = sharer-moved sh.base h.commits (and_noted o.commit h.commits) c l v w refl
+own-sharers {sh} {gs} {ys} {h} {c} {d} {l} o b ld cl dl ll e s k = sharer-moved refl
     (λ q. held (holds-cases l w q)) more (λ q. omega (arith, s.quiet, live-sends (GoneOf l) v.out (o.sends (Dir d)))) k
   where
     v : Pair
@@ -235,7 +235,7 @@ own-sharers sh gs ys h c d l o b ld cl dl ll e s k = sharer-moved sh.base h.comm
     w = after_move v o d
 
     new : (n : Noted) → o.commit ≡ Some n → n.core.0 ≡ c → NewCommit sh.base h.commits c d l v o n
-    new n q r = new-of sh gs ys h c d l o n b cl dl ll e q r s.speaks
+    new n q r = new-of l b cl dl ll e q r s.speaks
 
     stored : (n : Noted) → o.commit ≡ Some n → names_line sh.base n.stores l ≡ true → AfterStep sh c (h.world.cores c) o
         → CommitsLine sh.base (and_noted o.commit h.commits) c l w × (live (GoneOf l) v.out ≡ 0)
@@ -248,7 +248,7 @@ own-sharers sh gs ys h c d l o b ld cl dl ll e s k = sharer-moved sh.base h.comm
                 sent = omega (arith, y.sent i, live-sends (Commits n.tid.0) v.out (o.sends (Dir d)));
                 line = (wrote-new sh.base n h.commits c n.tid.0 l core refl y.fresh).line ∙ i;
               }),
-          unowed sh gs ys h c d l b cl (served-owed (h.world.dirs d) n.tid.0 below (s.unapplied n q (stored-home sh d l n ll e i))),
+          unowed h c d l b cl (served-owed (h.world.dirs d) n.tid.0 below (s.unapplied n q (stored-home sh l n ll e i))),
         )
       where
         tells : (a : Option Noted) → a ≡ Some n → IfSome a (TellsCommit sh (h.world.cores c) o) → TellsCommit sh (h.world.cores c) o n
@@ -260,28 +260,24 @@ own-sharers sh gs ys h c d l o b ld cl dl ll e s k = sharer-moved sh.base h.comm
             same (sym x.commit ∙ q)
 
         below : n.tid.0 ≤ (tid_at h.world d)
-        below = go (cases_lt (tid_at h.world d) n.tid.0)
-          where
-            go : (tid_at h.world d < n.tid.0) ⊎ (n.tid.0 ≤ tid_at h.world d) → n.tid.0 ≤ (tid_at h.world d)
-            go (inr z) = z
-            go (inl z) =
-                absurd (omega (
-                  arith,
-                  s.reached,
-                  above-sent (tid_at h.world d) n.tid.0 (o.sends (Dir d)) z,
-                  commit-sent sh gs ys h c d o n b.told cl (tells o.commit q s.speaks.tells.commits) dl
-                      (stored-home sh d l n ll e i),
-                ))
+        below = elim (cases_lt (tid_at h.world d) n.tid.0) [
+          | inr z ↦ z
+          | inl z ↦ absurd (omega (
+            arith,
+            s.reached,
+            above-sent (tid_at h.world d) n.tid.0 (o.sends (Dir d)) z,
+            commit-sent c d b.told cl (tells o.commit q s.speaks.tells.commits) dl
+                (stored-home sh l n ll e i),
+          ))
+        ]
 
     held : (keeps_unmodified w.core.cache l ≡ true) ⊎ ((is_fresh w.core.awaited ≡ true) × (1 ≤ live (FillOf l) w.back))
         → (holds_line l v ≡ true) ⊎ (CommitsLine sh.base (and_noted o.commit h.commits) c l w × (live (GoneOf l) v.out ≡ 0))
     held (inl q) = elim (s.holds.kept q) [ inl x ↦ inl (holds-kept l v x) | inr x ↦ inr (stored x.commit x.noted x.line s.after) ]
-    held (inr q) = fresh (s.holds.fresh q.0)
-      where
-        fresh : (is_fresh v.core.awaited ≡ true) ⊎ (v.core.awaited ≡ None)
-            → (holds_line l v ≡ true) ⊎ (CommitsLine sh.base (and_noted o.commit h.commits) c l w × (live (GoneOf l) v.out ≡ 0))
-        fresh (inl x) = inl (holds-fill l v x q.1)
-        fresh (inr x) = absurd (let y : live (LoadOf l) v.out + live (FillOf l) v.back ≡ 0 = rw x at (ld c d l) in omega (arith, y, q.1))
+    held (inr q) = elim (s.holds.fresh q.0) [
+      | inl x ↦ inl (holds-fill l v x q.1)
+      | inr x ↦ absurd (let y : live (LoadOf l) v.out + live (FillOf l) v.back ≡ 0 = rw x at (ld c d l) in omega (arith, y, q.1))
+    ]
 
     more : CommitsLine sh.base h.commits c l v → CommitsLine sh.base (and_noted o.commit h.commits) c l w
     more x = go s.after
@@ -330,14 +326,14 @@ pub dir-sharers : (sh : Shape) (gs : List Grant) (ys : Ways) (h : History) (c d 
     → Shares sh (h.world.dirs d) c m s sends → (j e : ℕ) → SharersAt sh h.commits j e (pair (dir_takes h.world c d k s sends) j e)
 unfolding pair
 dir-sharers sh gs ys h c d k m s sends b t i r f = pairs_dir (SharersAt sh h.commits) h.world c d k s sends
-    (λ l cl dl ll e. answer-sharers sh gs ys h c d k c l true m s sends (after_answer (out_taken (pair h.world c d) k) s (sends (Core c))) b
+    (λ l cl dl ll e. answer-sharers k (after_answer (out_taken (pair h.world c d) k) s (sends (Core c))) b
     i (same c) cl dl ll e (record {
       core = refl;
       dir = refl;
       lives = λ q. live-takes q (to_dir h.world c d) k m i;
       back = λ q. live-sends q (to_core h.world d c) (sends (Core c));
     }) r f (t c d l cl dl ll e))
-    (λ j n l jl dl ll e. answer-sharers sh gs ys h c d k j l false m s sends (after_answer (pair h.world j d) s (sends (Core j))) b i
+    (λ j n l jl dl ll e. answer-sharers k (after_answer (pair h.world j d) s (sends (Core j))) b i
     (differ j c n) jl dl ll e
     (record {
       core = refl;
@@ -348,9 +344,9 @@ dir-sharers sh gs ys h c d k m s sends b t i r f = pairs_dir (SharersAt sh h.com
     (λ j e l jl el ll q. t j e l jl el ll q)
 
 -- another core's: what it wrote stays
-other-sharers : (base : ℕ) (a : Option Noted) (cs : List Noted) (j l : ℕ) (v : Pair) → ((n : Noted) → a ≡ Some n → (n.core.0 == j) ≡ false)
+other-sharers : {base : ℕ} (a : Option Noted) {cs : List Noted} (j l : ℕ) {v : Pair} → ((n : Noted) → a ≡ Some n → (n.core.0 == j) ≡ false)
     → SharerOf base cs j l v → SharerOf base (and_noted a cs) j l v
-other-sharers base a cs j l v f h = go a refl
+other-sharers {base} a {cs} j l {v} f h = go a refl
   where
     go : (x : Option Noted) → a ≡ x → SharerOf base (and_noted x cs) j l v
     go None e = h
@@ -370,11 +366,11 @@ pub moved-sharers : (sh : Shape) (gs : List Grant) (ys : Ways) (h : History) (c 
 moved-sharers sh gs ys h c o b ld t a f j d = either j c
     (λ q. subst (λ i. SharersAt sh (and_noted o.commit h.commits) i d (pair (core_moves h.world c o) i d)) (sym q)
     (subst (SharersAt sh (and_noted o.commit h.commits) c d) (sym (moves-own h.world c o d))
-    (λ l cl dl ll e. own-sharers sh gs ys h c d l o b ld cl dl ll e (f d l dl ll e) (t c d l cl dl ll e))))
+    (λ l cl dl ll e. own-sharers o b ld cl dl ll e (f d l dl ll e) (t c d l cl dl ll e))))
     (λ n. subst (SharersAt sh (and_noted o.commit h.commits) j d) (sym (moves-other h.world c o j d n))
-    (λ l jl dl ll e. other-sharers sh.base o.commit h.commits j l (pair h.world j d) (λ x q. unlike x q n a) (t j d l jl dl ll e)))
+    (λ l jl dl ll e. other-sharers o.commit j l (λ x q. unlike x q n a) (t j d l jl dl ll e)))
   where
-    unlike : (x : Noted) → o.commit ≡ Some x → (j ≡ c → ⊥) → AfterStep sh c (h.world.cores c) o → (x.core.0 == j) ≡ false
+    unlike : (x : Noted) → o.commit ≡ Some x → j ≢ c → AfterStep sh c (h.world.cores c) o → (x.core.0 == j) ≡ false
     unlike x q n a = grind nats
 
 -- A message that a core takes keeps that a core which holds a line is one of its sharers, or its Commit of the line is in flight.
@@ -386,12 +382,11 @@ fill-away n e l a q = grind nats
 fill-home : (sh : Shape) (w : World) (c e k l : ℕ) (m : Msg) → KeptHomes sh w → FromDir w e c k m
     → passes (FillOf l) m ≡ true → home sh l ≡ e
 unfolding pair
-fill-home sh w c e k l m h i q = go (home sh l == e) refl
-  where
-    go : (y : Bool) → (home sh l == e) ≡ y → home sh l ≡ e
-    go true p = grind nats
-    go false p = absurd (let n : num (passes (LinesAway sh.dirs e) m) ≡ 1 = ap num (fill-away sh.dirs e l m q) ∙ rw p refl in
-        omega (arith, n, live-some (LinesAway sh.dirs e) (to_core w e c) k m i, (h c e l).back))
+fill-home sh w c e k l m h i q = elim (tested (home sh l == e)) [
+  | inl p ↦ grind nats
+  | inr p ↦ absurd (let n : num (passes (LinesAway sh.dirs e) m) ≡ 1 = ap num (fill-away sh.dirs e l m q) ∙ rw p refl in
+      omega (arith, n, live-some (LinesAway sh.dirs e) (to_core w e c) k m i, (h c e l).back))
+]
 
 -- v is the core's pair, with the message or without
 pub back-sharers : (sh : Shape) (w : World) (cs : List Noted) (c e d k l : ℕ) (m : Msg) (v : Pair) (o : Out) → KeptHomes sh w
@@ -401,7 +396,7 @@ pub back-sharers : (sh : Shape) (w : World) (cs : List Noted) (c e d k l : ℕ) 
     → SharerOf sh.base cs c l (pair w c d) → SharerOf sh.base cs c l (after_move v o d)
 unfolding pair
 back-sharers sh w cs c e d k l m v o h q i vc vd vo vb f g ld t =
-    sharer-moved sh.base cs cs c l u x vd (λ r. inl (held (holds-cases l x r))) more (λ r. gone r (passes (InvOf l) m) refl) t
+    sharer-moved vd (λ r. inl (held (holds-cases l x r))) more (λ r. gone r (passes (InvOf l) m) refl) t
   where
     u : Pair
     u = pair w c d
@@ -412,17 +407,14 @@ back-sharers sh w cs c e d k l m v o h q i vc vd vo vb f g ld t =
     held : (keeps_unmodified o.core.cache l ≡ true) ⊎ ((is_fresh o.core.awaited ≡ true) × (1 ≤ live (FillOf l) v.back))
         → holds_line l u ≡ true
     held (inr r) = holds-fill l u (f.holds.fresh r.0) (omega (arith, r.1, vb))
-    held (inl r) = kept (f.holds.kept r)
-      where
-        kept : (keeps_unmodified (w.cores c).cache l ≡ true) ⊎ ((passes (FillOf l) m ≡ true) × (is_fresh (w.cores c).awaited ≡ true))
-            → holds_line l u ≡ true
-        kept (inl y) = holds-kept l u y
-        kept (inr y) =
-            let z : e ≡ d = sym (fill-home sh w c e k l m h i y.0) ∙ q in
-            let n : num (passes (FillOf l) m) ≡ 1 = ap num y.0 in
-            let p : 1 ≤ live (FillOf l) (to_core w d c) =
-            rw (sym z) (omega (arith, n, live-some (FillOf l) (to_core w e c) k m i)) in
-            holds-fill l u y.1 p
+    held (inl r) = elim (f.holds.kept r) [
+      | inl y ↦ holds-kept l u y
+      | inr y ↦ let z : e ≡ d = sym (fill-home sh w c e k l m h i y.0) ∙ q in
+          let n : num (passes (FillOf l) m) ≡ 1 = ap num y.0 in
+          let p : 1 ≤ live (FillOf l) (to_core w d c) =
+          rw (sym z) (omega (arith, n, live-some (FillOf l) (to_core w e c) k m i)) in
+          holds-fill l u y.1 p
+    ]
 
     more : CommitsLine sh.base cs c l u → CommitsLine sh.base cs c l x
     more y = record {
@@ -439,11 +431,10 @@ back-sharers sh w cs c e d k l m v o h q i vc vd vo vb f g ld t =
     -- a core that says that it keeps no word holds none
     none : Gone l o.core → (keeps_unmodified o.core.cache l ≡ true) ⊎ ((is_fresh o.core.awaited ≡ true) × (1 ≤ live (FillOf l) v.back)) → ⊥
     none y (inl r) = let z = y.kept in absurd (cc)
-    none y (inr r) = awaited (is_awaited o.core.awaited l) refl
-      where
-        awaited : (b : Bool) → is_awaited o.core.awaited l ≡ b → ⊥
-        awaited true p = let z = y.stale p in let a = r.0 in absurd (cc)
-        awaited false p = let z : live (LoadOf l) x.out + live (FillOf l) v.back ≡ 0 = rw p at ld in absurd (omega (arith, z, r.1))
+    none y (inr r) = elim (tested (is_awaited o.core.awaited l)) [
+      | inl p ↦ let z = y.stale p in let a = r.0 in absurd (cc)
+      | inr p ↦ let z : live (LoadOf l) x.out + live (FillOf l) v.back ≡ 0 = rw p at ld in absurd (omega (arith, z, r.1))
+    ]
 
     gone : holds_line l x ≡ true → (b : Bool) → passes (InvOf l) m ≡ b → live (GoneOf l) x.out ≡ live (GoneOf l) u.out
     gone r false p = same (g p)

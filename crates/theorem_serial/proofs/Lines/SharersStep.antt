@@ -53,9 +53,9 @@ unfolding among
 no-message k = refl
 
 -- what a taken grant leaves
-regranted : (base : ℕ) (cs : List Noted) (c d k l : ℕ) (v : Pair) (o : Out) → SharerOf base cs c l (after_move v o d)
+regranted : {base : ℕ} {cs : List Noted} (c d k l : ℕ) (v : Pair) (o : Out) → SharerOf base cs c l (after_move v o d)
     → SharerOf base cs c l (after_move (grant_taken v k) o d)
-regranted base cs c d k l v o h = sharer-answered base cs c l (after_move v o d) (after_move (grant_taken v k) o d)
+regranted {base} {cs} c d k l v o h = sharer-answered (after_move v o d) (after_move (grant_taken v k) o d)
     (record {
       core = refl;
       kept = inl;
@@ -65,10 +65,10 @@ regranted base cs c d k l v o h = sharer-answered base cs c l (after_move v o d)
     }) h
 
 -- the same with other links to and from the vendor, or with other records that don't count here
-same-sharers : (base : ℕ) (cs : List Noted) (c l : ℕ) (v w : Pair) → w.core ≡ v.core → w.dir.lines.sharers l c ≡ v.dir.lines.sharers l c
-    → w.out ≡ v.out → w.back ≡ v.back → SharerOf base cs c l v → SharerOf base cs c l w
-same-sharers base cs c l v w e f g i h =
-    sharer-answered base cs c l v w
+same-sharers : {base : ℕ} {cs : List Noted} {c l : ℕ} {v : Pair} (w : Pair) → w.core ≡ v.core
+    → w.dir.lines.sharers l c ≡ v.dir.lines.sharers l c → w.out ≡ v.out → w.back ≡ v.back → SharerOf base cs c l v → SharerOf base cs c l w
+same-sharers {base} {cs} {c} {l} {v} w e f g i h =
+    sharer-answered v w
     (record {
       core = e;
       kept = λ q. inl (f ∙ q);
@@ -81,7 +81,7 @@ dropped-sharers : (sh : Shape) (h : History) (c d k : ℕ) (m : Msg) → KeptSha
     → NoCommit m → KeptSharers sh (dir_takes h.world c d k (h.world.dirs d) (λ dst. [])) h.commits
 unfolding pair
 dropped-sharers sh h c d k m t i u = pairs_dir (SharersAt sh h.commits) h.world c d k (h.world.dirs d) (λ dst. [])
-    (λ l cl dl ll q. sharer-answered sh.base h.commits c l (pair h.world c d)
+    (λ l cl dl ll q. sharer-answered (pair h.world c d)
     (after_answer (out_taken (pair h.world c d) k) (h.world.dirs d) [])
     (record {
       core = refl;
@@ -95,7 +95,7 @@ dropped-sharers sh h c d k m t i u = pairs_dir (SharersAt sh h.commits) h.world 
       filled = inl (omega (arith, live-sends (FillOf l) (to_core h.world d c) [], none l));
       gone = omega (arith, live-takes (GoneOf l) (to_dir h.world c d) k m i);
     }) (t c d l cl dl ll q))
-    (λ j n l jl dl ll q. sharer-answered sh.base h.commits j l (pair h.world j d) (after_answer (pair h.world j d) (h.world.dirs d) [])
+    (λ j n l jl dl ll q. sharer-answered (pair h.world j d) (after_answer (pair h.world j d) (h.world.dirs d) [])
     (record {
       core = refl;
       kept = inl;
@@ -114,7 +114,7 @@ asked-sharers : (sh : Shape) (h : History) (c d k : ℕ) (m : Msg) (s : DirState
     → KeptSharers sh (dir_asks h.world d s sends) h.commits
 unfolding pair
 asked-sharers sh h c d k m s sends g t i f = pairs_asks (SharersAt sh h.commits) h.world d s sends
-    (λ j l jl dl ll q. sharer-answered sh.base h.commits j l (pair h.world j d) (after_answer (pair h.world j d) s (sends (Core j)))
+    (λ j l jl dl ll q. sharer-answered (pair h.world j d) (after_answer (pair h.world j d) s (sends (Core j)))
     (record {
       core = refl;
       kept = λ x. kept j l (f.kept l j x);
@@ -150,11 +150,11 @@ step-sharers sh p gs ys h e b ld hm rd t =
     → ((n : Noted) (d : ℕ) → o.noted ≡ Some n → d < sh.dirs → stores_at sh d n.stores ≡ true
     → is_applied (h.world.dirs d) n.tid.0 ≡ false) → KeptSharers sh o.world (and_noted o.noted h.commits))
     (λ c l. moved c (core_exec sh p c (h.world.cores c))
-    (λ x n. holds-exec sh x p c (h.world.cores c) (b.told.all.cores c) (reads-valid sh h.world c (b.told.all.cores c) rd n))
-    (λ d u i. part-exec sh p c d u (h.world.cores c) i) (tells-exec sh p c (h.world.cores c) (b.told.all.cores c))
-    (noted-exec sh p c (h.world.cores c)) (after-exec sh p c (h.world.cores c) (b.told.all.cores c))
+    (λ x n. holds-exec x p c (b.told.all.cores c) (reads-valid sh h.world c (b.told.all.cores c) rd n))
+    (λ d u i. part-exec sh p c d u (h.world.cores c) i) (tells-exec p c (b.told.all.cores c))
+    (noted-exec sh p c (h.world.cores c)) (after-exec p c (b.told.all.cores c))
     (clean-exec sh p c (h.world.cores c))
-    (λ d. served-exec sh p c d (tid_at h.world d) (h.world.cores c) (b.told.all.kept.probes c d).core))
+    (λ d. served-exec p c (b.told.all.kept.probes c d).core))
     (λ c x y l. moved c (core_evict sh x y (h.world.cores c)) (λ k n. holds-evict sh k x y (h.world.cores c))
     (λ d u i. part-evict sh x y d u (h.world.cores c)) (tells-evict sh x y (h.world.cores c)) (noted-evict sh x y (h.world.cores c))
     (after-evict sh c x y (h.world.cores c)) (clean-evict sh x y (h.world.cores c))
@@ -165,8 +165,8 @@ step-sharers sh p gs ys h e b ld hm rd t =
     (λ c d k m i. answered c d k m i (dir_deliver sh (h.world.dirs d) c m) (dir-records sh (h.world.dirs d) c m)
     (dir-shares sh (h.world.dirs d) c m))
     (λ c k i n a. pairs_vendor (SharersAt sh h.commits) h.world c k
-    (λ d l cl dl ll q. same-sharers sh.base h.commits c l (pair h.world c d) (after_grant (pair h.world c d) k) refl refl refl refl
-    (t c d l cl dl ll q)) (λ j d r l jl dl ll q. same-sharers sh.base h.commits j l (pair h.world j d)
+    (λ d l cl dl ll q. same-sharers (after_grant (pair h.world c d) k) refl refl refl refl
+    (t c d l cl dl ll q)) (λ j d r l jl dl ll q. same-sharers
     (after_other_grant (pair h.world j d)) refl refl refl refl (t j d l jl dl ll q)))
   where
     moved : (c : ℕ) (x : Option Out) → ((l : ℕ) → 1 ≤ sh.dirs → IfSome x (Holds sh l (h.world.cores c)))
@@ -194,10 +194,10 @@ step-sharers sh p gs ys h e b ld hm rd t =
         let o : Out = grant sh u (h.world.cores c) in
         let a = after-grant sh u (h.world.cores c) in
         pairs_grant (SharersAt sh (and_noted o.commit h.commits)) h.world c k o
-        (λ d l cl dl ll q. regranted sh.base (and_noted o.commit h.commits) c d k l (pair h.world c d) o
-        (own-sharers sh gs ys h c d l o b ld cl dl ll q
+        (λ d l cl dl ll q. regranted c d k l (pair h.world c d) o
+        (own-sharers o b ld cl dl ll q
         (record {
-          holds = holds-grant sh l u (h.world.cores c);
+          holds = holds-grant l u;
           speaks = grant-speaks sh h.world c k u b.told.all.kept.told.tids i;
           after = inl a;
           quiet = none-gone l (o.sends (Dir d)) (clean-grant sh u (h.world.cores c) d).acks;
@@ -208,7 +208,7 @@ step-sharers sh p gs ys h e b ld hm rd t =
         (t j d l jl dl ll q))
 
     not-away : (c d k : ℕ) (m : Msg) → FromDir h.world d c k m → passes (InvsAway sh.dirs d) m ≡ false
-    not-away c d k m i = none-taken (InvsAway sh.dirs d) (to_core h.world d c) k m i (b.told.all.kept.told.owed.at_home c d).invs
+    not-away c d k m i = none-taken (InvsAway sh.dirs d) (to_core h.world d c) k i (b.told.all.kept.told.owed.at_home c d).invs
 
     taken : (c d k : ℕ) (m : Msg) → FromDir h.world d c k m → (x : Option Out)
         → ((l : ℕ) → IfSome x (HoldsTaken sh l (h.world.cores c) m))

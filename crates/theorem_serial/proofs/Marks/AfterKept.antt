@@ -7,7 +7,7 @@ use Names.{committed_core, solo_commit, core_exec, core_evict, grant, from_dir, 
 use Names.{stores_at, nats, max, cond, ◌<◌, ◌≤◌, ◌&&◌, List, Contains, nat_lt, ap, sym, subst, ◌∙◌, Local, Vendor, Event, DirState, World}
 use Names.{Link, start, core_start, Sends, Answer, Waits, Drops, Asks, Takes, dir_deliver, core_moves, core_takes, dir_takes, step}
 use Names.{and_noted, insert_commit, AfterOf, KeptAfter, KeptLoading, stored_there, live, KeptCores, Grant, AreGranted, holder, KeptOwners}
-use Names.{LastGranted, Pair, pair, after_move, last_of, to_dir, FromCore, FromDir}
+use Names.{LastGranted, Pair, pair, after_move, last_of, to_dir, FromCore, FromDir, grant_to, ◌≢◌}
 use proofs.Marks.CoreMarks.{stored-solo, stored-written}
 use proofs.OneCore.Said.{Empties, Flushes, Requests, Silent, Tells_alone, Tells_commit, quiet, say}
 use proofs.OneCore.Outcomes.{Commits_now, Did, Ends_alone, Given_none, Granted, Hands_out, Heard, Misses, Misses_anew, after_end, each-back}
@@ -61,9 +61,9 @@ asked sh k s r e = record { after = e; carries = λ d. go d (d == home sh k) ref
     go d a q = grind nats
 
 -- a core whose directories are all ready awaits nothing and has spilled nothing
-pub after-exec : (sh : Shape) (p : Program) (c : ℕ) (s : CoreState) → OneCore sh s → IfSome (core_exec sh p c s) (λ o. AfterStep sh c s o)
+pub after-exec : {sh : Shape} (p : Program) (c : ℕ) {s : CoreState} → OneCore sh s → IfSome (core_exec sh p c s) (λ o. AfterStep sh c s o)
 unfolding passes commit solo_commit committed_core noted with_last_commit
-after-exec sh p c s h = each-exec sh p c s (AfterStep sh c s) go
+after-exec {sh} p c {s} h = each-exec sh p c s (AfterStep sh c s) go
   where
     rests : (t : ℕ) → s.phase ≡ Ready t → (a : Option Awaited) → s.awaited ≡ a → a ≡ None
     rests t q None e = refl
@@ -127,7 +127,7 @@ last-insert p n (m ∷ cs) = go (nat_lt n.tid.0 m.tid.0) (last-insert p n cs)
 
 -- all commits of a core are below its TID
 last-below : (sh : Shape) (gs : List Grant) (c d t : ℕ) (cs : List Noted) → AreGranted gs cs
-    → ((u : ℕ) → Contains gs (record { tid = u; core = c }) → u ≤ t) → last_of (stored_there sh c d) cs ≤ t
+    → ((u : ℕ) → Contains gs (grant_to u c) → u ≤ t) → last_of (stored_there sh c d) cs ≤ t
 unfolding AreGranted last_of stored_there
 last-below sh gs c d t [] a f = omega arith
 last-below sh gs c d t (m ∷ cs) a f = go (m.core.0 == c) refl (stores_at sh d m.stores) (last-below sh gs c d t cs a.1 f)
@@ -146,19 +146,19 @@ no-live (None ∷ k) h x = no-live k h x
 no-live (Some m ∷ k) h x = omega (arith, no-load x m (λ l. omega (arith, h l)), no-live k (λ l. omega (arith, h l)) x)
 
 -- a core that commits nothing
-stays-after : (sh : Shape) (cs : List Noted) (c d : ℕ) (v : Pair) (o : Out) → Stays v.core o → AfterOf sh cs c d v
+stays-after : {sh : Shape} {cs : List Noted} {c d : ℕ} {v : Pair} {o : Out} → Stays v.core o → AfterOf sh cs c d v
     → AfterOf sh cs c d (after_move v o d)
-stays-after sh cs c d v o y h = record {
+stays-after {d} {v} {o} y h = record {
   last = ap (λ f. f d) y.after ∙ h.last;
   carried = rw y.after (omega (arith, h.carried, y.carries d, live-sends (LoadNot (v.core.last_commit d)) v.out (o.sends (Dir d))));
 }
 
 -- a core that commits, whose commits so far have smaller TIDs
-commits-after : (sh : Shape) (cs : List Noted) (c d : ℕ) (v : Pair) (o : Out) (y : Notes_commit sh c v.core o)
+commits-after : {sh : Shape} {cs : List Noted} (c d : ℕ) {v : Pair} (o : Out) (y : Notes_commit sh c v.core o)
     → last_of (stored_there sh c d) cs ≤ y.noted.tid.0 → ((l : ℕ) → live (LoadOf l) v.out ≡ 0) → AfterOf sh cs c d v
     → AfterOf sh (insert_commit y.noted cs) c d (after_move v o d)
 unfolding stored_there
-commits-after sh cs c d v o y b n h = record {
+commits-after {sh} {cs} c d {v} o y b n h = record {
   last = y.after d ∙ (go (stores_at sh d y.noted.stores) refl ∙ sym (last-insert (stored_there sh c d) y.noted cs));
   carried =
       omega (
@@ -184,22 +184,22 @@ commits-after sh cs c d v o y b n h = record {
     go a q = grind nats
 
 -- another core's commit
-other-after : (sh : Shape) (cs : List Noted) (n : Noted) (j d : ℕ) (v : Pair) → (n.core.0 == j) ≡ false → AfterOf sh cs j d v
+other-after : {sh : Shape} {cs : List Noted} (n : Noted) (j d : ℕ) {v : Pair} → (n.core.0 == j) ≡ false → AfterOf sh cs j d v
     → AfterOf sh (insert_commit n cs) j d v
 unfolding stored_there
-other-after sh cs n j d v e h =
+other-after {sh} {cs} n j d e h =
     let none-else : (l : ℕ) → max 0 l ≡ l = λ l. omega arith in
     record {
       last = h.last ∙ sym (last-insert (stored_there sh j d) n cs ∙ rw e (none-else (last_of (stored_there sh j d) cs)));
       carried = h.carried;
     }
 
-pub step-after : (sh : Shape) (p : Program) (gs : List Grant) (w : World) (cs : List Noted) (e : Event) → KeptOwners sh gs w cs
+pub step-after : {sh : Shape} (p : Program) {gs : List Grant} {w : World} {cs : List Noted} (e : Event) → KeptOwners sh gs w cs
     → KeptCores sh w → LastGranted gs w → KeptLoading sh w → KeptAfter sh w cs
     → IfSome (step sh p w e) (λ o. KeptAfter sh o.world (and_noted o.noted cs))
 unfolding pair
-step-after sh p gs w cs e y k g ld h = step_cases sh p w e (λ x o. KeptAfter sh o.world (and_noted o.noted cs))
-    (λ c l. moved c l (core_exec sh p c (w.cores c)) (after-exec sh p c (w.cores c) (k c)) (holder-exec sh p c (w.cores c)))
+step-after {sh} p {gs} {w} {cs} e y k g ld h = step_cases sh p w e (λ x o. KeptAfter sh o.world (and_noted o.noted cs))
+    (λ c l. moved c l (core_exec sh p c (w.cores c)) (after-exec p c (k c)) (holder-exec sh p c (w.cores c)))
     (λ c a b l. moved c l (core_evict sh a b (w.cores c)) (after-evict sh c a b (w.cores c)) (holder-evict sh a b c (w.cores c)))
     (λ c i u q. granted c i u)
     (λ c d i m q. taken c d i m q (from_dir sh d (w.cores c) m) (after-back sh d (w.cores c) m))
@@ -221,11 +221,11 @@ step-after sh p gs w cs e y k g ld h = step_cases sh p w e (λ x o. KeptAfter sh
         → KeptAfter sh (core_moves w c o) (insert_commit q.noted cs)
     commits c o q x j d cl dl = either j c
         (λ i. rw i (subst (AfterOf sh (insert_commit q.noted cs) c d) (sym (moves-own w c o d))
-        (commits-after sh cs c d (pair w c d) o q (lower c q.noted.tid.0 x d) (idle c d q.idle) (h c d (rw (sym i) cl) dl))))
+        (commits-after c d o q (lower c q.noted.tid.0 x d) (idle c d q.idle) (h c d (rw (sym i) cl) dl))))
         (λ n. subst (AfterOf sh (insert_commit q.noted cs) j d) (sym (moves-other w c o j d n))
-        (other-after sh cs q.noted j d (pair w j d) (away j n) (h j d cl dl)))
+        (other-after q.noted j d (away j n) (h j d cl dl)))
       where
-        away : (j : ℕ) → (j ≡ c → ⊥) → (q.noted.core.0 == j) ≡ false
+        away : (j : ℕ) → j ≢ c → (q.noted.core.0 == j) ≡ false
         away j n = grind nats
 
     noted-one : (n : Noted) → noted_tid n.tid.0 (Some n) ≡ 1
@@ -235,9 +235,9 @@ step-after sh p gs w cs e y k g ld h = step_cases sh p w e (λ x o. KeptAfter sh
         → IfSome x (λ o. KeepsHolder c none (w.cores c) o) → IfSome x (λ o. KeptAfter sh (core_moves w c o) (and_noted o.commit cs))
     moved c l None a b = tt
     moved c l (Some o) (inl a) b = subst (λ n. KeptAfter sh (core_moves w c o) (and_noted n cs)) (sym a.commit)
-        (pairs_move P w c o (λ d cl dl. stays-after sh cs c d (pair w c d) o a (h c d cl dl)) h)
+        (pairs_move P w c o (λ d cl dl. stays-after a (h c d cl dl)) h)
     moved c l (Some o) (inr a) b = subst (λ n. KeptAfter sh (core_moves w c o) (and_noted n cs)) (sym a.commit)
-        (commits c o a (let x = holder-moved (pair w c 0) o 0 a.noted.tid.0 c b in
+        (commits c o a (let x = holder-moved (pair w c 0) 0 a.noted.tid.0 b in
         let z : noted_tid a.noted.tid.0 o.commit ≡ 1 = ap (noted_tid a.noted.tid.0) a.commit ∙ noted-one a.noted in
         omega (arith, x, z)))
 
@@ -245,7 +245,7 @@ step-after sh p gs w cs e y k g ld h = step_cases sh p w e (λ x o. KeptAfter sh
     granted c i u = let a = after-grant sh u (w.cores c) in
         subst (λ n. KeptAfter sh (core_takes w Vendor c i (grant sh u (w.cores c))) (and_noted n cs)) (sym a.commit)
         (pairs_grant P w c i (grant sh u (w.cores c))
-        (λ d cl dl. let z = stays-after sh cs c d (pair w c d) (grant sh u (w.cores c)) a (h c d cl dl) in
+        (λ d cl dl. let z = stays-after a (h c d cl dl) in
         record { last = z.last; carried = z.carried }) h)
 
     taken : (c d i : ℕ) (m : Msg) → FromDir w d c i m → (x : Option Out) → IfSome x (λ o. Stays (w.cores c) o)
@@ -253,8 +253,8 @@ step-after sh p gs w cs e y k g ld h = step_cases sh p w e (λ x o. KeptAfter sh
     taken c d i m q None a = tt
     taken c d i m q (Some o) a = subst (λ n. KeptAfter sh (core_takes w (Dir d) c i o) (and_noted n cs)) (sym a.commit)
         (pairs_back P w d c i o
-        (λ cl dl. let z = stays-after sh cs c d (pair w c d) o a (h c d cl dl) in record { last = z.last; carried = z.carried })
-        (λ b n cl dl. let z = stays-after sh cs c b (pair w c b) o a (h c b cl dl) in record { last = z.last; carried = z.carried }) h)
+        (λ cl dl. let z = stays-after a (h c d cl dl) in record { last = z.last; carried = z.carried })
+        (λ b n cl dl. let z = stays-after a (h c b cl dl) in record { last = z.last; carried = z.carried }) h)
 
     takes : (c d i : ℕ) (m : Msg) (s : DirState) (sends : Sends) → FromCore w c d i m → KeptAfter sh (dir_takes w c d i s sends) cs
     takes c d i m s sends q = pairs_dir P w c d i s sends

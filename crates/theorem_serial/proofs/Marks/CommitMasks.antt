@@ -45,9 +45,9 @@ total-num p zero = refl
 total-num p (suc n) = omega (arith, total-num p n)
 
 -- as many as there are lines with p
-counts-lines : (sh : Shape) (d t n : ℕ) (s : CoreState) (o : Out) (p : ℕ → Bool) → has_tid s.phase t ≡ true → count_below p (lines sh) ≡ n
+counts-lines : {sh : Shape} {d t n : ℕ} {s : CoreState} {o : Out} (p : ℕ → Bool) → has_tid s.phase t ≡ true → count_below p (lines sh) ≡ n
     → ((l : ℕ) → marks_after sh d t s o l ≡ num (nat_lt l (lines sh) && p l)) → Counts sh d t n s o
-counts-lines sh d t n s o p h e f = record {
+counts-lines {sh} {d} {t} {s} {o} p h e f = record {
   held = h;
   each = λ l. omega (arith, f l, few (nat_lt l (lines sh)) (p l));
   sum = total-same (marks_after sh d t s o) (λ l. num (p l)) (lines sh) (λ l x. f l ∙ below l x) ∙ total-num p (lines sh) ∙ e;
@@ -87,16 +87,16 @@ is-commit sh c u d t n x =
     go true false e f p q y = absurd (omega (arith, y))
     go false b e f p q y = absurd (omega (arith, y))
 
-pub has-solo : (u : ℕ) (q : Phase) → q ≡ Solo u → has_tid q u ≡ true
+pub has-solo : {u : ℕ} {q : Phase} → q ≡ Solo u → has_tid q u ≡ true
 unfolding has_tid
-has-solo u q e = rw e (eq-self u)
+has-solo {u} e = rw e (eq-self u)
 
 counts-ready : (sh : Shape) (c d t u : ℕ) (s : CoreState) → s.phase ≡ Ready u → s.owing d ≡ false → CountsAll sh d t s (commit sh c u s)
 unfolding commit marked_by has_marked stores_line
 counts-ready sh c d t u s ph ow n x =
     let p : ℕ → Bool = λ l. d == home sh l && is_modified s.cache l in
     let r : (u ≡ t) × (count_below p (lines sh) ≡ n) = is-commit sh s.cache u d t n x in
-    counts-lines sh d t n s (commit sh c u s) p (mine u t s.phase (has-ready u s.phase ph) r.0) r.1
+    counts-lines p (mine s.phase (has-ready ph) r.0) r.1
     (λ l. rw (ph, ow) (omega (arith, (told-commit sh s.cache u d t l).1)))
 
 -- a core alone
@@ -148,11 +148,11 @@ is-alone sh c sp u d t n x = go (nat_lt d sh.dirs) (solo_writes_at sh c sp d) x
     go true false y = absurd (omega (arith, y, skipped))
     go true true y = let r = both (u == t) (count_below p (lines sh) == n) refl refl (omega (arith, y, counted)) in (r.0, r.1, marked r.0)
 
-counts-alone : (sh : Shape) (d t u : ℕ) (s : CoreState) (o : Out) → s.phase ≡ Solo u → o.sends ≡ solo_sends sh s.cache s.spilled u
+counts-alone : {sh : Shape} (d t u : ℕ) (s : CoreState) {o : Out} → s.phase ≡ Solo u → o.sends ≡ solo_sends sh s.cache s.spilled u
     → CountsAll sh d t s o
 unfolding marked_by has_marked
-counts-alone sh d t u s o q se n x = let f = is-alone sh s.cache s.spilled u d t n (rw se at x) in
-    counts-lines sh d t n s o (λ k. d == home sh k && is_written s.cache s.spilled k) (mine u t s.phase (has-solo u s.phase q) f.0) f.1
+counts-alone {sh} d t u s {o} q se n x = let f = is-alone sh s.cache s.spilled u d t n (rw se at x) in
+    counts-lines (λ k. d == home sh k && is_written s.cache s.spilled k) (mine s.phase (has-solo q) f.0) f.1
     (λ l. rw (se, q) (omega (arith, f.2 l)))
 
 pub counts-exec : (sh : Shape) (p : Program) (c d t : ℕ) (s : CoreState) → (may_commit s.phase ≡ true → s.owing d ≡ false)
@@ -161,7 +161,7 @@ unfolding passes solo_commit
 counts-exec sh p c d t s f = each-exec sh p c s (λ o. CountsAll sh d t s o) go
   where
     go : (x : Did sh p c s) → CountsAll sh d t s (out x)
-    go (Ends_alone u l o g q i) = counts-alone sh d t u s (solo_commit sh c u (after_end s l o)) q refl
+    go (Ends_alone u l o g q i) = counts-alone d t u s q refl
     go (Commits_now u e) = counts-ready sh c d t u s e (f (rw e refl))
     go x = counts-none sh d t s (out x) (quiet sh s AnyCommit (said x) (λ y. refl) d)
 
@@ -213,22 +213,22 @@ mask-same a b l h = ap {A = ℕ → Bool} (λ m. mask_of (λ k. m (word_at l k))
 -- what a core's rules do
 
 -- it marks nothing
-masking-unsaid : (sh : Shape) (d t l : ℕ) (s : CoreState) (o : Out) → Unsaid t l (o.sends (Dir d))
+masking-unsaid : {sh : Shape} {d t l : ℕ} {s : CoreState} {o : Out} → Unsaid t l (o.sends (Dir d))
     → (has_tid o.core.phase t ≡ true → (marked_by sh s d l ≡ 0) ⊎ (modified_mask o.core.cache l ≡ modified_mask s.cache l))
     → Masking sh d t l s o
-masking-unsaid sh d t l s o u f = record {
+masking-unsaid {d} {t} {l} {o} u f = record {
   sent = λ x. omega (arith, u.marks, few-masked t l (modified_mask o.core.cache l) (o.sends (Dir d)));
   stays = f;
 }
 
 -- it has no TID any more
-gone : (sh : Shape) (d t l : ℕ) (s : CoreState) (o : Out) (q : Phase) → o.core.phase ≡ q → has_tid q t ≡ false → Masking sh d t l s o
-gone sh d t l s o q e h =
+gone : {sh : Shape} {d t l : ℕ} {s : CoreState} {o : Out} (q : Phase) → o.core.phase ≡ q → has_tid q t ≡ false → Masking sh d t l s o
+gone {t} {o} q e h =
     let none : has_tid o.core.phase t ≡ true → ⊥ = λ x. let y : has_tid o.core.phase t ≡ false = rw e h in cc in
     record { sent = λ x. absurd (none x); stays = λ x. absurd (none x) }
 
-masking-steady : (sh : Shape) (d t l : ℕ) (s : CoreState) (o : Out) → Steady s o → Masking sh d t l s o
-masking-steady sh d t l s o y = masking-unsaid sh d t l s o (unsaid-quiet t l (o.sends (Dir d)) (y.quiet d))
+masking-steady : (sh : Shape) (d t l : ℕ) {s : CoreState} {o : Out} → Steady s o → Masking sh d t l s o
+masking-steady sh d t l {s} {o} y = masking-unsaid (unsaid-quiet t l (o.sends (Dir d)) (y.quiet d))
     (λ x. go (has_marked s.phase) refl)
   where
     go : (b : Bool) → has_marked s.phase ≡ b → (marked_by sh s d l ≡ 0) ⊎ (modified_mask o.core.cache l ≡ modified_mask s.cache l)
@@ -240,19 +240,19 @@ unfolding commit solo_commit committed_core has_tid
 masking-exec sh p c d t l s = each-exec sh p c s (λ o. Masking sh d t l s o) go
   where
     go : (x : Did sh p c s) → Masking sh d t l s (out x)
-    go (Commits_now u e) = gone sh d t l s (commit sh c u s) (phase_after_commit s.ended) refl (tid-after s.ended t)
-    go (Room_wanted r i) = gone sh d t l s (moves (record s { phase = Overflowing None }) (say sh s Wants)) (Overflowing None) refl refl
-    go (Ends_run n e f r i) = gone sh d t l s (moves (record (after_end s n e) { phase = AwaitTid }) (say sh s Wants)) AwaitTid refl refl
-    go (Ends_alone u n e f r i) = gone sh d t l s (solo_commit sh c u (after_end s n e)) (phase_after_commit e) refl (tid-after e t)
-    go x = masking-steady sh d t l s (out x) (did-steady x)
+    go (Commits_now u e) = gone (phase_after_commit s.ended) refl (tid-after s.ended t)
+    go (Room_wanted r i) = gone (Overflowing None) refl refl
+    go (Ends_run n e f r i) = gone AwaitTid refl refl
+    go (Ends_alone u n e f r i) = gone (phase_after_commit e) refl (tid-after e t)
+    go x = masking-steady sh d t l (did-steady x)
 
 pub masking-evict : (sh : Shape) (x y d t l : ℕ) (s : CoreState) → IfSome (core_evict sh x y s) (λ o. Masking sh d t l s o)
 masking-evict sh x y d t l s = each-evict sh x y s (λ o. Masking sh d t l s o)
-    (λ k q u z. masking-steady sh d t l s (emptied sh x y k s) (steady-emptied sh x y s k q u z))
+    (λ k q u z. masking-steady sh d t l (steady-emptied sh x y s k q u z))
 
-masking-hurt : (sh : Shape) (x d t l : ℕ) (s : CoreState) (o : Out) → Invalidated sh x s o → Masking sh d t l s o
+masking-hurt : {sh : Shape} (x d t l : ℕ) (s : CoreState) {o : Out} → Invalidated sh x s o → Masking sh d t l s o
 unfolding has_tid
-masking-hurt sh x d t l s o i = go i.hurt
+masking-hurt {sh} x d t l s {o} i = go i.hurt
   where
     ack : List Msg
     ack = to (Dir (home sh x)) (InvAck x i.kept ∷ []) (Dir d)
@@ -261,28 +261,28 @@ masking-hurt sh x d t l s o i = go i.hurt
     unsaid e = rw (i.dirs d) (rw e (unsaid-append t l [] ack (unsaid-nothing t l) (acked t l (home sh x) d x i.kept)))
 
     go : Hurt sh s o.core i.sends → Masking sh d t l s o
-    go (Unhurt ph ow mo re se) = masking-unsaid sh d t l s o (unsaid (se (Dir d))) (λ y. inr (mask-same o.core.cache s.cache l mo))
-    go (Rolled ph ph' ow se) = gone sh d t l s o Running ph' refl
-    go (Doomed ph ph' ow se) = gone sh d t l s o DoomedTid ph' refl
-    go (Aborted u ph ph' ow se) = gone sh d t l s o Running ph' refl
-    go (Gave_up u ph ph' ow se) = gone sh d t l s o Running ph' refl
+    go (Unhurt ph ow mo re se) = masking-unsaid (unsaid (se (Dir d))) (λ y. inr (mask-same o.core.cache s.cache l mo))
+    go (Rolled ph ph' ow se) = gone Running ph' refl
+    go (Doomed ph ph' ow se) = gone DoomedTid ph' refl
+    go (Aborted u ph ph' ow se) = gone Running ph' refl
+    go (Gave_up u ph ph' ow se) = gone Running ph' refl
 
-masking-replied : (sh : Shape) (e u d t l : ℕ) (s : CoreState) (o : Out) → Replied sh e u s o → Masking sh d t l s o
-masking-replied sh e u d t l s o (Ignored q f) = rw q (masking-steady sh d t l s (ignored s) (ignored-steady s))
-masking-replied sh e u d t l s o (Probed ph ow ph' ow' ca se cm) =
+masking-replied : (sh : Shape) {e u : ℕ} (d t l : ℕ) (s : CoreState) {o : Out} → Replied sh e u s o → Masking sh d t l s o
+masking-replied sh d t l s (Ignored q f) = rw q (masking-steady sh d t l (ignored-steady s))
+masking-replied sh {e} {u} d t l s (Probed ph ow ph' ow' ca se cm) =
     record { sent = λ x. rw (ca, se) (go (d == e)); stays = λ x. inr (rw ca refl) }
   where
     go : (b : Bool) → among (MarkMask t l (modified_mask s.cache l)) (if b then marks_for sh s.cache u e else []) ≡ 0
     go a = grind (nats, masked-for, few-masked, unsaid-nothing)
-masking-replied sh e u d t l s o (Left_alone ph ow ph' ow' ca se cm) = masking-unsaid sh d t l s o
+masking-replied sh d t l s {o} (Left_alone ph ow ph' ow' ca se cm) = masking-unsaid
     (rw (ap (λ f. f (Dir d)) se) (unsaid-nothing t l))
     (λ x. inr (mask-same o.core.cache s.cache l ca))
 
 pub masking-back : (sh : Shape) (e d t l : ℕ) (s : CoreState) (m : Msg) → IfSome (from_dir sh e s m) (λ o. Masking sh d t l s o)
-masking-back sh e d t l s (ProbeReply u v) = masking-replied sh e u d t l s (probe_reply sh e u s) (reply-cases sh e u s)
-masking-back sh e d t l s (Fill k ws) = masking-steady sh d t l s (fill k ws s) (fill-steady k ws s)
-masking-back sh e d t l s (DataReq k) = masking-steady sh d t l s (data_request sh k s) (data-steady sh k s)
-masking-back sh e d t l s (Inv k m u) = masking-hurt sh k d t l s (invalidate sh k m u s) (invalidate-cases sh k m u s)
+masking-back sh e d t l s (ProbeReply u v) = masking-replied sh d t l s (reply-cases sh e u s)
+masking-back sh e d t l s (Fill k ws) = masking-steady sh d t l (fill-steady k ws s)
+masking-back sh e d t l s (DataReq k) = masking-steady sh d t l (data-steady sh k s)
+masking-back sh e d t l s (Inv k m u) = masking-hurt k d t l s (invalidate-cases sh k m u s)
 masking-back sh e d t l s _ = tt
 
 -- What a core has marked, or marks, by a TID that it commits is what the commit stored.
@@ -340,7 +340,7 @@ storing-ready sh c d t u s ph h x = record {
   noted = refl;
   tid = same;
   core = refl;
-  held = mine u t s.phase (has-ready u s.phase ph) same;
+  held = mine s.phase (has-ready ph) same;
   stored = sym (stored-any sh d s.stores (λ l. d == home sh l && is_modified s.cache l) line) ∙ commit-writes sh s.cache u d t x;
   marks = marks;
   right =
@@ -392,15 +392,15 @@ alone : (u : ℕ) (q : Phase) → q ≡ Solo u → has_marked q ≡ false
 unfolding has_marked
 alone u q e = rw e refl
 
-storing-alone : (sh : Shape) (c d t u : ℕ) (s r : CoreState) (o : Out) → s.phase ≡ Solo u → o.commit ≡ Some (noted u c r)
+storing-alone : {sh : Shape} (c d t u : ℕ) (s r : CoreState) {o : Out} → s.phase ≡ Solo u → o.commit ≡ Some (noted u c r)
     → r.stores ≡ s.stores → o.sends ≡ solo_sends sh s.cache s.spilled u → OneCore sh s → StoresAll sh c d t s o
 unfolding noted
-storing-alone sh c d t u s r o ph cm st se h x = record {
+storing-alone {sh} c d t u s r ph cm st se h x = record {
   commit = noted u c r;
   noted = cm;
   tid = same;
   core = refl;
-  held = mine u t s.phase (has-solo u s.phase ph) same;
+  held = mine s.phase (has-solo ph) same;
   stored =
       rw st (sym (stored-any sh d s.stores (λ l. d == home sh l && is_written s.cache s.spilled l) line)
       ∙ alone-writes sh s.cache s.spilled u d t (rw se at x));
@@ -435,13 +435,13 @@ storing-alone sh c d t u s r o ph cm st se h x = record {
     right l (inr e) = let z : num (nat_lt 0 (stored_mask sh d s.stores l)) ≡ 0 = rw e refl in
         omega (arith, few-masked t l (stored_mask sh d s.stores l) all, marks l, z)
 
-pub storing-exec : (sh : Shape) (p : Program) (c d t : ℕ) (s : CoreState) → OneCore sh s
+pub storing-exec : {sh : Shape} (p : Program) (c d t : ℕ) {s : CoreState} → OneCore sh s
     → IfSome (core_exec sh p c s) (λ o. StoresAll sh c d t s o)
 unfolding passes solo_commit
-storing-exec sh p c d t s h = each-exec sh p c s (λ o. StoresAll sh c d t s o) go
+storing-exec {sh} p c d t {s} h = each-exec sh p c s (λ o. StoresAll sh c d t s o) go
   where
     go : (x : Did sh p c s) → StoresAll sh c d t s (out x)
-    go (Ends_alone u l o f q i) = storing-alone sh c d t u s (after_end s l o) (solo_commit sh c u (after_end s l o)) q refl refl refl h
+    go (Ends_alone u l o f q i) = storing-alone c d t u s (after_end s l o) q refl refl refl h
     go (Commits_now u e) = storing-ready sh c d t u s e h
     go x = storing-none sh c d t s (out x) (quiet sh s AnyCommit (said x) (λ y. refl) d)
 

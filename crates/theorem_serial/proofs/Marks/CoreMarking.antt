@@ -6,7 +6,7 @@ use Names.{ℕ, ◌+◌, ◌≡◌, ◌≤◌, Bool, true, false, not, List, [],
 use Names.{◌⊎◌, inl, inr, cases_eq, Program, num, any_word, Dir, Msg, InvAck, Shape, home, lines, Cache, writes_at, is_modified, CoreState}
 use Names.{Phase, Running, AwaitTid, Ready, Overflowing, Solo, to, skip_all, abort_written, Out, commit, committed_core, phase_after_commit}
 use Names.{commit_sends, solo_sends, core_exec, core_evict, Resolves, Protocol, Marks, MarkOf, EmptyMarks, Skips, among, passes, has_marked}
-use Names.{stores_line, marked_by, has_tid, opens, Outcome, moves, solo_commit, nats}
+use Names.{stores_line, marked_by, has_tid, opens, Outcome, moves, solo_commit, nats, ◌≢◌}
 use proofs.Counts.Links.{among-append}
 use proofs.Tids.CoreTids.{tid-after}
 use proofs.OneCore.CoreSteps.{Steady, did-steady, steady-emptied}
@@ -84,9 +84,9 @@ unfolding marked_by
 at-most-one sh s d l = num-most (has_marked s.phase && (not (s.owing d) && stores_line sh s.cache d l))
 
 -- nothing is said, and what is to be marked stays
-pub silent : (sh : Shape) (d t l : ℕ) (s : CoreState) (o : Out) → Unsaid t l (o.sends (Dir d))
+pub silent : {sh : Shape} {d t l : ℕ} {s : CoreState} {o : Out} → Unsaid t l (o.sends (Dir d))
     → (has_tid o.core.phase t ≡ true → (has_tid s.phase t ≡ true) × (marked_by sh s d l ≡ marked_by sh o.core d l)) → Marking sh d t l s o
-silent sh d t l s o u k = record {
+silent {sh} {d} {l} {s} u k = record {
   owned = λ x. absurd (omega (arith, x, u.owned));
   words = u.words;
   kept = λ x. ((k x).0, omega (arith, (k x).1, u.marks));
@@ -111,8 +111,8 @@ idle Running e a = cc
 idle (Solo t) e a = cc
 idle _ e a = a
 
-pub marking-steady : (sh : Shape) (d t l : ℕ) (s : CoreState) (o : Out) → Steady s o → Marking sh d t l s o
-marking-steady sh d t l s o y = silent sh d t l s o (unsaid-quiet t l (o.sends (Dir d)) (y.quiet d))
+pub marking-steady : (sh : Shape) (d t l : ℕ) {s : CoreState} {o : Out} → Steady s o → Marking sh d t l s o
+marking-steady sh d t l {s} {o} y = silent (unsaid-quiet t l (o.sends (Dir d)) (y.quiet d))
     (λ x. (
       rw y.phase at x,
       marked-same sh s o.core d l y.phase (ap (λ f. f d) y.owing)
@@ -120,16 +120,16 @@ marking-steady sh d t l s o y = silent sh d t l s o (unsaid-quiet t l (o.sends (
     ))
 
 -- the core has no TID any more
-pub silent-none : (sh : Shape) (d t l : ℕ) (s : CoreState) (o : Out) (q : Phase) → o.core.phase ≡ q → has_tid q t ≡ false
+pub silent-none : {sh : Shape} {d t l : ℕ} {s : CoreState} {o : Out} (q : Phase) → o.core.phase ≡ q → has_tid q t ≡ false
     → Unsaid t l (o.sends (Dir d)) → Marking sh d t l s o
-silent-none sh d t l s o q e h u = silent sh d t l s o u (λ k. let x : has_tid o.core.phase t ≡ false = rw e h in absurd (cc))
+silent-none {sh} {d} {t} {l} {s} {o} q e h u = silent u (λ k. let x : has_tid o.core.phase t ≡ false = rw e h in absurd (cc))
 
 -- it has none any more, and has spoken of its TID u without a Mark
-pub last-words : (sh : Shape) (d t l u : ℕ) (s : CoreState) (o : Out) (q : Phase) → o.core.phase ≡ q → has_tid q t ≡ false
+pub last-words : {sh : Shape} {d t l : ℕ} (u : ℕ) {s : CoreState} {o : Out} (q : Phase) → o.core.phase ≡ q → has_tid q t ≡ false
     → ((u ≡ t) → has_tid s.phase t ≡ true) → (among EmptyMarks (o.sends (Dir d)) ≡ 0) → (among (MarkOf t l) (o.sends (Dir d)) ≡ 0)
     → ((among (Marks t) (o.sends (Dir d)) + among (Resolves t) (o.sends (Dir d)) ≡ 0) ⊎ (u ≡ t))
     → (1 ≤ among (Skips t) (o.sends (Dir d)) → (has_tid s.phase t ≡ true) × (marked_by sh s d l ≡ 0)) → Marking sh d t l s o
-last-words sh d t l u s o q e h f w m a k = record {
+last-words {sh} {d} {t} {l} u {s} {o} q e h f w m a k = record {
   owned = λ x. own x a;
   words = w;
   kept = λ x. let y : has_tid o.core.phase t ≡ false = rw e h in absurd (cc);
@@ -143,7 +143,7 @@ last-words sh d t l u s o q e h f w m a k = record {
     own x a = grind nats
 
 -- the words on a TID
-pub is-tid : (u t : ℕ) (a : ℕ) → (u ≡ t → ⊥) ⊎ (u ≡ t) → (((u == t) ≡ false) → a ≡ 0) → (a ≡ 0) ⊎ (u ≡ t)
+pub is-tid : (u t : ℕ) (a : ℕ) → (u ≢ t) ⊎ (u ≡ t) → (((u == t) ≡ false) → a ≡ 0) → (a ≡ 0) ⊎ (u ≡ t)
 is-tid u t a (inr e) f = inr e
 is-tid u t a (inl n) f = inl (f (grind nats))
 
@@ -178,26 +178,26 @@ acked t l h d x b = go (d == h)
     go true = record { words = refl; owned = refl; marks = refl; skips = refl }
     go false = record { words = refl; owned = refl; marks = refl; skips = refl }
 
-pub mine : (u t : ℕ) (q : Phase) → has_tid q u ≡ true → u ≡ t → has_tid q t ≡ true
-mine u t q h e = rw e at h
+pub mine : {u t : ℕ} (q : Phase) → has_tid q u ≡ true → u ≡ t → has_tid q t ≡ true
+mine q h e = rw e at h
 
-pub has-ready : (u : ℕ) (q : Phase) → q ≡ Ready u → has_tid q u ≡ true
+pub has-ready : {u : ℕ} {q : Phase} → q ≡ Ready u → has_tid q u ≡ true
 unfolding has_tid
-has-ready u q e = rw e (eq-self u)
+has-ready {u} e = rw e (eq-self u)
 
-solo-opens : (u t : ℕ) (w : Bool) (q : Phase) → q ≡ Solo u → u ≡ t → opens q w t ≡ true
+solo-opens : {u t : ℕ} (w : Bool) {q : Phase} → q ≡ Solo u → u ≡ t → opens q w t ≡ true
 unfolding opens
-solo-opens u t w q e h = rw e (grind nats)
+solo-opens w e h = rw e (grind nats)
 
-marking-alone : (sh : Shape) (d t l u : ℕ) (s : CoreState) (o : Out) (e : Outcome) → s.phase ≡ Solo u → o.core.phase ≡ phase_after_commit e
+marking-alone : {sh : Shape} (d t l u : ℕ) (s : CoreState) {o : Out} (e : Outcome) → s.phase ≡ Solo u → o.core.phase ≡ phase_after_commit e
     → o.sends ≡ solo_sends sh s.cache s.spilled u → Marking sh d t l s o
 unfolding has_tid has_marked marked_by
-marking-alone sh d t l u s o e q ph se = record {
+marking-alone {sh} d t l u s {o} e q ph se = record {
   owned = λ x. own (rw se at x) (solo-owned sh s.cache s.spilled u d t);
   words = rw se (solo-full sh s.cache s.spilled u d);
   kept = λ x. let y : has_tid o.core.phase t ≡ false = rw ph (tid-after e t) in absurd (cc);
   once = rw (se, q) (omega (arith, solo-mark sh s.cache s.spilled u d t l, num-most (u == t)));
-  opened = λ x. solo-opens u t (writes_at sh s.cache d) s.phase q (one (rw se at x) (cases_eq u t));
+  opened = λ x. solo-opens (writes_at sh s.cache d) q (one (rw se at x) (cases_eq u t));
   skips =
       λ x. (
         own (skipped (rw se at x)) (solo-owned sh s.cache s.spilled u d t),
@@ -214,7 +214,7 @@ marking-alone sh d t l u s o e q ph se = record {
         → 1 ≤ among (Marks t) (solo_sends sh s.cache s.spilled u (Dir d)) + among (Resolves t) (solo_sends sh s.cache s.spilled u (Dir d))
     skipped x = omega (arith, x, (few t l (solo_sends sh s.cache s.spilled u (Dir d))).3)
 
-    one : 1 ≤ among (MarkOf t l) (solo_sends sh s.cache s.spilled u (Dir d)) → (u ≡ t) ⊎ (u ≡ t → ⊥) → u ≡ t
+    one : 1 ≤ among (MarkOf t l) (solo_sends sh s.cache s.spilled u (Dir d)) → (u ≡ t) ⊎ (u ≢ t) → u ≡ t
     one x a = grind (nats, solo-mark)
 
 pub marking-exec : (sh : Shape) (p : Program) (c d t l : ℕ) (s : CoreState) → IfSome (core_exec sh p c s) (λ o. Marking sh d t l s o)
@@ -222,19 +222,19 @@ unfolding commit solo_commit committed_core has_tid
 marking-exec sh p c d t l s = each-exec sh p c s (λ o. Marking sh d t l s o) go
   where
     ready : (u : ℕ) → s.phase ≡ Ready u → Marking sh d t l s (commit sh c u s)
-    ready u e = let f = told-commit sh s.cache u d t l in last-words sh d t l u s (commit sh c u s) (phase_after_commit s.ended) refl
-        (tid-after s.ended t) (λ z. mine u t s.phase (has-ready u s.phase e) z) f.0 f.1 (is-tid u t _ (swap (cases_eq u t)) f.3)
+    ready u e = let f = told-commit sh s.cache u d t l in last-words u (phase_after_commit s.ended) refl
+        (tid-after s.ended t) (λ z. mine s.phase (has-ready e) z) f.0 f.1 (is-tid u t _ (swap (cases_eq u t)) f.3)
         (λ x. absurd (omega (arith, x, f.2)))
 
     go : (x : Did sh p c s) → Marking sh d t l s (out x)
     go (Commits_now u e) = ready u e
-    go (Room_wanted r i) = silent-none sh d t l s (moves (record s { phase = Overflowing None }) (say sh s Wants))
+    go (Room_wanted r i) = silent-none
         (Overflowing None) refl refl (unsaid-nothing t l)
-    go (Ends_run n e f r i) = silent-none sh d t l s (moves (record (after_end s n e) { phase = AwaitTid }) (say sh s Wants)) AwaitTid refl
+    go (Ends_run n e f r i) = silent-none AwaitTid refl
         refl (unsaid-nothing t l)
-    go (Ends_alone u n e f r i) = marking-alone sh d t l u s (solo_commit sh c u (after_end s n e)) e r refl refl
-    go x = marking-steady sh d t l s (out x) (did-steady x)
+    go (Ends_alone u n e f r i) = marking-alone d t l u s e r refl refl
+    go x = marking-steady sh d t l (did-steady x)
 
 pub marking-evict : (sh : Shape) (x y d t l : ℕ) (s : CoreState) → IfSome (core_evict sh x y s) (λ o. Marking sh d t l s o)
 marking-evict sh x y d t l s = each-evict sh x y s (λ o. Marking sh d t l s o)
-    (λ k q u z. marking-steady sh d t l s (emptied sh x y k s) (steady-emptied sh x y s k q u z))
+    (λ k q u z. marking-steady sh d t l (steady-emptied sh x y s k q u z))

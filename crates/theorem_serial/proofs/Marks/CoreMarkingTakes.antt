@@ -7,7 +7,7 @@ use Names.{sym, ap, ◌∙◌, ◌⊎◌, inl, inr, cases_eq, put, num, any_belo
 use Names.{Cache, is_modified, modified_mask, written_lines, writes_at, CoreState, Phase, Running, AwaitTid, DoomedTid, Probing, Ready}
 use Names.{Overflowing, Solo, to, marks_for, skip_all, abort_written, probe_all, Out, from_dir, all_replied, probe_reply, fill}
 use Names.{data_request, invalidate, ignored, grant, grant_in_phase, grant_sends, is_probed, probing_or_ready, Resolves, Marks, MarkOf}
-use Names.{EmptyMarks, Skips, among, passes, has_marked, stores_line, marked_by, has_tid, opens, waits_for_tid, nats}
+use Names.{EmptyMarks, Skips, among, passes, has_marked, stores_line, marked_by, has_tid, opens, waits_for_tid, nats, ◌≢◌}
 use proofs.Counts.Links.{among-append, num-one}
 use proofs.Marks.CoreMarking.{Marking, Unsaid, unsaid-nothing, unsaid-append, acked, silent, silent-none, marking-steady, last-words}
 use proofs.Marks.CoreMarking.{is-tid, swap, mine, told-abort, told-skip, marked-same, stores-same}
@@ -46,9 +46,9 @@ skips-resolves : (sh : Shape) (u d t : ℕ) → among (Skips t) (skip_all sh u (
 unfolding skip_all among passes
 skips-resolves sh u d t = grind arith
 
-marking-hurt : (sh : Shape) (x d t l : ℕ) (s : CoreState) (o : Out) → Invalidated sh x s o → Marking sh d t l s o
+marking-hurt : {sh : Shape} (x d t l : ℕ) (s : CoreState) {o : Out} → Invalidated sh x s o → Marking sh d t l s o
 unfolding has_tid
-marking-hurt sh x d t l s o i = go i.hurt
+marking-hurt {sh} x d t l s {o} i = go i.hurt
   where
     ack : List Msg
     ack = to (Dir (home sh x)) (InvAck x i.kept ∷ []) (Dir d)
@@ -69,7 +69,7 @@ marking-hurt sh x d t l s o i = go i.hurt
     aborted u ph ph' se =
         let f = told-abort sh s.cache u d t l in
         let g = told (abort_written sh s.cache u (Dir d)) (ap (λ h. h (Dir d)) se) in
-        last-words sh d t l u s o Running ph' refl (λ z. mine u t s.phase (has-of u s.phase (inl ph)) z) (g.0 ∙ f.0) (g.1 ∙ f.1)
+        last-words u Running ph' refl (λ z. mine s.phase (has-of u s.phase (inl ph)) z) (g.0 ∙ f.0) (g.1 ∙ f.1)
         (is-tid u t _ (swap (cases_eq u t)) (λ q. g.3 ∙ f.3 q)) (λ y. absurd (omega (arith, y, g.2, f.2)))
 
     gave_up : (u : ℕ) → (s.phase ≡ Overflowing (Some u)) ⊎ (s.phase ≡ Solo u) → o.core.phase ≡ Running → i.sends ≡ skip_all sh u
@@ -79,19 +79,19 @@ marking-hurt sh x d t l s o i = go i.hurt
         let g = told (skip_all sh u (Dir d)) (ap (λ h. h (Dir d)) se) in
         let own : (among (Marks t) (skip_all sh u (Dir d)) + among (Resolves t) (skip_all sh u (Dir d)) ≡ 0) ⊎ (u ≡ t) =
         is-tid u t _ (swap (cases_eq u t)) f.2 in
-        last-words sh d t l u s o Running ph' refl (λ z. mine u t s.phase (has-of u s.phase (inr ph)) z) (g.0 ∙ f.0) (g.1 ∙ f.1)
+        last-words u Running ph' refl (λ z. mine s.phase (has-of u s.phase (inr ph)) z) (g.0 ∙ f.0) (g.1 ∙ f.1)
         (is-tid u t _ (swap (cases_eq u t)) (λ q. g.3 ∙ f.2 q))
         (λ y. (
-          mine u t s.phase (has-of u s.phase (inr ph)) (skips-mine u t _ _ (omega (arith, y, g.2)) (skips-resolves sh u d t) own),
+          mine s.phase (has-of u s.phase (inr ph)) (skips-mine u t _ _ (omega (arith, y, g.2)) (skips-resolves sh u d t) own),
           unmarked sh s d l (silent-alone u s.phase ph),
         ))
 
     go : Hurt sh s o.core i.sends → Marking sh d t l s o
     go (Unhurt ph ow mo re se) =
-        silent sh d t l s o (quiet (se (Dir d)))
+        silent (quiet (se (Dir d)))
         (λ x. (rw ph at x, marked-same sh s o.core d l ph (ap (λ f. f d) ow) (λ m. stores-same sh o.core.cache s.cache d l mo)))
-    go (Rolled ph ph' ow se) = silent-none sh d t l s o Running ph' refl (quiet (se (Dir d)))
-    go (Doomed ph ph' ow se) = silent-none sh d t l s o DoomedTid ph' refl (quiet (se (Dir d)))
+    go (Rolled ph ph' ow se) = silent-none Running ph' refl (quiet (se (Dir d)))
+    go (Doomed ph ph' ow se) = silent-none DoomedTid ph' refl (quiet (se (Dir d)))
     go (Aborted u ph ph' ow se) = aborted u ph ph' se
     go (Gave_up u ph ph' ow se) = gave_up u ph ph' se
 
@@ -115,7 +115,7 @@ none-marked a u = grind nats
 put_same : (e : ℕ) (f : ℕ → Bool) → put f e false e ≡ false
 put_same e f = let b : (e == e) ≡ true = eq-self e in rw b refl
 
-put_other : (e d : ℕ) (f : ℕ → Bool) → (d ≡ e → ⊥) → put f e false d ≡ f d
+put_other : (e d : ℕ) (f : ℕ → Bool) → d ≢ e → put f e false d ≡ f d
 put_other e d f n = let b : (d == e) ≡ false = grind nats in rw b refl
 
 nothing-more : (a b : Bool) → num (true && b) + num (a && (not true && b)) ≡ num (true && (not false && b))
@@ -124,9 +124,9 @@ nothing-more a b = grind nats
 no-more : (a b c : Bool) → num a + num (b && (not true && c)) ≤ 1
 no-more a b c = grind nats
 
-opens-probing : (u t : ℕ) (w : Bool) → (u == t) ≡ true → w ≡ true → opens (Probing u) w t ≡ true
+opens-probing : (u t : ℕ) {w : Bool} → (u == t) ≡ true → w ≡ true → opens (Probing u) w t ≡ true
 unfolding opens
-opens-probing u t w a b = rw (a, b) refl
+opens-probing u t a b = rw (a, b) refl
 
 pub marks-mine : (sh : Shape) (c : Cache) (u e t : ℕ) → (u == t) ≡ false
     → among (Marks t) (marks_for sh c u e) + among (Resolves t) (marks_for sh c u e) ≡ 0
@@ -148,10 +148,10 @@ marking-here : (sh : Shape) (e u t l : ℕ) (s : CoreState) (o : Out) → s.phas
     → o.core.cache ≡ s.cache → o.sends (Dir e) ≡ marks_for sh s.cache u e → Marking sh e t l s o
 unfolding marked_by
 marking-here sh e u t l s o ph ow ph' ow' ca se = record {
-  owned = λ x. mine u t s.phase has (skips-mine u t _ _ (rw se at x) (omega arith) own);
+  owned = λ x. mine s.phase has (skips-mine u t _ _ (rw se at x) (omega arith) own);
   words = rw se (full-for sh s.cache u e);
   kept = λ x. let y : u ≡ t = last (all_replied sh (put s.owing e false)) (rw ph' at x) in
-      (mine u t s.phase has y, rw (se, ph, ow, ca, marks-for sh s.cache u e t l) (after y));
+      (mine s.phase has y, rw (se, ph, ow, ca, marks-for sh s.cache u e t l) (after y));
   once =
       rw (se, ph, ow, marks-for sh s.cache u e t l)
       (no-more ((u == t) && stores_line sh s.cache e l) (has_marked (Probing u)) (stores_line sh s.cache e l));
@@ -181,10 +181,10 @@ marking-here sh e u t l s o ph ow ph' ow' ca se = record {
 
     opening : 1 ≤ among (MarkOf t l) (marks_for sh s.cache u e) → opens s.phase (writes_at sh s.cache e) t ≡ true
     opening x = let y : (u == t) && stores_line sh s.cache e l ≡ true = num-one _ (omega (arith, x, marks-for sh s.cache u e t l)) in
-        rw ph (opens-probing u t (writes_at sh s.cache e) (and-left _ _ y) (stores-writes sh s.cache e l (and-right _ _ y)))
+        rw ph (opens-probing u t (and-left _ _ y) (stores-writes sh s.cache e l (and-right _ _ y)))
 
 -- a directory where it doesn't mark
-marking-away : (sh : Shape) (e u d t l : ℕ) (s : CoreState) (o : Out) → (d ≡ e → ⊥) → s.phase ≡ Probing u
+marking-away : (sh : Shape) (e u d t l : ℕ) (s : CoreState) (o : Out) → d ≢ e → s.phase ≡ Probing u
     → o.core.phase ≡ (if all_replied sh (put s.owing e false) then Ready u else Probing u) → o.core.owing ≡ put s.owing e false
     → o.core.cache ≡ s.cache → o.sends (Dir d) ≡ [] → Marking sh d t l s o
 unfolding marked_by
@@ -192,49 +192,48 @@ marking-away sh e u d t l s o n ph ph' ow' ca se =
     let was : has_marked s.phase ≡ true = rw ph (both-marked false u) in
     let now : has_marked o.core.phase ≡ true = rw ph' (both-marked (all_replied sh (put s.owing e false)) u) in
     let same : o.core.owing d ≡ s.owing d = ap (λ f. f d) ow' ∙ put_other e d s.owing n in
-    silent sh d t l s o (rw se (unsaid-nothing t l))
+    silent (rw se (unsaid-nothing t l))
     (λ x. (
-      mine u t s.phase (has-of u s.phase (inl (inl ph))) (last-tid (all_replied sh (put s.owing e false)) u t (rw ph' at x)),
+      mine s.phase (has-of u s.phase (inl (inl ph))) (last-tid (all_replied sh (put s.owing e false)) u t (rw ph' at x)),
       rw (ca, was, now, same) refl,
     ))
 
 marking-alone : (sh : Shape) (e u d t l : ℕ) (s : CoreState) (o : Out) → s.phase ≡ Overflowing (Some u)
     → o.core.phase ≡ (if all_replied sh (put s.owing e false) then Solo u else Overflowing (Some u)) → o.sends (Dir d) ≡ []
     → Marking sh d t l s o
-marking-alone sh e u d t l s o ph ph' se = silent sh d t l s o (rw se (unsaid-nothing t l))
+marking-alone sh e u d t l s o ph ph' se = silent (rw se (unsaid-nothing t l))
     (λ x. (
-      mine u t s.phase (has-of u s.phase (inr (inl ph))) (last-alone (all_replied sh (put s.owing e false)) u t (rw ph' at x)),
+      mine s.phase (has-of u s.phase (inr (inl ph))) (last-alone (all_replied sh (put s.owing e false)) u t (rw ph' at x)),
       unmarked sh s d l (silent-alone u s.phase (inl ph))
           ∙ sym (unmarked sh o.core d l (rw ph' (none-marked (all_replied sh (put s.owing e false)) u))),
     ))
 
-marking-replied : (sh : Shape) (e u d t l : ℕ) (s : CoreState) (o : Out) → Replied sh e u s o → Marking sh d t l s o
-marking-replied sh e u d t l s o (Ignored q f) = rw q (marking-steady sh d t l s (ignored s) (ignored-steady s))
-marking-replied sh e u d t l s o (Probed ph ow ph' ow' ca se cm) = go (cases_eq d e)
+marking-replied : (sh : Shape) (e u d t l : ℕ) (s : CoreState) {o : Out} → Replied sh e u s o → Marking sh d t l s o
+marking-replied sh e u d t l s (Ignored q f) = rw q (marking-steady sh d t l (ignored-steady s))
+marking-replied sh e u d t l s {o} (Probed ph ow ph' ow' ca se cm) = elim (cases_eq d e) [
+  | inl q ↦ rw q (marking-here sh e u t l s o ph ow ph' ow' ca (ap (λ f. f (Dir e)) se ∙ here))
+  | inr n ↦ marking-away sh e u d t l s o n ph ph' ow' ca (ap (λ f. f (Dir d)) se ∙ away n)
+]
   where
     here : to (Dir e) (marks_for sh s.cache u e) (Dir e) ≡ marks_for sh s.cache u e
     here = let b : (e == e) ≡ true = eq-self e in rw b refl
 
-    away : (d ≡ e → ⊥) → to (Dir e) (marks_for sh s.cache u e) (Dir d) ≡ []
+    away : d ≢ e → to (Dir e) (marks_for sh s.cache u e) (Dir d) ≡ []
     away n = let b : (d == e) ≡ false = grind nats in rw b refl
-
-    go : (d ≡ e) ⊎ (d ≡ e → ⊥) → Marking sh d t l s o
-    go (inl q) = rw q (marking-here sh e u t l s o ph ow ph' ow' ca (ap (λ f. f (Dir e)) se ∙ here))
-    go (inr n) = marking-away sh e u d t l s o n ph ph' ow' ca (ap (λ f. f (Dir d)) se ∙ away n)
-marking-replied sh e u d t l s o (Left_alone ph ow ph' ow' ca se cm) = marking-alone sh e u d t l s o ph ph' (ap (λ f. f (Dir d)) se)
+marking-replied sh e u d t l s {o} (Left_alone ph ow ph' ow' ca se cm) = marking-alone sh e u d t l s o ph ph' (ap (λ f. f (Dir d)) se)
 
 pub marking-back : (sh : Shape) (e d t l : ℕ) (s : CoreState) (m : Msg) → IfSome (from_dir sh e s m) (λ o. Marking sh d t l s o)
-marking-back sh e d t l s (ProbeReply u v) = marking-replied sh e u d t l s (probe_reply sh e u s) (reply-cases sh e u s)
-marking-back sh e d t l s (Fill k ws) = marking-steady sh d t l s (fill k ws s) (fill-steady k ws s)
-marking-back sh e d t l s (DataReq k) = marking-steady sh d t l s (data_request sh k s) (data-steady sh k s)
-marking-back sh e d t l s (Inv k m u) = marking-hurt sh k d t l s (invalidate sh k m u s) (invalidate-cases sh k m u s)
+marking-back sh e d t l s (ProbeReply u v) = marking-replied sh e u d t l s (reply-cases sh e u s)
+marking-back sh e d t l s (Fill k ws) = marking-steady sh d t l (fill-steady k ws s)
+marking-back sh e d t l s (DataReq k) = marking-steady sh d t l (data-steady sh k s)
+marking-back sh e d t l s (Inv k m u) = marking-hurt k d t l s (invalidate-cases sh k m u s)
 marking-back sh e d t l s _ = tt
 
 -- A grant: no Mark goes out, and only the TID that came is spoken of.
 pub record Granting (sh : Shape) (u d t l : ℕ) (o : Out) : Type 0 where
   pub words : among EmptyMarks (o.sends (Dir d)) ≡ 0
   pub marks : among (MarkOf t l) (o.sends (Dir d)) ≡ 0
-  pub owned : (u ≡ t → ⊥) → among (Marks t) (o.sends (Dir d)) + among (Resolves t) (o.sends (Dir d)) ≡ 0
+  pub owned : u ≢ t → among (Marks t) (o.sends (Dir d)) + among (Resolves t) (o.sends (Dir d)) ≡ 0
   pub kept : d < sh.dirs → has_tid o.core.phase t ≡ true → (u ≡ t) × (marked_by sh o.core d l ≡ 0)
 
 told-grant : (sh : Shape) (c : Cache) (u d t l : ℕ) → (among EmptyMarks (grant_sends sh c u (Dir d)) ≡ 0)
@@ -261,7 +260,7 @@ pub granting : (sh : Shape) (u d t l : ℕ) (s : CoreState) → waits_for_tid s.
 unfolding grant waits_for_tid has_tid has_marked marked_by
 granting sh u d t l s w = go s.phase w
   where
-    other : (u ≡ t → ⊥) → (u == t) ≡ false
+    other : u ≢ t → (u == t) ≡ false
     other n = grind nats
 
     same : (u == t) ≡ true → u ≡ t

@@ -7,7 +7,7 @@ use Names.{flat_map, arith, refl, ◌⊎◌, inl, inr, cases_eq, flat_map-append
 use Names.{Skip, Mark, Commit, WriteBack, Shape, home, lines, Cache, is_modified, modified_mask, written_lines, writes_at, Spilled, holds}
 use Names.{spilled_mask, spilled_words, any_below-at, any_below-found, marks_for, solo_sends, solo_marks_or_skip, solo_write_backs}
 use Names.{solo_writes_at, is_written, written_mask, Kind, Resolves, Marks, MarkOf, EmptyMarks, Skips, among, passes, stores_line, nats}
-use Names.{Option, None, sym, ap, ◌∙◌, Stored, any_below, Words, stores_in, stored_mask, stores_at, stores_word}
+use Names.{Option, None, sym, ap, ◌∙◌, Stored, any_below, Words, stores_in, stored_mask, stores_at, stores_word, ◌≢◌, tested}
 use proofs.Counts.Links.{among-append, among-flat_map_none, num-same}
 
 -- A core sends a Mark of each line that it stores to a directory that replies, and Skips and Marks to none at once.
@@ -57,7 +57,10 @@ holds-found sp l e = any_below-found (λ k. is_some (sp (word_at l k))) 8 e
 
 pub written-full : (c : Cache) (sp : Spilled) (l : ℕ) → is_written c sp l ≡ true → 0 < written_mask c sp l
 unfolding is_written written_mask is_modified any_word
-written-full c sp l e = go (is_modified c l) refl
+written-full c sp l e = elim (tested (is_modified c l)) [
+  | inl q ↦ let x = any_below-found (λ k. c.modified (word_at l k)) 8 q in some-mask p x.0 x.1 (left x.0 x.2)
+  | inr q ↦ let x = holds-found sp l (grind arith) in some-mask p x.0 x.1 (right x.0 x.2)
+]
   where
     p : ℕ → Bool
     p k = c.modified (word_at l k) || is_some (sp (word_at l k))
@@ -67,10 +70,6 @@ written-full c sp l e = go (is_modified c l) refl
 
     right : (k : ℕ) → is_some (sp (word_at l k)) ≡ true → p k ≡ true
     right k q = grind arith
-
-    go : (b : Bool) → is_modified c l ≡ b → 0 < mask_of p
-    go true q = let x = any_below-found (λ k. c.modified (word_at l k)) 8 q in some-mask p x.0 x.1 (left x.0 x.2)
-    go false q = let x = holds-found sp l (grind arith) in some-mask p x.0 x.1 (right x.0 x.2)
 
 -- what a core sends
 pub marks-for : (sh : Shape) (c : Cache) (u e t l : ℕ) → among (MarkOf t l) (marks_for sh c u e) ≡ num ((u == t) && stores_line sh c e l)
@@ -144,7 +143,8 @@ solo-skips sh c sp u d t l h = grind (nats, among-flat_map_none, among-append, m
 pub solo-owned : (sh : Shape) (c : Cache) (sp : Spilled) (u d t : ℕ)
     → among (Marks t) (solo_sends sh c sp u (Dir d)) + among (Resolves t) (solo_sends sh c sp u (Dir d)) ≡ 0 ⊎ (u ≡ t)
 unfolding solo_sends solo_marks_or_skip solo_write_backs among passes
-solo-owned sh c sp u d t = go (cases_eq u t)
+solo-owned sh c sp u d t =
+    elim (cases_eq u t) [ inl e ↦ inr e | inr n ↦ inl (none (grind nats) (nat_lt d sh.dirs) (solo_writes_at sh c sp d)) ]
   where
     p : ℕ → Bool
     p k = d == home sh k && is_written c sp k
@@ -174,28 +174,17 @@ solo-owned sh c sp u d t = go (cases_eq u t)
           marks-only (Resolves t) p (written_mask c sp) u (lines sh) (λ x m. refl),
         ) (grind arith)
 
-    go : (u ≡ t) ⊎ (u ≡ t → ⊥)
-        → (among (Marks t) (sends (nat_lt d sh.dirs) (solo_writes_at sh c sp d)) + among (Resolves t)
-        (sends (nat_lt d sh.dirs) (solo_writes_at sh c sp d)) ≡ 0) ⊎ (u ≡ t)
-    go (inl e) = inr e
-    go (inr n) = inl (none (grind nats) (nat_lt d sh.dirs) (solo_writes_at sh c sp d))
-
 -- The masks of the words that an attempt's stores name are those of the words that are modified or spilled; so a core stores at a
 -- directory where its stores do.
 
 mask-any : (p : ℕ → Bool) → nat_lt 0 (mask_of p) ≡ any_below p 8
-mask-any p = go (any_below p 8) refl
+mask-any p = elim (tested (any_below p 8)) [
+  | inl e ↦ let r = any_below-found p 8 e in let n : 0 < mask_of p = some-mask p r.0 r.1 r.2 in rw e (grind nats)
+  | inr e ↦ rw (e, mask_of-none p (none e)) refl
+]
   where
     none : any_below p 8 ≡ false → (k : ℕ) → k < 8 → p k ≡ false
-    none e k l = one (p k) refl
-      where
-        one : (b : Bool) → p k ≡ b → p k ≡ false
-        one false q = q
-        one true q = let a : any_below p 8 ≡ true = any_below-at p 8 k l q in absurd (cc)
-
-    go : (b : Bool) → any_below p 8 ≡ b → nat_lt 0 (mask_of p) ≡ any_below p 8
-    go true e = let r = any_below-found p 8 e in let n : 0 < mask_of p = some-mask p r.0 r.1 r.2 in rw e (grind nats)
-    go false e = rw (e, mask_of-none p (none e)) refl
+    none e k l = elim (tested (p k)) [ inr q ↦ q | inl q ↦ let a : any_below p 8 ≡ true = any_below-at p 8 k l q in absurd (cc) ]
 
 any-or : (p q : ℕ → Bool) (n : ℕ) → any_below (λ k. p k || q k) n ≡ (any_below p n || any_below q n)
 unfolding any_below

@@ -5,7 +5,7 @@ use proofs.Names
 use Names.{has_mark, ℕ, ◌≡◌, ◌<◌, Bool, true, false, ◌==◌, if◌then◌else◌, arith, refl, advance, kept, Msg, Skip, Mark, Shape, advance-rises}
 use Names.{DirState, Answer, Waits, Drops, Asks, Takes, dir_deliver, MarkOf, passes, num, ◌≤◌, ◌+◌, ◌⊎◌, inl, inr, ◌∙◌, EmptyMarks}
 use Names.{cases_eq, nat_lt, ◌&&◌, nats, count_below, Commit, lines, Some, None, is_owner, Commits, CopyOf, is_this, [], Core, Fill}
-use Names.{ProbeReply, DataReq, Sends, home_words, FillOf, GoneOf, among, AnyCommit}
+use Names.{ProbeReply, DataReq, Sends, home_words, FillOf, GoneOf, among, AnyCommit, ◌≢◌}
 use proofs.Counts.DirOutcome.{Outcome, Waiting, Spent, AsksOwner, TakesSkip, TakesAbort, TakesMark, TakesCommit, TakesAck, TakesCopy}
 use proofs.Counts.DirOutcome.{IsSpent, MarkPassed, CopyPassed, outcome, TakesProbe, TakesLoad, ToLoad, ToMark, among-to, among-none}
 use proofs.Counts.DirOutcome.{none-to, none-invalidations}
@@ -63,13 +63,13 @@ dir-marked sh s c m = go (outcome sh s c m)
     go _ = Stays refl (λ x. refl) (λ t x q. absurd (cc))
 
 -- What counts the marks of line l by TID t whose mask has f, and n of these in the message: it grows by n at most.
-pub marks-grow : (f : ℕ → Bool) (s new : DirState) (m : Msg) (t l n : ℕ) → f 0 ≡ false → Marked s m new
+pub marks-grow : (f : ℕ → Bool) {s new : DirState} {m : Msg} (t l n : ℕ) → f 0 ≡ false → Marked s m new
     → (m ≡ Skip s.serving.serving → f (s.lines.mark l) ≡ false) → ((k : ℕ) → m ≡ Mark l k t → f k ≡ true → 1 ≤ n)
     → num (new.serving.serving == t && f (new.lines.mark l)) ≤ num (s.serving.serving == t && f (s.lines.mark l)) + n
-marks-grow f s new m t l n z (Stays e g h) k w = rw (e, g l) (omega arith)
-marks-grow f s new m t l n z (Clears e g h) k w = rw (g l, z) (grind arith)
-marks-grow f s new m t l n z (Skipped e g) k w = rw (g l, k e) (grind arith)
-marks-grow f s new m t l n z (Marks a i e g h) k w = rw (g, h l) (go (l == a) refl (s.serving.serving == t) refl (f i) refl)
+marks-grow f t l n z (Stays e g h) k w = rw (e, g l) (omega arith)
+marks-grow f t l n z (Clears e g h) k w = rw (g l, z) (grind arith)
+marks-grow f t l n z (Skipped e g) k w = rw (g l, k e) (grind arith)
+marks-grow f {s} t l n z (Marks a i e g h) k w = rw (g, h l) (go (l == a) refl (s.serving.serving == t) refl (f i) refl)
   where
     go : (x : Bool) → (l == a) ≡ x → (y : Bool) → (s.serving.serving == t) ≡ y → (b : Bool) → f i ≡ b
         → num (y && f (if x then i else s.lines.mark l)) ≤ num (y && f (s.lines.mark l)) + n
@@ -95,7 +95,7 @@ marks-count s new m t l (Stays e f g) k w = rw (e, f l) (go (passes (MarkOf t l)
     go false p = inl (omega arith)
 marks-count s new m t l (Clears e f g) k w = rw (f l, g t l) (go (cases_eq s.serving.serving t))
   where
-    go : {A : Type 0} → (s.serving.serving ≡ t) ⊎ (s.serving.serving ≡ t → ⊥)
+    go : {A : Type 0} → (s.serving.serving ≡ t) ⊎ (s.serving.serving ≢ t)
         → (num (new.serving.serving == t && nat_lt 0 0) ≡ num (s.serving.serving == t && has_mark s.lines l) + 0)
         ⊎ ((t < new.serving.serving) ⊎ A)
     go (inl p) = inr (inl (omega (arith, e, p)))

@@ -9,7 +9,8 @@ use Names.{after_move, grant_taken, has_tid, opens, [], ◌∷◌, slice_set, �
 use Names.{in_flight, Kind, AnyResolve, has_marked, marked_by, KeptMarks, holder, KeptOwners, pair, share, after_answer, after_grant}
 use Names.{after_other_grant, part, handled, KeptTids, KeptTold, Option, IfSome, set, append-nil, Program, Local, no_lines, TidReq, Event}
 use Names.{start, core_start, dir_start, Sends, core_exec, core_evict, from_dir, grant, Answer, Waits, Drops, Asks, Takes, dir_deliver}
-use Names.{core_moves, core_takes, dir_takes, dir_asks, step, granted_by, back_taken, Kept, nats, tid_at, to_dir, FromCore}
+use Names.{core_moves, core_takes, dir_takes, dir_asks, step, granted_by, back_taken, Kept, nats, tid_at, to_dir, FromCore, grant_to, ◌≢◌}
+use Names.{tested}
 use proofs.Counts.Links.{live-sends, live-takes, live-fewer, total-le, none-taken}
 use proofs.Counts.StepCases.{pairs_move, pairs_grant, pairs_back, pairs_dir, pairs_asks, pairs_vendor, OfAnswer, step_cases}
 use proofs.Marks.CoreMarking.{Marking, few, at-most-one, marking-exec, marking-evict}
@@ -32,13 +33,13 @@ pub kinds : (t l : ℕ) (k : Link) → (live (MarkOf t l) k ≤ live (Marks t) k
 kinds t l k = (live-fewer (MarkOf t l) (Marks t) (λ m. (one-kind t l m).0) k, live-fewer (Skips t) (Resolves t) (λ m. (one-kind t l m).1) k)
 
 -- a core moves
-pub marks-moved : (sh : Shape) (gs : List Grant) (c d t l : ℕ) (v : Pair) (o : Out) → Marking sh d t l v.core o → c < sh.cores
+pub marks-moved : {sh : Shape} {gs : List Grant} {c d t l : ℕ} {v : Pair} {o : Out} → Marking sh d t l v.core o → c < sh.cores
     → (has_tid v.core.phase t ≡ true → num (nat_le v.next t) + live (Grants t) v.grants ≡ 0)
-    → (has_tid v.core.phase t ≡ true → Contains gs (record { tid = t; core = c }))
-    → (d < sh.dirs → opens v.core.phase (writes_at sh v.core.cache d) t ≡ true → live (Resolves t) v.out ≡ 0)
-    → MarksOf sh gs c d t l v → MarksOf sh gs c d t l (after_move v o d)
+    → (has_tid v.core.phase t ≡ true → Contains gs (grant_to t c))
+    → (d < sh.dirs → opens v.core.phase (writes_at sh v.core.cache d) t ≡ true → live (Resolves t) v.out ≡ 0) → MarksOf sh gs c d t l v
+    → MarksOf sh gs c d t l (after_move v o d)
 unfolding marks_of
-marks-moved sh gs c d t l v o y cl alone mine free h = record {
+marks-moved {sh} {gs} {c} {d} {t} {l} {v} {o} y cl alone mine free h = record {
   owner = λ x. owner x (cases_lt 0 (live (Marks t) v.out + live (Resolves t) v.out));
   words = omega (arith, live-sends EmptyMarks v.out (o.sends (Dir d)), y.words, h.words);
   fresh =
@@ -58,7 +59,7 @@ marks-moved sh gs c d t l v o y cl alone mine free h = record {
 
     owner : 1 ≤ live (Marks t) (v.out ++ sent_all (o.sends (Dir d))) + live (Resolves t) (v.out ++ sent_all (o.sends (Dir d)))
         → (0 < live (Marks t) v.out + live (Resolves t) v.out) ⊎ (live (Marks t) v.out + live (Resolves t) v.out ≤ 0)
-        → Contains gs (record { tid = t; core = c })
+        → Contains gs (grant_to t c)
     owner x (inl z) = h.owner (omega (arith, z))
     owner x (inr z) =
         mine (y.owned (omega (arith, x, z, live-sends (Marks t) v.out (o.sends (Dir d)), live-sends (Resolves t) v.out (o.sends (Dir d)))))
@@ -89,7 +90,7 @@ marks-moved sh gs c d t l v o y cl alone mine free h = record {
 
 -- a core takes its grant
 granted-here : (sh : Shape) (gs : List Grant) (c d u l k : ℕ) (v : Pair) (o : Out) → slice_index_or v.grants k None ≡ Some (TidGrant u)
-    → num (nat_le v.next u) + live (Grants u) v.grants ≤ 1 → Contains gs (record { tid = u; core = c }) → Granting sh u d u l o
+    → num (nat_le v.next u) + live (Grants u) v.grants ≤ 1 → Contains gs (grant_to u c) → Granting sh u d u l o
     → MarksOf sh gs c d u l v → MarksOf sh gs c d u l (after_move (grant_taken v k) o d)
 unfolding marks_of
 granted-here sh gs c d u l k v o i one mine y h = record {
@@ -110,42 +111,40 @@ granted-here sh gs c d u l k v o i one mine y h = record {
         )
 
 pub marks-granted : (sh : Shape) (gs : List Grant) (c d t l k u : ℕ) (v : Pair) (o : Out)
-    → slice_index_or v.grants k None ≡ Some (TidGrant u) → num (nat_le v.next u) + live (Grants u) v.grants ≤ 1
-    → Contains gs (record { tid = u; core = c }) → ((x : ℕ) → Granting sh u d x l o) → ((x : ℕ) → MarksOf sh gs c d x l v)
-    → MarksOf sh gs c d t l (after_move (grant_taken v k) o d)
+    → slice_index_or v.grants k None ≡ Some (TidGrant u) → num (nat_le v.next u) + live (Grants u) v.grants ≤ 1 → Contains gs (grant_to u c)
+    → ((x : ℕ) → Granting sh u d x l o) → ((x : ℕ) → MarksOf sh gs c d x l v) → MarksOf sh gs c d t l (after_move (grant_taken v k) o d)
 unfolding marks_of
-marks-granted sh gs c d t l k u v o i one mine y h = go (cases_eq u t)
+marks-granted sh gs c d t l k u v o i one mine y h = elim (cases_eq u t) [
+  | inl e ↦ subst (λ x. MarksOf sh gs c d x l (after_move (grant_taken v k) o d)) e
+      (granted-here sh gs c d u l k v o i one mine (y u) (h u))
+  | inr n ↦ record {
+    owner =
+        λ x. (h t).owner (omega (
+          arith,
+          x,
+          (y t).owned n,
+          live-sends (Marks t) v.out (o.sends (Dir d)),
+          live-sends (Resolves t) v.out (o.sends (Dir d)),
+        ));
+    words = omega (arith, live-sends EmptyMarks v.out (o.sends (Dir d)), (y t).words, (h t).words);
+    fresh = λ x. omega (
+      arith,
+      (h t).fresh (omega (arith, x, live-takes (Grants t) v.grants k (TidGrant u) i, not_mine u t n)),
+      (y t).marks,
+      live-sends (MarkOf t l) v.out (o.sends (Dir d)),
+    );
+    skipped = λ dl x. omega (
+      arith,
+      (h t).skipped dl (omega (arith, x, no-skips n, live-sends (Skips t) v.out (o.sends (Dir d)))),
+      (y t).marks,
+      live-sends (MarkOf t l) v.out (o.sends (Dir d)),
+    );
+    held = λ a dl x. absurd (n ((y t).kept dl x).0);
+  }
+]
   where
-    no-skips : (u ≡ t → ⊥) → among (Skips t) (o.sends (Dir d)) ≡ 0
+    no-skips : u ≢ t → among (Skips t) (o.sends (Dir d)) ≡ 0
     no-skips n = omega (arith, (y t).owned n, (few t l (o.sends (Dir d))).3)
-
-    go : (u ≡ t) ⊎ (u ≡ t → ⊥) → MarksOf sh gs c d t l (after_move (grant_taken v k) o d)
-    go (inl e) = subst (λ x. MarksOf sh gs c d x l (after_move (grant_taken v k) o d)) e
-        (granted-here sh gs c d u l k v o i one mine (y u) (h u))
-    go (inr n) = record {
-      owner =
-          λ x. (h t).owner (omega (
-            arith,
-            x,
-            (y t).owned n,
-            live-sends (Marks t) v.out (o.sends (Dir d)),
-            live-sends (Resolves t) v.out (o.sends (Dir d)),
-          ));
-      words = omega (arith, live-sends EmptyMarks v.out (o.sends (Dir d)), (y t).words, (h t).words);
-      fresh = λ x. omega (
-        arith,
-        (h t).fresh (omega (arith, x, live-takes (Grants t) v.grants k (TidGrant u) i, not_mine u t n)),
-        (y t).marks,
-        live-sends (MarkOf t l) v.out (o.sends (Dir d)),
-      );
-      skipped = λ dl x. omega (
-        arith,
-        (h t).skipped dl (omega (arith, x, no-skips n, live-sends (Skips t) v.out (o.sends (Dir d)))),
-        (y t).marks,
-        live-sends (MarkOf t l) v.out (o.sends (Dir d)),
-      );
-      held = λ a dl x. absurd (n ((y t).kept dl x).0);
-    }
 
 -- a directory answers
 pub is-skip : (u : ℕ) → num (passes (Skips u) (Skip u)) ≡ 1
@@ -157,23 +156,23 @@ unfolding passes
 is-mark t a b = grind nats
 
 -- none of the Marks of a line before, so none after
-pub falls : (s new : DirState) (m : Msg) (t l x y : ℕ) → Marked s m new → y + num (passes (MarkOf t l) m) ≡ x
+pub falls : {s new : DirState} {m : Msg} (t l x y : ℕ) → Marked s m new → y + num (passes (MarkOf t l) m) ≡ x
     → (m ≡ Skip s.serving.serving → has_mark s.lines l ≡ false) → x + num (s.serving.serving == t && has_mark s.lines l) ≡ 0
     → y + num (new.serving.serving == t && has_mark new.lines l) ≡ 0
-falls s new m t l x y h q k z =
+falls {s} {new} {m} t l x y h q k z =
     omega (
       arith,
       q,
       z,
-      marks-grow (nat_lt 0) s new m t l (num (passes (MarkOf t l) m)) refl h k
+      marks-grow (nat_lt 0) t l (num (passes (MarkOf t l) m)) refl h k
           (λ i e r. rw e (omega (arith, is-mark t l i))),
     )
 
 -- a line of which one Mark was sent at most, b, by a TID that isn't passed
-pub holds : (s new : DirState) (m : Msg) (t l x y b : ℕ) → Marked s m new → y + num (passes (MarkOf t l) m) ≡ x
+pub holds : {s new : DirState} {m : Msg} (t l : ℕ) {x : ℕ} (y : ℕ) {b : ℕ} → Marked s m new → y + num (passes (MarkOf t l) m) ≡ x
     → (m ≡ Skip s.serving.serving → has_mark s.lines l ≡ false) → passes EmptyMarks m ≡ false → b ≤ 1 → (1 ≤ b → new.serving.serving ≤ t)
     → x + num (s.serving.serving == t && has_mark s.lines l) ≡ b → y + num (new.serving.serving == t && has_mark new.lines l) ≡ b
-holds s new m t l x y b h q k nonempty once reached z = go (marks-count s new m t l h k nonempty) (cases_lt 0 b)
+holds {s} {new} {m} t l y {b} h q k nonempty once reached z = go (marks-count s new m t l h k nonempty) (cases_lt 0 b)
   where
     go : (num (new.serving.serving == t && has_mark new.lines l) ≡ num (s.serving.serving == t && has_mark s.lines l) + num
         (passes (MarkOf t l) m))
@@ -191,30 +190,28 @@ unfolding marked_by has_marked has_tid opens
 marked-opens sh s d t l h m = grind (nats, stores-writes)
 
 -- what a directory's answer does to a pair: what is in flight to it is what was, but for m perhaps
-pub marks-answered : (sh : Shape) (gs : List Grant) (j d t l : ℕ) (v : Pair) (m : Msg) (s : DirState) (ms : List Msg) (k : Link)
-    → Marked v.dir m s
-    → ((x : Kind) → live x k ≤ live x v.out)
-    → ((Contains gs (record { tid = t; core = j })) ⊎ (1 ≤ num (nat_le v.next t))
+pub marks-answered : {sh : Shape} {gs : List Grant} {j d t l : ℕ} {v : Pair} (m : Msg) (s : DirState) (ms : List Msg) (k : Link)
+    → Marked v.dir m s → ((x : Kind) → live x k ≤ live x v.out)
+    → ((Contains gs (grant_to t j)) ⊎ (1 ≤ num (nat_le v.next t))
     → live (MarkOf t l) k + num (passes (MarkOf t l) m) ≡ live (MarkOf t l) v.out)
     → (m ≡ Skip v.dir.serving.serving → has_mark v.dir.lines l ≡ false)
-    → (1 ≤ live (Grants t) v.grants + num (has_tid v.core.phase t) → Contains gs (record { tid = t; core = j }))
+    → (1 ≤ live (Grants t) v.grants + num (has_tid v.core.phase t) → Contains gs (grant_to t j))
     → (j < sh.cores → d < sh.dirs → opens v.core.phase (writes_at sh v.core.cache d) t ≡ true → s.serving.serving ≤ t)
-    → passes EmptyMarks m ≡ false
-    → MarksOf sh gs j d t l v → MarksOf sh gs j d t l (after_answer (record v { out = k }) s ms)
+    → passes EmptyMarks m ≡ false → MarksOf sh gs j d t l v → MarksOf sh gs j d t l (after_answer (record v { out = k }) s ms)
 unfolding marks_of
-marks-answered sh gs j d t l v m s ms k y less eqn skip has reached nonempty h = record {
+marks-answered {sh} {gs} {j} {d} {t} {l} {v} m s ms k y less eqn skip has reached nonempty h = record {
   owner = λ x. h.owner (omega (arith, x, less (Marks t), less (Resolves t)));
   words = omega (arith, less EmptyMarks, h.words);
-  fresh = λ x. falls v.dir s m t l (live (MarkOf t l) v.out) (live (MarkOf t l) k) y (eqn (young x (cases_lt 0 (num (nat_le v.next t)))))
+  fresh = λ x. falls t l (live (MarkOf t l) v.out) (live (MarkOf t l) k) y (eqn (young x (cases_lt 0 (num (nat_le v.next t)))))
       skip (h.fresh x);
-  skipped = λ dl x. falls v.dir s m t l (live (MarkOf t l) v.out) (live (MarkOf t l) k) y
+  skipped = λ dl x. falls t l (live (MarkOf t l) v.out) (live (MarkOf t l) k) y
       (eqn (inl (h.owner (omega (arith, x, less (Skips t), (kinds t l v.out).1))))) skip (h.skipped dl (omega (arith, x, less (Skips t))));
-  held = λ a dl x. holds v.dir s m t l (live (MarkOf t l) v.out) (live (MarkOf t l) k) (marked_by sh v.core d l) y
+  held = λ a dl x. holds t l (live (MarkOf t l) k) y
       (eqn (inl (has (mine x)))) skip nonempty one (λ z. reached a dl (marked-opens sh v.core d t l x z)) (h.held a dl x);
 }
   where
     young : 1 ≤ num (nat_le v.next t) + live (Grants t) v.grants → (0 < num (nat_le v.next t)) ⊎ (num (nat_le v.next t) ≤ 0)
-        → (Contains gs (record { tid = t; core = j })) ⊎ (1 ≤ num (nat_le v.next t))
+        → (Contains gs (grant_to t j)) ⊎ (1 ≤ num (nat_le v.next t))
     young x (inl z) = inr (omega (arith, z))
     young x (inr z) = inl (has (omega (arith, x, z)))
 
@@ -229,7 +226,7 @@ pub marks-given : (sh : Shape) (gs hs : List Grant) (c d t l k : ℕ) (v : Pair)
     → MarksOf sh (gs ++ hs) c d t l (after_grant v k)
 unfolding marks_of passes among
 marks-given sh gs hs c d t l k v h = record {
-  owner = λ x. Contains-append_left gs hs (record { tid = t; core = c }) (h.owner x);
+  owner = λ x. Contains-append_left gs hs (grant_to t c) (h.owner x);
   words = h.words;
   fresh = λ x. h.fresh (let b : num (nat_le v.next t) ≡ num (nat_le (v.next + 1) t) + num (v.next == t) = grind nats in
       omega (arith, x, b, live-sends (Grants t) v.grants (TidGrant v.next ∷ [])));
@@ -241,7 +238,7 @@ pub marks-next : (sh : Shape) (gs hs : List Grant) (c d t l : ℕ) (v : Pair) �
     → MarksOf sh (gs ++ hs) c d t l (after_other_grant v)
 unfolding marks_of
 marks-next sh gs hs c d t l v h = record {
-  owner = λ x. Contains-append_left gs hs (record { tid = t; core = c }) (h.owner x);
+  owner = λ x. Contains-append_left gs hs (grant_to t c) (h.owner x);
   words = h.words;
   fresh = λ x. h.fresh (let b : num (nat_le (v.next + 1) t) ≤ num (nat_le v.next t) = grind nats in omega (arith, x, b));
   skipped = h.skipped;
@@ -249,44 +246,42 @@ marks-next sh gs hs c d t l v h = record {
 }
 
 -- what else is known of a TID that a core has
-pub has-alone : (sh : Shape) (gs : List Grant) (w : World) (cs : List Noted) (c t : ℕ) → KeptOwners sh gs w cs → c < sh.cores
+pub has-alone : {sh : Shape} {gs : List Grant} {w : World} {cs : List Noted} (c t : ℕ) → KeptOwners sh gs w cs → c < sh.cores
     → has_tid (w.cores c).phase t ≡ true → num (nat_le w.next t) + live (Grants t) (w.net Vendor (Core c)) ≡ 0
 unfolding share holder pair
-has-alone sh gs w cs c t k l h = let n : num (has_tid (w.cores c).phase t) ≡ 1 = ap num h in
+has-alone {sh} {w} c t k l h = let n : num (has_tid (w.cores c).phase t) ≡ 1 = ap num h in
     omega (arith, n, k.once t, total-le (share (holder t) w 0) sh.cores c l)
 
-pub is-granted : (sh : Shape) (gs : List Grant) (w : World) (cs : List Noted) (c t : ℕ) → KeptOwners sh gs w cs
-    → 1 ≤ live (Grants t) (w.net Vendor (Core c)) + num (has_tid (w.cores c).phase t) → Contains gs (record { tid = t; core = c })
+pub is-granted : {sh : Shape} {gs : List Grant} {w : World} {cs : List Noted} (c t : ℕ) → KeptOwners sh gs w cs
+    → 1 ≤ live (Grants t) (w.net Vendor (Core c)) + num (has_tid (w.cores c).phase t) → Contains gs (grant_to t c)
 unfolding holder pair
-is-granted sh gs w cs c t k l = k.held c 0 t l
+is-granted c t k l = k.held c 0 t l
 
-pub has-granted : (sh : Shape) (gs : List Grant) (w : World) (cs : List Noted) (c t : ℕ) → KeptOwners sh gs w cs
-    → has_tid (w.cores c).phase t ≡ true → Contains gs (record { tid = t; core = c })
-has-granted sh gs w cs c t k h = let n : num (has_tid (w.cores c).phase t) ≡ 1 = ap num h in is-granted sh gs w cs c t k (omega (arith, n))
+pub has-granted : {sh : Shape} {gs : List Grant} {w : World} {cs : List Noted} (c t : ℕ) → KeptOwners sh gs w cs
+    → has_tid (w.cores c).phase t ≡ true → Contains gs (grant_to t c)
+has-granted {sh} {gs} {w} {cs} c t k h = let n : num (has_tid (w.cores c).phase t) ≡ 1 = ap num h in is-granted c t k (omega (arith, n))
 
-pub open-untold : (sh : Shape) (w : World) (c d t : ℕ) → KeptTids sh w → c < sh.cores → d < sh.dirs
+pub open-untold : {sh : Shape} {w : World} (c d t : ℕ) → KeptTids sh w → c < sh.cores → d < sh.dirs
     → opens (w.cores c).phase (writes_at sh (w.cores c).cache d) t ≡ true → live (Resolves t) (to_dir w c d) ≡ 0
 unfolding share part pair
-open-untold sh w c d t k l x h = let n : num (opens (w.cores c).phase (writes_at sh (w.cores c).cache d) t) ≡ 1 = ap num h in
+open-untold {sh} {w} c d t k l x h = let n : num (opens (w.cores c).phase (writes_at sh (w.cores c).cache d) t) ≡ 1 = ap num h in
     omega (arith, n, k.resolved d t x, total-le (share (part sh d t) w d) sh.cores c l)
 
 pub open-ahead : (sh : Shape) (w : World) (c d t : ℕ) → KeptTids sh w → c < sh.cores → d < sh.dirs
     → opens (w.cores c).phase (writes_at sh (w.cores c).cache d) t ≡ true → tid_at w d ≤ t
 unfolding share part pair handled
-open-ahead sh w c d t k l x h = go (cases_lt t (tid_at w d))
-  where
-    go : (t < tid_at w d) ⊎ (tid_at w d ≤ t) → tid_at w d ≤ t
-    go (inr q) = q
-    go (inl q) =
-        let n : num (opens (w.cores c).phase (writes_at sh (w.cores c).cache d) t) ≡ 1 = ap num h in
-        let b : num (nat_lt t (tid_at w d)) ≡ 1 = grind nats in
-        absurd (omega (arith, n, b, k.resolved d t x, total-le (share (part sh d t) w d) sh.cores c l))
+open-ahead sh w c d t k l x h = elim (cases_lt t (tid_at w d)) [
+  | inr q ↦ q
+  | inl q ↦ let n : num (opens (w.cores c).phase (writes_at sh (w.cores c).cache d) t) ≡ 1 = ap num h in
+      let b : num (nat_lt t (tid_at w d)) ≡ 1 = grind nats in
+      absurd (omega (arith, n, b, k.resolved d t x, total-le (share (part sh d t) w d) sh.cores c l))
+]
 
-pub taken-less : (k : ℕ) (x : Kind) (l : Link) (m : Msg) → slice_index_or l k None ≡ Some m → live x (slice_set l k None) ≤ live x l
-taken-less k x l m i = omega (arith, live-takes x l k m i)
+pub taken-less : (k : ℕ) (x : Kind) (l : Link) {m : Msg} → slice_index_or l k None ≡ Some m → live x (slice_set l k None) ≤ live x l
+taken-less k x l {m} i = omega (arith, live-takes x l k m i)
 
 pub empty-one : (l : Link) (k : ℕ) (m : Msg) → slice_index_or l k None ≡ Some m → live EmptyMarks l ≡ 0 → passes EmptyMarks m ≡ false
-empty-one l k m i z = none-taken EmptyMarks l k m i z
+empty-one l k m i z = none-taken EmptyMarks l k i z
 
 is-resolve : (t : ℕ) (m : Msg) → num (passes (Skips t) m) ≤ num (passes AnyResolve m)
 unfolding passes
@@ -294,28 +289,26 @@ is-resolve t m = grind nats
 
 inside-dirs : (sh : Shape) (w : World) (c d k u : ℕ) → KeptTold sh w → FromCore w c d k (Skip u) → d < sh.dirs
 unfolding pair
-inside-dirs sh w c d k u z i = go (cases_lt d sh.dirs)
-  where
-    go : (d < sh.dirs) ⊎ (sh.dirs ≤ d) → d < sh.dirs
-    go (inl l) = l
-    go (inr l) =
-        absurd (omega (
-          arith,
-          (z.owed.at_home c d).far l,
-          live-some AnyResolve (to_dir w c d) k (Skip u) i,
-          is-resolve u (Skip u),
-          is-skip u,
-        ))
+inside-dirs sh w c d k u z i = elim (cases_lt d sh.dirs) [
+  | inl l ↦ l
+  | inr l ↦ absurd (omega (
+    arith,
+    (z.owed.at_home c d).far l,
+    live-some AnyResolve (to_dir w c d) k (Skip u) i,
+    is-resolve u (Skip u),
+    is-skip u,
+  ))
+]
 
 unmarked-of : (s : DirState) (l x : ℕ) → x + num (s.serving.serving == s.serving.serving && has_mark s.lines l) ≡ 0
     → has_mark s.lines l ≡ false
 unmarked-of s l x z = grind nats
 
 -- where the served TID is skipped, nothing is marked
-pub skip-unmarked : (sh : Shape) (gs : List Grant) (w : World) (c d k : ℕ) (m : Msg) (l : ℕ) → KeptTold sh w → KeptMarks sh gs w
+pub skip-unmarked : {sh : Shape} {gs : List Grant} {w : World} (c d k : ℕ) {m : Msg} (l : ℕ) → KeptTold sh w → KeptMarks sh gs w
     → FromCore w c d k m → m ≡ Skip (tid_at w d) → has_mark (w.dirs d).lines l ≡ false
 unfolding marks_of pair
-skip-unmarked sh gs w c d k m l z h i e =
+skip-unmarked {sh} {w} c d k l z h i e =
     let u : ℕ = tid_at w d in
     let j : FromCore w c d k (Skip u) = i ∙ ap (λ y. Some y) e in
     unmarked-of (w.dirs d) l (live (MarkOf u l) (to_dir w c d))
@@ -323,42 +316,38 @@ skip-unmarked sh gs w c d k m l z h i e =
     (omega (arith, live-some (Skips u) (to_dir w c d) k (Skip u) j, is-skip u)))
 
 -- a Mark of a TID comes from one core, to which the TID was granted
-pub only-there : (sh : Shape) (gs : List Grant) (w : World) (cs : List Noted) (c j d k t l : ℕ) (m : Msg) → KeptOwners sh gs w cs
-    → KeptMarks sh gs w → FromCore w c d k m → (j ≡ c → ⊥) → (Contains gs (record { tid = t; core = j })) ⊎ (1 ≤ num (nat_le w.next t))
+pub only-there : {sh : Shape} {gs : List Grant} {w : World} {cs : List Noted} (c j d k t l : ℕ) {m : Msg} → KeptOwners sh gs w cs
+    → KeptMarks sh gs w → FromCore w c d k m → j ≢ c → (Contains gs (grant_to t j)) ⊎ (1 ≤ num (nat_le w.next t))
     → live (MarkOf t l) (to_dir w j d) + num (passes (MarkOf t l) m) ≡ live (MarkOf t l) (to_dir w j d)
 unfolding marks_of pair
-only-there sh gs w cs c j d k t l m y h i n q = go (passes (MarkOf t l) m) refl
+only-there {gs} {w} c j d k t l {m} y h i n q =
+    elim (tested (passes (MarkOf t l) m)) [ inl p ↦ absurd (not (some p) q) | inr p ↦ rw p (omega arith) ]
   where
     some : passes (MarkOf t l) m ≡ true → 1 ≤ live (MarkOf t l) (to_dir w c d)
     some p = let o : num (passes (MarkOf t l) m) ≡ 1 = ap num p in omega (arith, o, live-some (MarkOf t l) (to_dir w c d) k m i)
 
-    not : 1 ≤ live (MarkOf t l) (to_dir w c d) → (Contains gs (record { tid = t; core = j })) ⊎ (1 ≤ num (nat_le w.next t)) → ⊥
+    not : 1 ≤ live (MarkOf t l) (to_dir w c d) → (Contains gs (grant_to t j)) ⊎ (1 ≤ num (nat_le w.next t)) → ⊥
     not x (inl a) =
         n (granted-once 1 gs t j c y.numbered a ((h c d t l).owner (omega (arith, x, (kinds t l (to_dir w c d)).0))))
     not x (inr b) = omega (arith, x, (h c d t l).fresh (omega (arith, b)))
 
-    go : (p : Bool) → passes (MarkOf t l) m ≡ p → live (MarkOf t l) (to_dir w j d) + num (passes (MarkOf t l) m) ≡ live
-        (MarkOf t l) (to_dir w j d)
-    go true p = absurd (not (some p) q)
-    go false p = rw p (omega arith)
-
-dir-marks : (sh : Shape) (gs : List Grant) (w : World) (cs : List Noted) (c d k : ℕ) (m : Msg) (s : DirState) (sends : Sends)
-    → KeptTold sh w → KeptOwners sh gs w cs → KeptMarks sh gs w → KeptTold sh (dir_takes w c d k s sends)
-    → FromCore w c d k m → Marked (w.dirs d) m s → KeptMarks sh gs (dir_takes w c d k s sends)
+dir-marks : {sh : Shape} {gs : List Grant} {w : World} {cs : List Noted} (c d k : ℕ) {m : Msg} (s : DirState) (sends : Sends)
+    → KeptTold sh w → KeptOwners sh gs w cs → KeptMarks sh gs w → KeptTold sh (dir_takes w c d k s sends) → FromCore w c d k m
+    → Marked (w.dirs d) m s → KeptMarks sh gs (dir_takes w c d k s sends)
 unfolding dir_takes pair
-dir-marks sh gs w cs c d k m s sends a y h z i u = pairs_dir (λ j e v. (t l : ℕ) → MarksOf sh gs j e t l v) w c d k s sends
-    (λ t l. marks-answered sh gs c d t l (pair w c d) m s (sends (Core c)) (set (to_dir w c d) k None) u
-    (λ x. taken-less k x (to_dir w c d) m i) (λ q. live-takes (MarkOf t l) (to_dir w c d) k m i) (skip l)
-    (is-granted sh gs w cs c t y) (reached c t) nonempty (h c d t l))
-    (λ j n t l. marks-answered sh gs j d t l (pair w j d) m s (sends (Core j)) (to_dir w j d) u (λ x. omega arith)
-    (only-there sh gs w cs c j d k t l m y h i n) (skip l) (is-granted sh gs w cs j t y) (reached j t) nonempty (h j d t l))
+dir-marks {sh} {gs} {w} {cs} c d k {m} s sends a y h z i u = pairs_dir (λ j e v. (t l : ℕ) → MarksOf sh gs j e t l v) w c d k s sends
+    (λ t l. marks-answered m s (sends (Core c)) (set (to_dir w c d) k None) u
+    (λ x. taken-less k x (to_dir w c d) i) (λ q. live-takes (MarkOf t l) (to_dir w c d) k m i) (skip l)
+    (is-granted c t y) (reached c t) nonempty (h c d t l))
+    (λ j n t l. marks-answered m s (sends (Core j)) (to_dir w j d) u (λ x. omega arith)
+    (only-there c j d k t l y h i n) (skip l) (is-granted j t y) (reached j t) nonempty (h j d t l))
     h
   where
     v : World
     v = dir_takes w c d k s sends
 
     skip : (l : ℕ) → m ≡ Skip (tid_at w d) → has_mark (w.dirs d).lines l ≡ false
-    skip l = skip-unmarked sh gs w c d k m l a h i
+    skip l = skip-unmarked c d k l a h i
 
     nonempty : passes EmptyMarks m ≡ false
     nonempty = empty-one (to_dir w c d) k m i (h c d 0 0).words
@@ -380,9 +369,9 @@ asks-marks : (sh : Shape) (gs : List Grant) (w : World) (cs : List Noted) (d : �
     × ((l : ℕ) → s.lines.mark l ≡ (w.dirs d).lines.mark l) → KeptMarks sh gs (dir_asks w d s sends)
 unfolding dir_asks pair
 asks-marks sh gs w cs d s sends y h z u = pairs_asks (λ j e v. (t l : ℕ) → MarksOf sh gs j e t l v) w d s sends
-    (λ j t l. marks-answered sh gs j d t l (pair w j d) TidReq s (sends (Core j)) (to_dir w j d)
+    (λ j t l. marks-answered TidReq s (sends (Core j)) (to_dir w j d)
     (Stays u.0 u.1 (λ a b q. let e = no-request a b in absurd (cc))) (λ x. omega arith) (λ q. rw (no-request t l) (omega arith))
-    (λ e. absurd (cc)) (is-granted sh gs w cs j t y) (reached j t) no-empty (h j d t l))
+    (λ e. absurd (cc)) (is-granted j t y) (reached j t) no-empty (h j d t l))
     h
   where
     v : World
@@ -392,25 +381,25 @@ asks-marks sh gs w cs d s sends y h z u = pairs_asks (λ j e v. (t l : ℕ) → 
         → s.serving.serving ≤ t
     reached j t x l o = rw (tid_at, eq-self d) at (open-ahead sh v j d t z.tids x l o)
 
-pub taken-back : (sh : Shape) (gs : List Grant) (w : World) (c d k t l : ℕ) → MarksOf sh gs c d t l (pair w c d)
+pub taken-back : {sh : Shape} {gs : List Grant} (w : World) {c d : ℕ} (k : ℕ) {t l : ℕ} → MarksOf sh gs c d t l (pair w c d)
     → MarksOf sh gs c d t l (back_taken (pair w c d) k)
 unfolding marks_of
-taken-back sh gs w c d k t l h = record { owner = h.owner; words = h.words; fresh = h.fresh; skipped = h.skipped; held = h.held }
+taken-back w k h = record { owner = h.owner; words = h.words; fresh = h.fresh; skipped = h.skipped; held = h.held }
 
-pub step-marks : (sh : Shape) (p : Program) (gs : List Grant) (w : World) (cs : List Noted) (e : Event) → Kept sh w → KeptOwners sh gs w cs
+pub step-marks : {sh : Shape} (p : Program) {gs : List Grant} {w : World} {cs : List Noted} (e : Event) → Kept sh w → KeptOwners sh gs w cs
     → KeptMarks sh gs w → IfSome (step sh p w e) (λ o. KeptTold sh o.world → KeptMarks sh (gs ++ granted_by w e) o.world)
 unfolding pair
-step-marks sh p gs w cs e z y h = step_cases sh p w e (λ g o. KeptTold sh o.world → KeptMarks sh (gs ++ g) o.world)
+step-marks {sh} p {gs} {w} {cs} e z y h = step_cases sh p w e (λ g o. KeptTold sh o.world → KeptMarks sh (gs ++ g) o.world)
     (λ c x. moved c x (core_exec sh p c (w.cores c)) (λ d t l. marking-exec sh p c d t l (w.cores c)))
     (λ c a b x. moved c x (core_evict sh a b (w.cores c)) (λ d t l. marking-evict sh a b d t l (w.cores c)))
     (λ c k u i n. rw append-nil
     (pairs_grant P w c k (grant sh u (w.cores c))
     (λ d t l. marks-granted sh gs c d t l k u (pair w c d) (grant sh u (w.cores c)) i
-    (grant-alone sh gs w cs c u y (core_of_grant sh w c k (TidGrant u) z.told.tids i))
-    (is-granted sh gs w cs c u y (came c k u i))
-    (λ x. granting sh u d x l (w.cores c) (granted_waits (pair w c d) k u i (z.told.tids.requests c d))) (λ x. h c d x l))
+    (grant-alone c u y (core_of_grant c k z.told.tids i))
+    (is-granted c u y (came c k u i))
+    (λ x. granting sh u d x l (w.cores c) (granted_waits (pair w c d) k i (z.told.tids.requests c d))) (λ x. h c d x l))
     h))
-    (λ c d k m i. taken c d k (core_of_back sh w c d k m z.told.tids i) (from_dir sh d (w.cores c) m)
+    (λ c d k m i. taken c d k (core_of_back c d k z.told.tids i) (from_dir sh d (w.cores c) m)
     (λ b t l. marking-back sh d b t l (w.cores c) m))
     (λ c d k m i. answered c d k m i (dir_deliver sh (w.dirs d) c m) (dir-marked sh (w.dirs d) c m))
     (λ c k i n. pairs_vendor (Q c) w c k (λ d t l. marks-given sh gs (new c) c d t l k (pair w c d) (h c d t l))
@@ -420,7 +409,7 @@ step-marks sh p gs w cs e z y h = step_cases sh p w e (λ g o. KeptTold sh o.wor
     P c d v = (t l : ℕ) → MarksOf sh gs c d t l v
 
     new : ℕ → List Grant
-    new c = record { tid = w.next; core = c } ∷ []
+    new c = grant_to w.next c ∷ []
 
     Q : ℕ → ℕ → ℕ → Pair → Type 0
     Q x c d v = (t l : ℕ) → MarksOf sh (gs ++ new x) c d t l v
@@ -431,8 +420,8 @@ step-marks sh p gs w cs e z y h = step_cases sh p w e (λ g o. KeptTold sh o.wor
 
     own : (c d t l : ℕ) (o : Out) → c < sh.cores → Marking sh d t l (w.cores c) o → MarksOf sh gs c d t l (pair w c d)
         → MarksOf sh gs c d t l (after_move (pair w c d) o d)
-    own c d t l o x a b = marks-moved sh gs c d t l (pair w c d) o a x (has-alone sh gs w cs c t y x) (has-granted sh gs w cs c t y)
-        (λ dl r. open-untold sh w c d t z.told.tids x dl r) b
+    own c d t l o x a b = marks-moved a x (has-alone c t y x) (has-granted c t y)
+        (λ dl r. open-untold c d t z.told.tids x dl r) b
 
     moved : (c : ℕ) → c < sh.cores → (x : Option Out) → ((d t l : ℕ) → IfSome x (λ o. Marking sh d t l (w.cores c) o))
         → IfSome x (λ o. KeptTold sh (core_moves w c o) → KeptMarks sh (gs ++ []) (core_moves w c o))
@@ -442,8 +431,8 @@ step-marks sh p gs w cs e z y h = step_cases sh p w e (λ g o. KeptTold sh o.wor
     -- what came from the directory counts for nothing here
     back : (c d k : ℕ) (o : Out) → c < sh.cores → (t l : ℕ) → Marking sh d t l (w.cores c) o
         → MarksOf sh gs c d t l (after_move (back_taken (pair w c d) k) o d)
-    back c d k o x t l a = marks-moved sh gs c d t l (back_taken (pair w c d) k) o a x (has-alone sh gs w cs c t y x)
-        (has-granted sh gs w cs c t y) (λ dl r. open-untold sh w c d t z.told.tids x dl r) (taken-back sh gs w c d k t l (h c d t l))
+    back c d k o x t l a = marks-moved a x (has-alone c t y x)
+        (has-granted c t y) (λ dl r. open-untold c d t z.told.tids x dl r) (taken-back w k (h c d t l))
 
     taken : (c d k : ℕ) → c < sh.cores → (x : Option Out) → ((b t l : ℕ) → IfSome x (λ o. Marking sh b t l (w.cores c) o))
         → IfSome x (λ o. KeptTold sh (core_takes w (Dir d) c k o) → KeptMarks sh (gs ++ []) (core_takes w (Dir d) c k o))
@@ -456,9 +445,9 @@ step-marks sh p gs w cs e z y h = step_cases sh p w e (λ g o. KeptTold sh o.wor
         → OfAnswer w c d k (λ v. KeptTold sh v → KeptMarks sh (gs ++ []) v) a
     answered c d k m i Waits u = tt
     answered c d k m i Drops u =
-        λ n. rw append-nil (dir-marks sh gs w cs c d k m (w.dirs d) (λ dst. []) z.told y h n i (Stays refl (λ l. refl) u))
+        λ n. rw append-nil (dir-marks c d k (w.dirs d) (λ dst. []) z.told y h n i (Stays refl (λ l. refl) u))
     answered c d k m i (Asks s sends) u = λ n. rw append-nil (asks-marks sh gs w cs d s sends y h n u)
-    answered c d k m i (Takes s sends) u = λ n. rw append-nil (dir-marks sh gs w cs c d k m s sends z.told y h n i u)
+    answered c d k m i (Takes s sends) u = λ n. rw append-nil (dir-marks c d k s sends z.told y h n i u)
 
 pub start-marks : (sh : Shape) (entries : ℕ → Local) (ram : ℕ → ℕ) → KeptMarks sh [] (start entries ram)
 unfolding start core_start dir_start no_lines pair live marks_of has_tid

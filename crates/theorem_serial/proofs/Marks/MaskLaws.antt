@@ -5,7 +5,7 @@ use Names.{ℕ, zero, suc, ◌≡◌, ◌<◌, ◌≤◌, true, List, [], ◌∷
 use Names.{nat_le, arith, sym, ap, subst, ◌∙◌, ◌⊎◌, inl, inr, cases_lt, Noted, num, count_below, modified_mask, has_mark, Msg, Shape, lines}
 use Names.{CoreState, World, Link, start, History, run, Any, Commits, CommitOf, live, passes, CountsMarks, KeptAll, Always, marks_of}
 use Names.{stores_line, marked_by, KeptMarks, wrong_marks, KeptMasks, AlwaysSince, MarkedByServed, MarksOfCommits, Grant, grants_from}
-use Names.{IsRising, Pair, pair, stored_mask, stores_at, MarkedWith, KeptStored, nats, tid_at, to_dir, IfSome_then}
+use Names.{IsRising, Pair, pair, stored_mask, stores_at, MarkedWith, KeptStored, nats, tid_at, to_dir, IfSome_then, first_state}
 use proofs.Counts.Links.{total-same, live-fewer}
 use proofs.Marks.CommitMasks.{total-num}
 use proofs.Marks.CountsKept.{none-away}
@@ -114,7 +114,7 @@ commits-marks sh gs h k = record { stored = stored; counted = counted; sent = se
         let z : 1 ≤ live (Commits x.tid.0) (to_dir w x.core.0 d) =
         omega (arith, o, few-commits x.tid.0 n (to_dir w x.core.0 d)) in
         let counts : CountsMarks sh n x.tid.0 (pair w x.core.0 d) = (k.counted x.core.0 d x.tid.0 (inside x d z)).counted n dl o in
-        taken-marks l (stored_mask sh d x.stores l) (pair w x.core.0 d) (none-away sh l (pair w x.core.0 d) (rw e counts))
+        taken-marks l (pair w x.core.0 d) (none-away sh l (pair w x.core.0 d) (rw e counts))
         (rw e (sent x d l c dl z))
 
     owed : (x : Noted) (d l : ℕ) → Contains h.commits x → d < sh.dirs → tid_at w d ≡ x.tid.0 → 1 ≤ (w.dirs d).owed
@@ -130,7 +130,7 @@ from_all : (P : Shape → List Noted → World → Type 0)
 from_all P f sh p entries ram es = IfSome_then (run sh p (start entries ram) es) (run-all sh p entries ram es) (f sh gs)
   where
     gs : List Grant
-    gs = grants_from sh p es (record { world = start entries ram; commits = [] })
+    gs = grants_from sh p es (first_state entries ram)
 
 pub masks_stored : Always KeptMasks
 masks_stored = from_all (λ sh cs w. KeptMasks sh w) (λ sh gs h k. k.masks)

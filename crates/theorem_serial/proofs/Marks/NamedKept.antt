@@ -9,7 +9,7 @@ use proofs.Names.{DataReq, invs_to, InvMask, Program, NamedOf, handled, IfSome, 
 use proofs.Names.{arith, those, Lines, Shape, lines, Waits, Drops, Takes, InvOf, AckOf, among, subst, Local, Event, World, start, Sends}
 use proofs.Names.{grant, share, Grant, zero, Bool, true, List, ◌==◌, ◌&&◌, Some, None, refl, Core, Fill, Mark, home, Link, fill, Asks, Invs}
 use proofs.Names.{Acks, live, step, Pair, pair, Kept, ◌++◌, suc, ◌+◌, ◌≡◌, ◌≤◌, ◌∷◌, ◌⊎◌, inl, inr, num, Dir, Msg, Inv, Out, ◌<◌, set, sym}
-use proofs.Names.{◌∙◌, due, Any, [], to, ap, ℕ, nats, tid_at, to_dir, to_core, FromCore, FromDir}
+use proofs.Names.{◌∙◌, due, Any, [], to, ap, ℕ, nats, tid_at, to_dir, to_core, FromCore, FromDir, grant_to, ◌≢◌}
 use proofs.Counts.DirOutcome.{Outcome, Waiting, Spent, AsksOwner, TakesProbe, TakesLoad, TakesCommit, outcome, none-to, among-none}
 use proofs.Counts.Links.{among-append, among-flat_map_none, live-sends, live-takes, total-le, live-fewer, none-taken, among-fewer}
 use proofs.Counts.StepCases.{dir-own, dir-other, pairs_move, pairs_grant, pairs_back, pairs_dir, pairs_asks, pairs_vendor, OfAnswer}
@@ -48,14 +48,14 @@ lines-among l m k = (
 )
 
 -- a core acknowledges the line of an invalidation, to the directory that it came from
-acks-of : (sh : Shape) (k l d : ℕ) (s : CoreState) (o : Out) → Invalidated sh k s o
+acks-of : {sh : Shape} (k l d : ℕ) (s : CoreState) {o : Out} → Invalidated sh k s o
     → among (AckOf l) (o.sends (Dir d)) ≤ num ((d == home sh k) && (k == l))
 unfolding among passes
-acks-of sh k l d s o i =
+acks-of {sh} k l d s {o} i =
     rw (i.dirs d) (omega (
       arith,
       among-append (AckOf l) (i.sends (Dir d)) (to (Dir (home sh k)) (InvAck k i.kept ∷ []) (Dir d)),
-      (clean-hurt sh s o.core i.sends d i.hurt).acks,
+      (clean-hurt sh d i.hurt).acks,
       (lines-among l 0 (i.sends (Dir d))).2,
       one (d == home sh k),
     ))
@@ -68,19 +68,19 @@ at-home : (sh : Shape) (e k m u : ℕ) → passes (InvsAway sh.dirs e) (Inv k m 
 unfolding passes
 at-home sh e k m u h = grind nats
 
-none-of : (l d : ℕ) (sh : Shape) (ms : List Msg) (n : ℕ) → Clean sh d ms → among (AckOf l) ms ≤ n
-none-of l d sh ms n c = omega (arith, c.acks, (lines-among l 0 ms).2)
+none-of : (l : ℕ) {d : ℕ} {sh : Shape} {ms : List Msg} (n : ℕ) → Clean sh d ms → among (AckOf l) ms ≤ n
+none-of l {ms} n c = omega (arith, c.acks, (lines-among l 0 ms).2)
 
 pub acks-line : (sh : Shape) (e d l : ℕ) (s : CoreState) (m : Msg) → passes (InvsAway sh.dirs e) m ≡ false
     → IfSome (from_dir sh e s m) (λ o. among (AckOf l) (o.sends (Dir d)) ≤ num ((d == e) && passes (InvOf l) m))
 unfolding passes
 acks-line sh e d l s (ProbeReply u v) h =
-    none-of l d sh ((probe_reply sh e u s).sends (Dir d)) _ (clean-replied sh e u s (probe_reply sh e u s) (reply-cases sh e u s) d)
-acks-line sh e d l s (Fill k ws) h = none-of l d sh ((fill k ws s).sends (Dir d)) _ (clean-steady sh s (fill k ws s) (fill-steady k ws s) d)
+    none-of l _ (clean-replied sh (reply-cases sh e u s) d)
+acks-line sh e d l s (Fill k ws) h = none-of l _ (clean-steady sh (fill-steady k ws s) d)
 acks-line sh e d l s (DataReq k) h =
-    none-of l d sh ((data_request sh k s).sends (Dir d)) _ (clean-steady sh s (data_request sh k s) (data-steady sh k s) d)
+    none-of l _ (clean-steady sh (data-steady sh k s) d)
 acks-line sh e d l s (Inv k m u) h = let q : home sh k ≡ e = at-home sh e k m u h in
-    rw (← q) (acks-of sh k l d s (invalidate sh k m u s) (invalidate-cases sh k m u s))
+    rw (← q) (acks-of k l d s (invalidate-cases sh k m u s))
 acks-line sh e d l s _ h = tt
 
 -- a directory invalidates marked lines, once each and with their masks, where it takes a Commit, and else none
@@ -137,22 +137,22 @@ dir-names sh s c m = go (outcome sh s c m)
     go _ = inl (λ j. among-none Invs)
 
 -- a core moves: so many acknowledgements as invalidations that it took
-named-moved : (l d got : ℕ) (v : Pair) (o : Out) (k : Link) → among (AckOf l) (o.sends (Dir d)) ≤ got
+named-moved : {l : ℕ} (d got : ℕ) {v : Pair} (o : Out) (k : Link) → among (AckOf l) (o.sends (Dir d)) ≤ got
     → live (InvOf l) k + got ≤ live (InvOf l) v.back
     → live (InvMask l (v.dir.lines.mark l)) k ≤ live (InvMask l (v.dir.lines.mark l)) v.back → NamedOf l v
     → NamedOf l (after_move (record v { back = k }) o d)
-named-moved l d got v o k a b m h = record {
+named-moved {l} d got {v} o k a b m h = record {
   one = omega (arith, a, b, h.one, live-sends (AckOf l) v.out (o.sends (Dir d)));
   mask = omega (arith, m, h.mask);
 }
 
-named-clean : (l d : ℕ) (sh : Shape) (v : Pair) (o : Out) → Clean sh d (o.sends (Dir d)) → NamedOf l v → NamedOf l (after_move v o d)
-named-clean l d sh v o c h = named-moved l d 0 v o v.back (omega (arith, c.acks, (lines-among l 0 (o.sends (Dir d))).2)) (omega arith)
+named-clean : {l d : ℕ} {sh : Shape} (v : Pair) (o : Out) → Clean sh d (o.sends (Dir d)) → NamedOf l v → NamedOf l (after_move v o d)
+named-clean {l} {d} v o c h = named-moved d 0 o v.back (omega (arith, c.acks, (lines-among l 0 (o.sends (Dir d))).2)) (omega arith)
     (omega arith) h
 
-named-granted : (l d k : ℕ) (sh : Shape) (v : Pair) (o : Out) → Clean sh d (o.sends (Dir d)) → NamedOf l v
+named-granted : (l d k : ℕ) {sh : Shape} {v : Pair} (o : Out) → Clean sh d (o.sends (Dir d)) → NamedOf l v
     → NamedOf l (after_move (grant_taken v k) o d)
-named-granted l d k sh v o c h = named-clean l d sh (grant_taken v k) o c (record { one = h.one; mask = h.mask })
+named-granted l d k {sh} {v} o c h = named-clean (grant_taken v k) o c (record { one = h.one; mask = h.mask })
 
 -- a directory answers
 
@@ -163,15 +163,15 @@ named-none l v a b = let r = lines-live l (v.dir.lines.mark l) v.back in let s =
   mask = omega (arith, r.1, a);
 }
 
-has-same : (a b : ℕ) → a ≡ b → num (nat_lt 0 a) ≡ num (nat_lt 0 b)
-has-same a b e = rw e refl
+has-same : {a b : ℕ} → a ≡ b → num (nat_lt 0 a) ≡ num (nat_lt 0 b)
+has-same e = rw e refl
 
 -- the marks stay, and no invalidation goes out
-named-quiet : (l : ℕ) (v : Pair) (s : DirState) (ms : List Msg) (k : Link) → s.lines.mark l ≡ v.dir.lines.mark l → among Invs ms ≡ 0
+named-quiet : {l : ℕ} {v : Pair} (s : DirState) (ms : List Msg) (k : Link) → s.lines.mark l ≡ v.dir.lines.mark l → among Invs ms ≡ 0
     → live (AckOf l) k ≤ live (AckOf l) v.out → NamedOf l v → NamedOf l (after_answer (record v { out = k }) s ms)
-named-quiet l v s ms k e q a h = record {
+named-quiet {l} {v} s ms k e q a h = record {
   one =
-      omega (arith, h.one, a, q, (lines-among l 0 ms).0, live-sends (InvOf l) v.back ms, has-same (s.lines.mark l) (v.dir.lines.mark l) e);
+      omega (arith, h.one, a, q, (lines-among l 0 ms).0, live-sends (InvOf l) v.back ms, has-same e);
   mask = rw e (omega (arith, h.mask, q, (lines-among l (v.dir.lines.mark l) ms).1, live-sends (InvMask l (v.dir.lines.mark l)) v.back ms));
 }
 
@@ -188,30 +188,30 @@ named-first l v s ms k e n a b = record {
         (lines-live l 0 v.back).0,
         (lines-live l 0 k).2,
         live-sends (InvOf l) v.back ms,
-        has-same (s.lines.mark l) (v.dir.lines.mark l) e,
+        has-same e,
       );
   mask =
       rw e (omega (arith, a, (n l).1, (lines-live l (v.dir.lines.mark l) v.back).1, live-sends (InvMask l (v.dir.lines.mark l)) v.back ms));
 }
 
 -- a directory that is owed nothing has nothing in flight
-none-due : (sh : Shape) (w : World) (j d : ℕ) → KeptTold sh w → j < sh.cores → (pair w j d).dir.owed ≡ 0
+none-due : {sh : Shape} {w : World} (j d : ℕ) → KeptTold sh w → j < sh.cores → (pair w j d).dir.owed ≡ 0
     → live Invs (pair w j d).back + live Acks (pair w j d).out ≡ 0
 unfolding share due pair
-none-due sh w j d k l z = omega (arith, z, k.owed.owed d, total-le (share due w d) sh.cores j l)
+none-due {sh} {w} j d k l z = omega (arith, z, k.owed.owed d, total-le (share due w d) sh.cores j l)
 
 no-commit-mark : (sh : Shape) (s : DirState) (l k t : ℕ) → CountsMarked sh s (Mark l k t) → ⊥
 no-commit-mark sh s l k t e = cc
 
 -- while something is owed the marks stay
-pub marks-same : (sh : Shape) (w : World) (c d k : ℕ) (m : Msg) (s : DirState) → KeptCounted sh w → c < sh.cores → d < sh.dirs
-    → FromCore w c d k m → 1 ≤ s.owed → (s.serving.serving ≡ tid_at w d)
-    → (s.owed ≤ (w.dirs d).owed) ⊎ CountsMarked sh (w.dirs d) m → Marked (w.dirs d) m s → (l : ℕ) → s.lines.mark l ≡ (w.dirs d).lines.mark l
+pub marks-same : {sh : Shape} (w : World) (c d k : ℕ) {m : Msg} {s : DirState} → KeptCounted sh w → c < sh.cores → d < sh.dirs
+    → FromCore w c d k m → 1 ≤ s.owed → (s.serving.serving ≡ tid_at w d) → (s.owed ≤ (w.dirs d).owed) ⊎ CountsMarked sh (w.dirs d) m
+    → Marked (w.dirs d) m s → (l : ℕ) → s.lines.mark l ≡ (w.dirs d).lines.mark l
 unfolding pair
-marks-same sh w c d k m s h cl dl i x e o (Stays f g p) l = g l
-marks-same sh w c d k m s h cl dl i x e o (Clears f g p) l = absurd (omega (arith, f, e))
-marks-same sh w c d k m s h cl dl i x e o (Skipped f g) l = g l
-marks-same sh w c d k m s h cl dl i x e (inl o) (IsMarked a b q g f) l =
+marks-same w c d k h cl dl i x e o (Stays f g p) l = g l
+marks-same w c d k h cl dl i x e o (Clears f g p) l = absurd (omega (arith, f, e))
+marks-same w c d k h cl dl i x e o (Skipped f g) l = g l
+marks-same w c d k h cl dl i x e (inl o) (IsMarked a b q g f) l =
     absurd (omega (
       arith,
       (h c d 0 cl).settled a dl (omega (arith, x, o)),
@@ -219,23 +219,23 @@ marks-same sh w c d k m s h cl dl i x e (inl o) (IsMarked a b q g f) l =
           (to_dir w c d) k (Mark a b (tid_at w d)) (i ∙ ap (λ y. Some y) q),
       is-mark (tid_at w d) a b,
     ))
-marks-same sh w c d k m s h cl dl i x e (inr o) (IsMarked a b q g f) l =
+marks-same {sh} w c d k h cl dl i x e (inr o) (IsMarked a b q g f) l =
     absurd (no-commit-mark sh (w.dirs d) a b (tid_at w d) (sym q ∙ o))
 
-dir-named : (sh : Shape) (w : World) (c d k ack : ℕ) (m : Msg) (s : DirState) (sends : Sends) → KeptTold sh w → KeptCounted sh w
-    → KeptNamed sh w → KeptTold sh (dir_takes w c d k s sends) → c < sh.cores → FromCore w c d k m
+dir-named : {sh : Shape} {w : World} (c : ℕ) {d : ℕ} (k : ℕ) {ack : ℕ} {m : Msg} {s : DirState} {sends : Sends} → KeptTold sh w
+    → KeptCounted sh w → KeptNamed sh w → KeptTold sh (dir_takes w c d k s sends) → c < sh.cores → FromCore w c d k m
     → Marked (w.dirs d) m s → Due sh d (w.dirs d) ack s sends → (s.owed ≤ (w.dirs d).owed) ⊎ CountsMarked sh (w.dirs d) m
-    → (((j : ℕ) → among Invs (sends (Core j)) ≡ 0)
-    ⊎ ((passes (Resolves (tid_at w d)) m ≡ true) × ((j : ℕ) → Names (w.dirs d).lines (sends (Core j)))))
+    → (((j : ℕ) → among Invs (sends (Core j)) ≡ 0) ⊎
+    ((passes (Resolves (tid_at w d)) m ≡ true) × ((j : ℕ) → Names (w.dirs d).lines (sends (Core j)))))
     → KeptNamed sh (dir_takes w c d k s sends)
 unfolding pair
-dir-named sh w c d k ack m s sends b g h z cl i u p o n =
+dir-named {sh} {w} c {d} k {m} {s} {sends} b g h z cl i u p o n =
     λ j e l. pairs_dir (λ j e v. (l : ℕ) → j < sh.cores → e < sh.dirs → NamedOf l v) w c d k s sends
-    (λ l jl dl. pairs c l jl dl (set (to_dir w c d) k None) (taken-less k (AckOf l) (to_dir w c d) m i)
-    (taken-less k Acks (to_dir w c d) m i)
-    (subst (λ v. v.dir.owed ≡ 0 → live Invs v.back + live Acks v.out ≡ 0) (dir-own w c d k s sends) (none-due sh new c d z jl)))
+    (λ l jl dl. pairs c l jl dl (set (to_dir w c d) k None) (taken-less k (AckOf l) (to_dir w c d) i)
+    (taken-less k Acks (to_dir w c d) i)
+    (subst (λ v. v.dir.owed ≡ 0 → live Invs v.back + live Acks v.out ≡ 0) (dir-own w c d k s sends) (none-due c d z jl)))
     (λ j q l jl dl. pairs j l jl dl (to_dir w j d) (omega arith) (omega arith)
-    (subst (λ v. v.dir.owed ≡ 0 → live Invs v.back + live Acks v.out ≡ 0) (dir-other w c d k s sends j q) (none-due sh new j d z jl)))
+    (subst (λ v. v.dir.owed ≡ 0 → live Invs v.back + live Acks v.out ≡ 0) (dir-other w c d k s sends j q) (none-due j d z jl)))
     (λ j e l. h j e l) j e l
   where
     new : World
@@ -245,17 +245,21 @@ dir-named sh w c d k ack m s sends b g h z cl i u p o n =
         → live Acks q ≤ live Acks (to_dir w j d)
         → (s.owed ≡ 0 → live Invs (after_answer (record (pair w j d) { out = q }) s (sends (Core j))).back + live Acks q ≡ 0)
         → NamedOf l (after_answer (record (pair w j d) { out = q }) s (sends (Core j)))
-    pairs j l jl dl q a f e = go (cases_lt 0 s.owed)
+    pairs j l jl dl q a f e = elim (cases_lt 0 s.owed) [
+      | inl x ↦ serves (omega (arith, x)) p.served
+      | inr x ↦ let t = e (omega (arith, x)) in named-none l (after_answer (record (pair w j d) { out = q }) s (sends (Core j)))
+          (omega (arith, t)) (omega (arith, t))
+    ]
       where
         first : (s.serving.serving ≡ tid_at w d) → 1 ≤ s.owed
             → (((j : ℕ) → among Invs (sends (Core j)) ≡ 0)
             ⊎ ((passes (Resolves (tid_at w d)) m ≡ true) × ((j : ℕ) → Names (w.dirs d).lines (sends (Core j)))))
             → NamedOf l (after_answer (record (pair w j d) { out = q }) s (sends (Core j)))
-        first r x (inl y) = named-quiet l (pair w j d) s (sends (Core j)) q (marks-same sh w c d k m s g cl dl i x r o u l) (y j) a
+        first r x (inl y) = named-quiet s (sends (Core j)) q (marks-same w c d k g cl dl i x r o u l) (y j) a
             (h j d l jl dl)
         first r x (inr y) =
-            let t = none-due sh w j d b jl (unserved (w.dirs d) m (once_at sh w c d k m b i) y.0) in
-            named-first l (pair w j d) s (sends (Core j)) q (marks-same sh w c d k m s g cl dl i x r o u l) (y.1 j) (omega (arith, t))
+            let t = none-due j d b jl (unserved (w.dirs d) m (once_at c d k b i) y.0) in
+            named-first l (pair w j d) s (sends (Core j)) q (marks-same w c d k g cl dl i x r o u l) (y.1 j) (omega (arith, t))
             (omega (arith, t, f))
 
         serves : {B : Type 0} → 1 ≤ s.owed → ((s.serving.serving ≡ tid_at w d) × B) ⊎ (s.owed ≡ 0)
@@ -263,29 +267,23 @@ dir-named sh w c d k ack m s sends b g h z cl i u p o n =
         serves x (inl y) = first y.0 x n
         serves x (inr y) = absurd (omega (arith, x, y))
 
-        go : (0 < s.owed) ⊎ (s.owed ≤ 0) → NamedOf l (after_answer (record (pair w j d) { out = q }) s (sends (Core j)))
-        go (inl x) = serves (omega (arith, x)) p.served
-        go (inr x) = let t = e (omega (arith, x)) in named-none l (after_answer (record (pair w j d) { out = q }) s (sends (Core j)))
-            (omega (arith, t)) (omega (arith, t))
-
 near-back : (k e d c l : ℕ) (sh : Shape) (w : World) (m : Msg) (o : Out) → FromDir w e c k m
     → among (AckOf l) (o.sends (Dir e)) ≤ num ((e == e) && passes (InvOf l) m) → NamedOf l (pair w c e)
     → NamedOf l (after_move (back_taken (pair w c e) k) o e)
 unfolding pair
-near-back k e d c l sh w m o i a h = named-moved l e (num (passes (InvOf l) m)) (pair w c e) o (set (to_core w e c) k None)
+near-back k e d c l sh w m o i a h = named-moved e (num (passes (InvOf l) m)) o (set (to_core w e c) k None)
     (rw (eq-self e) at a) (omega (arith, live-takes (InvOf l) (to_core w e c) k m i))
-    (taken-less k (InvMask l ((w.dirs e).lines.mark l)) (to_core w e c) m i) h
+    (taken-less k (InvMask l ((w.dirs e).lines.mark l)) (to_core w e c) i) h
 
-away-back : (e d c l : ℕ) (w : World) (m : Msg) (o : Out) → (d ≡ e → ⊥)
-    → among (AckOf l) (o.sends (Dir d)) ≤ num ((d == e) && passes (InvOf l) m) → NamedOf l (pair w c d)
-    → NamedOf l (after_move (pair w c d) o d)
+away-back : (e d c l : ℕ) (w : World) (m : Msg) (o : Out) → d ≢ e → among (AckOf l) (o.sends (Dir d)) ≤ num ((d == e) && passes (InvOf l) m)
+    → NamedOf l (pair w c d) → NamedOf l (after_move (pair w c d) o d)
 unfolding pair
 away-back e d c l w m o n a h = let b : (d == e) ≡ false = grind nats in
-    named-moved l d 0 (pair w c d) o (to_core w d c) (rw b at a) (omega arith) (omega arith) h
+    named-moved d 0 o (to_core w d c) (rw b at a) (omega arith) (omega arith) h
 
-pub passed-away : (sh : Shape) (w : World) (c e k : ℕ) (m : Msg) → KeptTold sh w → FromDir w e c k m → passes (InvsAway sh.dirs e) m ≡ false
+pub passed-away : {sh : Shape} {w : World} (c e k : ℕ) {m : Msg} → KeptTold sh w → FromDir w e c k m → passes (InvsAway sh.dirs e) m ≡ false
 unfolding pair
-passed-away sh w c e k m z i = none-taken (InvsAway sh.dirs e) (to_core w e c) k m i (z.owed.at_home c e).invs
+passed-away {sh} {w} c e k {m} z i = none-taken (InvsAway sh.dirs e) (to_core w e c) k i (z.owed.at_home c e).invs
 
 pub step-named : (sh : Shape) (p : Program) (w : World) (e : Event) → Kept sh w → KeptCounted sh w → KeptNamed sh w
     → IfSome (step sh p w e) (λ o. KeptTold sh o.world → KeptNamed sh o.world)
@@ -294,13 +292,13 @@ step-named sh p w e z g h = step_cases sh p w e (λ x o. KeptTold sh o.world →
     (λ c l. moved c (core_exec sh p c (w.cores c)) (clean-exec sh p c (w.cores c)))
     (λ c a b l. moved c (core_evict sh a b (w.cores c)) (clean-evict sh a b (w.cores c)))
     (λ c k u i n. pairs_grant P w c k (grant sh u (w.cores c))
-    (λ d l x y. named-granted l d k sh (pair w c d) (grant sh u (w.cores c)) (clean-grant sh u (w.cores c) d) (h c d l x y)) h)
+    (λ d l x y. named-granted l d k (grant sh u (w.cores c)) (clean-grant sh u (w.cores c) d) (h c d l x y)) h)
     (λ c d k m i. taken c d k m i (from_dir sh d (w.cores c) m)
-    (λ b l. acks-line sh d b l (w.cores c) m (passed-away sh w c d k m z.told i)))
-    (λ c d k m i. answered c d k m i (core_of_out sh w c d k m z.told.tids i) (dir_deliver sh (w.dirs d) c m) (dir-marked sh (w.dirs d) c m)
+    (λ b l. acks-line sh d b l (w.cores c) m (passed-away c d k z.told i)))
+    (λ c d k m i. answered c d k m i (core_of_out c d k z.told.tids i) (dir_deliver sh (w.dirs d) c m) (dir-marked sh (w.dirs d) c m)
     (dir-owes sh (w.dirs d) c m)
-    (dir-due sh d (w.dirs d) c m (once_at sh w c d k m z.told i) (z.told.owed.at_home c d).marked (marks_home sh w c d k m z.told.owed i)
-    (acks_owed sh w c d k m z.told.owed (core_of_out sh w c d k m z.told.tids i) i)) (dir-names sh (w.dirs d) c m))
+    (dir-due sh d (w.dirs d) c m (once_at c d k z.told i) (z.told.owed.at_home c d).marked (marks_home c d k z.told.owed i)
+    (acks_owed c d k z.told.owed (core_of_out c d k z.told.tids i) i)) (dir-names sh (w.dirs d) c m))
     (λ c k i n. pairs_vendor P w c k (λ d l x y. record { one = (h c d l x y).one; mask = (h c d l x y).mask })
     (λ j d q l x y. record { one = (h j d l x y).one; mask = (h j d l x y).mask }))
   where
@@ -310,7 +308,7 @@ step-named sh p w e z g h = step_cases sh p w e (λ x o. KeptTold sh o.world →
     moved : (c : ℕ) (q : Option Out) → IfSome q (λ o. CleanOut sh o)
         → IfSome q (λ o. KeptTold sh (core_moves w c o) → KeptNamed sh (core_moves w c o))
     moved c None u = tt
-    moved c (Some o) u = λ n. pairs_move P w c o (λ d l x y. named-clean l d sh (pair w c d) o (u d) (h c d l x y)) h
+    moved c (Some o) u = λ n. pairs_move P w c o (λ d l x y. named-clean (pair w c d) o (u d) (h c d l x y)) h
 
     taken : (c d k : ℕ) (m : Msg) → FromDir w d c k m → (q : Option Out)
         → ((b l : ℕ) → IfSome q (λ o. among (AckOf l) (o.sends (Dir b)) ≤ num ((b == d) && passes (InvOf l) m)))
@@ -322,12 +320,12 @@ step-named sh p w e z g h = step_cases sh p w e (λ x o. KeptTold sh o.world →
     answered : (c d k : ℕ) (m : Msg) → FromCore w c d k m → c < sh.cores → (b : Answer) → MarkedBy (w.dirs d) m b → OwesBy sh (w.dirs d) m b
         → DueBy sh d (w.dirs d) (num (passes Acks m)) b → NamesBy (w.dirs d) m b → OfAnswer w c d k (λ v. KeptTold sh v → KeptNamed sh v) b
     answered c d k m i cl Waits u o p n = tt
-    answered c d k m i cl Drops u o p n = λ t. dir-named sh w c d k 0 m (w.dirs d) (λ dst. []) z.told g h t cl i (Stays refl (λ l. refl) u)
+    answered c d k m i cl Drops u o p n = λ t. dir-named c k z.told g h t cl i (Stays refl (λ l. refl) u)
         (still-due sh d (w.dirs d) (z.told.owed.at_home c d).marked) (inl (omega arith)) (inl none-quiet)
     answered c d k m i cl (Asks s sends) u o p n =
         λ t. pairs_asks P w d s sends
-        (λ j l x y. named-quiet l (pair w j d) s (sends (Core j)) (to_dir w j d) (u.1 l) (n j) (omega arith) (h j d l x y)) h
-    answered c d k m i cl (Takes s sends) u o p n = λ t. dir-named sh w c d k (num (passes Acks m)) m s sends z.told g h t cl i u p o n
+        (λ j l x y. named-quiet s (sends (Core j)) (to_dir w j d) (u.1 l) (n j) (omega arith) (h j d l x y)) h
+    answered c d k m i cl (Takes s sends) u o p n = λ t. dir-named c k z.told g h t cl i u p o n
 
 pub start-named : (sh : Shape) (entries : ℕ → Local) (ram : ℕ → ℕ) → KeptNamed sh (start entries ram)
 unfolding start pair live
@@ -335,7 +333,7 @@ start-named sh entries ram c d l x y = record { one = omega arith; mask = refl }
 
 -- Every event keeps that no acknowledgement is in flight from the core that the served TID was granted to.
 abbrev pub UnackedOf : Shape → List Grant → (core dir : ℕ) → Pair → Type 0
-UnackedOf sh gs c d v = d < sh.dirs → Contains gs (record { tid = v.dir.serving.serving; core = c }) → live Acks v.out ≡ 0
+UnackedOf sh gs c d v = d < sh.dirs → Contains gs (grant_to v.dir.serving.serving c) → live Acks v.out ≡ 0
 
 abbrev pub KeptUnacked : Shape → List Grant → World → Type 0
 KeptUnacked sh gs w = (c d : ℕ) → UnackedOf sh gs c d (pair w c d)
@@ -345,22 +343,20 @@ unfolding passes
 acks-any m = grind nats
 
 -- where nothing is owed, no acknowledgement is in flight
-no-acks : (sh : Shape) (w : World) (j d : ℕ) → KeptTold sh w → (pair w j d).dir.owed ≡ 0 → live Acks (pair w j d).out ≡ 0
+no-acks : {sh : Shape} {w : World} (j d : ℕ) → KeptTold sh w → (pair w j d).dir.owed ≡ 0 → live Acks (pair w j d).out ≡ 0
 unfolding share due pair
-no-acks sh w j d k z = go (cases_lt j sh.cores)
-  where
-    go : (j < sh.cores) ⊎ (sh.cores ≤ j) → live Acks (to_dir w j d) ≡ 0
-    go (inl l) = omega (arith, k.owed.owed d, total-le (share due w d) sh.cores j l)
-    go (inr l) = omega (arith, (k.tids.inside j d).out l, live-fewer Acks Any acks-any (to_dir w j d))
+no-acks {sh} {w} j d k z = elim (cases_lt j sh.cores) [
+  | inl l ↦ omega (arith, k.owed.owed d, total-le (share due w d) sh.cores j l)
+  | inr l ↦ omega (arith, (k.tids.inside j d).out l, live-fewer Acks Any acks-any (to_dir w j d))
+]
 
 -- a directory whose TID isn't granted yet is owed nothing
 next-unacked : (sh : Shape) (w : World) (j d : ℕ) → KeptTold sh w → d < sh.dirs → tid_at w d ≡ w.next → live Acks (pair w j d).out ≡ 0
 unfolding handled pair
-next-unacked sh w j d k l e = go (cases_eq (w.dirs d).owed 0)
-  where
-    go : ((w.dirs d).owed ≡ 0) ⊎ ((w.dirs d).owed ≡ 0 → ⊥) → live Acks (to_dir w j d) ≡ 0
-    go (inl z) = no-acks sh w j d k z
-    go (inr n) = let r = k.tids.resolved d (tid_at w d) l in absurd (grind nats)
+next-unacked sh w j d k l e = elim (cases_eq (w.dirs d).owed 0) [
+  | inl z ↦ no-acks j d k z
+  | inr n ↦ let r = k.tids.resolved d (tid_at w d) l in absurd (grind nats)
+]
 
 -- a directory's answer: it serves the same TID, and no acknowledgement comes with it, or it is owed nothing
 unacked-answered : (sh : Shape) (gs : List Grant) (c d : ℕ) (v q : Pair) {B : Type 0}
@@ -369,18 +365,18 @@ unacked-answered : (sh : Shape) (gs : List Grant) (c d : ℕ) (v q : Pair) {B : 
 unacked-answered sh gs c d v q (inl e) f z h l g = omega (arith, f, h l (rw e.0 at g))
 unacked-answered sh gs c d v q (inr e) f z h l g = z e
 
-dir-unacked : (sh : Shape) (gs : List Grant) (w : World) (c e k ack : ℕ) (m : Msg) (s : DirState) (sends : Sends) → KeptUnacked sh gs w
-    → KeptTold sh (dir_takes w c e k s sends) → FromCore w c e k m → Due sh e (w.dirs e) ack s sends
+dir-unacked : {sh : Shape} (gs : List Grant) (w : World) (c : ℕ) {e : ℕ} (k : ℕ) {ack : ℕ} {m : Msg} {s : DirState} {sends : Sends}
+    → KeptUnacked sh gs w → KeptTold sh (dir_takes w c e k s sends) → FromCore w c e k m → Due sh e (w.dirs e) ack s sends
     → KeptUnacked sh gs (dir_takes w c e k s sends)
 unfolding pair
-dir-unacked sh gs w c e k ack m s sends h z i u = pairs_dir (UnackedOf sh gs) w c e k s sends
+dir-unacked {sh} gs w c {e} k {m} {s} {sends} h z i u = pairs_dir (UnackedOf sh gs) w c e k s sends
     (unacked-answered sh gs c e (pair w c e) (after_answer (out_taken (pair w c e) k) s (sends (Core c))) u.served
     (omega (arith, live-takes Acks (to_dir w c e) k m i))
-    (subst (λ q. q.dir.owed ≡ 0 → live Acks q.out ≡ 0) (dir-own w c e k s sends) (no-acks sh (dir_takes w c e k s sends) c e z))
+    (subst (λ q. q.dir.owed ≡ 0 → live Acks q.out ≡ 0) (dir-own w c e k s sends) (no-acks c e z))
     (h c e))
     (λ j n. unacked-answered sh gs j e (pair w j e) (after_answer (pair w j e) s (sends (Core j))) u.served (omega arith)
     (subst (λ q. q.dir.owed ≡ 0 → live Acks q.out ≡ 0) (dir-other w c e k s sends j n)
-    (no-acks sh (dir_takes w c e k s sends) j e z)) (h j e)) h
+    (no-acks j e z)) (h j e)) h
 
 pub step-unacked : (sh : Shape) (p : Program) (gs : List Grant) (w : World) (e : Event) → Kept sh w → SparesCommitter sh gs w
     → KeptUnacked sh gs w → IfSome (step sh p w e) (λ o. KeptTold sh o.world → KeptUnacked sh (gs ++ granted_by w e) o.world)
@@ -396,22 +392,22 @@ step-unacked sh p gs w e z y h = step_cases sh p w e (λ g o. KeptTold sh o.worl
       (clean-grant sh u (w.cores c) d).acks,
       live-sends Acks (to_dir w c d) ((grant sh u (w.cores c)).sends (Dir d)),
     )) h))
-    (λ c d k m i. taken c d k m i (from_dir sh d (w.cores c) m) (back-due sh d (w.cores c) m (passed-away sh w c d k m z.told i)))
+    (λ c d k m i. taken c d k m i (from_dir sh d (w.cores c) m) (back-due sh d (w.cores c) m (passed-away c d k z.told i)))
     (λ c d k m i. answered c d k m i (dir_deliver sh (w.dirs d) c m)
-    (dir-due sh d (w.dirs d) c m (once_at sh w c d k m z.told i) (z.told.owed.at_home c d).marked (marks_home sh w c d k m z.told.owed i)
-    (acks_owed sh w c d k m z.told.owed (core_of_out sh w c d k m z.told.tids i) i)))
-    (λ c k i n. pairs_vendor (UnackedOf sh (gs ++ record { tid = w.next; core = c } ∷ [])) w c k
-    (λ d l g. more c c d l (Contains-append_cases gs (one c) (record { tid = tid_at w d; core = c }) g))
-    (λ j d q l g. more c j d l (Contains-append_cases gs (one c) (record { tid = tid_at w d; core = j }) g)))
+    (dir-due sh d (w.dirs d) c m (once_at c d k z.told i) (z.told.owed.at_home c d).marked (marks_home c d k z.told.owed i)
+    (acks_owed c d k z.told.owed (core_of_out c d k z.told.tids i) i)))
+    (λ c k i n. pairs_vendor (UnackedOf sh (gs ++ grant_to w.next c ∷ [])) w c k
+    (λ d l g. more c c d l (Contains-append_cases gs (one c) (grant_to (tid_at w d) c) g))
+    (λ j d q l g. more c j d l (Contains-append_cases gs (one c) (grant_to (tid_at w d) j) g)))
   where
     P : ℕ → ℕ → Pair → Type 0
     P = UnackedOf sh gs
 
     one : ℕ → List Grant
-    one c = record { tid = w.next; core = c } ∷ []
+    one c = grant_to w.next c ∷ []
 
-    more : (c j d : ℕ) → d < sh.dirs → Contains gs (record { tid = tid_at w d; core = j })
-        ⊎ Contains (one c) (record { tid = tid_at w d; core = j }) → live Acks (to_dir w j d) ≡ 0
+    more : (c j d : ℕ) → d < sh.dirs → Contains gs (grant_to (tid_at w d) j)
+        ⊎ Contains (one c) (grant_to (tid_at w d) j) → live Acks (to_dir w j d) ≡ 0
     more c j d l a = grind (nats, next-unacked, only-one)
 
     moved : (c : ℕ) (x : Option Out) → IfSome x (λ o. CleanOut sh o)
@@ -439,14 +435,14 @@ step-unacked sh p gs w e z y h = step_cases sh p w e (λ g o. KeptTold sh o.worl
         → DueBy sh d (w.dirs d) (num (passes Acks m)) a → OfAnswer w c d k (λ v. KeptTold sh v → KeptUnacked sh (gs ++ []) v) a
     answered c d k m i Waits u = tt
     answered c d k m i Drops u =
-        λ n. rw append-nil (dir-unacked sh gs w c d k 0 m (w.dirs d) (λ dst. []) h n i
+        λ n. rw append-nil (dir-unacked gs w c k h n i
         (still-due sh d (w.dirs d) (z.told.owed.at_home c d).marked))
     answered c d k m i (Asks s sends) u =
         λ n. rw append-nil (pairs_asks P w d s sends
         (λ j. unacked-answered sh gs j d (pair w j d) (after_answer (pair w j d) s (sends (Core j))) u.served (omega arith)
-        (subst (λ q. q.dir.owed ≡ 0 → live Acks q.out ≡ 0) (asks-own w d s sends j) (no-acks sh (dir_asks w d s sends) j d n))
+        (subst (λ q. q.dir.owed ≡ 0 → live Acks q.out ≡ 0) (asks-own w d s sends j) (no-acks j d n))
         (h j d)) h)
-    answered c d k m i (Takes s sends) u = λ n. rw append-nil (dir-unacked sh gs w c d k (num (passes Acks m)) m s sends h n i u)
+    answered c d k m i (Takes s sends) u = λ n. rw append-nil (dir-unacked gs w c k h n i u)
 
 pub start-unacked : (sh : Shape) (entries : ℕ → Local) (ram : ℕ → ℕ) → KeptUnacked sh [] (start entries ram)
 unfolding start pair live

@@ -5,7 +5,7 @@ use Names.{ℕ, ◌≡◌, ◌<◌, ◌≤◌, ◌==◌, not, true, List, [], Co
 use Names.{Noted, Program, Local, num, Dir, Msg, Inv, Event, Shape, home, empty_cache, CoreState, World, start, core_start, Out, core_exec}
 use Names.{core_evict, from_dir, grant, Answer, Waits, Drops, Asks, Takes, dir_deliver, core_moves, core_takes, step, Invs, InvsNot, passes}
 use Names.{Kept, KeptTold, KeptCores, Grant, KeptOwners, LastGranted, SparesCommitter, holder, Pair, pair, IsBound, has_tid, IsPassed}
-use Names.{ReadWords, sym, ◌∙◌, nats, tid_at, to_core, FromDir}
+use Names.{ReadWords, sym, ◌∙◌, nats, tid_at, to_core, FromDir, grant_to, ◌≢◌}
 use proofs.Counts.StepCases.{pairs_move, pairs_grant, pairs_back, pairs_dir, pairs_asks, pairs_vendor, OfAnswer, step_cases}
 use proofs.Marks.NamedKept.{passed-away}
 use proofs.OneCore.CoreReads.{Reading, ValidOrPassed, ReadOf, read-kept, reading-exec, reading-evict, PassesTid, Admits, reading-grant}
@@ -24,30 +24,28 @@ has-holder t v e = rw e (omega arith)
 -- an invalidation carries the served TID
 served-inv : (sh : Shape) (w : World) (c e k l m u : ℕ) → KeptTold sh w → FromDir w e c k (Inv l m u) → u ≡ tid_at w e
 unfolding pair passes
-served-inv sh w c e k l m u z i = go (cases_eq u (tid_at w e))
-  where
-    go : (u ≡ tid_at w e) ⊎ (u ≡ tid_at w e → ⊥) → u ≡ (tid_at w e)
-    go (inl q) = q
-    go (inr n) =
-        let b : num (not (u == tid_at w e)) ≡ 1 = grind nats in
-        absurd (omega (
-          arith,
-          b,
-          (z.owed.at_home c e).served,
-          live-some (InvsNot (tid_at w e)) (to_core w e c) k
-              (Inv l m u) i,
-        ))
+served-inv sh w c e k l m u z i = elim (cases_eq u (tid_at w e)) [
+  | inl q ↦ q
+  | inr n ↦ let b : num (not (u == tid_at w e)) ≡ 1 = grind nats in
+      absurd (omega (
+        arith,
+        b,
+        (z.owed.at_home c e).served,
+        live-some (InvsNot (tid_at w e)) (to_core w e c) k
+            (Inv l m u) i,
+      ))
+]
 
 inv-home : (sh : Shape) (w : World) (c e k l m u : ℕ) → KeptTold sh w → FromDir w e c k (Inv l m u) → home sh l ≡ e
 unfolding passes
-inv-home sh w c e k l m u z i = let a = passed-away sh w c e k (Inv l m u) z i in grind nats
+inv-home sh w c e k l m u z i = let a = passed-away c e k z i in grind nats
 
 -- and this isn't the TID of the core that it goes to
-not-own : (sh : Shape) (gs : List Grant) (w : World) (cs : List Noted) (c e k l m u : ℕ) → e < sh.dirs → KeptOwners sh gs w cs
+not-own : {sh : Shape} {gs : List Grant} (w : World) {cs : List Noted} (c e k l m u : ℕ) → e < sh.dirs → KeptOwners sh gs w cs
     → SparesCommitter sh gs w → FromDir w e c k (Inv l m u) → has_tid (w.cores c).phase (tid_at w e) ≡ true → ⊥
 unfolding pair passes
-not-own sh gs w cs c e k l m u b y s i h =
-    let g : Contains gs (record { tid = tid_at w e; core = c }) =
+not-own {gs} w c e k l m u b y s i h =
+    let g : Contains gs (grant_to (tid_at w e) c) =
     y.held c e (tid_at w e) (has-holder (tid_at w e) (pair w c e) h) in
     omega (arith, (s c e).own b g, live-some Invs (to_core w e c) k (Inv l m u) i)
 
@@ -62,29 +60,29 @@ inv-passes sh gs w cs c e k l m u d b z y s i a t h n = rw q (go (cases_eq t u))
     x : u ≡ (tid_at w e)
     x = served-inv sh w c e k l m u z i
 
-    go : (t ≡ u) ⊎ (t ≡ u → ⊥) → t < (tid_at w e)
-    go (inl r) = absurd (not-own sh gs w cs c e k l m u (rw (sym q) b) y s i (rw (r ∙ x) at h))
+    go : (t ≡ u) ⊎ (t ≢ u) → t < (tid_at w e)
+    go (inl r) = absurd (not-own w c e k l m u (rw (sym q) b) y s i (rw (r ∙ x) at h))
     go (inr r) = omega (arith, x)
 
-admitted : (sh : Shape) (gs : List Grant) (w : World) (cs : List Noted) (c e k : ℕ) (m : Msg) (d : ℕ) → d < sh.dirs → KeptTold sh w
+admitted : {sh : Shape} {gs : List Grant} {w : World} {cs : List Noted} (c e k : ℕ) (m : Msg) (d : ℕ) → d < sh.dirs → KeptTold sh w
     → KeptOwners sh gs w cs → SparesCommitter sh gs w → FromDir w e c k m → Admits sh (w.cores c) d (tid_at w d) m
-admitted sh gs w cs c e k (Inv l m u) d b z y s i = inv-passes sh gs w cs c e k l m u d b z y s i
-admitted sh gs w cs c e k _ d b z y s i = tt
+admitted {sh} {gs} {w} {cs} c e k (Inv l m u) d b z y s i = inv-passes sh gs w cs c e k l m u d b z y s i
+admitted c e k _ d b z y s i = tt
 
 -- what a directory serves only rises
 read-rises : (sh : Shape) (d a b : ℕ) (s : CoreState) → a ≤ b → ReadOf sh d a s → ReadOf sh d b s
 read-rises sh d a b s l h x e y = elim (h x e y) [ inl z ↦ inl z | inr z ↦ inr (z.0, z.1, omega (arith, z.2)) ]
 
-pub step-reads : (sh : Shape) (p : Program) (gs : List Grant) (w : World) (cs : List Noted) (e : Event) → Kept sh w → KeptOwners sh gs w cs
+pub step-reads : {sh : Shape} (p : Program) {gs : List Grant} {w : World} {cs : List Noted} (e : Event) → Kept sh w → KeptOwners sh gs w cs
     → KeptCores sh w → SparesCommitter sh gs w → KeptReads sh w → IfSome (step sh p w e) (λ o. KeptReads sh o.world)
 unfolding pair
-step-reads sh p gs w cs e z y ks s h = step_cases sh p w e (λ g o. KeptReads sh o.world)
+step-reads {sh} p {gs} {w} {cs} e z y ks s h = step_cases sh p w e (λ g o. KeptReads sh o.world)
     (λ c l. moved c (core_exec sh p c (w.cores c)) (reading-exec sh p c (w.cores c)))
     (λ c a b l. moved c (core_evict sh a b (w.cores c)) (reading-evict sh a b (w.cores c)))
     (λ c k u i. pairs_grant P w c k (grant sh u (w.cores c))
-    (λ d b. read-kept sh d _ (w.cores c) (grant sh u (w.cores c)).core (reading-grant sh u (w.cores c)) (h c d b)) h)
+    (λ d b. read-kept sh d _ (reading-grant sh u (w.cores c)) (h c d b)) h)
     (λ c d k m i. taken c d k (from_dir sh d (w.cores c) m)
-    (λ a b. reads-back sh d a (tid_at w a) (w.cores c) m (ks c) (admitted sh gs w cs c d k m a b z.told y s i)
+    (λ a b. reads-back d a (tid_at w a) m (ks c) (admitted c d k m a b z.told y s i)
     (h c a b)))
     (λ c d k m i. answered c d k (dir_deliver sh (w.dirs d) c m) (dir-rises sh (w.dirs d) c m))
     (λ c k i. pairs_vendor P w c k (λ d. h c d) (λ j d n. h j d))
@@ -94,7 +92,7 @@ step-reads sh p gs w cs e z y ks s h = step_cases sh p w e (λ g o. KeptReads sh
 
     moved : (c : ℕ) (x : Option Out) → IfSome x (λ o. Reading (w.cores c) o.core) → IfSome x (λ o. KeptReads sh (core_moves w c o))
     moved c None a = tt
-    moved c (Some o) a = pairs_move P w c o (λ d b. read-kept sh d _ (w.cores c) o.core a (h c d b)) h
+    moved c (Some o) a = pairs_move P w c o (λ d b. read-kept sh d _ a (h c d b)) h
 
     taken : (c d k : ℕ) (x : Option Out) → ((a : ℕ) → a < sh.dirs → IfSome x (λ o. ReadOf sh a (tid_at w a) o.core))
         → IfSome x (λ o. KeptReads sh (core_takes w (Dir d) c k o))
@@ -113,10 +111,10 @@ unfolding start core_start empty_cache
 start-reads sh entries ram c d b x e y = absurd (cc)
 
 -- a core's TID is its bound, as it is the last that was granted to it
-pub read-words : (sh : Shape) (gs : List Grant) (w : World) (cs : List Noted) → KeptOwners sh gs w cs → LastGranted gs w → KeptReads sh w
+pub read-words : {sh : Shape} {gs : List Grant} {w : World} {cs : List Noted} → KeptOwners sh gs w cs → LastGranted gs w → KeptReads sh w
     → ReadWords sh w
 unfolding pair
-read-words sh gs w cs y last k c d x b l a e q r = go b q (k c d a x e r)
+read-words {w} y last k c d x b l a e q r = go b q (k c d a x e r)
   where
     v : Pair
     v = pair w c d

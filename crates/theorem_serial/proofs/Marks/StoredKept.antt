@@ -10,7 +10,7 @@ use Names.{Resolves, MarkMask, marks_of, MaskedOf, StoredOf, from_dir, dir_asks,
 use Names.{Option, length, nat_lt, MarkOf, passes, IfSome, TidReq, Commit, Answer, Noted, Shape, among, ℕ, Grant, opens, subst, Local}
 use Names.{Event, lines, World, start, Sends, grant, Waits, Drops, Takes, zero, Bool, true, List, ◌++◌, Some, None, refl, Skip, Link, Kind}
 use Names.{live, Pair, Core, Asks, step, Acks, pair, Kept, skip, suc, ◌+◌, ◌≡◌, ◌<◌, ◌≤◌, ◌∷◌, ◌∙◌, ◌⊎◌, inl, inr, num, Dir, Msg, Out, set}
-use Names.{sym, ap, nats, tid_at, to_dir, FromCore}
+use Names.{sym, ap, nats, tid_at, to_dir, FromCore, grant_to}
 use proofs.Counts.Links.{live-sends, live-takes}
 use proofs.Counts.StepCases.{dir-own, dir-other, asks-own, pairs_move, pairs_grant, pairs_back, pairs_dir, pairs_asks, pairs_vendor}
 use proofs.Counts.StepCases.{OfAnswer, step_cases}
@@ -55,12 +55,12 @@ pub noted-keeps : (n : Option Noted) (cs : List Noted) (x : Noted) → Contains 
 noted-keeps None cs x h = h
 noted-keeps (Some n) cs x h = insert-keeps n cs x h
 
-pub noted-has : (n : Option Noted) (cs : List Noted) (x : Noted) → n ≡ Some x → Contains (and_noted n cs) x
-noted-has n cs x e = rw e (insert-has x cs)
+pub noted-has : {n : Option Noted} (cs : List Noted) {x : Noted} → n ≡ Some x → Contains (and_noted n cs) x
+noted-has cs {x} e = rw e (insert-has x cs)
 
-pub stored-more : (sh : Shape) (cs : List Noted) (n : Option Noted) (c d t : ℕ) (v : Pair) → StoredOf sh cs c d t v
+pub stored-more : {sh : Shape} {cs : List Noted} (n : Option Noted) {c d t : ℕ} {v : Pair} → StoredOf sh cs c d t v
     → StoredOf sh (and_noted n cs) c d t v
-stored-more sh cs n c d t v h = record {
+stored-more {cs} n h = record {
   sent = λ cl dl x. let k = h.sent cl dl x in
       record {
         commit = k.commit;
@@ -77,20 +77,20 @@ stored-more sh cs n c d t v h = record {
 -- a core moves
 
 -- it sends no Mark of the line by this TID
-with-none : (t l q d : ℕ) (v : Pair) (o : Out) → among (MarkOf t l) (o.sends (Dir d)) ≡ 0 → MarkedWith t l q v
+with-none : (t l : ℕ) {q : ℕ} (d : ℕ) (v : Pair) (o : Out) → among (MarkOf t l) (o.sends (Dir d)) ≡ 0 → MarkedWith t l q v
     → MarkedWith t l q (after_move v o d)
 unfolding wrong_marks
-with-none t l q d v o z h = record {
+with-none t l {q} d v o z h = record {
   one = none-sent t l d v o z ∙ h.one;
   right = omega (arith, h.right, live-sends (MarkMask t l q) v.out (o.sends (Dir d)), few-masked t l q (o.sends (Dir d)), z);
 }
 
 -- it commits what it has marked, and marks
-with-all : (t l q d b : ℕ) (v : Pair) (o : Out) → marks_of t l v ≡ b → among (MarkOf t l) (o.sends (Dir d)) + b ≡ num (nat_lt 0 q)
+with-all : (t l q d : ℕ) {b : ℕ} (v : Pair) (o : Out) → marks_of t l v ≡ b → among (MarkOf t l) (o.sends (Dir d)) + b ≡ num (nat_lt 0 q)
     → among (MarkMask t l q) (o.sends (Dir d)) ≡ 0 → (b ≡ 0) ⊎ (q ≡ modified_mask v.core.cache l)
     → wrong_marks t l (modified_mask v.core.cache l) v ≡ 0 → MarkedWith t l q (after_move v o d)
 unfolding marks_of wrong_marks
-with-all t l q d b v o e m r k h = record {
+with-all t l q d {b} v o e m r k h = record {
   one = omega (arith, e, m, live-sends (MarkOf t l) v.out (o.sends (Dir d)));
   right = omega (arith, r, before k, live-sends (MarkMask t l q) v.out (o.sends (Dir d)));
 }
@@ -98,13 +98,13 @@ with-all t l q d b v o e m r k h = record {
     before : (b ≡ 0) ⊎ (q ≡ modified_mask v.core.cache l) → wrong_marks t l q v ≡ 0
     before a = grind (nats, wrong-few)
 
-pub stored-moved : (sh : Shape) (gs : List Grant) (cs : List Noted) (c d t : ℕ) (v : Pair) (o : Out) → c < sh.cores
+pub stored-moved : {sh : Shape} (gs : List Grant) {cs : List Noted} {c d t : ℕ} {v : Pair} {o : Out} → c < sh.cores
     → ((l : ℕ) → Marking sh d t l v.core o) → StoresAll sh c d t v.core o → ((l : ℕ) → MarksOf sh gs c d t l v)
     → (d < sh.dirs → (l : ℕ) → MaskedOf t l v)
-    → (d < sh.dirs → opens v.core.phase (writes_at sh v.core.cache d) t ≡ true → live (Resolves t) v.out ≡ 0)
-    → StoredOf sh cs c d t v → StoredOf sh (and_noted o.commit cs) c d t (after_move v o d)
-stored-moved sh gs cs c d t v o cl y s m q free h =
-    record { sent = λ cl dl x. sent dl x (cases_lt 0 (live (Commits t) v.out)); settled = (stored-more sh cs o.commit c d t v h).settled }
+    → (d < sh.dirs → opens v.core.phase (writes_at sh v.core.cache d) t ≡ true → live (Resolves t) v.out ≡ 0) → StoredOf sh cs c d t v
+    → StoredOf sh (and_noted o.commit cs) c d t (after_move v o d)
+stored-moved {sh} gs {cs} {c} {d} {t} {v} {o} cl y s m q free h =
+    record { sent = λ cl dl x. sent dl x (cases_lt 0 (live (Commits t) v.out)); settled = (stored-more o.commit h).settled }
   where
     told : (l : ℕ) → d < sh.dirs → 1 ≤ live (Commits t) v.out → (0 < among (MarkOf t l) (o.sends (Dir d)))
         ⊎ (among (MarkOf t l) (o.sends (Dir d)) ≤ 0) → among (MarkOf t l) (o.sends (Dir d)) ≡ 0
@@ -113,11 +113,11 @@ stored-moved sh gs cs c d t v o cl y s m q free h =
     new : d < sh.dirs → Storing sh c d t v.core o → MarkedCommit sh (and_noted o.commit cs) c d t (after_move v o d)
     new dl k = record {
       commit = k.commit;
-      noted = noted-has o.commit cs k.commit k.noted;
+      noted = noted-has cs k.noted;
       tid = k.tid;
       core = k.core;
       stored = k.stored;
-      marks = λ l. with-all t l (stored_mask sh d k.commit.stores l) d (marked_by sh v.core d l) v o ((m l).held cl dl k.held) (k.marks l)
+      marks = λ l. with-all t l (stored_mask sh d k.commit.stores l) d v o ((m l).held cl dl k.held) (k.marks l)
           (k.right l) (k.before l) (q dl l k.held);
     }
 
@@ -130,16 +130,16 @@ stored-moved sh gs cs c d t v o cl y s m q free h =
       tid = k.tid;
       core = k.core;
       stored = k.stored;
-      marks = λ l. with-none t l (stored_mask sh d k.commit.stores l) d v o
+      marks = λ l. with-none t l d v o
           (told l dl (omega (arith, z)) (cases_lt 0 (among (MarkOf t l) (o.sends (Dir d))))) (k.marks l);
     }
 
 -- a core takes a grant: it sends neither Marks nor Commits
-pub stored-granted : (sh : Shape) (cs : List Noted) (c d t k : ℕ) (v : Pair) (o : Out)
+pub stored-granted : {sh : Shape} {cs : List Noted} (c d t k : ℕ) {v : Pair} (o : Out)
     → ((l : ℕ) → among (MarkOf t l) (o.sends (Dir d)) ≡ 0) → among AnyCommit (o.sends (Dir d)) ≡ 0 → StoredOf sh cs c d t v
     → StoredOf sh (and_noted o.commit cs) c d t (after_move (grant_taken v k) o d)
 unfolding marks_of wrong_marks
-stored-granted sh cs c d t k v o f z h = record {
+stored-granted {sh} {cs} c d t k {v} o f z h = record {
   sent = λ cl dl x. let k = h'.sent cl dl (omega (arith, x, z, few-of t (o.sends (Dir d)), live-sends (Commits t) v.out (o.sends (Dir d))))
       in record {
         commit = k.commit;
@@ -163,27 +163,24 @@ stored-granted sh cs c d t k v o f z h = record {
 }
   where
     h' : StoredOf sh (and_noted o.commit cs) c d t v
-    h' = stored-more sh cs o.commit c d t v h
+    h' = stored-more o.commit h
 
 -- a directory answers
-pub stored-answered : (sh : Shape) (gs : List Grant) (cs : List Noted) (j d t : ℕ) (v : Pair) (m : Msg) (s : DirState) (ms : List Msg)
-    (k : Link) → Marked v.dir m s
-    → ((x : Kind) → live x k ≤ live x v.out)
-    → ((l : ℕ) → Contains gs (record { tid = t; core = j }) → live (MarkOf t l) k + num (passes (MarkOf t l) m) ≡ live (MarkOf t l) v.out)
-    → ((l q : ℕ) → Contains gs (record { tid = t; core = j })
-    → live (MarkMask t l q) k + num (passes (MarkMask t l q) m) ≡ live (MarkMask t l q) v.out)
-    → ((l : ℕ) → m ≡ Skip v.dir.serving.serving → has_mark v.dir.lines l ≡ false)
-    → passes EmptyMarks m ≡ false
-    → (j < sh.cores → d < sh.dirs → 1 ≤ live (Resolves t) k → s.serving.serving ≤ t)
-    → (d < sh.dirs → 1 ≤ s.owed → SettledCommit sh cs d s)
+pub stored-answered : {sh : Shape} {gs : List Grant} {cs : List Noted} {j d t : ℕ} {v : Pair} (m : Msg) (s : DirState) (ms : List Msg)
+    (k : Link) → Marked v.dir m s → ((x : Kind) → live x k ≤ live x v.out)
+    → ((l : ℕ) → Contains gs (grant_to t j) → live (MarkOf t l) k + num (passes (MarkOf t l) m) ≡ live (MarkOf t l) v.out)
+    → ((l q : ℕ) → Contains gs (grant_to t j) → live (MarkMask t l q) k + num (passes (MarkMask t l q) m) ≡ live (MarkMask t l q) v.out)
+    → ((l : ℕ) → m ≡ Skip v.dir.serving.serving → has_mark v.dir.lines l ≡ false) → passes EmptyMarks m ≡ false
+    → (j < sh.cores → d < sh.dirs → 1 ≤ live (Resolves t) k → s.serving.serving ≤ t) → (d < sh.dirs → 1 ≤ s.owed → SettledCommit sh cs d s)
     → MarksOf sh gs j d t 0 v → StoredOf sh cs j d t v → StoredOf sh cs j d t (after_answer (record v { out = k }) s ms)
 unfolding wrong_marks
-stored-answered sh gs cs j d t v m s ms k y less ones wrongs skip nonempty ahead settles g h = record { sent = sent; settled = settles }
+stored-answered {sh} {gs} {cs} {j} {d} {t} {v} m s ms k y less ones wrongs skip nonempty ahead settles g h =
+    record { sent = sent; settled = settles }
   where
     sent : j < sh.cores → d < sh.dirs → 1 ≤ live (Commits t) k → MarkedCommit sh cs j d t (after_answer (record v { out = k }) s ms)
     sent jl dl x =
         let a : 1 ≤ live (Resolves t) k = omega (arith, x, ofs-resolve t k) in
-        let b : Contains gs (record { tid = t; core = j }) = g.owner (omega (arith, a, less (Resolves t))) in
+        let b : Contains gs (grant_to t j) = g.owner (omega (arith, a, less (Resolves t))) in
         let n = h.sent jl dl (omega (arith, x, less (Commits t))) in
         record {
           commit = n.commit;
@@ -194,35 +191,35 @@ stored-answered sh gs cs j d t v m s ms k y less ones wrongs skip nonempty ahead
           marks = λ l. stays l (stored_mask sh d n.commit.stores l) a b jl dl (n.marks l);
         }
       where
-        stays : (l q : ℕ) → 1 ≤ live (Resolves t) k → Contains gs (record { tid = t; core = j }) → j < sh.cores → d < sh.dirs
+        stays : (l q : ℕ) → 1 ≤ live (Resolves t) k → Contains gs (grant_to t j) → j < sh.cores → d < sh.dirs
             → MarkedWith t l q v → MarkedWith t l q (after_answer (record v { out = k }) s ms)
         stays l q a b jl dl w = record {
           one = marks-stay sh d t l v m s ms k y (ones l b) (skip l) nonempty (ahead jl dl a) (omega (arith, w.one, num-most (nat_lt 0 q)))
               ∙ w.one;
-          right = wrong-falls v.dir s m t l q (live (MarkMask t l q) v.out) (live (MarkMask t l q) k) y (wrongs l q b) (skip l) w.right;
+          right = wrong-falls t l q (live (MarkMask t l q) k) y (wrongs l q b) (skip l) w.right;
         }
 
 -- where a directory takes the Commit, and none of its Marks is in flight, the marks are the words that it stored
-pub taken-marks : (l q : ℕ) (v : Pair) → live (MarkOf v.dir.serving.serving l) v.out ≡ 0 → MarkedWith v.dir.serving.serving l q v
+pub taken-marks : (l : ℕ) {q : ℕ} (v : Pair) → live (MarkOf v.dir.serving.serving l) v.out ≡ 0 → MarkedWith v.dir.serving.serving l q v
     → v.dir.lines.mark l ≡ q
 unfolding marks_of wrong_marks
-taken-marks l q v z h = grind nats
+taken-marks l v z h = grind nats
 
 pub one-commit : (u n : ℕ) (m : Msg) → num (passes (CommitOf u n) m) ≤ num (passes (Commits u) m)
 unfolding passes
 one-commit u n m = grind nats
 
 -- a directory that takes a Commit has as its marks what the commit stored
-pub taken-stored : (sh : Shape) (w : World) (cs : List Noted) (c d k : ℕ) (m : Msg) → KeptCounted sh w → KeptStored sh cs w → c < sh.cores
-    → d < sh.dirs → FromCore w c d k m → CountsMarked sh (w.dirs d) m → SettledCommit sh cs d (w.dirs d)
+pub taken-stored : {sh : Shape} (w : World) {cs : List Noted} (c : ℕ) {d : ℕ} (k : ℕ) {m : Msg} → KeptCounted sh w → KeptStored sh cs w
+    → c < sh.cores → d < sh.dirs → FromCore w c d k m → CountsMarked sh (w.dirs d) m → SettledCommit sh cs d (w.dirs d)
 unfolding pair
-taken-stored sh w cs c d k m g h cl dl i q =
+taken-stored {sh} w {cs} c {d} k g h cl dl i q =
     record {
       commit = x.commit;
       noted = x.noted;
       tid = x.tid;
       stored = x.stored;
-      marks = λ l. taken-marks l _ (pair w c d) (none-away sh l (pair w c d) ((g c d u cl).counted n dl sent)) (x.marks l);
+      marks = λ l. taken-marks l (pair w c d) (none-away sh l (pair w c d) ((g c d u cl).counted n dl sent)) (x.marks l);
     }
   where
     u : ℕ
@@ -246,29 +243,31 @@ taken-stored sh w cs c d k m g h cl dl i q =
           one-commit u n (Commit u n),
         ))
 
-dir-stored : (sh : Shape) (gs : List Grant) (w : World) (cs : List Noted) (c d k ack : ℕ) (m : Msg) (s : DirState) (sends : Sends)
-    → KeptTold sh w → KeptOwners sh gs w cs → KeptMarks sh gs w → KeptCounted sh w → KeptStored sh cs w
-    → KeptTold sh (dir_takes w c d k s sends) → c < sh.cores → FromCore w c d k m → Marked (w.dirs d) m s → Due sh d (w.dirs d) ack s sends
-    → (s.owed ≤ (w.dirs d).owed) ⊎ CountsMarked sh (w.dirs d) m → KeptStored sh cs (dir_takes w c d k s sends)
+dir-stored : {sh : Shape} {gs : List Grant} {w : World} {cs : List Noted} (c : ℕ) {d : ℕ}
+    (k : ℕ) {ack : ℕ} {m : Msg} {s : DirState} {sends : Sends} → KeptTold sh w → KeptOwners sh gs w cs → KeptMarks sh gs w
+    → KeptCounted sh w → KeptStored sh cs w → KeptTold sh (dir_takes w c d k s sends) → c < sh.cores → FromCore w c d k m
+    → Marked (w.dirs d) m s → Due sh d (w.dirs d) ack s sends → (s.owed ≤ (w.dirs d).owed) ⊎ CountsMarked sh (w.dirs d) m
+    → KeptStored sh cs (dir_takes w c d k s sends)
 unfolding pair
-dir-stored sh gs w cs c d k ack m s sends b y a g h z cl i u p o = pairs_dir (λ j e v. (t : ℕ) → StoredOf sh cs j e t v) w c d k s sends
-    (λ t. stored-answered sh gs cs c d t (pair w c d) m s (sends (Core c)) (set (to_dir w c d) k None) u
-    (λ x. taken-less k x (to_dir w c d) m i) (λ l x. live-takes (MarkOf t l) (to_dir w c d) k m i)
+dir-stored {sh} {gs} {w} {cs} c {d} k {m} {s} {sends} b y a g h z cl i u p o = pairs_dir
+    (λ j e v. (t : ℕ) → StoredOf sh cs j e t v) w c d k s sends
+    (λ t. stored-answered m s (sends (Core c)) (set (to_dir w c d) k None) u
+    (λ x. taken-less k x (to_dir w c d) i) (λ l x. live-takes (MarkOf t l) (to_dir w c d) k m i)
     (λ l q x. live-takes (MarkMask t l q) (to_dir w c d) k m i) skip nonempty
     (λ jl dl. subst (λ v. 1 ≤ live (Resolves t) v.out → v.dir.serving.serving ≤ t) (dir-own w c d k s sends)
-    (told-ahead sh new c d t z.tids jl dl)) settles (a c d t 0) (h c d t))
-    (λ j n t. stored-answered sh gs cs j d t (pair w j d) m s (sends (Core j)) (to_dir w j d) u (λ x. omega arith)
-    (λ l x. only-there sh gs w cs c j d k t l m y a i n (inl x)) (λ l q x. masked-there sh gs w cs c j d k t l q m y a i n x) skip
+    (told-ahead c d t z.tids jl dl)) settles (a c d t 0) (h c d t))
+    (λ j n t. stored-answered m s (sends (Core j)) (to_dir w j d) u (λ x. omega arith)
+    (λ l x. only-there c j d k t l y a i n (inl x)) (λ l q x. masked-there c j d k t l q y a i n x) skip
     nonempty
     (λ jl dl. subst (λ v. 1 ≤ live (Resolves t) v.out → v.dir.serving.serving ≤ t) (dir-other w c d k s sends j n)
-    (told-ahead sh new j d t z.tids jl dl)) settles (a j d t 0) (h j d t))
+    (told-ahead j d t z.tids jl dl)) settles (a j d t 0) (h j d t))
     h
   where
     new : World
     new = dir_takes w c d k s sends
 
     skip : (l : ℕ) → m ≡ Skip (tid_at w d) → has_mark (w.dirs d).lines l ≡ false
-    skip l = skip-unmarked sh gs w c d k m l b a i
+    skip l = skip-unmarked c d k l b a i
 
     nonempty : passes EmptyMarks m ≡ false
     nonempty = empty-one (to_dir w c d) k m i (a c d 0 0).words
@@ -276,7 +275,7 @@ dir-stored sh gs w cs c d k ack m s sends b y a g h z cl i u p o = pairs_dir (λ
     -- what the directory serves is settled already, or by this message
     before : d < sh.dirs → 1 ≤ s.owed → (s.owed ≤ (w.dirs d).owed) ⊎ CountsMarked sh (w.dirs d) m → SettledCommit sh cs d (w.dirs d)
     before dl x (inl q) = (h c d 0).settled dl (omega (arith, x, q))
-    before dl x (inr q) = taken-stored sh w cs c d k m g h cl dl i q
+    before dl x (inr q) = taken-stored w c k g h cl dl i q
 
     serves : {B : Type 0} → 1 ≤ s.owed → ((s.serving.serving ≡ tid_at w d) × B) ⊎ (s.owed ≡ 0) → s.serving.serving ≡ (tid_at w d)
     serves x a = grind nats
@@ -287,7 +286,7 @@ dir-stored sh gs w cs c d k ack m s sends b y a g h z cl i u p o = pairs_dir (λ
       noted = n.noted;
       tid = n.tid ∙ sym e;
       stored = n.stored;
-      marks = λ l. marks-same sh w c d k m s g cl dl i x e o u l ∙ n.marks l;
+      marks = λ l. marks-same w c d k g cl dl i x e o u l ∙ n.marks l;
     }
 
 asks-stored : (sh : Shape) (gs : List Grant) (w : World) (cs : List Noted) (d : ℕ) (s : DirState) (sends : Sends) → KeptMarks sh gs w
@@ -295,11 +294,11 @@ asks-stored : (sh : Shape) (gs : List Grant) (w : World) (cs : List Noted) (d : 
     × ((l : ℕ) → s.lines.mark l ≡ (w.dirs d).lines.mark l) → s.owed ≤ (w.dirs d).owed → KeptStored sh cs (dir_asks w d s sends)
 unfolding pair
 asks-stored sh gs w cs d s sends a h z u o = pairs_asks (λ j e v. (t : ℕ) → StoredOf sh cs j e t v) w d s sends
-    (λ j t. stored-answered sh gs cs j d t (pair w j d) TidReq s (sends (Core j)) (to_dir w j d)
+    (λ j t. stored-answered TidReq s (sends (Core j)) (to_dir w j d)
     (Stays u.0 u.1 (λ b e q. let f = no-request b e in absurd (cc))) (λ q. omega arith) (λ l x. none t l)
     (λ l q x. omega (arith, passes-masked t l q TidReq (ap num (no-request t l)))) (λ l e. absurd (cc)) no-empty
     (λ jl dl. subst (λ v. 1 ≤ live (Resolves t) v.out → v.dir.serving.serving ≤ t) (asks-own w d s sends j)
-    (told-ahead sh (dir_asks w d s sends) j d t z.tids jl dl)) settles (a j d t 0) (h j d t))
+    (told-ahead j d t z.tids jl dl)) settles (a j d t 0) (h j d t))
     h
   where
     none : {x : ℕ} (t l : ℕ) → x + num (passes (MarkOf t l) TidReq) ≡ x
@@ -310,10 +309,10 @@ asks-stored sh gs w cs d s sends a h z u o = pairs_asks (λ j e v. (t : ℕ) →
         record { commit = n.commit; noted = n.noted; tid = n.tid ∙ sym u.0; stored = n.stored; marks = λ l. u.1 l ∙ n.marks l }
 
 -- another pair in which the Marks, the Commits and the directory are the same
-same-stored : (sh : Shape) (cs : List Noted) (c d t : ℕ) (v w : Pair) → w.out ≡ v.out → w.dir ≡ v.dir → StoredOf sh cs c d t v
+same-stored : {sh : Shape} {cs : List Noted} {c d t : ℕ} {v : Pair} (w : Pair) → w.out ≡ v.out → w.dir ≡ v.dir → StoredOf sh cs c d t v
     → StoredOf sh cs c d t w
 unfolding marks_of wrong_marks
-same-stored sh cs c d t v w e f h = record {
+same-stored w e f h = record {
   sent = λ cl dl x. let k = h.sent cl dl (rw e at x) in
       record {
         commit = k.commit;
@@ -330,38 +329,39 @@ same-masked : (t l : ℕ) (v w : Pair) → w.core ≡ v.core → w.out ≡ v.out
 unfolding wrong_marks
 same-masked t l v w c e f h = λ x. rw (c, e, f) (h (rw c at x))
 
-pub step-stored : (sh : Shape) (p : Program) (gs : List Grant) (w : World) (cs : List Noted) (e : Event) → Kept sh w → KeptOwners sh gs w cs
+pub step-stored : {sh : Shape} (p : Program) {gs : List Grant} {w : World} {cs : List Noted} (e : Event) → Kept sh w → KeptOwners sh gs w cs
     → KeptCores sh w → KeptMarks sh gs w → KeptCounted sh w → KeptMasks sh w → KeptStored sh cs w
     → IfSome (step sh p w e) (λ o. KeptTold sh o.world → KeptStored sh (and_noted o.noted cs) o.world)
 unfolding pair
-step-stored sh p gs w cs e z y x a g q h = step_cases sh p w e (λ r o. KeptTold sh o.world → KeptStored sh (and_noted o.noted cs) o.world)
+step-stored {sh} p {gs} {w} {cs} e z y x a g q h = step_cases sh p w e
+    (λ r o. KeptTold sh o.world → KeptStored sh (and_noted o.noted cs) o.world)
     (λ c l. moved c l (core_exec sh p c (w.cores c)) (λ d t l. marking-exec sh p c d t l (w.cores c))
-    (λ d t. storing-exec sh p c d t (w.cores c) (x c)))
+    (λ d t. storing-exec p c d t (x c)))
     (λ c r b l. moved c l (core_evict sh r b (w.cores c)) (λ d t l. marking-evict sh r b d t l (w.cores c))
     (λ d t. storing-evict sh r b c d t (w.cores c)))
     (λ c k u i n. pairs_grant (P (grant sh u (w.cores c)).commit) w c k (grant sh u (w.cores c))
-    (λ d t. stored-granted sh cs c d t k (pair w c d) (grant sh u (w.cores c))
-    (λ l. (granting sh u d t l (w.cores c) (granted_waits (pair w c d) k u i (z.told.tids.requests c d))).marks)
+    (λ d t. stored-granted c d t k (grant sh u (w.cores c))
+    (λ l. (granting sh u d t l (w.cores c) (granted_waits (pair w c d) k i (z.told.tids.requests c d))).marks)
     (granted-free sh u d (w.cores c)) (h c d t)) (more (grant sh u (w.cores c)).commit))
-    (λ c d k m i. taken c d k (core_of_back sh w c d k m z.told.tids i) (from_dir sh d (w.cores c) m)
+    (λ c d k m i. taken c d k (core_of_back c d k z.told.tids i) (from_dir sh d (w.cores c) m)
     (λ b t l. marking-back sh d b t l (w.cores c) m) (λ b t. storing-back sh d c b t (w.cores c) m))
-    (λ c d k m i. answered c d k m i (core_of_out sh w c d k m z.told.tids i) (dir_deliver sh (w.dirs d) c m) (dir-marked sh (w.dirs d) c m)
+    (λ c d k m i. answered c d k m i (core_of_out c d k z.told.tids i) (dir_deliver sh (w.dirs d) c m) (dir-marked sh (w.dirs d) c m)
     (dir-owes sh (w.dirs d) c m)
-    (dir-due sh d (w.dirs d) c m (once_at sh w c d k m z.told i) (z.told.owed.at_home c d).marked (marks_home sh w c d k m z.told.owed i)
-    (acks_owed sh w c d k m z.told.owed (core_of_out sh w c d k m z.told.tids i) i)))
-    (λ c k i n. pairs_vendor (P None) w c k (λ d t. same-stored sh cs c d t (pair w c d) (after_grant (pair w c d) k) refl refl (h c d t))
-    (λ j d r t. same-stored sh cs j d t (pair w j d) (after_other_grant (pair w j d)) refl refl (h j d t)))
+    (dir-due sh d (w.dirs d) c m (once_at c d k z.told i) (z.told.owed.at_home c d).marked (marks_home c d k z.told.owed i)
+    (acks_owed c d k z.told.owed (core_of_out c d k z.told.tids i) i)))
+    (λ c k i n. pairs_vendor (P None) w c k (λ d t. same-stored (after_grant (pair w c d) k) refl refl (h c d t))
+    (λ j d r t. same-stored (after_other_grant (pair w j d)) refl refl (h j d t)))
   where
     P : Option Noted → ℕ → ℕ → Pair → Type 0
     P n c d v = (t : ℕ) → StoredOf sh (and_noted n cs) c d t v
 
     more : (n : Option Noted) → KeptStored sh (and_noted n cs) w
-    more n c d t = stored-more sh cs n c d t (pair w c d) (h c d t)
+    more n c d t = stored-more n (h c d t)
 
     own : (c d t : ℕ) (o : Out) → c < sh.cores → ((d t l : ℕ) → Marking sh d t l (w.cores c) o) → StoresAll sh c d t (w.cores c) o
         → StoredOf sh (and_noted o.commit cs) c d t (after_move (pair w c d) o d)
-    own c d t o cl u k = stored-moved sh gs cs c d t (pair w c d) o cl (λ l. u d t l) k (λ l. a c d t l) (λ dl l. q c d t l cl dl)
-        (λ dl r. open-untold sh w c d t z.told.tids cl dl r) (h c d t)
+    own c d t o cl u k = stored-moved gs cl (λ l. u d t l) k (λ l. a c d t l) (λ dl l. q c d t l cl dl)
+        (λ dl r. open-untold c d t z.told.tids cl dl r) (h c d t)
 
     moved : (c : ℕ) → c < sh.cores → (r : Option Out) → ((d t l : ℕ) → IfSome r (λ o. Marking sh d t l (w.cores c) o))
         → ((d t : ℕ) → IfSome r (λ o. StoresAll sh c d t (w.cores c) o))
@@ -371,11 +371,11 @@ step-stored sh p gs w cs e z y x a g q h = step_cases sh p w e (λ r o. KeptTold
 
     back : (c d k t : ℕ) (o : Out) → c < sh.cores → ((d t l : ℕ) → Marking sh d t l (w.cores c) o) → StoresAll sh c d t (w.cores c) o
         → StoredOf sh (and_noted o.commit cs) c d t (after_move (back_taken (pair w c d) k) o d)
-    back c d k t o cl u r = stored-moved sh gs cs c d t (back_taken (pair w c d) k) o cl (λ l. u d t l) r
-        (λ l. back-marks sh gs w c d k t l (a c d t l))
+    back c d k t o cl u r = stored-moved gs cl (λ l. u d t l) r
+        (λ l. back-marks w k (a c d t l))
         (λ dl l. same-masked t l (pair w c d) (back_taken (pair w c d) k) refl refl refl (q c d t l cl dl))
-        (λ dl r. open-untold sh w c d t z.told.tids cl dl r)
-        (same-stored sh cs c d t (pair w c d) (back_taken (pair w c d) k) refl refl (h c d t))
+        (λ dl r. open-untold c d t z.told.tids cl dl r)
+        (same-stored (back_taken (pair w c d) k) refl refl (h c d t))
 
     taken : (c d k : ℕ) → c < sh.cores → (r : Option Out) → ((b t l : ℕ) → IfSome r (λ o. Marking sh b t l (w.cores c) o))
         → ((b t : ℕ) → IfSome r (λ o. StoresAll sh c b t (w.cores c) o))
@@ -387,11 +387,11 @@ step-stored sh p gs w cs e z y x a g q h = step_cases sh p w e (λ r o. KeptTold
     answered : (c d k : ℕ) (m : Msg) → FromCore w c d k m → c < sh.cores → (b : Answer) → MarkedBy (w.dirs d) m b → OwesBy sh (w.dirs d) m b
         → DueBy sh d (w.dirs d) (num (passes Acks m)) b → OfAnswer w c d k (λ v. KeptTold sh v → KeptStored sh cs v) b
     answered c d k m i cl Waits u o p = tt
-    answered c d k m i cl Drops u o p = λ n. dir-stored sh gs w cs c d k 0 m (w.dirs d) (λ dst. []) z.told y a g h n cl i
+    answered c d k m i cl Drops u o p = λ n. dir-stored c k z.told y a g h n cl i
         (Stays refl (λ l. refl) u) (still-due sh d (w.dirs d) (z.told.owed.at_home c d).marked) (inl (omega arith))
     answered c d k m i cl (Asks s sends) u o p = λ n. asks-stored sh gs w cs d s sends a h n u o
     answered c d k m i cl (Takes s sends) u o p =
-        λ n. dir-stored sh gs w cs c d k (num (passes Acks m)) m s sends z.told y a g h n cl i u p o
+        λ n. dir-stored c k z.told y a g h n cl i u p o
 
 pub start-stored : (sh : Shape) (entries : ℕ → Local) (ram : ℕ → ℕ) → KeptStored sh [] (start entries ram)
 unfolding start dir_start pair live

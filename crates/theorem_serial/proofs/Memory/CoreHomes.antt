@@ -28,8 +28,8 @@ pub homely-none : (sh : Shape) (d : ℕ) → Homely sh d []
 unfolding among
 homely-none sh d = record { away = refl; words = refl }
 
-homely-append : (sh : Shape) (d : ℕ) (a b : List Msg) → Homely sh d a → Homely sh d b → Homely sh d (a ++ b)
-homely-append sh d a b x y =
+homely-append : {sh : Shape} {d : ℕ} {a b : List Msg} → Homely sh d a → Homely sh d b → Homely sh d (a ++ b)
+homely-append {sh} {d} {a} {b} x y =
     record {
       away = omega (arith, among-append (LinesAway sh.dirs d) a b, x.away, y.away);
       words = omega (arith, among-append NoWord a b, x.words, y.words);
@@ -137,13 +137,9 @@ homely-solo sh c sp u d =
         ++ solo_write_backs sh sp u d else [])
     go false w = homely-none sh d
     go true true =
-        homely-append sh d (flat_map (λ k. Mark k (written_mask c sp k) u ∷ [])
-        (those (λ k. d == home sh k && is_written c sp k) (lines sh))
-        ++ Commit u (count_below (λ k. d == home sh k && is_written c sp k) (lines sh)) ∷ []) (solo_write_backs sh sp u d)
-        (homely-append sh d (flat_map (λ k. Mark k (written_mask c sp k) u ∷ [])
-        (those (λ k. d == home sh k && is_written c sp k) (lines sh)))
-        (Commit u (count_below (λ k. d == home sh k && is_written c sp k) (lines sh)) ∷ []) marks last) backs
-    go true false = homely-append sh d (Skip u ∷ []) (solo_write_backs sh sp u d) skip backs
+        homely-append
+        (homely-append marks last) backs
+    go true false = homely-append skip backs
 
 homely-marks : (sh : Shape) (c : Cache) (u e : ℕ) → HomelyOut sh (to (Dir e) (marks_for sh c u e))
 unfolding marks_for written_lines
@@ -186,7 +182,7 @@ pub homes-back : (sh : Shape) (e : ℕ) (s : CoreState) (m : Msg) → IfSome (fr
 homes-back sh e s m = each-back sh e s (λ m o. HomelyOut sh o.sends) go m
   where
     hurt : (k : ℕ) (r : CoreState) (q : Said) → HomelyOut sh (acked sh k r (say sh s q)).sends
-    hurt k r q d = homely-append sh d (say sh s q (Dir d)) (to (Dir (home sh k)) (InvAck k (keeps r.cache k) ∷ []) (Dir d))
+    hurt k r q d = homely-append
         (homely-said sh s q d) (homely-to sh (home sh k) d (InvAck k (keeps r.cache k) ∷ []) (λ e. one-ack sh d k (keeps r.cache k) e))
 
     go : (x : Heard sh e s) → HomelyOut sh (heard x).sends

@@ -40,10 +40,10 @@ unfolding loads_word stores_word
 nothing-used sh = record { loaded = λ x e. absurd (cc); stored = λ x e. absurd (cc) }
 
 -- one more load, one more store
-one-load : (sh : Shape) (ls : List Load) (ss : List Stored) (m : Load) → WordInMemory sh (word_of sh.base m.addr)
+one-load : {sh : Shape} {ls : List Load} {ss : List Stored} (m : Load) → WordInMemory sh (word_of sh.base m.addr)
     → AccessesInMemory sh ls ss → AccessesInMemory sh (ls ++ m ∷ []) ss
 unfolding loads_word
-one-load sh ls ss m w k = record {
+one-load {sh} {ls} m w k = record {
   loaded = λ x e. go x (loads_word sh.base ls x) refl (rw (loads_word-append sh.base ls (m ∷ []) x) at e);
   stored = k.stored;
 }
@@ -52,10 +52,10 @@ one-load sh ls ss m w k = record {
     go x true q e = k.loaded x q
     go x false q e = let i : word_of sh.base m.addr ≡ x = grind nats in rw i at w
 
-one-store : (sh : Shape) (ls : List Load) (ss : List Stored) (m : Stored) → WordInMemory sh (word_of sh.base m.addr)
+one-store : {sh : Shape} {ls : List Load} {ss : List Stored} (m : Stored) → WordInMemory sh (word_of sh.base m.addr)
     → AccessesInMemory sh ls ss → AccessesInMemory sh ls (ss ++ m ∷ [])
 unfolding stores_word
-one-store sh ls ss m w k =
+one-store {sh} {ss} m w k =
     record { loaded = k.loaded; stored = λ x e. go x (stores_word sh.base ss x) refl (rw (stores_word-append sh.base ss (m ∷ []) x) at e) }
   where
     go : (x : ℕ) (a : Bool) → stores_word sh.base ss x ≡ a → (a || ((word_of sh.base m.addr == x) || false)) ≡ true → WordInMemory sh x
@@ -63,9 +63,9 @@ one-store sh ls ss m w k =
     go x false q e = let i : word_of sh.base m.addr ≡ x = grind nats in rw i at w
 
 -- the same frames, and the same loads and stores
-pub same-memory : (sh : Shape) (s r : CoreState) → r.cache.held ≡ s.cache.held → r.loads ≡ s.loads → r.stores ≡ s.stores → CoreInMemory sh s
-    → CoreInMemory sh r
-same-memory sh s r f l t k = record { frames = λ m e. k.frames m (rw f at e); accesses = rw (l, t) k.accesses }
+pub same-memory : {sh : Shape} {s : CoreState} (r : CoreState) → r.cache.held ≡ s.cache.held → r.loads ≡ s.loads → r.stores ≡ s.stores
+    → CoreInMemory sh s → CoreInMemory sh r
+same-memory r f l t k = record { frames = λ m e. k.frames m (rw f at e); accesses = rw (l, t) k.accesses }
 
 -- a new frame is of a line in memory
 placed-frames : (sh : Shape) (l : ℕ) (c : Cache) → l < lines sh → FramesInMemory sh c → FramesInMemory sh (placed sh l c)
@@ -90,17 +90,13 @@ in-memory sh p s need a i g at = go need at (rw g.need at (i s.local))
     go _ e n = absurd e
 
 -- one more load, one more store
-stored-memory : (sh : Shape) (s : CoreState) (a : ℕ) (k : Storing s a) → WordInMemory sh (word_of sh.base a) → CoreInMemory sh s
+stored-memory : {sh : Shape} {s : CoreState} {a : ℕ} (k : Storing s a) → WordInMemory sh (word_of sh.base a) → CoreInMemory sh s
     → AccessesInMemory sh k.loads (s.stores ++ k.store ∷ [])
-stored-memory sh s a k w h = go k.loaded
+stored-memory {sh} {s} k w h =
+    elim k.loaded [ inl e ↦ rw e more | inr z ↦ rw z.2 (one-load z.0 (rw z.1 w) more) ]
   where
     more : AccessesInMemory sh s.loads (s.stores ++ k.store ∷ [])
-    more = one-store sh s.loads s.stores k.store (rw k.addr w) h.accesses
-
-    go : (k.loads ≡ s.loads) ⊎ ((m : Load) × (m.addr ≡ a) × (k.loads ≡ s.loads ++ m ∷ []))
-        → AccessesInMemory sh k.loads (s.stores ++ k.store ∷ [])
-    go (inl e) = rw e more
-    go (inr z) = rw z.2 (one-load sh s.loads (s.stores ++ k.store ∷ []) z.0 (rw z.1 w) more)
+    more = one-store k.store (rw k.addr w) h.accesses
 
 pub exec-memory : (sh : Shape) (p : Program) (id : ℕ) (s : CoreState) → StaysInMemory sh p → CoreInMemory sh s
     → IfSome (core_exec sh p id s) (OutInMemory sh)
@@ -114,7 +110,7 @@ exec-memory sh p id s i k = each-exec sh p id s (OutInMemory sh) go
     go (Finds a x z l g f) = (
       record {
         frames = k.frames;
-        accesses = one-load sh s.loads s.stores (load_of a z (part x a z)) (w a (Loads a z) g refl)
+        accesses = one-load (load_of a z (part x a z)) (w a (Loads a z) g refl)
             k.accesses;
       },
       tt,
@@ -122,19 +118,19 @@ exec-memory sh p id s i k = each-exec sh p id s (OutInMemory sh) go
     go (Reads a x z l g r f) = (
       record {
         frames = k.frames;
-        accesses = one-load sh s.loads s.stores (load_of a z (part x a z)) (w a (Loads a z) g refl)
+        accesses = one-load (load_of a z (part x a z)) (w a (Loads a z) g refl)
             k.accesses;
       },
       tt,
     )
     go (Buffers a y v n q g at e f) =
-        (record { frames = k.frames; accesses = stored-memory sh s a q (w a n g (stores-access n a at)) k }, tt)
+        (record { frames = k.frames; accesses = stored-memory q (w a n g (stores-access n a at)) k }, tt)
     go (Frames a y also n q g at f) =
-        (record { frames = k.frames; accesses = stored-memory sh s a q (w a n g (stores-access n a at)) k }, tt)
+        (record { frames = k.frames; accesses = stored-memory q (w a n g (stores-access n a at)) k }, tt)
     go (Frames_anew a y n q g at e f h) = (
       record {
         frames = placed-frames sh (line_of (word_of sh.base a)) s.cache (w a n g (stores-access n a at)) k.frames;
-        accesses = stored-memory sh s a q (w a n g (stores-access n a at)) k;
+        accesses = stored-memory q (w a n g (stores-access n a at)) k;
       },
       tt,
     )
@@ -142,7 +138,7 @@ exec-memory sh p id s i k = each-exec sh p id s (OutInMemory sh) go
         (record { frames = placed-frames sh (line_of (word_of sh.base a)) s.cache (w a n g at) k.frames; accesses = k.accesses }, tt)
     go (Ends_alone t l e f r n) = (record { frames = k.frames; accesses = nothing-used sh }, k.accesses)
     go (Commits_now t r) = (record { frames = k.frames; accesses = nothing-used sh }, k.accesses)
-    go _ = (same-memory sh s _ refl refl refl k, tt)
+    go _ = (same-memory _ refl refl refl k, tt)
 
 -- A core whose frames are of lines of memory sends words home of such lines alone; and what lies in memory is found at its home.
 
@@ -232,9 +228,9 @@ nothing-sent : (sh : Shape) → SendsInMemory sh nothing
 nothing-sent sh d = none-outside sh
 
 -- words of a frame
-dirty-memory : (sh : Shape) (c : Cache) (l : ℕ) → IsCache sh c → FramesInMemory sh c → is_dirty c l ≡ true → l < lines sh
+dirty-memory : {sh : Shape} {c : Cache} (l : ℕ) → IsCache sh c → FramesInMemory sh c → is_dirty c l ≡ true → l < lines sh
 unfolding is_dirty
-dirty-memory sh c l k f e = let x = line-found (λ w. is_some (c.dirty w)) l e in
+dirty-memory {c} l k f e = let x = line-found (λ w. is_some (c.dirty w)) l e in
     rw x.1 at (f (line_of x.0) (go x.0 (c.held (line_of x.0)) refl (k.dirty x.0 x.2)))
   where
     go : (x : ℕ) (b : Bool) → c.held (line_of x) ≡ b → is_some (c.value x) ≡ true → c.held (line_of x) ≡ true
@@ -243,9 +239,9 @@ dirty-memory sh c l k f e = let x = line-found (λ w. is_some (c.dirty w)) l e i
 another : (sh : Shape) (k l : ℕ) → k < lines sh → lines sh ≤ l → (k == l) ≡ false
 another sh k l i o = grind nats
 
-flushed-memory : (sh : Shape) (c : Cache) (k : ℕ) → IsCache sh c → FramesInMemory sh c → SendsInMemory sh (flush_line sh c k)
+flushed-memory : {sh : Shape} {c : Cache} (k : ℕ) → IsCache sh c → FramesInMemory sh c → SendsInMemory sh (flush_line sh c k)
 unfolding flush_line dirty_copy among passes
-flushed-memory sh c k i f d l t o = go (d == home sh k) (is_dirty c k) refl
+flushed-memory {sh} {c} k i f d l t o = go (d == home sh k) (is_dirty c k) refl
   where
     go : (a b : Bool) → is_dirty c k ≡ b
         → among (CopyOf l t) (if a
@@ -253,11 +249,11 @@ flushed-memory sh c k i f d l t o = go (d == home sh k) (is_dirty c k) refl
         else []) ≡ 0
     go false b q = refl
     go true false q = refl
-    go true true q = rw (another sh k l (dirty-memory sh c k i f q) o) refl
+    go true true q = rw (another sh k l (dirty-memory k i f q) o) refl
 
-written-memory : (sh : Shape) (c : Cache) (k : ℕ) → IsCache sh c → FramesInMemory sh c → SendsInMemory sh (write_back_line sh c k)
+written-memory : {sh : Shape} {c : Cache} (k : ℕ) → IsCache sh c → FramesInMemory sh c → SendsInMemory sh (write_back_line sh c k)
 unfolding write_back_line dirty_copy among passes
-written-memory sh c k i f d l t o = go (d == home sh k) (is_dirty c k) refl
+written-memory {sh} {c} k i f d l t o = go (d == home sh k) (is_dirty c k) refl
   where
     go : (a b : Bool) → is_dirty c k ≡ b
         → among (CopyOf l t) (if a
@@ -265,7 +261,7 @@ written-memory sh c k i f d l t o = go (d == home sh k) (is_dirty c k) refl
         None) else []) ≡ 0
     go false b q = refl
     go true false q = refl
-    go true true q = rw (another sh k l (dirty-memory sh c k i f q) o) refl
+    go true true q = rw (another sh k l (dirty-memory k i f q) o) refl
 
 -- what goes out at a commit of a core that is alone
 backs-memory : (sh : Shape) (sp : Spilled) (u n : ℕ) (p : ℕ → Bool) → n ≤ lines sh
@@ -309,8 +305,8 @@ solo-memory sh c sp u d = go (nat_lt d sh.dirs) (solo_writes_at sh c sp d)
 -- what a core sends has words of lines in memory alone
 said-memory : (sh : Shape) (s : CoreState) (q : Said) → IsCache sh s.cache → FramesInMemory sh s.cache → SendsInMemory sh (say sh s q)
 unfolding passes
-said-memory sh s (Flushes k) i f = flushed-memory sh s.cache k i f
-said-memory sh s (Empties k) i f = written-memory sh s.cache k i f
+said-memory sh s (Flushes k) i f = flushed-memory k i f
+said-memory sh s (Empties k) i f = written-memory k i f
 said-memory sh s (Tells_alone t) i f = solo-memory sh s.cache s.spilled t
 said-memory sh s q i f = λ d l t o. quiet sh s (CopyOf l t) q (λ x. refl) d
 
@@ -325,7 +321,7 @@ exec-sends sh p c s i f = each-exec sh p c s (λ o. SendsInMemory sh o.sends) go
 
 pub evict-sends : (sh : Shape) (x y : ℕ) (s : CoreState) → IsCache sh s.cache → FramesInMemory sh s.cache
     → IfSome (core_evict sh x y s) (λ o. SendsInMemory sh o.sends)
-evict-sends sh x y s i f = each-evict sh x y s (λ o. SendsInMemory sh o.sends) (λ l e a m. written-memory sh s.cache l i f)
+evict-sends sh x y s i f = each-evict sh x y s (λ o. SendsInMemory sh o.sends) (λ l e a m. written-memory l i f)
 
 pub grant-sent : (sh : Shape) (t : ℕ) (s : CoreState) → SendsInMemory sh (grant sh t s).sends
 unfolding passes
@@ -341,5 +337,5 @@ unfolding passes
 back-sends sh e s m i f = each-back sh e s (λ m o. SendsInMemory sh o.sends) go m
   where
     go : (x : Heard sh e s) → SendsInMemory sh (heard x).sends
-    go (Hands_out k) = flushed-memory sh s.cache k i f
+    go (Hands_out k) = flushed-memory k i f
     go x = λ d l t o. heard-quiet (CopyOf l t) x (λ y. refl) (λ b. refl) d

@@ -6,7 +6,7 @@ use Names.{arith, refl, inl, inr, cases_eq, Program, Local, num, Lines, no_lines
 use Names.{Shape, home, lines, DirState, World, start, dir_start, sent_all, Out, core_exec, core_evict, from_dir, grant, Sends, nothing, to}
 use Names.{Answer, Waits, Drops, Asks, Takes, dir_deliver, invalidations, is_invalidated, invs_to, home_words, core_moves, core_takes}
 use Names.{dir_takes, step, IsUnknown, HomeOf, KeptHomes, LinesAway, NoWord, live, among, passes, Kept, Pair, pair, after_answer, out_taken}
-use Names.{nats, to_dir, to_core, FromCore, FromDir}
+use Names.{nats, to_dir, to_core, FromCore, FromDir, ◌≢◌}
 use proofs.Counts.DirOutcome.{Outcome, AsksOwner, TakesSkip, TakesAbort, TakesProbe, TakesLoad, TakesMark, TakesCommit, TakesAck, TakesCopy}
 use proofs.Counts.DirOutcome.{Wants, ToLoad, ToMark, outcome}
 use proofs.Counts.Links.{live-sends, live-takes, none-taken}
@@ -17,7 +17,7 @@ use proofs.Serving.KeptSteps.{core_of_out}
 
 -- what a directory knows is of lines at home there, and of cores that the machine has
 pub record LinesHome (sh : Shape) (d : ℕ) (ls : Lines) : Type 0 where
-  pub known : (l : ℕ) → (home sh l ≡ d → ⊥) → IsUnknown ls l
+  pub known : (l : ℕ) → home sh l ≢ d → IsUnknown ls l
   pub sharers : (l j : ℕ) → ls.sharers l j ≡ true → j < sh.cores
   pub owners : (l j : ℕ) → ls.owner l ≡ Some j → j < sh.cores
 
@@ -30,10 +30,10 @@ HomesBy sh d (Asks new sends) = Answers sh d new sends
 HomesBy sh d (Takes new sends) = Answers sh d new sends
 HomesBy sh d _ = Unit {0}
 
-quietly : (sh : Shape) (d : ℕ) (new : DirState) → LinesHome sh d new.lines → Answers sh d new nothing
-quietly sh d new h = record { lines = h; homely = λ j. homely-none sh d }
+quietly : {sh : Shape} {d : ℕ} {new : DirState} → LinesHome sh d new.lines → Answers sh d new nothing
+quietly {sh} {d} h = record { lines = h; homely = λ j. homely-none sh d }
 
-other : (sh : Shape) (d l x : ℕ) → home sh l ≡ d → (home sh x ≡ d → ⊥) → (x == l) ≡ false
+other : (sh : Shape) (d l x : ℕ) → home sh l ≡ d → home sh x ≢ d → (x == l) ≡ false
 other sh d l x e n = elim (cases_eq x l) [ inl q ↦ absurd (n (rw q e)) | inr q ↦ grind nats ]
 
 home-count : (sh : Shape) (d l : ℕ) → home sh l ≡ d → num (not ((l % sh.dirs) == d)) ≡ 0
@@ -64,11 +64,11 @@ one-inv sh d l m u e s = record {
 }
 
 -- a line that is at home elsewhere isn't marked
-unmarked-away : (sh : Shape) (d l : ℕ) (ls : Lines) → LinesHome sh d ls → (home sh l ≡ d → ⊥) → nat_lt 0 (ls.mark l) ≡ false
-unmarked-away sh d l ls h n = let u = (h.known l n).mark in rw u refl
+unmarked-away : {sh : Shape} {d : ℕ} (l : ℕ) {ls : Lines} → LinesHome sh d ls → home sh l ≢ d → nat_lt 0 (ls.mark l) ≡ false
+unmarked-away l h n = let u = (h.known l n).mark in rw u refl
 
 marked-here : (sh : Shape) (d l : ℕ) (ls : Lines) → LinesHome sh d ls → nat_lt 0 (ls.mark l) ≡ true → home sh l ≡ d
-marked-here sh d l ls h m = elim (cases_eq (home sh l) d) [ inl e ↦ e | inr n ↦ absurd (let z = unmarked-away sh d l ls h n in cc) ]
+marked-here sh d l ls h m = elim (cases_eq (home sh l) d) [ inl e ↦ e | inr n ↦ absurd (let z = unmarked-away l h n in cc) ]
 
 dir-homes : (sh : Shape) (d : ℕ) (s : DirState) (c : ℕ) (m : Msg) → c < sh.cores → passes (LinesAway sh.dirs d) m ≡ false
     → LinesHome sh d s.lines → HomesBy sh d (dir_deliver sh s c m)
@@ -98,9 +98,9 @@ dir-homes sh d s c m cl aw h = go (outcome sh s c m) aw
           };
       homely = λ j. one-to sh d o j (DataReq l) (one-data sh d l p);
     }
-    go (TakesSkip u b e i) a = quietly sh d _ h
+    go (TakesSkip u b e i) a = quietly h
     go (TakesAbort v b e i) a =
-        quietly sh d _ (record {
+        quietly (record {
           known = λ x n. let u = h.known x n in
               record { sharers = u.sharers; owner = u.owner; tag = u.tag; asked = u.asked; mark = grind (nats, u.mark) };
           sharers = h.sharers;
@@ -125,7 +125,7 @@ dir-homes sh d s c m cl aw h = go (outcome sh s c m) aw
       homely = λ j. one-to sh d c j (Fill l (home_words s l)) (one-fill sh d l (home_words s l) p);
     }
     go (TakesMark l k i) a = let p = at-home (home sh l) d a in
-        quietly sh d _ (record {
+        quietly (record {
           known = λ x n. let u = h.known x n in
               record { sharers = u.sharers; owner = u.owner; tag = u.tag; asked = u.asked; mark = rw (other sh d l x p n) u.mark };
           sharers = h.sharers;
@@ -133,7 +133,7 @@ dir-homes sh d s c m cl aw h = go (outcome sh s c m) aw
         })
     go (TakesCommit b e) a = record {
       lines = record {
-        known = λ x n. let z = unmarked-away sh d x s.lines h n in let u = h.known x n in
+        known = λ x n. let z = unmarked-away x h n in let u = h.known x n in
             record {
               sharers = λ j. rw z (u.sharers j);
               owner = rw z u.owner;
@@ -147,7 +147,7 @@ dir-homes sh d s c m cl aw h = go (outcome sh s c m) aw
       homely = λ j. homely-those sh d (λ l. Inv l (s.lines.mark l) s.serving.serving ∷ []) (is_invalidated sh s.lines c j) (lines sh)
           (λ l q. inv j l q);
     }
-    go (TakesAck l k b i e) a = quietly sh d _ (record {
+    go (TakesAck l k b i e) a = quietly (record {
       known = λ x n. let u = h.known x n in
           record {
             sharers = λ j. grind (nats, u.sharers j);
@@ -159,7 +159,7 @@ dir-homes sh d s c m cl aw h = go (outcome sh s c m) aw
       sharers = λ x j q. grind (nats, h.sharers x j);
       owners = h.owners;
     })
-    go (TakesCopy m l k ws g y e o) a = quietly sh d _ (record {
+    go (TakesCopy m l k ws g y e o) a = quietly (record {
       known = λ x n. let u = h.known x n in
           record {
             sharers = u.sharers;
@@ -178,9 +178,9 @@ lines-of : (sh : Shape) (d : ℕ) (v : Pair) → ((l : ℕ) → HomeOf sh d l v)
 lines-of sh d v h = record { known = λ l n. (h l).known n; sharers = λ l j o. (h l).sharers j o; owners = λ l j o. (h l).owners j o }
 
 -- the same of a pair with these lines and links
-home-of : (sh : Shape) (d : ℕ) (v : Pair) → LinesHome sh d v.dir.lines → live (LinesAway sh.dirs d) v.out ≡ 0
+home-of : {sh : Shape} {d : ℕ} (v : Pair) → LinesHome sh d v.dir.lines → live (LinesAway sh.dirs d) v.out ≡ 0
     → live (LinesAway sh.dirs d) v.back ≡ 0 → live NoWord v.out ≡ 0 → live NoWord v.back ≡ 0 → (l : ℕ) → HomeOf sh d l v
-home-of sh d v h a b e f l = record {
+home-of v h a b e f l = record {
   known = h.known l;
   sharers = h.sharers l;
   owners = h.owners l;
@@ -209,7 +209,7 @@ step-homes sh p w e z h = step_cases sh p w e (λ g o. KeptHomes sh o.world)
     }) h)
     (λ c d k m i. taken c d k m i (from_dir sh d (w.cores c) m) (homes-back sh d (w.cores c) m))
     (λ c d k m i. answered c d k m i (dir_deliver sh (w.dirs d) c m)
-    (dir-homes sh d (w.dirs d) c m (core_of_out sh w c d k m z.told.tids i) (passed c d k m i)
+    (dir-homes sh d (w.dirs d) c m (core_of_out c d k z.told.tids i) (passed c d k m i)
     (lines-of sh d (pair w c d) (h c d))))
     (λ c k i. pairs_vendor P w c k
     (λ d l. let q = h c d l in
@@ -240,11 +240,11 @@ step-homes sh p w e z h = step_cases sh p w e (λ g o. KeptHomes sh o.world)
     home-lines c d = lines-of sh d (pair w c d) (h c d)
 
     passed : (c d k : ℕ) (m : Msg) → FromCore w c d k m → passes (LinesAway sh.dirs d) m ≡ false
-    passed c d k m i = none-taken (LinesAway sh.dirs d) (to_dir w c d) k m i (h c d 0).out
+    passed c d k m i = none-taken (LinesAway sh.dirs d) (to_dir w c d) k i (h c d 0).out
 
     sent : (c d : ℕ) (o : Out) → HomelyOut sh o.sends → (l : ℕ)
         → HomeOf sh d l (record (pair w c d) { core = o.core; out = to_dir w c d ++ sent_all (o.sends (Dir d)) })
-    sent c d o a l = home-of sh d (record (pair w c d) { core = o.core; out = to_dir w c d ++ sent_all (o.sends (Dir d)) })
+    sent c d o a l = home-of (record (pair w c d) { core = o.core; out = to_dir w c d ++ sent_all (o.sends (Dir d)) })
         (home-lines c d)
         (omega (arith, (h c d l).out, (a d).away, live-sends (LinesAway sh.dirs d) (to_dir w c d) (o.sends (Dir d))))
         (h c d l).back
@@ -294,14 +294,14 @@ step-homes sh p w e z h = step_cases sh p w e (λ g o. KeptHomes sh o.world)
     replies : (j d : ℕ) (v : Pair) (s : DirState) (ms : List Msg) → ((l : ℕ) → HomeOf sh d l v) → live (LinesAway sh.dirs d) v.out ≡ 0
         → live NoWord v.out ≡ 0 → LinesHome sh d s.lines → Homely sh d ms → (l : ℕ) → HomeOf sh d l (after_answer v s ms)
     replies j d v s ms f a b n y l =
-        home-of sh d (after_answer v s ms) n a (omega (arith, (f l).back, y.away, live-sends (LinesAway sh.dirs d) v.back ms)) b
+        home-of (after_answer v s ms) n a (omega (arith, (f l).back, y.away, live-sends (LinesAway sh.dirs d) v.back ms)) b
         (omega (arith, (f l).some_back, y.words, live-sends NoWord v.back ms)) l
 
     keep : (c d k : ℕ) (m : Msg) (s : DirState) (sends : Sends) → FromCore w c d k m → Answers sh d s sends
         → KeptHomes sh (dir_takes w c d k s sends)
     keep c d k m s sends i u = pairs_dir P w c d k s sends
         (replies c d (out_taken (pair w c d) k) s (sends (Core c))
-        (λ l. home-of sh d (out_taken (pair w c d) k) (home-lines c d) (less l) (h c d l).back (fewer l) (h c d l).some_back l)
+        (λ l. home-of (out_taken (pair w c d) k) (home-lines c d) (less l) (h c d l).back (fewer l) (h c d l).some_back l)
         (less 0) (fewer 0) u.lines (u.homely c))
         (λ j n. replies j d (pair w j d) s (sends (Core j)) (h j d) (h j d 0).out (h j d 0).some_out u.lines (u.homely j)) h
       where

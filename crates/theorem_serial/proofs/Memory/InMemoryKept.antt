@@ -43,9 +43,9 @@ unfolding grant
 grant-memory sh u s k = go s.phase
   where
     go : (q : Phase) → OutInMemory sh (grant_in_phase sh u s q)
-    go AwaitTid = (same-memory sh s _ refl refl refl k, tt)
-    go DoomedTid = (same-memory sh s _ refl refl refl k, tt)
-    go (Overflowing None) = (same-memory sh s _ refl refl refl k, tt)
+    go AwaitTid = (same-memory _ refl refl refl k, tt)
+    go DoomedTid = (same-memory _ refl refl refl k, tt)
+    go (Overflowing None) = (same-memory _ refl refl refl k, tt)
     go _ = (k, tt)
 
 reply-memory : (sh : Shape) (d u : ℕ) (s : CoreState) → CoreInMemory sh s → OutInMemory sh (probe_reply sh d u s)
@@ -53,12 +53,12 @@ unfolding probe_reply read_cleared
 reply-memory sh d u s k = go s.phase
   where
     ready : (b : Bool) → CoreInMemory sh (if b then record (replied d s) { phase = Ready u } else replied d s)
-    ready true = same-memory sh s _ refl refl refl k
-    ready false = same-memory sh s _ refl refl refl k
+    ready true = same-memory _ refl refl refl k
+    ready false = same-memory _ refl refl refl k
 
     alone : (b : Bool) → CoreInMemory sh (if b then record (replied d s) { phase = Solo u; cache = read_cleared s.cache } else replied d s)
-    alone true = same-memory sh s _ refl refl refl k
-    alone false = same-memory sh s _ refl refl refl k
+    alone true = same-memory _ refl refl refl k
+    alone false = same-memory _ refl refl refl k
 
     probed : (a : Bool)
         → OutInMemory sh (if a then moves (ready_once_replied sh u (replied d s)) (to (Dir d) (marks_for sh s.cache u d)) else ignored s)
@@ -80,8 +80,8 @@ unfolding fill filled
 fill-memory sh l ws s k = elim s.awaited as (λ a. OutInMemory sh (fill_awaited l ws s a)) [ None ↦ (k, tt) | Some a ↦ one a (a.line == l) ]
   where
     words : (b : Bool) → CoreInMemory sh (record s { cache = (if b then s.cache else filled l ws s.cache); awaited = None })
-    words true = same-memory sh s _ refl refl refl k
-    words false = same-memory sh s _ refl refl refl k
+    words true = same-memory _ refl refl refl k
+    words false = same-memory _ refl refl refl k
 
     one : (a : Awaited) (b : Bool)
         → OutInMemory sh (if b then moves (record s { cache = (if a.stale then s.cache else filled l ws s.cache); awaited = None }) nothing
@@ -91,7 +91,7 @@ fill-memory sh l ws s k = elim s.awaited as (λ a. OutInMemory sh (fill_awaited 
 
 data-memory : (sh : Shape) (l : ℕ) (s : CoreState) → CoreInMemory sh s → OutInMemory sh (data_request sh l s)
 unfolding data_request cleaned
-data-memory sh l s k = (same-memory sh s _ refl refl refl k, tt)
+data-memory sh l s k = (same-memory _ refl refl refl k, tt)
 
 -- a core that rolls back keeps its frames, and its attempt is empty
 invalidate-memory : (sh : Shape) (l m u : ℕ) (s : CoreState) → CoreInMemory sh s → OutInMemory sh (invalidate sh l m u s)
@@ -102,7 +102,7 @@ invalidate-memory sh l m u s k = go (is_violated l m u s) s.phase
     r = words_invalidated l m s
 
     same : CoreInMemory sh r
-    same = same-memory sh s r refl refl refl k
+    same = same-memory r refl refl refl k
 
     begun : CoreInMemory sh (roll_back r)
     begun = record { frames = k.frames; accesses = nothing-used sh }
@@ -110,12 +110,12 @@ invalidate-memory sh l m u s k = go (is_violated l m u s) s.phase
     go : (b : Bool) (q : Phase) → OutInMemory sh (if b then violated_in_phase sh r q else ignored r)
     go false q = (same, tt)
     go true Running = (begun, tt)
-    go true AwaitTid = (same-memory sh (roll_back r) _ refl refl refl begun, tt)
-    go true (Overflowing None) = (same-memory sh (roll_back r) _ refl refl refl begun, tt)
-    go true (Overflowing (Some t)) = (same-memory sh (roll_back r) _ refl refl refl begun, tt)
-    go true (Probing t) = (same-memory sh (roll_back r) _ refl refl refl begun, tt)
-    go true (Ready t) = (same-memory sh (roll_back r) _ refl refl refl begun, tt)
-    go true (Solo t) = (same-memory sh (roll_back r) _ refl refl refl begun, tt)
+    go true AwaitTid = (same-memory _ refl refl refl begun, tt)
+    go true (Overflowing None) = (same-memory _ refl refl refl begun, tt)
+    go true (Overflowing (Some t)) = (same-memory _ refl refl refl begun, tt)
+    go true (Probing t) = (same-memory _ refl refl refl begun, tt)
+    go true (Ready t) = (same-memory _ refl refl refl begun, tt)
+    go true (Solo t) = (same-memory _ refl refl refl begun, tt)
     go true DoomedTid = (same, tt)
     go true Halted = (same, tt)
 

@@ -7,7 +7,7 @@ use Names.{writes_at, reads_at, CoreState, Phase, Running, AwaitTid, DoomedTid, 
 use Names.{committed_core, phase_after_commit, core_exec, core_evict, grant, grant_in_phase, from_dir, probing_or_ready, is_probed}
 use Names.{probe_reply, all_replied, fill, data_request, invalidate, RepliesAbove, passes, tid_of, asks_dir, may_commit, Reached}
 use Names.{solo_commit, nats, ◌+◌, List, [], ◌∷◌, arith, word_of, num, line_of, Dir, LoadReq, home, Awaited, nothing, moves, is_awaited}
-use Names.{staled, LoadOf, FillOf, among}
+use Names.{staled, LoadOf, FillOf, among, ◌≢◌, tested, inl, inr}
 use proofs.OneCore.CoreSteps.{Steady, did-steady, reads_at-same, fill-steady, data-steady, Hurt, Unhurt, Rolled, Doomed, Aborted, Gave_up}
 use proofs.OneCore.CoreSteps.{Invalidated, invalidate-cases, Replied, Ignored, Probed, Left_alone, reply-cases, steady-emptied}
 use proofs.OneCore.Outcomes.{Acts, Commits_now, Did, each-exec, out, each-evict, emptied, writes_at-same, Ends_alone, Ends_run, Room_wanted}
@@ -19,18 +19,18 @@ use proofs.OneCore.Said.{Empties, Requests, Silent, quiet, say}
 -- What a core's rules do to what it knows of the directories that it asked.
 
 -- a core in this phase asks none
-pub none-asked : (sh : Shape) (d x : ℕ) (s : CoreState) (q : Phase) → s.phase ≡ q → ((b : Bool) → asks_dir q b ≡ false)
+pub none-asked : {sh : Shape} {d x : ℕ} {s : CoreState} (q : Phase) → s.phase ≡ q → ((b : Bool) → asks_dir q b ≡ false)
     → may_commit q ≡ false → Reached sh d x s
-none-asked sh d x s q e a m = record {
+none-asked {sh} {d} {s} q e a m = record {
   reached = λ l h o. let n : asks_dir s.phase (writes_at sh s.cache d || reads_at sh s.cache d) ≡ false = rw e (a _) in absurd (cc);
   replied = λ l h. let n : may_commit s.phase ≡ false = rw e m in absurd (cc);
 }
 
 -- the same phase, the same replies and the same directories
-same-asked : (sh : Shape) (d x : ℕ) (s r : CoreState) → r.phase ≡ s.phase → r.owing ≡ s.owing
+same-asked : {sh : Shape} {d x : ℕ} {s r : CoreState} → r.phase ≡ s.phase → r.owing ≡ s.owing
     → asks_dir s.phase (writes_at sh r.cache d || reads_at sh r.cache d) ≡ asks_dir s.phase
     (writes_at sh s.cache d || reads_at sh s.cache d) → Reached sh d x s → Reached sh d x r
-same-asked sh d x s r e f g h = record {
+same-asked e f g h = record {
   reached = λ l a o. rw e (h.reached l (sym g ∙ (rw e at a)) (rw f at o));
   replied = λ l m. rw f (h.replied l (rw e at m));
 }
@@ -38,33 +38,34 @@ same-asked sh d x s r e f g h = record {
 acts-asked : (q : Phase) (a b : Bool) → ((Acts q → ⊥) → a ≡ b) → asks_dir q a ≡ asks_dir q b
 acts-asked d a b h = grind nats
 
-asked-steady : (sh : Shape) (d x : ℕ) (s : CoreState) (o : Out) → Steady s o → Reached sh d x s → Reached sh d x o.core
-asked-steady sh d x s o y h = same-asked sh d x s o.core y.phase y.owing
+asked-steady : {sh : Shape} {d x : ℕ} {s : CoreState} {o : Out} → Steady s o → Reached sh d x s → Reached sh d x o.core
+asked-steady {sh} {d} {x} {s} {o} y h = same-asked y.phase y.owing
     (acts-asked s.phase _ _ (λ n. ap₂ (λ a b. a || b) (writes_at-same sh o.core.cache s.cache d (y.modified n))
     (reads_at-same sh o.core.cache s.cache d (y.read n)))) h
 
 asked-after : (sh : Shape) (d x : ℕ) (r : CoreState) (e : Outcome) → r.phase ≡ phase_after_commit e → Reached sh d x r
-asked-after sh d x r (HaltedWith k) q = none-asked sh d x r Halted q (λ b. refl) refl
-asked-after sh d x r (TrappedWith k) q = none-asked sh d x r Halted q (λ b. refl) refl
-asked-after sh d x r _ q = none-asked sh d x r Running q (λ b. refl) refl
+asked-after sh d x r (HaltedWith k) q = none-asked Halted q (λ b. refl) refl
+asked-after sh d x r (TrappedWith k) q = none-asked Halted q (λ b. refl) refl
+asked-after sh d x r _ q = none-asked Running q (λ b. refl) refl
 
 abbrev pub StaysReached : Shape → (dir serving : ℕ) → CoreState → Option Out → Type 0
 StaysReached sh d x s y = IfSome y (λ o. Reached sh d x o.core)
 
-pub asked-exec : (sh : Shape) (p : Program) (c d x : ℕ) (s : CoreState) → Reached sh d x s → StaysReached sh d x s (core_exec sh p c s)
+pub asked-exec : {sh : Shape} (p : Program) (c d : ℕ) {x : ℕ} {s : CoreState} → Reached sh d x s
+    → StaysReached sh d x s (core_exec sh p c s)
 unfolding commit solo_commit committed_core
-asked-exec sh p c d x s h = each-exec sh p c s (λ o. Reached sh d x o.core) go
+asked-exec {sh} p c d {x} {s} h = each-exec sh p c s (λ o. Reached sh d x o.core) go
   where
     go : (y : Did sh p c s) → Reached sh d x (out y).core
     go (Commits_now u e) = asked-after sh d x _ s.ended refl
-    go (Room_wanted r i) = none-asked sh d x _ (Overflowing None) refl (λ b. refl) refl
-    go (Ends_run l e f r i) = none-asked sh d x _ AwaitTid refl (λ b. refl) refl
+    go (Room_wanted r i) = none-asked (Overflowing None) refl (λ b. refl) refl
+    go (Ends_run l e f r i) = none-asked AwaitTid refl (λ b. refl) refl
     go (Ends_alone u l e f r i) = asked-after sh d x _ e refl
-    go y = asked-steady sh d x s (out y) (did-steady y) h
+    go y = asked-steady (did-steady y) h
 
-pub asked-evict : (sh : Shape) (x' y d x : ℕ) (s : CoreState) → Reached sh d x s → StaysReached sh d x s (core_evict sh x' y s)
-asked-evict sh x' y d x s h = each-evict sh x' y s (λ o. Reached sh d x o.core)
-    (λ k q u z. asked-steady sh d x s (emptied sh x' y k s) (steady-emptied sh x' y s k q u z) h)
+pub asked-evict : {sh : Shape} (x' y d : ℕ) {x : ℕ} {s : CoreState} → Reached sh d x s → StaysReached sh d x s (core_evict sh x' y s)
+asked-evict {sh} x' y d {x} {s} h = each-evict sh x' y s (λ o. Reached sh d x o.core)
+    (λ k q u z. asked-steady (steady-emptied sh x' y s k q u z) h)
 
 probed-owes : (sh : Shape) (c : Cache) (d : ℕ) → d < sh.dirs → (writes_at sh c d || reads_at sh c d) ≡ true → is_probed sh c d ≡ false → ⊥
 unfolding is_probed
@@ -76,15 +77,11 @@ probed-owes sh c d l a o = go (nat_lt d sh.dirs) (grind nats) o
 
 -- where a test holds of none below, it doesn't hold of one
 pub none-below : (p : ℕ → Bool) (n k : ℕ) → k < n → any_below p n ≡ false → p k ≡ false
-none-below p n k l q = go (p k) refl
-  where
-    go : (b : Bool) → p k ≡ b → p k ≡ false
-    go false e = e
-    go true e = let a : any_below p n ≡ true = any_below-at p n k l e in absurd (cc)
+none-below p n k l q = elim (tested (p k)) [ inr e ↦ e | inl e ↦ let a : any_below p n ≡ true = any_below-at p n k l e in absurd (cc) ]
 
-pub asked-grant : (sh : Shape) (u d x : ℕ) (s : CoreState) → Reached sh d x s → Reached sh d x (grant sh u s).core
+pub asked-grant : {sh : Shape} (u d : ℕ) {x : ℕ} {s : CoreState} → Reached sh d x s → Reached sh d x (grant sh u s).core
 unfolding grant
-asked-grant sh u d x s h = go s.phase
+asked-grant {sh} u d {x} {s} h = go s.phase
   where
     owes : d < sh.dirs → (writes_at sh s.cache d || reads_at sh s.cache d) ≡ true → is_probed sh s.cache d ≡ false → ⊥
     owes l a o = probed-owes sh s.cache d l a o
@@ -96,12 +93,12 @@ asked-grant sh u d x s h = go s.phase
 
     go : (q : Phase) → Reached sh d x (grant_in_phase sh u s q).core
     go AwaitTid = probed (any_below (is_probed sh s.cache) sh.dirs) refl
-    go DoomedTid = none-asked sh d x _ Running refl (λ b. refl) refl
+    go DoomedTid = none-asked Running refl (λ b. refl) refl
     go (Overflowing None) = record { reached = λ l a o. absurd (grind nats); replied = λ l m. absurd (cc) }
     go _ = h
 
 -- a reply of a directory that has reached the TID
-put-away : (f : ℕ → Bool) (e d : ℕ) (x : Bool) → (d ≡ e → ⊥) → put f e x d ≡ f d
+put-away : (f : ℕ → Bool) (e d : ℕ) (x : Bool) → d ≢ e → put f e x d ≡ f d
 put-away f e d x q = let b : (d == e) ≡ false = grind nats in rw b refl
 
 pub all-replied : (sh : Shape) (f : ℕ → Bool) (d : ℕ) → d < sh.dirs → all_replied sh f ≡ true → f d ≡ false
@@ -120,7 +117,18 @@ one_replied : (sh : Shape) (e d x u : ℕ) (s r : CoreState) (go wait : Phase) �
     → (asks_dir wait (writes_at sh r.cache d || reads_at sh r.cache d) ≡ true
     → asks_dir s.phase (writes_at sh s.cache d || reads_at sh s.cache d) ≡ true)
     → Reached sh d x s → Reached sh d x r
-one_replied sh e d x u s r go wait f ph ow tg tw ts mw ag aw h = by (all_replied sh (put s.owing e false)) refl
+one_replied sh e d x u s r go wait f ph ow tg tw ts mw ag aw h = elim (tested (all_replied sh (put s.owing e false))) [
+  | inl q ↦ let p : r.phase ≡ go = rw q at ph in
+      record {
+        reached = λ l k o. rw p (low go tg ag l (rw p at k) (rw ow at o));
+        replied = λ l m. rw ow (all-replied sh (put s.owing e false) d l q);
+      }
+  | inr q ↦ let p : r.phase ≡ wait = rw q at ph in
+      record {
+        reached = λ l k o. rw p (low wait tw aw l (rw p at k) (rw ow at o));
+        replied = λ l m. let n : may_commit r.phase ≡ false = rw p mw in absurd (cc);
+      }
+]
   where
     low : (q : Phase) → tid_of q ≡ u
         → (asks_dir q (writes_at sh r.cache d || reads_at sh r.cache d) ≡ true
@@ -128,40 +136,26 @@ one_replied sh e d x u s r go wait f ph ow tg tw ts mw ag aw h = by (all_replied
         → asks_dir q (writes_at sh r.cache d || reads_at sh r.cache d) ≡ true → put s.owing e false d ≡ false → tid_of q ≤ x
     low q t a l k o = grind nats
 
-    by : (b : Bool) → all_replied sh (put s.owing e false) ≡ b → Reached sh d x r
-    by true q =
-        let p : r.phase ≡ go = rw q at ph in
-        record {
-          reached = λ l k o. rw p (low go tg ag l (rw p at k) (rw ow at o));
-          replied = λ l m. rw ow (all-replied sh (put s.owing e false) d l q);
-        }
-    by false q =
-        let p : r.phase ≡ wait = rw q at ph in
-        record {
-          reached = λ l k o. rw p (low wait tw aw l (rw p at k) (rw ow at o));
-          replied = λ l m. let n : may_commit r.phase ≡ false = rw p mw in absurd (cc);
-        }
-
-asked-replied : (sh : Shape) (e u d x : ℕ) (s : CoreState) (o : Out) → (d ≡ e → u ≤ x) → Replied sh e u s o → Reached sh d x s
+asked-replied : {sh : Shape} (e u d x : ℕ) (s : CoreState) {o : Out} → (d ≡ e → u ≤ x) → Replied sh e u s o → Reached sh d x s
     → Reached sh d x o.core
-asked-replied sh e u d x s o f (Ignored q n) h = rw q h
-asked-replied sh e u d x s o f (Probed g w ph ow ca se cm) h = one_replied sh e d x u s o.core (Ready u) (Probing u) f ph ow refl refl
+asked-replied e u d x s f (Ignored q n) h = rw q h
+asked-replied {sh} e u d x s {o} f (Probed g w ph ow ca se cm) h = one_replied sh e d x u s o.core (Ready u) (Probing u) f ph ow refl refl
     (rw g refl) refl (λ k. rw g (rw ca at k)) (λ k. rw g (rw ca at k)) h
-asked-replied sh e u d x s o f (Left_alone g w ph ow mo se cm) h =
+asked-replied {sh} e u d x s {o} f (Left_alone g w ph ow mo se cm) h =
     one_replied sh e d x u s o.core (Solo u) (Overflowing (Some u)) f ph ow refl refl (rw g refl) refl (λ k. rw g refl) (λ k. rw g refl) h
 
-asked-hurt : (sh : Shape) (l d x : ℕ) (s : CoreState) (o : Out) → Invalidated sh l s o → Reached sh d x s → Reached sh d x o.core
-asked-hurt sh l d x s o i h = go i.hurt
+asked-hurt : {sh : Shape} {l : ℕ} (d x : ℕ) (s : CoreState) {o : Out} → Invalidated sh l s o → Reached sh d x s → Reached sh d x o.core
+asked-hurt {sh} d x s {o} i h = go i.hurt
   where
     go : Hurt sh s o.core i.sends → Reached sh d x o.core
     go (Unhurt ph ow mo re se) =
-        same-asked sh d x s o.core ph ow
+        same-asked ph ow
         (acts-asked s.phase _ _ (λ n. ap₂ (λ a b. a || b) (writes_at-same sh o.core.cache s.cache d mo)
         (reads_at-same sh o.core.cache s.cache d re))) h
-    go (Rolled ph ph' ow se) = none-asked sh d x o.core Running ph' (λ b. refl) refl
-    go (Doomed ph ph' ow se) = none-asked sh d x o.core DoomedTid ph' (λ b. refl) refl
-    go (Aborted u ph ph' ow se) = none-asked sh d x o.core Running ph' (λ b. refl) refl
-    go (Gave_up u ph ph' ow se) = none-asked sh d x o.core Running ph' (λ b. refl) refl
+    go (Rolled ph ph' ow se) = none-asked Running ph' (λ b. refl) refl
+    go (Doomed ph ph' ow se) = none-asked DoomedTid ph' (λ b. refl) refl
+    go (Aborted u ph ph' ow se) = none-asked Running ph' (λ b. refl) refl
+    go (Gave_up u ph ph' ow se) = none-asked Running ph' (λ b. refl) refl
 
 -- x is what directory d serves; a reply of e is of a TID that e has reached
 pub asked-back : (sh : Shape) (e d x : ℕ) (s : CoreState) (m : Msg) → (d ≡ e → passes (RepliesAbove x) m ≡ false) → Reached sh d x s
@@ -169,10 +163,10 @@ pub asked-back : (sh : Shape) (e d x : ℕ) (s : CoreState) (m : Msg) → (d ≡
 unfolding passes
 asked-back sh e d x s (ProbeReply u v) f h =
     let low : nat_lt x u ≡ false → u ≤ x = λ k. grind nats in
-    asked-replied sh e u d x s (probe_reply sh e u s) (λ q. low (f q)) (reply-cases sh e u s) h
-asked-back sh e d x s (Fill l ws) f h = asked-steady sh d x s (fill l ws s) (fill-steady l ws s) h
-asked-back sh e d x s (DataReq l) f h = asked-steady sh d x s (data_request sh l s) (data-steady sh l s) h
-asked-back sh e d x s (Inv l m u) f h = asked-hurt sh l d x s (invalidate sh l m u s) (invalidate-cases sh l m u s) h
+    asked-replied e u d x s (λ q. low (f q)) (reply-cases sh e u s) h
+asked-back sh e d x s (Fill l ws) f h = asked-steady (fill-steady l ws s) h
+asked-back sh e d x s (DataReq l) f h = asked-steady (data-steady sh l s) h
+asked-back sh e d x s (Inv l m u) f h = asked-hurt d x s (invalidate-cases sh l m u s) h
 asked-back sh e d x s _ f h = tt
 
 -- What a core's step does to its load requests and to the line that it awaits.

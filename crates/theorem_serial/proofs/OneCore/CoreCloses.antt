@@ -75,16 +75,16 @@ pub data Leaves (sh : Shape) (p : Program) (c : ℕ) (s : CoreState) (o : Out) :
   Closes : (t : ℕ) (r : CoreState) → Closing sh p c t s r o → Leaves sh p c s o
 
 -- an attempt that ends
-next-gives : (p : Program) (base : ℕ) (s : CoreState) (ram : ℕ → ℕ) (a : Attempt) (need : Need) → IsEnd need → Reaches s ram a
+next-gives : (p : Program) (base : ℕ) {s : CoreState} {ram : ℕ → ℕ} {a : Attempt} (need : Need) → IsEnd need → Reaches s ram a
     → s.ended ≡ Goes → p.need s.local ≡ need → IsSomeAnd (when_going base p a a.outcome) (Gives (finished p need 0 s))
 unfolding finished one_more_instruction plain_step
-next-gives p base s ram a Ends i k e n =
+next-gives p base Ends i k e n =
     rw (k.outcome, e, k.local, n) (record { local = refl; loads = k.loads; stores = k.stores; console = k.console; outcome = refl })
-next-gives p base s ram a (Halts x) i k e n =
+next-gives p base (Halts x) i k e n =
     rw (k.outcome, e, k.local, n) (record { local = refl; loads = k.loads; stores = k.stores; console = k.console; outcome = refl })
-next-gives p base s ram a (Traps x) i k e n =
+next-gives p base (Traps x) i k e n =
     rw (k.outcome, e, k.local, n) (record { local = refl; loads = k.loads; stores = k.stores; console = k.console; outcome = refl })
-next-gives p base s ram a _ i k e n = absurd i
+next-gives p base _ i k e n = absurd i
 
 last-gives : (sh : Shape) (p : Program) (s : CoreState) (us : Uses) (need : Need) (t : ℕ) → IsEnd need → s.phase ≡ Solo t
     → p.need s.local ≡ need → Follows sh p s us → (ram : ℕ → ℕ) → IsSmall ram → Agrees us ram
@@ -99,7 +99,7 @@ last-gives sh p s us need t i ph n f ram sm ag =
 
     go : (x : Option Attempt) → IsSomeAnd x (Reaches s ram) → IsSomeAnd (then_step sh.base p x) (Gives (finished p need 0 s))
     go None h = h
-    go (Some a) h = next-gives p sh.base s ram a need i h goes n
+    go (Some a) h = next-gives p sh.base need i h goes n
 
 ended-ends : (p : Program) (s : CoreState) (need : Need) → IsEnd need → HasEnded (finished p need 0 s).ended
 unfolding finished one_more_instruction

@@ -9,7 +9,7 @@ use Names.{inl, inr, Program, word_of, line_of, Shape, Cache, marked, stored, pl
 use Names.{read-placed, CoreState, Phase, Running, commit, committed_core, solo_commit, core_exec, core_evict, has_tid, nats, home_of, put}
 use Names.{filled, cleaned, invalidated, OneCore, ◌≤◌, ◌&&◌, List, unwrap_or, get_or, place_of, hit, Msg, Inv, home, rolled_back}
 use Names.{read_cleared, AwaitTid, DoomedTid, Probing, Ready, Overflowing, Solo, grant, is_violated, may_be_above, words_invalidated}
-use Names.{from_dir, hit-reads, [], ◌∷◌, ◌++◌, Load, load_of, is_marked, is_running, is_solo, loads_word, LoadsMarked}
+use Names.{from_dir, hit-reads, [], ◌∷◌, ◌++◌, Load, load_of, is_marked, is_running, is_solo, loads_word, LoadsMarked, tested}
 use proofs.OneCore.Outcomes.{Commits_now, Did, Ends_alone, Ends_run, Frames, Frames_anew, Misses_anew, Reads, Room_wanted, each-evict}
 use proofs.OneCore.Outcomes.{each-exec, out, Last_probing, Last_room, Fills, Given, Given_doomed, Given_none, Given_room, Granted}
 use proofs.OneCore.Outcomes.{Hands_out, Heard, Hurt_alone, Hurt_probing, Hurt_running, Hurt_waiting, Hurt_none, each-back, each-grant}
@@ -37,9 +37,9 @@ ValidOrPassed y q n = (is_some y ≡ true) ⊎ ((t : ℕ) × (has_tid q t ≡ tr
 abbrev pub ReadOf : Shape → (dir serving : ℕ) → CoreState → Type 0
 ReadOf sh d n s = (x : ℕ) → home_of sh x ≡ d → s.cache.read x ≡ true → ValidOrPassed (s.cache.value x) s.phase n
 
-pub read-kept : (sh : Shape) (d n : ℕ) (s r : CoreState) → Reading s r → ReadOf sh d n s → ReadOf sh d n r
-read-kept sh d n s r (Cleared h) k x e y = absurd (let z = h x in cc)
-read-kept sh d n s r (Kept tid words) k x e y = elim (words x y) [ inl z ↦ inl z | inr z ↦ before z.1 (k x e z.0) ]
+pub read-kept : (sh : Shape) (d n : ℕ) {s r : CoreState} → Reading s r → ReadOf sh d n s → ReadOf sh d n r
+read-kept sh d n (Cleared h) k x e y = absurd (let z = h x in cc)
+read-kept sh d n {s} {r} (Kept tid words) k x e y = elim (words x y) [ inl z ↦ inl z | inr z ↦ before z.1 (k x e z.0) ]
   where
     before : r.cache.value x ≡ s.cache.value x → ValidOrPassed (s.cache.value x) s.phase n → ValidOrPassed (r.cache.value x) r.phase n
     before v (inl z) = inl (rw v z)
@@ -53,14 +53,14 @@ pub as-before : (s r : CoreState) → r.phase ≡ s.phase → ((x : ℕ) → Sti
 as-before s r p h = Kept (λ t e. rw p e) h
 
 -- the phase changes, and the core keeps the TID that it has in q
-pub tid-kept : (s r : CoreState) (q : Phase) → s.phase ≡ q → ((t : ℕ) → has_tid q t ≡ true → has_tid r.phase t ≡ true)
+pub tid-kept : (s r : CoreState) {q : Phase} → s.phase ≡ q → ((t : ℕ) → has_tid q t ≡ true → has_tid r.phase t ≡ true)
     → ((x : ℕ) → StillRead s.cache r.cache x) → Reading s r
-tid-kept s r q e n h = Kept (λ t y. n t (rw e at y)) h
+tid-kept s r e n h = Kept (λ t y. n t (rw e at y)) h
 
 -- a core without a TID enters another phase
-pub no-tid : (s r : CoreState) (q : Phase) → s.phase ≡ q → ((t : ℕ) → has_tid q t ≡ false) → ((x : ℕ) → StillRead s.cache r.cache x)
+pub no-tid : {s r : CoreState} {q : Phase} → s.phase ≡ q → ((t : ℕ) → has_tid q t ≡ false) → ((x : ℕ) → StillRead s.cache r.cache x)
     → Reading s r
-no-tid s r q e n h = tid-kept s r q e (λ t y. absurd (let z = n t in cc)) h
+no-tid {s} {r} {q} e n h = tid-kept s r e (λ t y. absurd (let z = n t in cc)) h
 
 -- what the changes of a cache do
 reads-marked : (w x v : ℕ) (c : Cache) → c.value w ≡ Some x → StillRead c (marked w c) v
@@ -109,8 +109,8 @@ reading-exec sh p c s = each-exec sh p c s (λ o. Reading s o.core) go
         (stored (w a) y false (placed sh (line_of (w a)) s.cache)) v (reads-placed sh (line_of (w a)) v s.cache)
         (reads-stored (w a) y v false (placed sh (line_of (w a)) s.cache)))
     go (Misses_anew a n g i q f) = as-before s _ refl (λ v. reads-placed sh (line_of (w a)) v s.cache)
-    go (Room_wanted r i) = no-tid s _ Running r (λ t. refl) (reads-same s.cache)
-    go (Ends_run l e f r i) = no-tid s _ Running r (λ t. refl) (reads-same s.cache)
+    go (Room_wanted r i) = no-tid r (λ t. refl) (reads-same s.cache)
+    go (Ends_run l e f r i) = no-tid r (λ t. refl) (reads-same s.cache)
     go (Ends_alone t l e f r i) = Cleared (λ v. refl)
     go (Commits_now t r) = Cleared (λ v. refl)
     go _ = as-before s _ refl (reads-same s.cache)
@@ -135,9 +135,9 @@ unfolding has_tid
 reading-grant sh u s = each-grant sh u s (λ o. Reading s o.core) go
   where
     go : (x : Granted sh u s) → Reading s (granted x).core
-    go (Given e) = no-tid s _ AwaitTid e (λ t. refl) (reads-same s.cache)
-    go (Given_doomed e) = no-tid s _ DoomedTid e (λ t. refl) (reads-same s.cache)
-    go (Given_room e) = no-tid s _ (Overflowing None) e (λ t. refl) (reads-same s.cache)
+    go (Given e) = no-tid e (λ t. refl) (reads-same s.cache)
+    go (Given_doomed e) = no-tid e (λ t. refl) (reads-same s.cache)
+    go (Given_room e) = no-tid e (λ t. refl) (reads-same s.cache)
     go (Given_none e) = as-before s _ refl (reads-same s.cache)
 
 reads-filled : (l v : ℕ) (ws : List ℕ) (c : Cache) → StillRead c (filled l ws c) v
@@ -188,18 +188,18 @@ abbrev pub Admits : Shape → CoreState → (dir serving : ℕ) → Msg → Type
 Admits sh s d n (Inv l m u) = PassesTid sh s d n l u
 Admits sh s d n _ = Unit {0}
 
-pub reads-back : (sh : Shape) (e d n : ℕ) (s : CoreState) (m : Msg) → OneCore sh s → Admits sh s d n m → ReadOf sh d n s
+pub reads-back : {sh : Shape} (e d n : ℕ) {s : CoreState} (m : Msg) → OneCore sh s → Admits sh s d n m → ReadOf sh d n s
     → IfSome (from_dir sh e s m) (λ o. ReadOf sh d n o.core)
 unfolding words_invalidated invalidated cleaned rolled_back read_cleared has_tid
-reads-back sh e d n s m h p k = given (from_dir sh e s m) (Admits sh s d n m) (λ o. ReadOf sh d n o.core)
+reads-back {sh} e d n {s} m h p k = given (from_dir sh e s m) (Admits sh s d n m) (λ o. ReadOf sh d n o.core)
     (each-back sh e s (λ m o. Admits sh s d n m → ReadOf sh d n o.core) go m) p
   where
     kept : (r : CoreState) → Reading s r → ReadOf sh d n r
-    kept r y = read-kept sh d n s r y k
+    kept r y = read-kept sh d n y k
 
     go : (x : Heard sh e s) → Admits sh s d n (message x) → ReadOf sh d n (heard x).core
     go (Last_probing u v q o r) p = kept (record s { owing = put s.owing e false; phase = Ready u })
-        (tid-kept s _ (Probing u) q (λ t z. z) (reads-same s.cache))
+        (tid-kept s _ q (λ t z. z) (reads-same s.cache))
     go (Last_room u v q o r) p = λ x f y. absurd (cc)
     go (Fills l ws a q i f) p = kept (record s { cache = filled l ws s.cache; awaited = None })
         (as-before s _ refl (λ v. reads-filled l v ws s.cache))
@@ -226,11 +226,11 @@ pub data Loading (sh : Shape) (s r : CoreState) : Type 0 where
       → ((w : ℕ) → loads_word sh.base r.loads w ≡ true → (loads_word sh.base s.loads w ≡ true) ⊎ (touched r.cache w ≡ true))
       → ((w : ℕ) → touched s.cache w ≡ true → touched r.cache w ≡ true) → Loading sh s r
 
-pub loads-marked : (sh : Shape) (s r : CoreState) → LoadsMarked sh s → Loading sh s r → LoadsMarked sh r
+pub loads-marked : {sh : Shape} {s r : CoreState} → LoadsMarked sh s → Loading sh s r → LoadsMarked sh r
 unfolding loads_word
-loads-marked sh s r h (Empty e) = λ w a l. absurd (let z : false ≡ true = rw e at l in cc)
-loads-marked sh s r h (Alone_now e) = λ w a l. absurd (cc)
-loads-marked sh s r h (Loaded b more marks) = λ w a l. go w (more w l)
+loads-marked h (Empty e) = λ w a l. absurd (let z : false ≡ true = rw e at l in cc)
+loads-marked h (Alone_now e) = λ w a l. absurd (cc)
+loads-marked {sh} {s} {r} h (Loaded b more marks) = λ w a l. go w (more w l)
   where
     go : (w : ℕ) → (loads_word sh.base s.loads w ≡ true) ⊎ (touched r.cache w ≡ true) → touched r.cache w ≡ true
     go w a = grind nats
@@ -241,13 +241,9 @@ pub kept : (sh : Shape) (s r : CoreState) → is_solo s.phase ≡ false → r.lo
 kept sh s r b e m = Loaded b (λ w l. inl (rw e at l)) m
 
 -- where a core that isn't alone keeps its marks, and else stays alone
-pub either-way : (sh : Shape) (s r : CoreState) → r.phase ≡ s.phase → r.loads ≡ s.loads
+pub either-way : {sh : Shape} {s r : CoreState} → r.phase ≡ s.phase → r.loads ≡ s.loads
     → ((w : ℕ) → touched s.cache w ≡ true → touched r.cache w ≡ true) → Loading sh s r
-either-way sh s r p e m = go (is_solo s.phase) refl
-  where
-    go : (b : Bool) → is_solo s.phase ≡ b → Loading sh s r
-    go true q = Alone_now (rw p q)
-    go false q = kept sh s r q e m
+either-way {sh} {s} {r} p e m = elim (tested (is_solo s.phase)) [ inl q ↦ Alone_now (rw p q) | inr q ↦ kept sh s r q e m ]
 
 -- one more load, of a word that is marked now
 one-more : (sh : Shape) (s r : CoreState) (m : Load) → is_solo s.phase ≡ false → r.loads ≡ s.loads ++ m ∷ []
@@ -288,13 +284,13 @@ acts-alone : (q : Phase) → Acts q → is_running q ≡ false → is_solo q ≡
 acts-alone b a e = grind nats
 
 -- a spilled word is one of a core that is alone
-spilled-solo : (sh : Shape) (s : CoreState) (v : ℕ) → OneCore sh s → is_some (s.spilled v) ≡ true → is_solo s.phase ≡ true
-spilled-solo sh s v h e = grind nats
+spilled-solo : {sh : Shape} {s : CoreState} (v : ℕ) → OneCore sh s → is_some (s.spilled v) ≡ true → is_solo s.phase ≡ true
+spilled-solo v h e = grind nats
 
 -- the word is stored, and loaded before where the instruction changes it
-storing : (sh : Shape) (s r : CoreState) (a : ℕ) (k : Storing s a) → r.phase ≡ s.phase → r.loads ≡ k.loads
+storing : {sh : Shape} {s r : CoreState} {a : ℕ} (k : Storing s a) → r.phase ≡ s.phase → r.loads ≡ k.loads
     → touched r.cache (word_of sh.base a) ≡ true → ((v : ℕ) → touched s.cache v ≡ true → touched r.cache v ≡ true) → Loading sh s r
-storing sh s r a k p l t m = go (is_solo s.phase) refl k.loaded
+storing {sh} {s} {r} {a} k p l t m = go (is_solo s.phase) refl k.loaded
   where
     go : (b : Bool) → is_solo s.phase ≡ b → (k.loads ≡ s.loads) ⊎ ((y : Load) × (y.addr ≡ a) × (k.loads ≡ s.loads ++ y ∷ []))
         → Loading sh s r
@@ -304,52 +300,52 @@ storing sh s r a k p l t m = go (is_solo s.phase) refl k.loaded
 
 did-loading : {sh : Shape} {p : Program} {c : ℕ} {s : CoreState} → OneCore sh s → (x : Did sh p c s) → Loading sh s (out x).core
 unfolding commit solo_commit committed_core
-did-loading {sh} {p} {c} {s} h (Finds a x z l g (inl f)) = Alone_now (spilled-solo sh s (word_of sh.base a) h f)
+did-loading {sh} {p} {c} {s} h (Finds a x z l g (inl f)) = Alone_now (spilled-solo (word_of sh.base a) h f)
 did-loading {sh} {p} {c} {s} h (Finds a x z l g (inr f)) = Alone_now (acts-alone s.phase g.acts f)
 did-loading {sh} {p} {c} {s} h (Reads a x z l g r f) = one-more sh s _ (load_of a z (part x a z)) (rw r refl) refl
     (marked-now (word_of sh.base a) s.cache) (λ v t. marked-touched (word_of sh.base a) v s.cache t)
-did-loading {sh} {p} {c} {s} h (Buffers a y v n k g i q f) = Alone_now (spilled-solo sh s v h f)
-did-loading {sh} {p} {c} {s} h (Frames a y also n k g i f) = storing sh s _ a k refl refl (stored-now (word_of sh.base a) y also s.cache)
+did-loading {sh} {p} {c} {s} h (Buffers a y v n k g i q f) = Alone_now (spilled-solo v h f)
+did-loading {sh} {p} {c} {s} h (Frames a y also n k g i f) = storing k refl refl (stored-now (word_of sh.base a) y also s.cache)
     (λ v t. stored-touched (word_of sh.base a) y v also s.cache t)
 did-loading {sh} {p} {c} {s} h (Frames_anew a y n k g i q f o) =
-    storing sh s _ a k refl refl (stored-now (word_of sh.base a) y false (placed sh (line_of (word_of sh.base a)) s.cache))
+    storing k refl refl (stored-now (word_of sh.base a) y false (placed sh (line_of (word_of sh.base a)) s.cache))
     (λ v t. stored-touched (word_of sh.base a) y v false (placed sh (line_of (word_of sh.base a)) s.cache)
     (placed-touched sh (line_of (word_of sh.base a)) s.cache v t))
 did-loading {sh} {p} {c} {s} h (Misses_anew a n g i q f) =
-    either-way sh s _ refl refl (λ v t. placed-touched sh (line_of (word_of sh.base a)) s.cache v t)
+    either-way refl refl (λ v t. placed-touched sh (line_of (word_of sh.base a)) s.cache v t)
 did-loading {sh} {p} {c} {s} h (Room_wanted r i) = kept sh s _ (rw r refl) refl (λ v t. t)
 did-loading {sh} {p} {c} {s} h (Ends_run l e f r i) = kept sh s _ (rw r refl) refl (λ v t. t)
 did-loading {sh} {p} {c} {s} h (Ends_alone t l e f r i) = Empty refl
 did-loading {sh} {p} {c} {s} h (Commits_now t r) = Empty refl
-did-loading {sh} {p} {c} {s} h _ = either-way sh s _ refl refl (λ v t. t)
+did-loading {sh} {p} {c} {s} h _ = either-way refl refl (λ v t. t)
 
-pub loads-exec : (sh : Shape) (p : Program) (c : ℕ) (s : CoreState) → OneCore sh s → LoadsMarked sh s
+pub loads-exec : {sh : Shape} (p : Program) (c : ℕ) {s : CoreState} → OneCore sh s → LoadsMarked sh s
     → IfSome (core_exec sh p c s) (λ o. LoadsMarked sh o.core)
-loads-exec sh p c s h k = each-exec sh p c s (λ o. LoadsMarked sh o.core) (λ x. loads-marked sh s (out x).core k (did-loading h x))
+loads-exec {sh} p c {s} h k = each-exec sh p c s (λ o. LoadsMarked sh o.core) (λ x. loads-marked k (did-loading h x))
 
 -- an unmarked line is evicted, unless the core is alone
 pub loads-evict : (sh : Shape) (x y : ℕ) (s : CoreState) → LoadsMarked sh s → IfSome (core_evict sh x y s) (λ o. LoadsMarked sh o.core)
-loads-evict sh x y s k = each-evict sh x y s (λ o. LoadsMarked sh o.core) (λ l e a m. loads-marked sh s _ k (go l e m))
+loads-evict sh x y s k = each-evict sh x y s (λ o. LoadsMarked sh o.core) (λ l e a m. loads-marked k (go l e m))
   where
     go : (l : ℕ) → s.cache.at x y ≡ Some l → (is_marked s.cache l ≡ false) ⊎ (is_solo s.phase ≡ true)
         → Loading sh s (emptied sh x y l s).core
-    go l e (inl m) = either-way sh s _ refl refl (λ w t. let u = evicted-modified x y l s.cache e m w in rw (u.0, u.1) t)
+    go l e (inl m) = either-way refl refl (λ w t. let u = evicted-modified x y l s.cache e m w in rw (u.0, u.1) t)
     go l e (inr m) = Alone_now m
 
 -- Each message keeps that the words which a core's attempt loaded are marked read or modified, unless it is alone.
 
 pub loads-grant : (sh : Shape) (u : ℕ) (s : CoreState) → LoadsMarked sh s → LoadsMarked sh (grant sh u s).core
-loads-grant sh u s k = each-grant sh u s (λ o. LoadsMarked sh o.core) (λ x. loads-marked sh s (granted x).core k (go x))
+loads-grant sh u s k = each-grant sh u s (λ o. LoadsMarked sh o.core) (λ x. loads-marked k (go x))
   where
     go : (x : Granted sh u s) → Loading sh s (granted x).core
     go (Given e) = kept sh s _ (rw e refl) refl (λ w t. t)
     go (Given_doomed e) = kept sh s _ (rw e refl) refl (λ w t. t)
     go (Given_room e) = kept sh s _ (rw e refl) refl (λ w t. t)
-    go (Given_none e) = either-way sh s _ refl refl (λ w t. t)
+    go (Given_none e) = either-way refl refl (λ w t. t)
 
 pub loads-back : (sh : Shape) (e : ℕ) (s : CoreState) (m : Msg) → LoadsMarked sh s → IfSome (from_dir sh e s m) (λ o. LoadsMarked sh o.core)
 unfolding filled cleaned invalidated
-loads-back sh e s m k = each-back sh e s (λ m o. LoadsMarked sh o.core) (λ x. loads-marked sh s (heard x).core k (go x)) m
+loads-back sh e s m k = each-back sh e s (λ m o. LoadsMarked sh o.core) (λ x. loads-marked k (go x)) m
   where
     go : (x : Heard sh e s) → Loading sh s (heard x).core
     go (Last_probing u v q o r) = kept sh s _ (rw q refl) refl (λ w t. t)
@@ -358,4 +354,4 @@ loads-back sh e s m k = each-back sh e s (λ m o. LoadsMarked sh o.core) (λ x. 
     go (Hurt_waiting l m u v q) = Empty refl
     go (Hurt_probing l m u t v q) = Empty refl
     go (Hurt_alone l m u t v q) = Empty refl
-    go _ = either-way sh s _ refl refl (λ w t. t)
+    go _ = either-way refl refl (λ w t. t)

@@ -205,9 +205,9 @@ Back sh e s (ProbeReply u v) o = Replied sh e u s o
 Back sh e s (Inv l m u) o = Invalidated sh l s o
 Back sh e s _ o = Unit {0}
 
-invalidated-acked : (sh : Shape) (l : ℕ) (s r : CoreState) (q : Said) → say sh s q Vendor ≡ [] → Hurt sh s r (say sh s q)
+invalidated-acked : {sh : Shape} {l : ℕ} {s : CoreState} (r : CoreState) (q : Said) → say sh s q Vendor ≡ [] → Hurt sh s r (say sh s q)
     → Invalidated sh l s (acked sh l r (say sh s q))
-invalidated-acked sh l s r q v h = record {
+invalidated-acked {sh} {l} {s} r q v h = record {
   sends = say sh s q;
   kept = keeps r.cache l;
   hurt = h;
@@ -223,11 +223,11 @@ back-case (Reply_probing u v q o r) = Probed q o (rw r q) refl refl refl refl
 back-case (Last_probing u v q o r) = Probed q o (rw r refl) refl refl refl refl
 back-case (Reply_room u v q o r) = Left_alone q o (rw r q) refl (λ v. refl) refl refl
 back-case (Last_room u v q o r) = Left_alone q o (rw r refl) refl (λ v. refl) refl refl
-back-case {sh} {e} {s} (Hurt_none l m u n) = invalidated-acked sh l s _ Silent refl (Unhurt refl refl (λ v. refl) (λ v. refl) (λ n. refl))
-back-case {sh} {e} {s} (Hurt_running l m u v q) = invalidated-acked sh l s _ Silent refl (Rolled q refl refl (λ n. refl))
-back-case {sh} {e} {s} (Hurt_waiting l m u v q) = invalidated-acked sh l s _ Silent refl (Doomed q refl refl (λ n. refl))
-back-case {sh} {e} {s} (Hurt_probing l m u t v q) = invalidated-acked sh l s _ (Aborts_all t) refl (Aborted t q refl refl refl)
-back-case {sh} {e} {s} (Hurt_alone l m u t v q) = invalidated-acked sh l s _ (Skips_all t) refl (Gave_up t q refl refl refl)
+back-case {sh} {e} {s} (Hurt_none l m u n) = invalidated-acked _ Silent refl (Unhurt refl refl (λ v. refl) (λ v. refl) (λ n. refl))
+back-case {sh} {e} {s} (Hurt_running l m u v q) = invalidated-acked _ Silent refl (Rolled q refl refl (λ n. refl))
+back-case {sh} {e} {s} (Hurt_waiting l m u v q) = invalidated-acked _ Silent refl (Doomed q refl refl (λ n. refl))
+back-case {sh} {e} {s} (Hurt_probing l m u t v q) = invalidated-acked _ (Aborts_all t) refl (Aborted t q refl refl refl)
+back-case {sh} {e} {s} (Hurt_alone l m u t v q) = invalidated-acked _ (Skips_all t) refl (Gave_up t q refl refl refl)
 back-case _ = tt
 
 pub reply-cases : (sh : Shape) (e u : ℕ) (s : CoreState) → Replied sh e u s (probe_reply sh e u s)

@@ -10,7 +10,7 @@ use Names.{nats, inl, inr, Spilled, cleaned, ◌<◌, ◌≤◌, ◌==◌, [], n
 use Names.{invalidated, rolled_back, DoomedTid, Probing, core_evict, is_awaited, grant, is_probed, probing_or_ready, all_replied}
 use Names.{words_invalidated, staled, from_dir, List, ◌∷◌, if◌then◌else◌, Local, Dir, Event, empty_cache, empty-keeps, World, start}
 use Names.{core_start, Out, Answer, Waits, dir_deliver, core_moves, core_takes, dir_takes, dir_asks, vendor_gives, Stepped, step, History}
-use Names.{and_noted, recorded, next_history, and_then, run_from, run, KeptCores, Always}
+use Names.{and_noted, recorded, next_history, and_then, run_from, run, KeptCores, Always, first_state}
 use proofs.OneCore.Outcomes.{Acts, awaiting, Acting, Buffers, Commits_now, Did, Ends_alone, Ends_run, Finds, Frames, Frames_anew, Idles}
 use proofs.OneCore.Outcomes.{Misses, Misses_anew, Reads, Room_wanted, after_end, after_load, after_store, each-exec, out, Reply_probing}
 use proofs.OneCore.Outcomes.{Last_probing, Given_doomed, Hurt_probing, Hurt_running, Hurt_waiting, Granted, Fills_none, Given_none}
@@ -32,10 +32,10 @@ acts-rest (Solo t) a e = cc
 acts-rest _ a e = absurd a
 
 -- a core that executes, with these words and stores
-executing : (sh : Shape) (s r : CoreState) → Acts s.phase → r.phase ≡ s.phase → r.owing ≡ s.owing → OneCore sh s
+executing : {sh : Shape} {s r : CoreState} → Acts s.phase → r.phase ≡ s.phase → r.owing ≡ s.owing → OneCore sh s
     → Words sh (is_solo s.phase) r.cache r.spilled r.stores → ((a : Awaited) → r.awaited ≡ Some a → r.cache.held a.line ≡ true)
     → OneCore sh r
-executing sh s r a e f h w aw = record {
+executing {s} a e f h w aw = record {
   words = rw e w;
   awaited = λ x q. (rw e (acts-execute s.phase a), aw x q);
   owing = λ d q. rw f (h.owing d (rw e at q));
@@ -74,9 +74,9 @@ marked_words sh w x s v e h = subst (λ q. Words sh (is_solo q) (marked w s.cach
 -- the transaction has ended
 
 -- a core that has committed
-committed_one : (sh : Shape) (s r : CoreState) → r.phase ≡ phase_after_commit s.ended → ((d : ℕ) → r.owing d ≡ false) → r.awaited ≡ None
-    → ((b : Bool) → Words sh b r.cache r.spilled r.stores) → Empty r → OneCore sh r
-committed_one sh s r e o n w m = record {
+committed_one : {sh : Shape} (s : CoreState) {r : CoreState} → r.phase ≡ phase_after_commit s.ended → ((d : ℕ) → r.owing d ≡ false)
+    → r.awaited ≡ None → ((b : Bool) → Words sh b r.cache r.spilled r.stores) → Empty r → OneCore sh r
+committed_one s {r} e o n w m = record {
   words = w (is_solo r.phase);
   awaited = λ a q. absurd (cc);
   owing = λ d q. o d;
@@ -86,8 +86,8 @@ committed_one sh s r e o n w m = record {
 
 commit_one : (sh : Shape) (id t : ℕ) (s : CoreState) → s.phase ≡ Ready t → OneCore sh s → OneCore sh (commit sh id t s).core
 unfolding commit committed_core committed
-commit_one sh id t s e h = committed_one sh s (commit sh id t s).core refl (λ d. h.owing d (rw e refl)) (idle s.awaited refl)
-    (λ b. words-committed sh b t s.cache s.spilled h.words.cache (h.words.spilled_alone (rw e refl)))
+commit_one sh id t s e h = committed_one s refl (λ d. h.owing d (rw e refl)) (idle s.awaited refl)
+    (λ b. words-committed b t s.spilled h.words.cache (h.words.spilled_alone (rw e refl)))
     (record { n = refl; loads = refl; stores = refl; console = refl; unread = λ w. refl; unmodified = λ w. refl })
   where
     idle : (a : Option Awaited) → s.awaited ≡ a → a ≡ None
@@ -106,18 +106,18 @@ exec_one sh p id s h = each-exec sh p id s (λ o. OneCore sh o.core) go
 
     done : (need : Need) (r : CoreState) → Acting p s need → r.phase ≡ s.phase → r.owing ≡ s.owing → r.awaited ≡ s.awaited
         → Words sh (is_solo s.phase) r.cache r.spilled r.stores → OneCore sh r
-    done need r g e f a y = executing sh s r g.acts e f h y (λ b q. let z : None ≡ Some b = sym (a ∙ g.idle) ∙ q in absurd (cc))
+    done need r g e f a y = executing g.acts e f h y (λ b q. let z : None ≡ Some b = sym (a ∙ g.idle) ∙ q in absurd (cc))
 
     asked : (need : Need) (l : ℕ) (r : CoreState) → Acting p s need → r.phase ≡ s.phase → r.owing ≡ s.owing → r.awaited ≡ awaiting l
         → Words sh (is_solo s.phase) r.cache r.spilled r.stores → r.cache.held l ≡ true → OneCore sh r
-    asked need l r g e f a y d = executing sh s r g.acts e f h y (λ b q. let i : b.line ≡ l = sym (ap line_or_none (sym a ∙ q)) in rw i d)
+    asked need l r g e f a y d = executing g.acts e f h y (λ b q. let i : b.line ≡ l = sym (ap line_or_none (sym a ∙ q)) in rw i d)
       where
         line_or_none : Option Awaited → ℕ
         line_or_none None = l
         line_or_none (Some b) = b.line
 
     anew : (l : ℕ) → s.cache.held l ≡ false → Words sh (is_solo s.phase) (placed sh l s.cache) s.spilled s.stores
-    anew l e = words-placed sh (is_solo s.phase) s.cache l s.spilled s.stores e k
+    anew l e = words-placed l e k
 
     go : (x : Did sh p id s) → OneCore sh (out x).core
     go (Idles n l b g) = done n (record s { n = s.n + 1; local = l; console = b }) g refl refl refl k
@@ -125,13 +125,13 @@ exec_one sh p id s h = each-exec sh p id s (λ o. OneCore sh o.core) go
     go (Reads a x z l g r v) = done (Loads a z) (after_load s l (load_of a z (part x a z)) (marked (w a) s.cache)) g refl refl refl
         (marked_words sh (w a) x s v r k)
     go (Buffers a y v n q g i e f) = done n (after_store s a q s.cache (put s.spilled (w a) (Some y))) g refl refl refl
-        (words-buffered sh (is_solo s.phase) s.cache (w a) y s.spilled s.stores q.store v e f (ap (word_of sh.base) q.addr) k)
+        (words-buffered (w a) y q.store v e f (ap (word_of sh.base) q.addr) k)
     go (Frames a y also n q g i f) = done n (after_store s a q (stored (w a) y also s.cache) s.spilled) g refl refl refl
-        (words-stored sh (is_solo s.phase) s.cache (w a) y also s.spilled s.stores q.store (framed-held sh s (w a) k.cache f.held)
+        (words-stored (w a) y also q.store (framed-held sh s (w a) k.cache f.held)
         f.unspilled f.alone (ap (word_of sh.base) q.addr) k)
     go (Frames_anew a y n q g i e f u) =
         done n (after_store s a q (stored (w a) y false (placed sh (line_of (w a)) s.cache)) s.spilled) g refl refl refl
-        (words-stored sh (is_solo s.phase) (placed sh (line_of (w a)) s.cache) (w a) y false s.spilled s.stores q.store
+        (words-stored (w a) y false q.store
         (placed-held sh (line_of (w a)) s.cache f) u (λ z. refl) (ap (word_of sh.base) q.addr) (anew (line_of (w a)) e))
     go (Misses a n g i e) = asked n (line_of (w a)) (record s { awaited = awaiting (line_of (w a)) }) g refl refl refl k e
     go (Misses_anew a n g i e f) =
@@ -147,9 +147,9 @@ exec_one sh p id s h = each-exec sh p id s (λ o. OneCore sh o.core) go
           owers = h.owers;
           rested = λ q. absurd (let z : rests s.phase ≡ false = rw r refl in cc);
         }) i refl refl refl
-    go (Ends_alone t l e f r i) = committed_one sh (after_end s l e) (solo_commit sh id t (after_end s l e)).core refl
+    go (Ends_alone t l e f r i) = committed_one (after_end s l e) refl
         (λ d. h.owing d (rw r refl)) i
-        (λ b. words-committed sh b t (words_dropped s.spilled s.cache) none_spilled (words_dropped-keeps sh s.spilled s.cache k.cache)
+        (λ b. words-committed b t none_spilled (words_dropped-keeps sh s.spilled s.cache k.cache)
         (λ w. refl))
         (record { n = refl; loads = refl; stores = refl; console = refl; unread = λ w. refl; unmodified = λ w. refl })
     go (Commits_now t r) = commit_one sh id t s r h
@@ -171,7 +171,7 @@ evicted-unmodified c s y v h = grind nats
 
 pub evict_one : (sh : Shape) (x y : ℕ) (s : CoreState) → OneCore sh s → IfSome (core_evict sh x y s) (λ o. OneCore sh o.core)
 evict_one sh x y s h = each-evict sh x y s (λ o. OneCore sh o.core) (λ l e q m. record {
-  words = words-evicted sh (is_solo s.phase) s.cache x y l s.spilled s.stores e
+  words = words-evicted x y l e
       (λ z v i. words-evicted_unmarked sh s.cache l v (unmarked l z m) i) h.words;
   awaited = λ b r. let z = h.awaited b r in (z.0, evicted-held s.cache x y l b.line e (another l s.awaited q b r) z.1);
   owing = h.owing;
@@ -198,10 +198,10 @@ idle : (sh : Shape) (s : CoreState) (q : Phase) → s.phase ≡ q → executes q
 idle sh s q e f h a z = let x = h.awaited a z in let y : executes s.phase ≡ false = rw e f in let k = x.0 in cc
 
 -- the same words in another phase
-rephased : (sh : Shape) (s r : CoreState) (q go : Phase) → s.phase ≡ q → executes q ≡ false → r.phase ≡ go → is_solo go ≡ is_solo q
-    → rests go ≡ false → r.cache ≡ s.cache → r.spilled ≡ s.spilled → r.stores ≡ s.stores → r.awaited ≡ s.awaited
+rephased : {sh : Shape} {s r : CoreState} {q : Phase} (go : Phase) → s.phase ≡ q → executes q ≡ false → r.phase ≡ go
+    → is_solo go ≡ is_solo q → rests go ≡ false → r.cache ≡ s.cache → r.spilled ≡ s.spilled → r.stores ≡ s.stores → r.awaited ≡ s.awaited
     → ((d : ℕ) → awaits_replies go ≡ false → r.owing d ≡ false) → ((d : ℕ) → sh.dirs ≤ d → r.owing d ≡ false) → OneCore sh s → OneCore sh r
-rephased sh s r q go e x f y z c p t w o b h = record {
+rephased {sh} {s} {r} {q} go e x f y z c p t w o b h = record {
   words = rw (f, y, c, p, t) (subst (λ k. Words sh (is_solo k) s.cache s.spilled s.stores) e h.words);
   awaited = λ a k. absurd (idle sh s q e x h a (sym w ∙ k));
   owing = λ d k. o d (rw f at k);
@@ -221,27 +221,24 @@ replied_far s e d h = grind nats
 
 replied_none : (sh : Shape) (s : CoreState) (e d : ℕ) → all_replied sh (put s.owing e false) ≡ true → OneCore sh s
     → put s.owing e false d ≡ false
-replied_none sh s e d q h = go (cases_lt d sh.dirs)
-  where
-    go : (d < sh.dirs) ⊎ (sh.dirs ≤ d) → put s.owing e false d ≡ false
-    go (inl l) = all-replied sh (put s.owing e false) d l q
-    go (inr l) = replied_far s e d (h.owers d l)
+replied_none sh s e d q h =
+    elim (cases_lt d sh.dirs) [ inl l ↦ all-replied sh (put s.owing e false) d l q | inr l ↦ replied_far s e d (h.owers d l) ]
 
 pub grant_one : (sh : Shape) (u : ℕ) (s : CoreState) → OneCore sh s → OneCore sh (grant sh u s).core
 grant_one sh u s h = each-grant sh u s (λ o. OneCore sh o.core) go
   where
     probed : s.phase ≡ AwaitTid → (b : Bool) → any_below (is_probed sh s.cache) sh.dirs ≡ b
         → OneCore sh (record s { owing = is_probed sh s.cache; phase = probing_or_ready b u })
-    probed e true q = rephased sh s _ AwaitTid (Probing u) e refl refl refl refl refl refl refl refl (λ d k. absurd (cc))
+    probed e true q = rephased (Probing u) e refl refl refl refl refl refl refl refl (λ d k. absurd (cc))
         (λ d k. far_probed sh s.cache d k) h
-    probed e false q = rephased sh s _ AwaitTid (Ready u) e refl refl refl refl refl refl refl refl (λ d k. none_probed sh s.cache d q)
+    probed e false q = rephased (Ready u) e refl refl refl refl refl refl refl refl (λ d k. none_probed sh s.cache d q)
         (λ d k. far_probed sh s.cache d k) h
 
     go : (x : Granted sh u s) → OneCore sh (granted x).core
     go (Given e) = probed e (any_below (is_probed sh s.cache) sh.dirs) refl
-    go (Given_doomed e) = rephased sh s _ DoomedTid Running e refl refl refl refl refl refl refl refl
+    go (Given_doomed e) = rephased Running e refl refl refl refl refl refl refl refl
         (λ d k. h.owing d (rw e refl)) h.owers h
-    go (Given_room e) = rephased sh s _ (Overflowing None) (Overflowing (Some u)) e refl refl refl refl refl refl refl refl
+    go (Given_room e) = rephased (Overflowing (Some u)) e refl refl refl refl refl refl refl refl
         (λ d k. absurd (cc)) (λ d k. grind nats) h
     go (Given_none e) = h
 
@@ -252,7 +249,7 @@ executes-rests _ a e = cc
 data_one : (sh : Shape) (l : ℕ) (s : CoreState) → OneCore sh s → OneCore sh (record s { cache = cleaned l s.cache })
 unfolding cleaned
 data_one sh l s h = record {
-  words = words-cleaned sh (is_solo s.phase) s.cache l s.spilled s.stores h.words;
+  words = words-cleaned l h.words;
   awaited = h.awaited;
   owing = h.owing;
   owers = h.owers;
@@ -264,7 +261,7 @@ data_one sh l s h = record {
 without_one : (sh : Shape) (l m : ℕ) (s : CoreState) → OneCore sh s → OneCore sh (words_invalidated l m s)
 unfolding words_invalidated invalidated
 without_one sh l m s h = record {
-  words = words-invalidated sh (is_solo s.phase) s.cache l m s.spilled s.stores h.words;
+  words = words-invalidated l m h.words;
   awaited = λ b k. held b s.awaited refl k;
   owing = h.owing;
   owers = h.owers;
@@ -282,11 +279,11 @@ without_one sh l m s h = record {
         line_of_some d (Some z) = z.line
 
 -- a core that has rolled back into a phase
-rolled_one : (sh : Shape) (s r : CoreState) (q : Phase) → OneCore sh s → r.phase ≡ q → awaits_replies q ≡ false
+rolled_one : {sh : Shape} {s r : CoreState} (q : Phase) → OneCore sh s → r.phase ≡ q → awaits_replies q ≡ false
     → r.cache ≡ rolled_back s.cache → ((w : ℕ) → r.spilled w ≡ None) → r.n ≡ 0 → r.loads ≡ [] → r.stores ≡ [] → r.console ≡ []
     → r.owing ≡ (λ d. false) → r.awaited ≡ s.awaited → (executes q ≡ true) ⊎ (executes s.phase ≡ false) → OneCore sh r
 unfolding rolled_back
-rolled_one sh s r q h e a c p n l t o w z x = record {
+rolled_one {sh} {s} {r} q h e a c p n l t o w z x = record {
   words = rw (e, c, t) (words-rolled sh (is_solo q) s.cache r.spilled h.words.cache p);
   awaited = λ b k. let y = h.awaited b (sym z ∙ k) in (rw e (active x y.0), rw c y.1);
   owing = λ d k. rw w refl;
@@ -320,7 +317,7 @@ back_one sh e s m h = each-back sh e s (λ m o. OneCore sh o.core) go m
 
     hurt : (l m : ℕ) (q : Phase) (sp : Spilled) → awaits_replies q ≡ false → ((w : ℕ) → sp w ≡ None)
         → (executes q ≡ true) ⊎ (executes s.phase ≡ false) → OneCore sh (rolled l m s q sp)
-    hurt l m q sp a p x = rolled_one sh (words_invalidated l m s) (rolled l m s q sp) q (without_one sh l m s h) refl a refl p refl refl
+    hurt l m q sp a p x = rolled_one q (without_one sh l m s h) refl a refl p refl refl
         refl refl refl refl x
 
     waiting : (l m : ℕ) → (s.phase ≡ AwaitTid) ⊎ (s.phase ≡ Overflowing None) → OneCore sh (rolled l m s DoomedTid s.spilled)
@@ -332,12 +329,12 @@ back_one sh e s m h = each-back sh e s (λ m o. OneCore sh o.core) go m
     probing_one l m t (inr q) = hurt l m Running s.spilled refl (h.words.spilled_alone (rw q refl)) (inl refl)
 
     go : (x : Heard sh e s) → OneCore sh (heard x).core
-    go (Reply_probing u v q o r) = rephased sh s _ (Probing u) (Probing u) q refl q refl refl refl refl refl refl (λ d k. absurd (cc)) far h
-    go (Last_probing u v q o r) = rephased sh s _ (Probing u) (Ready u) q refl refl refl refl refl refl refl refl (λ d k. none r d) far h
-    go (Reply_room u v q o r) = rephased sh s _ (Overflowing (Some u)) (Overflowing (Some u)) q refl q refl refl refl refl refl refl
+    go (Reply_probing u v q o r) = rephased (Probing u) q refl q refl refl refl refl refl refl (λ d k. absurd (cc)) far h
+    go (Last_probing u v q o r) = rephased (Ready u) q refl refl refl refl refl refl refl refl (λ d k. none r d) far h
+    go (Reply_room u v q o r) = rephased (Overflowing (Some u)) q refl q refl refl refl refl refl refl
         (λ d k. absurd (cc)) far h
     go (Last_room u v q o r) = record {
-      words = words-alone sh s.cache s.spilled s.stores (subst (λ k. Words sh (is_solo k) s.cache s.spilled s.stores) q h.words);
+      words = words-alone s.cache (subst (λ k. Words sh (is_solo k) s.cache s.spilled s.stores) q h.words);
       awaited = λ a k. absurd (idle sh s (Overflowing (Some u)) q refl h a k);
       owing = λ d k. none r d;
       owers = far;
@@ -345,7 +342,7 @@ back_one sh e s m h = each-back sh e s (λ m o. OneCore sh o.core) go m
     }
     go (Fills l ws a q i f) =
         filled_one a (filled l ws s.cache) q
-        (words-filled sh (is_solo s.phase) s.cache l ws s.spilled s.stores (rw i at (h.awaited a q).1) h.words)
+        (words-filled l ws (rw i at (h.awaited a q).1) h.words)
     go (Fills_none l ws a q i f) = filled_one a s.cache q h.words
     go (Hands_out l) = data_one sh l s h
     go (Hurt_none l m u n) = without_one sh l m s h
@@ -358,27 +355,27 @@ back_one sh e s m h = each-back sh e s (λ m o. OneCore sh o.core) go m
 -- Every event keeps what holds of each core by itself, and so does every run.
 
 -- one core has changed
-put_one : (sh : Shape) (w : World) (c : ℕ) (s : CoreState) → KeptCores sh w → OneCore sh s → (j : ℕ)
+put_one : {sh : Shape} (w : World) (c : ℕ) {s : CoreState} → KeptCores sh w → OneCore sh s → (j : ℕ)
     → OneCore sh (if j == c then s else w.cores j)
-put_one sh w c s k h j = elim (j == c) as (λ b. OneCore sh (if b then s else w.cores j)) [ true ↦ h | false ↦ k j ]
+put_one {sh} w c {s} k h j = elim (j == c) as (λ b. OneCore sh (if b then s else w.cores j)) [ true ↦ h | false ↦ k j ]
 
 pub step-cores : (sh : Shape) (p : Program) (w : World) (e : Event) → KeptCores sh w → IfSome (step sh p w e) (λ o. KeptCores sh o.world)
 unfolding core_moves core_takes dir_takes dir_asks vendor_gives
 step-cores sh p w e k = step_cases sh p w e (λ g o. KeptCores sh o.world)
     (λ c l. moved c (core_exec sh p c (w.cores c)) (exec_one sh p c (w.cores c) (k c)))
     (λ c x y l. moved c (core_evict sh x y (w.cores c)) (evict_one sh x y (w.cores c) (k c)))
-    (λ c i t q. put_one sh w c (grant sh t (w.cores c)).core k (grant_one sh t (w.cores c) (k c)))
+    (λ c i t q. put_one w c k (grant_one sh t (w.cores c) (k c)))
     (λ c d i m q. taken c d i (from_dir sh d (w.cores c) m) (back_one sh d (w.cores c) m (k c)))
     (λ c d i m q. answered c d i (dir_deliver sh (w.dirs d) c m))
     (λ c i q. k)
   where
     moved : (c : ℕ) (x : Option Out) → IfSome x (λ o. OneCore sh o.core) → IfSome x (λ o. KeptCores sh (core_moves w c o))
     moved c None h = tt
-    moved c (Some o) h = put_one sh w c o.core k h
+    moved c (Some o) h = put_one w c k h
 
     taken : (c d i : ℕ) (x : Option Out) → IfSome x (λ o. OneCore sh o.core) → IfSome x (λ o. KeptCores sh (core_takes w (Dir d) c i o))
     taken c d i None h = tt
-    taken c d i (Some o) h = put_one sh w c o.core k h
+    taken c d i (Some o) h = put_one w c k h
 
     answered : (c d i : ℕ) (a : Answer) → OfAnswer w c d i (λ v. KeptCores sh v) a
     answered c d i Waits = tt
@@ -387,7 +384,7 @@ step-cores sh p w e k = step_cases sh p w e (λ g o. KeptCores sh o.world)
 pub start-cores : (sh : Shape) (entries : ℕ → Local) (ram : ℕ → ℕ) → KeptCores sh (start entries ram)
 unfolding start core_start empty_cache none_spilled
 start-cores sh entries ram c = record {
-  words = words-none sh false empty_cache none_spilled (empty-keeps sh) (λ w. refl) (λ w. refl) (λ w. refl);
+  words = words-none false none_spilled (empty-keeps sh) (λ w. refl) (λ w. refl) (λ w. refl);
   awaited = λ a q. absurd (cc);
   owing = λ d q. refl;
   owers = λ d q. refl;
@@ -408,4 +405,4 @@ run_from-cores sh p (e ∷ es) h k = go (step sh p h.world e) (step-cores sh p h
 
 pub one_core : Always KeptCores
 unfolding run
-one_core sh p entries ram es = run_from-cores sh p es (record { world = start entries ram; commits = [] }) (start-cores sh entries ram)
+one_core sh p entries ram es = run_from-cores sh p es (first_state entries ram) (start-cores sh entries ram)

@@ -513,10 +513,10 @@ expects (Probing v) u = v == u
 expects (Overflowing (Some v)) u = v == u
 expects _ u = false
 
-unexpected : (u : ℕ) (q r : Phase) → q ≡ r → expects r u ≡ false → (q ≡ Probing u) ⊎ (q ≡ Overflowing (Some u)) → ⊥
-unexpected u q r g h (inl x) = let z : expects q u ≡ (u == u) = ap (λ p. expects p u) x in let y : (u == u) ≡ true =
+unexpected : (u : ℕ) {q r : Phase} → q ≡ r → expects r u ≡ false → (q ≡ Probing u) ⊎ (q ≡ Overflowing (Some u)) → ⊥
+unexpected u {q} {r} g h (inl x) = let z : expects q u ≡ (u == u) = ap (λ p. expects p u) x in let y : (u == u) ≡ true =
     grind nats in let i : expects q u ≡ expects r u = ap (λ p. expects p u) g in cc
-unexpected u q r g h (inr x) = let z : expects q u ≡ (u == u) = ap (λ p. expects p u) x in let y : (u == u) ≡ true =
+unexpected u {q} {r} g h (inr x) = let z : expects q u ≡ (u == u) = ap (λ p. expects p u) x in let y : (u == u) ≡ true =
     grind nats in let i : expects q u ≡ expects r u = ap (λ p. expects p u) g in cc
 
 pub each-back : (sh : Shape) (e : ℕ) (s : CoreState) (P : Msg → Out → Type 0) → ((d : Heard sh e s) → P (message d) (heard d)) → (m : Msg)
@@ -538,7 +538,7 @@ each-back sh e s P k m = go m
             else ignored s)
         probed true true h o = ready (grind nats) o (all_replied sh (put s.owing e false)) refl
         probed true false h o = k (Ignores_reply u v (λ x. o))
-        probed false b h o = k (Ignores_reply u v (λ x. absurd (unexpected u s.phase (Probing t) g h x)))
+        probed false b h o = k (Ignores_reply u v (λ x. absurd (unexpected u g h x)))
     reply u v (Overflowing (Some t)) g = over (t == u) (s.owing e) refl refl
       where
         alone : t ≡ u → s.owing e ≡ true → (b : Bool) → all_replied sh (put s.owing e false) ≡ b
@@ -551,8 +551,8 @@ each-back sh e s P k m = go m
             → P (ProbeReply u v) (if a && b then moves (solo_once_replied sh u (replied e s)) nothing else ignored s)
         over true true h o = alone (grind nats) o (all_replied sh (put s.owing e false)) refl
         over true false h o = k (Ignores_reply u v (λ x. o))
-        over false b h o = k (Ignores_reply u v (λ x. absurd (unexpected u s.phase (Overflowing (Some t)) g h x)))
-    reply u v _ g = k (Ignores_reply u v (λ x. absurd (unexpected u s.phase _ g refl x)))
+        over false b h o = k (Ignores_reply u v (λ x. absurd (unexpected u g h x)))
+    reply u v _ g = k (Ignores_reply u v (λ x. absurd (unexpected u g refl x)))
 
     fills : (l : ℕ) (ws : List ℕ) (a : Option Awaited) → s.awaited ≡ a → P (Fill l ws) (fill_awaited l ws s a)
     fills l ws None q = k (Ignores_fill l ws (rw q refl))

@@ -10,7 +10,7 @@ use proofs.Names.{Ends, Program, Attempt, Outcome, Goes, steps, begun, plain_ste
 use proofs.Names.{patched, loaded, stores_word, stores_whole, is_whole, reads_word, uses_next, uses, AlignedNeed, Aligned, IsMemory}
 use proofs.Names.{SameAttempt, AgreeOnUsed, IfSome, Load, loads_word, patched-small, nats, ◌≤◌, ◌⊎◌, IsSomeAnd, inl, inr, Noted, line_of}
 use proofs.Names.{Shape, home, CoreState, Phase, Halted, World, Uses, Agrees, IsSmall, Reaches, FollowsIn, holder, pair, IsBound, value_at}
-use proofs.Names.{IsDoomed, EachUse, home_of}
+use proofs.Names.{IsDoomed, EachUse, home_of, ◌≢◌}
 
 -- Instructions over two memories that agree on the words used give the same, and name these words.
 
@@ -53,10 +53,10 @@ record Apart (base : ℕ) (here there : ℕ → ℕ) (a : Attempt) (ram : ℕ �
   kept_here : (w : ℕ) → stores_word base a.stores w ≡ false → a.ram w ≡ here w
   kept_there : (w : ℕ) → stores_word base a.stores w ≡ false → ram w ≡ there w
 
-same_word : (base : ℕ) (here there : ℕ → ℕ) (a : Attempt) (ram : ℕ → ℕ) (need : Need) → Apart base here there a ram
-    → ((w : ℕ) → (reads_word base need w && not (stores_whole base a.stores w)) ≡ true → here w ≡ there w)
-    → (w : ℕ) → reads_word base need w ≡ true → ram w ≡ a.ram w
-same_word base here there a ram need ap agree w r = grind (nats, a.ram, ap.stored, stored-whole, ap.kept_here, ap.kept_there)
+same_word : {base : ℕ} {here there : ℕ → ℕ} (a : Attempt) {ram : ℕ → ℕ} (need : Need) → Apart base here there a ram
+    → ((w : ℕ) → (reads_word base need w && not (stores_whole base a.stores w)) ≡ true → here w ≡ there w) → (w : ℕ)
+    → reads_word base need w ≡ true → ram w ≡ a.ram w
+same_word a need ap agree w r = grind (nats, a.ram, ap.stored, stored-whole, ap.kept_here, ap.kept_there)
 
 -- the word that a store leaves
 same_patched : (base : ℕ) (here there : ℕ → ℕ) (a : Attempt) (ram : ℕ → ℕ) (addr : ℕ) (size : Size) (value : ℕ)
@@ -109,9 +109,9 @@ apart-stored base here there a ram addr size value ap e = record {
         → (if b then patched (ram (word_of base addr)) addr size value else ram w) ≡ there w
     there_kept w b q h = let k = kept (stores_word base a.stores w) b h in rw k.1 (ap.kept_there w k.0)
 
-same_from : (base : ℕ) (here there : ℕ → ℕ) (a : Attempt) (ram : ℕ → ℕ) (other : Option Attempt) → Apart base here there a ram
+same_from : {base : ℕ} {here there : ℕ → ℕ} {a : Attempt} (ram : ℕ → ℕ) {other : Option Attempt} → Apart base here there a ram
     → other ≡ Some (record a { ram = ram }) → SameAttempt base here there a other
-same_from base here there a ram other ap e =
+same_from ram ap e =
     record { ram = ram; same = e; stored = ap.stored; kept_here = ap.kept_here; kept_there = ap.kept_there }
 
 -- the same words at an access give the same value
@@ -124,35 +124,35 @@ same_step : (base : ℕ) (p : Program) (here there : ℕ → ℕ) (a : Attempt) 
     → IsMemory here → IsMemory there → AlignedNeed need → ((w : ℕ) → reads_word base need w ≡ true → ram w ≡ a.ram w)
     → SameAttempt base here there (stepped base p a need) (Some (stepped base p (record a { ram = ram }) need))
 same_step base p here there a ram Nothing ap mh mt al reads =
-    same_from base here there (stepped base p a Nothing) ram _
+    same_from ram
     (record { stored = ap.stored; kept_here = ap.kept_here; kept_there = ap.kept_there }) refl
 same_step base p here there a ram (Loads addr size) ap mh mt al reads =
-    same_from base here there (stepped base p a (Loads addr size)) ram _
+    same_from ram
     (record { stored = ap.stored; kept_here = ap.kept_here; kept_there = ap.kept_there })
     (rw (same_loaded base ram a.ram addr size (reads (word_of base addr) (grind nats))) refl)
 same_step base p here there a ram (Stores addr size value) ap mh mt al reads =
     let q = apart-stored base here there a ram addr size value ap (same_patched base here there a ram addr size value ap mh mt al reads) in
-    same_from base here there (stepped base p a (Stores addr size value)) (stored base ram addr size value) _
+    same_from (stored base ram addr size value)
     (record { stored = q.stored; kept_here = q.kept_here; kept_there = q.kept_there }) refl
 same_step base p here there a ram (Changes addr changed) ap mh mt al reads =
     let e : ram (word_of base addr) ≡ a.ram (word_of base addr) = reads (word_of base addr) (grind nats) in
     let v : loaded base ram addr Word ≡ loaded base a.ram addr Word = same_loaded base ram a.ram addr Word e in
     let q = apart-stored base here there a ram addr Word (changed (loaded base a.ram addr Word)) ap (rw e refl) in
-    same_from base here there (stepped base p a (Changes addr changed)) (stored base ram addr Word (changed (loaded base a.ram addr Word)))
-    _ (record { stored = q.stored; kept_here = q.kept_here; kept_there = q.kept_there }) (rw v refl)
+    same_from (stored base ram addr Word (changed (loaded base a.ram addr Word)))
+    (record { stored = q.stored; kept_here = q.kept_here; kept_there = q.kept_there }) (rw v refl)
 same_step base p here there a ram Ends ap mh mt al reads =
-    same_from base here there (stepped base p a Ends) ram _
+    same_from ram
     (record { stored = ap.stored; kept_here = ap.kept_here; kept_there = ap.kept_there }) refl
 same_step base p here there a ram x ap mh mt al reads =
-    same_from base here there (stepped base p a x) ram _
+    same_from ram
     (record { stored = ap.stored; kept_here = ap.kept_here; kept_there = ap.kept_there }) refl
 
 -- one more instruction, where the words that it uses agree
-same_then : (base : ℕ) (p : Program) (here there : ℕ → ℕ) (a : Attempt) (other : Option Attempt) → Aligned p → IsMemory here
+same_then : {base : ℕ} (p : Program) {here there : ℕ → ℕ} (a : Attempt) {other : Option Attempt} → Aligned p → IsMemory here
     → IsMemory there → SameAttempt base here there a other → ((w : ℕ) → uses_next base p (Some a) w ≡ true → here w ≡ there w)
     → MatchOption (then_step base p (Some a)) (then_step base p other ≡ None) (λ b. SameAttempt base here there b (then_step base p other))
 unfolding plain_step
-same_then base p here there a other al mh mt f agree = rw f.same (go a.outcome)
+same_then {base} p {here} {there} a al mh mt f agree = rw f.same (go a.outcome)
   where
     apart : Apart base here there a f.ram
     apart = record { stored = f.stored; kept_here = f.kept_here; kept_there = f.kept_there }
@@ -160,7 +160,7 @@ same_then base p here there a other al mh mt f agree = rw f.same (go a.outcome)
     go : (o : Outcome) → MatchOption (when_going base p a o) (when_going base p (record a { ram = f.ram }) o ≡ None)
         (λ b. SameAttempt base here there b (when_going base p (record a { ram = f.ram }) o))
     go Goes = same_step base p here there a f.ram (p.need a.local) apart mh mt (al a.local)
-        (same_word base here there a f.ram (p.need a.local) apart agree)
+        (same_word a (p.need a.local) apart agree)
     go _ = refl
 
 abbrev SameOrNone : (base : ℕ) (here there : ℕ → ℕ) → Option Attempt → Option Attempt → Type 0
@@ -170,7 +170,7 @@ then_same : (base : ℕ) (p : Program) (here there : ℕ → ℕ) (one other : O
     → SameOrNone base here there one other → ((w : ℕ) → uses_next base p one w ≡ true → here w ≡ there w)
     → SameOrNone base here there (then_step base p one) (then_step base p other)
 then_same base p here there None other al mh mt f agree = rw f refl
-then_same base p here there (Some a) other al mh mt f agree = same_then base p here there a other al mh mt f agree
+then_same base p here there (Some a) other al mh mt f agree = same_then p a al mh mt f agree
 
 pub steps_same : (base : ℕ) (p : Program) (n : ℕ) (l : Local) (here there : ℕ → ℕ) → Aligned p → IsMemory here → IsMemory there
     → AgreeOnUsed base p n l here there
@@ -285,7 +285,7 @@ agrees-or sh ram w cs c b (u ∷ us) l f = go ((f (home_of sh u.0) (home-below s
     go (inl e) (inr d) = inr d
     go (inl e) (inl a) = inl (sym e, a)
 
-pub follows-in : (sh : Shape) (p : Program) (s : CoreState) (us : Uses) (q : Phase) → (q ≡ Halted → ⊥) → FollowsIn sh p s us q
+pub follows-in : (sh : Shape) (p : Program) (s : CoreState) (us : Uses) (q : Phase) → q ≢ Halted → FollowsIn sh p s us q
     → (ram : ℕ → ℕ) → IsSmall ram → Agrees us ram → IsSomeAnd (steps sh.base p s.n (begun s.saved ram)) (Reaches s ram)
 follows-in sh p s us Halted h f = absurd (h refl)
 follows-in sh p s us _ h f = f

@@ -22,10 +22,10 @@ unspilled sp l v h e q =
 
 -- a valid word has a frame
 -- the marks and spilled words stay
-same-words : (sh : Shape) (solo : Bool) (c d : Cache) (sp : Spilled) (ss : List Stored) → IsCache sh d
+same-words : {sh : Shape} {solo : Bool} {c d : Cache} {sp : Spilled} {ss : List Stored} → IsCache sh d
     → ((w : ℕ) → solo ≡ true → d.read w ≡ c.read w) → ((w : ℕ) → d.modified w ≡ c.modified w)
     → ((w : ℕ) → c.dirty w ≡ None → d.dirty w ≡ None) → Words sh solo c sp ss → Words sh solo d sp ss
-same-words sh solo c d sp ss i r m t k = record {
+same-words i r m t k = record {
   cache = i;
   spilled_alone = k.spilled_alone;
   unread_alone = λ s w. r w s ∙ k.unread_alone s w;
@@ -37,7 +37,7 @@ pub words-marked : (sh : Shape) (c : Cache) (w x : ℕ) (sp : Spilled) (ss : Lis
     → Words sh false (marked w c) sp ss
 unfolding marked
 words-marked sh c w x sp ss e k =
-    same-words sh false c (marked w c) sp ss (marked-keeps sh w c (held_valued sh c w x k.cache e) k.cache)
+    same-words (marked-keeps sh w c (held_valued sh c w x k.cache e) k.cache)
     (λ v q. absurd (cc)) (λ v. refl) (λ v q. q) k
 
 pub placed-marks : (sh : Shape) (l : ℕ) (c : Cache) (v : ℕ)
@@ -50,9 +50,9 @@ placed-marks sh l c v = go (free_way sh c (set_of sh l))
     go None = (refl, refl, refl)
     go (Some y) = (refl, refl, refl)
 
-pub words-placed : (sh : Shape) (solo : Bool) (c : Cache) (l : ℕ) (sp : Spilled) (ss : List Stored) → c.held l ≡ false
+pub words-placed : {sh : Shape} {solo : Bool} {c : Cache} (l : ℕ) {sp : Spilled} {ss : List Stored} → c.held l ≡ false
     → Words sh solo c sp ss → Words sh solo (placed sh l c) sp ss
-words-placed sh solo c l sp ss e k = same-words sh solo c (placed sh l c) sp ss (placed-keeps sh l c e k.cache) (λ v q. (same v).0)
+words-placed {sh} {solo} {c} l {sp} {ss} e k = same-words (placed-keeps sh l c e k.cache) (λ v q. (same v).0)
     (λ v. (same v).1) (λ v q. (same v).2 ∙ q) k
   where
     same : (v : ℕ) → ((placed sh l c).read v ≡ c.read v) × ((placed sh l c).modified v ≡ c.modified v)
@@ -71,11 +71,11 @@ or-true a b = grind nats
 or-false : (a : Bool) → a ≡ (a || false)
 or-false a = grind nats
 
-pub words-stored : (sh : Shape) (solo : Bool) (c : Cache) (w x : ℕ) (also : Bool) (sp : Spilled) (ss : List Stored) (s : Stored)
+pub words-stored : {sh : Shape} {solo : Bool} {c : Cache} (w x : ℕ) (also : Bool) {sp : Spilled} {ss : List Stored} (s : Stored)
     → c.held (line_of w) ≡ true → holds sp (line_of w) ≡ false → (solo ≡ true → also ≡ false) → word_of sh.base s.addr ≡ w
     → Words sh solo c sp ss → Words sh solo (stored w x also c) sp (ss ++ s ∷ [])
 unfolding stored
-words-stored sh solo c w x also sp ss s h u a e k = record {
+words-stored {sh} {solo} {c} w x also {sp} {ss} s h u a e k = record {
   cache = stored-keeps sh w x also c h k.cache;
   spilled_alone = k.spilled_alone;
   unread_alone = λ q v. unread q v (w == v);
@@ -97,10 +97,10 @@ words-stored sh solo c w x also sp ss s h u a e k = record {
     clean v y l q false p true n = let x = k.clean v y l q in rw p (x.0, refl)
     clean v y l q false p false n = let x = k.clean v y l q in rw p (x.0, x.1)
 
-pub words-buffered : (sh : Shape) (solo : Bool) (c : Cache) (w x : ℕ) (sp : Spilled) (ss : List Stored) (s : Stored) (v : ℕ)
+pub words-buffered : {sh : Shape} {solo : Bool} {c : Cache} (w x : ℕ) {sp : Spilled} {ss : List Stored} (s : Stored) (v : ℕ)
     → line_of v ≡ line_of w → is_some (sp v) ≡ true → word_of sh.base s.addr ≡ w → Words sh solo c sp ss
     → Words sh solo c (put sp w (Some x)) (ss ++ s ∷ [])
-words-buffered sh solo c w x sp ss s v l q e k = record {
+words-buffered {sh} {c} w x {sp} {ss} s v l q e k = record {
   cache = k.cache;
   spilled_alone = λ a y. let n : sp v ≡ None = k.spilled_alone a v in let m : is_some (sp v) ≡ false = rw n refl in absurd (cc);
   unread_alone = k.unread_alone;
@@ -127,11 +127,11 @@ evicted-fields : (c : Cache) (s y l v : ℕ) → c.at s y ≡ Some l → ((evict
 unfolding evicted evicted_line
 evicted-fields c s y l v e = rw e (refl, refl, refl)
 
-pub words-evicted : (sh : Shape) (solo : Bool) (c : Cache) (s y l : ℕ) (sp : Spilled) (ss : List Stored) → c.at s y ≡ Some l
+pub words-evicted : {sh : Shape} {solo : Bool} {c : Cache} (s y l : ℕ) {sp : Spilled} {ss : List Stored} → c.at s y ≡ Some l
     → (solo ≡ false → (v : ℕ) → l ≡ line_of v → c.modified v ≡ false) → Words sh solo c sp ss
     → Words sh solo (evicted s y c) (spill_line l c sp) ss
 unfolding spill_line
-words-evicted sh solo c s y l sp ss e m k = record {
+words-evicted {sh} {solo} {c} s y l {sp} {ss} e m k = record {
   cache = evicted-keeps sh s y c k.cache;
   spilled_alone = λ a w. spilled a w (l == line_of w) refl;
   unread_alone = λ a w. (evicted-fields c s y l w e).0 ∙ unread a w (l == line_of w);
@@ -161,26 +161,26 @@ words-evicted sh solo c s y l sp ss e m k = record {
         let x = k.clean v w q (rw z at r) in
         ((evicted-fields c s y l w e).1 ∙ rw p x.0, (evicted-fields c s y l w e).2 ∙ rw p x.1)
 
-pub words-filled : (sh : Shape) (solo : Bool) (c : Cache) (l : ℕ) (ws : List ℕ) (sp : Spilled) (ss : List Stored) → c.held l ≡ true
+pub words-filled : {sh : Shape} {solo : Bool} {c : Cache} (l : ℕ) (ws : List ℕ) {sp : Spilled} {ss : List Stored} → c.held l ≡ true
     → Words sh solo c sp ss → Words sh solo (filled l ws c) sp ss
 unfolding filled
-words-filled sh solo c l ws sp ss e k = same-words sh solo c (filled l ws c) sp ss (filled-keeps sh l ws c e k.cache) (λ v q. refl)
+words-filled {sh} {solo} {c} l ws {sp} {ss} e k = same-words (filled-keeps sh l ws c e k.cache) (λ v q. refl)
     (λ v. refl) (λ v q. q) k
 
-pub words-invalidated : (sh : Shape) (solo : Bool) (c : Cache) (l m : ℕ) (sp : Spilled) (ss : List Stored) → Words sh solo c sp ss
+pub words-invalidated : {sh : Shape} {solo : Bool} {c : Cache} (l m : ℕ) {sp : Spilled} {ss : List Stored} → Words sh solo c sp ss
     → Words sh solo (invalidated l m c) sp ss
 unfolding invalidated
-words-invalidated sh solo c l m sp ss k = same-words sh solo c (invalidated l m c) sp ss (invalidated-keeps sh l m c k.cache)
+words-invalidated {sh} {solo} {c} l m {sp} {ss} k = same-words (invalidated-keeps sh l m c k.cache)
     (λ v q. refl) (λ v. refl) (λ v q. clean (hit l m v && not (c.modified v)) q) k
   where
     clean : {x : Option ℕ} (b : Bool) → x ≡ None → (if b then None else x) ≡ None
     clean true q = refl
     clean false q = q
 
-pub words-cleaned : (sh : Shape) (solo : Bool) (c : Cache) (l : ℕ) (sp : Spilled) (ss : List Stored) → Words sh solo c sp ss
+pub words-cleaned : {sh : Shape} {solo : Bool} {c : Cache} (l : ℕ) {sp : Spilled} {ss : List Stored} → Words sh solo c sp ss
     → Words sh solo (cleaned l c) sp ss
 unfolding cleaned
-words-cleaned sh solo c l sp ss k = same-words sh solo c (cleaned l c) sp ss (cleaned-keeps sh l c k.cache) (λ v q. refl) (λ v. refl)
+words-cleaned {sh} {solo} {c} l {sp} {ss} k = same-words (cleaned-keeps sh l c k.cache) (λ v q. refl) (λ v. refl)
     (λ v q. clean (l == line_of v) q) k
   where
     clean : {x : Option ℕ} (b : Bool) → x ≡ None → (if b then None else x) ≡ None
@@ -188,10 +188,10 @@ words-cleaned sh solo c l sp ss k = same-words sh solo c (cleaned l c) sp ss (cl
     clean false q = q
 
 -- nothing is left of the attempt
-pub words-none : (sh : Shape) (solo : Bool) (c : Cache) (sp : Spilled) → IsCache sh c → ((w : ℕ) → c.read w ≡ false)
+pub words-none : {sh : Shape} (solo : Bool) {c : Cache} (sp : Spilled) → IsCache sh c → ((w : ℕ) → c.read w ≡ false)
     → ((w : ℕ) → c.modified w ≡ false) → ((w : ℕ) → sp w ≡ None) → Words sh solo c sp []
 unfolding stores_word
-words-none sh solo c sp i r m z = record {
+words-none solo sp i r m z = record {
   cache = i;
   spilled_alone = λ a w. z w;
   unread_alone = λ a w. r w;
@@ -202,20 +202,20 @@ words-none sh solo c sp i r m z = record {
 pub words-rolled : (sh : Shape) (solo : Bool) (c : Cache) (sp : Spilled) → IsCache sh c → ((w : ℕ) → sp w ≡ None)
     → Words sh solo (rolled_back c) sp []
 unfolding rolled_back
-words-rolled sh solo c sp i z = words-none sh solo (rolled_back c) sp (rolled_back-keeps sh c i) (λ w. refl) (λ w. refl) z
+words-rolled sh solo c sp i z = words-none solo sp (rolled_back-keeps sh c i) (λ w. refl) (λ w. refl) z
 
-pub words-committed : (sh : Shape) (solo : Bool) (t : ℕ) (c : Cache) (sp : Spilled) → IsCache sh c → ((w : ℕ) → sp w ≡ None)
+pub words-committed : {sh : Shape} (solo : Bool) (t : ℕ) {c : Cache} (sp : Spilled) → IsCache sh c → ((w : ℕ) → sp w ≡ None)
     → Words sh solo (committed t c) sp []
 unfolding committed
-words-committed sh solo t c sp i z = words-none sh solo (committed t c) sp (committed-keeps sh t c i) (λ w. refl) (λ w. refl) z
+words-committed {sh} solo t {c} sp i z = words-none solo sp (committed-keeps sh t c i) (λ w. refl) (λ w. refl) z
 
 pub words-evicted_unmarked : (sh : Shape) (c : Cache) (l v : ℕ) → is_marked c l ≡ false → l ≡ line_of v → c.modified v ≡ false
 words-evicted_unmarked sh c l v m e = (unmarked-word c l v m e).0
 
 -- a core that becomes alone reads without marks
-pub words-alone : (sh : Shape) (c : Cache) (sp : Spilled) (ss : List Stored) → Words sh false c sp ss → Words sh true (read_cleared c) sp ss
+pub words-alone : {sh : Shape} (c : Cache) {sp : Spilled} {ss : List Stored} → Words sh false c sp ss → Words sh true (read_cleared c) sp ss
 unfolding read_cleared
-words-alone sh c sp ss k =
+words-alone {sh} c k =
     record {
       cache = read_cleared-keeps sh c k.cache;
       spilled_alone = λ a w. absurd (cc);

@@ -138,8 +138,8 @@ AgainIf base os here there one other = IfSome one (λ done. ((c : ℕ) → order
 left_of : (x y : Bool) → y ≡ false → (x || y) ≡ true → x ≡ true
 left_of a y q h = grind nats
 
-again_then : (base : ℕ) (p : Program) (o : Order) (os : List Order) (here there : Plain) (done : Plain × Attempt)
-    (rest : Plain × List Commit) (other : Option (Plain × Attempt)) (more : Plain → Option (Plain × List Commit))
+again_then : {base : ℕ} {p : Program} (o : Order) (os : List Order) {here there : Plain} {done : Plain × Attempt}
+    (rest : Plain × List Commit) {other : Option (Plain × Attempt)} (more : Plain → Option (Plain × List Commit))
     → Twice base p here there o.core done other
     → ((k : Plain) → IsMemory k.ram → ((c : ℕ) → orders_core os c ≡ true → k.cores c ≡ done.0.cores c)
     → ((w : ℕ) → commits_touch base rest.1 w ≡ true → done.0.ram w ≡ k.ram w) → Again base os done.0 k rest (more k))
@@ -147,7 +147,7 @@ again_then : (base : ℕ) (p : Program) (o : Order) (os : List Order) (here ther
     → ((w : ℕ) → commits_touch base (commit_of o done.1 ∷ rest.1) w ≡ true → here.ram w ≡ there.ram w)
     → Again base (o ∷ os) here there (rest.0, commit_of o done.1 ∷ rest.1) (after_order more o other)
 unfolding orders_core commits_store commits_touch commit_of
-again_then base p o os here there done rest other more t again cores words =
+again_then {base} o os {done} rest more t again cores words =
     let r = again t.plain t.memory_there (λ c h. middle_cores c h (o.core == c) refl)
     (λ w h. middle_words w h (stores_word base done.1.stores w) refl) in
     rw t.same (rw r.same (record {
@@ -194,7 +194,7 @@ unfolding commits_touch commit_of
 rest_again base p o os here there done None other more cores t again = tt
 rest_again base p o os here there done (Some rest) other more cores t again = λ words.
     let u : Twice base p here there o.core done other = t (λ w h. words w (or-left _ _ h)) in
-    again_then base p o os here there done rest other more u (λ k mk c w. again k u.memory mk c w) cores words
+    again_then o os rest more u (λ k mk c w. again k u.memory mk c w) cores words
 
 when_again : (base : ℕ) (p : Program) (o : Order) (os : List Order) (here there : Plain) (b : Bool) (one other : Option (Plain × Attempt))
     (more : Plain → Option (Plain × List Commit))
@@ -283,26 +283,23 @@ serial-below : (base : ℕ) (p : Program) (last tid : ℕ) (os : List Order) (m 
 unfolding serial
 serial-below base p last tid a m l b = grind nats
 
-whole_inserted : (base : ℕ) (p : Program) (last : ℕ) (early late : List Order) (o : Order) (m start done end plain : Plain) (a : Attempt)
-    (before after : List Commit) → CanInsert base p last early late o m start done end a before after
+whole_inserted : {base : ℕ} {p : Program} {last : ℕ} {early late : List Order} {o : Order} {m start done end : Plain}
+    (plain : Plain) {a : Attempt} {before after : List Commit} → CanInsert base p last early late o m start done end a before after
     → serial base p (last_tid last early) late done ≡ Some (plain, after)
     → serial base p last (early ++ o ∷ late) m ≡ Some (plain, before ++ commit_of o a ∷ after)
 unfolding serial
-whole_inserted base p last early late o m start done end plain a before after c e =
+whole_inserted plain c e =
     grind (nats, c.above, serial-below, c.below, serial-append, c.first, c.executed)
 
 differs : (late : List Order) (c core : ℕ) → orders_core late core ≡ false → orders_core late c ≡ true → c ≢ core
 differs late c core h k e = let q : orders_core late c ≡ orders_core late core = ap (orders_core late) e in absurd (cc)
 
-inserted_again : (base : ℕ) (p : Program) (late : List Order) (o : Order) (start done end : Plain) (a : Attempt)
-    (before after : List Commit) (with_it other : Option (Plain × List Commit))
-    → orders_core late o.core ≡ false
+inserted_again : {base : ℕ} {p : Program} {late : List Order} (o : Order) {start done end : Plain}
+    (a : Attempt) {before after : List Commit} {with_it other : Option (Plain × List Commit)} → orders_core late o.core ≡ false
     → ((w : ℕ) → stores_word base a.stores w ≡ true → commits_touch base after w ≡ false)
-    → Twice base p start start o.core (done, a) (Some (done, a))
-    → (g : Again base late start done (end, after) other)
-    → with_it ≡ Some (g.plain, before ++ commit_of o a ∷ after)
-    → Inserted base before o a after done end with_it
-inserted_again base p late o start done end a before after with_it other another apart t g e = record {
+    → Twice base p start start o.core (done, a) (Some (done, a)) → (g : Again base late start done (end, after) other)
+    → with_it ≡ Some (g.plain, before ++ commit_of o a ∷ after) → Inserted base before o a after done end with_it
+inserted_again {base} {late} o {end} a {after} another apart t g e = record {
   plain = g.plain;
   commits = e;
   own_core = g.idle_there o.core another;
@@ -328,9 +325,8 @@ order_inserted base p last early late o m start done end a before after al mm c 
     let g : Again base late start done (end, after) (serial base p (last_tid last early) late done) =
     f (λ k h. t.others_here k (differs late k o.core c.another_core h))
     (λ w h. sym (t.kept_here w (untouched w h (stores_word base a.stores w) refl))) in
-    inserted_again base p late o start done end a before after (serial base p last (early ++ o ∷ late) m)
-    (serial base p (last_tid last early) late done) c.another_core c.apart t g
-    (whole_inserted base p last early late o m start done end g.plain a before after c g.same)
+    inserted_again o a c.another_core c.apart t g
+    (whole_inserted g.plain c g.same)
   where
     untouched : (w : ℕ) → commits_touch base after w ≡ true → (b : Bool) → stores_word base a.stores w ≡ b
         → stores_word base a.stores w ≡ false

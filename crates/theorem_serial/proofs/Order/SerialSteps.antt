@@ -11,7 +11,7 @@ use Names.{Changes, line_of, is_solo, History, has_tid, EachUse, Stepped, Option
 use Names.{Untold, IfSome, Vendor, TidReq, Answer, false, subst, Noted, Plain, Order, Ended, begun, steps, Local, noted, Again, times}
 use Names.{arith, Loads, Shape, Phase, Ready, World, Suits, Grant, grant, Waits, Drops, Takes, true, List, ◌++◌, Some, None, refl, Halt}
 use Names.{Trap, Goes, Bool, ◌==◌, ◌||◌, Need, home, Solo, Uses, Fits, pair, Ways, Core, Asks, step, ◌≡◌, ◌≤◌, ◌≢◌, ◌∷◌, map, sym, ◌∙◌, Run}
-use Names.{◌<◌, ◌⊎◌, inl, inr, num, Out, Dir, Msg, ap, [], ℕ, nats, home_of, tid_at, FromCore, FromDir, IfSome_then}
+use Names.{◌<◌, ◌⊎◌, inl, inr, num, Out, Dir, Msg, ap, [], ℕ, nats, home_of, tid_at, FromCore, FromDir, IfSome_then, grant_to}
 use proofs.Counts.StepCases.{given, OfAnswer, step_cases}
 use proofs.Memory.CoreInMemory.{accesses_at_homes, marks_at_homes}
 use proofs.OneCore.CoreCloses.{Gives, Closing, Leaves, Stays, Closes, exec-leaves, CheckpointStays, evict-stays, grant-stays, back-stays}
@@ -45,16 +45,16 @@ found : (x : Option Attempt) (r : CoreState) → IsSomeAnd x (Gives r) → Found
 found None r h = absurd h
 found (Some a) r h = record { attempt = a; is = refl; gives = h }
 
-transaction-closed : (base : ℕ) (p : Program) (m : Plain) (core n : ℕ) (l : Local) (a : Attempt) (e : CoreEnd) → (m.cores core).local ≡ l
+transaction-closed : (base : ℕ) (p : Program) (m : Plain) (core n : ℕ) (l : Local) {a : Attempt} (e : CoreEnd) → (m.cores core).local ≡ l
     → (m.cores core).ended ≡ Run → steps base p n (begun l m.ram) ≡ Some a → end_of a.outcome ≡ Some e
     → transaction base p m core n ≡ Some (closed m core a e, a)
 unfolding transaction
-transaction-closed base p m core n l a e k run s o = rw (run, k, s, o) refl
+transaction-closed base p m core n l e k run s o = rw (run, k, s, o) refl
 
 -- the commit that is noted
-noted-commit : (t c : ℕ) (r : CoreState) (a : Attempt) → Gives r a → commit_of (record { tid = t; core = c; n = r.n }) a ≡ noted t c r
+noted-commit : (t c : ℕ) {r : CoreState} {a : Attempt} → Gives r a → commit_of (record { tid = t; core = c; n = r.n }) a ≡ noted t c r
 unfolding commit_of noted
-noted-commit t c r a g = rw (g.loads, g.stores, g.console) refl
+noted-commit t c g = rw (g.loads, g.stores, g.console) refl
 
 -- a core that no later order names stands as before them
 idle-core : (base : ℕ) (p : Program) (last : ℕ) (os : List Order) (m end : Plain) (cs : List Noted) (c : ℕ) → Aligned p → IsMemory m.ram
@@ -84,11 +84,11 @@ pub record ClosedSerial (base : ℕ) (p : Program) (cs : List Noted) (c t : ℕ)
   pub ended : (plain.cores c).ended ≡ end_after (phase_after_commit r.ended) (ended_after_commit r.ended)
   pub others : (e : ℕ) → e ≢ c → plain.cores e ≡ m.cores e
 
-pub closed-serial : (base : ℕ) (p : Program) (cs : List Noted) (c t : ℕ) (saved : Local) (r : CoreState) (first m : Plain)
+pub closed-serial : {base : ℕ} (p : Program) {cs : List Noted} (c t : ℕ) {saved : Local} (r : CoreState) {first : Plain} (m : Plain)
     (s : SerialCut base p 0 (before t cs) (behind t cs) first m) → Aligned p → IsMemory first.ram → IsMemory s.start.ram
     → CanClose base p cs c t saved r m s.start → ClosedSerial base p cs c t r first m
 unfolding closed noted
-closed-serial base p cs c t saved r first m s al mm ms k = record {
+closed-serial {base} p {cs} c t {saved} r {first} m s al mm ms k = record {
   plain = i.plain;
   commits = subst (λ q. serial base p 0 (map order_of_commit q) first ≡ Some (i.plain, q)) (sym (cut-inserted (noted t c r) cs)) all;
   local = ap (λ q. q.local) own ∙ f.gives.local;
@@ -117,7 +117,7 @@ closed-serial base p cs c t saved r first m s al mm ms k = record {
     can = record {
       first = s.first;
       then_late = s.then_late;
-      executed = transaction-closed base p s.start c r.n saved f.attempt e.end (ap (λ q. q.local) (sym idle) ∙ k.local)
+      executed = transaction-closed base p s.start c r.n saved e.end (ap (λ q. q.local) (sym idle) ∙ k.local)
           (ap (λ q. q.ended) (sym idle) ∙ k.runs) f.is (ap end_of f.gives.outcome ∙ e.is);
       above = last-below t 0 (before t cs) k.positive (before-smaller t cs k.fresh);
       below = behind-below t cs;
@@ -142,7 +142,7 @@ closed-serial base p cs c t saved r first m s al mm ms k = record {
     all : serial base p 0 (map order_of_commit (before t cs ++ noted t c r ∷ behind t cs)) first ≡ Some
         (i.plain, before t cs ++ noted t c r ∷ behind t cs)
     all = ap (λ q. serial base p 0 q first) joined
-        ∙ (i.commits ∙ ap (λ q. Some (i.plain, before t cs ++ q ∷ behind t cs)) (noted-commit t c r f.attempt f.gives))
+        ∙ (i.commits ∙ ap (λ q. Some (i.plain, before t cs ++ q ∷ behind t cs)) (noted-commit t c f.gives))
 
 -- A core that commits has what its transaction needs to be inserted: every directory where it worked has reached its TID.
 pub fits-aligned : (p : Program) → Fits p → Aligned p
@@ -191,17 +191,17 @@ pub record Stand (sh : Shape) (h : History) (ys : Ways) (c t : ℕ) : Type 0 whe
       → t ≤ (tid_at h.world (home_of sh x))
   pub untold : (x : ℕ) → stores_word sh.base (h.world.cores c).stores x ≡ true → ys (home_of sh x) t ≡ Untold
 
-pub stand : (sh : Shape) (p : Program) (entries : ℕ → Local) (ram : ℕ → ℕ) (gs : List Grant) (ys : Ways) (views : ℕ → Uses) (m : Plain)
-    (h : History) (c t : ℕ) → Suits sh p ram → Invariants sh p entries ram gs ys views m h → c < sh.cores → May t (h.world.cores c).phase
-    → Stand sh h ys c t
+pub stand : {sh : Shape} {p : Program} {entries : ℕ → Local} {ram : ℕ → ℕ} {gs : List Grant} {ys : Ways} {views : ℕ
+    → Uses} {m : Plain} {h : History} {c t : ℕ} → Suits sh p ram → Invariants sh p entries ram gs ys views m h → c < sh.cores
+    → May t (h.world.cores c).phase → Stand sh h ys c t
 unfolding holder pair
-stand sh p entries ram gs ys views m h c t u k l y = record {
+stand {sh} {gs} {ys} {h} {c} {t} u k l y = record {
   below = l;
   may = y;
-  positive = numbered-least 1 gs (record { tid = t; core = c }) k.carried.granted_tids_are_those_below_next.0 owned.0;
+  positive = numbered-least 1 gs (grant_to t c) k.carried.granted_tids_are_those_below_next.0 owned.0;
   fresh = owned.1;
   last = λ n i e. k.carried.live_tid_is_the_last_granted_to_its_core c 0 t n.tid.0 held
-      (subst (λ q. Contains gs (record { tid = n.tid.0; core = q })) e
+      (subst (λ q. Contains gs (grant_to n.tid.0 q)) e
       (granted-at gs h.commits n k.carried.commits_are_of_granted_tids.1 i));
   reached = reached;
   untold = untold;
@@ -216,7 +216,7 @@ stand sh p entries ram gs ys views m h c t u k l y = record {
     held : 1 ≤ holder t (pair h.world c 0)
     held = may-bound h.world c 0 t y
 
-    owned : Contains gs (record { tid = t; core = c }) × (times t h.commits ≡ 0)
+    owned : Contains gs (grant_to t c) × (times t h.commits ≡ 0)
     owned = k.carried.live_tid_is_granted_to_its_core c 0 t l held
 
     marked : MarkedAtHomes sh s.cache
@@ -258,11 +258,11 @@ view-stands t s us (inl e) h q = subst (UsesStand s.cache us) e h
 view-stands t s us (inr e) h q = absurd (let z : is_solo s.phase ≡ true = rw e refl in cc)
 
 -- a later commit is of another core, and touches no word that this one stores
-later-apart : (sh : Shape) (p : Program) (entries : ℕ → Local) (ram : ℕ → ℕ) (gs : List Grant) (ys : Ways) (views : ℕ → Uses) (m : Plain)
-    (h : History) (c t x : ℕ) (n : Noted) → Suits sh p ram → Invariants sh p entries ram gs ys views m h → Stand sh h ys c t
-    → stores_word sh.base (h.world.cores c).stores x ≡ true → Contains h.commits n → t < n.tid.0
+later-apart : {sh : Shape} {p : Program} {entries : ℕ → Local} {ram : ℕ → ℕ} {gs : List Grant} {ys : Ways} {views : ℕ
+    → Uses} {m : Plain} {h : History} {c : ℕ} (t x : ℕ) (n : Noted) → Suits sh p ram → Invariants sh p entries ram gs ys views m h
+    → Stand sh h ys c t → stores_word sh.base (h.world.cores c).stores x ≡ true → Contains h.commits n → t < n.tid.0
     → (loads_word sh.base n.loads x || stores_word sh.base n.stores x) ≡ false
-later-apart sh p entries ram gs ys views m h c t x n u k s e i l =
+later-apart {sh} {ys} t x n u k s e i l =
     go (loads_word sh.base n.loads x) (stores_word sh.base n.stores x) refl refl
   where
     at : UsedAtHomes sh n.loads n.stores
@@ -283,16 +283,15 @@ later-apart sh p entries ram gs ys views m h c t x n u k s e i l =
     go false false f g = refl
 
 -- the commit is inserted
-pub closed-core : (sh : Shape) (p : Program) (entries : ℕ → Local) (ram : ℕ → ℕ) (gs : List Grant) (ys : Ways) (views : ℕ → Uses)
-    (m : Plain) (h : History) (c t : ℕ) (r : CoreState) (o : Out) → Suits sh p ram → Invariants sh p entries ram gs ys views m h
-    → c < sh.cores
-    → Closing sh p c t (h.world.cores c) r o → ClosedSerial sh.base p h.commits c t r (plain_start entries ram) m
+pub closed-core : {sh : Shape} (p : Program) {entries : ℕ → Local} {ram : ℕ → ℕ} {gs : List Grant} {ys : Ways} {views : ℕ → Uses}
+    (m : Plain) (h : History) (c t : ℕ) (r : CoreState) {o : Out} → Suits sh p ram → Invariants sh p entries ram gs ys views m h
+    → c < sh.cores → Closing sh p c t (h.world.cores c) r o → ClosedSerial sh.base p h.commits c t r (plain_start entries ram) m
 unfolding plain_start pair
-closed-core sh p entries ram gs ys views m h c t r o u k l f = closed-serial sh.base p h.commits c t (h.world.cores c).saved r
-    (plain_start entries ram) m cut (fits-aligned p u.fits) u.small small can
+closed-core {sh} p {entries} {ram} {gs} {ys} {views} m h c t r u k l f = closed-serial p c t r m cut
+    (fits-aligned p u.fits) u.small small can
   where
     s : Stand sh h ys c t
-    s = stand sh p entries ram gs ys views m h c t u k l f.phase
+    s = stand u k l f.phase
 
     cut : SerialCut sh.base p 0 (before t h.commits) (behind t h.commits) (plain_start entries ram) m
     cut = serial-cut sh.base p 0 (before t h.commits) (behind t h.commits) (plain_start entries ram) m
@@ -342,7 +341,7 @@ closed-core sh p entries ram gs ys views m h c t r o u k l f = closed-serial sh.
           λ x e. touch-none sh.base x (behind t h.commits)
           (each-then (λ n. Contains h.commits n × (t < n.tid.0))
           (λ n. (loads_word sh.base n.loads x || stores_word sh.base n.stores x) ≡ false) (behind t h.commits)
-          (λ n i. later-apart sh p entries ram gs ys views m h c t x n u k s (sym (ap (λ q. stores_word sh.base q x) f.stores) ∙ e) i.0
+          (λ n i. later-apart t x n u k s (sym (ap (λ q. stores_word sh.base q x) f.stores) ∙ e) i.0
           i.1) listed);
     }
 
@@ -362,15 +361,15 @@ rested-core sh w c e o m r k = go (e == c) refl
         record { local = at.local ∙ sym r.saved; ended = at.ended ∙ sym r.ends }
 
 -- an event that commits nothing
-kept-serial : (sh : Shape) (p : Program) (entries : ℕ → Local) (ram : ℕ → ℕ) (h : History) (m : Plain) (o : Stepped) → o.noted ≡ None
+kept-serial : {sh : Shape} {p : Program} {entries : ℕ → Local} {ram : ℕ → ℕ} (h : History) (m : Plain) (o : Stepped) → o.noted ≡ None
     → CommitsSerial sh p entries ram h.commits m → CoresSerial sh o.world m → After sh p entries ram h o
-kept-serial sh p entries ram h m o n k s = record { plain = m; commits = rw n k; cores = s }
+kept-serial h m o n k s = record { plain = m; commits = rw n k; cores = s }
 
 -- a commit
-closed-cores : (sh : Shape) (p : Program) (w : World) (cs : List Noted) (c t e : ℕ) (r : CoreState) (o : Out) (first m : Plain)
+closed-cores : {sh : Shape} {p : Program} (w : World) {cs : List Noted} (c : ℕ) {t : ℕ} (e : ℕ) {r : CoreState} (o : Out) {first m : Plain}
     (g : ClosedSerial sh.base p cs c t r first m) → Closing sh p c t (w.cores c) r o → CoreSerial (w.cores e) (m.cores e)
     → CoreSerial (if e == c then o.core else w.cores e) (g.plain.cores e)
-closed-cores sh p w cs c t e r o first m g f k = go (e == c) refl
+closed-cores w c e o g f k = go (e == c) refl
   where
     go : (b : Bool) → (e == c) ≡ b → CoreSerial (if b then o.core else w.cores e) (g.plain.cores e)
     go false q = let n : e ≢ c = λ i. absurd (let y : (e == c) ≡ true = grind nats in cc) in
@@ -396,26 +395,26 @@ events_serial sh p entries ram gs ys views m h e u k =
       where
         one : (o : Out) → Leaves sh p c (h.world.cores c) o
             → After sh p entries ram h (record { world = core_moves h.world c o; noted = o.commit })
-        one o (Stays n v i) = kept-serial sh p entries ram h m (record { world = core_moves h.world c o; noted = o.commit }) n
+        one o (Stays n v i) = kept-serial h m (record { world = core_moves h.world c o; noted = o.commit }) n
             k.commits_are_serial
             (λ j y. rested-core sh h.world c j o m (record { commit = n; saved = v; ends = i }) (k.committed_cores_are_serial j y))
         one o (Closes t r f) =
             let g : ClosedSerial sh.base p h.commits c t r (plain_start entries ram) m =
-            closed-core sh p entries ram gs ys views m h c t r o u k l f in
+            closed-core p m h c t r u k l f in
             record {
               plain = g.plain;
               commits = subst (λ q. CommitsSerial sh p entries ram (and_noted q h.commits) g.plain) (sym f.commit) g.commits;
-              cores = λ j y. closed-cores sh p h.world h.commits c t j r o (plain_start entries ram) m g f
+              cores = λ j y. closed-cores h.world c j o g f
                   (k.committed_cores_are_serial j y);
             }
 
     rested : (c : ℕ) (o : Out) (w : World) → w.cores ≡ (λ j. if j == c then o.core else h.world.cores j)
         → CheckpointStays (h.world.cores c) o → After sh p entries ram h (record { world = w; noted = o.commit })
-    rested c o w q r = kept-serial sh p entries ram h m (record { world = w; noted = o.commit }) r.commit k.commits_are_serial
+    rested c o w q r = kept-serial h m (record { world = w; noted = o.commit }) r.commit k.commits_are_serial
         (λ j y. subst (λ f. CoreSerial (f j) (m.cores j)) (sym q) (rested-core sh h.world c j o m r (k.committed_cores_are_serial j y)))
 
     same : (w : World) → w.cores ≡ h.world.cores → After sh p entries ram h (record { world = w; noted = None })
-    same w q = kept-serial sh p entries ram h m (record { world = w; noted = None }) refl k.commits_are_serial
+    same w q = kept-serial h m (record { world = w; noted = None }) refl k.commits_are_serial
         (subst (λ f. (j : ℕ) → j < sh.cores → CoreSerial (f j) (m.cores j)) (sym q) k.committed_cores_are_serial)
 
     evicts : (c x y : ℕ) → c < sh.cores

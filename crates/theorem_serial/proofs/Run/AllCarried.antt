@@ -228,10 +228,10 @@ step-all sh p entries ram o h e s a = go (next_history sh p h e) (homes_kept sh 
         )
 
 -- what is remembered of the longer run is what the event leaves
-memo-more : (sh : Shape) (p : Program) (entries : ℕ → Local) (ram : ℕ → ℕ) (es : List Event) (e : Event) (h g : History)
+memo-more : {sh : Shape} {p : Program} (entries : ℕ → Local) (ram : ℕ → ℕ) {es : List Event} {e : Event} {h g : History}
     → OneMore sh p es e first_ways no_views (first_state entries ram) h g
     → memo sh p entries ram (es ++ e ∷ []) ≡ memo_after sh p h e (memo sh p entries ram es)
-memo-more sh p entries ram es e h g k = rw (k.grants, k.ways, k.views) refl
+memo-more entries ram k = rw (k.grants, k.ways, k.views) refl
 
 -- the events es behind the events past
 from-there : (sh : Shape) (p : Program) (entries : ℕ → Local) (ram : ℕ → ℕ) (past es : List Event) (h : History) → Suits sh p ram
@@ -254,7 +254,7 @@ from-there sh p entries ram past (e ∷ es) h s r a =
     go None q a more = tt
     go (Some g) q a more =
         let k = one-more sh p past e first_ways no_views (first_state entries ram) h g r q in
-        let same : memo sh p entries ram (past ++ e ∷ []) ≡ o = memo-more sh p entries ram past e h g k in
+        let same : memo sh p entries ram (past ++ e ∷ []) ≡ o = memo-more entries ram k in
         let b : AllOf sh p entries ram o g = a (subst (λ y. Proved sh p y g) same (proved sh p entries ram (past ++ e ∷ []) g s k.state)) in
         subst (λ fs. IfSome (run_from sh p es g) (λ f. AllOf sh p entries ram (memo sh p entries ram fs) f)) (append_assoc past (e ∷ []) es)
         (more g q (subst (λ y. AllOf sh p entries ram y g) (sym same) b))

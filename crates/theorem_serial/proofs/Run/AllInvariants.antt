@@ -7,7 +7,7 @@ use Names.{SparesItsCommitter, SparesCommitter, KeptCommitting, MarksAreStored, 
 use Names.{then_grants, grants_from, LastGranted, append-nil, core_start, KeptStored, granted_by, ◌∷◌, KeptOwners, and_noted, KeptWhole}
 use Names.{KeptNamed, KeptMarks, KeptMasks, KeptCores, HoldsLast, recorded, List, and_then, run_from, KeptTold, Program, Stepped, History}
 use Names.{has_tid, KeptAll, IfSome, Always, arith, Local, Event, Shape, World, start, Grant, ◌++◌, Some, None, refl, step, live, pair}
-use Names.{Kept, sym, run, [], ℕ, IfSome_then}
+use Names.{Kept, sym, run, [], ℕ, IfSome_then, first_state}
 use proofs.Lines.LineOwners.{step-asked, start-asked, step-whole, start-whole}
 use proofs.Marks.CountsKept.{step-counted, start-counted}
 use proofs.Marks.MarksKept.{step-marks, start-marks}
@@ -28,19 +28,19 @@ start-spared : (sh : Shape) (entries : ℕ → Local) (ram : ℕ → ℕ) → Sp
 unfolding start pair live
 start-spared sh entries ram c d = record { owner = λ t l. absurd (omega arith); own = λ l g. refl }
 
-pub step-all : (sh : Shape) (p : Program) (gs : List Grant) (h : History) (e : Event) → KeptAll sh gs h
+pub step-all : {sh : Shape} (p : Program) {gs : List Grant} {h : History} (e : Event) → KeptAll sh gs h
     → IfSome (recorded h (step sh p h.world e)) (λ g. KeptAll sh (gs ++ granted_by h.world e) g)
-step-all sh p gs h e k = go (step sh p h.world e) (step-kept sh p h.world e k.kept)
-    (step-owners sh p gs h.world h.commits e k.kept.told.tids k.owners) (step-cores sh p h.world e k.cores)
-    (step-committing sh p h.world e k.kept k.committing)
-    (step-probing sh p gs h.world h.commits e k.kept k.owners k.cores k.probing)
-    (step-last sh p gs h.world h.commits e k.kept.told.tids k.owners k.last)
-    (step-spared sh p gs h.world h.commits e k.kept k.owners k.spared)
-    (step-marks sh p gs h.world h.commits e k.kept k.owners k.marks)
-    (step-counted sh p gs h.world h.commits e k.kept k.owners k.cores k.marks k.counted) (step-whole sh p h.world e k.whole)
+step-all {sh} p {gs} {h} e k = go (step sh p h.world e) (step-kept p e k.kept)
+    (step-owners p e k.kept.told.tids k.owners) (step-cores sh p h.world e k.cores)
+    (step-committing p e k.kept k.committing)
+    (step-probing p e k.kept k.owners k.cores k.probing)
+    (step-last p e k.kept.told.tids k.owners k.last)
+    (step-spared p e k.kept k.owners k.spared)
+    (step-marks p e k.kept k.owners k.marks)
+    (step-counted p e k.kept k.owners k.cores k.marks k.counted) (step-whole sh p h.world e k.whole)
     (step-named sh p h.world e k.kept k.counted k.named) (step-asked sh p h.world e k.asked)
-    (step-masks sh p gs h.world h.commits e k.kept k.owners k.marks k.masks)
-    (step-stored sh p gs h.world h.commits e k.kept k.owners k.cores k.marks k.counted k.masks k.stored)
+    (step-masks p e k.kept k.owners k.marks k.masks)
+    (step-stored p e k.kept k.owners k.cores k.marks k.counted k.masks k.stored)
   where
     go : (x : Option Stepped) → IfSome x (λ o. Kept sh o.world)
         → IfSome x (λ o. KeptOwners sh (gs ++ granted_by h.world e) o.world (and_noted o.noted h.commits))
@@ -75,7 +75,7 @@ run_from-all : (sh : Shape) (p : Program) (es : List Event) (gs : List Grant) (h
     → IfSome (run_from sh p es h) (λ r. KeptAll sh (gs ++ grants_from sh p es h) r)
 unfolding run_from grants_from next_history
 run_from-all sh p [] gs h k = rw append-nil k
-run_from-all sh p (e ∷ es) gs h k = go (recorded h (step sh p h.world e)) (step-all sh p gs h e k)
+run_from-all sh p (e ∷ es) gs h k = go (recorded h (step sh p h.world e)) (step-all p e k)
     (λ g q. run_from-all sh p es (gs ++ granted_by h.world e) g q)
   where
     go : (x : Option History) → IfSome x (λ g. KeptAll sh (gs ++ granted_by h.world e) g)
@@ -85,7 +85,7 @@ run_from-all sh p (e ∷ es) gs h k = go (recorded h (step sh p h.world e)) (ste
     go None a f = tt
     go (Some g) a f = rw (sym (append_assoc gs (granted_by h.world e) (grants_from sh p es g))) (f g a)
 
-pub all-at-start : (sh : Shape) (entries : ℕ → Local) (ram : ℕ → ℕ) → KeptAll sh [] (record { world = start entries ram; commits = [] })
+pub all-at-start : (sh : Shape) (entries : ℕ → Local) (ram : ℕ → ℕ) → KeptAll sh [] (first_state entries ram)
 all-at-start sh entries ram = record {
   kept = start-all sh entries ram;
   owners = start-owners sh entries ram;
@@ -104,10 +104,9 @@ all-at-start sh entries ram = record {
 }
 
 pub run-all : (sh : Shape) (p : Program) (entries : ℕ → Local) (ram : ℕ → ℕ) (es : List Event)
-    → IfSome (run sh p (start entries ram) es)
-    (λ r. KeptAll sh (grants_from sh p es (record { world = start entries ram; commits = [] })) r)
+    → IfSome (run sh p (start entries ram) es) (λ r. KeptAll sh (grants_from sh p es (first_state entries ram)) r)
 unfolding run
-run-all sh p entries ram es = run_from-all sh p es [] (record { world = start entries ram; commits = [] }) (all-at-start sh entries ram)
+run-all sh p entries ram es = run_from-all sh p es [] (first_state entries ram) (all-at-start sh entries ram)
 
 pub one_probe_from : (sh : Shape) (w : World) → KeptProbing w → OneProbe sh w
 unfolding pair

@@ -8,7 +8,7 @@ use Names.{reads_at, World, start, Phase, Probing, Ready, Overflowing, Solo, His
 use Names.{Kept, Always, OneWay, OneRequest, Passed, NeverPasses, OwedInFlight, Served, tid_of, asks_dir, KeptOwed, nats, tid_at}
 use Names.{IfSome_then, List, [], ◌∷◌, if◌then◌else◌, Noted, Program, Event, TidGrant, CoreState, Out, core_exec, core_evict, from_dir}
 use Names.{grant, Answer, Waits, Drops, Asks, Takes, dir_deliver, Stepped, step, insert_commit, and_noted, recorded, next_history, and_then}
-use Names.{run_from}
+use Names.{run_from, first_state}
 use proofs.Counts.Links.{total-le}
 use proofs.Serving.KeptSteps.{run-kept, core_of_grant, core_of_back, step-kept, start-all}
 use proofs.Tids.CoreTids.{KeepsHolder, holder-exec, holder-evict, holder-grant, holder-back}
@@ -45,9 +45,9 @@ passed sh w d t r l = record {
 pub never_passes : Always NeverPasses
 never_passes = from_kept NeverPasses (λ sh w k d t x l. passed sh w d t (k.told.tids.resolved d t x) l)
 
-pub owed_from : (sh : Shape) (w : World) → KeptOwed sh w → OwedInFlight sh w
+pub owed_from : {sh : Shape} {w : World} → KeptOwed sh w → OwedInFlight sh w
 unfolding pair
-owed_from sh w k = record {
+owed_from k = record {
   owed = k.owed;
   served = λ c d. (k.at_home c d).served;
   at_home = λ c d. (k.at_home c d).invs;
@@ -55,7 +55,7 @@ owed_from sh w k = record {
 }
 
 pub owed_in_flight : Always OwedInFlight
-owed_in_flight = from_kept OwedInFlight (λ sh w k. owed_from sh w k.told.owed)
+owed_in_flight = from_kept OwedInFlight (λ sh w k. owed_from k.told.owed)
 
 asked : (a b : Bool) (u t : ℕ) → ((u == t) && a) ≡ true → ((a || b) ≡ true) × (u ≡ t)
 asked true b u t o = (refl, grind nats)
@@ -117,9 +117,9 @@ step-by : (sh : Shape) (p : Program) (w : World) (e : Event) → Kept sh w → I
 step-by sh p w e h = step_cases sh p w e (λ g o. NotedByCore sh o.noted)
     (λ c l. out-by sh c _ (w.cores c) (core_exec sh p c (w.cores c)) l (holder-exec sh p c (w.cores c)))
     (λ c x y l. out-by sh c _ (w.cores c) (core_evict sh x y (w.cores c)) l (holder-evict sh x y c (w.cores c)))
-    (λ c k t i. noted-by sh c (grant sh t (w.cores c)).commit (core_of_grant sh w c k (TidGrant t) h.told.tids i)
+    (λ c k t i. noted-by sh c (grant sh t (w.cores c)).commit (core_of_grant c k h.told.tids i)
     (holder-grant sh t c (w.cores c)).own)
-    (λ c d k m i. out-by sh c _ (w.cores c) (from_dir sh d (w.cores c) m) (core_of_back sh w c d k m h.told.tids i)
+    (λ c d k m i. out-by sh c _ (w.cores c) (from_dir sh d (w.cores c) m) (core_of_back c d k h.told.tids i)
     (holder-back sh d c (w.cores c) m))
     (λ c d k m i. answer c d k (dir_deliver sh (w.dirs d) c m))
     (λ c k i. tt)
@@ -149,7 +149,7 @@ run_from-by : (sh : Shape) (p : Program) (es : List Event) (h : History) → Kep
 unfolding run_from next_history
 run_from-by sh p [] h k b = b
 run_from-by sh p (e ∷ es) h k b =
-    go (step sh p h.world e) (step-kept sh p h.world e k) (step-by sh p h.world e k) (λ g q r. run_from-by sh p es g q r)
+    go (step sh p h.world e) (step-kept p e k) (step-by sh p h.world e k) (λ g q r. run_from-by sh p es g q r)
   where
     go : (x : Option Stepped) → IfSome x (λ o. Kept sh o.world) → IfSome x (λ o. NotedByCore sh o.noted)
         → ((g : History) → Kept sh g.world → AreByCores sh g.commits → IfSome (run_from sh p es g) (λ r. AreByCores sh r.commits))
@@ -160,4 +160,4 @@ run_from-by sh p (e ∷ es) h k b =
 pub commits_are_by_cores : CommitsAreByCores
 unfolding run AreBy
 commits_are_by_cores sh p entries ram es =
-    run_from-by sh p es (record { world = start entries ram; commits = [] }) (start-all sh entries ram) tt
+    run_from-by sh p es (first_state entries ram) (start-all sh entries ram) tt

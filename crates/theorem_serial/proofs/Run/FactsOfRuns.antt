@@ -11,7 +11,7 @@ use Names.{stores_line, OneCore, Empty, times, holder, pair, share, CommitsStand
 use Names.{UntoldWhereOpen, UntoldIsLive, AllWaysFit, GivenUpOnce, LiveIsOpen, CommittedWhereStored, SmallerAreGivenUp, WorkIsReached, ◌||◌}
 use Names.{is_some, ◌∙◌, inl, inr, cases_lt, lines, Awaited, is_awaited, AttemptInMemory, LoadsInMemory, CopiesInMemory, CarriedInMemory}
 use Names.{RunsStayInMemory, Uses, MarksFit, AttemptFits, Views, no_views, views_from, attempts-fit, ReadFits, CarriedViews, RunsCarryViews}
-use Names.{nats, tid_at, IfSome_then}
+use Names.{nats, tid_at, IfSome_then, grant_to}
 use proofs.Copies.LinesKept.{start-lines, KeptLines, above-from, owned-from}
 use proofs.Copies.LinesStep.{step-lines}
 use proofs.Copies.TagsKept.{TagStep, tag-step, tags-out, start-tags}
@@ -53,13 +53,13 @@ pub record KeptMore (sh : Shape) (gs : List Grant) (h : History) : Type 0 where
 pub step-more : (sh : Shape) (p : Program) (gs : List Grant) (h : History) (e : Event) → KeptMore sh gs h
     → IfSome (recorded h (step sh p h.world e)) (λ g. KeptMore sh (gs ++ granted_by h.world e) g)
 step-more sh p gs h e k =
-    go (step sh p h.world e) (step-all sh p gs h e k.all) (step-line-owners sh p gs h.world e k.all.spared k.line_owners)
-    (step-loading sh p h.world e k.loading) (step-probed sh p gs h.world h.commits e k.all.kept k.all.owners k.probed)
+    go (step sh p h.world e) (step-all p e k.all) (step-line-owners sh p gs h.world e k.all.spared k.line_owners)
+    (step-loading sh p h.world e k.loading) (step-probed p e k.all.kept k.all.owners k.probed)
     (step-owing sh p h.world e k.owing) (step-unacked sh p gs h.world e k.all.kept k.all.spared k.unacked)
     (step-homes sh p h.world e k.all.kept k.homes)
-    (step-after sh p gs h.world h.commits e k.all.owners k.all.cores k.all.last k.loading k.after)
-    (step-one-mark sh p gs h.world h.commits e k.all.kept k.all.owners k.all.marks k.one_mark)
-    (step-reads sh p gs h.world h.commits e k.all.kept k.all.owners k.all.cores k.all.spared k.reads)
+    (step-after p e k.all.owners k.all.cores k.all.last k.loading k.after)
+    (step-one-mark p e k.all.kept k.all.owners k.all.marks k.one_mark)
+    (step-reads p e k.all.kept k.all.owners k.all.cores k.all.spared k.reads)
   where
     go : (x : Option Stepped) → IfSome (recorded h x) (λ g. KeptAll sh (gs ++ granted_by h.world e) g)
         → IfSome x (λ o. KeptLineOwners (gs ++ granted_by h.world e) o.world) → IfSome x (λ o. KeptLoading sh o.world)
@@ -112,8 +112,8 @@ pub record KeptCopies (sh : Shape) (gs : List Grant) (ys : Ways) (h : History) :
 
 step-copies : (sh : Shape) (p : Program) (gs : List Grant) (ys : Ways) (h : History) (e : Event) → KeptCopies sh gs ys h
     → IfSome (recorded h (step sh p h.world e)) (λ g. KeptCopies sh (gs ++ granted_by h.world e) (ways_after (sent_by sh p h.world e) ys) g)
-step-copies sh p gs ys h e k = go (step sh p h.world e) (step-run sh p gs ys h e k.told) (step-more sh p gs h e k.more)
-    (step-speaks sh p h.world e k.told.all.kept.told.tids k.told.all.cores) (tag-step sh p h.world e)
+step-copies sh p gs ys h e k = go (step sh p h.world e) (step-run p e k.told) (step-more sh p gs h e k.more)
+    (step-speaks p e k.told.all.kept.told.tids k.told.all.cores) (tag-step sh p h.world e)
     (step-lines sh p gs ys h e (record { told = k.told; owners = k.more.line_owners; tags = k.tags; lines = k.lines }))
     (step-gets sh p h.world h.commits e k.gets)
     (step-sharers sh p gs ys h e (record { told = k.told; owners = k.more.line_owners; tags = k.tags; lines = k.lines }) k.more.loading
@@ -138,10 +138,10 @@ step-copies sh p gs ys h e k = go (step sh p h.world e) (step-run sh p gs ys h e
       told = a;
       more = b;
       tags = tags-out sh gs ys h o k.told (on-its-way sh hs zs (record { world = o.world; commits = and_noted o.noted h.commits }) a)
-          (new-commit sh gs ys h (sent_by sh p h.world e) o k.told c) k.tags d;
+          (new-commit k.told c) k.tags d;
       lines = f;
       gets = i f;
-      sharers = j b.loading (new-commit sh gs ys h (sent_by sh p h.world e) o k.told c);
+      sharers = j b.loading (new-commit k.told c);
     }
 
 run_from-copies : (sh : Shape) (p : Program) (es : List Event) (gs : List Grant) (ys : Ways) (h : History) → KeptCopies sh gs ys h
@@ -179,14 +179,14 @@ run-copies sh p entries ram es = run_from-copies sh p es [] first_ways (first_st
 -- The facts of the list that are proved of every run, from what is carried together along it.
 
 -- one core
-apart : (sh : Shape) (c : Cache) → IsCache sh c → IsApart c
-apart sh c k = record { modified = k.modified; dirty = k.dirty; either = k.either }
+apart : {sh : Shape} {c : Cache} → IsCache sh c → IsApart c
+apart k = record { modified = k.modified; dirty = k.dirty; either = k.either }
 
-phase-fits : (sh : Shape) (s : CoreState) → OneCore sh s → PhaseFits s
-phase-fits sh s k = record { spilled = k.words.spilled_alone; unread = k.words.unread_alone; rested = k.rested }
+phase-fits : {sh : Shape} {s : CoreState} → OneCore sh s → PhaseFits s
+phase-fits k = record { spilled = k.words.spilled_alone; unread = k.words.unread_alone; rested = k.rested }
 
-halted : (sh : Shape) (s : CoreState) → OneCore sh s → s.phase ≡ Halted → Empty s × ((x : ℕ) → s.spilled x ≡ None)
-halted sh s k e = (k.rested (rw e refl), k.words.spilled_alone (rw e refl))
+halted : {sh : Shape} {s : CoreState} → OneCore sh s → s.phase ≡ Halted → Empty s × ((x : ℕ) → s.spilled x ≡ None)
+halted k e = (k.rested (rw e refl), k.words.spilled_alone (rw e refl))
 
 -- TIDs
 holder-same : (w : World) (c d e t : ℕ) → holder t (pair w c d) ≡ holder t (pair w c e)
@@ -194,7 +194,7 @@ unfolding pair holder
 holder-same w c d e t = refl
 
 live-granted : (sh : Shape) (gs : List Grant) (h : History) → KeptAll sh gs h → (c d t : ℕ) → c < sh.cores → 1 ≤ holder t (pair h.world c d)
-    → Contains gs (record { tid = t; core = c }) × (times t h.commits ≡ 0)
+    → Contains gs (grant_to t c) × (times t h.commits ≡ 0)
 unfolding share
 live-granted sh gs h k c d t l x =
     let y : 1 ≤ holder t (pair h.world c 0) = rw (holder-same h.world c 0 d t) x in
@@ -204,8 +204,8 @@ live-granted sh gs h k c d t l x =
 none-coming : (n g x : ℕ) → (1 ≤ n + g → x ≡ 0) → 1 ≤ x → g ≡ 0
 none-coming n a x f l = grind nats
 
-marked-came : (n s g : ℕ) (m : ℕ) (b : Bool) → b ≡ true → (1 ≤ num (nat_le n s) + g → m + num (s == s && b) ≡ 0) → (s < n) × (g ≡ 0)
-marked-came n s g m b e f = (go (nat_le n s) refl, none-coming (num (nat_le n s)) g (m + num (s == s && b)) f (omega (arith, one)))
+marked-came : (n s g : ℕ) (m : ℕ) {b : Bool} → b ≡ true → (1 ≤ num (nat_le n s) + g → m + num (s == s && b) ≡ 0) → (s < n) × (g ≡ 0)
+marked-came n s g m {b} e f = (go (nat_le n s) refl, none-coming (num (nat_le n s)) g (m + num (s == s && b)) f (omega (arith, one)))
   where
     one : num (s == s && b) ≡ 1
     one = rw e (grind nats)
@@ -213,15 +213,15 @@ marked-came n s g m b e f = (go (nat_le n s) refl, none-coming (num (nat_le n s)
     go : (x : Bool) → nat_le n s ≡ x → s < n
     go a q = grind nats
 
-marked-line : (sh : Shape) (gs : List Grant) (h : History) → KeptAll sh gs h → (c d l : ℕ) → c < sh.cores → d < sh.dirs
-    → has_mark (h.world.dirs d).lines l ≡ true → (home sh l ≡ d) × (tid_at h.world d < h.world.next)
-    × (live (Grants (tid_at h.world d)) (pair h.world c d).grants ≡ 0)
+marked-line : {sh : Shape} {gs : List Grant} (h : History) → KeptAll sh gs h → (c d l : ℕ) → c < sh.cores → d < sh.dirs
+    → has_mark (h.world.dirs d).lines l ≡ true
+    → (home sh l ≡ d) × (tid_at h.world d < h.world.next) × (live (Grants (tid_at h.world d)) (pair h.world c d).grants ≡ 0)
 unfolding pair marks_of
-marked-line sh gs h k c d l cl dl e =
+marked-line h k c d l cl dl e =
     let f = (k.marks c d (tid_at h.world d) l).fresh in
     let r =
     marked-came h.world.next (tid_at h.world d) (live (Grants (tid_at h.world d)) (pair h.world c d).grants)
-    (live (MarkOf (tid_at h.world d) l) (pair h.world c d).out) (has_mark (h.world.dirs d).lines l) e f in
+    (live (MarkOf (tid_at h.world d) l) (pair h.world c d).out) e f in
     ((k.kept.told.owed.at_home c d).marked l e, r.0, r.1)
 
 none-marked : (a b c : Bool) → (a && b) ≡ false → num (a && (b && c)) ≡ 0
@@ -242,14 +242,14 @@ marks-wait sh gs h k c d t l cl dl = record {
 }
 
 -- the owner of a Mark is known by any of its lines
-mark-owner : (sh : Shape) (gs : List Grant) (h : History) → KeptAll sh gs h → (c d t : ℕ) → 1 ≤ live (Marks t) (pair h.world c d).out
-    → Contains gs (record { tid = t; core = c })
-mark-owner sh gs h k c d t x = (k.marks c d t 0).owner (omega (arith, x))
+mark-owner : {sh : Shape} {gs : List Grant} {h : History} → KeptAll sh gs h → (c d t : ℕ) → 1 ≤ live (Marks t) (pair h.world c d).out
+    → Contains gs (grant_to t c)
+mark-owner k c d t x = (k.marks c d t 0).owner (omega (arith, x))
 
-probes-taken : (sh : Shape) (gs : List Grant) (h : History) → KeptMore sh gs h → (c d t : ℕ)
-    → 1 ≤ live (Probes t) (pair h.world c d).out + live (Replies t) (pair h.world c d).back → Contains gs (record { tid = t; core = c })
-    × (live (Grants t) (pair h.world c d).grants ≡ 0)
-probes-taken sh gs h m c d t x = (
+probes-taken : {sh : Shape} {gs : List Grant} (h : History) → KeptMore sh gs h → (c d t : ℕ)
+    → 1 ≤ live (Probes t) (pair h.world c d).out + live (Replies t) (pair h.world c d).back
+    → Contains gs (grant_to t c) × (live (Grants t) (pair h.world c d).grants ≡ 0)
+probes-taken h m c d t x = (
   m.probed c d t x,
   none-coming (num (nat_le (pair h.world c d).next t)) (live (Grants t) (pair h.world c d).grants)
       (live (Probes t) (pair h.world c d).out + live (Replies t) (pair h.world c d).back) (m.all.probing c d t).fresh x,
@@ -273,11 +273,11 @@ carried : (sh : Shape) (gs : List Grant) (ys : Ways) (h : History) → KeptCopie
 unfolding pair
 carried sh gs ys h x t = let m = x.more in let k = m.all in record {
   frames_stand_in_their_sets = λ c. (k.cores c).words.cache;
-  modified_and_dirty_words_are_valid_and_apart = λ c. apart sh (h.world.cores c).cache (k.cores c).words.cache;
+  modified_and_dirty_words_are_valid_and_apart = λ c. apart (k.cores c).words.cache;
   tid_and_owing_fit_the_phase = m.owing;
   awaited_line_has_a_frame = λ c a q. (k.cores c).awaited a q;
-  marks_fit_the_phase = λ c. phase-fits sh (h.world.cores c) (k.cores c);
-  no_attempt_after_the_halt = λ c e. halted sh (h.world.cores c) (k.cores c) e;
+  marks_fit_the_phase = λ c. phase-fits (k.cores c);
+  no_attempt_after_the_halt = λ c e. halted (k.cores c) e;
   stored_words_are_those_named = λ c x. (k.cores c).words.named x;
   spilled_line_is_clean_in_its_frame = λ c x y e s. (k.cores c).words.clean x y e s;
   granted_tids_are_those_below_next = (k.owners.numbered, k.owners.next);
@@ -299,17 +299,17 @@ carried sh gs ys h x t = let m = x.more in let k = m.all in record {
   marks_sent_are_the_lines_stored = (λ c d u l cl dl q. (k.marks c d u l).held cl dl q, k.masks, k.stored);
   commit_counts_the_lines = t.marks;
   smaller_tid_is_given_up_where_a_larger_one_worked = (t.smaller, t.reached);
-  committing_tid_is_served = commits_served sh h.world k.kept k.committing;
-  owed_counts_invs_and_acks = owed_from sh h.world k.kept.told.owed;
+  committing_tid_is_served = commits_served k.kept k.committing;
+  owed_counts_invs_and_acks = owed_from k.kept.told.owed;
   no_inv_to_the_core_that_committed = (k.spared, m.unacked);
   one_probe_or_reply_per_owing_directory = one_probe_from sh h.world k.probing;
-  probes_are_of_tids_already_taken = probes-taken sh gs h m;
+  probes_are_of_tids_already_taken = probes-taken h m;
   replying_directory_has_reached_the_tid = λ c d. (k.kept.probes c d).replies;
   directory_that_replied_serves_the_tid = served_from sh h.world k.kept;
   skipped_tid_sent_no_mark = λ c d t l x y. (k.marks c d t l).skipped x y;
-  marked_line_was_marked_by_the_served_tid = (marked-line sh gs h k, t.served);
+  marked_line_was_marked_by_the_served_tid = (marked-line h k, t.served);
   marks_go_out_with_the_reply = marks-wait sh gs h k;
-  marks_sent_are_in_flight_or_handled = (mark-owner sh gs h k, k.counted);
+  marks_sent_are_in_flight_or_handled = (mark-owner k, k.counted);
   inv_and_ack_name_a_marked_line = k.named;
   line_marked_in_part_has_no_owner = k.whole;
   marks_name_different_lines = λ c d u l cl dl. (m.one_mark c d u l cl dl, (k.kept.told.owed.at_home c d).marks, (k.marks c d u l).words);
@@ -322,7 +322,7 @@ carried sh gs ys h x t = let m = x.more in let k = m.all in record {
   owned_line_has_one_copy_with_its_tag = owned-from sh h.commits h.world x.lines;
   asked_line_gets_its_words = (k.asked, x.gets);
   holder_is_a_sharer = x.sharers;
-  read_mark_is_valid_or_passed = read-words sh gs h.world h.commits k.owners k.last m.reads;
+  read_mark_is_valid_or_passed = read-words k.owners k.last m.reads;
 }
 
 proved-alone : (sh : Shape) (p : Program) (entries : ℕ → Local) (ram : ℕ → ℕ) (es : List Event)
@@ -384,9 +384,9 @@ attempt-memory sh gs ys h k m c = record {
     either : (a b : Bool) → b ≡ true → (a || b) ≡ true
     either a b e = grind nats
 
-loads-memory : (sh : Shape) (gs : List Grant) (ys : Ways) (h : History) → Carried sh gs ys h → KeptInMemory sh h → LoadsInMemory sh h.world
+loads-memory : {sh : Shape} {gs : List Grant} {ys : Ways} (h : History) → Carried sh gs ys h → KeptInMemory sh h → LoadsInMemory sh h.world
 unfolding pair
-loads-memory sh gs ys h k m c d l i = go (h.world.cores c).awaited refl (omega (arith, i, k.one_load_request_or_fill c d l))
+loads-memory {sh} h k m c d l i = go (h.world.cores c).awaited refl (omega (arith, i, k.one_load_request_or_fill c d l))
   where
     line : (a : Awaited) → (h.world.cores c).awaited ≡ Some a → (b e : Bool) → (a.line == l) ≡ b → 1 ≤ num (b && e) → l < lines sh
     line a q b e r n = grind (nats, attempt-memory)
@@ -403,7 +403,7 @@ pub carried-memory : (sh : Shape) (gs : List Grant) (ys : Ways) (h : History) �
 carried-memory sh gs ys h k m = record {
   frames_are_of_lines_in_memory = λ c l e. (m.cores c).frames l e;
   attempts_stay_in_memory = attempt-memory sh gs ys h k m;
-  loads_in_flight_are_of_lines_in_memory = loads-memory sh gs ys h k m;
+  loads_in_flight_are_of_lines_in_memory = loads-memory h k m;
   copies_in_flight_are_of_lines_in_memory = copies-memory sh h m;
   commits_stay_in_memory = m.commits;
 }
@@ -424,13 +424,13 @@ runs_stay_in_memory sh p entries ram es i = go (run sh p (start entries ram) es)
     go (Some h) k m = carried-memory sh gs ys h k m
 
 -- The facts of the list that are proved of every run of a program that fits: what theorem_attempt says of each core's attempt and its view.
-read-fits : (sh : Shape) (s : CoreState) (us : Uses) → MarksFit sh s us → ReadFits s us
-read-fits sh s us k = record { stand = k.stand; used = λ a x e. k.used x e }
+read-fits : {sh : Shape} {s : CoreState} {us : Uses} → MarksFit sh s us → ReadFits s us
+read-fits k = record { stand = k.stand; used = λ a x e. k.used x e }
 
 pub runs_carry_views : RunsCarryViews
 runs_carry_views sh p entries ram es f = IfSome_then (run sh p (start entries ram) es) (attempts-fit sh p entries ram es f) (λ h k. record {
   attempt_follows_from_its_view = λ c. (k c).follows;
-  read_marks_are_the_view = λ c. read-fits sh (h.world.cores c) (vs c) (k c).marks;
+  read_marks_are_the_view = λ c. read-fits (k c).marks;
 })
   where
     vs : Views

@@ -63,11 +63,11 @@ no l = omega (arith, l)
 unequal : (a b : ℕ) → (a == b) ≡ false → a ≡ b → ⊥
 unequal a b h e = grind nats
 
-home-of : (sh : Shape) (ram : ℕ → ℕ) (w : World) (cs : List Noted) (d x : ℕ) → HomeWords sh ram w cs → sh.cores ≡ 2 → d < sh.dirs
-    → home_of sh x ≡ d
-    → word_copies x ((w.dirs d).lines.tag (line_of x)) (pair w 0 d) ≡ 0 → word_copies x ((w.dirs d).lines.tag (line_of x)) (pair w 1 d) ≡ 0
+home-of : {sh : Shape} {ram : ℕ → ℕ} {w : World} {cs : List Noted} (d x : ℕ) → HomeWords sh ram w cs → sh.cores ≡ 2 → d < sh.dirs
+    → home_of sh x ≡ d → word_copies x ((w.dirs d).lines.tag (line_of x)) (pair w 0 d) ≡ 0
+    → word_copies x ((w.dirs d).lines.tag (line_of x)) (pair w 1 d) ≡ 0
     → (w.dirs d).words x ≡ value_at sh.base ram cs (w.dirs d) None None x
-home-of sh ram w cs d x k e l h a b =
+home-of {w} d x k e l h a b =
     k.at_home d x l h (λ c i. both (λ c. word_copies x ((w.dirs d).lines.tag (line_of x)) (pair w c d) ≡ 0) a b c (omega (arith, i, e)))
 
 pub tried_fails : TriedFails
@@ -77,7 +77,7 @@ tried_fails = record {
   owner = λ k. unequal 0 1 refl (k 0 1 3 zero-two one-two (let q : 3 < 4 = omega arith in q) refl);
   sharer = λ k. neither never (λ t. no t.sent) ((k 1 1 3 one-two one-two (let q : 3 < 4 = omega arith in q) refl).shares refl);
   word =
-      λ k. unequal 7 2 refl (home-of tried tried_ram (with_word tried_end.world 1 24 7) tried_end.commits 1 24 k refl one-two refl refl
+      λ k. unequal 7 2 refl (home-of 1 24 k refl one-two refl refl
       refl);
   commit = λ k. unequal 1 0 refl (k 1 0 2 2 one-two zero-two (let q : 2 < 4 = omega arith in q) refl zero-two).one;
   uncommitted = λ k. neither (unequal 2 0 refl) no (k 1 1 24 2 one-two one-two refl refl refl);

@@ -34,17 +34,16 @@ served-commit sh c t d x h = grind nats
 served-solo : (sh : Shape) (s : CoreState) (t d x : ℕ) → (d < sh.dirs → t ≤ x)
     → among (CommitsAbove x) (say sh s (Tells_alone t) (Dir d)) ≡ 0
 unfolding passes solo_sends among
-served-solo sh s t d x h = go (cases_lt d sh.dirs)
-  where
-    go : (d < sh.dirs) ⊎ (sh.dirs ≤ d) → among (CommitsAbove x) (say sh s (Tells_alone t) (Dir d)) ≡ 0
-    go (inl l) = quiet sh s (CommitsAbove x) (Tells_alone t) (λ y. let i = h l in let z : nat_lt x t ≡ false = grind nats in
-        rw z refl) d
-    go (inr l) = let z : nat_lt d sh.dirs ≡ false = grind nats in rw z refl
+served-solo sh s t d x h = elim (cases_lt d sh.dirs) [
+  | inl l ↦ quiet sh s (CommitsAbove x) (Tells_alone t) (λ y. let i = h l in let z : nat_lt x t ≡ false = grind nats in
+      rw z refl) d
+  | inr l ↦ let z : nat_lt d sh.dirs ≡ false = grind nats in rw z refl
+]
 
-pub served-exec : (sh : Shape) (p : Program) (c d x : ℕ) (s : CoreState) → Reached sh d x s
+pub served-exec : {sh : Shape} (p : Program) (c : ℕ) {d x : ℕ} {s : CoreState} → Reached sh d x s
     → IfSome (core_exec sh p c s) (λ o. Served d x o)
 unfolding commit solo_commit passes
-served-exec sh p c d x s r = each-exec sh p c s (λ o. Served d x o) go
+served-exec {sh} p c {d} {x} {s} r = each-exec sh p c s (λ o. Served d x o) go
   where
     ready : (u : ℕ) → s.phase ≡ Ready u → d < sh.dirs → writes_at sh s.cache d ≡ true → u ≤ x
     ready u e l w = rw e at (r.reached l (rw e (rw w refl)) (r.replied l (rw e refl)))

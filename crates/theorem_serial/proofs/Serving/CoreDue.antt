@@ -54,8 +54,8 @@ clean-quiet sh d (m ∷ ms) h = let r = clean-quiet sh d ms (omega arith) in rec
   far = λ x. omega (arith, resolves-protocol m, r.far x);
 }
 
-clean-append : (sh : Shape) (d : ℕ) (a b : List Msg) → Clean sh d a → Clean sh d b → Clean sh d (a ++ b)
-clean-append sh d a b x y =
+clean-append : {sh : Shape} {d : ℕ} (a b : List Msg) → Clean sh d a → Clean sh d b → Clean sh d (a ++ b)
+clean-append {sh} {d} a b x y =
     record {
       acks = omega (arith, among-append Acks a b, x.acks, y.acks);
       marks = omega (arith, among-append (MarksAway sh.dirs d) a b, x.marks, y.marks);
@@ -101,11 +101,11 @@ clean-solo sh c sp t d = go (nat_lt d sh.dirs) refl (solo_writes_at sh c sp d)
         ++ Commit t (count_below (λ l. d == home sh l && is_written c sp l) (lines sh)) ∷ [] else Skip t ∷ [])
         ++ solo_write_backs sh sp t d else [])
     go false q b = record { acks = refl; marks = refl; far = λ x. refl }
-    go true q false = clean-append sh d (Skip t ∷ []) (solo_write_backs sh sp t d)
+    go true q false = clean-append (Skip t ∷ []) (solo_write_backs sh sp t d)
         (record { acks = refl; marks = refl; far = λ x. absurd (grind nats) }) (clean-backs sh sp t d)
     go true q true =
-        clean-append sh d _ (solo_write_backs sh sp t d)
-        (clean-append sh d _ (Commit t (count_below (λ l. d == home sh l && is_written c sp l) (lines sh)) ∷ [])
+        clean-append _ (solo_write_backs sh sp t d)
+        (clean-append _ (Commit t (count_below (λ l. d == home sh l && is_written c sp l) (lines sh)) ∷ [])
         (clean-marks sh d t (written_mask c sp) (λ l. d == home sh l && is_written c sp l) (lines sh)
         (λ l q. at-home d (home sh l) (is_written c sp l) q))
         (record { acks = refl; marks = refl; far = λ x. absurd (grind nats) })) (clean-backs sh sp t d)
@@ -134,8 +134,8 @@ clean-none : (sh : Shape) (d : ℕ) → Clean sh d []
 unfolding among
 clean-none sh d = record { acks = refl; marks = refl; far = λ x. refl }
 
-pub clean-steady : (sh : Shape) (s : CoreState) (o : Out) → Steady s o → CleanOut sh o
-clean-steady sh s o y d = clean-quiet sh d (o.sends (Dir d)) (y.quiet d)
+pub clean-steady : (sh : Shape) {s : CoreState} {o : Out} → Steady s o → CleanOut sh o
+clean-steady sh {o} y d = clean-quiet sh d (o.sends (Dir d)) (y.quiet d)
 
 pub clean-exec : (sh : Shape) (p : Program) (c : ℕ) (s : CoreState) → IfSome (core_exec sh p c s) (λ o. CleanOut sh o)
 unfolding commit solo_commit
@@ -146,18 +146,18 @@ clean-exec sh p c s = each-exec sh p c s (λ o. CleanOut sh o) go
     go (Room_wanted r i) = λ d. clean-none sh d
     go (Ends_run l e f r i) = λ d. clean-none sh d
     go (Ends_alone u l e f r i) = λ d. clean-solo sh s.cache s.spilled u d
-    go x = clean-steady sh s (out x) (did-steady x)
+    go x = clean-steady sh (did-steady x)
 
 pub clean-evict : (sh : Shape) (x y : ℕ) (s : CoreState) → IfSome (core_evict sh x y s) (λ o. CleanOut sh o)
 clean-evict sh x y s =
-    each-evict sh x y s (λ o. CleanOut sh o) (λ k q u z. clean-steady sh s (emptied sh x y k s) (steady-emptied sh x y s k q u z))
+    each-evict sh x y s (λ o. CleanOut sh o) (λ k q u z. clean-steady sh (steady-emptied sh x y s k q u z))
 
 pub clean-grant : (sh : Shape) (u : ℕ) (s : CoreState) → CleanOut sh (grant sh u s)
 unfolding grant
 clean-grant sh u s = go s.phase
   where
     still : CleanOut sh (ignored s)
-    still = clean-steady sh s (ignored s) (ignored-steady s)
+    still = clean-steady sh (ignored-steady s)
 
     go : (q : Phase) → CleanOut sh (grant_in_phase sh u s q)
     go AwaitTid = clean-grants sh s.cache u
@@ -165,14 +165,14 @@ clean-grant sh u s = go s.phase
     go (Overflowing None) = clean-probe sh u
     go _ = still
 
-pub clean-replied : (sh : Shape) (e u : ℕ) (s : CoreState) (o : Out) → Replied sh e u s o → CleanOut sh o
-clean-replied sh e u s o (Ignored q n) = rw q (clean-steady sh s (ignored s) (ignored-steady s))
-clean-replied sh e u s o (Probed g f ph ow ca se cm) = rw se (λ d. go d (d == e) refl)
+pub clean-replied : (sh : Shape) {e u : ℕ} {s : CoreState} {o : Out} → Replied sh e u s o → CleanOut sh o
+clean-replied sh {s} (Ignored q n) = rw q (clean-steady sh (ignored-steady s))
+clean-replied sh {e} {u} {s} (Probed g f ph ow ca se cm) = rw se (λ d. go d (d == e) refl)
   where
     go : (d : ℕ) (b : Bool) → (d == e) ≡ b → Clean sh d (if b then marks_for sh s.cache u e else [])
     go d true q = let i : d ≡ e = grind nats in rw i (clean-marks_for sh s.cache u e)
     go d false q = clean-none sh d
-clean-replied sh e u s o (Left_alone g f ph ow mo se cm) = rw se (λ d. clean-none sh d)
+clean-replied sh (Left_alone g f ph ow mo se cm) = rw se (λ d. clean-none sh d)
 
 -- an invalidation is acknowledged to the line's home, and nothing else is
 pub record AcksHome (sh : Shape) (l d : ℕ) (ms : List Msg) : Type 0 where
@@ -180,16 +180,16 @@ pub record AcksHome (sh : Shape) (l d : ℕ) (ms : List Msg) : Type 0 where
   pub marks : among (MarksAway sh.dirs d) ms ≡ 0
   pub far : sh.dirs ≤ d → among AnyResolve ms ≡ 0
 
-pub clean-hurt : (sh : Shape) (s r : CoreState) (sends : Sends) (d : ℕ) → Hurt sh s r sends → Clean sh d (sends (Dir d))
-clean-hurt sh s r sends d (Unhurt ph ow mo re se) = rw (se (Dir d)) (clean-none sh d)
-clean-hurt sh s r sends d (Rolled ph ph' ow se) = rw (se (Dir d)) (clean-none sh d)
-clean-hurt sh s r sends d (Doomed ph ph' ow se) = rw (se (Dir d)) (clean-none sh d)
-clean-hurt sh s r sends d (Aborted u ph ph' ow se) = rw se (clean-abort sh s.cache u d)
-clean-hurt sh s r sends d (Gave_up u ph ph' ow se) = rw se (clean-skip sh u d)
+pub clean-hurt : (sh : Shape) {s r : CoreState} {sends : Sends} (d : ℕ) → Hurt sh s r sends → Clean sh d (sends (Dir d))
+clean-hurt sh d (Unhurt ph ow mo re se) = rw (se (Dir d)) (clean-none sh d)
+clean-hurt sh d (Rolled ph ph' ow se) = rw (se (Dir d)) (clean-none sh d)
+clean-hurt sh d (Doomed ph ph' ow se) = rw (se (Dir d)) (clean-none sh d)
+clean-hurt sh {s} d (Aborted u ph ph' ow se) = rw se (clean-abort sh s.cache u d)
+clean-hurt sh d (Gave_up u ph ph' ow se) = rw se (clean-skip sh u d)
 
-acks-invalidated : (sh : Shape) (l d : ℕ) (s : CoreState) (o : Out) → Invalidated sh l s o → AcksHome sh l d (o.sends (Dir d))
+acks-invalidated : {sh : Shape} (l d : ℕ) (s : CoreState) {o : Out} → Invalidated sh l s o → AcksHome sh l d (o.sends (Dir d))
 unfolding among passes
-acks-invalidated sh l d s o i = rw (i.dirs d) (record {
+acks-invalidated {sh} l d s {o} i = rw (i.dirs d) (record {
   acks =
       omega (
         arith,
@@ -212,7 +212,7 @@ acks-invalidated sh l d s o i = rw (i.dirs d) (record {
 })
   where
     c : Clean sh d (i.sends (Dir d))
-    c = clean-hurt sh s o.core i.sends d i.hurt
+    c = clean-hurt sh d i.hurt
 
     one : (b : Bool) → (among Acks (if b then InvAck l i.kept ∷ [] else []) ≡ num b)
         × (among (MarksAway sh.dirs d) (if b then InvAck l i.kept ∷ [] else []) ≡ 0)
@@ -226,8 +226,8 @@ AcksBack sh d (Inv l m u) o = AcksHome sh l d (o.sends (Dir d))
 AcksBack sh d m o = Clean sh d (o.sends (Dir d))
 
 pub acks-back : (sh : Shape) (e d : ℕ) (s : CoreState) (m : Msg) → IfSome (from_dir sh e s m) (λ o. AcksBack sh d m o)
-acks-back sh e d s (ProbeReply u v) = clean-replied sh e u s (probe_reply sh e u s) (reply-cases sh e u s) d
-acks-back sh e d s (Fill l ws) = clean-steady sh s (fill l ws s) (fill-steady l ws s) d
-acks-back sh e d s (DataReq l) = clean-steady sh s (data_request sh l s) (data-steady sh l s) d
-acks-back sh e d s (Inv l m u) = acks-invalidated sh l d s (invalidate sh l m u s) (invalidate-cases sh l m u s)
+acks-back sh e d s (ProbeReply u v) = clean-replied sh (reply-cases sh e u s) d
+acks-back sh e d s (Fill l ws) = clean-steady sh (fill-steady l ws s) d
+acks-back sh e d s (DataReq l) = clean-steady sh (data-steady sh l s) d
+acks-back sh e d s (Inv l m u) = acks-invalidated l d s (invalidate-cases sh l m u s)
 acks-back sh e d s _ = tt

@@ -7,6 +7,7 @@ use Names.{DataReq, Shape, lines, DirState, Sends, Answer, Asks, Takes, dir_deli
 use Names.{Invs, Commits, among, passes, nats, ◌≤◌, [], if◌then◌else◌, num, advance, kept, advance-rises, Link, nothing, RepliesAbove, live}
 use Names.{Serving, LoadReq, Waits, Drops, Probes, Replies, zero, suc, ◌+◌, ◌-◌, ◌%◌, List, ◌∷◌, cond, flat_map, flat_map-append}
 use Names.{count_below, those, Skip, Commit, Abort, Inv, home, sum_below, invalidation_count, InvsNot, InvsAway, Acks, MarksAway, Resolves}
+use Names.{◌≢◌}
 use proofs.Counts.DirOutcome.{Outcome, Waiting, Spent, AsksOwner, TakesProbe, TakesLoad, TakesCommit, outcome, among-none, none-to}
 use proofs.Counts.DirOutcome.{TakesSkip, TakesAbort, TakesMark, TakesAck, TakesCopy, none-invalidations, IsSpent, CopyPassed, among-to}
 use proofs.Counts.DirOutcome.{NoneOwed}
@@ -115,7 +116,7 @@ fewer-above a b l h = live-fewer (RepliesAbove b) (RepliesAbove a) (λ m. above-
 -- the reply to a probe that was taken, to its core alone
 pub record Replying (m : Msg) (c : ℕ) (sends : Sends) : Type 0 where
   pub own : (t : ℕ) → among (Replies t) (sends (Core c)) ≡ num (passes (Probes t) m)
-  pub others : (j t : ℕ) → (j ≡ c → ⊥) → among (Replies t) (sends (Core j)) ≡ 0
+  pub others : (j t : ℕ) → j ≢ c → among (Replies t) (sends (Core j)) ≡ 0
 
 abbrev pub RepliesBy : Msg → (core : ℕ) → Answer → Type 0
 RepliesBy m c Waits = Unit {0}

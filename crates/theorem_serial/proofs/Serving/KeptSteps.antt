@@ -10,7 +10,7 @@ use Names.{Pair, pair, after_move, grant_taken, back_taken, after_answer, out_ta
 use Names.{OwedAt, AtHomeOf, KeptOwed, Running, core_start, RepliesAbove, Reached, ReachedOf, KeptProbes, [], ◌∷◌, Program, Serving, Event}
 use Names.{core_exec, core_evict, grant, Answer, Waits, Drops, Asks, Takes, dir_deliver, Stepped, step, History, and_noted, recorded}
 use Names.{next_history, and_then, run_from, run, Resolves, handled, KeptTold, Kept, nats, tid_at, to_dir, to_core, FromCore, FromDir}
-use Names.{IfSome_then}
+use Names.{IfSome_then, first_state, ◌≢◌}
 use proofs.Counts.DirOutcome.{AnswersInside, dir-inside}
 use proofs.Counts.Links.{live-sends, live-takes, total-le, total-zero, live-fewer, none-taken}
 use proofs.Counts.StepCases.{differ, given, pairs_move, pairs_grant, pairs_back, pairs_dir, pairs_asks, pairs_vendor, sum_move, sum_grant}
@@ -23,13 +23,13 @@ use proofs.Tids.TidSteps.{HandledBy, OnceAt, dir-handled, skipped-above, move-ke
 use proofs.Tids.TidSteps.{start-kept, inside_from, any-one, live-some, once-there, no_sends}
 
 -- Each kind of event keeps what is owed equal to what is in flight.
-due-moved : (sh : Shape) (v : Pair) (o : Out) (d : ℕ) → Clean sh d (o.sends (Dir d)) → due (after_move v o d) + 0 ≡ due v + 0
+due-moved : {sh : Shape} (v : Pair) (o : Out) {d : ℕ} → Clean sh d (o.sends (Dir d)) → due (after_move v o d) + 0 ≡ due v + 0
 unfolding due
-due-moved sh v o d c = omega (arith, live-sends Acks v.out (o.sends (Dir d)), c.acks)
+due-moved v o {d} c = omega (arith, live-sends Acks v.out (o.sends (Dir d)), c.acks)
 
-home-moved : (sh : Shape) (d : ℕ) (v : Pair) (o : Out) → among (MarksAway sh.dirs d) (o.sends (Dir d)) ≡ 0
+home-moved : {sh : Shape} {d : ℕ} {v : Pair} (o : Out) → among (MarksAway sh.dirs d) (o.sends (Dir d)) ≡ 0
     → (sh.dirs ≤ d → among AnyResolve (o.sends (Dir d)) ≡ 0) → AtHomeOf sh d v → AtHomeOf sh d (after_move v o d)
-home-moved sh d v o c f h = record {
+home-moved {sh} {d} {v} o c f h = record {
   served = h.served;
   invs = h.invs;
   marks = omega (arith, live-sends (MarksAway sh.dirs d) v.out (o.sends (Dir d)), h.marks, c);
@@ -40,8 +40,8 @@ home-moved sh d v o c f h = record {
 pub move-owed : (sh : Shape) (w : World) (c : ℕ) (o : Out) → KeptOwed sh w → c < sh.cores → CleanOut sh o → KeptOwed sh (core_moves w c o)
 unfolding core_moves
 move-owed sh w c o k l y = record {
-  owed = λ d. let e = sum_move due sh.cores w c o d 0 0 l (due-moved sh (pair w c d) o d (y d)) in omega (arith, k.owed d);
-  at_home = pairs_move (λ c d v. AtHomeOf sh d v) w c o (λ d. home-moved sh d (pair w c d) o (y d).marks (y d).far (k.at_home c d))
+  owed = λ d. let e = sum_move due sh.cores w c o d 0 0 l (due-moved (pair w c d) o (y d)) in omega (arith, k.owed d);
+  at_home = pairs_move (λ c d v. AtHomeOf sh d v) w c o (λ d. home-moved o (y d).marks (y d).far (k.at_home c d))
       k.at_home;
 }
 
@@ -49,12 +49,12 @@ pub grant-owed : (sh : Shape) (w : World) (c k : ℕ) (o : Out) → KeptOwed sh 
     → KeptOwed sh (core_takes w Vendor c k o)
 unfolding core_takes due
 grant-owed sh w c k o h l y = record {
-  owed = λ d. let e = sum_grant due sh.cores w c k o d 0 0 l (due-moved sh (pair w c d) o d (y d)) in omega (arith, h.owed d);
+  owed = λ d. let e = sum_grant due sh.cores w c k o d 0 0 l (due-moved (pair w c d) o (y d)) in omega (arith, h.owed d);
   at_home = pairs_grant (λ c d v. AtHomeOf sh d v) w c k o (λ d. granted d) h.at_home;
 }
   where
     granted : (d : ℕ) → AtHomeOf sh d (after_move (grant_taken (pair w c d) k) o d)
-    granted d = let m = home-moved sh d (pair w c d) o (y d).marks (y d).far (h.at_home c d) in
+    granted d = let m = home-moved o (y d).marks (y d).far (h.at_home c d) in
         record { served = m.served; invs = m.invs; marks = m.marks; far = m.far; marked = m.marked }
 
 -- a core takes a message of a directory
@@ -62,12 +62,12 @@ grant-owed sh w c k o h l y = record {
 -- the acknowledgement of an invalidation goes back to where it came from, and there is no other
 pub record BackDue (sh : Shape) (e : ℕ) (m : Msg) (o : Out) : Type 0 where
   pub here : among Acks (o.sends (Dir e)) ≡ num (passes Invs m)
-  pub away : (d : ℕ) → (d ≡ e → ⊥) → among Acks (o.sends (Dir d)) ≡ 0
+  pub away : (d : ℕ) → d ≢ e → among Acks (o.sends (Dir d)) ≡ 0
   pub marks : (d : ℕ) → among (MarksAway sh.dirs d) (o.sends (Dir d)) ≡ 0
   pub far : (d : ℕ) → sh.dirs ≤ d → among AnyResolve (o.sends (Dir d)) ≡ 0
 
-back-clean : (sh : Shape) (e : ℕ) (m : Msg) (o : Out) → passes Invs m ≡ false → CleanOut sh o → BackDue sh e m o
-back-clean sh e m o q y = record { here = rw q (y e).acks; away = λ d n. (y d).acks; marks = λ d. (y d).marks; far = λ d. (y d).far }
+back-clean : {sh : Shape} {e : ℕ} {m : Msg} {o : Out} → passes Invs m ≡ false → CleanOut sh o → BackDue sh e m o
+back-clean {e} q y = record { here = rw q (y e).acks; away = λ d n. (y d).acks; marks = λ d. (y d).marks; far = λ d. (y d).far }
 
 back-inv : (sh : Shape) (e l k u : ℕ) (o : Out) → home sh l ≡ e → ((d : ℕ) → AcksHome sh l d (o.sends (Dir d))) → BackDue sh e (Inv l k u) o
 unfolding passes
@@ -81,9 +81,9 @@ back-inv sh e l k u o q y = record {
 pub back-due : (sh : Shape) (e : ℕ) (s : CoreState) (m : Msg) → passes (InvsAway sh.dirs e) m ≡ false
     → IfSome (from_dir sh e s m) (λ o. BackDue sh e m o)
 unfolding passes
-back-due sh e s (ProbeReply u v) a = back-clean sh e (ProbeReply u v) _ refl (λ d. acks-back sh e d s (ProbeReply u v))
-back-due sh e s (Fill l ws) a = back-clean sh e (Fill l ws) _ refl (λ d. acks-back sh e d s (Fill l ws))
-back-due sh e s (DataReq l) a = back-clean sh e (DataReq l) _ refl (λ d. acks-back sh e d s (DataReq l))
+back-due sh e s (ProbeReply u v) a = back-clean refl (λ d. acks-back sh e d s (ProbeReply u v))
+back-due sh e s (Fill l ws) a = back-clean refl (λ d. acks-back sh e d s (Fill l ws))
+back-due sh e s (DataReq l) a = back-clean refl (λ d. acks-back sh e d s (DataReq l))
 back-due sh e s (Inv l k u) a = back-inv sh e l k u _ (at-home (l % sh.dirs) e a) (λ d. acks-back sh e d s (Inv l k u))
 back-due sh e s _ a = tt
 
@@ -96,9 +96,9 @@ due-away : (v : Pair) (d : ℕ) (o : Out) → among Acks (o.sends (Dir d)) ≡ 0
 unfolding due
 due-away v d o a = omega (arith, live-sends Acks v.out (o.sends (Dir d)))
 
-home-back : (sh : Shape) (d k : ℕ) (m : Msg) (v : Pair) → slice_index_or v.back k None ≡ Some m → AtHomeOf sh d v
+home-back : {sh : Shape} (d k : ℕ) (m : Msg) {v : Pair} → slice_index_or v.back k None ≡ Some m → AtHomeOf sh d v
     → AtHomeOf sh d (back_taken v k)
-home-back sh d k m v i h = record {
+home-back {sh} d k m {v} i h = record {
   served = omega (arith, live-takes (InvsNot v.dir.serving.serving) v.back k m i, h.served);
   invs = omega (arith, live-takes (InvsAway sh.dirs d) v.back k m i, h.invs);
   marks = h.marks;
@@ -113,11 +113,11 @@ back-owed sh w e c k m o h l i y = record {
   owed = λ d. owed d (cases_eq d e);
   at_home =
       pairs_back (λ c d v. AtHomeOf sh d v) w e c k o
-      (home-moved sh e (back_taken (pair w c e) k) o (y.marks e) (y.far e) (home-back sh e k m (pair w c e) i (h.at_home c e)))
-      (λ d n. home-moved sh d (pair w c d) o (y.marks d) (y.far d) (h.at_home c d)) h.at_home;
+      (home-moved o (y.marks e) (y.far e) (home-back e k m i (h.at_home c e)))
+      (λ d n. home-moved o (y.marks d) (y.far d) (h.at_home c d)) h.at_home;
 }
   where
-    owed : (d : ℕ) → (d ≡ e) ⊎ (d ≡ e → ⊥) → OwedAt sh (core_takes w (Dir e) c k o) d
+    owed : (d : ℕ) → (d ≡ e) ⊎ (d ≢ e) → OwedAt sh (core_takes w (Dir e) c k o) d
     owed d (inr n) = let q = sum_back_away due sh.cores w e c k o d 0 0 n l (due-away (pair w c d) d o (y.away d n)) in
         omega (arith, h.owed d)
     owed d (inl n) = rw n (let q = sum_back due sh.cores w c k o e 0 0 l (due-back (pair w c e) e k m o i y.here) in
@@ -126,7 +126,7 @@ back-owed sh w e c k m o h l i y = record {
 -- what is taken from a directory's link is at home there
 pub taken_home : (sh : Shape) (w : World) (e c k : ℕ) (m : Msg) → KeptOwed sh w → FromDir w e c k m → passes (InvsAway sh.dirs e) m ≡ false
 unfolding pair
-taken_home sh w e c k m h i = none-taken (InvsAway sh.dirs e) (to_core w e c) k m i (h.at_home c e).invs
+taken_home sh w e c k m h i = none-taken (InvsAway sh.dirs e) (to_core w e c) k i (h.at_home c e).invs
 
 pub backs-owed : (sh : Shape) (w : World) (e c k : ℕ) (m : Msg) → KeptOwed sh w → c < sh.cores → FromDir w e c k m
     → IfSome (from_dir sh e (w.cores c) m) (λ o. KeptOwed sh (core_takes w (Dir e) c k o))
@@ -157,17 +157,16 @@ invs-few l = live-fewer Invs Any invs-any l
 none-due : (sh : Shape) (w : World) (d j t : ℕ) → (sh.cores ≤ j → live Any (to_core w d j) ≡ 0) → OwedAt sh w d
     → (w.dirs d).owed ≡ 0 → live (InvsNot t) (to_core w d j) ≡ 0
 unfolding share due pair
-none-due sh w d j t a o z = go (cases_lt j sh.cores)
-  where
-    go : (j < sh.cores) ⊎ (sh.cores ≤ j) → live (InvsNot t) (to_core w d j) ≡ 0
-    go (inl l) = omega (arith, o, z, total-le (share due w d) sh.cores j l, nots-few t (to_core w d j))
-    go (inr l) = omega (arith, a l, invs-few (to_core w d j), nots-few t (to_core w d j))
+none-due sh w d j t a o z = elim (cases_lt j sh.cores) [
+  | inl l ↦ omega (arith, o, z, total-le (share due w d) sh.cores j l, nots-few t (to_core w d j))
+  | inr l ↦ omega (arith, a l, invs-few (to_core w d j), nots-few t (to_core w d j))
+]
 
 -- a pair at the directory that answers, unless its served TID has changed
-home-answered : (sh : Shape) (d : ℕ) (v : Pair) (ack : ℕ) (s : DirState) (sends : Sends) (j : ℕ) → Due sh d v.dir ack s sends
+home-answered : {sh : Shape} {d : ℕ} {v : Pair} {ack : ℕ} {s : DirState} {sends : Sends} (j : ℕ) → Due sh d v.dir ack s sends
     → live (InvsNot s.serving.serving) (v.back ++ sent_all (sends (Core j))) ≡ 0 → AtHomeOf sh d v
     → AtHomeOf sh d (after_answer v s (sends (Core j)))
-home-answered sh d v ack s sends j u n h = record {
+home-answered {sh} {d} {v} {sends} j u n h = record {
   served = n;
   invs = omega (arith, live-sends (InvsAway sh.dirs d) v.back (sends (Core j)), h.invs, u.invs j);
   marks = h.marks;
@@ -175,9 +174,9 @@ home-answered sh d v ack s sends j u n h = record {
   marked = u.marked;
 }
 
-home-taken : (sh : Shape) (d k : ℕ) (m : Msg) (v : Pair) → slice_index_or v.out k None ≡ Some m → AtHomeOf sh d v
+home-taken : {sh : Shape} (d k : ℕ) (m : Msg) {v : Pair} → slice_index_or v.out k None ≡ Some m → AtHomeOf sh d v
     → AtHomeOf sh d (out_taken v k)
-home-taken sh d k m v i h = record {
+home-taken {sh} d k m {v} i h = record {
   served = h.served;
   invs = h.invs;
   marks = omega (arith, live-takes (MarksAway sh.dirs d) v.out k m i, h.marks);
@@ -193,10 +192,11 @@ owed-answered sh w c e k m s sends h l i u =
     (due-answered (pair w c e) k m s (sends (Core c)) i) (λ j n. due-other (pair w j e) s (sends (Core j))) in
     rw (eq-self e) (omega (arith, h, u.owed))
 
-served-back : (sh : Shape) (w : World) (e j ack : ℕ) (s : DirState) (sends : Sends) → live (InvsNot (tid_at w e)) (to_core w e j) ≡ 0
-    → Due sh e (w.dirs e) ack s sends → (s.owed ≡ 0 → live (InvsNot s.serving.serving) (to_core w e j ++ sent_all (sends (Core j))) ≡ 0)
+served-back : {sh : Shape} (w : World) {e : ℕ} (j : ℕ) {ack : ℕ} {s : DirState} {sends : Sends}
+    → live (InvsNot (tid_at w e)) (to_core w e j) ≡ 0 → Due sh e (w.dirs e) ack s sends
+    → (s.owed ≡ 0 → live (InvsNot s.serving.serving) (to_core w e j ++ sent_all (sends (Core j))) ≡ 0)
     → live (InvsNot s.serving.serving) (to_core w e j ++ sent_all (sends (Core j))) ≡ 0
-served-back sh w e j ack s sends h u z = go u.served
+served-back w {e} j {s} {sends} h u z = go u.served
   where
     go : ((s.serving.serving ≡ tid_at w e) × ((j : ℕ) → among (InvsNot (tid_at w e)) (sends (Core j)) ≡ 0))
         ⊎ (s.owed ≡ 0) → live (InvsNot s.serving.serving) (to_core w e j ++ sent_all (sends (Core j))) ≡ 0
@@ -209,9 +209,9 @@ unfolding dir_takes pair
 dir-owed sh w c e k m s sends h z l i u = record {
   owed = λ d. owed d (cases_eq d e);
   at_home = pairs_dir (λ c d v. AtHomeOf sh d v) w c e k s sends
-      (home-answered sh e (out_taken (pair w c e) k) (num (passes Acks m)) s sends c u (back_of c)
-      (home-taken sh e k m (pair w c e) i (h.at_home c e)))
-      (λ j n. home-answered sh e (pair w j e) (num (passes Acks m)) s sends j u (back_of j) (h.at_home j e)) h.at_home;
+      (home-answered c u (back_of c)
+      (home-taken e k m i (h.at_home c e)))
+      (λ j n. home-answered j u (back_of j) (h.at_home j e)) h.at_home;
 }
   where
     v : World
@@ -220,12 +220,12 @@ dir-owed sh w c e k m s sends h z l i u = record {
     here : OwedAt sh v e
     here = owed-answered sh w c e k m s sends (h.owed e) l i u
 
-    owed : (d : ℕ) → (d ≡ e) ⊎ (d ≡ e → ⊥) → OwedAt sh v d
+    owed : (d : ℕ) → (d ≡ e) ⊎ (d ≢ e) → OwedAt sh v d
     owed d (inl n) = rw n here
     owed d (inr n) = let p = sum_dir_away due sh.cores w c e k s sends d n in rw (differ d e n) (omega (arith, h.owed d))
 
     back_of : (j : ℕ) → live (InvsNot s.serving.serving) (to_core w e j ++ sent_all (sends (Core j))) ≡ 0
-    back_of j = served-back sh w e j (num (passes Acks m)) s sends (h.at_home j e).served u
+    back_of j = served-back w j (h.at_home j e).served u
         (λ x. rw (eq-self e) at (none-due sh v e j s.serving.serving (z.inside j e).back here (rw (eq-self e) x)))
 
 -- a directory asks
@@ -235,7 +235,7 @@ unfolding dir_asks pair
 asks-owed sh w e s sends h z u = record {
   owed = λ d. owed d (cases_eq d e);
   at_home = pairs_asks (λ c d v. AtHomeOf sh d v) w e s sends
-      (λ j. home-answered sh e (pair w j e) 0 s sends j u (back_of j) (h.at_home j e)) h.at_home;
+      (λ j. home-answered j u (back_of j) (h.at_home j e)) h.at_home;
 }
   where
     v : World
@@ -247,12 +247,12 @@ asks-owed sh w e s sends h z u = record {
         (λ j. due-other (pair w j e) s (sends (Core j))) in
         rw (eq-self e) (omega (arith, h.owed e, u.owed))
 
-    owed : (d : ℕ) → (d ≡ e) ⊎ (d ≡ e → ⊥) → OwedAt sh v d
+    owed : (d : ℕ) → (d ≡ e) ⊎ (d ≢ e) → OwedAt sh v d
     owed d (inl n) = rw n here
     owed d (inr n) = let p = sum_asks_away due sh.cores w e s sends d n in rw (differ d e n) (omega (arith, h.owed d))
 
     back_of : (j : ℕ) → live (InvsNot s.serving.serving) (to_core w e j ++ sent_all (sends (Core j))) ≡ 0
-    back_of j = served-back sh w e j 0 s sends (h.at_home j e).served u
+    back_of j = served-back w j (h.at_home j e).served u
         (λ x. rw (eq-self e) at (none-due sh v e j s.serving.serving (z.inside j e).back here (rw (eq-self e) x)))
 
 -- the vendor grants
@@ -290,37 +290,37 @@ start-owed sh entries ram = record {
     none d j = share-start entries ram d j
 
 -- what is known of a message to a directory
-pub marks_home : (sh : Shape) (w : World) (c e k : ℕ) (m : Msg) → KeptOwed sh w → FromCore w c e k m
+pub marks_home : {sh : Shape} {w : World} (c e k : ℕ) {m : Msg} → KeptOwed sh w → FromCore w c e k m
     → passes (MarksAway sh.dirs e) m ≡ false
 unfolding pair
-marks_home sh w c e k m h i = none-taken (MarksAway sh.dirs e) (to_dir w c e) k m i (h.at_home c e).marks
+marks_home {sh} {w} c e k {m} h i = none-taken (MarksAway sh.dirs e) (to_dir w c e) k i (h.at_home c e).marks
 
-pub acks_owed : (sh : Shape) (w : World) (c e k : ℕ) (m : Msg) → KeptOwed sh w → c < sh.cores → FromCore w c e k m
+pub acks_owed : {sh : Shape} {w : World} (c e k : ℕ) {m : Msg} → KeptOwed sh w → c < sh.cores → FromCore w c e k m
     → num (passes Acks m) ≤ (w.dirs e).owed
 unfolding share due pair
-acks_owed sh w c e k m h l i =
+acks_owed {sh} {w} c e k {m} h l i =
     omega (arith, h.owed e, total-le (share due w e) sh.cores c l, live-takes Acks (to_dir w c e) k m i)
 
 -- Each kind of event keeps what is known of the directories that a core asked.
 
 -- what is reached stays so while the served TID rises
-later : (sh : Shape) (d x y : ℕ) (s : CoreState) → x ≤ y → Reached sh d x s → Reached sh d y s
-later sh d x y s l h = record { reached = λ a b c. let r = h.reached a b c in omega arith; replied = h.replied }
+later : {sh : Shape} {d x y : ℕ} {s : CoreState} → x ≤ y → Reached sh d x s → Reached sh d y s
+later l h = record { reached = λ a b c. let r = h.reached a b c in omega arith; replied = h.replied }
 
-reached-moved : (sh : Shape) (d : ℕ) (v : Pair) (o : Out) → Reached sh d v.dir.serving.serving o.core → ReachedOf sh d v
+reached-moved : {sh : Shape} {d : ℕ} (v : Pair) (o : Out) → Reached sh d v.dir.serving.serving o.core → ReachedOf sh d v
     → ReachedOf sh d (after_move v o d)
-reached-moved sh d v o r h = record { core = r; replies = h.replies }
+reached-moved v o r h = record { core = r; replies = h.replies }
 
 pub move-probes : (sh : Shape) (w : World) (c : ℕ) (o : Out) → KeptProbes sh w → ((d : ℕ) → Reached sh d (tid_at w d) o.core)
     → KeptProbes sh (core_moves w c o)
 unfolding pair
-move-probes sh w c o h r = pairs_move (λ c d v. ReachedOf sh d v) w c o (λ d. reached-moved sh d (pair w c d) o (r d) (h c d)) h
+move-probes sh w c o h r = pairs_move (λ c d v. ReachedOf sh d v) w c o (λ d. reached-moved (pair w c d) o (r d) (h c d)) h
 
 pub grant-probes : (sh : Shape) (w : World) (c k : ℕ) (o : Out) → KeptProbes sh w
     → ((d : ℕ) → Reached sh d (tid_at w d) o.core) → KeptProbes sh (core_takes w Vendor c k o)
 unfolding pair
 grant-probes sh w c k o h r = pairs_grant (λ c d v. ReachedOf sh d v) w c k o
-    (λ d. reached-moved sh d (grant_taken (pair w c d) k) o (r d) (record { core = (h c d).core; replies = (h c d).replies })) h
+    (λ d. reached-moved (grant_taken (pair w c d) k) o (r d) (record { core = (h c d).core; replies = (h c d).replies })) h
 
 back-probes : (sh : Shape) (w : World) (e c k : ℕ) (m : Msg) (o : Out) → KeptProbes sh w → FromDir w e c k m
     → ((d : ℕ) → Reached sh d (tid_at w d) o.core) → KeptProbes sh (core_takes w (Dir e) c k o)
@@ -334,13 +334,13 @@ back-probes sh w e c k m o h i r = pairs_back (λ c d v. ReachedOf sh d v) w e c
         (h c e).replies,
       );
     })
-    (λ d n. reached-moved sh d (pair w c d) o (r d) (h c d)) h
+    (λ d n. reached-moved (pair w c d) o (r d) (h c d)) h
 
 -- a reply in flight is of a TID that its directory has reached
 reply-low : (sh : Shape) (w : World) (e c k : ℕ) (m : Msg) → KeptProbes sh w → FromDir w e c k m
     → passes (RepliesAbove (tid_at w e)) m ≡ false
 unfolding pair
-reply-low sh w e c k m h i = none-taken (RepliesAbove (tid_at w e)) (to_core w e c) k m i (h c e).replies
+reply-low sh w e c k m h i = none-taken (RepliesAbove (tid_at w e)) (to_core w e c) k i (h c e).replies
 
 pub backs-probes : (sh : Shape) (w : World) (e c k : ℕ) (m : Msg) → KeptProbes sh w → FromDir w e c k m
     → IfSome (from_dir sh e (w.cores c) m) (λ o. KeptProbes sh (core_takes w (Dir e) c k o))
@@ -354,10 +354,10 @@ backs-probes sh w e c k m h i =
     go None r = tt
     go (Some o) r = back-probes sh w e c k m o h i r
 
-reached-answered : (sh : Shape) (d : ℕ) (v : Pair) (s : DirState) (sends : Sends) (j : ℕ) → Rises v.dir s sends → ReachedOf sh d v
+reached-answered : (sh : Shape) (d : ℕ) (v : Pair) {s : DirState} {sends : Sends} (j : ℕ) → Rises v.dir s sends → ReachedOf sh d v
     → ReachedOf sh d (after_answer v s (sends (Core j)))
-reached-answered sh d v s sends j u h = record {
-  core = later sh d v.dir.serving.serving s.serving.serving v.core u.rises h.core;
+reached-answered sh d v {s} {sends} j u h = record {
+  core = later u.rises h.core;
   replies =
       omega (
         arith,
@@ -368,18 +368,18 @@ reached-answered sh d v s sends j u h = record {
       );
 }
 
-pub dir-probes : (sh : Shape) (w : World) (c e k : ℕ) (s : DirState) (sends : Sends) → KeptProbes sh w → Rises (w.dirs e) s sends
+pub dir-probes : {sh : Shape} (w : World) (c e k : ℕ) {s : DirState} {sends : Sends} → KeptProbes sh w → Rises (w.dirs e) s sends
     → KeptProbes sh (dir_takes w c e k s sends)
 unfolding pair
-dir-probes sh w c e k s sends h u = pairs_dir (λ c d v. ReachedOf sh d v) w c e k s sends
-    (reached-answered sh e (out_taken (pair w c e) k) s sends c u (record { core = (h c e).core; replies = (h c e).replies }))
-    (λ j n. reached-answered sh e (pair w j e) s sends j u (h j e)) h
+dir-probes {sh} w c e k {s} {sends} h u = pairs_dir (λ c d v. ReachedOf sh d v) w c e k s sends
+    (reached-answered sh e (out_taken (pair w c e) k) c u (record { core = (h c e).core; replies = (h c e).replies }))
+    (λ j n. reached-answered sh e (pair w j e) j u (h j e)) h
 
 pub asks-probes : (sh : Shape) (w : World) (e : ℕ) (s : DirState) (sends : Sends) → KeptProbes sh w → Rises (w.dirs e) s sends
     → KeptProbes sh (dir_asks w e s sends)
 unfolding pair
 asks-probes sh w e s sends h u = pairs_asks (λ c d v. ReachedOf sh d v) w e s sends
-    (λ j. reached-answered sh e (pair w j e) s sends j u (h j e)) h
+    (λ j. reached-answered sh e (pair w j e) j u (h j e)) h
 
 pub vendor-probes : (sh : Shape) (w : World) (c k : ℕ) → KeptProbes sh w → KeptProbes sh (vendor_gives w c k (given w c))
 vendor-probes sh w c k h = pairs_vendor (λ c d v. ReachedOf sh d v) w c k (λ d. record { core = (h c d).core; replies = (h c d).replies })
@@ -387,30 +387,30 @@ vendor-probes sh w c k h = pairs_vendor (λ c d v. ReachedOf sh d v) w c k (λ d
 
 pub start-probes : (sh : Shape) (entries : ℕ → Local) (ram : ℕ → ℕ) → KeptProbes sh (start entries ram)
 unfolding start core_start pair live
-start-probes sh entries ram c d = record { core = none-asked sh d _ _ Running refl (λ b. refl) refl; replies = refl }
+start-probes sh entries ram c d = record { core = none-asked Running refl (λ b. refl) refl; replies = refl }
 
 -- Every event keeps the invariants, and so does every run.
 
 -- the core that a message comes from or goes to is one of the machine
-pub core_of_grant : (sh : Shape) (w : World) (c k : ℕ) (m : Msg) → KeptTids sh w → in_flight w.net Vendor (Core c) k ≡ Some m → c < sh.cores
+pub core_of_grant : {sh : Shape} {w : World} (c k : ℕ) {m : Msg} → KeptTids sh w → in_flight w.net Vendor (Core c) k ≡ Some m → c < sh.cores
 unfolding pair
-core_of_grant sh w c k m h i = inside_from sh c (live Any (w.net Vendor (Core c))) (h.inside c 0).grants
-    (any-one (w.net Vendor (Core c)) k m i)
+core_of_grant {sh} {w} c k {m} h i = inside_from sh c (live Any (w.net Vendor (Core c))) (h.inside c 0).grants
+    (any-one (w.net Vendor (Core c)) k i)
 
-pub core_of_back : (sh : Shape) (w : World) (c d k : ℕ) (m : Msg) → KeptTids sh w → FromDir w d c k m → c < sh.cores
+pub core_of_back : {sh : Shape} {w : World} (c d k : ℕ) {m : Msg} → KeptTids sh w → FromDir w d c k m → c < sh.cores
 unfolding pair
-core_of_back sh w c d k m h i = inside_from sh c (live Any (to_core w d c)) (h.inside c d).back
-    (any-one (to_core w d c) k m i)
+core_of_back {sh} {w} c d k {m} h i = inside_from sh c (live Any (to_core w d c)) (h.inside c d).back
+    (any-one (to_core w d c) k i)
 
-pub core_of_out : (sh : Shape) (w : World) (c d k : ℕ) (m : Msg) → KeptTids sh w → FromCore w c d k m → c < sh.cores
+pub core_of_out : {sh : Shape} {w : World} (c d k : ℕ) {m : Msg} → KeptTids sh w → FromCore w c d k m → c < sh.cores
 unfolding pair
-core_of_out sh w c d k m h i = inside_from sh c (live Any (to_dir w c d)) (h.inside c d).out
-    (any-one (to_dir w c d) k m i)
+core_of_out {sh} {w} c d k {m} h i = inside_from sh c (live Any (to_dir w c d)) (h.inside c d).out
+    (any-one (to_dir w c d) k i)
 
-pub core_of_ask : (sh : Shape) (w : World) (c k : ℕ) (m : Msg) → KeptTids sh w → in_flight w.net (Core c) Vendor k ≡ Some m → c < sh.cores
+pub core_of_ask : {sh : Shape} {w : World} (c k : ℕ) {m : Msg} → KeptTids sh w → in_flight w.net (Core c) Vendor k ≡ Some m → c < sh.cores
 unfolding pair
-core_of_ask sh w c k m h i = inside_from sh c (live Any (w.net (Core c) Vendor)) (h.inside c 0).asks
-    (any-one (w.net (Core c) Vendor) k m i)
+core_of_ask {sh} {w} c k {m} h i = inside_from sh c (live Any (w.net (Core c) Vendor)) (h.inside c 0).asks
+    (any-one (w.net (Core c) Vendor) k i)
 
 resolves-any : (t : ℕ) (m : Msg) → num (passes (Resolves t) m) ≤ num (passes AnyResolve m)
 unfolding passes
@@ -421,26 +421,25 @@ unfolding handled
 handled-once s owed t = let a = skipped-above s t in grind nats
 
 -- what a TID's message tells of it, also at a directory that the machine doesn't have
-pub once_at : (sh : Shape) (w : World) (c d k : ℕ) (m : Msg) → KeptTold sh w → FromCore w c d k m → OnceAt (w.dirs d) m
+pub once_at : {sh : Shape} {w : World} (c d k : ℕ) {m : Msg} → KeptTold sh w → FromCore w c d k m → OnceAt (w.dirs d) m
 unfolding pair
-once_at sh w c d k m h i t = go (cases_lt d sh.dirs)
-  where
-    go : (d < sh.dirs) ⊎ (sh.dirs ≤ d) → num (passes (Resolves t) m) + handled (w.dirs d).serving (w.dirs d).owed t ≤ 1
-    go (inl l) = once-there sh w c d k t m (core_of_out sh w c d k m h.tids i) i (h.tids.resolved d t l)
-    go (inr l) = omega (
-      arith,
-      resolves-any t m,
-      live-some AnyResolve (to_dir w c d) k m i,
-      (h.owed.at_home c d).far l,
-      handled-once (w.dirs d).serving (w.dirs d).owed t,
-    )
+once_at {sh} {w} c d k {m} h i t = elim (cases_lt d sh.dirs) [
+  | inl l ↦ once-there sh w c d k t m (core_of_out c d k h.tids i) i (h.tids.resolved d t l)
+  | inr l ↦ omega (
+    arith,
+    resolves-any t m,
+    live-some AnyResolve (to_dir w c d) k m i,
+    (h.owed.at_home c d).far l,
+    handled-once (w.dirs d).serving (w.dirs d).owed t,
+  )
+]
 
 -- every event that is enabled keeps the invariants
-moves : (sh : Shape) (w : World) (c : ℕ) → KeptTold sh w → c < sh.cores → (x : Option Out) → IfSome x (λ o. KeepsRequests 0 (w.cores c) o)
+moves : {sh : Shape} {w : World} (c : ℕ) → KeptTold sh w → c < sh.cores → (x : Option Out) → IfSome x (λ o. KeepsRequests 0 (w.cores c) o)
     → ((d t : ℕ) → d < sh.dirs → IfSome x (λ o. KeepsPart sh d t 0 (w.cores c) o)) → IfSome x (λ o. CleanOut sh o)
     → IfSome x (λ o. KeptTold sh (core_moves w c o))
-moves sh w c h l None r q y = tt
-moves sh w c h l (Some o) r q y = record { tids = move-kept sh w c o h.tids l r q; owed = move-owed sh w c o h.owed l y }
+moves c h l None r q y = tt
+moves {sh} {w} c h l (Some o) r q y = record { tids = move-kept sh w c o h.tids l r q; owed = move-owed sh w c o h.owed l y }
 
 backs : (sh : Shape) (w : World) (c d k : ℕ) (m : Msg) → KeptTold sh w → FromDir w d c k m → (x : Option Out)
     → IfSome x (λ o. KeepsRequests 0 (w.cores c) o) → ((e t : ℕ) → e < sh.dirs → IfSome x (λ o. KeepsPart sh e t 0 (w.cores c) o))
@@ -458,7 +457,7 @@ answers sh w c d k m h i Drops n q u =
     (λ t x. rw (q t x) (omega arith)) in
     record {
       tids = t;
-      owed = dir-owed sh w c d k m (w.dirs d) (λ dst. []) h.owed t (core_of_out sh w c d k m h.tids i) i
+      owed = dir-owed sh w c d k m (w.dirs d) (λ dst. []) h.owed t (core_of_out c d k h.tids i) i
           (rw u (still-due sh d (w.dirs d) (h.owed.at_home c d).marked));
     }
 answers sh w c d k m h i (Asks s sends) n q u =
@@ -466,36 +465,36 @@ answers sh w c d k m h i (Asks s sends) n q u =
     record { tids = t; owed = asks-owed sh w d s sends h.owed t u }
 answers sh w c d k m h i (Takes s sends) n q u =
     let t = dir-kept sh w c d k m s sends h.tids i n.0 n.1 q in
-    record { tids = t; owed = dir-owed sh w c d k m s sends h.owed t (core_of_out sh w c d k m h.tids i) i u }
+    record { tids = t; owed = dir-owed sh w c d k m s sends h.owed t (core_of_out c d k h.tids i) i u }
 
 step-told : (sh : Shape) (p : Program) (w : World) (e : Event) → KeptTold sh w → IfSome (step sh p w e) (λ o. KeptTold sh o.world)
 unfolding pair
 step-told sh p w e h = step_cases sh p w e (λ g o. KeptTold sh o.world)
-    (λ c l. moves sh w c h l (core_exec sh p c (w.cores c)) (requests-exec sh p c (w.cores c)) (λ d t x. part-exec sh p c d t (w.cores c) x)
+    (λ c l. moves c h l (core_exec sh p c (w.cores c)) (requests-exec sh p c (w.cores c)) (λ d t x. part-exec sh p c d t (w.cores c) x)
     (clean-exec sh p c (w.cores c)))
-    (λ c x y l. moves sh w c h l (core_evict sh x y (w.cores c)) (requests-evict sh x y (w.cores c))
+    (λ c x y l. moves c h l (core_evict sh x y (w.cores c)) (requests-evict sh x y (w.cores c))
     (λ d t z. part-evict sh x y d t (w.cores c)) (clean-evict sh x y (w.cores c)))
     (λ c k t i. record {
       tids = grant-kept sh w c k t h.tids i;
-      owed = grant-owed sh w c k (grant sh t (w.cores c)) h.owed (core_of_grant sh w c k (TidGrant t) h.tids i)
+      owed = grant-owed sh w c k (grant sh t (w.cores c)) h.owed (core_of_grant c k h.tids i)
           (clean-grant sh t (w.cores c));
     })
     (λ c d k m i. backs sh w c d k m h i (from_dir sh d (w.cores c) m) (requests-back sh d (w.cores c) m)
-    (λ e t x. part-back sh d e t (w.cores c) m x) (backs-owed sh w d c k m h.owed (core_of_back sh w c d k m h.tids i) i))
+    (λ e t x. part-back sh d e t (w.cores c) m x) (backs-owed sh w d c k m h.owed (core_of_back c d k h.tids i) i))
     (λ c d k m i. answers sh w c d k m h i (dir_deliver sh (w.dirs d) c m)
-    (dir-inside sh (w.dirs d) c m (core_of_out sh w c d k m h.tids i) (h.tids.inside c d).owners)
-    (λ t x. dir-handled sh (w.dirs d) c m t (once_at sh w c d k m h i))
-    (dir-due sh d (w.dirs d) c m (once_at sh w c d k m h i) (h.owed.at_home c d).marked (marks_home sh w c d k m h.owed i)
-    (acks_owed sh w c d k m h.owed (core_of_out sh w c d k m h.tids i) i)))
-    (λ c k i. record { tids = vendor-kept sh w c k h.tids i; owed = vendor-owed sh w c k h.owed (core_of_ask sh w c k TidReq h.tids i) })
+    (dir-inside sh (w.dirs d) c m (core_of_out c d k h.tids i) (h.tids.inside c d).owners)
+    (λ t x. dir-handled sh (w.dirs d) c m t (once_at c d k h i))
+    (dir-due sh d (w.dirs d) c m (once_at c d k h i) (h.owed.at_home c d).marked (marks_home c d k h.owed i)
+    (acks_owed c d k h.owed (core_of_out c d k h.tids i) i)))
+    (λ c k i. record { tids = vendor-kept sh w c k h.tids i; owed = vendor-owed sh w c k h.owed (core_of_ask c k h.tids i) })
 
 step-probes : (sh : Shape) (p : Program) (w : World) (e : Event) → KeptProbes sh w → IfSome (step sh p w e) (λ o. KeptProbes sh o.world)
 unfolding pair
 step-probes sh p w e h = step_cases sh p w e (λ g o. KeptProbes sh o.world)
-    (λ c l. moved c (core_exec sh p c (w.cores c)) (λ d. asked-exec sh p c d (tid_at w d) (w.cores c) (h c d).core))
-    (λ c x y l. moved c (core_evict sh x y (w.cores c)) (λ d. asked-evict sh x y d (tid_at w d) (w.cores c) (h c d).core))
+    (λ c l. moved c (core_exec sh p c (w.cores c)) (λ d. asked-exec p c d (h c d).core))
+    (λ c x y l. moved c (core_evict sh x y (w.cores c)) (λ d. asked-evict x y d (h c d).core))
     (λ c k t i. grant-probes sh w c k (grant sh t (w.cores c)) h
-    (λ d. asked-grant sh t d (tid_at w d) (w.cores c) (h c d).core))
+    (λ d. asked-grant t d (h c d).core))
     (λ c d k m i. backs-probes sh w d c k m h i)
     (λ c d k m i. answered c d k (dir_deliver sh (w.dirs d) c m) (dir-rises sh (w.dirs d) c m))
     (λ c k i. vendor-probes sh w c k h)
@@ -507,12 +506,12 @@ step-probes sh p w e h = step_cases sh p w e (λ g o. KeptProbes sh o.world)
 
     answered : (c d k : ℕ) (a : Answer) → RisesBy (w.dirs d) a → OfAnswer w c d k (λ v. KeptProbes sh v) a
     answered c d k Waits r = tt
-    answered c d k Drops r = dir-probes sh w c d k (w.dirs d) (λ dst. []) h (rises-still (w.dirs d))
+    answered c d k Drops r = dir-probes w c d k h (rises-still (w.dirs d))
     answered c d k (Asks s sends) r = asks-probes sh w d s sends h r
-    answered c d k (Takes s sends) r = dir-probes sh w c d k s sends h r
+    answered c d k (Takes s sends) r = dir-probes w c d k h r
 
-pub step-kept : (sh : Shape) (p : Program) (w : World) (e : Event) → Kept sh w → IfSome (step sh p w e) (λ o. Kept sh o.world)
-step-kept sh p w e h = go (step sh p w e) (step-told sh p w e h.told) (step-probes sh p w e h.probes)
+pub step-kept : {sh : Shape} (p : Program) {w : World} (e : Event) → Kept sh w → IfSome (step sh p w e) (λ o. Kept sh o.world)
+step-kept {sh} p {w} e h = go (step sh p w e) (step-told sh p w e h.told) (step-probes sh p w e h.probes)
   where
     go : (x : Option Stepped) → IfSome x (λ o. KeptTold sh o.world) → IfSome x (λ o. KeptProbes sh o.world)
         → IfSome x (λ o. Kept sh o.world)
@@ -524,7 +523,7 @@ run_from-kept : (sh : Shape) (p : Program) (es : List Event) (h : History) → K
     → IfSome (run_from sh p es h) (λ r. Kept sh r.world)
 unfolding run_from next_history
 run_from-kept sh p [] h k = k
-run_from-kept sh p (e ∷ es) h k = go (step sh p h.world e) (step-kept sh p h.world e k) (λ g q. run_from-kept sh p es g q)
+run_from-kept sh p (e ∷ es) h k = go (step sh p h.world e) (step-kept p e k) (λ g q. run_from-kept sh p es g q)
   where
     go : (x : Option Stepped) → IfSome x (λ o. Kept sh o.world)
         → ((g : History) → Kept sh g.world → IfSome (run_from sh p es g) (λ r. Kept sh r.world))
@@ -539,4 +538,4 @@ start-all sh entries ram =
 pub run-kept : (sh : Shape) (p : Program) (entries : ℕ → Local) (ram : ℕ → ℕ) (es : List Event)
     → IfSome (run sh p (start entries ram) es) (λ r. Kept sh r.world)
 unfolding run
-run-kept sh p entries ram es = run_from-kept sh p es (record { world = start entries ram; commits = [] }) (start-all sh entries ram)
+run-kept sh p entries ram es = run_from-kept sh p es (first_state entries ram) (start-all sh entries ram)

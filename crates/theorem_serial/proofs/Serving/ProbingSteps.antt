@@ -9,7 +9,7 @@ use Names.{Contains, cases_eq, TidGrant, sent_all, from_dir, DirState, Program, 
 use Names.{Option, IfSome, Vendor, Answer, Grants, Probes, passes, holder, nat_le, arith, Noted, Local, Event, Shape, World, start, grant}
 use Names.{Waits, Drops, Takes, among, Grant, false, subst, Phase, Ready, Sends, ◌==◌, List, ◌++◌, Some, None, refl, Core, Fill, fill, Asks}
 use Names.{step, live, Kept, Pair, pair, Bool, true, Solo, ◌+◌, ◌≡◌, ◌≤◌, ◌∷◌, sym, ◌⊎◌, inl, inr, num, Dir, Msg, Inv, Out, ◌∙◌, put, []}
-use Names.{ap, ℕ, nats, to_dir, to_core, FromCore, FromDir}
+use Names.{ap, ℕ, nats, to_dir, to_core, FromCore, FromDir, grant_to, ◌≢◌}
 use proofs.Counts.Links.{live-sends, live-takes}
 use proofs.Counts.StepCases.{pairs_move, pairs_grant, pairs_back, pairs_dir, pairs_asks, pairs_vendor, OfAnswer, step_cases}
 use proofs.OneCore.CoreSteps.{fill-steady, data-steady, invalidate-cases, Replied, Ignored, Probed, Left_alone, reply-cases}
@@ -23,7 +23,7 @@ use proofs.Tids.TidSteps.{granted_waits, live-some, is_mine, not_mine}
 
 -- of this core's probes and replies
 abbrev pub ProbedOf : List Grant → (core : ℕ) → Pair → Type 0
-ProbedOf gs c v = (t : ℕ) → 1 ≤ live (Probes t) v.out + live (Replies t) v.back → Contains gs (record { tid = t; core = c })
+ProbedOf gs c v = (t : ℕ) → 1 ≤ live (Probes t) v.out + live (Replies t) v.back → Contains gs (grant_to t c)
 
 abbrev pub KeptProbed : List Grant → World → Type 0
 KeptProbed gs w = (c d : ℕ) → ProbedOf gs c (pair w c d)
@@ -40,55 +40,55 @@ nothing-sent : (t : ℕ) → among (Probes t) [] ≡ 0
 unfolding among
 nothing-sent t = refl
 
-reply-quiet : (sh : Shape) (e u : ℕ) (s : CoreState) (o : Out) → Replied sh e u s o → Quiet o
-reply-quiet sh e u s o (Ignored q f) d t = nothing-probed s o q d t
-reply-quiet sh e u s o (Probed ph ow ph' ow' ca se cm) d t = rw se (none-to t e d (marks_for sh s.cache u e) (none-marks sh s.cache u e t))
-reply-quiet sh e u s o (Left_alone ph ow ph' ow' ca se cm) d t = rw se (nothing-sent t)
+reply-quiet : {sh : Shape} {e u : ℕ} (s : CoreState) {o : Out} → Replied sh e u s o → Quiet o
+reply-quiet s {o} (Ignored q f) d t = nothing-probed s o q d t
+reply-quiet {sh} {e} {u} s (Probed ph ow ph' ow' ca se cm) d t = rw se
+    (none-to t e d (marks_for sh s.cache u e) (none-marks sh s.cache u e t))
+reply-quiet s (Left_alone ph ow ph' ow' ca se cm) d t = rw se (nothing-sent t)
 
 back-quiet : (sh : Shape) (e : ℕ) (s : CoreState) (m : Msg) → IfSome (from_dir sh e s m) (λ o. Quiet o)
-back-quiet sh e s (ProbeReply u v) = reply-quiet sh e u s (probe_reply sh e u s) (reply-cases sh e u s)
-back-quiet sh e s (Fill l ws) = (unprobed-steady s (fill l ws s) (fill-steady l ws s)).sent
-back-quiet sh e s (DataReq l) = (unprobed-steady s (data_request sh l s) (data-steady sh l s)).sent
-back-quiet sh e s (Inv l m u) = (unprobed-hurt sh l s (invalidate sh l m u s) (invalidate-cases sh l m u s)).sent
+back-quiet sh e s (ProbeReply u v) = reply-quiet s (reply-cases sh e u s)
+back-quiet sh e s (Fill l ws) = (unprobed-steady (fill-steady l ws s)).sent
+back-quiet sh e s (DataReq l) = (unprobed-steady (data-steady sh l s)).sent
+back-quiet sh e s (Inv l m u) = (unprobed-hurt (invalidate-cases sh l m u s)).sent
 back-quiet sh e s _ = tt
 
 -- a grant that is taken was on its way to this core
-taken-granted : (sh : Shape) (gs : List Grant) (w : World) (cs : List Noted) (c k u : ℕ) → KeptOwners sh gs w cs
-    → in_flight w.net Vendor (Core c) k ≡ Some (TidGrant u) → Contains gs (record { tid = u; core = c })
+taken-granted : {sh : Shape} {gs : List Grant} (w : World) {cs : List Noted} (c k u : ℕ) → KeptOwners sh gs w cs
+    → in_flight w.net Vendor (Core c) k ≡ Some (TidGrant u) → Contains gs (grant_to u c)
 unfolding holder pair passes
-taken-granted sh gs w cs c k u y i =
+taken-granted w c k u y i =
     y.held c 0 u (let n : num (u == u) ≡ 1 = grind nats in
     omega (arith, n, live-some (Grants u) (w.net Vendor (Core c)) k (TidGrant u) i))
 
-pub step-probed : (sh : Shape) (p : Program) (gs : List Grant) (w : World) (cs : List Noted) (e : Event) → Kept sh w → KeptOwners sh gs w cs
+pub step-probed : {sh : Shape} (p : Program) {gs : List Grant} {w : World} {cs : List Noted} (e : Event) → Kept sh w → KeptOwners sh gs w cs
     → KeptProbed gs w → IfSome (step sh p w e) (λ o. KeptProbed (gs ++ granted_by w e) o.world)
 unfolding pair
-step-probed sh p gs w cs e z y h = step_cases sh p w e (λ g o. KeptProbed (gs ++ g) o.world)
+step-probed {sh} p {gs} {w} {cs} e z y h = step_cases sh p w e (λ g o. KeptProbed (gs ++ g) o.world)
     (λ c l. moved c (core_exec sh p c (w.cores c)) (unprobed-exec sh p c (w.cores c)))
     (λ c a b l. moved c (core_evict sh a b (w.cores c)) (unprobed-evict sh a b (w.cores c)))
     (λ c k u i. rw append-nil (pairs_grant P w c k (grant sh u (w.cores c)) (λ d t x. mine c d k u t i x (cases_eq u t)) h))
     (λ c d k m i. taken c d k m i (from_dir sh d (w.cores c) m) (back-quiet sh d (w.cores c) m))
     (λ c d k m i. answered c d k m i (dir_deliver sh (w.dirs d) c m) (dir-replies sh (w.dirs d) c m))
-    (λ c k i. pairs_vendor (λ j d v. ProbedOf (gs ++ record { tid = w.next; core = c } ∷ []) j v) w c k (λ d t x. more c c t (h c d t x))
+    (λ c k i. pairs_vendor (λ j d v. ProbedOf (gs ++ grant_to w.next c ∷ []) j v) w c k (λ d t x. more c c t (h c d t x))
     (λ j d n t x. more c j t (h j d t x)))
   where
     P : ℕ → ℕ → Pair → Type 0
     P c d v = ProbedOf gs c v
 
-    more : (c j t : ℕ) → Contains gs (record { tid = t; core = j })
-        → Contains (gs ++ record { tid = w.next; core = c } ∷ []) (record { tid = t; core = j })
-    more c j t q = Contains-append_left gs (record { tid = w.next; core = c } ∷ []) (record { tid = t; core = j }) q
+    more : (c j t : ℕ) → Contains gs (grant_to t j) → Contains (gs ++ grant_to w.next c ∷ []) (grant_to t j)
+    more c j t q = Contains-append_left gs (grant_to w.next c ∷ []) (grant_to t j) q
 
     mine : (c d k u t : ℕ) → in_flight w.net Vendor (Core c) k ≡ Some (TidGrant u)
         → 1 ≤ live (Probes t) (to_dir w c d ++ sent_all ((grant sh u (w.cores c)).sends (Dir d))) + live (Replies t)
-        (to_core w d c) → (u ≡ t) ⊎ (u ≡ t → ⊥) → Contains gs (record { tid = t; core = c })
-    mine c d k u t i x (inl q) = rw (sym q) (taken-granted sh gs w cs c k u y i)
+        (to_core w d c) → (u ≡ t) ⊎ (u ≢ t) → Contains gs (grant_to t c)
+    mine c d k u t i x (inl q) = rw (sym q) (taken-granted w c k u y i)
     mine c d k u t i x (inr q) =
         h c d t (omega (
           arith,
           x,
           live-sends (Probes t) (to_dir w c d) ((grant sh u (w.cores c)).sends (Dir d)),
-          (granted sh u (w.cores c) (granted_waits (pair w c d) k u i (z.told.tids.requests c d))).sent d t q,
+          (granted sh u (w.cores c) (granted_waits (pair w c d) k i (z.told.tids.requests c d))).sent d t q,
         ))
 
     moved : (c : ℕ) (x : Option Out) → IfSome x (λ o. Unprobed (w.cores c) o) → IfSome x (λ o. KeptProbed (gs ++ []) (core_moves w c o))
@@ -140,18 +140,30 @@ unfolding start pair live
 start-probed entries ram c d t x = absurd (omega (arith, x))
 
 -- Every event keeps that one probe or reply is in flight for each directory that owes one, and so does every run.
-probing-moved : (v : Pair) (o : Out) (d t : ℕ) → Unprobed v.core o → ProbingOf d t v → ProbingOf d t (after_move v o d)
-probing-moved v o d t y h = record {
+probing-moved : {v : Pair} {o : Out} {d t : ℕ} → Unprobed v.core o → ProbingOf d t v → ProbingOf d t (after_move v o d)
+probing-moved {v} {o} {d} {t} y h = record {
   fresh = λ l. omega (arith, h.fresh l, live-sends (Probes t) v.out (o.sends (Dir d)), y.sent d t);
   held = λ k. let x = y.kept d t k in let q : num (o.core.owing d) ≡ num (v.core.owing d) = ap num x.1 in
       omega (arith, h.held x.0, live-sends (Probes t) v.out (o.sends (Dir d)), y.sent d t);
 }
 
 -- a core takes its grant, which is the only one of its TID
-probing-granted : (v : Pair) (o : Out) (d t k u : ℕ) → slice_index_or v.grants k None ≡ Some (TidGrant u)
+probing-granted : {v : Pair} {o : Out} (d t k u : ℕ) → slice_index_or v.grants k None ≡ Some (TidGrant u)
     → num (nat_le v.next u) + live (Grants u) v.grants ≤ 1 → Granted u o → ProbingOf d u v → ProbingOf d t v
     → ProbingOf d t (after_move (grant_taken v k) o d)
-probing-granted v o d t k u i one y hu h = go (cases_eq u t)
+probing-granted {v} {o} d t k u i one y hu h = elim (cases_eq u t) [
+  | inl e ↦ subst (λ x. ProbingOf d x (after_move (grant_taken v k) o d)) e here
+  | inr n ↦ record {
+    fresh =
+        λ l. omega (
+          arith,
+          h.fresh (omega (arith, live-takes (Grants t) v.grants k (TidGrant u) i, not_mine u t n)),
+          live-sends (Probes t) v.out (o.sends (Dir d)),
+          y.sent d t n,
+        );
+    held = λ x. absurd (n (y.kept d t x).0);
+  }
+]
   where
     mine : 1 ≤ live (Grants u) v.grants
     mine = omega (arith, live-takes (Grants u) v.grants k (TidGrant u) i, is_mine u)
@@ -160,19 +172,6 @@ probing-granted v o d t k u i one y hu h = go (cases_eq u t)
     here = record {
       fresh = λ l. absurd (omega (arith, live-takes (Grants u) v.grants k (TidGrant u) i, is_mine u));
       held = λ x. omega (arith, hu.fresh (omega (arith, mine)), (y.kept d u x).1, live-sends (Probes u) v.out (o.sends (Dir d)));
-    }
-
-    go : (u ≡ t) ⊎ (u ≡ t → ⊥) → ProbingOf d t (after_move (grant_taken v k) o d)
-    go (inl e) = subst (λ x. ProbingOf d x (after_move (grant_taken v k) o d)) e here
-    go (inr n) = record {
-      fresh =
-          λ l. omega (
-            arith,
-            h.fresh (omega (arith, live-takes (Grants t) v.grants k (TidGrant u) i, not_mine u t n)),
-            live-sends (Probes t) v.out (o.sends (Dir d)),
-            y.sent d t n,
-          );
-      held = λ x. absurd (n (y.kept d t x).0);
     }
 
 -- a core takes a reply
@@ -210,10 +209,10 @@ probing-taken v o e k u x t i n f h = record {
 }
 
 -- elsewhere the replies owed stay
-probing-away : (v : Pair) (o : Out) (d t : ℕ) → ((d t : ℕ) → among (Probes t) (o.sends (Dir d)) ≡ 0)
-    → (has_tid o.core.phase t ≡ true → (has_tid v.core.phase t ≡ true) × (o.core.owing d ≡ v.core.owing d))
-    → ProbingOf d t v → ProbingOf d t (after_move v o d)
-probing-away v o d t n f h = record {
+probing-away : {v : Pair} (o : Out) (d t : ℕ) → ((d t : ℕ) → among (Probes t) (o.sends (Dir d)) ≡ 0)
+    → (has_tid o.core.phase t ≡ true → (has_tid v.core.phase t ≡ true) × (o.core.owing d ≡ v.core.owing d)) → ProbingOf d t v
+    → ProbingOf d t (after_move v o d)
+probing-away {v} o d t n f h = record {
   fresh = λ l. omega (arith, h.fresh l, live-sends (Probes t) v.out (o.sends (Dir d)), n d t);
   held = λ y. let z = f y in let q : num (o.core.owing d) ≡ num (v.core.owing d) = ap num z.1 in
       omega (arith, h.held z.0, live-sends (Probes t) v.out (o.sends (Dir d)), n d t);
@@ -224,18 +223,18 @@ record Counts (e u : ℕ) (s : CoreState) (o : Out) : Type 0 where
   sent : (d t : ℕ) → among (Probes t) (o.sends (Dir d)) ≡ 0
   here : (t : ℕ) → has_tid o.core.phase t ≡ true
       → (has_tid s.phase t ≡ true) × ((num (s.owing e) ≡ num (o.core.owing e) + num (u == t)) ⊎ ((u ≡ t) × (s.owing e ≡ false)))
-  away : (d t : ℕ) → (d ≡ e → ⊥) → has_tid o.core.phase t ≡ true → (has_tid s.phase t ≡ true) × (o.core.owing d ≡ s.owing d)
+  away : (d t : ℕ) → d ≢ e → has_tid o.core.phase t ≡ true → (has_tid s.phase t ≡ true) × (o.core.owing d ≡ s.owing d)
 
 put-here : (f : ℕ → Bool) (e : ℕ) → num (put f e false e) ≡ 0
 put-here f e = let b : (e == e) ≡ true = grind nats in rw b refl
 
-put-away : (f : ℕ → Bool) (e d : ℕ) → (d ≡ e → ⊥) → put f e false d ≡ f d
+put-away : (f : ℕ → Bool) (e d : ℕ) → d ≢ e → put f e false d ≡ f d
 put-away f e d n = let b : (d == e) ≡ false = grind nats in rw b refl
 
-one-less : (s : CoreState) (o : Out) (e u : ℕ) (x y : Phase) (b : Bool) → o.core.phase ≡ (if b then x else y)
+one-less : {s : CoreState} {o : Out} {e u : ℕ} (x y : Phase) (b : Bool) → o.core.phase ≡ (if b then x else y)
     → o.core.owing ≡ put s.owing e false → s.owing e ≡ true → ((t : ℕ) → has_tid x t ≡ (u == t)) → ((t : ℕ) → has_tid y t ≡ (u == t))
     → ((t : ℕ) → has_tid s.phase t ≡ (u == t)) → ((d t : ℕ) → among (Probes t) (o.sends (Dir d)) ≡ 0) → Counts e u s o
-one-less s o e u x y b p w f hx hy hs n = record {
+one-less {s} {e} {u} x y b p w f hx hy hs n = record {
   sent = n;
   here = λ t k. let q : u ≡ t = has-one b x y u t (hx t) (hy t) (rw p at k) in let r : (u == t) ≡ true = grind nats in
       (hs t ∙ r, inl (rw (f, w) (omega (arith, put-here s.owing e, ap num r))));
@@ -251,21 +250,21 @@ counts sh e u s o idle (Ignored q n) = rw q (record {
   away = λ d t m k. (k, refl);
 })
   where
-    still : (t : ℕ) → has_tid s.phase t ≡ true → (u ≡ t) ⊎ (u ≡ t → ⊥) → ((s.phase ≡ Probing t) ⊎ (s.phase ≡ Overflowing (Some t)))
+    still : (t : ℕ) → has_tid s.phase t ≡ true → (u ≡ t) ⊎ (u ≢ t) → ((s.phase ≡ Probing t) ⊎ (s.phase ≡ Overflowing (Some t)))
         ⊎ (s.owing e ≡ false) → (num (s.owing e) ≡ num (s.owing e) + num (u == t)) ⊎ ((u ≡ t) × (s.owing e ≡ false))
     still t k (inr m) z = let b : (u == t) ≡ false = grind nats in inl (rw b (omega arith))
     still t k (inl i) (inr z) = inr (i, z)
     still t k (inl i) (inl z) = inr (i, n (subst (λ y. (s.phase ≡ Probing y) ⊎ (s.phase ≡ Overflowing (Some y))) (sym i) z))
-counts sh e u s o idle (Probed g f ph ow ca se cm) = one-less s o e u (Ready u) (Probing u) (all_replied sh (put s.owing e false)) ph ow f
+counts sh e u s o idle (Probed g f ph ow ca se cm) = one-less (Ready u) (Probing u) (all_replied sh (put s.owing e false)) ph ow f
     (λ t. refl) (λ t. refl) (λ t. rw g refl) (λ d t. rw se (none-to t e d (marks_for sh s.cache u e) (none-marks sh s.cache u e t)))
 counts sh e u s o idle (Left_alone g f ph ow mo se cm) =
-    one-less s o e u (Solo u) (Overflowing (Some u)) (all_replied sh (put s.owing e false)) ph ow f (λ t. refl) (λ t. refl) (λ t. rw g refl)
+    one-less (Solo u) (Overflowing (Some u)) (all_replied sh (put s.owing e false)) ph ow f (λ t. refl) (λ t. refl) (λ t. rw g refl)
     (λ d t. rw se refl)
 
-probing-replied : (v : Pair) (o : Out) (e k u x t : ℕ) → slice_index_or v.back k None ≡ Some (ProbeReply u x) → Counts e u v.core o
+probing-replied : {v : Pair} {o : Out} (e k u x t : ℕ) → slice_index_or v.back k None ≡ Some (ProbeReply u x) → Counts e u v.core o
     → ProbingOf e t v → ProbingOf e t (after_move (back_taken v k) o e)
 unfolding passes
-probing-replied v o e k u x t i y h = probing-taken v o e k u x t i y.sent (λ z. let w = y.here t z in (w.0, here w.0 w.1)) h
+probing-replied {v} {o} e k u x t i y h = probing-taken v o e k u x t i y.sent (λ z. let w = y.here t z in (w.0, here w.0 w.1)) h
   where
     some : (u ≡ t) → 1 ≤ live (Replies t) v.back
     some q = let r : num (u == t) ≡ 1 = let b : (u == t) ≡ true = grind nats in rw b refl in
@@ -277,9 +276,9 @@ probing-replied v o e k u x t i y h = probing-taken v o e k u x t i y.sent (λ z
     here z (inr q) = let n : num (v.core.owing e) ≡ 0 = ap num q.1 in absurd (omega (arith, h.held z, some q.0, n))
 
 -- a core that has a TID and waits for no reply is owed none
-idle_of : (sh : Shape) (s : CoreState) (e t : ℕ) → OneCore sh s → Idle e t s
+idle_of : {sh : Shape} {s : CoreState} (e t : ℕ) → OneCore sh s → Idle e t s
 unfolding has_tid
-idle_of sh s e t h k = go s.phase refl k
+idle_of {s} e t h k = go s.phase refl k
   where
     same : (u : ℕ) → (u == t) ≡ true → u ≡ t
     same u q = grind nats
@@ -292,9 +291,9 @@ idle_of sh s e t h k = go s.phase refl k
     go _ g x = absurd (cc)
 
 -- a directory answers
-probing-answered : (v : Pair) (s : DirState) (ms : List Msg) (d t : ℕ) → among (Replies t) ms ≡ 0 → ProbingOf d t v
+probing-answered : {v : Pair} (s : DirState) (ms : List Msg) {d t : ℕ} → among (Replies t) ms ≡ 0 → ProbingOf d t v
     → ProbingOf d t (after_answer v s ms)
-probing-answered v s ms d t n h = record {
+probing-answered {v} s ms {t} n h = record {
   fresh = λ l. omega (arith, h.fresh l, live-sends (Replies t) v.back ms);
   held = λ k. omega (arith, h.held k, live-sends (Replies t) v.back ms);
 }
@@ -341,16 +340,16 @@ dropped v e k m t i f h = let n : num (passes (Replies t) m) ≡ 0 = ap num f in
   held = λ x. omega (arith, h.held x, live-takes (Replies t) v.back k m i);
 }
 
-pub step-probing : (sh : Shape) (p : Program) (gs : List Grant) (w : World) (cs : List Noted) (e : Event) → Kept sh w
+pub step-probing : {sh : Shape} (p : Program) {gs : List Grant} {w : World} {cs : List Noted} (e : Event) → Kept sh w
     → KeptOwners sh gs w cs → KeptCores sh w → KeptProbing w → IfSome (step sh p w e) (λ o. KeptProbing o.world)
 unfolding pair
-step-probing sh p gs w cs e z y x h = step_cases sh p w e (λ g o. KeptProbing o.world)
+step-probing {sh} p {gs} {w} {cs} e z y x h = step_cases sh p w e (λ g o. KeptProbing o.world)
     (λ c l. moved c (core_exec sh p c (w.cores c)) (unprobed-exec sh p c (w.cores c)))
     (λ c a b l. moved c (core_evict sh a b (w.cores c)) (unprobed-evict sh a b (w.cores c)))
     (λ c k u i. pairs_grant P w c k (grant sh u (w.cores c))
-    (λ d t. probing-granted (pair w c d) (grant sh u (w.cores c)) d t k u i
-    (grant-alone sh gs w cs c u y (core_of_grant sh w c k (TidGrant u) z.told.tids i))
-    (granted sh u (w.cores c) (granted_waits (pair w c d) k u i (z.told.tids.requests c d))) (h c d u) (h c d t)) h)
+    (λ d t. probing-granted d t k u i
+    (grant-alone c u y (core_of_grant c k z.told.tids i))
+    (granted sh u (w.cores c) (granted_waits (pair w c d) k i (z.told.tids.requests c d))) (h c d u) (h c d t)) h)
     (λ c d k m i. taken c d k m i)
     (λ c d k m i. answered c d k m i (dir_deliver sh (w.dirs d) c m) (dir-replies sh (w.dirs d) c m))
     (λ c k i. pairs_vendor P w c k (λ d t. probing-given (pair w c d) k d t (h c d t)) (λ j d n t. probing-next (pair w j d) d t (h j d t)))
@@ -360,45 +359,45 @@ step-probing sh p gs w cs e z y x h = step_cases sh p w e (λ g o. KeptProbing o
 
     moved : (c : ℕ) (q : Option Out) → IfSome q (λ o. Unprobed (w.cores c) o) → IfSome q (λ o. KeptProbing (core_moves w c o))
     moved c None u = tt
-    moved c (Some o) u = pairs_move P w c o (λ d t. probing-moved (pair w c d) o d t u (h c d t)) h
+    moved c (Some o) u = pairs_move P w c o (λ d t. probing-moved u (h c d t)) h
 
     quiet : (c e k : ℕ) (m : Msg) (o : Out) → FromDir w e c k m → ((t : ℕ) → passes (Replies t) m ≡ false)
         → Unprobed (w.cores c) o → KeptProbing (core_takes w (Dir e) c k o)
     quiet c e k m o i f u =
-        pairs_back P w e c k o (λ t. probing-moved (back_taken (pair w c e) k) o e t u (dropped (pair w c e) e k m t i (f t) (h c e t)))
-        (λ d n t. probing-moved (pair w c d) o d t u (h c d t)) h
+        pairs_back P w e c k o (λ t. probing-moved u (dropped (pair w c e) e k m t i (f t) (h c e t)))
+        (λ d n t. probing-moved u (h c d t)) h
 
     reply : (c e k u v : ℕ) → FromDir w e c k (ProbeReply u v) → KeptProbing (core_takes w (Dir e) c k (probe_reply sh e u (w.cores c)))
     reply c e k u v i =
-        let a = counts sh e u (w.cores c) (probe_reply sh e u (w.cores c)) (λ t. idle_of sh (w.cores c) e t (x c))
+        let a = counts sh e u (w.cores c) (probe_reply sh e u (w.cores c)) (λ t. idle_of e t (x c))
         (reply-cases sh e u (w.cores c)) in
         pairs_back P w e c k (probe_reply sh e u (w.cores c))
-        (λ t. probing-replied (pair w c e) (probe_reply sh e u (w.cores c)) e k u v t i a (h c e t))
-        (λ d n t. probing-away (pair w c d) (probe_reply sh e u (w.cores c)) d t a.sent (λ q. a.away d t n q) (h c d t)) h
+        (λ t. probing-replied e k u v t i a (h c e t))
+        (λ d n t. probing-away (probe_reply sh e u (w.cores c)) d t a.sent (λ q. a.away d t n q) (h c d t)) h
 
     taken : (c d k : ℕ) (m : Msg) → FromDir w d c k m → IfSome (from_dir sh d (w.cores c) m) (λ o. KeptProbing (core_takes w (Dir d) c k o))
     taken c d k (ProbeReply u v) i = reply c d k u v i
     taken c d k (Fill l ws) i =
         quiet c d k (Fill l ws) _ i (no-reply_fill l ws)
-        (unprobed-steady (w.cores c) (fill l ws (w.cores c)) (fill-steady l ws (w.cores c)))
+        (unprobed-steady (fill-steady l ws (w.cores c)))
     taken c d k (DataReq l) i =
         quiet c d k (DataReq l) _ i (no-reply_data l)
-        (unprobed-steady (w.cores c) (data_request sh l (w.cores c)) (data-steady sh l (w.cores c)))
+        (unprobed-steady (data-steady sh l (w.cores c)))
     taken c d k (Inv l m u) i =
         quiet c d k (Inv l m u) _ i (no-reply_inv l m u)
-        (unprobed-hurt sh l (w.cores c) (invalidate sh l m u (w.cores c)) (invalidate-cases sh l m u (w.cores c)))
+        (unprobed-hurt (invalidate-cases sh l m u (w.cores c)))
     taken c d k _ i = tt
 
     dir : (c d k : ℕ) (m : Msg) (s : DirState) (sends : Sends) → FromCore w c d k m → Replying m c sends
         → KeptProbing (dir_takes w c d k s sends)
     dir c d k m s sends i u =
         pairs_dir P w c d k s sends (λ t. probing-exchanged (pair w c d) s (sends (Core c)) d t k m i (u.own t) (h c d t))
-        (λ j n t. probing-answered (pair w j d) s (sends (Core j)) d t (u.others j t n) (h j d t)) h
+        (λ j n t. probing-answered s (sends (Core j)) (u.others j t n) (h j d t)) h
 
     answered : (c d k : ℕ) (m : Msg) → FromCore w c d k m → (a : Answer) → RepliesBy m c a → OfAnswer w c d k (λ v. KeptProbing v) a
     answered c d k m i Waits u = tt
     answered c d k m i Drops u =
         dir c d k m (w.dirs d) (λ dst. []) i (record { own = λ t. none-replied t ∙ sym (u t); others = λ j t n. none-replied t })
     answered c d k m i (Asks s sends) u =
-        pairs_asks P w d s sends (λ j t. probing-answered (pair w j d) s (sends (Core j)) d t (u j t) (h j d t)) h
+        pairs_asks P w d s sends (λ j t. probing-answered s (sends (Core j)) (u j t) (h j d t)) h
     answered c d k m i (Takes s sends) u = dir c d k m s sends i u

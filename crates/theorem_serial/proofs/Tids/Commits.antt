@@ -3,7 +3,7 @@ use Rattle.theorem_serial.proofs
 use proofs.Names
 use Names.{ℕ, zero, suc, ◌+◌, ◌≡◌, ◌<◌, ◌≤◌, Bool, true, false, ◌==◌, List, [], ◌∷◌, ◌++◌, length, Contains, slice_index_or, nat_lt}
 use Names.{if◌then◌else◌, arith, refl, sym, ap, ◌∙◌, Contains-append_left, Noted, num, insert_commit, Grant, IsNumbered, IsRising}
-use Names.{AreGranted, times, ◌⊎◌, inl, inr, World, Shape, holder, KeptOwners, pair, has_tid, max, cond, last_of, nats}
+use Names.{AreGranted, times, ◌⊎◌, inl, inr, World, Shape, holder, KeptOwners, pair, has_tid, max, cond, last_of, nats, grant_to}
 
 -- A further commit in the list of commits, and a further grant.
 pub times-insert : (t : ℕ) (n : Noted) (cs : List Noted) → times t (insert_commit n cs) ≡ times t cs + num (n.tid.0 == t)
@@ -30,7 +30,7 @@ insert-rising last n (c ∷ cs) r l z = go (nat_lt n.tid.0 c.tid.0) refl (λ k. 
     go false q f = (r.0, f (above q))
 
 pub insert-granted : (gs : List Grant) (n : Noted) (cs : List Noted) → AreGranted gs cs
-    → Contains gs (record { tid = n.tid.0; core = n.core.0 }) → AreGranted gs (insert_commit n cs)
+    → Contains gs (grant_to n.tid.0 n.core.0) → AreGranted gs (insert_commit n cs)
 unfolding AreGranted insert_commit
 insert-granted gs n [] a h = (h, tt)
 insert-granted gs n (c ∷ cs) a h = go (nat_lt n.tid.0 c.tid.0) (insert-granted gs n cs a.1 h)
@@ -42,7 +42,7 @@ insert-granted gs n (c ∷ cs) a h = go (nat_lt n.tid.0 c.tid.0) (insert-granted
 pub granted-more : (gs hs : List Grant) (cs : List Noted) → AreGranted gs cs → AreGranted (gs ++ hs) cs
 unfolding AreGranted
 granted-more gs hs [] a = tt
-granted-more gs hs (c ∷ cs) a = (Contains-append_left gs hs (record { tid = c.tid.0; core = c.core.0 }) a.0, granted-more gs hs cs a.1)
+granted-more gs hs (c ∷ cs) a = (Contains-append_left gs hs (grant_to c.tid.0 c.core.0) a.0, granted-more gs hs cs a.1)
 
 pub numbered-more : (n : ℕ) (gs : List Grant) (g : Grant) → IsNumbered n gs → g.tid ≡ n + length gs → IsNumbered n (gs ++ g ∷ [])
 unfolding IsNumbered
@@ -86,10 +86,9 @@ unique-at n (suc i) zero (x ∷ gs) g h o t a p b q = let r : x.tid ≡ h.tid = 
 unique-at n (suc i) (suc j) (x ∷ gs) g h o t a p b q = unique-at (n + 1) i j gs g h o.1 t (omega arith) p (omega arith) q
 
 -- a TID was granted to one core
-pub granted-once : (n : ℕ) (gs : List Grant) (t c d : ℕ) → IsNumbered n gs → Contains gs (record { tid = t; core = c })
-    → Contains gs (record { tid = t; core = d }) → c ≡ d
+pub granted-once : (n : ℕ) (gs : List Grant) (t c d : ℕ) → IsNumbered n gs → Contains gs (grant_to t c) → Contains gs (grant_to t d) → c ≡ d
 granted-once n gs t c d o a b =
-    ap (λ g. g.core) (unique-at n a.0 b.0 gs (record { tid = t; core = c }) (record { tid = t; core = d }) o refl a.1 a.2 b.1 b.2)
+    ap (λ g. g.core) (unique-at n a.0 b.0 gs (grant_to t c) (grant_to t d) o refl a.1 a.2 b.1 b.2)
 
 -- Which commits are listed after a further one, and that TIDs count from 1.
 contains-cases : (x n : Noted) (xs : List Noted) → Contains (x ∷ xs) n → (x ≡ n) ⊎ Contains xs n
@@ -100,13 +99,12 @@ contains-cases x n xs c = go c.0 c.1 c.2
     go (suc k) l e = inr (k, omega (arith, l), e)
 
 pub granted-at : (gs : List Grant) (cs : List Noted) (n : Noted) → AreGranted gs cs → Contains cs n
-    → Contains gs (record { tid = n.tid.0; core = n.core.0 })
+    → Contains gs (grant_to n.tid.0 n.core.0)
 unfolding AreGranted
 granted-at gs [] n a c = absurd (omega (arith, c.1))
 granted-at gs (x ∷ cs) n a c = go (contains-cases x n cs c) (λ k. granted-at gs cs n a.1 k)
   where
-    go : (x ≡ n) ⊎ Contains cs n → (Contains cs n → Contains gs (record { tid = n.tid.0; core = n.core.0 }))
-        → Contains gs (record { tid = n.tid.0; core = n.core.0 })
+    go : (x ≡ n) ⊎ Contains cs n → (Contains cs n → Contains gs (grant_to n.tid.0 n.core.0)) → Contains gs (grant_to n.tid.0 n.core.0)
     go (inl e) f = rw e at a.0
     go (inr k) f = f k
 
@@ -129,19 +127,19 @@ inserted x n (c ∷ cs) k = go (nat_lt x.tid.0 c.tid.0) k (λ q. inserted x n cs
     go false q f = behind (contains-cases c n (insert_commit x cs) q) f
 
 -- TIDs count from 1
-pub positive-granted : (sh : Shape) (gs : List Grant) (w : World) (cs : List Noted) (c t : ℕ) → KeptOwners sh gs w cs
+pub positive-granted : {sh : Shape} {gs : List Grant} {w : World} {cs : List Noted} (c t : ℕ) → KeptOwners sh gs w cs
     → 1 ≤ holder t (pair w c 0) → 1 ≤ t
-positive-granted sh gs w cs c t o h = numbered-least 1 gs (record { tid = t; core = c }) o.numbered (o.held c 0 t h)
+positive-granted {gs} c t o h = numbered-least 1 gs (grant_to t c) o.numbered (o.held c 0 t h)
 
-pub positive-held : (sh : Shape) (gs : List Grant) (w : World) (cs : List Noted) (c t : ℕ) → KeptOwners sh gs w cs
+pub positive-held : {sh : Shape} {gs : List Grant} {w : World} {cs : List Noted} (c t : ℕ) → KeptOwners sh gs w cs
     → has_tid (w.cores c).phase t ≡ true → 1 ≤ t
 unfolding holder pair
-positive-held sh gs w cs c t o h = let n : num (has_tid (w.cores c).phase t) ≡ 1 = ap num h in
-    positive-granted sh gs w cs c t o (omega (arith, n))
+positive-held {sh} {gs} {w} {cs} c t o h = let n : num (has_tid (w.cores c).phase t) ≡ 1 = ap num h in
+    positive-granted c t o (omega (arith, n))
 
-pub positive-committed : (sh : Shape) (gs : List Grant) (w : World) (cs : List Noted) (n : Noted) → KeptOwners sh gs w cs → Contains cs n
+pub positive-committed : {sh : Shape} {gs : List Grant} {w : World} {cs : List Noted} (n : Noted) → KeptOwners sh gs w cs → Contains cs n
     → 1 ≤ n.tid.0
-positive-committed sh gs w cs n o k = numbered-least 1 gs (record { tid = n.tid.0; core = n.core.0 }) o.numbered
+positive-committed {gs} {cs} n o k = numbered-least 1 gs (grant_to n.tid.0 n.core.0) o.numbered
     (granted-at gs cs n o.granted k)
 
 -- The greatest TID of the commits that pass a test.

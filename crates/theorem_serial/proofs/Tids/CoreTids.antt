@@ -8,7 +8,7 @@ use Names.{DoomedTid, marks_for, core_exec, is_probed, AwaitTid, false, from_dir
 use Names.{ignored, IfSome, InvAck, commit, arith, passes, Shape, Phase, Ready, Sends, grant, among, opens, Bool, true, List, ◌==◌, ◌&&◌}
 use Names.{Some, None, refl, Fill, home, Solo, fill, ◌≡◌, ◌<◌, ◌∷◌, ◌⊎◌, inl, inr, num, Dir, Msg, Inv, Out, put, [], to, nats, Vendor}
 use Names.{skip_all, probe_all, commit_sends, solo_sends, grant_sends, abort_written, flush_line, ◌≤◌, nat_lt, sym, ap, ◌∙◌, Mark, Cache}
-use Names.{modified_mask, written_lines, Probes, Protocol, has_tid, moves, Option, Noted, noted}
+use Names.{modified_mask, written_lines, Probes, Protocol, has_tid, moves, Option, Noted, noted, ◌≢◌}
 use proofs.Counts.Links.{among-append, resolves-commit_sends, resolves-abort_written, resolves-skip_all, resolves-probe_all}
 use proofs.Counts.Links.{resolves-grant_sends, resolves-marks_for, resolves-solo_sends, among-quiet, among-fewer, among-flat_map_none}
 use proofs.OneCore.CoreSteps.{Steady, did-steady, ignored-steady, fill-steady, data-steady, Hurt, Invalidated, invalidate-cases}
@@ -41,8 +41,8 @@ opens-after : (e : Outcome) (a : Bool) (t : ℕ) → opens (phase_after_commit e
 unfolding opens
 opens-after b a t = grind nats
 
-part-steady : (sh : Shape) (d t : ℕ) (s : CoreState) (o : Out) → Steady s o → KeepsPart sh d t 0 s o
-part-steady sh d t s o y =
+part-steady : (sh : Shape) (d t : ℕ) {s : CoreState} {o : Out} → Steady s o → KeepsPart sh d t 0 s o
+part-steady sh d t {s} {o} y =
     rw (
       y.phase,
       opens-acts s.phase (writes_at sh o.core.cache d) (writes_at sh s.cache d) t (acts s.phase)
@@ -63,11 +63,11 @@ part-exec sh p c d t s l = each-exec sh p c s (λ o. KeepsPart sh d t 0 s o) go
     go (Room_wanted r i) = rw r refl
     go (Ends_run n e f r i) = rw r refl
     go (Ends_alone u n e f r i) = rw r (rw (opens-after e _ t) (omega (arith, resolves-solo_sends sh s.cache s.spilled u d t l)))
-    go x = part-steady sh d t s (out x) (did-steady x)
+    go x = part-steady sh d t (did-steady x)
 
 pub part-evict : (sh : Shape) (x y d t : ℕ) (s : CoreState) → IfSome (core_evict sh x y s) (λ o. KeepsPart sh d t 0 s o)
 part-evict sh x y d t s = each-evict sh x y s (λ o. KeepsPart sh d t 0 s o)
-    (λ k q u z. part-steady sh d t s (emptied sh x y k s) (steady-emptied sh x y s k q u z))
+    (λ k q u z. part-steady sh d t (steady-emptied sh x y s k q u z))
 
 opens-probing : (b : Bool) (u : ℕ) (w : Bool) (t : ℕ) → opens (probing_or_ready b u) w t ≡ ((u == t) && w)
 unfolding opens
@@ -91,10 +91,10 @@ resolves-to : (t h d : ℕ) (ms : List Msg) → among (Resolves t) ms ≡ 0 → 
 unfolding among
 resolves-to t h d ms e = grind nats
 
-part-replied : (sh : Shape) (e u d t : ℕ) (s : CoreState) (o : Out) → Replied sh e u s o → KeepsPart sh d t 0 s o
+part-replied : (sh : Shape) (e u d t : ℕ) (s : CoreState) {o : Out} → Replied sh e u s o → KeepsPart sh d t 0 s o
 unfolding opens among
-part-replied sh e u d t s o (Ignored q f) = rw q (part-steady sh d t s (ignored s) (ignored-steady s))
-part-replied sh e u d t s o (Probed ph ow ph' ow' ca se cm) =
+part-replied sh e u d t s (Ignored q f) = rw q (part-steady sh d t (ignored-steady s))
+part-replied sh e u d t s (Probed ph ow ph' ow' ca se cm) =
     rw (ph, ph', ca, se) (omega (
       arith,
       resolves-to t e d (marks_for sh s.cache u e) (resolves-marks_for sh s.cache u e t),
@@ -104,32 +104,32 @@ part-replied sh e u d t s o (Probed ph ow ph' ow' ca se cm) =
     same : (b : Bool) → num (opens (if b then Ready u else Probing u) (writes_at sh s.cache d) t) ≡ num ((u == t) && writes_at sh s.cache d)
     same true = refl
     same false = refl
-part-replied sh e u d t s o (Left_alone ph ow ph' ow' mo se cm) = rw (ph, ph', se) (same (all_replied sh (put s.owing e false)))
+part-replied sh e u d t s {o} (Left_alone ph ow ph' ow' mo se cm) = rw (ph, ph', se) (same (all_replied sh (put s.owing e false)))
   where
     same : (b : Bool) → 0 + num (u == t) ≡ num (opens (if b then Solo u else Overflowing (Some u)) (writes_at sh o.core.cache d) t) + 0
     same true = omega arith
     same false = omega arith
 
-part-hurt : (sh : Shape) (d t : ℕ) (s r : CoreState) (sends : Sends) → d < sh.dirs → Hurt sh s r sends
+part-hurt : {sh : Shape} (d t : ℕ) {s r : CoreState} {sends : Sends} → d < sh.dirs → Hurt sh s r sends
     → num (opens s.phase (writes_at sh s.cache d) t) ≡ num (opens r.phase (writes_at sh r.cache d) t) + among (Resolves t) (sends (Dir d))
 unfolding among opens
-part-hurt sh d t s r sends l a = grind (nats, writes_at-same, resolves-abort_written, resolves-skip_all)
+part-hurt d t l a = grind (nats, writes_at-same, resolves-abort_written, resolves-skip_all)
 
-part-invalidated : (sh : Shape) (l d t : ℕ) (s : CoreState) (o : Out) → d < sh.dirs → Invalidated sh l s o → KeepsPart sh d t 0 s o
+part-invalidated : {sh : Shape} (l d t : ℕ) (s : CoreState) {o : Out} → d < sh.dirs → Invalidated sh l s o → KeepsPart sh d t 0 s o
 unfolding among passes
-part-invalidated sh l d t s o h i =
+part-invalidated {sh} l d t s {o} h i =
     rw (i.dirs d) (omega (
       arith,
-      part-hurt sh d t s o.core i.sends h i.hurt,
+      part-hurt d t h i.hurt,
       among-append (Resolves t) (i.sends (Dir d)) (to (Dir (home sh l)) (InvAck l i.kept ∷ []) (Dir d)),
       resolves-to t (home sh l) d (InvAck l i.kept ∷ []) refl,
     ))
 
 pub part-back : (sh : Shape) (e d t : ℕ) (s : CoreState) (m : Msg) → d < sh.dirs → IfSome (from_dir sh e s m) (λ o. KeepsPart sh d t 0 s o)
-part-back sh e d t s (ProbeReply u v) h = part-replied sh e u d t s (probe_reply sh e u s) (reply-cases sh e u s)
-part-back sh e d t s (Fill l ws) h = part-steady sh d t s (fill l ws s) (fill-steady l ws s)
-part-back sh e d t s (DataReq l) h = part-steady sh d t s (data_request sh l s) (data-steady sh l s)
-part-back sh e d t s (Inv l m u) h = part-invalidated sh l d t s (invalidate sh l m u s) h (invalidate-cases sh l m u s)
+part-back sh e d t s (ProbeReply u v) h = part-replied sh e u d t s (reply-cases sh e u s)
+part-back sh e d t s (Fill l ws) h = part-steady sh d t (fill-steady l ws s)
+part-back sh e d t s (DataReq l) h = part-steady sh d t (data-steady sh l s)
+part-back sh e d t s (Inv l m u) h = part-invalidated l d t s h (invalidate-cases sh l m u s)
 part-back sh e d t s _ h = tt
 
 -- What a core's rules do to its requests for a TID.
@@ -142,9 +142,9 @@ waits-after : (e : Outcome) → waits_for_tid (phase_after_commit e) ≡ false
 unfolding waits_for_tid
 waits-after a = grind nats
 
-requests-steady : (s : CoreState) (o : Out) → Steady s o → KeepsRequests 0 s o
+requests-steady : {s : CoreState} {o : Out} → Steady s o → KeepsRequests 0 s o
 unfolding among
-requests-steady s o y = rw (y.phase, y.vendor) refl
+requests-steady y = rw (y.phase, y.vendor) refl
 
 pub requests-exec : (sh : Shape) (p : Program) (c : ℕ) (s : CoreState) → IfSome (core_exec sh p c s) (λ o. KeepsRequests 0 s o)
 unfolding waits_for_tid commit solo_commit committed_core commit_sends solo_sends flush_line among passes
@@ -159,7 +159,7 @@ requests-exec sh p c s = each-exec sh p c s (λ o. KeepsRequests 0 s o) go
 
 pub requests-evict : (sh : Shape) (x y : ℕ) (s : CoreState) → IfSome (core_evict sh x y s) (λ o. KeepsRequests 0 s o)
 requests-evict sh x y s = each-evict sh x y s (λ o. KeepsRequests 0 s o)
-    (λ k q u z. requests-steady s (emptied sh x y k s) (steady-emptied sh x y s k q u z))
+    (λ k q u z. requests-steady (steady-emptied sh x y s k q u z))
 
 waits-probing : (b : Bool) (u : ℕ) → waits_for_tid (probing_or_ready b u) ≡ false
 unfolding waits_for_tid
@@ -207,16 +207,16 @@ probes-protocol t m = grind nats
 few-probes : (t : ℕ) (ms : List Msg) → among (Probes t) ms ≤ among Protocol ms
 few-probes t ms = among-fewer (Probes t) Protocol (probes-protocol t) ms
 
-pub unprobed-steady : (s : CoreState) (o : Out) → Steady s o → Unprobed s o
-unprobed-steady s o y = record {
+pub unprobed-steady : {s : CoreState} {o : Out} → Steady s o → Unprobed s o
+unprobed-steady {o} y = record {
   sent = λ d t. omega (arith, few-probes t (o.sends (Dir d)), y.quiet d);
   kept = λ d t h. (rw y.phase at h, ap (λ f. f d) y.owing);
 }
 
 -- the core has no TID any more
-unprobed-none : (s : CoreState) (o : Out) (q : Phase) → o.core.phase ≡ q → ((t : ℕ) → has_tid q t ≡ false)
+unprobed-none : {s : CoreState} {o : Out} (q : Phase) → o.core.phase ≡ q → ((t : ℕ) → has_tid q t ≡ false)
     → ((d t : ℕ) → among (Probes t) (o.sends (Dir d)) ≡ 0) → Unprobed s o
-unprobed-none s o q e h n = record { sent = n; kept = λ d t k. let x : has_tid o.core.phase t ≡ false = rw e (h t) in absurd (cc) }
+unprobed-none {o} q e h n = record { sent = n; kept = λ d t k. let x : has_tid o.core.phase t ≡ false = rw e (h t) in absurd (cc) }
 
 pub none-marks : (sh : Shape) (c : Cache) (u e t : ℕ) → among (Probes t) (marks_for sh c u e) ≡ 0
 unfolding marks_for among passes
@@ -235,23 +235,23 @@ unfolding commit solo_commit committed_core has_tid passes
 unprobed-exec sh p c s = each-exec sh p c s (λ o. Unprobed s o) go
   where
     go : (x : Did sh p c s) → Unprobed s (out x)
-    go (Room_wanted r i) = unprobed-none s (moves (record s { phase = Overflowing None }) (say sh s Wants)) (Overflowing None) refl
+    go (Room_wanted r i) = unprobed-none (Overflowing None) refl
         (λ t. refl) (λ d t. quiet sh s (Probes t) Wants (λ y. refl) d)
-    go (Ends_run l e f r i) = unprobed-none s (moves (record (after_end s l e) { phase = AwaitTid }) (say sh s Wants)) AwaitTid refl
+    go (Ends_run l e f r i) = unprobed-none AwaitTid refl
         (λ t. refl) (λ d t. quiet sh s (Probes t) Wants (λ y. refl) d)
-    go (Ends_alone u l e f r i) = unprobed-none s (solo_commit sh c u (after_end s l e)) (phase_after_commit e) refl (tid-after e)
+    go (Ends_alone u l e f r i) = unprobed-none (phase_after_commit e) refl (tid-after e)
         (λ d t. quiet sh s (Probes t) (Tells_alone u) (λ y. refl) d)
-    go (Commits_now u e) = unprobed-none s (commit sh c u s) (phase_after_commit s.ended) refl (tid-after s.ended)
+    go (Commits_now u e) = unprobed-none (phase_after_commit s.ended) refl (tid-after s.ended)
         (λ d t. quiet sh s (Probes t) (Tells_commit u) (λ y. refl) d)
     go x = record { sent = λ d t. quiet sh s (Probes t) (said x) (λ y. refl) d; kept = λ d t h. (h, refl) }
 
 pub unprobed-evict : (sh : Shape) (x y : ℕ) (s : CoreState) → IfSome (core_evict sh x y s) (λ o. Unprobed s o)
 unprobed-evict sh x y s =
-    each-evict sh x y s (λ o. Unprobed s o) (λ k q u z. unprobed-steady s (emptied sh x y k s) (steady-emptied sh x y s k q u z))
+    each-evict sh x y s (λ o. Unprobed s o) (λ k q u z. unprobed-steady (steady-emptied sh x y s k q u z))
 
-pub unprobed-hurt : (sh : Shape) (l : ℕ) (s : CoreState) (o : Out) → Invalidated sh l s o → Unprobed s o
+pub unprobed-hurt : {sh : Shape} {l : ℕ} {s : CoreState} {o : Out} → Invalidated sh l s o → Unprobed s o
 unfolding has_tid among passes
-unprobed-hurt sh l s o i = go i.hurt
+unprobed-hurt {sh} {l} {s} {o} i = go i.hurt
   where
     sent : ((d t : ℕ) → among (Probes t) (i.sends (Dir d)) ≡ 0) → (d t : ℕ) → among (Probes t) (o.sends (Dir d)) ≡ 0
     sent f d t =
@@ -264,16 +264,16 @@ unprobed-hurt sh l s o i = go i.hurt
 
     go : Hurt sh s o.core i.sends → Unprobed s o
     go (Unhurt ph ow mo re se) = record { sent = sent (λ d t. rw (se (Dir d)) refl); kept = λ d t h. (rw ph at h, ap (λ f. f d) ow) }
-    go (Rolled ph ph' ow se) = unprobed-none s o Running ph' (λ t. refl) (sent (λ d t. rw (se (Dir d)) refl))
-    go (Doomed ph ph' ow se) = unprobed-none s o DoomedTid ph' (λ t. refl) (sent (λ d t. rw (se (Dir d)) refl))
+    go (Rolled ph ph' ow se) = unprobed-none Running ph' (λ t. refl) (sent (λ d t. rw (se (Dir d)) refl))
+    go (Doomed ph ph' ow se) = unprobed-none DoomedTid ph' (λ t. refl) (sent (λ d t. rw (se (Dir d)) refl))
     go (Aborted u ph ph' ow se) =
-        unprobed-none s o Running ph' (λ t. refl) (sent (λ d t. rw se (quiet sh s (Probes t) (Aborts_all u) (λ y. refl) d)))
+        unprobed-none Running ph' (λ t. refl) (sent (λ d t. rw se (quiet sh s (Probes t) (Aborts_all u) (λ y. refl) d)))
     go (Gave_up u ph ph' ow se) =
-        unprobed-none s o Running ph' (λ t. refl) (sent (λ d t. rw se (quiet sh s (Probes t) (Skips_all u) (λ y. refl) d)))
+        unprobed-none Running ph' (λ t. refl) (sent (λ d t. rw se (quiet sh s (Probes t) (Skips_all u) (λ y. refl) d)))
 
 -- a grant: its TID is probed at each directory that owes a reply then, and no other TID is
 pub record Granted (u : ℕ) (o : Out) : Type 0 where
-  pub sent : (d t : ℕ) → (u ≡ t → ⊥) → among (Probes t) (o.sends (Dir d)) ≡ 0
+  pub sent : (d t : ℕ) → u ≢ t → among (Probes t) (o.sends (Dir d)) ≡ 0
   pub kept : (d t : ℕ) → has_tid o.core.phase t ≡ true → (u ≡ t) × (among (Probes t) (o.sends (Dir d)) ≡ num (o.core.owing d))
 
 probes-grant : (sh : Shape) (c : Cache) (u d t : ℕ) → among (Probes t) (grant_sends sh c u (Dir d)) ≡ num ((u == t) && is_probed sh c d)
@@ -292,7 +292,7 @@ pub granted : (sh : Shape) (u : ℕ) (s : CoreState) → waits_for_tid s.phase �
 unfolding grant waits_for_tid has_tid passes
 granted sh u s w = go s.phase refl w
   where
-    other : (t : ℕ) (b : Bool) → (u ≡ t → ⊥) → num ((u == t) && b) ≡ 0
+    other : (t : ℕ) (b : Bool) → u ≢ t → num ((u == t) && b) ≡ 0
     other t b n = let e : (u == t) ≡ false = grind nats in rw e refl
 
     same : (t : ℕ) → (u == t) ≡ true → u ≡ t
@@ -327,19 +327,20 @@ pub record KeepsHolder (c : ℕ) (got : ℕ → ℕ) (s : CoreState) (o : Out) :
 abbrev pub none : ℕ → ℕ
 none t = 0
 
-holder-noted : (c u : ℕ) (s r : CoreState) (o : Out) → has_tid s.phase u ≡ true → ((t : ℕ) → has_tid s.phase t ≡ (u == t))
-    → o.core.phase ≡ phase_after_commit r.ended → o.commit ≡ Some (noted u c r) → KeepsHolder c none s o
+holder-noted : {c : ℕ} (u : ℕ) {s : CoreState} (r : CoreState) {o : Out} → has_tid s.phase u ≡ true
+    → ((t : ℕ) → has_tid s.phase t ≡ (u == t)) → o.core.phase ≡ phase_after_commit r.ended → o.commit ≡ Some (noted u c r)
+    → KeepsHolder c none s o
 unfolding noted
-holder-noted c u s r o h k e n = record { holds = λ t. rw (e, n, tid-after r.ended t, k t) (omega arith); own = rw n refl }
+holder-noted u r h k e n = record { holds = λ t. rw (e, n, tid-after r.ended t, k t) (omega arith); own = rw n refl }
 
 pub holder-exec : (sh : Shape) (p : Program) (c : ℕ) (s : CoreState) → IfSome (core_exec sh p c s) (λ o. KeepsHolder c none s o)
 unfolding commit solo_commit committed_core has_tid
 holder-exec sh p c s = each-exec sh p c s (λ o. KeepsHolder c none s o) go
   where
     go : (x : Did sh p c s) → KeepsHolder c none s (out x)
-    go (Ends_alone u l e f r i) = holder-noted c u s (after_end s l e) (solo_commit sh c u (after_end s l e))
+    go (Ends_alone u l e f r i) = holder-noted u (after_end s l e)
         (rw r (grind nats)) (λ t. rw r refl) refl refl
-    go (Commits_now u e) = holder-noted c u s s (commit sh c u s) (rw e (grind nats)) (λ t. rw e refl) refl refl
+    go (Commits_now u e) = holder-noted u s (rw e (grind nats)) (λ t. rw e refl) refl refl
     go _ = record { holds = λ t. omega arith; own = tt }
 
 pub holder-evict : (sh : Shape) (x y c : ℕ) (s : CoreState) → IfSome (core_evict sh x y s) (λ o. KeepsHolder c none s o)

@@ -9,7 +9,7 @@ use Names.{after_other_grant, slice_index_or, first_serving, waits_for_tid, vend
 use Names.{grant_taken, after_grant, core_start, core_moves, core_takes, after_move, back_taken, ResolvedAt, dir_start, in_flight}
 use Names.{sum_below, dir_takes, out_taken, RequestOf, cases_lt, cases_eq, no_lines, TidGrant, dir_asks, AnyGrant, InsideOf, KeptTids}
 use Names.{AsksTid, nat_le, Vendor, TidReq, Grants, subst, Local, World, start, Sends, grant, among, share, opens, List, Some, None, Core}
-use Names.{Link, Kind, live, Pair, pair, part, ◌∷◌, sym, ◌⊎◌, inl, inr, Dir, Out, Any, [], to_dir, to_core, FromCore, FromDir}
+use Names.{Link, Kind, live, Pair, pair, part, ◌∷◌, sym, ◌⊎◌, inl, inr, Dir, Out, Any, [], to_dir, to_core, FromCore, FromDir, ◌≢◌}
 use proofs.Counts.DirOutcome.{Outcome, Waiting, Spent, TakesSkip, TakesAbort, TakesCommit, TakesAck, TakesCopy, IsSpent, SkipPassed}
 use proofs.Counts.DirOutcome.{AbortPassed, CopyPassed, outcome}
 use proofs.Counts.Links.{live-sends, live-takes, total-le, total-zero}
@@ -124,16 +124,16 @@ dir-handled sh s c m t = go (outcome sh s c m)
 pub live-some : (k : Kind) (l : Link) (i : ℕ) (m : Msg) → slice_index_or l i None ≡ Some m → num (passes k m) ≤ live k l
 live-some k l i m e = omega (arith, live-takes k l i m e)
 
-pub any-one : (l : Link) (i : ℕ) (m : Msg) → slice_index_or l i None ≡ Some m → 1 ≤ live Any l
+pub any-one : (l : Link) (i : ℕ) {m : Msg} → slice_index_or l i None ≡ Some m → 1 ≤ live Any l
 unfolding passes
-any-one l i m e = live-some Any l i m e
+any-one l i {m} e = live-some Any l i m e
 
 -- a grant is one of its TID, and of no other
 pub is_mine : (u : ℕ) → num (passes (Grants u) (TidGrant u)) ≡ 1
 unfolding passes
 is_mine u = grind nats
 
-pub not_mine : (u t : ℕ) → (u ≡ t → ⊥) → num (passes (Grants t) (TidGrant u)) ≡ 0
+pub not_mine : (u t : ℕ) → u ≢ t → num (passes (Grants t) (TidGrant u)) ≡ 0
 unfolding passes
 not_mine u t n = let b : (u == t) ≡ false = grind nats in rw b refl
 
@@ -182,10 +182,10 @@ unfolding part passes
 part-granted sh d t k u v o e q =
     omega (arith, live-sends (Resolves t) v.out (o.sends (Dir d)), live-takes (Grants t) v.grants k (TidGrant u) e)
 
-pub granted_waits : (v : Pair) (k u : ℕ) → slice_index_or v.grants k None ≡ Some (TidGrant u) → RequestOf v
+pub granted_waits : (v : Pair) (k : ℕ) {u : ℕ} → slice_index_or v.grants k None ≡ Some (TidGrant u) → RequestOf v
     → waits_for_tid v.core.phase ≡ true
 unfolding passes
-granted_waits v k u e r = go (waits_for_tid v.core.phase) refl (live-some AnyGrant v.grants k (TidGrant u) e)
+granted_waits v k {u} e r = go (waits_for_tid v.core.phase) refl (live-some AnyGrant v.grants k (TidGrant u) e)
   where
     go : (b : Bool) → waits_for_tid v.core.phase ≡ b → 1 ≤ live AnyGrant v.grants → waits_for_tid v.core.phase ≡ true
     go a q l = grind nats
@@ -195,8 +195,8 @@ pub grant-kept : (sh : Shape) (w : World) (c k u : ℕ) → KeptTids sh w → in
 unfolding pair core_takes
 grant-kept sh w c k u h e =
     let l : c < sh.cores = inside_from sh c (live Any (w.net Vendor (Core c))) (h.inside c 0).grants
-    (any-one (w.net Vendor (Core c)) k (TidGrant u) e) in
-    let wt : waits_for_tid (w.cores c).phase ≡ true = granted_waits (pair w c 0) k u e (h.requests c 0) in
+    (any-one (w.net Vendor (Core c)) k e) in
+    let wt : waits_for_tid (w.cores c).phase ≡ true = granted_waits (pair w c 0) k e (h.requests c 0) in
     let o : Out = grant sh u (w.cores c) in
     record {
       inside = pairs_grant (λ c d v. InsideOf sh c v) w c k o (λ d. within sh c _ l (h.inside c d).owners) h.inside;
@@ -213,7 +213,7 @@ pub back-kept : (sh : Shape) (w : World) (e c k : ℕ) (m : Msg) (o : Out) → K
 unfolding pair core_takes part
 back-kept sh w e c k m o h i r p =
     let l : c < sh.cores = inside_from sh c (live Any (to_core w e c)) (h.inside c e).back
-    (any-one (to_core w e c) k m i) in
+    (any-one (to_core w e c) k i) in
     record {
       inside = pairs_back (λ c d v. InsideOf sh c v) w e c k o (within sh c _ l (h.inside c e).owners)
           (λ d n. within sh c _ l (h.inside c d).owners) h.inside;
@@ -222,7 +222,7 @@ back-kept sh w e c k m o h i r p =
       resolved = λ d t x. resolved l d t x (cases_eq d e);
     }
   where
-    resolved : c < sh.cores → (d t : ℕ) → d < sh.dirs → (d ≡ e) ⊎ (d ≡ e → ⊥) → ResolvedAt sh (core_takes w (Dir e) c k o) d t
+    resolved : c < sh.cores → (d t : ℕ) → d < sh.dirs → (d ≡ e) ⊎ (d ≢ e) → ResolvedAt sh (core_takes w (Dir e) c k o) d t
     resolved l d t x (inr n) = let q = sum_back_away (part sh d t) sh.cores w e c k o d 0 0 n l (part-moved sh d t (pair w c d) o (p d t x))
         in omega (arith, h.resolved d t x)
     resolved l d t x (inl n) = subst (λ e. ResolvedAt sh (core_takes w (Dir e) c k o) d t) n (here l d t x)
@@ -243,9 +243,9 @@ unfolding part pair share
 once-there sh w c d k t m l e r =
     omega (arith, r, total-le (share (part sh d t) w d) sh.cores c l, live-some (Resolves t) (to_dir w c d) k m e)
 
-inside-answered : (sh : Shape) (j : ℕ) (v : Pair) (s : DirState) (ms : List Msg) → (sh.cores ≤ j → among Any ms ≡ 0)
+inside-answered : {sh : Shape} {j : ℕ} {v : Pair} (s : DirState) (ms : List Msg) → (sh.cores ≤ j → among Any ms ≡ 0)
     → ((l o : ℕ) → s.lines.owner l ≡ Some o → o < sh.cores) → InsideOf sh j v → InsideOf sh j (after_answer v s ms)
-inside-answered sh j v s ms q h i = record {
+inside-answered {v} s ms q h i = record {
   out = i.out;
   back = λ x. omega (arith, live-sends Any v.back ms, i.back x, q x);
   asks = i.asks;
@@ -273,8 +273,8 @@ request-given : (v : Pair) (k : ℕ) → slice_index_or v.asks k None ≡ Some T
 unfolding passes among
 request-given v k e r = omega (arith, live-sends AnyGrant v.grants (TidGrant v.next ∷ []), live-takes AsksTid v.asks k TidReq e)
 
-inside-next : (sh : Shape) (j : ℕ) (v : Pair) → InsideOf sh j v → InsideOf sh j (after_other_grant v)
-inside-next sh j v i = record { out = i.out; back = i.back; asks = i.asks; grants = i.grants; owners = i.owners }
+inside-next : {sh : Shape} {j : ℕ} {v : Pair} → InsideOf sh j v → InsideOf sh j (after_other_grant v)
+inside-next i = record { out = i.out; back = i.back; asks = i.asks; grants = i.grants; owners = i.owners }
 
 start-handled : (t : ℕ) → num (nat_le 1 t) + handled first_serving 0 t ≡ 1
 unfolding handled first_serving
@@ -295,10 +295,10 @@ pub dir-kept : (sh : Shape) (w : World) (c e k : ℕ) (m : Msg) (s : DirState) (
 unfolding pair dir_takes
 dir-kept sh w c e k m s sends h i q ow hd =
     let l : c < sh.cores = inside_from sh c (live Any (to_dir w c e)) (h.inside c e).out
-    (any-one (to_dir w c e) k m i) in
+    (any-one (to_dir w c e) k i) in
     record {
       inside = pairs_dir (λ c d v. InsideOf sh c v) w c e k s sends (within sh c _ l ow)
-          (λ j n. inside-answered sh j (pair w j e) s (sends (Core j)) (q j) ow (h.inside j e)) h.inside;
+          (λ j n. inside-answered s (sends (Core j)) (q j) ow (h.inside j e)) h.inside;
       requests = pairs_dir (λ c d v. RequestOf v) w c e k s sends (h.requests c e) (λ j n. h.requests j e) h.requests;
       resolved = λ d t x. resolved l d t x (cases_eq d e);
     }
@@ -312,7 +312,7 @@ dir-kept sh w c e k m s sends h i q ow hd =
         (part-answered sh d t k m (pair w c d) s (sends (Core c)) i) (λ j n. part-still sh d t (pair w j d) s (sends (Core j))) in
         rw (eq-self d) (omega (arith, h.resolved d t x))
 
-    resolved : c < sh.cores → (d t : ℕ) → d < sh.dirs → (d ≡ e) ⊎ (d ≡ e → ⊥) → ResolvedAt sh (dir_takes w c e k s sends) d t
+    resolved : c < sh.cores → (d t : ℕ) → d < sh.dirs → (d ≡ e) ⊎ (d ≢ e) → ResolvedAt sh (dir_takes w c e k s sends) d t
     resolved l d t x (inr n) = let p = sum_dir_away (part sh d t) sh.cores w c e k s sends d n in
         rw (differ d e n) (omega (arith, h.resolved d t x))
     resolved l d t x (inl n) = subst (λ y. ResolvedAt sh (dir_takes w c y k s sends) d t) n
@@ -328,12 +328,12 @@ pub asks-kept : (sh : Shape) (w : World) (e : ℕ) (s : DirState) (sends : Sends
 unfolding pair dir_asks
 asks-kept sh w e s sends h q ow hd = record {
   inside = pairs_asks (λ c d v. InsideOf sh c v) w e s sends
-      (λ j. inside-answered sh j (pair w j e) s (sends (Core j)) (q j) ow (h.inside j e)) h.inside;
+      (λ j. inside-answered s (sends (Core j)) (q j) ow (h.inside j e)) h.inside;
   requests = pairs_asks (λ c d v. RequestOf v) w e s sends (λ j. h.requests j e) h.requests;
   resolved = λ d t x. resolved d t x (cases_eq d e);
 }
   where
-    resolved : (d t : ℕ) → d < sh.dirs → (d ≡ e) ⊎ (d ≡ e → ⊥) → ResolvedAt sh (dir_asks w e s sends) d t
+    resolved : (d t : ℕ) → d < sh.dirs → (d ≡ e) ⊎ (d ≢ e) → ResolvedAt sh (dir_asks w e s sends) d t
     resolved d t x (inr n) = let p = sum_asks (part sh d t) (λ j. 0) sh.cores w e s sends d
         (λ j. part-same sh d t (pair w j d) s (sends (Core j))) in rw (differ d e n) (omega (arith, h.resolved d t x))
     resolved d t x (inl n) =
@@ -349,10 +349,10 @@ pub vendor-kept : (sh : Shape) (w : World) (c k : ℕ) → KeptTids sh w → in_
 unfolding pair vendor_gives
 vendor-kept sh w c k h i =
     let l : c < sh.cores = inside_from sh c (live Any (w.net (Core c) Vendor)) (h.inside c 0).asks
-    (any-one (w.net (Core c) Vendor) k TidReq i) in
+    (any-one (w.net (Core c) Vendor) k i) in
     record {
       inside = pairs_vendor (λ c d v. InsideOf sh c v) w c k (λ d. within sh c _ l (h.inside c d).owners)
-          (λ j d n. inside-next sh j (pair w j d) (h.inside j d));
+          (λ j d n. inside-next (h.inside j d));
       requests = pairs_vendor (λ c d v. RequestOf v) w c k (λ d. request-given (pair w c d) k i (h.requests c d)) (λ j d n. h.requests j d);
       resolved = λ d t x.
           let p = sum_vendor (part sh d t) sh.cores w c k d 0 (num (w.next == t)) l (part-given sh d t (pair w c d) k)

@@ -9,7 +9,7 @@ use Names.{is_some, ap, Program, Dir, home, IsCache, placed, dirty-evicted, valu
 use Names.{commit, core_exec, core_evict, CopyOf, among, Cache, invalidated, ◌⊎◌, ◌&&◌, Option, unwrap_or, sym, inl, inr, cases_eq, Inv}
 use Names.{filled, cleaned, rolled_back, read_cleared, grant, from_dir, home_of, ◌||◌, arith, Noted, word_at, has, Skip, Mark, Commit}
 use Names.{WriteBack, committed, words_dropped, Spilled, spilled_mask, spilled_words, has-mask_of, is_solo, noted, committed_core}
-use Names.{solo_sends, solo_marks_or_skip, solo_write_backs, Kind, mark, skip}
+use Names.{solo_sends, solo_marks_or_skip, solo_write_backs, Kind, mark, skip, ◌≢◌}
 use proofs.Counts.DirOutcome.{Outcome, Waiting, Spent, AsksOwner, TakesCopy, IsCopy, outcome}
 use proofs.Copies.CopySends.{framed-dirty, commit-copies}
 use proofs.Values.WordCopies.{Carries, word-still, word-sent, flushed-words, back-home-words, WordCarried, among-words, among-others}
@@ -58,10 +58,10 @@ dir-words sh x s c m = go (outcome sh s c m)
 -- What a core's instructions and evictions do to a word's copies: where nothing is committed they are as many as before, with their values.
 
 -- no dirty word changes, and no copy is sent
-pub carries-still : (sh : Shape) (s : CoreState) (o : Out) → ((v : ℕ) → o.core.cache.dirty v ≡ s.cache.dirty v)
+pub carries-still : {sh : Shape} {s : CoreState} {o : Out} → ((v : ℕ) → o.core.cache.dirty v ≡ s.cache.dirty v)
     → ((v : ℕ) → is_some (s.cache.dirty v) ≡ true → o.core.cache.value v ≡ s.cache.value v)
     → ((l t : ℕ) → among (CopyOf l t) (o.sends (Dir (home sh l))) ≡ 0) → Carries sh s o
-carries-still sh s o e f z x = word-still sh x s o (e x) (f x) (λ t. z (line_of x) t)
+carries-still {sh} {s} {o} e f z x = word-still sh x s o (e x) (f x) (λ t. z (line_of x) t)
 
 -- and nothing is committed
 abbrev pub Quietly : Shape → CoreState → Out → Type 0
@@ -71,17 +71,17 @@ Quietly sh s o = (o.commit ≡ None) × Carries sh s o
 framed-sent : (sh : Shape) (w y : ℕ) (also : Bool) (s r : CoreState) → r.cache ≡ stored w y also s.cache → IsCache sh s.cache
     → Carries sh s (moves r (flush_line sh s.cache (line_of w)))
 unfolding stored
-framed-sent sh w y also s r c h v = word-sent sh (line_of w) v s (moves r (flush_line sh s.cache (line_of w))) (ap (λ d. d.dirty v) c)
-    (λ n. ap (λ d. d.value v) c ∙ other v n (v == w) refl) (flushed-words sh (line_of w) v s.cache h)
+framed-sent sh w y also s r c h v = word-sent sh s (moves r (flush_line sh s.cache (line_of w))) (ap (λ d. d.dirty v) c)
+    (λ n. ap (λ d. d.value v) c ∙ other v n (v == w) refl) (flushed-words (line_of w) v h)
   where
-    other : (v : ℕ) → (line_of w ≡ line_of v → ⊥) → (b : Bool) → (v == w) ≡ b → (if b then Some y else s.cache.value v) ≡ s.cache.value v
+    other : (v : ℕ) → line_of w ≢ line_of v → (b : Bool) → (v == w) ≡ b → (if b then Some y else s.cache.value v) ≡ s.cache.value v
     other v n a q = grind nats
 
 -- a store into a new frame leaves the values of dirty words, which are of other lines
-framed-value : (sh : Shape) (w x : ℕ) (c : Cache) → IsCache sh c → c.held (line_of w) ≡ false → (v : ℕ) → is_some (c.dirty v) ≡ true
+framed-value : {sh : Shape} (w x : ℕ) {c : Cache} → IsCache sh c → c.held (line_of w) ≡ false → (v : ℕ) → is_some (c.dirty v) ≡ true
     → (stored w x false (placed sh (line_of w) c)).value v ≡ c.value v
 unfolding stored
-framed-value sh w x c h e v d = grind (nats, value-placed, unheld-clean)
+framed-value w x h e v d = grind (nats, value-placed, unheld-clean)
 
 -- where the event commits nothing
 abbrev pub Uncommitted : Shape → CoreState → Out → Type 0
@@ -97,28 +97,27 @@ words-exec sh p id s h = each-exec sh p id s (Uncommitted sh s) go
     go : (x : Did sh p id s) → Uncommitted sh s (out x)
     go (Frames a y also n k g i f) e = framed-sent sh (w a) y also s (after_store s a k (stored (w a) y also s.cache) s.spilled) refl h
     go (Frames_anew a y n k g i q f o) e =
-        carries-still sh s (moves (after_store s a k (stored (w a) y false (placed sh (line_of (w a)) s.cache)) s.spilled) nothing)
-        (framed-dirty sh (w a) y s.cache h q) (framed-value sh (w a) y s.cache h q)
+        carries-still
+        (framed-dirty (w a) y h q) (framed-value (w a) y h q)
         (λ l t. quiet sh s (CopyOf l t) Silent (λ y. refl) (home sh l))
     go (Misses_anew a n g i q f) e =
-        carries-still sh s (moves (record s { awaited = awaiting (line_of (w a)); cache = placed sh (line_of (w a)) s.cache })
-        (say sh s (Requests (line_of (w a))))) (dirty-placed sh (line_of (w a)) s.cache)
+        carries-still (dirty-placed sh (line_of (w a)) s.cache)
         (λ v d. value-placed sh (line_of (w a)) s.cache v)
         (λ l t. quiet sh s (CopyOf l t) (Requests (line_of (w a))) (λ y. refl) (home sh l))
     go (Ends_alone t l o f r i) e = absurd (cc)
     go (Commits_now t r) e = absurd (cc)
-    go x e = carries-still sh s (out x) (λ v. refl) (λ v d. refl) (λ l t. quiet sh s (CopyOf l t) (said x) (λ y. refl) (home sh l))
+    go x e = carries-still (λ v. refl) (λ v d. refl) (λ l t. quiet sh s (CopyOf l t) (said x) (λ y. refl) (home sh l))
 
 pub words-evict : (sh : Shape) (x y : ℕ) (s : CoreState) → IsCache sh s.cache → IfSome (core_evict sh x y s) (Quietly sh s)
 words-evict sh x y s h =
     each-evict sh x y s (Quietly sh s)
     (λ k e a m. (
       refl,
-      λ v. word-sent sh k v s (emptied sh x y k s) (dirty-evicted x y s.cache v k e)
+      λ v. word-sent sh s (emptied sh x y k s) (dirty-evicted x y s.cache v k e)
           (λ n. value-evicted x y s.cache v k e ∙ other k v n (k == line_of v) refl) (back-home-words sh k v s.cache h),
     ))
   where
-    other : (k v : ℕ) → (k ≡ line_of v → ⊥) → (b : Bool) → (k == line_of v) ≡ b → (if b then None else s.cache.value v) ≡ s.cache.value v
+    other : (k v : ℕ) → k ≢ line_of v → (b : Bool) → (k == line_of v) ≡ b → (if b then None else s.cache.value v) ≡ s.cache.value v
     other k v n a q = grind nats
 
 -- What a message does to a word's copies at the core that takes it: it keeps them, or is an invalidation of the word's line, which may
@@ -129,9 +128,9 @@ unfolding passes
 words-grant sh u s = each-grant sh u s (Carries sh s) go
   where
     go : (x : Granted sh u s) → Carries sh s (granted x)
-    go (Given_none e) = carries-still sh s (moves s nothing) (λ v. refl) (λ v d. refl)
+    go (Given_none e) = carries-still (λ v. refl) (λ v d. refl)
         (λ l t. quiet sh s (CopyOf l t) Silent (λ y. refl) (home sh l))
-    go x = carries-still sh s (granted x) (λ v. refl) (λ v d. refl)
+    go x = carries-still (λ v. refl) (λ v d. refl)
         (λ l t. quiet sh s (CopyOf l t) (granted_said x) (λ y. refl) (home sh l))
 
 -- an invalidation of the word's line: what stays of the word in the frame is as it was, and no copy is sent
@@ -148,8 +147,7 @@ words-back sh x e s m h = each-back sh e s (WordBack sh x s) go m
     l : ℕ
     l = line_of x
 
-    away : (k m : ℕ) → (k ≡ l → ⊥) → ((invalidated k m s.cache).dirty x ≡ s.cache.dirty x)
-        × ((invalidated k m s.cache).value x ≡ s.cache.value x)
+    away : (k m : ℕ) → k ≢ l → ((invalidated k m s.cache).dirty x ≡ s.cache.dirty x) × ((invalidated k m s.cache).value x ≡ s.cache.value x)
     away k m n = none (hit k m x) (s.cache.modified x) (missed k m l x refl n)
       where
         none : (a b : Bool) → a ≡ false → ((if a && not b then None else s.cache.dirty x) ≡ s.cache.dirty x)
@@ -179,11 +177,10 @@ words-back sh x e s m h = each-back sh e s (WordBack sh x s) go m
     hurt : (k m u : ℕ) (y : Heard sh e s) → (heard y).core.cache.dirty x ≡ (invalidated k m s.cache).dirty x
         → (is_some (s.cache.dirty x) ≡ true → (heard y).core.cache.value x ≡ (invalidated k m s.cache).value x)
         → ((t : ℕ) → among (CopyOf l t) ((heard y).sends (Dir (home sh l))) ≡ 0) → WordBack sh x s (Inv k m u) (heard y)
-    hurt k m u y f g told = cases (cases_eq k l)
-      where
-        cases : (k ≡ l) ⊎ (k ≡ l → ⊥) → WordBack sh x s (Inv k m u) (heard y)
-        cases (inl q) = Lost m u (rw q refl) (λ t e. let y = here k m t (sym f ∙ e) in (y.0, g (rw y.0 refl) ∙ y.1)) told
-        cases (inr q) = let z = away k m q in Carried (word-still sh x s (heard y) (f ∙ z.0) (λ d. g d ∙ z.1) told)
+    hurt k m u y f g told = elim (cases_eq k l) [
+      | inl q ↦ Lost m u (rw q refl) (λ t e. let y = here k m t (sym f ∙ e) in (y.0, g (rw y.0 refl) ∙ y.1)) told
+      | inr q ↦ let z = away k m q in Carried (word-still sh x s (heard y) (f ∙ z.0) (λ d. g d ∙ z.1) told)
+    ]
 
     none : (y : Heard sh e s) → ((t : ℕ) → Unheard (CopyOf l t) (heard_said y)) → ((t : ℕ) (b : Bool) → hears_ack (CopyOf l t) y b ≡ false)
         → (t : ℕ) → among (CopyOf l t) ((heard y).sends (Dir (home sh l))) ≡ 0
@@ -195,8 +192,8 @@ words-back sh x e s m h = each-back sh e s (WordBack sh x s) go m
 
     go : (y : Heard sh e s) → WordBack sh x s (message y) (heard y)
     go (Hands_out k) =
-        Carried (word-sent sh k x s (moves (record s { cache = cleaned k s.cache }) (say sh s (Flushes k))) refl
-        (λ n. refl) (flushed-words sh k x s.cache h))
+        Carried (word-sent sh s (moves (record s { cache = cleaned k s.cache }) (say sh s (Flushes k))) refl
+        (λ n. refl) (flushed-words k x h))
     go (Fills k ws a q i f) =
         Carried (word-still sh x s (moves (record s { cache = filled k ws s.cache; awaited = None }) nothing) refl
         (λ d. kept ws x (k == line_of x) (s.cache.value x) (h.dirty x d)) (none (Fills k ws a q i f) (λ t y. refl) (λ t b. refl)))
@@ -216,7 +213,7 @@ pub record CommitsWord (sh : Shape) (x t : ℕ) (c : Cache) (sp : Spilled) (o : 
       → (o.core.cache.dirty x ≡ c.dirty x) × ((o.core.cache.value x ≡ c.value x) × ((u d : ℕ) → among (CopyWord x u) (o.sends (Dir d)) ≡ 0))
   pub framed : (u : ℕ) → (c.modified x || is_some (sp x)) ≡ true → o.core.cache.dirty x ≡ Some u
       → (u ≡ t) × ((sp x ≡ None) × (o.core.cache.value x ≡ c.value x))
-  pub sent : (u d : ℕ) → (t ≡ u → ⊥) → among (CopyWord x u) (o.sends (Dir d)) ≡ 0
+  pub sent : (u d : ℕ) → t ≢ u → among (CopyWord x u) (o.sends (Dir d)) ≡ 0
   pub right : (y d : ℕ) → unwrap_or (sp x) y ≡ y → among (CopyNot x t y) (o.sends (Dir d)) ≡ 0
 
 -- with all directories ready
@@ -259,8 +256,8 @@ spilled-at sp x = (
 and-off : (a b : Bool) → b ≡ false → (a && b) ≡ false
 and-off a b e = grind nats
 
-off-and : (a b : Bool) → a ≡ false → (a && b) ≡ false
-off-and a b e = grind nats
+off-and : {a : Bool} (b : Bool) → a ≡ false → (a && b) ≡ false
+off-and b e = grind nats
 
 unhit : (sp : Spilled) (x l : ℕ) → sp x ≡ None → hit l (spilled_mask sp l) x ≡ false
 unfolding hit
@@ -279,7 +276,7 @@ solo-word sh x id t s = record {
         (
           rw z refl,
           λ u d. solo-none sh (CopyWord x u) s.cache s.spilled t d
-              (λ l. off-and (hit l (spilled_mask s.spilled l) x) (t == u) (unhit s.spilled x l z)) (λ l m. refl) (λ n. refl) refl,
+              (λ l. off-and (t == u) (unhit s.spilled x l z)) (λ l m. refl) (λ n. refl) refl,
         ),
       );
   framed = λ u m e. framed u (s.cache.modified x) (s.spilled x) m e;
@@ -298,10 +295,10 @@ solo-word sh x id t s = record {
 
     right : (y : ℕ) → unwrap_or (s.spilled x) y ≡ y → (l : ℕ) (b : Bool) → (l == line_of x) ≡ b → (o : Option ℕ) → s.spilled x ≡ o
         → ((hit l (spilled_mask s.spilled l) x && (t == t)) && not (get_or (spilled_words s.spilled l) (place_of x) 0 == y)) ≡ false
-    right y e l b q None z = off-and (hit l (spilled_mask s.spilled l) x && (t == t)) _
-        (off-and (hit l (spilled_mask s.spilled l) x) (t == t) (unhit s.spilled x l z))
-    right y e l false q (Some w) z = off-and (hit l (spilled_mask s.spilled l) x && (t == t)) _
-        (off-and (hit l (spilled_mask s.spilled l) x) (t == t) (unhit-line s.spilled x l q))
+    right y e l b q None z = off-and _
+        (off-and (t == t) (unhit s.spilled x l z))
+    right y e l false q (Some w) z = off-and _
+        (off-and (t == t) (unhit-line s.spilled x l q))
     right y e l true q (Some w) z =
         let i : l ≡ line_of x = grind nats in
         let v : w ≡ y = rw z at e in
@@ -313,8 +310,8 @@ solo-word sh x id t s = record {
 abbrev pub CommitsWords : Shape → CoreState → Out → Type 0
 CommitsWords sh s o = (n : Noted) → o.commit ≡ Some n → (x : ℕ) → CommitsWord sh x n.tid.0 s.cache s.spilled o
 
-none-noted : (sh : Shape) (s : CoreState) (o : Out) → o.commit ≡ None → CommitsWords sh s o
-none-noted sh s o e n q x = absurd (let z = sym e ∙ q in cc)
+none-noted : {sh : Shape} (s : CoreState) {o : Out} → o.commit ≡ None → CommitsWords sh s o
+none-noted s e n q x = absurd (let z = sym e ∙ q in cc)
 
 -- the TID of what is noted
 noted-tid : (t id : ℕ) (r : CoreState) (n : Noted) → Some (noted t id r) ≡ Some n → t ≡ n.tid.0
@@ -330,4 +327,4 @@ commits-exec sh p id s h f = each-exec sh p id s (CommitsWords sh s) go
     go (Ends_alone t l e g r i) = λ n q x. let z = solo-word sh x id t (after_end s l e) in
         rw (sym (noted-tid t id (after_end s l e) n q)) (record { left = z.left; framed = z.framed; sent = z.sent; right = z.right })
     go (Commits_now t e) = λ n q x. rw (sym (noted-tid t id s n q)) (ready-word sh x id t s (f (rw e refl) x))
-    go x = none-noted sh s (out x) refl
+    go x = none-noted s refl

@@ -8,7 +8,7 @@ use Names.{Program, word_of, line_of, Shape, set_of, Cache, free_way, marked, st
 use Names.{words_dropped, CoreState, Ready, Solo, Out, is_solo, noted, commit, committed_core, solo_commit, core_exec, core_evict, is_stale}
 use Names.{not, ◌&&◌, List, unwrap_or, get_or, subst, place_of, hit, Msg, Fill, Inv, filled, cleaned, invalidated, rolled_back}
 use Names.{read_cleared, Awaited, grant, staled, from_dir, InvWord, passes, nats, ◌≤◌, set, arith, num, home, is_awaited, LoadingOf, FillOf}
-use Names.{FillNot, live, Pair, after_move, back_taken}
+use Names.{FillNot, live, Pair, after_move, back_taken, tested}
 use proofs.OneCore.Outcomes.{Commits_now, Did, Ends_alone, Frames, Frames_anew, Misses, Misses_anew, Reads, after_end, each-evict}
 use proofs.OneCore.Outcomes.{each-exec, out, Last_room, Fills, Fills_none, Given_none, Granted, Hands_out, Heard, Hurt_alone, Hurt_probing}
 use proofs.OneCore.Outcomes.{Hurt_running, Hurt_waiting, Ignores_fill, Hurt_none, each-back, each-grant, granted, heard, message}
@@ -298,14 +298,14 @@ comes-back sh e s m = each-back sh e s (Coming s) go m
 -- a Fill brings what was on its way.
 
 -- the frames fade, and the link from the home stays
-pub held-fades : (x y : ℕ) (v w : Pair) → w.back ≡ v.back → Fading v.core w.core → HeldOf x y v → HeldOf x y w
-held-fades x y v w b f h =
+pub held-fades : {x y : ℕ} {v : Pair} (w : Pair) → w.back ≡ v.back → Fading v.core w.core → HeldOf x y v → HeldOf x y w
+held-fades {x} w b f h =
     record { framed = λ z p q. let k = f.words x z p q in rw b (h.framed z k.0 k.1); filled = λ p. rw b (h.filled (f.fresh p)) }
 
 -- a message is taken that is no invalidation of the word
-pub held-quietly : (x y k : ℕ) (v w : Pair) (m : Msg) → get_or v.back k None ≡ Some m → w.back ≡ set v.back k None
+pub held-quietly : {x y : ℕ} (k : ℕ) {v : Pair} (w : Pair) {m : Msg} → get_or v.back k None ≡ Some m → w.back ≡ set v.back k None
     → passes (InvWord x) m ≡ false → Fading v.core w.core → HeldOf x y v → HeldOf x y w
-held-quietly x y k v w m i b n f h = rebuilt
+held-quietly {x} {y} k {v} w {m} i b n f h = rebuilt
   where
     invs : live (InvWord x) w.back ≡ live (InvWord x) v.back
     invs = let z : num (passes (InvWord x) m) ≡ 0 = rw n refl in rw b (omega (arith, z, live-takes (InvWord x) v.back k m i))
@@ -334,10 +334,13 @@ stale-other : (l : ℕ) (a : Option Awaited) → is_stale (staled l a) ≡ false
 stale-other l a h = grind nats
 
 -- an invalidation is taken
-pub held-invalid : (sh : Shape) (d x y k l m u : ℕ) (v : Pair) (o : Out) → get_or v.back k None ≡ Some (Inv l m u)
+pub held-invalid : (sh : Shape) (d x y k l m u : ℕ) {v : Pair} (o : Out) → get_or v.back k None ≡ Some (Inv l m u)
     → Invalidates l m v.core o → LoadingOf sh d (line_of x) v → HeldOf x y v → HeldOf x y (after_move (back_taken v k) o d)
 unfolding passes
-held-invalid sh d x y k l m u v o i f loading h = go (hit l m x) refl
+held-invalid sh d x y k l m u {v} o i f loading h = elim (tested (hit l m x)) [
+  | inl q ↦ gone q
+  | inr q ↦ held-quietly k (after_move (back_taken v k) o d) i refl q f.rests.1 h
+]
   where
     gone : hit l m x ≡ true → HeldOf x y (after_move (back_taken v k) o d)
     gone q = record {
@@ -353,10 +356,6 @@ held-invalid sh d x y k l m u v o i f loading h = go (hit l m x) refl
           ));
     }
 
-    go : (b : Bool) → hit l m x ≡ b → HeldOf x y (after_move (back_taken v k) o d)
-    go true q = gone q
-    go false q = held-quietly x y k v (after_move (back_taken v k) o d) (Inv l m u) i refl q f.rests.1 h
-
 -- a Fill is taken
 filled-is : (x y z l : ℕ) (ws : List ℕ) → num (passes (FillNot x y) (Fill l ws)) ≡ 0 → (l == line_of x) ≡ true
     → get_or ws (place_of x) 0 ≡ z → z ≡ y
@@ -367,10 +366,10 @@ awaits-other : (l x : ℕ) (a : Awaited) (b : Option Awaited) → b ≡ Some a �
     → is_awaited b (line_of x) ≡ false
 awaits-other l x a b e g n = rw e (grind nats)
 
-pub held-filled : (sh : Shape) (d x y k l : ℕ) (ws : List ℕ) (v : Pair) (o : Out) → get_or v.back k None ≡ Some (Fill l ws)
+pub held-filled : (sh : Shape) (d x y k l : ℕ) {ws : List ℕ} {v : Pair} (o : Out) → get_or v.back k None ≡ Some (Fill l ws)
     → Filled l ws v.core o → LoadingOf sh d (line_of x) v → HeldOf x y v → HeldOf x y (after_move (back_taken v k) o d)
 unfolding passes
-held-filled sh d x y k l ws v o i f loading h = record { framed = λ z p q. framed z (f.words x z p q); filled = λ p. filled p f.rested }
+held-filled sh d x y k l {ws} {v} o i f loading h = record { framed = λ z p q. framed z (f.words x z p q); filled = λ p. filled p f.rested }
   where
     invs : live (InvWord x) (set v.back k None) ≡ live (InvWord x) v.back
     invs = omega (arith, live-takes (InvWord x) v.back k (Fill l ws) i)
@@ -409,9 +408,10 @@ held-filled sh d x y k l ws v o i f loading h = record { framed = λ z p q. fram
     filled p (inr e) = less (h.filled (rw e at p))
 
 -- a Fill of another directory is taken
-pub held-elsewhere : (sh : Shape) (d x y l : ℕ) (ws : List ℕ) (v : Pair) (o : Out) → (l == line_of x) ≡ false → Filled l ws v.core o
+pub held-elsewhere : (sh : Shape) (d x y l : ℕ) {ws : List ℕ} {v : Pair} (o : Out) → (l == line_of x) ≡ false → Filled l ws v.core o
     → LoadingOf sh d (line_of x) v → HeldOf x y v → HeldOf x y (after_move v o d)
-held-elsewhere sh d x y l ws v o n f loading h = record { framed = λ z p q. framed z (f.words x z p q); filled = λ p. filled p f.rested }
+held-elsewhere sh d x y l {ws} {v} o n f loading h =
+    record { framed = λ z p q. framed z (f.words x z p q); filled = λ p. filled p f.rested }
   where
     framed : (z : ℕ) → ((v.core.cache.value x ≡ Some z) × (v.core.cache.modified x ≡ false))
         ⊎ ((l == line_of x ≡ true) × (get_or ws (place_of x) 0 ≡ z) × (is_stale v.core.awaited ≡ false))

@@ -10,7 +10,7 @@ use Names.{is_awaited, core_exec, dir_deliver, History, Stepped, step, next_hist
 use Names.{core_takes, Uses, Suits, LoadingOf, LinesAway, LoadOf, InvWord, Commits, live, passes, Carried, Invariants, executes, Grant}
 use Names.{granted_by, Pair, pair, after_move, back_taken, grant_taken, after_grant, after_other_grant, is_applied, CommitsStand}
 use Names.{stores_word, after_stores, counts, value_at, UnmodifiedWords, FilledWords, Ways, ways_after, sent_by, Contains, nats, home_of}
-use Names.{FromCore, FromDir}
+use Names.{FromCore, FromDir, ◌≢◌}
 use proofs.Counts.StepCases.{either, moves-own, moves-other, pairs_move, pairs_grant, pairs_back, pairs_vendor, OfAnswer, node_cases}
 use proofs.Lines.LineOwners.{dir-fills}
 use proofs.Values.FramedCores.{no-fill, held-fades, held-quietly, held-invalid, held-filled, held-elsewhere, Coming, Quiet, Takes, Brings}
@@ -31,7 +31,7 @@ unfolding counts noted
 counts-own s c t r = let e : (c == c) ≡ true = grind nats in rw e refl
 
 -- and for no other, where it isn't applied
-counts-else : (s : DirState) (j c t : ℕ) (r : CoreState) → (j ≡ c → ⊥) → s.serving.serving ≡ t → s.owed ≡ 0
+counts-else : (s : DirState) (j c t : ℕ) (r : CoreState) → j ≢ c → s.serving.serving ≡ t → s.owed ≡ 0
     → counts s (Some j) None (noted t c r) ≡ false
 unfolding counts is_applied noted
 counts-else s j c t r n e z =
@@ -43,8 +43,8 @@ own-value : (base : ℕ) (s : DirState) (c t x y : ℕ) (r : CoreState)
 unfolding noted
 own-value base s c t x y r = rw (counts-own s c t r) refl
 
-stores-not : (m : Bool) (o : Option ℕ) (b : Bool) → (m || is_some o) ≡ b → m ≡ false → o ≡ None → b ≡ false
-stores-not m o b e f g = sym e ∙ rw (f, g) refl
+stores-not : {m : Bool} {o : Option ℕ} {b : Bool} → (m || is_some o) ≡ b → m ≡ false → o ≡ None → b ≡ false
+stores-not e f g = sym e ∙ rw (f, g) refl
 
 -- nothing is awaited in the phases in which a core commits
 rests-none : (t : ℕ) (q : Phase) (a : Option Awaited) → (q ≡ Ready t) ⊎ (q ≡ Solo t) → (is_solo q ≡ true → a ≡ None)
@@ -52,8 +52,7 @@ rests-none : (t : ℕ) (q : Phase) (a : Option Awaited) → (q ≡ Ready t) ⊎ 
 rests-none t q a m f g = grind nats
 
 -- a later commit makes nothing of a word at a home that hasn't come to it, unless it is the core's
-counts-later : (s : DirState) (c t : ℕ) (n : Noted) → s.serving.serving ≡ t → t < n.tid.0 → (n.core.0 ≡ c → ⊥)
-    → counts s (Some c) None n ≡ false
+counts-later : (s : DirState) (c t : ℕ) (n : Noted) → s.serving.serving ≡ t → t < n.tid.0 → n.core.0 ≢ c → counts s (Some c) None n ≡ false
 unfolding counts is_applied
 counts-later s c t n e l own =
     let a : (c == n.core.0) ≡ false = grind nats in
@@ -62,14 +61,14 @@ counts-later s c t n e l own =
     rw (a, e, b, d) refl
 
 -- the value of a word that the commit stored, for its core: its stores over what the core saw
-pub value-own : (sh : Shape) (p : Program) (entries : ℕ → Local) (ram : ℕ → ℕ) (gs : List Grant) (ys : Ways) (views : ℕ → Uses) (m : Plain)
-    (h : History) (c x : ℕ) (o : Out) → Suits sh p ram → Invariants sh p entries ram gs ys views m h → c < sh.cores
-    → (g : Closing c (h.world.cores c) o) → stores_word sh.base (h.world.cores c).stores x ≡ true
+pub value-own : {sh : Shape} {p : Program} {entries : ℕ → Local} {ram : ℕ → ℕ} {gs : List Grant} {ys : Ways} {views : ℕ
+    → Uses} {m : Plain} {h : History} {c : ℕ} (x : ℕ) {o : Out} → Suits sh p ram → Invariants sh p entries ram gs ys views m h
+    → c < sh.cores → (g : Closing c (h.world.cores c) o) → stores_word sh.base (h.world.cores c).stores x ≡ true
     → value_at sh.base ram (insert_commit (noted g.tid c g.last) h.commits) (h.world.dirs (home_of sh x)) (Some c) None x
-    ≡ after_stores sh.base (h.world.cores c).stores x
-    (value_at sh.base ram h.commits (h.world.dirs (home_of sh x)) (Some c) None x)
+    ≡ after_stores sh.base (h.world.cores c).stores x (value_at sh.base ram h.commits (h.world.dirs (home_of sh x)) (Some c) None x)
 unfolding noted
-value-own sh p entries ram gs ys views m h c x o u k l g e = value-insert sh.base ram (noted g.tid c g.last) h.commits d (Some c) None x
+value-own {sh} {p} {entries} {ram} {gs} {ys} {views} {m} {h} {c} x u k l g e = value-insert sh.base ram (noted g.tid c g.last) h.commits d
+    (Some c) None x
     k.carried.commits_are_of_granted_tids.0 silent
     ∙ (own-value sh.base d c g.tid x _ g.last ∙ ap (λ q. after_stores sh.base q x (value_at sh.base ram h.commits d (Some c) None x))
     g.stores)
@@ -78,38 +77,38 @@ value-own sh p entries ram gs ys views m h c x o u k l g e = value-insert sh.bas
     d = h.world.dirs (home_of sh x)
 
     st : Stand sh h ys c g.tid
-    st = stand sh p entries ram gs ys views m h c g.tid u k l g.phase
+    st = stand u k l g.phase
 
     served : Serves sh h c g.tid x
-    served = stored-served sh p entries ram gs ys views m h c g.tid x u k l g.phase e
+    served = stored-served c g.tid x u k l g.phase e
 
     -- no later commit that stored the word counts for the core
     silent : (n : Noted) → Contains h.commits n → g.tid < n.tid.0 → IsSilent sh.base d (Some c) None x n
     silent n i q = inl (counts-later d c g.tid n served.serving q (λ j. absurd (omega (arith, st.last n i j, q))))
 
 -- for another core the value is as it was
-pub value-else : (sh : Shape) (p : Program) (entries : ℕ → Local) (ram : ℕ → ℕ) (gs : List Grant) (ys : Ways) (views : ℕ → Uses) (m : Plain)
-    (h : History) (c j x : ℕ) (o : Out) → Suits sh p ram → Invariants sh p entries ram gs ys views m h → c < sh.cores
-    → (g : Closing c (h.world.cores c) o) → (j ≡ c → ⊥)
+pub value-else : {sh : Shape} {p : Program} {entries : ℕ → Local} {ram : ℕ → ℕ} {gs : List Grant} {ys : Ways} {views : ℕ
+    → Uses} {m : Plain} {h : History} {c : ℕ} (j x : ℕ) {o : Out} → Suits sh p ram → Invariants sh p entries ram gs ys views m h
+    → c < sh.cores → (g : Closing c (h.world.cores c) o) → j ≢ c
     → value_at sh.base ram (insert_commit (noted g.tid c g.last) h.commits) (h.world.dirs (home_of sh x)) (Some j) None x
     ≡ value_at sh.base ram h.commits (h.world.dirs (home_of sh x)) (Some j) None x
 unfolding noted
-value-else sh p entries ram gs ys views m h c j x o u k l g n =
+value-else {sh} {p} {entries} {ram} {gs} {ys} {views} {m} {h} {c} j x u k l g n =
     value-skip sh.base ram (noted g.tid c g.last) h.commits (h.world.dirs (home_of sh x)) (Some j) None x
     (quiet (stores_word sh.base (h.world.cores c).stores x) refl)
   where
     quiet : (b : Bool) → stores_word sh.base (h.world.cores c).stores x ≡ b
         → IsSilent sh.base (h.world.dirs (home_of sh x)) (Some j) None x (noted g.tid c g.last)
-    quiet true q = let y = stored-served sh p entries ram gs ys views m h c g.tid x u k l g.phase q in
+    quiet true q = let y = stored-served c g.tid x u k l g.phase q in
         inl (counts-else (h.world.dirs (home_of sh x)) j c g.tid g.last n y.serving y.owed)
     quiet false q = inr (ap (λ y. stores_word sh.base y x) g.stores ∙ q)
 
-committed : (sh : Shape) (p : Program) (entries : ℕ → Local) (ram : ℕ → ℕ) (gs : List Grant) (ys : Ways) (views : ℕ → Uses) (m : Plain)
+committed : {sh : Shape} (p : Program) {entries : ℕ → Local} {ram : ℕ → ℕ} {gs : List Grant} {ys : Ways} {views : ℕ → Uses} (m : Plain)
     (h : History) (c : ℕ) (o : Out) → Suits sh p ram → Invariants sh p entries ram gs ys views m h → KeptHeld sh ram h.world h.commits
-    → c < sh.cores → Closing c (h.world.cores c) o
-    → KeptHeld sh ram (core_moves h.world c o) (and_noted o.commit h.commits)
+    → c < sh.cores → Closing c (h.world.cores c) o → KeptHeld sh ram (core_moves h.world c o) (and_noted o.commit h.commits)
 unfolding pair noted
-committed sh p entries ram gs ys views m h c o u k held l g = subst (λ q. KeptHeld sh ram (core_moves h.world c o) (and_noted q h.commits))
+committed {sh} p {entries} {ram} {gs} {ys} {views} m h c o u k held l g = subst
+    (λ q. KeptHeld sh ram (core_moves h.world c o) (and_noted q h.commits))
     (sym g.commit)
     (λ j d. either j c
     (λ q. rw q (subst (HeldAt sh ram cs c d) (sym (moves-own h.world c o d)) (λ x cl dl e. own' d x dl e)))
@@ -136,10 +135,10 @@ committed sh p entries ram gs ys views m h c o u k held l g = subst (λ q. KeptH
         ⊎ (1 ≤ live (InvWord x) (pair h.world c (home-of x)).back)
     framed x z v n true q f =
         let e : stores_word sh.base s.stores x ≡ true = sym (k.carried.stored_words_are_those_named c x) ∙ rw q refl in
-        let r = stored-seen sh p entries ram gs ys views m h c g.tid x u k l g.phase e in
-        inl (sym (sees-modified s r.0 x z n q v) ∙ (r.1 ∙ sym (value-own sh p entries ram gs ys views m h c x o u k l g e)))
+        let r = stored-seen c g.tid x u k l g.phase e in
+        inl (sym (sees-modified s r.0 x z n q v) ∙ (r.1 ∙ sym (value-own x u k l g e)))
     framed x z v n false q f =
-        let e : stores_word sh.base s.stores x ≡ false = stores-not (s.cache.modified x) (s.spilled x) (stores_word sh.base s.stores x)
+        let e : stores_word sh.base s.stores x ≡ false = stores-not
         (k.carried.stored_words_are_those_named c x) q n in
         let i : stores_word sh.base g.last.stores x ≡ false = ap (λ y. stores_word sh.base y x) g.stores ∙ e in
         rw (value-skip sh.base ram new h.commits (h.world.dirs (home-of x)) (Some c) None x (inr i)) (f.framed z v q)
@@ -166,16 +165,16 @@ committed sh p entries ram gs ys views m h c o u k held l g = subst (λ q. KeptH
     own' d x dl e = subst (λ q. HeldOf x (value_at sh.base ram cs (h.world.dirs q) (Some c) None x) (after_move (pair h.world c q) o q)) e
         (own x (rw e dl))
 
-    other : (j d x : ℕ) → j < sh.cores → d < sh.dirs → home_of sh x ≡ d → (j ≡ c → ⊥)
+    other : (j d x : ℕ) → j < sh.cores → d < sh.dirs → home_of sh x ≡ d → j ≢ c
         → HeldOf x (value_at sh.base ram cs (pair h.world j d).dir (Some j) None x) (pair h.world j d)
     other j d x jl dl e n = subst (λ y. HeldOf x y (pair h.world j d)) (sym same) (held j d x jl dl e)
       where
         same : value_at sh.base ram cs (h.world.dirs d) (Some j) None x ≡ value_at sh.base ram h.commits (h.world.dirs d) (Some j) None x
-        same = rw e at (value-else sh p entries ram gs ys views m h c j x o u k l g n)
+        same = rw e at (value-else j x u k l g n)
 
 -- a Fill from one home isn't of a line of another
 fill-home : (sh : Shape) (d e k l x : ℕ) (ws : List ℕ) (v : Pair) → get_or v.back k None ≡ Some (Fill l ws)
-    → live (LinesAway sh.dirs e) v.back ≡ 0 → home_of sh x ≡ d → (d ≡ e → ⊥) → (l == line_of x) ≡ false
+    → live (LinesAway sh.dirs e) v.back ≡ 0 → home_of sh x ≡ d → d ≢ e → (l == line_of x) ≡ false
 unfolding passes
 fill-home sh d e k l x ws v i z q n = go (l == line_of x) refl
   where
@@ -190,12 +189,12 @@ fill-home sh d e k l x ws v i z q n = go (l == line_of x) refl
             rw (← j) (grind nats)
 
 -- Each event keeps that each word in a frame or a Fill has its value, or is invalidated.
-pub step-held : (sh : Shape) (p : Program) (entries : ℕ → Local) (ram : ℕ → ℕ) (gs : List Grant) (ys : Ways) (views : ℕ → Uses) (m : Plain)
+pub step-held : {sh : Shape} (p : Program) {entries : ℕ → Local} {ram : ℕ → ℕ} {gs : List Grant} {ys : Ways} {views : ℕ → Uses} (m : Plain)
     (h : History) (e : Event) → Suits sh p ram → Invariants sh p entries ram gs ys views m h → KeptHeld sh ram h.world h.commits
-    → IfSome (step sh p h.world e) (λ o. CommitsStand sh o.world (and_noted o.noted h.commits)
-    → KeptHeld sh ram o.world (and_noted o.noted h.commits))
+    → IfSome (step sh p h.world e)
+    (λ o. CommitsStand sh o.world (and_noted o.noted h.commits) → KeptHeld sh ram o.world (and_noted o.noted h.commits))
 unfolding pair passes dir_deliver
-step-held sh p entries ram gs ys views m h e u k held = node_cases sh p w e (λ s g o. R o)
+step-held {sh} p {entries} {ram} {gs} {ys} {views} m h e u k held = node_cases sh p w e (λ s g o. R o)
     (λ c l. executed c l (core_exec sh p c (w.cores c)) (framing-exec sh p c (w.cores c)))
     (λ c x y l. emptied c (core_evict sh x y (w.cores c)) (fading-evict sh x y (w.cores c)))
     (λ c n t i after. granted c n (grant sh t (w.cores c)) (fading-grant sh t (w.cores c)))
@@ -214,7 +213,7 @@ step-held sh p entries ram gs ys views m h e u k held = node_cases sh p w e (λ 
     R o = CommitsStand sh o.world (and_noted o.noted h.commits) → KeptHeld sh ram o.world (and_noted o.noted h.commits)
 
     same : {y : ℕ} (x : ℕ) (v r : Pair) → r.back ≡ v.back → r.core ≡ v.core → HeldOf x y v → HeldOf x y r
-    same x v r b c f = held-fades x _ v r b (fading v.core r.core (ap (λ s. s.awaited) c) (rw c (fades-same v.core.cache))) f
+    same x v r b c f = held-fades r b (fading v.core r.core (ap (λ s. s.awaited) c) (rw c (fades-same v.core.cache))) f
 
     -- a core that commits nothing
     quietly : (c : ℕ) (o : Out) (v : World) → o.commit ≡ None → KeptHeld sh ram v h.commits → R (record { world = v; noted = o.commit })
@@ -225,19 +224,19 @@ step-held sh p entries ram gs ys views m h e u k held = node_cases sh p w e (λ 
     executed c l None f = tt
     executed c l (Some o) (Stays n f) =
         quietly c o (core_moves w c o) n
-        (pairs_move P w c o (λ d x cl dl q. held-fades x _ (pair w c d) (after_move (pair w c d) o d) refl f (held c d x cl dl q)) held)
-    executed c l (Some o) (Closes g) = λ after. committed sh p entries ram gs ys views m h c o u k held l g
+        (pairs_move P w c o (λ d x cl dl q. held-fades (after_move (pair w c d) o d) refl f (held c d x cl dl q)) held)
+    executed c l (Some o) (Closes g) = λ after. committed p m h c o u k held l g
 
     emptied : (c : ℕ) (x : Option Out) → IfSome x (OnlyFades (w.cores c))
         → IfSome x (λ o. R (record { world = core_moves w c o; noted = o.commit }))
     emptied c None f = tt
     emptied c (Some o) f =
         quietly c o (core_moves w c o) f.0
-        (pairs_move P w c o (λ d x cl dl q. held-fades x _ (pair w c d) (after_move (pair w c d) o d) refl f.1 (held c d x cl dl q)) held)
+        (pairs_move P w c o (λ d x cl dl q. held-fades (after_move (pair w c d) o d) refl f.1 (held c d x cl dl q)) held)
 
     granted : (c n : ℕ) (o : Out) → OnlyFades (w.cores c) o → KeptHeld sh ram (core_takes w Vendor c n o) (and_noted o.commit h.commits)
     granted c n o f = subst (λ q. KeptHeld sh ram (core_takes w Vendor c n o) (and_noted q h.commits)) (sym f.0)
-        (pairs_grant P w c n o (λ d x cl dl q. held-fades x _ (pair w c d) (after_move (grant_taken (pair w c d) n) o d) refl f.1
+        (pairs_grant P w c n o (λ d x cl dl q. held-fades (after_move (grant_taken (pair w c d) n) o d) refl f.1
         (held c d x cl dl q)) held)
 
     loading : (c d x : ℕ) → LoadingOf sh d (line_of x) (pair w c d)
@@ -246,15 +245,15 @@ step-held sh p entries ram gs ys views m h e u k held = node_cases sh p w e (λ 
     come : (c d n : ℕ) (a : Msg) → FromDir w d c n a → (o : Out) → Coming (w.cores c) a o
         → R (record { world = core_takes w (Dir d) c n o; noted = o.commit })
     come c d n a i o (Quiet z f) = quietly c o (core_takes w (Dir d) c n o) f.0 (pairs_back P w d c n o
-        (λ x cl dl q. held-quietly x _ n (pair w c d) (after_move (back_taken (pair w c d) n) o d) a i refl (z x) f.1
+        (λ x cl dl q. held-quietly n (after_move (back_taken (pair w c d) n) o d) i refl (z x) f.1
         (held c d x cl dl q))
-        (λ b r x cl dl q. held-fades x _ (pair w c b) (after_move (pair w c b) o b) refl f.1 (held c b x cl dl q)) held)
+        (λ b r x cl dl q. held-fades (after_move (pair w c b) o b) refl f.1 (held c b x cl dl q)) held)
     come c d n a i o (Takes l t v e f) = quietly c o (core_takes w (Dir d) c n o) f.rests.0 (pairs_back P w d c n o
-        (λ x cl dl q. held-invalid sh d x _ n l t v (pair w c d) o (i ∙ ap (λ y. Some y) e) f (loading c d x) (held c d x cl dl q))
-        (λ b r x cl dl q. held-fades x _ (pair w c b) (after_move (pair w c b) o b) refl f.rests.1 (held c b x cl dl q)) held)
+        (λ x cl dl q. held-invalid sh d x _ n l t v o (i ∙ ap (λ y. Some y) e) f (loading c d x) (held c d x cl dl q))
+        (λ b r x cl dl q. held-fades (after_move (pair w c b) o b) refl f.rests.1 (held c b x cl dl q)) held)
     come c d n a i o (Brings l ws e f) = quietly c o (core_takes w (Dir d) c n o) f.commit (pairs_back P w d c n o
-        (λ x cl dl q. held-filled sh d x _ n l ws (pair w c d) o (i ∙ ap (λ y. Some y) e) f (loading c d x) (held c d x cl dl q))
-        (λ b r x cl dl q. held-elsewhere sh b x _ l ws (pair w c b) o
+        (λ x cl dl q. held-filled sh d x _ n l o (i ∙ ap (λ y. Some y) e) f (loading c d x) (held c d x cl dl q))
+        (λ b r x cl dl q. held-elsewhere sh b x _ l o
         (fill-home sh b d n l x ws (pair w c d) (i ∙ ap (λ y. Some y) e) (k.carried.records_and_messages_are_at_home c d 0).back q
         r) f (loading c b x) (held c b x cl dl q)) held)
 
@@ -275,7 +274,7 @@ step-held sh p entries ram gs ys views m h e u k held = node_cases sh p w e (λ 
         k.carried.after_is_the_last_commit_there k.carried.frames_stand_in_their_sets
         k.carried_in_memory.loads_in_flight_are_of_lines_in_memory cl dl i
         (dir_deliver sh (w.dirs d) c (LoadReq l a)) (dir-fills sh (w.dirs d) c (LoadReq l a)) (load-home c l a (w.dirs d))
-    answered c d n (Commit t b) cl dl i = answered-commit sh ram w h.commits c d n (Commit t b) k.carried_in_memory.commits_stay_in_memory
+    answered c d n (Commit t b) cl dl i = answered-commit ram w d n k.carried_in_memory.commits_stay_in_memory
         k.carried.commit_is_on_its_way_or_applied held k.carried.commits_are_of_granted_tids.0 k.carried.committing_tid_is_served
         k.carried.marks_sent_are_in_flight_or_handled.1 k.carried.marks_sent_are_the_lines_stored.2 k.carried.one_load_request_or_fill
         k.carried.holder_is_a_sharer cl dl i (λ l. refl)
@@ -292,7 +291,7 @@ pub words_kept : EventsKeepWords
 unfolding next_history pair
 words_kept sh p entries ram gs ys views m h e u k =
     go (step sh p h.world e)
-    (step-held sh p entries ram gs ys views m h e u k
+    (step-held p m h e u k
     (held-all sh ram h.world h.commits k.unmodified_word_is_current_or_inv_in_flight k.filled_word_is_current_or_inv_in_flight))
   where
     go : (x : Option Stepped)

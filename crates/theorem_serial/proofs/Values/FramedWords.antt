@@ -12,7 +12,7 @@ use Names.{is_some, line_of, word_at, FillNot, InvWord, Commits, is_this, DataRe
 use Names.{get_or, nat_le, Answer, nat_lt, Commit, LoadOf, Bool, Noted, Shape, World, among, subst, Sends, Waits, Drops, Takes, those}
 use Names.{Lines, lines, true, ◌&&◌, ◌||◌, List, Some, None, refl, Core, Link, live, Pair, pair, zero, ◌==◌, Fill, Asks, cond, Kind, ◌<◌}
 use Names.{◌≤◌, ◌⊎◌, not, inl, inr, num, Msg, Dir, suc, ◌∷◌, set, ◌∙◌, ◌+◌, sym, has, hit, Inv, [], ap, to, nats, home_of, tid_at, to_dir}
-use Names.{to_core, FromCore}
+use Names.{to_core, FromCore, ◌≢◌}
 use proofs.Counts.Links.{live-sends, live-fewer, among-fewer, num-same, live-takes, among-append}
 use proofs.Counts.StepCases.{either, dir-own, dir-other, pairs_dir, pairs_asks, differ, OfAnswer}
 use proofs.Lines.LineOwners.{FillsBy}
@@ -51,9 +51,9 @@ few-sent x y ms = among-fewer (FillNot x y) (FillOf (line_of x)) (fill-not x y) 
 -- a directory answers
 
 -- the value stays, and no Fill goes out with another
-pub held-answered : (x y z : ℕ) (v : Pair) (out : Link) (s : DirState) (ms : List Msg) → z ≡ y → among (FillNot x y) ms ≡ 0 → HeldOf x y v
+pub held-answered : {x y z : ℕ} {v : Pair} (out : Link) (s : DirState) (ms : List Msg) → z ≡ y → among (FillNot x y) ms ≡ 0 → HeldOf x y v
     → HeldOf x z (after_answer (record v { out = out }) s ms)
-held-answered x y z v out s ms e f h = rw e (record { framed = λ a p q. framed (h.framed a p q); filled = λ p. filled (h.filled p) })
+held-answered {x} {y} {v} out s ms e f h = rw e (record { framed = λ a p q. framed (h.framed a p q); filled = λ p. filled (h.filled p) })
   where
     sent : 1 ≤ live (InvWord x) v.back → 1 ≤ live (InvWord x) (after_answer (record v { out = out }) s ms).back
     sent n = omega (arith, n, live-sends (InvWord x) v.back ms)
@@ -172,15 +172,15 @@ pub dirs-taken : (w : World) (c d k : ℕ) (s : DirState) (sends : Sends) → (d
 unfolding pair
 dirs-taken w c d k s sends = ap (λ v. v.dir) (dir-own w c d k s sends)
 
-pub commits-other : (w : World) (c d k : ℕ) (s : DirState) (sends : Sends) (j t : ℕ) → (j ≡ c → ⊥)
+pub commits-other : (w : World) (c d k : ℕ) (s : DirState) (sends : Sends) (j t : ℕ) → j ≢ c
     → live (Commits t) ((dir_takes w c d k s sends).net (Core j) (Dir d)) ≡ live (Commits t) (to_dir w j d)
 unfolding pair
 commits-other w c d k s sends j t n = ap (λ v. live (Commits t) v.out) (dir-other w c d k s sends j n)
 
-pub commits-own : (w : World) (c d k : ℕ) (m : Msg) (s : DirState) (sends : Sends) (t : ℕ) → FromCore w c d k m
+pub commits-own : (w : World) (c d k : ℕ) {m : Msg} (s : DirState) (sends : Sends) (t : ℕ) → FromCore w c d k m
     → passes (Commits t) m ≡ false → live (Commits t) ((dir_takes w c d k s sends).net (Core c) (Dir d)) ≡ live (Commits t) (to_dir w c d)
 unfolding pair
-commits-own w c d k m s sends t i p = ap (λ v. live (Commits t) v.out) (dir-own w c d k s sends)
+commits-own w c d k {m} s sends t i p = ap (λ v. live (Commits t) v.out) (dir-own w c d k s sends)
     ∙ (let z : num (passes (Commits t) m) ≡ 0 = rw p refl in omega (arith, z, live-takes (Commits t) (to_dir w c d) k m i))
 
 -- the value stays where the commits that stored the word are steady
@@ -193,10 +193,10 @@ value-taken sh ram w cs c d k s sends j x inside before after dl e f =
     (value-stays sh ram w (dir_takes w c d k s sends) cs d j x inside before after dl e f)
 
 -- all commits are steady where the message is no Commit
-pub steady-taken : (w : World) (c d k : ℕ) (m : Msg) (s : DirState) (sends : Sends) (j : Option ℕ) (n : Noted)
-    → FromCore w c d k m → ((t : ℕ) → passes (Commits t) m ≡ false) → IsSteady w (dir_takes w c d k s sends) d j n
-steady-taken w c d k m s sends j n i p = inr (either n.core.0 c
-    (λ q. rw q (commits-own w c d k m s sends n.tid.0 i (p n.tid.0)))
+pub steady-taken : (w : World) (c d k : ℕ) {m : Msg} (s : DirState) (sends : Sends) (j : Option ℕ) (n : Noted) → FromCore w c d k m
+    → ((t : ℕ) → passes (Commits t) m ≡ false) → IsSteady w (dir_takes w c d k s sends) d j n
+steady-taken w c d k {m} s sends j n i p = inr (either n.core.0 c
+    (λ q. rw q (commits-own w c d k s sends n.tid.0 i (p n.tid.0)))
     (λ h. commits-other w c d k s sends n.core.0 n.tid.0 h))
 
 -- what is to be shown of each core's words where a directory takes a message
@@ -216,7 +216,7 @@ pub held-asked : (sh : Shape) (ram : ℕ → ℕ) (w : World) (cs : List Noted) 
 unfolding pair
 held-asked sh ram w cs d s sends v f h =
     pairs_asks (HeldAt sh ram cs) w d s sends
-    (λ j x jl dl e. held-answered x _ _ (pair w j d) (to_dir w j d) s (sends (Core j)) (v j x dl e) (f j x _) (h j d x jl dl e)) h
+    (λ j x jl dl e. held-answered (to_dir w j d) s (sends (Core j)) (v j x dl e) (f j x _) (h j d x jl dl e)) h
 
 -- Where a directory takes a Commit, each word that the commit stored is invalidated at every other core that holds it, and all other
 -- words have their values still.
@@ -251,7 +251,7 @@ sent-one k f p (suc n) l i e h = rw flat_map-append (rw among-append (go (cases_
     last : l ≡ n → 1 ≤ among k (flat_map f (cond (p n) (n ∷ []) []))
     last q = rw (rw q at e) (rw among-append (omega (arith, rw q at h)))
 
-    go : (l ≡ n) ⊎ (l ≡ n → ⊥) → (l < n → 1 ≤ among k (flat_map f (those p n)))
+    go : (l ≡ n) ⊎ (l ≢ n) → (l < n → 1 ≤ among k (flat_map f (those p n)))
         → 1 ≤ among k (flat_map f (those p n)) + among k (flat_map f (cond (p n) (n ∷ []) []))
     go (inl q) r = omega (arith, last q)
     go (inr q) r = omega (arith, r (omega (arith, i, q)))
@@ -274,7 +274,7 @@ stored-hit sh d x ls n il e m s =
     mark = let a : nat_lt (line_of x) (lines sh) ≡ true = grind nats in let b : (d == home_of sh x) ≡ true =
         grind nats in m ∙ rw (a, b) refl
 
-sharer-told : (sh : Shape) (ls : Lines) (c t j x : ℕ) → line_of x < lines sh → j < sh.cores → (j ≡ c → ⊥) → has_mark ls (line_of x) ≡ true
+sharer-told : (sh : Shape) (ls : Lines) (c t j x : ℕ) → line_of x < lines sh → j < sh.cores → j ≢ c → has_mark ls (line_of x) ≡ true
     → hit (line_of x) (ls.mark (line_of x)) x ≡ true → ls.sharers (line_of x) j ≡ true → 1 ≤ among (InvWord x) (invs_to sh ls c t j)
 unfolding invs_to is_invalidated among passes
 sharer-told sh ls c t j x il jl n m h s = sent-one (InvWord x) (λ l. Inv l (ls.mark l) t ∷ []) (is_invalidated sh ls c j) (lines sh)
@@ -318,15 +318,15 @@ one-committer sh w cs c j d u rising served stored cl jl dl a b =
     let z : y.commit ≡ x.commit = same-commit cs y.commit x.commit rising y.noted x.noted (y.tid ∙ t ∙ sym x.tid) in
     sym y.core ∙ ap (λ n. n.core.0) z ∙ x.core
 
-pub answered-commit : (sh : Shape) (ram : ℕ → ℕ) (w : World) (cs : List Noted) (c d k : ℕ) (m : Msg) → CommitsInMemory sh cs
+pub answered-commit : {sh : Shape} (ram : ℕ → ℕ) (w : World) {cs : List Noted} {c : ℕ} (d k : ℕ) {m : Msg} → CommitsInMemory sh cs
     → CommitsStand sh w cs → KeptHeld sh ram w cs → IsRising 0 cs → CommitsAreServed sh w → KeptCounted sh w → KeptStored sh cs w
     → KeptLoading sh w → KeptSharers sh w cs → c < sh.cores → d < sh.dirs → FromCore w c d k m → ((l : ℕ) → passes (LoadOf l) m ≡ false)
     → (b : Answer) → FillsBy c m b → Invalidates sh c (w.dirs d) m b → OfAnswer w c d k (λ v. CommitsStand sh v cs → KeptHeld sh ram v cs) b
 unfolding pair passes
-answered-commit sh ram w cs c d k m inside before h rising served counted stored loading sharers cl dl i lm Waits f g = tt
-answered-commit sh ram w cs c d k m inside before h rising served counted stored loading sharers cl dl i lm Drops f g = absurd g
-answered-commit sh ram w cs c d k m inside before h rising served counted stored loading sharers cl dl i lm (Asks s sends) f g = absurd g
-answered-commit sh ram w cs c d k m inside before h rising served counted stored loading sharers cl dl i lm (Takes s sends) f g =
+answered-commit ram w d k inside before h rising served counted stored loading sharers cl dl i lm Waits f g = tt
+answered-commit ram w d k inside before h rising served counted stored loading sharers cl dl i lm Drops f g = absurd g
+answered-commit ram w d k inside before h rising served counted stored loading sharers cl dl i lm (Asks s sends) f g = absurd g
+answered-commit {sh} ram w {cs} {c} d k {m} inside before h rising served counted stored loading sharers cl dl i lm (Takes s sends) f g =
     λ after. held-taken sh ram w cs c d k s sends (λ j x out jl dl' e. either j c
     (λ q. stays j x out jl e after (λ n r y. rw q (own n)))
     (λ n. other j x out jl n e after (stores_word sh.base was.commit.stores x) refl)) h
@@ -335,7 +335,7 @@ answered-commit sh ram w cs c d k m inside before h rising served counted stored
     t = tid_at w d
 
     was : SettledCommit sh cs d (w.dirs d)
-    was = taken-stored sh w cs c d k m counted stored cl dl i g.0
+    was = taken-stored w c k counted stored cl dl i g.0
 
     j' : (FromCore w c d k (Commit t (count_below (has_mark (w.dirs d).lines) (lines sh))))
     j' = i ∙ ap (λ x. Some x) g.0
@@ -358,17 +358,17 @@ answered-commit sh ram w cs c d k m inside before h rising served counted stored
         → ((n : Noted) → Contains cs n → stores_word sh.base n.stores x ≡ true → IsSteady w (dir_takes w c d k s sends) d (Some j) n)
         → HeldOf x (value_at sh.base ram cs s (Some j) None x) (after_answer (record (pair w j d) { out = out }) s (sends (Core j)))
     stays j x out jl e after steady =
-        held-answered x _ _ (pair w j d) out s (sends (Core j))
+        held-answered out s (sends (Core j))
         (value-taken sh ram w cs c d k s sends (Some j) x inside before after dl e steady) (no-fill j x _) (h j d x jl dl e)
 
     -- a commit of another TID
-    apart : (n : Noted) → (n.tid.0 ≡ t → ⊥) → (b : Option ℕ) → IsSteady w (dir_takes w c d k s sends) d b n
+    apart : (n : Noted) → n.tid.0 ≢ t → (b : Option ℕ) → IsSteady w (dir_takes w c d k s sends) d b n
     apart n r b = inr (either n.core.0 c
-        (λ q. rw q (commits-own w c d k (Commit t (count_below (has_mark (w.dirs d).lines) (lines sh))) s sends n.tid.0 j'
+        (λ q. rw q (commits-own w c d k s sends n.tid.0 j'
         (let z : (t == n.tid.0) ≡ false = grind nats in z)))
         (λ y. commits-other w c d k s sends n.core.0 n.tid.0 y))
 
-    other : (j x : ℕ) (out : Link) → j < sh.cores → (j ≡ c → ⊥) → home_of sh x ≡ d → CommitsStand sh (dir_takes w c d k s sends) cs
+    other : (j x : ℕ) (out : Link) → j < sh.cores → j ≢ c → home_of sh x ≡ d → CommitsStand sh (dir_takes w c d k s sends) cs
         → (b : Bool) → stores_word sh.base was.commit.stores x ≡ b
         → HeldOf x (value_at sh.base ram cs s (Some j) None x) (after_answer (record (pair w j d) { out = out }) s (sends (Core j)))
     other j x out jl n e after false y = stays j x out jl e after (λ z q r. either z.tid.0 t

@@ -7,7 +7,7 @@ use Names.{World, Out, core_exec, core_evict, from_dir, dir_deliver, History, St
 use Names.{core_takes, Uses, Suits, Carried, Invariants, Grant, granted_by, Ways, ways_after, sent_by, zero, suc, ◌||◌, Bool, true, false}
 use Names.{cond, is_some, unwrap_or, arith, ap, sym, subst, ◌∙◌, num, line_of, home, lines, DirState, noted, insert_commit, sees}
 use Names.{copies_with, AboveOf, CopyWord, CopyNot, Commits, live, among, Pair, pair, after_move, is_this, is_applied, stores_word}
-use Names.{after_stores, counts, word_copies, CopiesHave, wrote_line, Vendor, Msg, grant, CommitsStand, nats, home_of, to_dir, FromDir}
+use Names.{after_stores, counts, word_copies, CopiesHave, wrote_line, Vendor, Msg, grant, CommitsStand, nats, home_of, to_dir, FromDir, ◌≢◌}
 use proofs.Copies.TagsKept.{untagged}
 use proofs.Counts.Links.{live-sends}
 use proofs.Counts.StepCases.{either, moves-own, moves-other, node_cases}
@@ -32,10 +32,10 @@ use proofs.Values.WordsMoved.{Alike, moved-alike, granted-alike, taken-alike, al
 -- one pair
 
 -- a word that the commit didn't store has the copies that it had
-unstored-alike : (sh : Shape) (x d g u : ℕ) (o : Out) (v : Pair) → CommitsWord sh x u v.core.cache v.core.spilled o
+unstored-alike : {sh : Shape} (x d : ℕ) {g u : ℕ} (o : Out) {v : Pair} → CommitsWord sh x u v.core.cache v.core.spilled o
     → v.core.cache.modified x ≡ false → v.core.spilled x ≡ None → Alike x g v (after_move v o d)
 unfolding word_copies
-unstored-alike sh x d g u o v w m z = record {
+unstored-alike x d {g} o {v} w m z = record {
   copies = rw a.0 (omega (arith, a.1.1 g d, live-sends (CopyWord x g) v.out (o.sends (Dir d))));
   have = λ t y q. record {
     framed = λ r. a.1.0 ∙ q.framed (sym a.0 ∙ r);
@@ -52,11 +52,10 @@ pub record Others (x g : ℕ) (a b : Pair) : Type 0 where
   pub copies : word_copies x g b ≡ word_copies x g a
   pub have : (y : ℕ) → CopiesHave x g y a → CopiesHave x g y b
 
-stored-others : (sh : Shape) (x d g u : ℕ) (o : Out) (v : Pair) → CommitsWord sh x u v.core.cache v.core.spilled o
-    → (v.core.cache.modified x || is_some (v.core.spilled x)) ≡ true → v.core.cache.dirty x ≡ None → (u ≡ g → ⊥)
-    → Others x g v (after_move v o d)
+stored-others : {sh : Shape} (x d g : ℕ) {u : ℕ} (o : Out) {v : Pair} → CommitsWord sh x u v.core.cache v.core.spilled o
+    → (v.core.cache.modified x || is_some (v.core.spilled x)) ≡ true → v.core.cache.dirty x ≡ None → u ≢ g → Others x g v (after_move v o d)
 unfolding word_copies
-stored-others sh x d g u o v w m z n = record {
+stored-others x d g o {v} w m z n = record {
   copies = rw z (omega (arith, clean (o.core.cache.dirty x) refl, w.sent g d n, live-sends (CopyWord x g) v.out (o.sends (Dir d))));
   have = λ y q. record {
     framed = λ r. absurd (n (sym (w.framed g m r).0));
@@ -107,12 +106,12 @@ record CoreKeeps (x g y z : ℕ) (a b : Pair) : Type 0 where
   tagged : CopiesHave x g y b
   above : (t : ℕ) → g < t → CopiesHave x t z b
 
-pub commit-keeps : (sh : Shape) (p : Program) (entries : ℕ → Local) (ram : ℕ → ℕ) (gs : List Grant) (ys : Ways) (views : ℕ → Uses)
+pub commit-keeps : {sh : Shape} (p : Program) {entries : ℕ → Local} {ram : ℕ → ℕ} {gs : List Grant} {ys : Ways} {views : ℕ → Uses}
     (m : Plain) (h : History) (c : ℕ) (o : Out) → Suits sh p ram → Invariants sh p entries ram gs ys views m h → c < sh.cores
     → Closing c (h.world.cores c) o → CommitsWords sh (h.world.cores c) o
     → KeptValues sh ram (core_moves h.world c o) (and_noted o.commit h.commits)
 unfolding core_moves noted pair
-commit-keeps sh p entries ram gs ys views m h c o u k l g f =
+commit-keeps {sh} p {entries} {ram} {gs} {ys} {views} m h c o u k l g f =
     subst (λ q. KeptValues sh ram (core_moves h.world c o) (and_noted q h.commits)) (sym g.commit)
     (λ d x dl e. subst (λ d. ValuesAt sh ram (core_moves h.world c o) cs d x) e (at-home x (rw e dl)))
   where
@@ -129,16 +128,16 @@ commit-keeps sh p entries ram gs ys views m h c o u k l g f =
     cs = insert_commit new h.commits
 
     st : Stand sh h ys c g.tid
-    st = stand sh p entries ram gs ys views m h c g.tid u k l g.phase
+    st = stand u k l g.phase
 
     word : (x : ℕ) → CommitsWord sh x g.tid s.cache s.spilled o
     word x = f new g.commit x
 
     old : KeptValues sh ram w h.commits
-    old = values-of sh ram w h.commits k.home_words_are_current k.copy_above_the_tag_has_the_committed_words
+    old = values-of k.home_words_are_current k.copy_above_the_tag_has_the_committed_words
 
     served : (x : ℕ) → stores_word sh.base s.stores x ≡ true → Serves sh h c g.tid x
-    served x e = stored-served sh p entries ram gs ys views m h c g.tid x u k l g.phase e
+    served x e = stored-served c g.tid x u k l g.phase e
 
     unstored : (x : ℕ) → stores_word sh.base s.stores x ≡ false → stores_word sh.base g.last.stores x ≡ false
     unstored x q = ap (λ y. stores_word sh.base y x) g.stores ∙ q
@@ -171,14 +170,14 @@ commit-keeps sh p entries ram gs ys views m h c o u k l g f =
 
         a : Alike x (tag_of w d x) (pair w c d) (after_move (pair w c d) o d)
         a = let y = none (s.cache.modified x) (s.spilled x) (stores_word sh.base s.stores x) (k.carried.stored_words_are_those_named c x) q
-            in unstored-alike sh x d (tag_of w d x) g.tid o (pair w c d) (word x) y.0 y.1
+            in unstored-alike x d o (word x) y.0 y.1
     own x dl true q = record {
       copies = (others (tag_of w d x) untag).copies;
       tagged = (others (tag_of w d x) untag).have _ ((old d x dl refl).in_copies c l);
       above = λ t i. either t g.tid
           (λ r. rw r (new-copies sh x d g.tid _ seen.0 o (pair w c d) (word x) named
           ((k.carried.modified_and_dirty_words_are_valid_and_apart c).modified x) (fresh (rw r at i))
-          (seen.1 ∙ sym (value-own sh p entries ram gs ys views m h c x o u k l g q))))
+          (seen.1 ∙ sym (value-own x u k l g q))))
           (λ r. (others t (λ y. r (sym y))).have _
           (none-copied sh x t _ (pair w c d) (k.carried.frames_stand_in_their_sets c) (no-other t i r)));
     }
@@ -195,28 +194,28 @@ commit-keeps sh p entries ram gs ys views m h c o u k l g f =
         clean : (b : Bool) → s.cache.modified x ≡ b → (z : Option ℕ) → s.spilled x ≡ z → (b || is_some z) ≡ true → s.cache.dirty x ≡ None
         clean b r a z e = grind nats
 
-        others : (t : ℕ) → (g.tid ≡ t → ⊥) → Others x t (pair w c d) (after_move (pair w c d) o d)
-        others t n = stored-others sh x d t g.tid o (pair w c d) (word x) named (clean (s.cache.modified x) refl (s.spilled x) refl named) n
+        others : (t : ℕ) → g.tid ≢ t → Others x t (pair w c d) (after_move (pair w c d) o d)
+        others t n = stored-others x d t o (word x) named (clean (s.cache.modified x) refl (s.spilled x) refl named) n
 
         untag : g.tid ≡ tag_of w d x → ⊥
         untag = untagged sh h d (line_of x) g.tid k.carried.line_tag_is_the_last_settled_writer dl inside refl st.positive st.fresh
 
         seen : (r : ℕ → ℕ) × (sees s r x ≡ after_stores sh.base s.stores x (value_of sh ram w h.commits d (Some c) x))
-        seen = stored-seen sh p entries ram gs ys views m h c g.tid x u k l g.phase q
+        seen = stored-seen c g.tid x u k l g.phase q
 
         above : (t : ℕ) → tag_of w d x < t → AboveOf sh.base h.commits c (line_of x) t (pair w c d)
         above t i = k.carried.copy_above_the_tag_is_of_a_commit_in_flight c d (line_of x) t l dl inside refl i
 
         fresh : tag_of w d x < g.tid → word_copies x g.tid (pair w c d) ≡ 0
-        fresh i = unwritten-none sh h.commits c x g.tid (pair w c d) (k.carried.frames_stand_in_their_sets c) (above g.tid i)
+        fresh i = unwritten-none x (k.carried.frames_stand_in_their_sets c) (above g.tid i)
             (wrote-none sh.base h.commits c g.tid x (each-listed (λ n. n.tid.0 ≡ g.tid → stores_word sh.base n.stores x ≡ false) h.commits
             (λ n i e. absurd (omega (arith, st.fresh, times-listed g.tid h.commits n i e)))))
 
-        unsent : (t : ℕ) → (t ≡ g.tid → ⊥) → (y : ℕ) → live (Commits t) (to_dir w c d) ≡ y → y ≡ 0
+        unsent : (t : ℕ) → t ≢ g.tid → (y : ℕ) → live (Commits t) (to_dir w c d) ≡ y → y ≡ 0
         unsent t n zero e = refl
         unsent t n (suc y) e = absurd (n (sym (k.carried.committing_tid_is_served c d t l dl (omega (arith, e))) ∙ (served x q).serving))
 
-        no-other : (t : ℕ) → tag_of w d x < t → (t ≡ g.tid → ⊥) → copies_with (line_of x) t (pair w c d) ≡ 0
+        no-other : (t : ℕ) → tag_of w d x < t → t ≢ g.tid → copies_with (line_of x) t (pair w c d) ≡ 0
         no-other t i n = (above t i).one ∙ rw (unsent t n (live (Commits t) (to_dir w c d)) refl)
             (which (wrote_line sh.base h.commits c t (line_of x)))
           where
@@ -248,7 +247,7 @@ commit-keeps sh p entries ram gs ys views m h c o u k l g f =
               copies = refl;
               tagged = (old d x dl refl).in_copies j jl;
               above =
-                  λ t i. subst (λ y. CopiesHave x t y (pair w j d)) (sym (value-else sh p entries ram gs ys views m h c j x o u k l g n))
+                  λ t i. subst (λ y. CopiesHave x t y (pair w j d)) (sym (value-else j x u k l g n))
                   ((old d x dl refl).above j t jl i);
             }))
 
@@ -258,17 +257,17 @@ commit-keeps sh p entries ram gs ys views m h c o u k l g f =
 abbrev KeepsValues : Shape → (ram : ℕ → ℕ) → History → Stepped → Type 0
 KeepsValues sh ram h o = CommitsStand sh o.world (and_noted o.noted h.commits) → KeptValues sh ram o.world (and_noted o.noted h.commits)
 
-step-values : (sh : Shape) (p : Program) (entries : ℕ → Local) (ram : ℕ → ℕ) (gs : List Grant) (ys : Ways) (views : ℕ → Uses) (m : Plain)
+step-values : {sh : Shape} (p : Program) {entries : ℕ → Local} {ram : ℕ → ℕ} {gs : List Grant} {ys : Ways} {views : ℕ → Uses} (m : Plain)
     (h : History) (e : Event) → Suits sh p ram → Invariants sh p entries ram gs ys views m h
     → IfSome (step sh p h.world e) (KeepsValues sh ram h)
 unfolding core_moves core_takes
-step-values sh p entries ram gs ys views m h e u k = node_cases sh p w e (λ x g o. KeepsValues sh ram h o)
+step-values {sh} p {entries} {ram} {gs} {ys} {views} m h e u k = node_cases sh p w e (λ x g o. KeepsValues sh ram h o)
     (λ c l. executed c l (core_exec sh p c (w.cores c)) (framing-exec sh p c (w.cores c))
     (commits-exec sh p c (w.cores c) (b.caches c) (k.carried.marks_fit_the_phase c).spilled)
     (words-exec sh p c (w.cores c) (b.caches c)))
     (λ c x y l. evicted c (core_evict sh x y (w.cores c)) (words-evict sh x y (w.cores c) (b.caches c)))
     (λ c n t i. let o = grant sh t (w.cores c) in quietly o.commit (core_takes w Vendor c n o) (grant-stays sh t (w.cores c)).commit
-    (alike-keeps sh ram w (core_takes w Vendor c n o) h.commits refl (granted-alike sh w c n o (words-grant sh t (w.cores c)))
+    (alike-keeps (core_takes w Vendor c n o) refl (granted-alike sh w c n o (words-grant sh t (w.cores c)))
     b.values))
     (λ c d n a i. taken c d n a i (from_dir sh d (w.cores c) a) (back-stays sh d (w.cores c) a)
     (λ y. words-back sh y d (w.cores c) a (b.caches c)))
@@ -291,15 +290,15 @@ step-values sh p entries ram gs ys views m h e u k = node_cases sh p w e (λ x g
         → IfSome x (λ o. KeepsValues sh ram h (record { world = core_moves w c o; noted = o.commit }))
     executed c l None f g a = tt
     executed c l (Some o) (Stays n f) g a =
-        quietly o.commit (core_moves w c o) n (alike-keeps sh ram w (core_moves w c o) h.commits refl (moved-alike sh w c o (a n)) b.values)
-    executed c l (Some o) (Closes f) g a = λ s. commit-keeps sh p entries ram gs ys views m h c o u k l f g
+        quietly o.commit (core_moves w c o) n (alike-keeps (core_moves w c o) refl (moved-alike sh w c o (a n)) b.values)
+    executed c l (Some o) (Closes f) g a = λ s. commit-keeps p m h c o u k l f g
 
     evicted : (c : ℕ) (x : Option Out) → IfSome x (Quietly sh (w.cores c))
         → IfSome x (λ o. KeepsValues sh ram h (record { world = core_moves w c o; noted = o.commit }))
     evicted c None a = tt
     evicted c (Some o) a =
         quietly o.commit (core_moves w c o) a.0
-        (alike-keeps sh ram w (core_moves w c o) h.commits refl (moved-alike sh w c o a.1) b.values)
+        (alike-keeps (core_moves w c o) refl (moved-alike sh w c o a.1) b.values)
 
     taken : (c d n : ℕ) (a : Msg) → FromDir w d c n a → (x : Option Out) → IfSome x (CheckpointStays (w.cores c))
         → ((y : ℕ) → IfSome x (WordBack sh y (w.cores c) a))
@@ -307,14 +306,14 @@ step-values sh p entries ram gs ys views m h e u k = node_cases sh p w e (λ x g
     taken c d n a i None r f = tt
     taken c d n a i (Some o) r f =
         quietly o.commit (core_takes w (Dir d) c n o) r.commit
-        (alike-keeps sh ram w (core_takes w (Dir d) c n o) h.commits refl (taken-alike sh ram h c d n a o b i f) b.values)
+        (alike-keeps (core_takes w (Dir d) c n o) refl (taken-alike sh ram h c d n a o b i f) b.values)
 
 pub homes_kept : EventsKeepHomes
 unfolding next_history
-homes_kept sh p entries ram gs ys views m h e u k = go (step sh p h.world e) (step-values sh p entries ram gs ys views m h e u k)
+homes_kept sh p entries ram gs ys views m h e u k = go (step sh p h.world e) (step-values p m h e u k)
   where
     go : (x : Option Stepped) → IfSome x (KeepsValues sh ram h)
         → IfSome (recorded h x) (λ g. Carried sh (gs ++ granted_by h.world e) (ways_after (sent_by sh p h.world e) ys) g
         → HomesHold sh ram g)
     go None a = tt
-    go (Some o) a = λ c. from-values sh ram o.world (and_noted o.noted h.commits) (a c.commit_is_on_its_way_or_applied)
+    go (Some o) a = λ c. from-values (a c.commit_is_on_its_way_or_applied)

@@ -8,7 +8,7 @@ use Names.{has, full, mask_of, Msg, Shape, lines, has-mask_of, World, History, c
 use Names.{CopyNot, live, passes, pair, is_applied, MarkedCommit, stores_at, stores_in, is_this, stored_mask, stores_word, counts}
 use Names.{word_copies, CopiesHave, names_line, wrote, wrote_line, wrote_mask, [], subst, Plain, Program, Local, DirState, Sends, Answer}
 use Names.{Waits, Drops, Asks, Takes, dir_takes, dir_asks, vendor_gives, Uses, Invariants, Grant, CommitsStand, Ways, nats, home_of, tid_at}
-use Names.{to_dir, FromCore}
+use Names.{to_dir, FromCore, ◌≢◌, tested}
 use proofs.Copies.LinesStep.{marked-line, writer-line, other-writer, commit-passes}
 use proofs.Copies.TagsKept.{tag-below, applied-owed, TakenCommit, takes-consumes}
 use proofs.Copies.WroteLines.{wrote-at}
@@ -78,10 +78,10 @@ pub record Settled (sh : Shape) (ram : ℕ → ℕ) (h : History) (c d k : ℕ) 
   pub words : (x : ℕ) → (v.dirs d).words x ≡ (h.world.dirs d).words x
 
 -- which commits are applied afterwards: those that were, and those of the core
-applied-after : (sh : Shape) (ram : ℕ → ℕ) (h : History) (c d k : ℕ) (m : Msg) (v : World) → Settled sh ram h c d k m v → (y : Noted)
+applied-after : {sh : Shape} {ram : ℕ → ℕ} (h : History) (c d : ℕ) {k : ℕ} (m : Msg) (v : World) → Settled sh ram h c d k m v → (y : Noted)
     → Contains h.commits y → stores_at sh d y.stores ≡ true
     → is_applied (v.dirs d) y.tid.0 ≡ ((c == y.core.0) || is_applied (h.world.dirs d) y.tid.0)
-applied-after sh ram h c d k m v s y i t = go (c == y.core.0) refl
+applied-after h c d m v s y i t = go (c == y.core.0) refl
   where
     u : ℕ
     u = tid_at h.world d
@@ -122,21 +122,21 @@ value-after sh ram h c d k x m v s e = value-alike sh.base ram h.commits (v.dirs
     go : (n : Noted) → Contains h.commits n → (y : Bool) → stores_word sh.base n.stores x ≡ y
         → (counts (v.dirs d) None None n ≡ counts (h.world.dirs d) (Some c) None n) ⊎ (stores_word sh.base n.stores x ≡ false)
     go n i false q = inr q
-    go n i true q = inl (applied-after sh ram h c d k m v s n i (stored-at-home sh h.commits n d x s.known.inside i e q))
+    go n i true q = inl (applied-after h c d m v s n i (stored-at-home sh h.commits n d x s.known.inside i e q))
 
 -- a word that the commit didn't store has the values that it had
-unstored-value : (sh : Shape) (ram : ℕ → ℕ) (h : History) (c d k x : ℕ) (m : Msg) (v : World) → Settled sh ram h c d k m v
-    → home_of sh x ≡ d → (t : TakenCommit sh h.commits h.world c d) → stores_word sh.base t.settled.commit.stores x ≡ false
-    → (e : Option ℕ) → value_of sh ram v h.commits d e x ≡ value_of sh ram h.world h.commits d e x
-unstored-value sh ram h c d k x m v s e t r =
-    same-value sh ram h.world v h.commits d x s.known.stand s.answers.stand s.known.inside s.dir e same
+unstored-value : {sh : Shape} {ram : ℕ → ℕ} {h : History} {c d k : ℕ} (x : ℕ) {m : Msg} {v : World} → Settled sh ram h c d k m v
+    → home_of sh x ≡ d → (t : TakenCommit sh h.commits h.world c d) → stores_word sh.base t.settled.commit.stores x ≡ false → (e : Option ℕ)
+    → value_of sh ram v h.commits d e x ≡ value_of sh ram h.world h.commits d e x
+unstored-value {sh} {ram} {h} {c} {d} x {m} {v} s e t r =
+    same-value ram h.world v h.commits x s.known.stand s.answers.stand s.known.inside s.dir e same
   where
     same : SameCommits sh h.world v h.commits d x
     same y i q =
         omega (
           arith,
           s.answers.net (Commits y.tid.0) y.core.0 d,
-          unconsumed (y.core.0 == c && d == d) (passes (Commits y.tid.0) m)
+          unconsumed (y.core.0 == c && d == d)
               (commit-passes sh (h.world.dirs d) m y.tid.0 s.counts ∙ other (tid_at h.world d == y.tid.0) refl),
         )
       where
@@ -147,20 +147,19 @@ unstored-value sh ram h c d k x m v s e t r =
             let z : stores_word sh.base t.settled.commit.stores x ≡ true = rw (sym (t.only y i o)) q in cc)
 
 -- a line with a mark of stored words lies in memory
-pub mask-inside : (sh : Shape) (d l : ℕ) (ss : List Stored) (m : ℕ) → m ≡ stored_mask sh d ss l → nat_lt 0 m ≡ true → l < lines sh
-mask-inside sh d l ss m e r = go (nat_lt l (lines sh)) refl
-  where
-    go : (b : Bool) → nat_lt l (lines sh) ≡ b → l < lines sh
-    go true q = grind nats
-    go false q = absurd (let z : 0 ≡ num (nat_lt 0 (stored_mask sh d ss l)) = rw q at (stored-line sh d ss l) in
-        let w : num (nat_lt 0 (stored_mask sh d ss l)) ≡ 1 = ap num (ap (nat_lt 0) (sym e) ∙ r) in omega (arith, z, w))
+pub mask-inside : (sh : Shape) (d l : ℕ) (ss : List Stored) {m : ℕ} → m ≡ stored_mask sh d ss l → nat_lt 0 m ≡ true → l < lines sh
+mask-inside sh d l ss e r = elim (tested (nat_lt l (lines sh))) [
+  | inl q ↦ grind nats
+  | inr q ↦ absurd (let z : 0 ≡ num (nat_lt 0 (stored_mask sh d ss l)) = rw q at (stored-line sh d ss l) in
+      let w : num (nat_lt 0 (stored_mask sh d ss l)) ≡ 1 = ap num (ap (nat_lt 0) (sym e) ∙ r) in omega (arith, z, w))
+]
 
 -- a word of a line that isn't marked
 unmarked-values : (sh : Shape) (ram : ℕ → ℕ) (h : History) (c d k x : ℕ) (m : Msg) (v : World) → Settled sh ram h c d k m v
     → home_of sh x ≡ d → TakenCommit sh h.commits h.world c d → has_mark (h.world.dirs d).lines (line_of x) ≡ false
     → ValuesAt sh ram v h.commits d x
 unfolding names_line
-unmarked-values sh ram h c d k x m v s e t r = quiet-keep sh ram h.world v h.commits d x (record {
+unmarked-values sh ram h c d k x m v s e t r = quiet-keep v (record {
   cores = s.answers.cores;
   tag = s.tags (line_of x) ∙ rw r refl;
   words = s.words x;
@@ -168,11 +167,11 @@ unmarked-values sh ram h c d k x m v s e t r = quiet-keep sh ram h.world v h.com
       λ j. omega (
         arith,
         s.answers.net (CopyWord x g) j d,
-        unconsumed (j == c && d == d) (passes (CopyWord x g) m)
+        unconsumed (j == c && d == d)
             (no-word (passes (CopyWord x g) m) refl),
       );
   others = λ j u y. omega (arith, s.answers.net (CopyNot x u y) j d);
-  value = unstored-value sh ram h c d k x m v s e t (unstored (stores_word sh.base t.settled.commit.stores x) refl);
+  value = unstored-value x s e t (unstored (stores_word sh.base t.settled.commit.stores x) refl);
 }) (s.known.values d x s.dir e)
   where
     g : ℕ
@@ -185,7 +184,7 @@ unmarked-values sh ram h c d k x m v s e t r = quiet-keep sh ram h.world v h.com
     unstored false q = refl
     unstored true q = absurd (let i : line_of x < lines sh = (s.known.inside t.settled.commit t.settled.noted).stored x q in
         let y : names_line sh.base t.settled.commit.stores (line_of x) ≡ has_mark (h.world.dirs d).lines
-        (line_of x) = marked-line sh h c d (line_of x) i e t in let z : names_line sh.base t.settled.commit.stores (line_of x)
+        (line_of x) = marked-line h (line_of x) i e t in let z : names_line sh.base t.settled.commit.stores (line_of x)
         ≡ true = line-has (stores_word sh.base t.settled.commit.stores) x q in cc)
 
 -- a word of a marked line
@@ -210,7 +209,7 @@ unfolding pair
 stored-copied sh ram h c d x b cl dl e t i r o q =
     let u : ℕ = tid_at h.world d in
     let a : AboveOf sh.base h.commits c (line_of x) u (pair h.world c d) = b.above c d (line_of x) u cl dl i e o in
-    let w : wrote_line sh.base h.commits c u (line_of x) ≡ true = writer-line sh h c d (line_of x) i e t ∙ r in
+    let w : wrote_line sh.base h.commits c u (line_of x) ≡ true = writer-line h (line_of x) i e t ∙ r in
     let z : copies_with (line_of x) u (pair h.world c d) ≡ live (Commits u) (to_dir h.world c d) = rw w at a.one in
     let n = copy-has sh x u (wrote_mask sh.base h.commits c u (line_of x)) (pair h.world c d) (b.caches c) (wrote-has sh h c d x t q)
     a.framed a.sent in
@@ -221,16 +220,22 @@ unfolding mask_of
 full-has k i = has-mask_of (λ j. true) k i
 
 -- nothing is owed while the Commit is in flight
-unowed : (sh : Shape) (ram : ℕ → ℕ) (h : History) (c d : ℕ) → Known sh ram h → d < sh.dirs → TakenCommit sh h.commits h.world c d
+unowed : {sh : Shape} {ram : ℕ → ℕ} {h : History} {c d : ℕ} → Known sh ram h → d < sh.dirs → TakenCommit sh h.commits h.world c d
     → (h.world.dirs d).owed ≡ 0
-unowed sh ram h c d b dl t = grind (nats, t.settled.commit, applied-owed, b.stand, t.settled.noted, t.settled.stored, t.sent)
+unowed b dl t = grind (nats, t.settled.commit, applied-owed, b.stand, t.settled.noted, t.settled.stored, t.sent)
 
 -- a word that the commit didn't store has no copy with the line's old tag
 none-old : (sh : Shape) (ram : ℕ → ℕ) (h : History) (c d j x : ℕ) → Known sh ram h → j < sh.cores → d < sh.dirs → home_of sh x ≡ d
     → (t : TakenCommit sh h.commits h.world c d) → line_of x < lines sh → has_mark (h.world.dirs d).lines (line_of x) ≡ true
     → stores_word sh.base t.settled.commit.stores x ≡ false → word_copies x (tag_of h.world d x) (pair h.world j d) ≡ 0
 unfolding pair stores_in
-none-old sh ram h c d j x b jl dl e t i r q = go (b.whole d (line_of x) (unowed sh ram h c d b dl t) r)
+none-old sh ram h c d j x b jl dl e t i r q = elim (b.whole d (line_of x) (unowed b dl t) r) [
+  | inl f ↦ absurd (let y = stored (sym (t.settled.marks (line_of x)) ∙ f) (stored-cases sh d n.stores (line_of x)) in cc)
+  | inr f ↦ let o : copies_with (line_of x) (tag_of h.world d x) (pair h.world j d) ≡ num
+      (is_this ((h.world.dirs d).lines.owner (line_of x)) j) = b.owned j d (line_of x) jl dl i e in
+      let z : num (is_this ((h.world.dirs d).lines.owner (line_of x)) j) ≡ 0 = rw f refl in
+      omega (arith, o, z, few-copies x (tag_of h.world d x) (pair h.world j d) (b.caches j))
+]
   where
     n : Noted
     n = t.settled.commit
@@ -245,17 +250,8 @@ none-old sh ram h c d j x b jl dl e t i r q = go (b.whole d (line_of x) (unowed 
         let p : word_at (line_of x) (place_of x) ≡ x = omega arith in
         rw p at (sym (has-mask_of (λ k. stores_word sh.base n.stores (word_at (line_of x) k)) (place_of x) (omega arith)) ∙ y)
 
-    go : ((h.world.dirs d).lines.mark (line_of x) ≡ full) ⊎ ((h.world.dirs d).lines.owner (line_of x) ≡ None)
-        → word_copies x (tag_of h.world d x) (pair h.world j d) ≡ 0
-    go (inl f) = absurd (let y = stored (sym (t.settled.marks (line_of x)) ∙ f) (stored-cases sh d n.stores (line_of x)) in cc)
-    go (inr f) =
-        let o : copies_with (line_of x) (tag_of h.world d x) (pair h.world j d) ≡ num
-        (is_this ((h.world.dirs d).lines.owner (line_of x)) j) = b.owned j d (line_of x) jl dl i e in
-        let z : num (is_this ((h.world.dirs d).lines.owner (line_of x)) j) ≡ 0 = rw f refl in
-        omega (arith, o, z, few-copies sh x (tag_of h.world d x) (pair h.world j d) (b.caches j))
-
-cond-zero : (b : Bool) (n : ℕ) → n ≡ 0 → cond b n 0 ≡ 0
-cond-zero a n e = grind nats
+cond-zero : (b : Bool) {n : ℕ} → n ≡ 0 → cond b n 0 ≡ 0
+cond-zero a e = grind nats
 
 marked-values : (sh : Shape) (ram : ℕ → ℕ) (h : History) (c d k x : ℕ) (m : Msg) (v : World) → Settled sh ram h c d k m v → home_of sh x ≡ d
     → TakenCommit sh h.commits h.world c d → has_mark (h.world.dirs d).lines (line_of x) ≡ true → ValuesAt sh ram v h.commits d x
@@ -273,7 +269,7 @@ marked-values sh ram h c d k x m v s e t r = record {
     u = tid_at h.world d
 
     i : line_of x < lines sh
-    i = mask-inside sh d (line_of x) t.settled.commit.stores ((h.world.dirs d).lines.mark (line_of x)) (t.settled.marks (line_of x)) r
+    i = mask-inside sh d (line_of x) t.settled.commit.stores (t.settled.marks (line_of x)) r
 
     old : tag_of h.world d x < u
     old =
@@ -293,12 +289,12 @@ marked-values sh ram h c d k x m v s e t r = record {
     -- a core without a copy of the line
     none : (j y z : ℕ) → j < sh.cores → tag_of h.world d x < y
         → cond (wrote_line sh.base h.commits j y (line_of x)) (live (Commits y) (to_dir h.world j d)) 0 ≡ 0 → CopiesHave x y z (pair v j d)
-    none j y z jl l o = have-still x y z z (pair h.world j d) (pair v j d) (same-core j) (omega (arith, s.answers.net (CopyNot x y z) j d))
+    none j y z jl l o = have-still (pair v j d) (same-core j) (omega (arith, s.answers.net (CopyNot x y z) j d))
         refl (none-copied sh x y z (pair h.world j d) (b.caches j) ((b.above j d (line_of x) y jl s.dir i e l).one ∙ o))
 
     above : (j y : ℕ) → j < sh.cores → u < y → CopiesHave x y (value_of sh ram v h.commits d (Some j) x) (pair v j d)
     above j y jl l = none j y (value_of sh ram v h.commits d (Some j) x) jl (omega (arith, old, l))
-        (cond-zero (wrote_line sh.base h.commits j y (line_of x)) (live (Commits y) (to_dir h.world j d))
+        (cond-zero (wrote_line sh.base h.commits j y (line_of x))
         (later (cases_lt 0 (live (Commits y) (to_dir h.world j d)))))
       where
         later : (0 < live (Commits y) (to_dir h.world j d)) ⊎ (live (Commits y) (to_dir h.world j d) ≤ 0)
@@ -306,8 +302,8 @@ marked-values sh ram h c d k x m v s e t r = record {
         later (inr z) = omega (arith, z)
         later (inl z) = absurd (let w : u ≡ y = b.served j d y jl s.dir (omega (arith, z)) in omega (arith, w, l))
 
-    copied : (j : ℕ) → j < sh.cores → (j ≡ c) ⊎ (j ≡ c → ⊥) → CopiesHave x u new (pair v j d)
-    copied j jl (inl q) = have-still x u (value_of sh ram h.world h.commits d (Some j) x) new (pair h.world j d) (pair v j d) (same-core j)
+    copied : (j : ℕ) → j < sh.cores → (j ≡ c) ⊎ (j ≢ c) → CopiesHave x u new (pair v j d)
+    copied j jl (inl q) = have-still (pair v j d) (same-core j)
         (omega (arith, s.answers.net (CopyNot x u (value_of sh ram h.world h.commits d (Some j) x)) j d))
         (rw q (value-after sh ram h c d k x m v s e)) ((b.values d x s.dir e).above j u jl old)
     copied j jl (inr q) = none j u new jl old (rw (other-writer sh h c j d (line_of x) q t) refl)
@@ -320,7 +316,7 @@ marked-values sh ram h c d k x m v s e t r = record {
         (omega (
           arith,
           s.answers.net (CopyWord x u) c d,
-          unconsumed (c == c && d == d) (passes (CopyWord x u) m)
+          unconsumed (c == c && d == d)
               (no-word (passes (CopyWord x u) m) refl),
         )) in
         omega (arith, z, p c s.core, stored-copied sh ram h c d x b s.core s.dir e t i r old q))
@@ -331,18 +327,17 @@ marked-values sh ram h c d k x m v s e t r = record {
             absurd (let o : num (passes (CopyWord x u) m) ≡ 1 = ap num q in
             let z : num (passes (CopyOf (line_of x) u) m) ≡ 0 = ap num (s.copies (line_of x) u) in omega (arith, o, z, word-line x u m))
     at-home false q p = s.words x ∙ (b.values d x s.dir e).at_home (λ j jl. none-old sh ram h c d j x b jl s.dir e t i r q)
-        ∙ sym (unstored-value sh ram h c d k x m v s e t q None)
+        ∙ sym (unstored-value x s e t q None)
 
 pub settled-values : (sh : Shape) (ram : ℕ → ℕ) (h : History) (c d k x : ℕ) (m : Msg) (v : World) → Settled sh ram h c d k m v
     → home_of sh x ≡ d → ValuesAt sh ram v h.commits d x
-settled-values sh ram h c d k x m v s e = go (has_mark (h.world.dirs d).lines (line_of x)) refl
+settled-values sh ram h c d k x m v s e = elim (tested (has_mark (h.world.dirs d).lines (line_of x))) [
+  | inl r ↦ marked-values sh ram h c d k x m v s e t r
+  | inr r ↦ unmarked-values sh ram h c d k x m v s e t r
+]
   where
     t : TakenCommit sh h.commits h.world c d
     t = taken-of sh ram h c d k m s.known s.core s.dir s.flight s.counts
-
-    go : (b : Bool) → has_mark (h.world.dirs d).lines (line_of x) ≡ b → ValuesAt sh ram v h.commits d x
-    go true r = marked-values sh ram h c d k x m v s e t r
-    go false r = unmarked-values sh ram h c d k x m v s e t r
 
 pub known : (sh : Shape) (p : Program) (entries : ℕ → Local) (ram : ℕ → ℕ) (gs : List Grant) (ys : Ways) (views : ℕ → Uses) (m : Plain)
     (h : History) → Invariants sh p entries ram gs ys views m h → Known sh ram h
@@ -364,35 +359,33 @@ known sh p entries ram gs ys views m h k = record {
   named = k.carried.inv_and_ack_name_a_marked_line;
   spared = λ c d l dl o t. (k.carried.no_inv_to_the_core_that_committed.0 c d).own dl
       (rw t at (k.carried.owner_is_the_core_of_the_tag d l c o));
-  values = values-of sh ram h.world h.commits k.home_words_are_current k.copy_above_the_tag_has_the_committed_words;
+  values = values-of k.home_words_are_current k.copy_above_the_tag_has_the_committed_words;
 }
 
 -- a directory's answer
 here : (d : ℕ) (s : DirState) (f : ℕ → DirState) → (if d == d then s else f d) ≡ s
 here d s f = let y : (d == d) ≡ true = grind nats in rw y refl
 
-away : (e d : ℕ) (s : DirState) (f : ℕ → DirState) → (e ≡ d → ⊥) → (if e == d then s else f e) ≡ f e
+away : (e d : ℕ) (s : DirState) (f : ℕ → DirState) → e ≢ d → (if e == d then s else f e) ≡ f e
 away e d s f n = let y : (e == d) ≡ false = grind nats in rw y refl
 
-taken : (sh : Shape) (ram : ℕ → ℕ) (h : History) (c d k : ℕ) (m : Msg) (s : DirState) (sends : Sends) → Known sh ram h → c < sh.cores
+taken : {sh : Shape} {ram : ℕ → ℕ} {h : History} (c d k : ℕ) {m : Msg} (s : DirState) (sends : Sends) → Known sh ram h → c < sh.cores
     → d < sh.dirs → FromCore h.world c d k m → CommitsStand sh (dir_takes h.world c d k s sends) h.commits
-    → ((x : ℕ) → home_of sh x ≡ d → Answers sh h c d m (dir_takes h.world c d k s sends)
-    → (dir_takes h.world c d k s sends).dirs d ≡ s → ValuesAt sh ram (dir_takes h.world c d k s sends) h.commits d x)
-    → KeptValues sh ram (dir_takes h.world c d k s sends) h.commits
+    → ((x : ℕ) → home_of sh x ≡ d → Answers sh h c d m (dir_takes h.world c d k s sends) → (dir_takes h.world c d k s sends).dirs d ≡ s
+    → ValuesAt sh ram (dir_takes h.world c d k s sends) h.commits d x) → KeptValues sh ram (dir_takes h.world c d k s sends) h.commits
 unfolding dir_takes
-taken sh ram h c d k m s sends b cl dl i t f e x el q = go (cases_eq e d)
+taken {sh} {ram} {h} c d k {m} s sends b cl dl i t f e x el q = elim (cases_eq e d) [
+  | inl r ↦ rw r (f x (q ∙ r) a (here d s h.world.dirs))
+  | inr n ↦ away-values h c d e x m b n el q a (away e d s h.world.dirs n)
+]
   where
     a : Answers sh h c d m (dir_takes h.world c d k s sends)
     a = record { cores = refl; net = takes-consumes h.world c d k m s sends i; stand = t }
 
-    go : (e ≡ d) ⊎ (e ≡ d → ⊥) → ValuesAt sh ram (dir_takes h.world c d k s sends) h.commits e x
-    go (inl r) = rw r (f x (q ∙ r) a (here d s h.world.dirs))
-    go (inr n) = away-values sh ram h c d e x m (dir_takes h.world c d k s sends) b n el q a (away e d s h.world.dirs n)
-
 -- where no copy is consumed the word stays
-stays : (x : ℕ) (m : Msg) (s new : DirState) → NoCopy m → HomeBy s m x new → new.words x ≡ s.words x
-stays x m s new n (Left e f) = e
-stays x m s new n (Home e f) =
+stays : {x : ℕ} {m : Msg} {s new : DirState} → NoCopy m → HomeBy s m x new → new.words x ≡ s.words x
+stays n (Left e f) = e
+stays {x} {m} {s} n (Home e f) =
     absurd (let o : num (passes (CopyWord x (s.lines.tag (line_of x))) m) ≡ 1 = ap num e in
     let z : num (passes (CopyOf (line_of x) (s.lines.tag (line_of x))) m) ≡ 0 = ap num (n (line_of x) (s.lines.tag (line_of x))) in
     omega (arith, o, z, word-line x (s.lines.tag (line_of x)) m))
@@ -402,15 +395,15 @@ takes : (sh : Shape) (ram : ℕ → ℕ) (h : History) (c d k : ℕ) (m : Msg) (
     → ((x : ℕ) → HomeBy (h.world.dirs d) m x s) → Records sh (h.world.dirs d) c m s
     → KeptValues sh ram (dir_takes h.world c d k s sends) h.commits
 takes sh ram h c d k m s sends b cl dl i t f (Still y n q) =
-    taken sh ram h c d k m s sends b cl dl i t
-    (λ x e a r. taken-values sh ram h c d k x m (dir_takes h.world c d k s sends) b cl dl e i a n
+    taken c d k s sends b cl dl i t
+    (λ x e a r. taken-values h c d k x m b cl dl e i a n
     (ap (λ z. z.lines.tag (line_of x)) r ∙ y.tags (line_of x)) (subst (HomeBy (h.world.dirs d) m x) (sym r) (f x)))
 takes sh ram h c d k m s sends b cl dl i t f (Came l p o g u n) =
-    taken sh ram h c d k m s sends b cl dl i t
-    (λ x e a r. taken-values sh ram h c d k x m (dir_takes h.world c d k s sends) b cl dl e i a n
+    taken c d k s sends b cl dl i t
+    (λ x e a r. taken-values h c d k x m b cl dl e i a n
     (ap (λ z. z.lines.tag (line_of x)) r ∙ g (line_of x)) (subst (HomeBy (h.world.dirs d) m x) (sym r) (f x)))
 takes sh ram h c d k m s sends b cl dl i t f (Settles q g u n) =
-    taken sh ram h c d k m s sends b cl dl i t (λ x e a r. settled-values sh ram h c d k x m (dir_takes h.world c d k s sends) (record {
+    taken c d k s sends b cl dl i t (λ x e a r. settled-values sh ram h c d k x m (dir_takes h.world c d k s sends) (record {
       known = b;
       core = cl;
       dir = dl;
@@ -419,38 +412,36 @@ takes sh ram h c d k m s sends b cl dl i t f (Settles q g u n) =
       counts = q;
       tags = λ l. ap (λ z. z.lines.tag l) r ∙ g l;
       copies = n;
-      words = λ y. ap (λ z. z.words y) r ∙ stays y m (h.world.dirs d) s n (f y);
+      words = λ y. ap (λ z. z.words y) r ∙ stays n (f y);
     }) e)
 
 drops : (sh : Shape) (ram : ℕ → ℕ) (h : History) (c d k : ℕ) (m : Msg) → Known sh ram h → c < sh.cores → d < sh.dirs
     → FromCore h.world c d k m → CommitsStand sh (dir_takes h.world c d k (h.world.dirs d) (λ dst. [])) h.commits
     → Dropped (h.world.dirs d) c m → KeptValues sh ram (dir_takes h.world c d k (h.world.dirs d) (λ dst. [])) h.commits
-drops sh ram h c d k m b cl dl i t n = taken sh ram h c d k m (h.world.dirs d) (λ dst. []) b cl dl i t
-    (λ x e a r. dropped-values sh ram h c d k x m (dir_takes h.world c d k (h.world.dirs d) (λ dst. [])) b cl dl e i a r n)
+drops sh ram h c d k m b cl dl i t n = taken c d k (h.world.dirs d) (λ dst. []) b cl dl i t
+    (λ x e a r. dropped-values h c d k x m b cl dl e i a r n)
 
 asks : (sh : Shape) (ram : ℕ → ℕ) (h : History) (d : ℕ) (s : DirState) (sends : Sends) → Known sh ram h
     → CommitsStand sh (dir_asks h.world d s sends) h.commits → ((x : ℕ) → s.words x ≡ (h.world.dirs d).words x)
-    → RecordStays (h.world.dirs d) s
-    → KeptValues sh ram (dir_asks h.world d s sends) h.commits
+    → RecordStays (h.world.dirs d) s → KeptValues sh ram (dir_asks h.world d s sends) h.commits
 unfolding dir_asks
-asks sh ram h d s sends b t f y e x el q = go (cases_eq e d)
+asks sh ram h d s sends b t f y e x el q = elim (cases_eq e d) [
+  | inl r ↦ quiet-keep v (record {
+    cores = refl;
+    tag = ap (λ z. z.lines.tag (line_of x)) (asked r) ∙ y.tags (line_of x) ∙ rw r refl;
+    words = ap (λ z. z.words x) (asked r) ∙ f x ∙ rw r refl;
+    copies = λ j. refl;
+    others = λ j u z. omega arith;
+    value = same-value ram h.world v h.commits x b.stand t b.inside el q (λ n o z. refl);
+  }) (b.values e x el q)
+  | inr n ↦ same-values v refl (away e d s h.world.dirs n) (λ l j. refl) (b.values e x el q)
+]
   where
     v : World
     v = dir_asks h.world d s sends
 
     asked : (e ≡ d) → v.dirs e ≡ s
     asked r = rw r (here d s h.world.dirs)
-
-    go : (e ≡ d) ⊎ (e ≡ d → ⊥) → ValuesAt sh ram v h.commits e x
-    go (inl r) = quiet-keep sh ram h.world v h.commits e x (record {
-      cores = refl;
-      tag = ap (λ z. z.lines.tag (line_of x)) (asked r) ∙ y.tags (line_of x) ∙ rw r refl;
-      words = ap (λ z. z.words x) (asked r) ∙ f x ∙ rw r refl;
-      copies = λ j. refl;
-      others = λ j u z. omega arith;
-      value = same-value sh ram h.world v h.commits e x b.stand t b.inside el q (λ n o z. refl);
-    }) (b.values e x el q)
-    go (inr n) = same-values sh ram h.world v h.commits e x refl (away e d s h.world.dirs n) (λ l j. refl) (b.values e x el q)
 
 pub answered : (sh : Shape) (ram : ℕ → ℕ) (h : History) (c d k : ℕ) (m : Msg) (a : Answer) → Known sh ram h → c < sh.cores → d < sh.dirs
     → FromCore h.world c d k m → RecordsBy sh (h.world.dirs d) c m a → ((x : ℕ) → WordsBy (h.world.dirs d) m x a)
@@ -464,5 +455,5 @@ answered sh ram h c d k m (Takes s sends) b cl dl i r f = λ t. takes sh ram h c
 pub granted : (sh : Shape) (ram : ℕ → ℕ) (h : History) (c k : ℕ) → Known sh ram h
     → KeptValues sh ram (vendor_gives h.world c k (given h.world c)) h.commits
 unfolding vendor_gives
-granted sh ram h c k b e x el q = same-values sh ram h.world (vendor_gives h.world c k (given h.world c)) h.commits e x refl refl
+granted sh ram h c k b e x el q = same-values (vendor_gives h.world c k (given h.world c)) refl refl
     (λ l j. rw (and-false (j == c)) refl) (b.values e x el q)

@@ -5,7 +5,7 @@ use Names.{ℕ, suc, ◌+◌, ◌≡◌, ◌<◌, ◌≤◌, ◌⊎◌, Bool, tr
 use Names.{Some, None, IfSome, IsSomeAnd, is_some, arith, sym, subst, ◌∙◌, inl, inr, cases_eq, cases_lt, Noted, order_of_commit, Attempt}
 use Names.{Plain, serial, begun, steps, Local, Program, num, writes_at, Shape, CoreState, DirState, Phase, Ready, Solo, Halted, is_solo}
 use Names.{History, Uses, Agrees, Reaches, sees, Suits, MarkedAtHomes, plain_start, Invariants, Grant, times, pair, is_applied, opens}
-use Names.{stores_word, IsMemory, after_stores, counts, value_at, Settled, Ways, ap, nats, home_of, tid_at}
+use Names.{stores_word, IsMemory, after_stores, counts, value_at, Settled, Ways, ap, nats, home_of, tid_at, ◌≢◌}
 use proofs.Memory.CoreInMemory.{marks_at_homes}
 use proofs.OneCore.UsedWords.{follows-in}
 use proofs.Order.InsertedOrders.{serial-memory}
@@ -20,17 +20,17 @@ unfolding opens
 opens-may t q b a h = grind nats
 
 -- a stored word is modified, unless the core is alone
-stored-modified : (m : Bool) (o : Option ℕ) (b : Bool) → (m || is_some o) ≡ b → b ≡ true → o ≡ None → m ≡ true
-stored-modified a o b e f g = grind nats
+stored-modified : (m : Bool) {o : Option ℕ} {b : Bool} → (m || is_some o) ≡ b → b ≡ true → o ≡ None → m ≡ true
+stored-modified a e f g = grind nats
 
 pub record Serves (sh : Shape) (h : History) (c t x : ℕ) : Type 0 where
   pub serving : tid_at h.world (home_of sh x) ≡ t
   pub owed : (h.world.dirs (home_of sh x)).owed ≡ 0
 
-pub stored-served : (sh : Shape) (p : Program) (entries : ℕ → Local) (ram : ℕ → ℕ) (gs : List Grant) (ys : Ways) (views : ℕ → Uses)
-    (m : Plain) (h : History) (c t x : ℕ) → Suits sh p ram → Invariants sh p entries ram gs ys views m h → c < sh.cores
+pub stored-served : {sh : Shape} {p : Program} {entries : ℕ → Local} {ram : ℕ → ℕ} {gs : List Grant} {ys : Ways} {views : ℕ
+    → Uses} {m : Plain} {h : History} (c t x : ℕ) → Suits sh p ram → Invariants sh p entries ram gs ys views m h → c < sh.cores
     → May t (h.world.cores c).phase → stores_word sh.base (h.world.cores c).stores x ≡ true → Serves sh h c t x
-stored-served sh p entries ram gs ys views m h c t x u k l y e =
+stored-served {sh} {p} {entries} {ram} {gs} {ys} {views} {m} {h} c t x u k l y e =
     record { serving = serving; owed = none (cases_lt 0 (h.world.dirs d).owed) }
   where
     s : CoreState
@@ -43,14 +43,14 @@ stored-served sh p entries ram gs ys views m h c t x u k l y e =
     dl = home-below sh x u.dirs
 
     st : Stand sh h ys c t
-    st = stand sh p entries ram gs ys views m h c t u k l y
+    st = stand u k l y
 
     marked : MarkedAtHomes sh s.cache
     marked = marks_at_homes sh s.cache (k.carried.frames_stand_in_their_sets c) (k.carried_in_memory.frames_are_of_lines_in_memory c)
 
     writes : is_solo s.phase ≡ false → writes_at sh s.cache d ≡ true
     writes q =
-        marked.modified x (stored-modified (s.cache.modified x) (s.spilled x) (stores_word sh.base s.stores x)
+        marked.modified x (stored-modified (s.cache.modified x)
         (k.carried.stored_words_are_those_named c x) e ((k.carried.marks_fit_the_phase c).spilled q x))
 
     serving : tid_at h.world d ≡ t
@@ -81,14 +81,14 @@ counts-until s c t n e z own = grind nats
 
 -- A word that the core stored is, in its frame or spilled, what the stores make of the value that the core sees: sees takes no other
 -- memory for it.
-pub stored-seen : (sh : Shape) (p : Program) (entries : ℕ → Local) (ram : ℕ → ℕ) (gs : List Grant) (ys : Ways) (views : ℕ → Uses)
-    (m : Plain) (h : History) (c t x : ℕ) → Suits sh p ram → Invariants sh p entries ram gs ys views m h → c < sh.cores
-    → May t (h.world.cores c).phase
-    → stores_word sh.base (h.world.cores c).stores x ≡ true
-    → (r : ℕ → ℕ) × (sees (h.world.cores c) r x ≡ after_stores sh.base (h.world.cores c).stores x
+pub stored-seen : {sh : Shape} {p : Program} {entries : ℕ → Local} {ram : ℕ → ℕ} {gs : List Grant} {ys : Ways} {views : ℕ
+    → Uses} {m : Plain} {h : History} (c t x : ℕ) → Suits sh p ram → Invariants sh p entries ram gs ys views m h → c < sh.cores
+    → May t (h.world.cores c).phase → stores_word sh.base (h.world.cores c).stores x ≡ true
+    → (r : ℕ → ℕ) ×
+    (sees (h.world.cores c) r x ≡ after_stores sh.base (h.world.cores c).stores x
     (value_at sh.base ram h.commits (h.world.dirs (home_of sh x)) (Some c) None x))
 unfolding plain_start pair
-stored-seen sh p entries ram gs ys views m h c t x u k l y e =
+stored-seen {sh} {p} {entries} {ram} {gs} {ys} {views} {m} {h} c t x u k l y e =
     (cut.start.ram, go (steps sh.base p s.n (begun s.saved cut.start.ram)) follows (steps-hold sh.base p s.n s.saved cut.start.ram x))
   where
     s : CoreState
@@ -98,10 +98,10 @@ stored-seen sh p entries ram gs ys views m h c t x u k l y e =
     dir = h.world.dirs (home_of sh x)
 
     st : Stand sh h ys c t
-    st = stand sh p entries ram gs ys views m h c t u k l y
+    st = stand u k l y
 
     served : Serves sh h c t x
-    served = stored-served sh p entries ram gs ys views m h c t x u k l y e
+    served = stored-served c t x u k l y e
 
     cut : SerialCut sh.base p 0 (before t h.commits) (behind t h.commits) (plain_start entries ram) m
     cut = serial-cut sh.base p 0 (before t h.commits) (behind t h.commits) (plain_start entries ram) m
@@ -133,11 +133,10 @@ stored-seen sh p entries ram gs ys views m h c t x u k l y e =
         small agrees
 
     smaller : (n : Noted) → Contains h.commits n → n.core.0 ≡ c → n.tid.0 < t
-    smaller n i q = either (cases_eq n.tid.0 t)
-      where
-        either : (n.tid.0 ≡ t) ⊎ (n.tid.0 ≡ t → ⊥) → n.tid.0 < t
-        either (inl f) = absurd (omega (arith, st.fresh, f, times-listed t h.commits n i f))
-        either (inr f) = omega (arith, st.last n i q, f)
+    smaller n i q = elim (cases_eq n.tid.0 t) [
+      | inl f ↦ absurd (omega (arith, st.fresh, f, times-listed t h.commits n i f))
+      | inr f ↦ omega (arith, st.last n i q, f)
+    ]
 
     current : cut.start.ram x ≡ value_at sh.base ram h.commits dir (Some c) None x
     current =

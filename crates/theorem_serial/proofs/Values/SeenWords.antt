@@ -8,7 +8,7 @@ use Names.{hit, Msg, Shape, IsCache, is_dirty, dirty_tag, dirty_mask, has-mask_o
 use Names.{Pair, is_this, stores_word, after_stores, counts, after_commits, word_copies, wrote, wrote_mask, last_of, ◌+◌, map, nat_lt}
 use Names.{nat_le, subst, order_of_commit, lines, seen, World, History, plain_start, copies_with, settled_in_line, Commits, CopyOf, live}
 use Names.{Carried, CarriedInMemory, Grant, pair, SeenFollows, is_settled, is_applied, MarkedCommit, stores_at, value_at, CopiesHave}
-use Names.{HomeWords, CopiesAbove, Ways, Committed, names_line, wrote_line, nats, home_of, to_dir}
+use Names.{HomeWords, CopiesAbove, Ways, Committed, names_line, wrote_line, nats, home_of, to_dir, grant_to, tested}
 use proofs.Copies.CopySends.{some-dirty, tag-of}
 use proofs.Counts.Links.{live-fewer}
 use proofs.Memory.CoreInMemory.{accesses_at_homes, line-has}
@@ -111,10 +111,10 @@ unfolding passes hit
 outside x t n h a = grind nats
 
 -- a word that wasn't written has none
-pub unwritten-none : (sh : Shape) (ns : List Noted) (c x t : ℕ) (v : Pair) → IsCache sh v.core.cache → AboveOf sh.base ns c (line_of x) t v
-    → wrote sh.base ns c t x ≡ false → word_copies x t v ≡ 0
+pub unwritten-none : {sh : Shape} {ns : List Noted} {c : ℕ} (x : ℕ) {t : ℕ} {v : Pair} → IsCache sh v.core.cache
+    → AboveOf sh.base ns c (line_of x) t v → wrote sh.base ns c t x ≡ false → word_copies x t v ≡ 0
 unfolding word_copies dirty_mask
-unwritten-none sh ns c x t v h a w =
+unwritten-none {sh} {ns} {c} x {t} {v} h a w =
     omega (
       arith,
       live-fewer (CopyWord x t) (CopyMask (line_of x) t (wrote_mask sh.base ns c t (line_of x)))
@@ -127,7 +127,7 @@ unwritten-none sh ns c x t v h a w =
     same g e i =
         let y : v.core.cache.dirty (word_at (line_of x) (place_of x)) ≡ Some g = rw (word_at-own x) e in
         let d : is_dirty v.core.cache (line_of x) ≡ true = some-dirty v.core.cache (line_of x) (place_of x) g (omega arith) y in
-        let f : dirty_tag v.core.cache (line_of x) ≡ t = tag-of sh v.core.cache (line_of x) (place_of x) g h (omega arith) y ∙ i in
+        let f : dirty_tag v.core.cache (line_of x) ≡ t = tag-of (line_of x) (place_of x) g h (omega arith) y ∙ i in
         let m : has (dirty_mask v.core.cache (line_of x)) (place_of x) ≡ false = ap (λ n. has n (place_of x)) (a.framed d f)
         ∙ (mask-wrote sh.base ns c t x ∙ w) in
         let s : has (dirty_mask v.core.cache (line_of x)) (place_of x) ≡ true =
@@ -181,11 +181,15 @@ unfolding is_applied
 is-applied s t a = grind nats
 
 -- a commit that stored the word is applied at its home, or on its way there
-applied-or-flying : (sh : Shape) (ram : ℕ → ℕ) (gs : List Grant) (ys : Ways) (ends : ℕ → ℕ) (h : History) (x : ℕ) (n : Noted)
+applied-or-flying : {sh : Shape} {ram : ℕ → ℕ} {gs : List Grant} {ys : Ways} {ends : ℕ → ℕ} {h : History} (x : ℕ) (n : Noted)
     → Known sh ram gs ys ends h → Contains h.commits n → stores_word sh.base n.stores x ≡ true
     → (is_applied (at sh h.world x) n.tid.0 ≡ true) ⊎ Flying sh h.world x n.tid.0
-applied-or-flying sh ram gs ys ends h x n k i s =
-    go (search (λ c. live (Commits n.tid.0) (to_dir h.world c (home_of sh x))) sh.cores)
+applied-or-flying {sh} {gs} {ys} {h} x n k i s = elim (search (λ c. live (Commits n.tid.0) (to_dir h.world c (home_of sh x))) sh.cores) [
+  | inl f ↦ inr f
+  | inr z ↦ inl (is-applied (at sh h.world x) n.tid.0
+      (k.carried.settled_tid_is_passed_or_owed d n.tid.0 (home-below sh x k.dirs) positive
+      (record { committed = committed; handled = z })))
+]
   where
     d : ℕ
     d = home_of sh x
@@ -194,36 +198,27 @@ applied-or-flying sh ram gs ys ends h x n k i s =
     stored = (accesses_at_homes sh n.loads n.stores (k.inside.commits_stay_in_memory n i)).stored x s
 
     positive : 1 ≤ n.tid.0
-    positive = numbered-least 1 gs (record { tid = n.tid.0; core = n.core.0 }) k.carried.granted_tids_are_those_below_next.0
+    positive = numbered-least 1 gs (grant_to n.tid.0 n.core.0) k.carried.granted_tids_are_those_below_next.0
         (granted-at gs h.commits n k.carried.commits_are_of_granted_tids.1 i)
 
     committed : ys d n.tid.0 ≡ Committed
     committed = k.carried.committed_tid_is_given_up_where_it_stored_nothing.stored n d i (home-below sh x k.dirs) ∙ rw stored refl
 
-    go : ((c : ℕ) × (c < sh.cores) × (1 ≤ live (Commits n.tid.0) (to_dir h.world c d)))
-        ⊎ ((c : ℕ) → c < sh.cores → live (Commits n.tid.0) (to_dir h.world c d) ≡ 0)
-        → (is_applied (at sh h.world x) n.tid.0 ≡ true) ⊎ Flying sh h.world x n.tid.0
-    go (inl f) = inr f
-    go (inr z) =
-        inl (is-applied (at sh h.world x) n.tid.0
-        (k.carried.settled_tid_is_passed_or_owed d n.tid.0 (home-below sh x k.dirs) positive
-        (record { committed = committed; handled = z })))
-
 -- its value, where all that stored it count
-all-value : (sh : Shape) (ram : ℕ → ℕ) (gs : List Grant) (ys : Ways) (ends : ℕ → ℕ) (h : History) (x : ℕ) (c : Option ℕ)
+all-value : {sh : Shape} {ram : ℕ → ℕ} {gs : List Grant} {ys : Ways} {ends : ℕ → ℕ} {h : History} (x : ℕ) (c : Option ℕ)
     → Known sh ram gs ys ends h
     → ((n : Noted) → Contains h.commits n → stores_word sh.base n.stores x ≡ true → counts (at sh h.world x) c None n ≡ true)
     → value_at sh.base ram h.commits (at sh h.world x) c None x ≡ ends x
 unfolding value_at
-all-value sh ram gs ys ends h x c k f = grind (nats, after-all, each-listed, k.words)
+all-value x c k f = grind (nats, after-all, each-listed, k.words)
 
 -- where all commits that stored the word are applied, and no copy is above its line's tag
-settled-word : (sh : Shape) (ram : ℕ → ℕ) (gs : List Grant) (ys : Ways) (ends : ℕ → ℕ) (h : History) (x : ℕ) → Known sh ram gs ys ends h
+settled-word : {sh : Shape} {ram : ℕ → ℕ} {gs : List Grant} {ys : Ways} {ends : ℕ → ℕ} {h : History} {x : ℕ} → Known sh ram gs ys ends h
     → ((n : Noted) → Contains h.commits n → stores_word sh.base n.stores x ≡ true → is_applied (at sh h.world x) n.tid.0 ≡ true)
     → ((c g : ℕ) → c < sh.cores → (at sh h.world x).lines.tag (line_of x) < g → word_copies x g (pair h.world c (home_of sh x)) ≡ 0)
     → Greatest sh h.world x ((at sh h.world x).lines.tag (line_of x)) (ends x)
 unfolding counts
-settled-word sh ram gs ys ends h x k f none = record {
+settled-word {sh} {ram} {gs} {ys} {ends} {h} {x} k f none = record {
   none = none;
   have = λ c l. subst (λ y. CopiesHave x ((at sh h.world x).lines.tag (line_of x)) y (pair h.world c (home_of sh x))) value
       (k.homes.in_copies c (home_of sh x) x l (home-below sh x k.dirs) refl);
@@ -232,14 +227,14 @@ settled-word sh ram gs ys ends h x k f none = record {
 }
   where
     value : value_at sh.base ram h.commits (at sh h.world x) None None x ≡ ends x
-    value = all-value sh ram gs ys ends h x None k f
+    value = all-value x None k f
 
 -- a word outside memory has no copy, and none stored it
 outside-word : (sh : Shape) (ram : ℕ → ℕ) (gs : List Grant) (ys : Ways) (ends : ℕ → ℕ) (h : History) (x : ℕ) → Known sh ram gs ys ends h
     → (line_of x < lines sh → ⊥) → Greatest sh h.world x ((at sh h.world x).lines.tag (line_of x)) (ends x)
 unfolding word_copies pair
 outside-word sh ram gs ys ends h x k out =
-    settled-word sh ram gs ys ends h x k (λ n i s. absurd (out ((k.inside.commits_stay_in_memory n i).stored x s)))
+    settled-word k (λ n i s. absurd (out ((k.inside.commits_stay_in_memory n i).stored x s)))
     (λ c g l t. omega (
       arith,
       few-words x g (to_dir h.world c (home_of sh x)),
@@ -255,11 +250,11 @@ outside-word sh ram gs ys ends h x k out =
     framed c g a e = grind nats
 
 -- a copy above the line's tag is of the served TID
-above-none : (sh : Shape) (ram : ℕ → ℕ) (gs : List Grant) (ys : Ways) (ends : ℕ → ℕ) (h : History) (x c g : ℕ) → Known sh ram gs ys ends h
+above-none : {sh : Shape} {ram : ℕ → ℕ} {gs : List Grant} {ys : Ways} {ends : ℕ → ℕ} {h : History} (x c g : ℕ) → Known sh ram gs ys ends h
     → line_of x < lines sh → c < sh.cores → (at sh h.world x).lines.tag (line_of x) < g
     → live (Commits g) (to_dir h.world c (home_of sh x)) ≡ 0 → copies_with (line_of x) g (pair h.world c (home_of sh x)) ≡ 0
 unfolding pair
-above-none sh ram gs ys ends h x c g k i l t z = grind nats
+above-none x c g k i l t z = grind nats
 
 -- no Commit is on its way there
 quiet-word : (sh : Shape) (ram : ℕ → ℕ) (gs : List Grant) (ys : Ways) (ends : ℕ → ℕ) (h : History) (x : ℕ) → Known sh ram gs ys ends h
@@ -268,12 +263,12 @@ quiet-word : (sh : Shape) (ram : ℕ → ℕ) (gs : List Grant) (ys : Ways) (end
     → Greatest sh h.world x ((at sh h.world x).lines.tag (line_of x)) (ends x)
 unfolding pair
 quiet-word sh ram gs ys ends h x k i z =
-    settled-word sh ram gs ys ends h x k (λ n j s. applied n (applied-or-flying sh ram gs ys ends h x n k j s))
-    (λ c g l t. let y = few-copies sh x g (pair h.world c (home_of sh x)) (k.carried.frames_stand_in_their_sets c) in
+    settled-word k (λ n j s. applied n (applied-or-flying x n k j s))
+    (λ c g l t. let y = few-copies x g (pair h.world c (home_of sh x)) (k.carried.frames_stand_in_their_sets c) in
     omega (
       arith,
       y,
-      above-none sh ram gs ys ends h x c g k i l t
+      above-none x c g k i l t
           (still c g l (nat_le 1 (live (Commits g) (to_dir h.world c (home_of sh x)))) refl),
     ))
   where
@@ -302,28 +297,28 @@ record Coming (sh : Shape) (h : History) (x c : ℕ) (n : Noted) : Type 0 where
   core : n.core.0 ≡ c
 
 -- it is the only one
-only-coming : (sh : Shape) (ram : ℕ → ℕ) (gs : List Grant) (ys : Ways) (ends : ℕ → ℕ) (h : History) (x c e : ℕ) (n m : Noted)
-    → Known sh ram gs ys ends h → Coming sh h x c n → Contains h.commits m → e < sh.cores
+only-coming : {sh : Shape} {ram : ℕ → ℕ} {gs : List Grant} {ys : Ways} {ends : ℕ → ℕ} {h : History} {x c : ℕ} (e : ℕ) {n : Noted}
+    (m : Noted) → Known sh ram gs ys ends h → Coming sh h x c n → Contains h.commits m → e < sh.cores
     → 1 ≤ live (Commits m.tid.0) (to_dir h.world e (home_of sh x)) → m ≡ n
-only-coming sh ram gs ys ends h x c e n m k f i l s = one-commit 0 h.commits m n k.carried.commits_are_of_granted_tids.0 i f.listed
+only-coming {sh} {h} {x} e {n} m k f i l s = one-commit 0 h.commits m n k.carried.commits_are_of_granted_tids.0 i f.listed
     (sym (k.carried.committing_tid_is_served e (home_of sh x) m.tid.0 l (home-below sh x k.dirs) s) ∙ sym f.tid)
 
-coming-core : (sh : Shape) (ram : ℕ → ℕ) (gs : List Grant) (ys : Ways) (ends : ℕ → ℕ) (h : History) (x c e : ℕ) (n : Noted)
-    → Known sh ram gs ys ends h → Coming sh h x c n
-    → 1 ≤ live (Commits (at sh h.world x).serving.serving) (to_dir h.world e (home_of sh x)) → e ≡ c
+coming-core : {sh : Shape} {ram : ℕ → ℕ} {gs : List Grant} {ys : Ways} {ends : ℕ → ℕ} (h : History) (x c e : ℕ) {n : Noted}
+    → Known sh ram gs ys ends h → Coming sh h x c n → 1 ≤ live (Commits (at sh h.world x).serving.serving) (to_dir h.world e (home_of sh x))
+    → e ≡ c
 unfolding pair
-coming-core sh ram gs ys ends h x c e n k f s =
+coming-core {sh} {gs} h x c e k f s =
     granted-once 1 gs (at sh h.world x).serving.serving e c k.carried.granted_tids_are_those_below_next.0
     ((k.carried.no_inv_to_the_core_that_committed.0 e (home_of sh x)).owner (at sh h.world x).serving.serving s)
     ((k.carried.no_inv_to_the_core_that_committed.0 c (home_of sh x)).owner (at sh h.world x).serving.serving f.sent)
 
 -- it didn't store the word
-other-word : (sh : Shape) (ram : ℕ → ℕ) (gs : List Grant) (ys : Ways) (ends : ℕ → ℕ) (h : History) (x c : ℕ) (n : Noted)
+other-word : {sh : Shape} {ram : ℕ → ℕ} {gs : List Grant} {ys : Ways} {ends : ℕ → ℕ} (h : History) (x : ℕ) {c : ℕ} {n : Noted}
     → Known sh ram gs ys ends h → line_of x < lines sh → Coming sh h x c n → stores_word sh.base n.stores x ≡ false
     → Greatest sh h.world x ((at sh h.world x).lines.tag (line_of x)) (ends x)
 unfolding pair
-other-word sh ram gs ys ends h x c n k i f s =
-    settled-word sh ram gs ys ends h x k (λ m j t. applied m j t (applied-or-flying sh ram gs ys ends h x m k j t))
+other-word {sh} {ram} {gs} {ys} {ends} h x {c} {n} k i f s =
+    settled-word k (λ m j t. applied m j t (applied-or-flying x m k j t))
     (λ e g l t. none e g l t (nat_le 1 (live (Commits g) (to_dir h.world e (home_of sh x)))) refl)
   where
     applied : (m : Noted) → Contains h.commits m → stores_word sh.base m.stores x ≡ true → (is_applied (at sh h.world x) m.tid.0 ≡ true)
@@ -331,18 +326,18 @@ other-word sh ram gs ys ends h x c n k i f s =
     applied m j t (inl e) = e
     applied m j t (inr y) =
         absurd (let o : stores_word sh.base m.stores x ≡ false = ap (λ z. stores_word sh.base z.stores x)
-        (only-coming sh ram gs ys ends h x c y.0 n m k f j y.1 y.2) ∙ s in cc)
+        (only-coming y.0 m k f j y.1 y.2) ∙ s in cc)
 
     none : (e g : ℕ) → e < sh.cores → (at sh h.world x).lines.tag (line_of x) < g → (b : Bool)
         → nat_le 1 (live (Commits g) (to_dir h.world e (home_of sh x))) ≡ b → word_copies x g (pair h.world e (home_of sh x)) ≡ 0
-    none e g l t false q = let y = few-copies sh x g (pair h.world e (home_of sh x)) (k.carried.frames_stand_in_their_sets e) in
+    none e g l t false q = let y = few-copies x g (pair h.world e (home_of sh x)) (k.carried.frames_stand_in_their_sets e) in
         let z : live (Commits g) (to_dir h.world e (home_of sh x)) ≡ 0 = grind nats in
-        omega (arith, y, above-none sh ram gs ys ends h x e g k i l t z)
+        omega (arith, y, above-none x e g k i l t z)
     none e g l t true q =
         let z : 1 ≤ live (Commits g) (to_dir h.world e (home_of sh x)) = grind nats in
         let y : (at sh h.world x).serving.serving ≡ g = k.carried.committing_tid_is_served e (home_of sh x) g l
         (home-below sh x k.dirs) z in
-        unwritten-none sh h.commits e x g (pair h.world e (home_of sh x)) (k.carried.frames_stand_in_their_sets e)
+        unwritten-none x (k.carried.frames_stand_in_their_sets e)
         (k.carried.copy_above_the_tag_is_of_a_commit_in_flight e (home_of sh x) (line_of x) g l
         (home-below sh x k.dirs) i refl t)
         (wrote-none sh.base h.commits e g x (each-listed (λ m. m.tid.0 ≡ g → stores_word sh.base m.stores x ≡ false) h.commits
@@ -351,11 +346,11 @@ other-word sh ram gs ys ends h x c n k i f s =
         ∙ s)))
 
 -- it stored the word: its TID is the greatest
-coming-below : (sh : Shape) (ram : ℕ → ℕ) (gs : List Grant) (ys : Ways) (ends : ℕ → ℕ) (h : History) (x c : ℕ) (n : Noted)
+coming-below : {sh : Shape} {ram : ℕ → ℕ} {gs : List Grant} {ys : Ways} {ends : ℕ → ℕ} (h : History) (x c : ℕ) (n : Noted)
     → Known sh ram gs ys ends h → line_of x < lines sh → Coming sh h x c n
     → (at sh h.world x).lines.tag (line_of x) < (at sh h.world x).serving.serving
 unfolding settled_in_line is_settled is_applied pair
-coming-below sh ram gs ys ends h x c n k i f =
+coming-below {sh} {gs} h x c n k i f =
     subst (λ q. q < (at sh h.world x).serving.serving)
     (sym (k.carried.line_tag_is_the_last_settled_writer (home_of sh x) (line_of x) (home-below sh x k.dirs) i refl))
     (last-under (settled_in_line sh h.world (home_of sh x) (line_of x)) (at sh h.world x).serving.serving h.commits positive
@@ -363,7 +358,7 @@ coming-below sh ram gs ys ends h x c n k i f =
     → m.tid.0 < (at sh h.world x).serving.serving) h.commits below))
   where
     positive : 1 ≤ (at sh h.world x).serving.serving
-    positive = numbered-least 1 gs (record { tid = (at sh h.world x).serving.serving; core = c })
+    positive = numbered-least 1 gs (grant_to (at sh h.world x).serving.serving c)
         k.carried.granted_tids_are_those_below_next.0
         ((k.carried.no_inv_to_the_core_that_committed.0 c (home_of sh x)).owner (at sh h.world x).serving.serving f.sent)
 
@@ -405,16 +400,16 @@ coming-below sh ram gs ys ends h x c n k i f =
         go true p false q w = absurd (cc)
         go false p b q w = absurd (cc)
 
-stored-word : (sh : Shape) (ram : ℕ → ℕ) (gs : List Grant) (ys : Ways) (ends : ℕ → ℕ) (h : History) (x c : ℕ) (n : Noted)
+stored-word : {sh : Shape} {ram : ℕ → ℕ} {gs : List Grant} {ys : Ways} {ends : ℕ → ℕ} (h : History) (x : ℕ) {c : ℕ} {n : Noted}
     → Known sh ram gs ys ends h → line_of x < lines sh → Coming sh h x c n → stores_word sh.base n.stores x ≡ true
     → Greatest sh h.world x (at sh h.world x).serving.serving (ends x)
 unfolding counts wrote_line pair
-stored-word sh ram gs ys ends h x c n k i f s = record {
-  none = λ e g l t. let y = few-copies sh x g (pair h.world e (home_of sh x)) (k.carried.frames_stand_in_their_sets e) in
+stored-word {sh} {ram} {gs} {ys} {ends} h x {c} {n} k i f s = record {
+  none = λ e g l t. let y = few-copies x g (pair h.world e (home_of sh x)) (k.carried.frames_stand_in_their_sets e) in
       omega (
         arith,
         y,
-        above-none sh ram gs ys ends h x e g k i l (omega (arith, t, below))
+        above-none x e g k i l (omega (arith, t, below))
             (later e g l t (nat_le 1 (live (Commits g) (to_dir h.world e (home_of sh x)))) refl),
       );
   have = λ e l. have e l (nat_le 1 (live (Commits (at sh h.world x).serving.serving) (to_dir h.world e (home_of sh x))))
@@ -424,7 +419,7 @@ stored-word sh ram gs ys ends h x c n k i f s = record {
 }
   where
     below : (at sh h.world x).lines.tag (line_of x) < (at sh h.world x).serving.serving
-    below = coming-below sh ram gs ys ends h x c n k i f
+    below = coming-below h x c n k i f
 
     later : (e g : ℕ) → e < sh.cores → (at sh h.world x).serving.serving < g → (b : Bool)
         → nat_le 1 (live (Commits g) (to_dir h.world e (home_of sh x))) ≡ b → live (Commits g) (to_dir h.world e (home_of sh x)) ≡ 0
@@ -433,23 +428,23 @@ stored-word sh ram gs ys ends h x c n k i f s = record {
     counted : (m : Noted) → Contains h.commits m → (is_applied (at sh h.world x) m.tid.0 ≡ true) ⊎ Flying sh h.world x m.tid.0
         → (is_this (Some c) m.core.0 || is_applied (at sh h.world x) m.tid.0) ≡ true
     counted m j (inl e) = rw e ((elim (is_this (Some c) m.core.0) as (λ b. (b || true) ≡ true) [ true ↦ refl | false ↦ refl ]))
-    counted m j (inr y) = let o : m.core.0 ≡ c = ap (λ z. z.core.0) (only-coming sh ram gs ys ends h x c y.0 n m k f j y.1 y.2)
+    counted m j (inr y) = let o : m.core.0 ≡ c = ap (λ z. z.core.0) (only-coming y.0 m k f j y.1 y.2)
         ∙ f.core in let q : (c == m.core.0) ≡ true = grind nats in rw q refl
 
     value : value_at sh.base ram h.commits (at sh h.world x) (Some c) None x ≡ ends x
-    value = all-value sh ram gs ys ends h x (Some c) k (λ m j u. counted m j (applied-or-flying sh ram gs ys ends h x m k j u))
+    value = all-value x (Some c) k (λ m j u. counted m j (applied-or-flying x m k j u))
 
     have : (e : ℕ) → e < sh.cores → (b : Bool)
         → nat_le 1 (live (Commits (at sh h.world x).serving.serving) (to_dir h.world e (home_of sh x))) ≡ b
         → CopiesHave x (at sh h.world x).serving.serving (ends x) (pair h.world e (home_of sh x))
     have e l true q =
-        let o : e ≡ c = coming-core sh ram gs ys ends h x c e n k f (grind nats) in
+        let o : e ≡ c = coming-core h x c e k f (grind nats) in
         subst (λ y. CopiesHave x (at sh h.world x).serving.serving y (pair h.world e (home_of sh x)))
         (ap (λ j. value_at sh.base ram h.commits (at sh h.world x) (Some j) None x) o ∙ value)
         (k.above e (home_of sh x) x (at sh h.world x).serving.serving l (home-below sh x k.dirs) refl below)
     have e l false q = none-copied sh x (at sh h.world x).serving.serving (ends x) (pair h.world e (home_of sh x))
         (k.carried.frames_stand_in_their_sets e)
-        (above-none sh ram gs ys ends h x e (at sh h.world x).serving.serving k i l below (grind nats))
+        (above-none x e (at sh h.world x).serving.serving k i l below (grind nats))
 
     written : wrote sh.base h.commits c (at sh h.world x).serving.serving x ≡ true
     written =
@@ -478,45 +473,43 @@ stored-word sh ram gs ys ends h x c n k i f s = record {
     )
 
 -- any word
-coming : (sh : Shape) (h : History) (x c : ℕ) → c < sh.cores
+coming : {sh : Shape} (h : History) (x : ℕ) {c : ℕ} → c < sh.cores
     → 1 ≤ live (Commits (at sh h.world x).serving.serving) (to_dir h.world c (home_of sh x))
     → (m : MarkedCommit sh h.commits c (home_of sh x) (at sh h.world x).serving.serving (pair h.world c (home_of sh x)))
     → Coming sh h x c m.commit
-coming sh h x c l s m = record { below = l; sent = s; listed = m.noted; tid = m.tid; core = m.core }
+coming h x l s m = record { below = l; sent = s; listed = m.noted; tid = m.tid; core = m.core }
 
 word-seen : (sh : Shape) (ram : ℕ → ℕ) (gs : List Grant) (ys : Ways) (ends : ℕ → ℕ) (h : History) (x : ℕ) → Known sh ram gs ys ends h
     → seen sh h.world x ≡ ends x
 unfolding pair
-word-seen sh ram gs ys ends h x k = go (nat_lt (line_of x) (lines sh)) refl
+word-seen sh ram gs ys ends h x k = elim (tested (nat_lt (line_of x) (lines sh))) [
+  | inl q ↦ flying (grind nats)
+      (search (λ c. live (Commits (at sh h.world x).serving.serving) (to_dir h.world c (home_of sh x))) sh.cores)
+  | inr q ↦ seen-greatest
+      (outside-word sh ram gs ys ends h x k (λ l. absurd (let y : nat_lt (line_of x) (lines sh) ≡ true = grind nats in cc)))
+]
   where
     flying : line_of x < lines sh
         → ((c : ℕ) × (c < sh.cores)
         × (1 ≤ live (Commits (at sh h.world x).serving.serving) (to_dir h.world c (home_of sh x))))
         ⊎ ((c : ℕ) → c < sh.cores → live (Commits (at sh h.world x).serving.serving) (to_dir h.world c (home_of sh x)) ≡ 0)
         → seen sh h.world x ≡ ends x
-    flying i (inr z) = seen-greatest sh h.world x ((at sh h.world x).lines.tag (line_of x)) (ends x)
+    flying i (inr z) = seen-greatest
         (quiet-word sh ram gs ys ends h x k i z)
     flying i (inl f) = word (k.carried.marks_sent_are_the_lines_stored.2 f.0 (home_of sh x) (at sh h.world x).serving.serving).sent
       where
         by : (m : MarkedCommit sh h.commits f.0 (home_of sh x) (at sh h.world x).serving.serving (pair h.world f.0 (home_of sh x)))
             → (b : Bool) → stores_word sh.base m.commit.stores x ≡ b → seen sh h.world x ≡ ends x
-        by m true s = seen-greatest sh h.world x (at sh h.world x).serving.serving (ends x)
-            (stored-word sh ram gs ys ends h x f.0 m.commit k i (coming sh h x f.0 f.1 f.2 m) s)
-        by m false s = seen-greatest sh h.world x ((at sh h.world x).lines.tag (line_of x)) (ends x)
-            (other-word sh ram gs ys ends h x f.0 m.commit k i (coming sh h x f.0 f.1 f.2 m) s)
+        by m true s = seen-greatest
+            (stored-word h x k i (coming h x f.1 f.2 m) s)
+        by m false s = seen-greatest
+            (other-word h x k i (coming h x f.1 f.2 m) s)
 
         word : (f.0 < sh.cores → home_of sh x < sh.dirs
             → 1 ≤ live (Commits (at sh h.world x).serving.serving) (to_dir h.world f.0 (home_of sh x))
             → MarkedCommit sh h.commits f.0 (home_of sh x) (at sh h.world x).serving.serving
             (pair h.world f.0 (home_of sh x))) → seen sh h.world x ≡ ends x
         word g = let m = g f.1 (home-below sh x k.dirs) f.2 in by m (stores_word sh.base m.commit.stores x) refl
-
-    go : (b : Bool) → nat_lt (line_of x) (lines sh) ≡ b → seen sh h.world x ≡ ends x
-    go true q =
-        flying (grind nats)
-        (search (λ c. live (Commits (at sh h.world x).serving.serving) (to_dir h.world c (home_of sh x))) sh.cores)
-    go false q = seen-greatest sh h.world x ((at sh h.world x).lines.tag (line_of x)) (ends x)
-        (outside-word sh ram gs ys ends h x k (λ l. absurd (let y : nat_lt (line_of x) (lines sh) ≡ true = grind nats in cc)))
 
 pub seen_follows : SeenFollows
 unfolding plain_start

@@ -263,9 +263,9 @@ pub record Greatest (sh : Shape) (w : World) (x t y : ℕ) : Type 0 where
   pub some : ((c : ℕ) → c < sh.cores → word_copies x t (pair w c (home_of sh x)) ≡ 0)
       → ((w.dirs (home_of sh x)).lines.tag (line_of x) ≡ t) × ((w.dirs (home_of sh x)).words x ≡ y)
 
-pub seen-greatest : (sh : Shape) (w : World) (x t y : ℕ) → Greatest sh w x t y → seen sh w x ≡ y
+pub seen-greatest : {sh : Shape} {w : World} {x t y : ℕ} → Greatest sh w x t y → seen sh w x ≡ y
 unfolding seen copies home_copy
-seen-greatest sh w x t y k = newest-top t y (home_copy sh w x) (flat_map (copies_of sh w x) (numbers sh.cores))
+seen-greatest {sh} {w} {x} {t} {y} k = newest-top t y (home_copy sh w x) (flat_map (copies_of sh w x) (numbers sh.cores))
     (all-top t y (copies_of sh w x) sh.cores (λ c l. (core c l).0)) k.line
     (go (nat_le 1 (tagged t (flat_map (copies_of sh w x) (numbers sh.cores)))) refl)
   where

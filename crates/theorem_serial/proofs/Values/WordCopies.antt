@@ -7,7 +7,7 @@ use Names.{ℕ, ◌+◌, ◌≡◌, ◌≤◌, ◌==◌, ◌&&◌, Bool, true, f
 use Names.{line_of, place_of, word_at, has, hit, Msg, WriteBack, Flush, Shape, Cache, IsCache, is_dirty, dirty_tag, dirty_mask, has-mask_of}
 use Names.{Link, copies_with, CopyOf, CopyMask, CopyWord, CopyNot, live, among, passes, Pair, is_this, word_copies, CopiesHave, ◌⊎◌, cond}
 use Names.{unwrap_or, get_or, if◌then◌else◌, inl, inr, cases_eq, eight, Dir, home, dirty_words, dirty_copy, CoreState, Out, to, flush_of}
-use Names.{flush_line, write_back_line, nats, home_of}
+use Names.{flush_line, write_back_line, nats, home_of, ◌≢◌, tested}
 use proofs.Copies.CopySends.{some-dirty, tag-of}
 use proofs.Counts.Links.{live-fewer, among-fewer}
 
@@ -58,7 +58,7 @@ live-words x t n h (Some m ∷ l) = omega (arith, line-word x t n h m, live-word
 pub dirty-line : (sh : Shape) (c : Cache) (x t : ℕ) → IsCache sh c → c.dirty x ≡ Some t
     → (is_dirty c (line_of x) ≡ true) × (dirty_tag c (line_of x) ≡ t)
 dirty-line sh c x t h e = let y : c.dirty (word_at (line_of x) (place_of x)) ≡ Some t = rw (word_at-own x) e in
-    (some-dirty c (line_of x) (place_of x) t (omega arith) y, tag-of sh c (line_of x) (place_of x) t h (omega arith) y)
+    (some-dirty c (line_of x) (place_of x) t (omega arith) y, tag-of (line_of x) (place_of x) t h (omega arith) y)
 
 -- a core without a copy of the line has none of the word
 pub none-copied : (sh : Shape) (x t y : ℕ) (v : Pair) → IsCache sh v.core.cache → copies_with (line_of x) t v ≡ 0 → CopiesHave x t y v
@@ -72,9 +72,9 @@ none-copied sh x t y v h z = record {
   sent = omega (arith, z, few-others x t y v.out, few-words x t v.out);
 }
 
-pub few-copies : (sh : Shape) (x t : ℕ) (v : Pair) → IsCache sh v.core.cache → word_copies x t v ≤ copies_with (line_of x) t v
+pub few-copies : {sh : Shape} (x t : ℕ) (v : Pair) → IsCache sh v.core.cache → word_copies x t v ≤ copies_with (line_of x) t v
 unfolding copies_with word_copies
-few-copies sh x t v h = omega (arith, few-words x t v.out, go (v.core.cache.dirty x) refl)
+few-copies x t v h = omega (arith, few-words x t v.out, go (v.core.cache.dirty x) refl)
   where
     go : (o : Option ℕ) → v.core.cache.dirty x ≡ o
         → num (is_this o t) ≤ num (is_dirty v.core.cache (line_of x) && dirty_tag v.core.cache (line_of x) == t)
@@ -146,7 +146,7 @@ word-still sh x s o e f z = record {
 -- what leaves a frame of line k is the frame's copy of the word
 pub record WordLeaves (k x : ℕ) (c : Cache) (ms : List Msg) : Type 0 where
   pub same : k ≡ line_of x → (t : ℕ) → among (CopyWord x t) ms ≡ num (is_this (c.dirty x) t)
-  pub other : (k ≡ line_of x → ⊥) → (t : ℕ) → among (CopyWord x t) ms ≡ 0
+  pub other : k ≢ line_of x → (t : ℕ) → among (CopyWord x t) ms ≡ 0
   pub right : (t y : ℕ) → (c.dirty x ≡ Some t → c.value x ≡ Some y) → among (CopyNot x t y) ms ≡ 0
 
 word-clean : (sh : Shape) (k x : ℕ) (c : Cache) → IsCache sh c → is_dirty c k ≡ false → k ≡ line_of x → c.dirty x ≡ None
@@ -174,14 +174,13 @@ value-at c x t y d v =
     e ∙ rw (d, v) refl
 
 -- one message of the frame's words
-leaves-one : (sh : Shape) (k x : ℕ) (c : Cache) (m : Msg) → IsCache sh c
+leaves-one : {sh : Shape} {k x : ℕ} {c : Cache} (m : Msg) → IsCache sh c
     → ((t : ℕ) → passes (CopyWord x t) m ≡ (hit k (dirty_mask c k) x && (dirty_tag c k == t)))
     → ((t y : ℕ)
-    → passes (CopyNot x t y) m
-    ≡ ((hit k (dirty_mask c k) x && (dirty_tag c k == t)) && not (get_or (dirty_words c k) (place_of x) 0 == y)))
+    → passes (CopyNot x t y) m ≡ ((hit k (dirty_mask c k) x && (dirty_tag c k == t)) && not (get_or (dirty_words c k) (place_of x) 0 == y)))
     → WordLeaves k x c (m ∷ [])
 unfolding among hit
-leaves-one sh k x c m h f g =
+leaves-one {k} {x} {c} m h f g =
     record {
       same = λ e t. here e t (c.dirty x) refl;
       other = λ n t. (let y : (k == line_of x) ≡ false = grind nats in rw (f t, y) refl);
@@ -195,7 +194,7 @@ leaves-one sh k x c m h f g =
         → num (((true && is_some o) && (dirty_tag c (line_of x) == t)) && not (get_or (dirty_words c (line_of x)) (place_of x) 0 == y)) ≡ 0
     wrong t y a r q = grind (nats, dirty-line, value-at)
 
-    right : (t y : ℕ) → (c.dirty x ≡ Some t → c.value x ≡ Some y) → (k ≡ line_of x) ⊎ (k ≡ line_of x → ⊥)
+    right : (t y : ℕ) → (c.dirty x ≡ Some t → c.value x ≡ Some y) → (k ≡ line_of x) ⊎ (k ≢ line_of x)
         → num (passes (CopyNot x t y) m) + 0 ≡ 0
     right t y q (inr n) = let z : (k == line_of x) ≡ false = grind nats in rw (g t y, z) refl
     right t y q (inl e) = let z : (line_of x == line_of x) ≡ true = grind nats in
@@ -209,7 +208,7 @@ flush-leaves sh k x c h = go (is_dirty c k) refl
         → WordLeaves k x c (flush_of
         (cond b (Some (record { line = k; mask = dirty_mask c k; words = dirty_words c k; tag = dirty_tag c k })) None))
     go false q = leaves-none sh k x c h q
-    go true q = leaves-one sh k x c (Flush k (dirty_mask c k) (dirty_words c k) (dirty_tag c k)) h (λ t. refl) (λ t y. refl)
+    go true q = leaves-one (Flush k (dirty_mask c k) (dirty_words c k) (dirty_tag c k)) h (λ t. refl) (λ t y. refl)
 
 back-leaves : (sh : Shape) (k x : ℕ) (c : Cache) → IsCache sh c → WordLeaves k x c (write_back_of (dirty_copy c k))
 unfolding dirty_copy passes
@@ -219,13 +218,13 @@ back-leaves sh k x c h = go (is_dirty c k) refl
         → WordLeaves k x c (write_back_of
         (cond b (Some (record { line = k; mask = dirty_mask c k; words = dirty_words c k; tag = dirty_tag c k })) None))
     go false q = leaves-none sh k x c h q
-    go true q = leaves-one sh k x c (WriteBack k (dirty_mask c k) (dirty_words c k) (dirty_tag c k)) h (λ t. refl) (λ t y. refl)
+    go true q = leaves-one (WriteBack k (dirty_mask c k) (dirty_words c k) (dirty_tag c k)) h (λ t. refl) (λ t y. refl)
 
 -- they go to the line's home
-at-home : (sh : Shape) (k x : ℕ) (c : Cache) (ms : List Msg) → WordLeaves k x c ms
+at-home : (sh : Shape) {k x : ℕ} {c : Cache} {ms : List Msg} → WordLeaves k x c ms
     → WordLeaves k x c (to (Dir (home sh k)) ms (Dir (home_of sh x)))
 unfolding among
-at-home sh k x c ms h = go (home_of sh x == home sh k) refl
+at-home sh {k} {x} {c} {ms} h = go (home_of sh x == home sh k) refl
   where
     go : (b : Bool) → (home_of sh x == home sh k) ≡ b → WordLeaves k x c (if b then ms else [])
     go true q = h
@@ -235,23 +234,22 @@ at-home sh k x c ms h = go (home_of sh x == home sh k) refl
       right = λ t y f. refl;
     }
 
-pub flushed-words : (sh : Shape) (k x : ℕ) (c : Cache) → IsCache sh c → WordLeaves k x c (flush_line sh c k (Dir (home_of sh x)))
+pub flushed-words : {sh : Shape} (k x : ℕ) {c : Cache} → IsCache sh c → WordLeaves k x c (flush_line sh c k (Dir (home_of sh x)))
 unfolding flush_line
-flushed-words sh k x c h = at-home sh k x c (flush_of (dirty_copy c k)) (flush-leaves sh k x c h)
+flushed-words {sh} k x {c} h = at-home sh (flush-leaves sh k x c h)
 
 pub back-home-words : (sh : Shape) (k x : ℕ) (c : Cache) → IsCache sh c → WordLeaves k x c (write_back_line sh c k (Dir (home_of sh x)))
 unfolding write_back_line
-back-home-words sh k x c h = at-home sh k x c (write_back_of (dirty_copy c k)) (back-leaves sh k x c h)
+back-home-words sh k x c h = at-home sh (back-leaves sh k x c h)
 
 -- the dirty words of line k are sent, and become clean
-pub word-sent : (sh : Shape) (k x : ℕ) (s : CoreState) (o : Out) → o.core.cache.dirty x ≡ (if k == line_of x then None else s.cache.dirty x)
-    → ((k ≡ line_of x → ⊥) → o.core.cache.value x ≡ s.cache.value x) → WordLeaves k x s.cache (o.sends (Dir (home_of sh x)))
+pub word-sent : (sh : Shape) {k x : ℕ} (s : CoreState) (o : Out) → o.core.cache.dirty x ≡ (if k == line_of x then None else s.cache.dirty x)
+    → ((k ≢ line_of x) → o.core.cache.value x ≡ s.cache.value x) → WordLeaves k x s.cache (o.sends (Dir (home_of sh x)))
     → WordCarried sh x s o
-word-sent sh k x s o e f h = go (k == line_of x) refl
-  where
-    go : (b : Bool) → (k == line_of x) ≡ b → WordCarried sh x s o
-    go true q = let d : o.core.cache.dirty x ≡ None = e ∙ rw q refl in let l : k ≡ line_of x = grind nats in
-        record { copies = λ t. rw d (omega (arith, h.same l t)); framed = λ t r. absurd (let z = sym d ∙ r in cc); sent = h.right }
-    go false q = let d : o.core.cache.dirty x ≡ s.cache.dirty x = e ∙ rw q refl in let n : (k ≡ line_of x → ⊥) =
-        λ l. (let z : (k == line_of x) ≡ true = grind nats in cc) in
-        record { copies = λ t. rw d (omega (arith, h.other n t)); framed = λ t r. (sym d ∙ r, f n); sent = h.right }
+word-sent sh {k} {x} s o e f h = elim (tested (k == line_of x)) [
+  | inl q ↦ let d : o.core.cache.dirty x ≡ None = e ∙ rw q refl in let l : k ≡ line_of x = grind nats in
+      record { copies = λ t. rw d (omega (arith, h.same l t)); framed = λ t r. absurd (let z = sym d ∙ r in cc); sent = h.right }
+  | inr q ↦ let d : o.core.cache.dirty x ≡ s.cache.dirty x = e ∙ rw q refl in let n : (k ≢ line_of x) =
+      λ l. (let z : (k == line_of x) ≡ true = grind nats in cc) in
+      record { copies = λ t. rw d (omega (arith, h.other n t)); framed = λ t r. (sym d ∙ r, f n); sent = h.right }
+]

@@ -5,7 +5,7 @@ use Names.{ℕ, ◌≡◌, ◌<◌, ◌≤◌, Bool, true, false, List, Contains
 use Names.{World, Kind, Commits, CopyWord, CopyNot, live, CommitsInMemory, Pair, pair, CommitsStand, stores_at, stores_word, counts}
 use Names.{value_at, word_copies, CopiesHave, HomeWords, CopiesAbove, names_line, ◌==◌, ◌&&◌, num, Msg, IsCache, History, CommitsAreServed}
 use Names.{copies_with, KeptTags, KeptAbove, KeptOwned, Invs, CopyOf, passes, CopiesInMemory, OwedInFlight, KeptNamed, MarksOfCommits}
-use Names.{IsRising, KeptWhole, is_this, KeptStored, ◌⊎◌, inl, inr, is_applied, nats, home_of, tid_at, to_dir, FromCore}
+use Names.{IsRising, KeptWhole, is_this, KeptStored, ◌⊎◌, inl, inr, is_applied, nats, home_of, tid_at, to_dir, FromCore, ◌≢◌}
 use proofs.Copies.TagsKept.{stored-home, Consumes}
 use proofs.Counts.Links.{num-same}
 use proofs.Marks.DirRecords.{NoCommit, Dropped}
@@ -33,14 +33,14 @@ pub record ValuesAt (sh : Shape) (ram : ℕ → ℕ) (w : World) (cs : List Note
 abbrev pub KeptValues : Shape → (ℕ → ℕ) → World → List Noted → Type 0
 KeptValues sh ram w cs = (d x : ℕ) → d < sh.dirs → home_of sh x ≡ d → ValuesAt sh ram w cs d x
 
-pub values-of : (sh : Shape) (ram : ℕ → ℕ) (w : World) (cs : List Noted) → HomeWords sh ram w cs → CopiesAbove sh ram w cs
+pub values-of : {sh : Shape} {ram : ℕ → ℕ} {w : World} {cs : List Noted} → HomeWords sh ram w cs → CopiesAbove sh ram w cs
     → KeptValues sh ram w cs
-values-of sh ram w cs a b d x dl e =
+values-of a b d x dl e =
     record { at_home = a.at_home d x dl e; in_copies = λ c cl. a.in_copies c d x cl dl e; above = λ c t cl i. b c d x t cl dl e i }
 
-pub from-values : (sh : Shape) (ram : ℕ → ℕ) (w : World) (cs : List Noted) → KeptValues sh ram w cs
+pub from-values : {sh : Shape} {ram : ℕ → ℕ} {w : World} {cs : List Noted} → KeptValues sh ram w cs
     → HomeWords sh ram w cs × CopiesAbove sh ram w cs
-from-values sh ram w cs k = (
+from-values k = (
   record { at_home = λ d x dl e. (k d x dl e).at_home; in_copies = λ c d x cl dl e. (k d x dl e).in_copies c cl },
   λ c d x t cl dl e i.
       (k d x dl e).above c t cl i,
@@ -54,23 +54,23 @@ pub record Stands (sh : Shape) (ram : ℕ → ℕ) (w v : World) (cs : List Note
   pub value : (c : Option ℕ) → value_of sh ram v cs d c x ≡ value_of sh ram w cs d c x
   pub home : ((c : ℕ) → c < sh.cores → word_copies x (tag_of w d x) (pair v c d) ≡ 0) → (v.dirs d).words x ≡ value_of sh ram w cs d None x
 
-pub have-still : (x t y z : ℕ) (a b : Pair) → b.core ≡ a.core → live (CopyNot x t y) b.out ≤ live (CopyNot x t y) a.out → z ≡ y
+pub have-still : {x t y z : ℕ} {a : Pair} (b : Pair) → b.core ≡ a.core → live (CopyNot x t y) b.out ≤ live (CopyNot x t y) a.out → z ≡ y
     → CopiesHave x t y a → CopiesHave x t z b
-have-still x t y z a b e l q h = record {
+have-still {x} b e l q h = record {
   framed = λ r. ap (λ s. s.cache.value x) e ∙ h.framed (sym (ap (λ s. s.cache.dirty x) e) ∙ r) ∙ ap (λ n. Some n) (sym q);
   sent = rw q (omega (arith, l, h.sent));
 }
 
-pub stands-keep : (sh : Shape) (ram : ℕ → ℕ) (w v : World) (cs : List Noted) (d x : ℕ) → Stands sh ram w v cs d x → ValuesAt sh ram w cs d x
+pub stands-keep : {sh : Shape} {ram : ℕ → ℕ} {w v : World} {cs : List Noted} {d x : ℕ} → Stands sh ram w v cs d x → ValuesAt sh ram w cs d x
     → ValuesAt sh ram v cs d x
 unfolding pair
-stands-keep sh ram w v cs d x s h = record {
+stands-keep {sh} {ram} {w} {v} {cs} {d} {x} s h = record {
   at_home = λ p. s.home (λ c cl. rw s.tag at (p c cl)) ∙ sym (s.value None);
   in_copies =
-      λ c cl. rw s.tag (have-still x (tag_of w d x) (value_of sh ram w cs d None x) (value_of sh ram v cs d None x) (pair w c d)
+      λ c cl. rw s.tag (have-still
       (pair v c d) (ap (λ f. f c) s.cores) (s.others c (tag_of w d x) (value_of sh ram w cs d None x)) (s.value None)
       (h.in_copies c cl));
-  above = λ c t cl i. have-still x t (value_of sh ram w cs d (Some c) x) (value_of sh ram v cs d (Some c) x) (pair w c d) (pair v c d)
+  above = λ c t cl i. have-still (pair v c d)
       (ap (λ f. f c) s.cores) (s.others c t (value_of sh ram w cs d (Some c) x)) (s.value (Some c)) (h.above c t cl (rw s.tag at i));
 }
 
@@ -89,10 +89,10 @@ pub same-copies : (x t : ℕ) (a b : Pair) → b.core ≡ a.core → live (CopyW
 unfolding word_copies
 same-copies x t a b e f = rw (e, f) refl
 
-pub quiet-keep : (sh : Shape) (ram : ℕ → ℕ) (w v : World) (cs : List Noted) (d x : ℕ) → Quiet sh ram w v cs d x → ValuesAt sh ram w cs d x
-    → ValuesAt sh ram v cs d x
+pub quiet-keep : {sh : Shape} {ram : ℕ → ℕ} {w : World} (v : World) {cs : List Noted} {d x : ℕ} → Quiet sh ram w v cs d x
+    → ValuesAt sh ram w cs d x → ValuesAt sh ram v cs d x
 unfolding pair
-quiet-keep sh ram w v cs d x q h = stands-keep sh ram w v cs d x (record {
+quiet-keep {sh} {ram} {w} v {cs} {d} {x} q h = stands-keep (record {
   cores = q.cores;
   tag = q.tag;
   others = q.others;
@@ -102,9 +102,9 @@ quiet-keep sh ram w v cs d x q h = stands-keep sh ram w v cs d x (record {
 }) h
 
 -- the same where neither the directory nor what was sent to it is different
-pub same-values : (sh : Shape) (ram : ℕ → ℕ) (w v : World) (cs : List Noted) (d x : ℕ) → v.cores ≡ w.cores → v.dirs d ≡ w.dirs d
+pub same-values : {sh : Shape} {ram : ℕ → ℕ} {w : World} (v : World) {cs : List Noted} {d x : ℕ} → v.cores ≡ w.cores → v.dirs d ≡ w.dirs d
     → ((k : Kind) (c : ℕ) → live k (to_dir v c d) ≡ live k (to_dir w c d)) → ValuesAt sh ram w cs d x → ValuesAt sh ram v cs d x
-same-values sh ram w v cs d x e f g h = quiet-keep sh ram w v cs d x (record {
+same-values {sh} {ram} {w} v {cs} {d} {x} e f g h = quiet-keep v (record {
   cores = e;
   tag = ap (λ s. s.lines.tag (line_of x)) f;
   words = ap (λ s. s.words x) f;
@@ -119,7 +119,7 @@ same-values sh ram w v cs d x e f g h = quiet-keep sh ram w v cs d x (record {
 pub stored-at-home : (sh : Shape) (cs : List Noted) (n : Noted) (d x : ℕ) → CommitsInMemory sh cs → Contains cs n → home_of sh x ≡ d
     → stores_word sh.base n.stores x ≡ true → stores_at sh d n.stores ≡ true
 unfolding names_line
-stored-at-home sh cs n d x k i e s = stored-home sh d (line_of x) n ((k n i).stored x s) e (line-has (stores_word sh.base n.stores) x s)
+stored-at-home sh cs n d x k i e s = stored-home sh (line_of x) n ((k n i).stored x s) e (line-has (stores_word sh.base n.stores) x s)
 
 -- no Commit of a commit that stored the word is consumed
 abbrev pub SameCommits : Shape → World → World → List Noted → (dir word : ℕ) → Type 0
@@ -127,11 +127,11 @@ SameCommits sh w v cs d x = (n : Noted) → Contains cs n → stores_word sh.bas
     → live (Commits n.tid.0) (to_dir v n.core.0 d) ≡ live (Commits n.tid.0) (to_dir w n.core.0 d)
 
 -- then each word has the same value for each core
-pub same-value : (sh : Shape) (ram : ℕ → ℕ) (w v : World) (cs : List Noted) (d x : ℕ) → CommitsStand sh w cs → CommitsStand sh v cs
+pub same-value : {sh : Shape} (ram : ℕ → ℕ) (w v : World) (cs : List Noted) {d : ℕ} (x : ℕ) → CommitsStand sh w cs → CommitsStand sh v cs
     → CommitsInMemory sh cs → d < sh.dirs → home_of sh x ≡ d → SameCommits sh w v cs d x → (c : Option ℕ)
     → value_of sh ram v cs d c x ≡ value_of sh ram w cs d c x
 unfolding counts
-same-value sh ram w v cs d x a b k dl e f c = value-alike sh.base ram cs (v.dirs d) c None (w.dirs d) c None x
+same-value {sh} ram w v cs {d} x a b k dl e f c = value-alike sh.base ram cs (v.dirs d) c None (w.dirs d) c None x
     (λ n i. go n i (stores_word sh.base n.stores x) refl)
   where
     go : (n : Noted) → Contains cs n → (y : Bool) → stores_word sh.base n.stores x ≡ y
@@ -173,24 +173,24 @@ pub record Answers (sh : Shape) (h : History) (c d : ℕ) (m : Msg) (v : World) 
   pub stand : CommitsStand sh v h.commits
 
 -- a kind that the message isn't of
-pub unconsumed : (b : Bool) (m : Bool) → m ≡ false → num (b && m) ≡ 0
-unconsumed a m e = grind nats
+pub unconsumed : (b : Bool) {m : Bool} → m ≡ false → num (b && m) ≡ 0
+unconsumed a e = grind nats
 
 -- nothing is consumed at another directory
 elsewhere : (a b y : Bool) → b ≡ false → num ((a && b) && y) ≡ 0
 elsewhere a b y e = grind nats
 
-quiet-commits : (sh : Shape) (h : History) (c d x : ℕ) (m : Msg) (v : World) → Answers sh h c d m v → NoCommit m
+quiet-commits : {sh : Shape} {h : History} {c d : ℕ} (x : ℕ) {m : Msg} {v : World} → Answers sh h c d m v → NoCommit m
     → SameCommits sh h.world v h.commits d x
-quiet-commits sh h c d x m v a n y i s =
-    omega (arith, a.net (Commits y.tid.0) y.core.0 d, unconsumed (y.core.0 == c && d == d) (passes (Commits y.tid.0) m) (n y.tid.0))
+quiet-commits {c} {d} x {m} a n y i s =
+    omega (arith, a.net (Commits y.tid.0) y.core.0 d, unconsumed (y.core.0 == c && d == d) (n y.tid.0))
 
 -- the word stays, and no copy of it is consumed; or a copy with its line's tag comes home
-pub taken-values : (sh : Shape) (ram : ℕ → ℕ) (h : History) (c d k x : ℕ) (m : Msg) (v : World) → Known sh ram h → c < sh.cores
-    → d < sh.dirs → home_of sh x ≡ d → FromCore h.world c d k m → Answers sh h c d m v → NoCommit m
-    → tag_of v d x ≡ tag_of h.world d x → HomeBy (h.world.dirs d) m x (v.dirs d) → ValuesAt sh ram v h.commits d x
+pub taken-values : {sh : Shape} {ram : ℕ → ℕ} (h : History) (c d k x : ℕ) (m : Msg) {v : World} → Known sh ram h → c < sh.cores
+    → d < sh.dirs → home_of sh x ≡ d → FromCore h.world c d k m → Answers sh h c d m v → NoCommit m → tag_of v d x ≡ tag_of h.world d x
+    → HomeBy (h.world.dirs d) m x (v.dirs d) → ValuesAt sh ram v h.commits d x
 unfolding pair
-taken-values sh ram h c d k x m v b cl dl e i a n t (Left w f) = quiet-keep sh ram h.world v h.commits d x (record {
+taken-values {sh} {ram} h c d k x m {v} b cl dl e i a n t (Left w f) = quiet-keep v (record {
   cores = a.cores;
   tag = t;
   words = w;
@@ -198,16 +198,16 @@ taken-values sh ram h c d k x m v b cl dl e i a n t (Left w f) = quiet-keep sh r
       λ j. omega (
         arith,
         a.net (CopyWord x (tag_of h.world d x)) j d,
-        unconsumed (j == c && d == d) (passes (CopyWord x (tag_of h.world d x)) m) (f (tag_of h.world d x)),
+        unconsumed (j == c && d == d) (f (tag_of h.world d x)),
       );
   others = λ j u y. omega (arith, a.net (CopyNot x u y) j d);
-  value = same-value sh ram h.world v h.commits d x b.stand a.stand b.inside dl e (quiet-commits sh h c d x m v a n);
+  value = same-value ram h.world v h.commits x b.stand a.stand b.inside dl e (quiet-commits x a n);
 }) (b.values d x dl e)
-taken-values sh ram h c d k x m v b cl dl e i a n t (Home f g) = stands-keep sh ram h.world v h.commits d x (record {
+taken-values {sh} {ram} h c d k x m {v} b cl dl e i a n t (Home f g) = stands-keep (record {
   cores = a.cores;
   tag = t;
   others = λ j u y. omega (arith, a.net (CopyNot x u y) j d);
-  value = same-value sh ram h.world v h.commits d x b.stand a.stand b.inside dl e (quiet-commits sh h c d x m v a n);
+  value = same-value ram h.world v h.commits x b.stand a.stand b.inside dl e (quiet-commits x a n);
   home = λ p. came ((v.dirs d).words x == y) refl;
 }) (b.values d x dl e)
   where
@@ -227,11 +227,11 @@ taken-values sh ram h c d k x m v b cl dl e i a n t (Home f g) = stands-keep sh 
         ))
 
 -- a copy that is dropped doesn't have the line's tag
-pub dropped-values : (sh : Shape) (ram : ℕ → ℕ) (h : History) (c d k x : ℕ) (m : Msg) (v : World) → Known sh ram h → c < sh.cores
-    → d < sh.dirs → home_of sh x ≡ d → FromCore h.world c d k m → Answers sh h c d m v
-    → v.dirs d ≡ h.world.dirs d → Dropped (h.world.dirs d) c m → ValuesAt sh ram v h.commits d x
+pub dropped-values : {sh : Shape} {ram : ℕ → ℕ} (h : History) (c d k x : ℕ) (m : Msg) {v : World} → Known sh ram h → c < sh.cores
+    → d < sh.dirs → home_of sh x ≡ d → FromCore h.world c d k m → Answers sh h c d m v → v.dirs d ≡ h.world.dirs d
+    → Dropped (h.world.dirs d) c m → ValuesAt sh ram v h.commits d x
 unfolding pair copies_with
-dropped-values sh ram h c d k x m v b cl dl e i a f n = quiet-keep sh ram h.world v h.commits d x (record {
+dropped-values {sh} {ram} h c d k x m {v} b cl dl e i a f n = quiet-keep v (record {
   cores = a.cores;
   tag = ap (λ s. s.lines.tag (line_of x)) f;
   words = ap (λ s. s.words x) f;
@@ -239,11 +239,11 @@ dropped-values sh ram h c d k x m v b cl dl e i a f n = quiet-keep sh ram h.worl
       λ j. omega (
         arith,
         a.net (CopyWord x g) j d,
-        unconsumed (j == c && d == d) (passes (CopyWord x g) m)
+        unconsumed (j == c && d == d)
             (old (passes (CopyWord x g) m) refl),
       );
   others = λ j u y. omega (arith, a.net (CopyNot x u y) j d);
-  value = same-value sh ram h.world v h.commits d x b.stand a.stand b.inside dl e (quiet-commits sh h c d x m v a n.commit);
+  value = same-value ram h.world v h.commits x b.stand a.stand b.inside dl e (quiet-commits x a n.commit);
 }) (b.values d x dl e)
   where
     l : ℕ
@@ -267,7 +267,7 @@ dropped-values sh ram h c d k x m v b cl dl e i a f n = quiet-keep sh ram h.worl
             omega (arith, s, p, b.owned c d l cl dl (b.copies c d l g s) e)
 
 -- at another directory
-pub away-values : (sh : Shape) (ram : ℕ → ℕ) (h : History) (c d e x : ℕ) (m : Msg) (v : World) → Known sh ram h → (e ≡ d → ⊥) → e < sh.dirs
+pub away-values : {sh : Shape} {ram : ℕ → ℕ} (h : History) (c d e x : ℕ) (m : Msg) {v : World} → Known sh ram h → e ≢ d → e < sh.dirs
     → home_of sh x ≡ e → Answers sh h c d m v → v.dirs e ≡ h.world.dirs e → ValuesAt sh ram v h.commits e x
-away-values sh ram h c d e x m v b n el q a f = same-values sh ram h.world v h.commits e x a.cores f
+away-values {sh} {ram} h c d e x m {v} b n el q a f = same-values v a.cores f
     (λ k j. omega (arith, a.net k j e, elsewhere (j == c) (e == d) (passes k m) (grind nats))) (b.values e x el q)

@@ -4,7 +4,8 @@ use proofs.Names
 use Names.{ℕ, ◌+◌, ◌%◌, ◌≡◌, ◌<◌, ◌≤◌, ◌==◌, ◌++◌, Bool, true, false, not, List, Option, Some, None, arith, refl, ap, sym, subst, ◌∙◌}
 use Names.{Noted, num, line_of, has_mark, Dir, Vendor, Msg, Inv, Shape, home, lines, World, sent_all, Out, History, core_moves, core_takes}
 use Names.{CopyOf, CopyWord, CopyNot, Invs, InvOf, InvsAway, live, among, passes, due, Pair, pair, share, after_move, grant_taken}
-use Names.{back_taken, is_this, SettledCommit, value_at, word_copies, CopiesHave, copies_with, nats, home_of, to_core, FromDir}
+use Names.{back_taken, is_this, SettledCommit, value_at, word_copies, CopiesHave, copies_with, nats, home_of, to_core, FromDir, tested, inl}
+use Names.{inr}
 use proofs.Copies.TagsKept.{inv-tag-of, Invalidating}
 use proofs.Counts.Links.{live-sends, total-le}
 use proofs.Counts.StepCases.{AllPairs, pairs_move, pairs_grant, pairs_back}
@@ -27,9 +28,9 @@ still-alike : (sh : Shape) (w : World) → AllPairs (AlikeAt sh w) w
 still-alike sh w c d x cl dl e = record { copies = refl; have = λ t y h. h }
 
 -- so all values are as they were
-pub alike-keeps : (sh : Shape) (ram : ℕ → ℕ) (w v : World) (cs : List Noted) → v.dirs ≡ w.dirs → AllPairs (AlikeAt sh w) v
+pub alike-keeps : {sh : Shape} {ram : ℕ → ℕ} {w : World} (v : World) {cs : List Noted} → v.dirs ≡ w.dirs → AllPairs (AlikeAt sh w) v
     → KeptValues sh ram w cs → KeptValues sh ram v cs
-alike-keeps sh ram w v cs f a k d x dl e = record {
+alike-keeps {sh} {ram} {w} v {cs} f a k d x dl e = record {
   at_home = λ p. ap (λ z. (z d).words x) f ∙ (k d x dl e).at_home (λ c cl. sym (a c d x cl dl e).copies ∙ rw tag at (p c cl))
       ∙ sym (value None);
   in_copies = λ c cl. subst (λ y. CopiesHave x (tag_of v d x) y (pair v c d)) (sym (value None))
@@ -49,10 +50,10 @@ pub record Moved (o : Out) (d : ℕ) (a b : Pair) : Type 0 where
   pub core : b.core ≡ o.core
   pub out : b.out ≡ a.out ++ sent_all (o.sends (Dir d))
 
-carried-alike : (sh : Shape) (x d g : ℕ) (o : Out) (a b : Pair) → home_of sh x ≡ d → WordCarried sh x a.core o → Moved o d a b
+carried-alike : {sh : Shape} {x d : ℕ} (g : ℕ) {o : Out} (a b : Pair) → home_of sh x ≡ d → WordCarried sh x a.core o → Moved o d a b
     → Alike x g a b
 unfolding word_copies
-carried-alike sh x d g o a b e h m = record { copies = copies; have = have }
+carried-alike {x} {d} g {o} a b e h m = record { copies = copies; have = have }
   where
     copies : num (is_this (b.core.cache.dirty x) g) + live (CopyWord x g) b.out ≡ num (is_this (a.core.cache.dirty x) g) + live
         (CopyWord x g) a.out
@@ -71,11 +72,11 @@ carried-alike sh x d g o a b e h m = record { copies = copies; have = have }
     }
 
 -- an invalidation of a line of which the core has no copy with its tag
-lost-alike : (sh : Shape) (x d g : ℕ) (o : Out) (a b : Pair) → word_copies x g a ≡ 0
+lost-alike : (sh : Shape) (x d : ℕ) {g : ℕ} (o : Out) {a : Pair} (b : Pair) → word_copies x g a ≡ 0
     → ((t : ℕ) → o.core.cache.dirty x ≡ Some t → (a.core.cache.dirty x ≡ Some t) × (o.core.cache.value x ≡ a.core.cache.value x))
     → ((t : ℕ) → among (CopyOf (line_of x) t) (o.sends (Dir d)) ≡ 0) → Moved o d a b → Alike x g a b
 unfolding word_copies
-lost-alike sh x d g o a b n f z m = record { copies = copies; have = have }
+lost-alike sh x d {g} o {a} b n f z m = record { copies = copies; have = have }
   where
     fewer : (y : Option ℕ) → o.core.cache.dirty x ≡ y → num (is_this y g) ≤ num (is_this (a.core.cache.dirty x) g)
     fewer a q = grind nats
@@ -110,13 +111,11 @@ lost-alike sh x d g o a b n f z m = record { copies = copies; have = have }
 -- an invalidation comes from the line's home
 inv-home : (sh : Shape) (ram : ℕ → ℕ) (h : History) (c e k l m u : ℕ) → Known sh ram h → FromDir h.world e c k (Inv l m u) → home sh l ≡ e
 unfolding passes
-inv-home sh ram h c e k l m u b i = go (home sh l == e) refl
-  where
-    go : (y : Bool) → (home sh l == e) ≡ y → home sh l ≡ e
-    go true q = grind nats
-    go false q =
-        absurd (let n : num (not ((l % sh.dirs) == e)) ≡ 1 = rw q refl in
-        omega (arith, n, live-some (InvsAway sh.dirs e) (to_core h.world e c) k (Inv l m u) i, b.invs.at_home c e))
+inv-home sh ram h c e k l m u b i = elim (tested (home sh l == e)) [
+  | inl q ↦ grind nats
+  | inr q ↦ absurd (let n : num (not ((l % sh.dirs) == e)) ≡ 1 = rw q refl in
+      omega (arith, n, live-some (InvsAway sh.dirs e) (to_core h.world e c) k (Inv l m u) i, b.invs.at_home c e))
+]
 
 -- and of a line in memory, for it is marked
 inv-inside : (sh : Shape) (ram : ℕ → ℕ) (h : History) (c d k l m u : ℕ) → Known sh ram h → c < sh.cores → d < sh.dirs
@@ -125,7 +124,7 @@ unfolding pair passes due share
 inv-inside sh ram h c d k l m u b cl dl i =
     let owed : 1 ≤ (h.world.dirs d).owed = omega (arith, invs, b.invs.owed d, total-le (share due h.world d) sh.cores c cl) in
     let n : SettledCommit sh h.commits d (h.world.dirs d) = (b.stored 0 d 0).settled dl owed in
-    mask-inside sh d l n.commit.stores ((h.world.dirs d).lines.mark l) (n.marks l) (marked (has_mark (h.world.dirs d).lines l) refl)
+    mask-inside sh d l n.commit.stores (n.marks l) (marked (has_mark (h.world.dirs d).lines l) refl)
   where
     invs : 1 ≤ live Invs (to_core h.world d c)
     invs = omega (arith, live-some Invs (to_core h.world d c) k (Inv l m u) i)
@@ -147,7 +146,7 @@ none-with-tag sh ram h c d k x m u b cl dl ll e i = let y : copies_with (line_of
       arith,
       y,
       mine ((h.world.dirs d).lines.owner (line_of x)) refl,
-      few-copies sh x (tag_of h.world d x) (pair h.world c d)
+      few-copies x (tag_of h.world d x) (pair h.world c d)
           (b.caches c),
     )
   where
@@ -169,7 +168,7 @@ pub moved-alike : (sh : Shape) (w : World) (c : ℕ) (o : Out) → Carries sh (w
 unfolding pair
 moved-alike sh w c o h =
     pairs_move (AlikeAt sh w) w c o
-    (λ d x cl dl e. carried-alike sh x d (tag_of w d x) o (pair w c d) (after_move (pair w c d) o d) e (h x)
+    (λ d x cl dl e. carried-alike (tag_of w d x) (pair w c d) (after_move (pair w c d) o d) e (h x)
     (record { core = refl; out = refl })) (still-alike sh w)
 
 pub granted-alike : (sh : Shape) (w : World) (c k : ℕ) (o : Out) → Carries sh (w.cores c) o
@@ -177,18 +176,18 @@ pub granted-alike : (sh : Shape) (w : World) (c k : ℕ) (o : Out) → Carries s
 unfolding pair
 granted-alike sh w c k o h =
     pairs_grant (AlikeAt sh w) w c k o
-    (λ d x cl dl e. carried-alike sh x d (tag_of w d x) o (pair w c d) (after_move (grant_taken (pair w c d) k) o d) e (h x)
+    (λ d x cl dl e. carried-alike (tag_of w d x) (pair w c d) (after_move (grant_taken (pair w c d) k) o d) e (h x)
     (record { core = refl; out = refl })) (still-alike sh w)
 
-taken-one : (sh : Shape) (ram : ℕ → ℕ) (h : History) (c e d k x : ℕ) (m : Msg) (o : Out) (v : Pair) → Known sh ram h → c < sh.cores
-    → d < sh.dirs → home_of sh x ≡ d → FromDir h.world e c k m → WordBack sh x (h.world.cores c) m o
-    → Moved o d (pair h.world c d) v → Alike x (tag_of h.world d x) (pair h.world c d) v
+taken-one : {sh : Shape} {ram : ℕ → ℕ} (h : History) (c e d k x : ℕ) {m : Msg} (o : Out) (v : Pair) → Known sh ram h → c < sh.cores
+    → d < sh.dirs → home_of sh x ≡ d → FromDir h.world e c k m → WordBack sh x (h.world.cores c) m o → Moved o d (pair h.world c d) v
+    → Alike x (tag_of h.world d x) (pair h.world c d) v
 unfolding pair
-taken-one sh ram h c e d k x m o v b cl dl q i (Carried y) n = carried-alike sh x d (tag_of h.world d x) o (pair h.world c d) v q y n
-taken-one sh ram h c e d k x m o v b cl dl q i (Lost p u r f z) n =
+taken-one {sh} h c e d k x o v b cl dl q i (Carried y) n = carried-alike (tag_of h.world d x) (pair h.world c d) v q y n
+taken-one {sh} {ram} h c e d k x o v b cl dl q i (Lost p u r f z) n =
     let j : FromDir h.world e c k (Inv (line_of x) p u) = i ∙ ap (λ y. Some y) r in
     let w : d ≡ e = sym q ∙ inv-home sh ram h c e k (line_of x) p u b j in
-    lost-alike sh x d (tag_of h.world d x) o (pair h.world c d) v
+    lost-alike sh x d o v
     (none-with-tag sh ram h c d k x p u b cl dl (inv-inside sh ram h c d k (line_of x) p u b cl dl (rw w j)) q (rw w j)) f
     (λ t. rw q at (z t)) n
 
@@ -196,8 +195,8 @@ pub taken-alike : (sh : Shape) (ram : ℕ → ℕ) (h : History) (c e k : ℕ) (
     → ((x : ℕ) → WordBack sh x (h.world.cores c) m o) → AllPairs (AlikeAt sh h.world) (core_takes h.world (Dir e) c k o)
 unfolding pair
 taken-alike sh ram h c e k m o b i f = pairs_back (AlikeAt sh h.world) h.world e c k o
-    (λ x cl dl q. taken-one sh ram h c e e k x m o (after_move (back_taken (pair h.world c e) k) o e) b cl dl q i (f x)
+    (λ x cl dl q. taken-one h c e e k x o (after_move (back_taken (pair h.world c e) k) o e) b cl dl q i (f x)
     (record { core = refl; out = refl }))
-    (λ d n x cl dl q. taken-one sh ram h c e d k x m o (after_move (pair h.world c d) o d) b cl dl q i (f x)
+    (λ d n x cl dl q. taken-one h c e d k x o (after_move (pair h.world c d) o d) b cl dl q i (f x)
     (record { core = refl; out = refl }))
     (still-alike sh h.world)

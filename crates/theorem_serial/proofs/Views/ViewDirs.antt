@@ -11,6 +11,7 @@ use Names.{keeps_unmodified, holds_line, Commits, CommitOf, live, CommitsInMemor
 use Names.{CommitsStand, stored_mask, stores_in, MarkedCommit, stores_word, counts, value_at, Ways, if◌then◌else◌, TidReq, TidGrant, Fill}
 use Names.{ProbeReply, Commit, DataReq, Answer, Waits, Drops, Asks, Takes, moved_on_if_settled, owned_by_committer, invalidation_count}
 use Names.{dir_deliver, dir_asks, Uses, out_taken, EachUse, has-mask_of, CommitsLine, IsPassed, nats, home_of, tid_at, to_dir, FromCore}
+use Names.{grant_to, ◌≢◌}
 use proofs.Counts.Links.{among-append, live-takes}
 use proofs.Counts.StepCases.{dir-own, dir-other, either, AllPairs, pairs_dir, pairs_asks, asks-own, OfAnswer, differ}
 use proofs.Marks.MaskLaws.{same-commit}
@@ -32,7 +33,7 @@ unfolding among those
 among-those k g p l zero b e = absurd (omega (arith, b))
 among-those k g p l (suc n) b e = rw flat_map-append (rw among-append (go (cases_eq l n) (λ q. among-those k g p l n q e)))
   where
-    go : (l ≡ n) ⊎ (l ≡ n → ⊥) → (l < n → num (passes k (g l)) ≤ among k (flat_map (λ j. g j ∷ []) (those p n)))
+    go : (l ≡ n) ⊎ (l ≢ n) → (l < n → num (passes k (g l)) ≤ among k (flat_map (λ j. g j ∷ []) (those p n)))
         → num (passes k (g l)) ≤ among k (flat_map (λ j. g j ∷ []) (those p n)) + among k
         (flat_map (λ j. g j ∷ []) (cond (p n) (n ∷ []) []))
     go a f = grind nats
@@ -51,10 +52,10 @@ sent-dooms b x u n f p l e h i =
 -- What a directory's answer does to the values that cores see: only a Commit that it takes changes them, and this dooms.
 
 -- the Commits in flight to a directory where it takes a message
-pub commits-after : (w : World) (c d k t : ℕ) (m : Msg) (s : DirState) (sends : Sends) (j : ℕ) → FromCore w c d k m
+pub commits-after : (w : World) (c d k t : ℕ) {m : Msg} (s : DirState) (sends : Sends) (j : ℕ) → FromCore w c d k m
     → passes (Commits t) m ≡ false → live (Commits t) ((dir_takes w c d k s sends).net (Core j) (Dir d)) ≡ live (Commits t) (to_dir w j d)
 unfolding pair
-commits-after w c d k t m s sends j i f = either j c own other
+commits-after w c d k t {m} s sends j i f = either j c own other
   where
     here : live (Commits t) ((dir_takes w c d k s sends).net (Core c) (Dir d)) ≡ live (Commits t) (to_dir w c d)
     here = let p : num (passes (Commits t) m) ≡ 0 = ap num f in let z : live (Commits t) ((dir_takes w c d k s sends).net (Core c) (Dir d))
@@ -64,7 +65,7 @@ commits-after w c d k t m s sends j i f = either j c own other
     own : j ≡ c → live (Commits t) ((dir_takes w c d k s sends).net (Core j) (Dir d)) ≡ live (Commits t) (to_dir w j d)
     own e = rw e here
 
-    other : (j ≡ c → ⊥) → live (Commits t) ((dir_takes w c d k s sends).net (Core j) (Dir d)) ≡ live (Commits t) (to_dir w j d)
+    other : j ≢ c → live (Commits t) ((dir_takes w c d k s sends).net (Core j) (Dir d)) ≡ live (Commits t) (to_dir w j d)
     other e = ap (λ v. live (Commits t) v.out) (dir-other w c d k s sends j e)
 
 -- commits that are applied alike count alike
@@ -98,18 +99,18 @@ pub record Taken (sh : Shape) (w : World) (c d u : ℕ) : Type 0 where
 num-true : (b : Bool) → 1 ≡ num b → b ≡ true
 num-true a e = grind nats
 
-all-true : (a b c : Bool) → (a && b) ≡ true → c ≡ true → true ≡ (a && (b && c))
-all-true a b c e f = grind nats
+all-true : (a b : Bool) {c : Bool} → (a && b) ≡ true → c ≡ true → true ≡ (a && (b && c))
+all-true a b e f = grind nats
 
 pub is-lt : (a b : ℕ) → a < b → nat_lt a b ≡ true
 is-lt a b l = grind nats
 
-inside-home : (l n d e : ℕ) → l < n → e ≡ d → (nat_lt l n && d == e) ≡ true
-inside-home l n d e a b = grind nats
+inside-home : (l n : ℕ) {d e : ℕ} → l < n → e ≡ d → (nat_lt l n && d == e) ≡ true
+inside-home l n a b = grind nats
 
 -- a directory that has reached the core's TID serves no smaller one
-not-ahead : (t u s : ℕ) → nat_lt u t ≡ true → s ≡ u → t ≤ s → ⊥
-not-ahead t u s a b c = grind nats
+not-ahead : (t : ℕ) {u s : ℕ} → nat_lt u t ≡ true → s ≡ u → t ≤ s → ⊥
+not-ahead t a b c = grind nats
 
 -- a core holds the line of a valid word that is marked read
 holds-word : (v : Pair) (x : ℕ) → v.core.cache.read x ≡ true → is_some (v.core.cache.value x) ≡ true → holds_line (line_of x) v ≡ true
@@ -127,7 +128,7 @@ holds-word v x r e =
 -- each core sees the values that it saw, or the invalidation that it is sent dooms the use
 pub commit-value : (sh : Shape) (gs : List Grant) (ys : Ways) (ram : ℕ → ℕ) (h : History) → Carried sh gs ys h
     → CommitsInMemory sh h.commits → (v : World) → CommitsStand sh v h.commits → (c d u : ℕ) → Taken sh h.world c d u
-    → ((n : Noted) → (n.tid.0 ≡ u → ⊥) → live (Commits n.tid.0) (to_dir v n.core.0 d) ≡ live (Commits n.tid.0) (to_dir h.world n.core.0 d))
+    → ((n : Noted) → n.tid.0 ≢ u → live (Commits n.tid.0) (to_dir v n.core.0 d) ≡ live (Commits n.tid.0) (to_dir h.world n.core.0 d))
     → (j : ℕ) → StaysOrDooms sh ram h.commits j d (pair h.world j d) (v.dirs d) (invalidations sh (h.world.dirs d).lines c u (Core j))
 unfolding pair invalidations invs_to counts stored_mask stores_in hit any_word is_invalidated
 commit-value sh gs ys ram h k mem v stand c d u t f j b jl dl bound x y e seen = below (is_below b u) refl
@@ -147,7 +148,7 @@ commit-value sh gs ys ram h k mem v stand c d u t f j b jl dl bound x y e seen =
     alike g = value-alike sh.base ram h.commits (w.dirs d) (Some j) b (v.dirs d) (Some j) b x
         (λ o i. one o i (stores_word sh.base o.stores x) refl (cases_eq o.tid.0 u))
       where
-        one : (o : Noted) → Contains h.commits o → (q : Bool) → stores_word sh.base o.stores x ≡ q → (o.tid.0 ≡ u) ⊎ (o.tid.0 ≡ u → ⊥)
+        one : (o : Noted) → Contains h.commits o → (q : Bool) → stores_word sh.base o.stores x ≡ q → (o.tid.0 ≡ u) ⊎ (o.tid.0 ≢ u)
             → IsAlike sh.base (w.dirs d) (Some j) b (v.dirs d) (Some j) b x o
         one o i false q z = inr q
         one o i true q (inl z) = inl (g o i z q)
@@ -161,12 +162,12 @@ commit-value sh gs ys ram h k mem v stand c d u t f j b jl dl bound x y e seen =
     unbounded o z q = let r : is_below b o.tid.0 ≡ false = rw z q in rw r refl
 
     -- the commit is the core's own
-    granted : Contains gs (record { tid = u; core = c })
+    granted : Contains gs (grant_to u c)
     granted = (k.no_inv_to_the_core_that_committed.0 c d).owner u t.commit
 
     own : j ≡ c → (o : Noted) → Contains h.commits o → o.tid.0 ≡ u → counts (w.dirs d) (Some j) b o ≡ counts (v.dirs d) (Some j) b o
     own q o i z =
-        let g : Contains gs (record { tid = u; core = o.core.0 }) =
+        let g : Contains gs (grant_to u o.core.0) =
         rw z at (granted-at gs h.commits o k.commits_are_of_granted_tids.1 i) in
         let r : o.core.0 ≡ c = granted-once 1 gs u o.core.0 c k.granted_tids_are_those_below_next.0 g granted in
         let a : is_this (Some j) o.core.0 ≡ true = rw (q, r) (eq-self c) in
@@ -179,7 +180,7 @@ commit-value sh gs ys ram h k mem v stand c d u t f j b jl dl bound x y e seen =
         let a : stores_word sh.base n.stores x ≡ true = rw r at s in true≢false (sym a ∙ q)
 
     -- the commit stores the word, and an invalidation of it is sent to the core
-    hits : (j ≡ c → ⊥) → is_below b u ≡ true → stores_word sh.base n.stores x ≡ true
+    hits : j ≢ c → is_below b u ≡ true → stores_word sh.base n.stores x ≡ true
         → 1 ≤ among (dooms b x) (invalidations sh (w.dirs d).lines c u (Core j))
     hits ne q s = sent-dooms b x u (lines sh) (w.dirs d).lines.mark (is_invalidated sh (w.dirs d).lines c j) inside invalid hit-mark q
       where
@@ -196,7 +197,7 @@ commit-value sh gs ys ram h k mem v stand c d u t f j b jl dl bound x y e seen =
         stored = rw place s
 
         here : (nat_lt (line_of x) (lines sh) && d == home_of sh x) ≡ true
-        here = inside-home (line_of x) (lines sh) d (home_of sh x) inside e
+        here = inside-home (line_of x) (lines sh) inside e
 
         mask : stored_mask sh d n.stores (line_of x) ≡ stores_in sh.base n.stores (line_of x)
         mask = rw here refl
@@ -212,8 +213,7 @@ commit-value sh gs ys ram h k mem v stand c d u t f j b jl dl bound x y e seen =
         marked : has_mark (w.dirs d).lines (line_of x) ≡ true
         marked =
             rw mark (num-true (nat_lt 0 (stored_mask sh d n.stores (line_of x)))
-            (ap num (all-true (nat_lt (line_of x) (lines sh)) (d == home_of sh x)
-            (any_word (stores_word sh.base n.stores) (line_of x)) here named) ∙ stored-line sh d n.stores (line_of x)))
+            (ap num (all-true (nat_lt (line_of x) (lines sh)) (d == home_of sh x) here named) ∙ stored-line sh d n.stores (line_of x)))
 
         read : (w.cores j).cache.read x ≡ true
         read = go seen
@@ -222,16 +222,16 @@ commit-value sh gs ys ram h k mem v stand c d u t f j b jl dl bound x y e seen =
             go (inl r) = r
             go (inr z) =
                 let p = solo-tid (w.cores j).phase z in
-                let o : b ≡ Some p.0 = bound-own sh gs ys h k j d p.0 b jl (solo-holds (w.cores j).phase p.0 p.1) bound in
-                let r = (solo-served sh gs ys h k j d p.0 jl dl p.1).serving in
+                let o : b ≡ Some p.0 = bound-own k j d p.0 b jl (solo-holds p.1) bound in
+                let r = (solo-served k j d jl dl p.1).serving in
                 let l : nat_lt u p.0 ≡ true = rw o at q in
-                absurd (not-ahead p.0 u (tid_at w d) l t.serving (omega (arith, r)))
+                absurd (not-ahead p.0 l t.serving (omega (arith, r)))
 
         valid : (b : Option ℕ) → is_below b u ≡ true → (is_some ((w.cores j).cache.value x) ≡ true) ⊎ IsPassed b (tid_at w d)
             → is_some ((w.cores j).cache.value x) ≡ true
         valid b q (inl a) = a
         valid None q (inr a) = absurd a
-        valid (Some z) q (inr a) = absurd (not-ahead z u (tid_at w d) q t.serving (omega (arith, a)))
+        valid (Some z) q (inr a) = absurd (not-ahead z q t.serving (omega (arith, a)))
 
         holds : holds_line (line_of x) (pair w j d) ≡ true
         holds = holds-word (pair w j d) x read (valid b q (k.read_mark_is_valid_or_passed j d x b jl dl e bound read))
@@ -241,7 +241,7 @@ commit-value sh gs ys ram h k mem v stand c d u t f j b jl dl bound x y e seen =
         sharer (inl a) = a
         sharer (inr a) =
             let z : u ≡ a.tid = sym t.serving ∙ k.committing_tid_is_served j d a.tid jl dl a.sent in
-            let g : Contains gs (record { tid = u; core = j }) = rw z ((k.no_inv_to_the_core_that_committed.0 j d).owner a.tid a.sent) in
+            let g : Contains gs (grant_to u j) = rw z ((k.no_inv_to_the_core_that_committed.0 j d).owner a.tid a.sent) in
             absurd (ne (granted-once 1 gs u j c k.granted_tids_are_those_below_next.0 g granted))
 
         invalid : is_invalidated sh (w.dirs d).lines c j (line_of x) ≡ true
@@ -258,7 +258,7 @@ commit-value sh gs ys ram h k mem v stand c d u t f j b jl dl bound x y e seen =
     below false q = inl (alike (λ o i z s. unbounded o z q))
     below true q = either j c (λ r. inl (alike (λ o i z s. own r o i z))) (λ r. word r (stores_word sh.base n.stores x) refl)
       where
-        word : (j ≡ c → ⊥) → (a : Bool) → stores_word sh.base n.stores x ≡ a
+        word : j ≢ c → (a : Bool) → stores_word sh.base n.stores x ≡ a
             → (value_at sh.base ram h.commits (w.dirs d) (Some j) b x ≡ value_at sh.base ram h.commits (v.dirs d) (Some j) b x)
             ⊎ (1 ≤ among (dooms b x) (invalidations sh (w.dirs d).lines c u (Core j)))
         word r false s = inl (alike (λ o i z p. absurd (unstored s o i z p)))
@@ -278,9 +278,9 @@ near-takes : (sh : Shape) (ram : ℕ → ℕ) (cs : List Noted) (vs : ℕ → Us
     → AllNear sh ram cs vs (dir_takes w c d k s sends)
 unfolding pair
 near-takes sh ram cs vs w c d k s sends q h f = pairs_dir (λ c d v. ViewOf sh ram cs (vs c) c d v) w c d k s sends
-    (view-answers sh ram cs (vs c) c d (out_taken (pair w c d) k) s (sends (Core c)) own (q c)
-    (view-out sh ram cs (vs c) c d k (pair w c d) (h c d)))
-    (λ j n. view-answers sh ram cs (vs j) j d (pair w j d) s (sends (Core j)) (f j) (q j) (h j d))
+    (view-answers s (sends (Core c)) own (q c)
+    (view-out k (h c d)))
+    (λ j n. view-answers s (sends (Core j)) (f j) (q j) (h j d))
     h
   where
     own : StaysOrDooms sh ram cs c d (out_taken (pair w c d) k) s (sends (Core c))
@@ -291,7 +291,7 @@ near-asks : (sh : Shape) (ram : ℕ → ℕ) (cs : List Noted) (vs : ℕ → Use
     → AllNear sh ram cs vs (dir_asks w d s sends)
 unfolding pair
 near-asks sh ram cs vs w d s sends q h f = pairs_asks (λ c d v. ViewOf sh ram cs (vs c) c d v) w d s sends
-    (λ j. view-answers sh ram cs (vs j) j d (pair w j d) s (sends (Core j)) (f j) (q j) (h j d)) h
+    (λ j. view-answers s (sends (Core j)) (f j) (q j) (h j d)) h
 
 -- where commits stand after the event too
 abbrev pub NearAfter : Shape → (ℕ → ℕ) → List Noted → (ℕ → Uses) → World → Type 0
@@ -310,7 +310,7 @@ plain-views sh ram cs vs w c d k m a mem st q h i f = go a
         stays : (j : ℕ) → StaysOrDooms sh ram cs j d (pair w j d) s (sends (Core j))
         stays j b cl dl g x y e r =
             inl (rw (dirs-taken w c d k s sends) at (stays-value sh ram cs w (dir_takes w c d k s sends) j d x b mem st z dl e
-            (λ n. commits-after w c d k n.tid.0 m s sends n.core.0 i (f n.tid.0))))
+            (λ n. commits-after w c d k n.tid.0 s sends n.core.0 i (f n.tid.0))))
 
     go : (a : Answer) → OfAnswer w c d k (NearAfter sh ram cs vs) a
     go Waits = tt
@@ -349,7 +349,7 @@ commit-views sh gs ys ram vs h c d k u n y mem q near cl i =
         meant : num (u == u) ≡ 1
         meant = grind nats
 
-        away : (t : ℕ) → (t ≡ u → ⊥) → (u == t) ≡ false
+        away : (t : ℕ) → t ≢ u → (u == t) ≡ false
         away t x = grind nats
 
         one : CommitsStand sh (dir_takes w c d k r (invalidations sh s.lines c u)) h.commits → (j : ℕ)
@@ -369,7 +369,7 @@ commit-views sh gs ys ram vs h c d k u n y mem q near cl i =
               );
               commit = omega (arith, meant, live-some (Commits u) (to_dir w c d) k (Commit u n) i);
             })
-            (λ o x. commits-after w c d k o.tid.0 (Commit u n) r (invalidations sh s.lines c u) o.core.0 i (away o.tid.0 x)) j b jl dl g)
+            (λ o x. commits-after w c d k o.tid.0 r (invalidations sh s.lines c u) o.core.0 i (away o.tid.0 x)) j b jl dl g)
 
 pub answered-views : (sh : Shape) (gs : List Grant) (ys : Ways) (ram : ℕ → ℕ) (vs : ℕ → Uses) (h : History) (c d k : ℕ) (m : Msg)
     → Carried sh gs ys h → CommitsInMemory sh h.commits → AllSeen vs h.world → AllNear sh ram h.commits vs h.world → c < sh.cores

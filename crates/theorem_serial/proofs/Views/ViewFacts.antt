@@ -6,7 +6,7 @@ use Names.{cases_lt, num, Msg, Cache, writes_at, Shape, Phase, DoomedTid, Probin
 use Names.{History, Uses, AllStand, UsesStand, Invs, InvsNot, InvWord, InvBelow, passes, live, Carried, due, Grant, times, holder, pair}
 use Names.{share, IsBound, is_applied, has_tid, opens, dooms, EachUse, IsPassed, IsDoomed, Ways, Settled, suc, ◌+◌, ◌||◌, length}
 use Names.{slice_index_or, Noted, DirState, Commits, is_this, CommitsStand, stores_at, counts, value_at, nats, home_of, tid_at, to_dir}
-use Names.{to_core}
+use Names.{to_core, grant_to, tested}
 use proofs.Counts.Links.{live-fewer, total-le}
 use proofs.Tids.Commits.{numbered-least, numbered-most, granted-at}
 use proofs.Values.ValueAt.{value-alike}
@@ -19,33 +19,33 @@ unfolding holder pair
 own-holder w c d t e = rw e (omega arith)
 
 -- a core has one TID at most
-pub one-holder : (sh : Shape) (gs : List Grant) (ys : Ways) (h : History) → Carried sh gs ys h → (c d e t u : ℕ) → c < sh.cores
+pub one-holder : {sh : Shape} {gs : List Grant} {ys : Ways} {h : History} → Carried sh gs ys h → (c d e t u : ℕ) → c < sh.cores
     → 1 ≤ holder t (pair h.world c d) → 1 ≤ holder u (pair h.world c e) → t ≡ u
-one-holder sh gs ys h k c d e t u l a b =
+one-holder k c d e t u l a b =
     let x : u ≤ t = k.live_tid_is_the_last_granted_to_its_core c d t u a (k.live_tid_is_granted_to_its_core c e u l b).0 in
     let y : t ≤ u = k.live_tid_is_the_last_granted_to_its_core c e u t b (k.live_tid_is_granted_to_its_core c d t l a).0 in
     omega arith
 
 -- so it is the core's bound
-pub bound-own : (sh : Shape) (gs : List Grant) (ys : Ways) (h : History) → Carried sh gs ys h → (c d t : ℕ) (b : Option ℕ) → c < sh.cores
+pub bound-own : {sh : Shape} {gs : List Grant} {ys : Ways} {h : History} → Carried sh gs ys h → (c d t : ℕ) (b : Option ℕ) → c < sh.cores
     → has_tid (h.world.cores c).phase t ≡ true → IsBound b (pair h.world c d) → b ≡ Some t
-bound-own sh gs ys h k c d t None l e i = absurd (omega (arith, i t, own-holder h.world c d t e))
-bound-own sh gs ys h k c d t (Some u) l e i = ap Some (one-holder sh gs ys h k c d d u t l i (own-holder h.world c d t e))
+bound-own {h} k c d t None l e i = absurd (omega (arith, i t, own-holder h.world c d t e))
+bound-own {sh} {gs} {ys} {h} k c d t (Some u) l e i = ap Some (one-holder k c d d u t l i (own-holder h.world c d t e))
 
 -- a directory at which a core's TID is open
 pub record IsServed (w : World) (d t : ℕ) : Type 0 where
   pub serving : tid_at w d ≡ t
   pub owed : (w.dirs d).owed ≡ 0
 
-pub open-served : (sh : Shape) (gs : List Grant) (ys : Ways) (h : History) → Carried sh gs ys h → (c d t : ℕ) → c < sh.cores → d < sh.dirs
+pub open-served : {sh : Shape} {gs : List Grant} {ys : Ways} {h : History} → Carried sh gs ys h → (c d t : ℕ) → c < sh.cores → d < sh.dirs
     → has_tid (h.world.cores c).phase t ≡ true → opens (h.world.cores c).phase (writes_at sh (h.world.cores c).cache d) t ≡ true
     → (h.world.cores c).owing d ≡ false → IsServed h.world d t
-open-served sh gs ys h k c d t cl dl e o f = record { serving = s; owed = go (cases_lt 0 (h.world.dirs d).owed) }
+open-served {sh} {gs} {ys} {h} k c d t cl dl e o f = record { serving = s; owed = go (cases_lt 0 (h.world.dirs d).owed) }
   where
     s : tid_at h.world d ≡ t
     s = k.directory_that_replied_serves_the_tid.serves c d t cl dl o f
 
-    g : Contains gs (record { tid = t; core = c }) × (times t h.commits ≡ 0)
+    g : Contains gs (grant_to t c) × (times t h.commits ≡ 0)
     g = k.live_tid_is_granted_to_its_core c d t cl (own-holder h.world c d t e)
 
     go : (0 < (h.world.dirs d).owed) ⊎ ((h.world.dirs d).owed ≤ 0) → (h.world.dirs d).owed ≡ 0
@@ -53,35 +53,35 @@ open-served sh gs ys h k c d t cl dl e o f = record { serving = s; owed = go (ca
     go (inl l) =
         let y : Settled sh ys h.world d t =
         k.owed_only_where_settled d t dl
-        (numbered-least 1 gs (record { tid = t; core = c }) k.granted_tids_are_those_below_next.0 g.0) s (omega (arith, l)) in
+        (numbered-least 1 gs (grant_to t c) k.granted_tids_are_those_below_next.0 g.0) s (omega (arith, l)) in
         absurd (omega (arith, g.1, k.committed_tid_is_given_up_where_it_stored_nothing.only d t dl y.committed))
 
 -- such a TID isn't applied there
-pub served-unapplied : (w : World) (d t : ℕ) → IsServed w d t → is_applied (w.dirs d) t ≡ false
+pub served-unapplied : {w : World} {d t : ℕ} → IsServed w d t → is_applied (w.dirs d) t ≡ false
 unfolding is_applied
-served-unapplied w d t s = let a = s.serving in let b = s.owed in grind nats
+served-unapplied s = let a = s.serving in let b = s.owed in grind nats
 
 -- no invalidation is in flight from it
-pub unowed-none : (sh : Shape) (gs : List Grant) (ys : Ways) (h : History) → Carried sh gs ys h → (c d : ℕ) → c < sh.cores
+pub unowed-none : {sh : Shape} {gs : List Grant} {ys : Ways} {h : History} → Carried sh gs ys h → (c d : ℕ) → c < sh.cores
     → (h.world.dirs d).owed ≡ 0 → live Invs (pair h.world c d).back ≡ 0
 unfolding share due
-unowed-none sh gs ys h k c d l e = omega (arith, e, k.owed_counts_invs_and_acks.owed d, total-le (share due h.world d) sh.cores c l)
+unowed-none {sh} {h} k c d l e = omega (arith, e, k.owed_counts_invs_and_acks.owed d, total-le (share due h.world d) sh.cores c l)
 
 -- a core that is alone
 pub solo-tid : (q : Phase) → is_solo q ≡ true → (t : ℕ) × (q ≡ Solo t)
 solo-tid (Solo t) e = (t, refl)
 solo-tid _ e = absurd (cc)
 
-pub solo-holds : (q : Phase) (t : ℕ) → q ≡ Solo t → has_tid q t ≡ true
+pub solo-holds : {q : Phase} {t : ℕ} → q ≡ Solo t → has_tid q t ≡ true
 unfolding has_tid
-solo-holds q t e = rw e (grind nats)
+solo-holds e = rw e (grind nats)
 
-pub solo-served : (sh : Shape) (gs : List Grant) (ys : Ways) (h : History) → Carried sh gs ys h → (c d t : ℕ) → c < sh.cores → d < sh.dirs
-    → (h.world.cores c).phase ≡ Solo t → IsServed h.world d t
+pub solo-served : {sh : Shape} {gs : List Grant} {ys : Ways} {h : History} → Carried sh gs ys h → (c d : ℕ) {t : ℕ} → c < sh.cores
+    → d < sh.dirs → (h.world.cores c).phase ≡ Solo t → IsServed h.world d t
 unfolding has_tid opens
-solo-served sh gs ys h k c d t cl dl e =
+solo-served {sh} {gs} {ys} {h} k c d {t} cl dl e =
     let s : (t == t) ≡ true = grind nats in
-    open-served sh gs ys h k c d t cl dl (rw e s) (rw e s) (k.directory_that_replied_serves_the_tid.replied c d cl dl (rw e refl))
+    open-served k c d t cl dl (rw e s) (rw e s) (k.directory_that_replied_serves_the_tid.replied c d cl dl (rw e refl))
 
 -- invalidations of a word
 few-word : (x : ℕ) (m : Msg) → num (passes (InvWord x) m) ≤ num (passes Invs m)
@@ -109,14 +109,14 @@ unfolding pair
 below-served sh gs ys h k c d x b i = grind (nats, k.owed_counts_invs_and_acks.served, live-fewer, below-not)
 
 -- a core that is alone has none in flight to it
-pub solo-undoomed : (sh : Shape) (gs : List Grant) (ys : Ways) (h : History) → Carried sh gs ys h → (c d x : ℕ) (b : Option ℕ)
+pub solo-undoomed : {sh : Shape} {gs : List Grant} {ys : Ways} {h : History} → Carried sh gs ys h → (c d x : ℕ) (b : Option ℕ)
     → c < sh.cores → d < sh.dirs → is_solo (h.world.cores c).phase ≡ true → live (dooms b x) (pair h.world c d).back ≡ 0
-solo-undoomed sh gs ys h k c d x b cl dl e =
+solo-undoomed {sh} {gs} {ys} {h} k c d x b cl dl e =
     let t = solo-tid (h.world.cores c).phase e in
     omega (
       arith,
       few-dooms b x (pair h.world c d).back,
-      unowed-none sh gs ys h k c d cl (solo-served sh gs ys h k c d t.0 cl dl t.1).owed,
+      unowed-none k c d cl (solo-served k c d cl dl t.1).owed,
     )
 
 -- uses
@@ -168,7 +168,7 @@ doomed-again sh gs ys h k c d x y b cl dl e i s l = go s
 
     go : IsSeen (h.world.cores c).cache (h.world.cores c).phase x y → IsDoomed b x (pair h.world c d)
     go (inl r) = record { hit = l; read = r; valid = valid b l (k.read_mark_is_valid_or_passed c d x b cl dl e i r) }
-    go (inr q) = absurd (omega (arith, l, solo-undoomed sh gs ys h k c d x b cl dl q))
+    go (inr q) = absurd (omega (arith, l, solo-undoomed k c d x b cl dl q))
 
 -- Where a word keeps its value for a core: bounds above all commits that count, and directories that apply the same commits.
 
@@ -183,13 +183,13 @@ listed-once (m ∷ cs) n k = go k.0 k.1 k.2 (λ j. listed-once cs n j)
     go a l e f = grind nats
 
 -- it was granted
-pub listed-below : (sh : Shape) (gs : List Grant) (ys : Ways) (h : History) → Carried sh gs ys h → (n : Noted) → Contains h.commits n
+pub listed-below : {sh : Shape} {gs : List Grant} {ys : Ways} {h : History} → Carried sh gs ys h → (n : Noted) → Contains h.commits n
     → n.tid.0 < h.world.next
-listed-below sh gs ys h k n i =
+listed-below {gs} {h} k n i =
     omega (
       arith,
       k.granted_tids_are_those_below_next.1,
-      numbered-most 1 gs (record { tid = n.tid.0; core = n.core.0 })
+      numbered-most 1 gs (grant_to n.tid.0 n.core.0)
           k.granted_tids_are_those_below_next.0 (granted-at gs h.commits n k.commits_are_of_granted_tids.1 i),
     )
 
@@ -208,10 +208,10 @@ unfolding is_applied
 solo-value sh gs ys ram h k c d t x cl dl e = value-bounded sh.base ram h.commits (h.world.dirs d) c t x below
   where
     held : 1 ≤ holder t (pair h.world c d)
-    held = own-holder h.world c d t (solo-holds (h.world.cores c).phase t e)
+    held = own-holder h.world c d t (solo-holds e)
 
     s : IsServed h.world d t
-    s = solo-served sh gs ys h k c d t cl dl e
+    s = solo-served k c d cl dl e
 
     other : (n : Noted) → Contains h.commits n → n.tid.0 ≡ t → ⊥
     other n i q = let z : times t h.commits ≡ 0 = (k.live_tid_is_granted_to_its_core c d t cl held).1 in let o : 1 ≤ times t h.commits =
@@ -219,7 +219,7 @@ solo-value sh gs ys ram h k c d t x cl dl e = value-bounded sh.base ram h.commit
 
     own : (n : Noted) → Contains h.commits n → n.core.0 ≡ c → n.tid.0 < t
     own n i q =
-        let g : Contains gs (record { tid = n.tid.0; core = c }) =
+        let g : Contains gs (grant_to n.tid.0 c) =
         rw q at (granted-at gs h.commits n k.commits_are_of_granted_tids.1 i) in
         let l : n.tid.0 ≤ t = k.live_tid_is_the_last_granted_to_its_core c d t n.tid.0 held g in
         go (cases_lt n.tid.0 t) l
@@ -229,22 +229,18 @@ solo-value sh gs ys ram h k c d t x cl dl e = value-bounded sh.base ram h.commit
         go (inr a) l = absurd (other n i (omega (arith, a, l)))
 
     below : (n : Noted) → Contains h.commits n → (is_this (Some c) n.core.0 || is_applied (h.world.dirs d) n.tid.0) ≡ true → n.tid.0 < t
-    below n i q = go (c == n.core.0) refl
-      where
-        go : (b : Bool) → (c == n.core.0) ≡ b → n.tid.0 < t
-        go true z = own n i (grind nats)
-        go false z = let a = s.serving in let o = s.owed in grind nats
+    below n i q = elim (tested (c == n.core.0)) [ inl z ↦ own n i (grind nats) | inr z ↦ let a = s.serving in let o = s.owed in grind nats ]
 
 -- a directory that applies the same commits, of those that stored the word
-num-same : (a b : Bool) → num a ≡ num b → a ≡ b
-num-same a b e = grind nats
+num-same : {a b : Bool} → num a ≡ num b → a ≡ b
+num-same e = grind nats
 
 -- a commit of which as many Commits are in flight as before is applied as before
 pub applied-same : (sh : Shape) (cs : List Noted) (v w : World) (n : Noted) (d : ℕ) → CommitsStand sh v cs → CommitsStand sh w cs
     → Contains cs n → d < sh.dirs → stores_at sh d n.stores ≡ true
     → live (Commits n.tid.0) (to_dir w n.core.0 d) ≡ live (Commits n.tid.0) (to_dir v n.core.0 d)
     → is_applied (v.dirs d) n.tid.0 ≡ is_applied (w.dirs d) n.tid.0
-applied-same sh cs v w n d a b i l s e = num-same (is_applied (v.dirs d) n.tid.0) (is_applied (w.dirs d) n.tid.0)
+applied-same sh cs v w n d a b i l s e = num-same
     (omega (arith, a n d i l s, b n d i l s, e))
 
 -- an invalidation of the word carries the served TID, which has committed
@@ -270,12 +266,11 @@ word-next sh gs ys h k c d x cl dl i =
     )
   where
     owed : 1 ≤ (h.world.dirs d).owed
-    owed = go (cases_lt 0 (h.world.dirs d).owed)
-      where
-        go : (0 < (h.world.dirs d).owed) ⊎ ((h.world.dirs d).owed ≤ 0) → 1 ≤ (h.world.dirs d).owed
-        go (inl l) = omega (arith, l)
-        go (inr l) = absurd (omega (arith, i, few-dooms None x (pair h.world c d).back, unowed-none sh gs ys h k c d cl (omega (arith, l))))
+    owed = elim (cases_lt 0 (h.world.dirs d).owed) [
+      | inl l ↦ omega (arith, l)
+      | inr l ↦ absurd (omega (arith, i, few-dooms None x (pair h.world c d).back, unowed-none k c d cl (omega (arith, l))))
+    ]
 
     served : tid_at h.world d < h.world.next
     served = let z = (k.marks_sent_are_the_lines_stored.2 c d 0).settled dl owed in
-        omega (arith, z.tid, listed-below sh gs ys h k z.commit z.noted)
+        omega (arith, z.tid, listed-below k z.commit z.noted)

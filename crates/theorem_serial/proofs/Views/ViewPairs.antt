@@ -7,7 +7,7 @@ use Names.{CoreState, Phase, Running, AwaitTid, DoomedTid, Ready, Overflowing, S
 use Names.{grant, grant_in_phase, probing_or_ready, is_probed, from_dir, is_violated, Uses, used_in, used_at, used_by, uses_delivered}
 use Names.{rolls_back, has_tid, waits_for_tid, EachUse, cond, rests, ◌&&◌, after_other_grant, slice_index_or, after_answer, grant_taken}
 use Names.{after_grant, after_move, back_taken, out_taken, TidGrant, DirState, sent_all, value_at, IsBound, Grants, passes, holder, among}
-use Names.{dooms, List, live, Pair, ◌<◌, ◌≤◌, nats, home_of}
+use Names.{dooms, List, live, Pair, ◌<◌, ◌≤◌, nats, home_of, ◌≢◌}
 use proofs.Tids.CoreTids.{tid-probing}
 use proofs.OneCore.Outcomes.{Acts, Buffers, Commits_now, Did, Ends_alone, Ends_run, Finds, Frames, Frames_anew, Idles, Misses, Misses_anew}
 use proofs.OneCore.Outcomes.{Reads, Room_wanted, after_end, each-exec, out, Heard, Hurt_alone, Hurt_none, Hurt_probing, Hurt_running}
@@ -35,10 +35,10 @@ pub data Exec (s : CoreState) (c : ℕ) (o : Out) : Type 0 where
   Commits : (t : ℕ) (n : Noted) → (s.phase ≡ Ready t) ⊎ (s.phase ≡ Solo t) → o.commit ≡ Some n → n.tid.0 ≡ t → n.core.0 ≡ c
       → n.stores ≡ s.stores → Exec s c o
 
-from-running : (s : CoreState) (c : ℕ) (o : Out) (q : Phase) → s.phase ≡ Running → o.core.phase ≡ q → ((t : ℕ) → has_tid q t ≡ false)
-    → (q ≡ Halted → ⊥) → o.commit ≡ None → Exec s c o
+from-running : {s : CoreState} {c : ℕ} {o : Out} (q : Phase) → s.phase ≡ Running → o.core.phase ≡ q → ((t : ℕ) → has_tid q t ≡ false)
+    → q ≢ Halted → o.commit ≡ None → Exec s c o
 unfolding has_tid
-from-running s c o q e f n z m = Goes (rw e tt) m (record { tids = λ t. rw (e, f) (n t); halted = λ g. absurd (z (sym f ∙ g)) })
+from-running q e f n z m = Goes (rw e tt) m (record { tids = λ t. rw (e, f) (n t); halted = λ g. absurd (z (sym f ∙ g)) })
 
 pub exec-view : (sh : Shape) (p : Program) (c : ℕ) (s : CoreState) → IfSome (core_exec sh p c s) (Exec s c)
 unfolding commit solo_commit noted has_tid
@@ -56,8 +56,8 @@ exec-view sh p c s = each-exec sh p c s (Exec s c) go
     go (Frames_anew a y n k g i q f h) = still _ Silent g.acts refl
     go (Misses a n g i q) = still _ (Requests (line_of (word_of sh.base a))) g.acts refl
     go (Misses_anew a n g i q f) = still _ (Requests (line_of (word_of sh.base a))) g.acts refl
-    go (Room_wanted r i) = from-running s c _ (Overflowing None) r refl (λ t. refl) (λ e. absurd (cc)) refl
-    go (Ends_run l e f r i) = from-running s c _ AwaitTid r refl (λ t. refl) (λ e. absurd (cc)) refl
+    go (Room_wanted r i) = from-running (Overflowing None) r refl (λ t. refl) (λ e. absurd (cc)) refl
+    go (Ends_run l e f r i) = from-running AwaitTid r refl (λ t. refl) (λ e. absurd (cc)) refl
     go (Ends_alone t l e f r i) = Commits t (noted t c (after_end s l e)) (inr r) refl refl refl refl
     go (Commits_now t e) = Commits t (noted t c s) (inl e) refl refl refl refl
 
@@ -97,7 +97,7 @@ evict-view sh x y s = each-evict sh x y s (λ o. (o.commit ≡ None) × Keeps s 
 -- the core has the granted TID, or it had no view
 abbrev pub Gets : (tid : ℕ) → CoreState → Uses → Out → Type 0
 Gets u s us o =
-    (us ≡ []) ⊎ (((t : ℕ) → num (has_tid o.core.phase t) ≡ num (u == t) + num (has_tid s.phase t)) × (o.core.phase ≡ Halted → ⊥))
+    (us ≡ []) ⊎ (((t : ℕ) → num (has_tid o.core.phase t) ≡ num (u == t) + num (has_tid s.phase t)) × (o.core.phase ≢ Halted))
 
 pub grant-view : (sh : Shape) (u : ℕ) (s : CoreState) (us : Uses) → waits_for_tid s.phase ≡ true → (s.phase ≡ DoomedTid → us ≡ [])
     → ((grant sh u s).commit ≡ None) × Gets u s us (grant sh u s)
@@ -178,19 +178,19 @@ pub view-empty : (sh : Shape) (ram : ℕ → ℕ) (cs : List Noted) (c d : ℕ) 
 view-empty sh ram cs c d v = record { near = λ b cl dl i. tt; halted = λ e. refl }
 
 -- a core moves
-bound-kept : (b : Option ℕ) (v : Pair) (s : CoreState) → Keeps v.core s → IsBound b (record v { core = s }) → IsBound b v
+bound-kept : (b : Option ℕ) (v : Pair) {s : CoreState} → Keeps v.core s → IsBound b (record v { core = s }) → IsBound b v
 unfolding holder
-bound-kept None v s k h = λ t. let e : num (has_tid s.phase t) ≡ num (has_tid v.core.phase t) = ap num (k.tids t) in omega (arith, h t, e)
-bound-kept (Some t) v s k h = let e : num (has_tid s.phase t) ≡ num (has_tid v.core.phase t) = ap num (k.tids t) in omega (arith, h, e)
+bound-kept None v {s} k h = λ t. let e : num (has_tid s.phase t) ≡ num (has_tid v.core.phase t) = ap num (k.tids t) in omega (arith, h t, e)
+bound-kept (Some t) v {s} k h = let e : num (has_tid s.phase t) ≡ num (has_tid v.core.phase t) = ap num (k.tids t) in omega (arith, h, e)
 
 bound-moved : (b : Option ℕ) (v : Pair) (o : Out) (d : ℕ) → Keeps v.core o.core → IsBound b (after_move v o d) → IsBound b v
 unfolding holder
-bound-moved None v o d k h = bound-kept None v o.core k h
-bound-moved (Some t) v o d k h = bound-kept (Some t) v o.core k h
+bound-moved None v o d k h = bound-kept None v k h
+bound-moved (Some t) v o d k h = bound-kept (Some t) v k h
 
-pub view-moves : (sh : Shape) (ram : ℕ → ℕ) (cs : List Noted) (us : Uses) (c d e : ℕ) (v : Pair) (o : Out) → Keeps v.core o.core
+pub view-moves : {sh : Shape} {ram : ℕ → ℕ} {cs : List Noted} {us : Uses} {c d : ℕ} (e : ℕ) {v : Pair} (o : Out) → Keeps v.core o.core
     → ViewOf sh ram cs us c d v → ViewOf sh ram cs us c d (after_move v o e)
-view-moves sh ram cs us c d e v o k y =
+view-moves e {v} o k y =
     record { near = λ b cl dl i. y.near b cl dl (bound-moved b v o e k i); halted = λ q. y.halted (k.halted q) }
 
 -- a message to the core is consumed that dooms no use
@@ -199,25 +199,23 @@ unfolding holder
 bound-back None v k h = h
 bound-back (Some t) v k h = h
 
-pub view-takes : (sh : Shape) (ram : ℕ → ℕ) (cs : List Noted) (us : Uses) (c d k : ℕ) (v : Pair) (m : Msg)
+pub view-takes : {sh : Shape} {ram : ℕ → ℕ} {cs : List Noted} {us : Uses} (c d k : ℕ) {v : Pair} (m : Msg)
     → slice_index_or v.back k None ≡ Some m
-    → ((b : Option ℕ) → c < sh.cores → d < sh.dirs → IsBound b v → (x y : ℕ) → home_of sh x ≡ d
-    → IsSeen v.core.cache v.core.phase x y → passes (dooms b x) m ≡ false)
-    → EachUse (IsSeen v.core.cache v.core.phase) us → ViewOf sh ram cs us c d v → ViewOf sh ram cs us c d (back_taken v k)
-view-takes sh ram cs us c d k v m i f s y = record { near = near; halted = y.halted }
+    → ((b : Option ℕ) → c < sh.cores → d < sh.dirs → IsBound b v → (x y : ℕ) → home_of sh x ≡ d → IsSeen v.core.cache v.core.phase x y
+    → passes (dooms b x) m ≡ false) → EachUse (IsSeen v.core.cache v.core.phase) us → ViewOf sh ram cs us c d v
+    → ViewOf sh ram cs us c d (back_taken v k)
+view-takes {sh} {ram} {cs} {us} c d k {v} m i f s y = record { near = near; halted = y.halted }
   where
     near : (b : Option ℕ) → c < sh.cores → d < sh.dirs → IsBound b (back_taken v k) → EachUse (NearAt sh ram cs c d b (back_taken v k)) us
     near b cl dl g = each-two (NearAt sh ram cs c d b v) (IsSeen v.core.cache v.core.phase) (NearAt sh ram cs c d b (back_taken v k)) us one
         (y.near b cl dl (bound-back b v k g)) s
       where
         one : (x z : ℕ) → NearAt sh ram cs c d b v x z → IsSeen v.core.cache v.core.phase x z → NearAt sh ram cs c d b (back_taken v k) x z
-        one x z n q e = go (n e)
-          where
-            go : (z ≡ value_at sh.base ram cs v.dir (Some c) b x) ⊎ (1 ≤ live (dooms b x) v.back)
-                → (z ≡ value_at sh.base ram cs v.dir (Some c) b x) ⊎ (1 ≤ live (dooms b x) (back_taken v k).back)
-            go (inl r) = inl r
-            go (inr r) = let p : num (passes (dooms b x) m) ≡ 0 = ap num (f b cl dl (bound-back b v k g) x z e q) in
-                inr (omega (arith, r, p, live-takes (dooms b x) v.back k m i))
+        one x z n q e = elim (n e) [
+          | inl r ↦ inl r
+          | inr r ↦ let p : num (passes (dooms b x) m) ≡ 0 = ap num (f b cl dl (bound-back b v k g) x z e q) in
+              inr (omega (arith, r, p, live-takes (dooms b x) v.back k m i))
+        ]
 
 -- a grant is consumed, and the core has its TID
 bound-granted : (b : Option ℕ) (v : Pair) (o : Out) (d k u : ℕ) → slice_index_or v.grants k None ≡ Some (TidGrant u)
@@ -227,11 +225,11 @@ unfolding holder passes
 bound-granted None v o d k u i f h = λ t. omega (arith, h t, f t, live-takes (Grants t) v.grants k (TidGrant u) i)
 bound-granted (Some t) v o d k u i f h = omega (arith, h, f t, live-takes (Grants t) v.grants k (TidGrant u) i)
 
-pub view-grants : (sh : Shape) (ram : ℕ → ℕ) (cs : List Noted) (us : Uses) (c d e k u : ℕ) (v : Pair) (o : Out)
+pub view-grants : {sh : Shape} {ram : ℕ → ℕ} {cs : List Noted} {us : Uses} {c d : ℕ} (e k u : ℕ) {v : Pair} (o : Out)
     → slice_index_or v.grants k None ≡ Some (TidGrant u)
-    → ((t : ℕ) → num (has_tid o.core.phase t) ≡ num (u == t) + num (has_tid v.core.phase t)) → (o.core.phase ≡ Halted → ⊥)
+    → ((t : ℕ) → num (has_tid o.core.phase t) ≡ num (u == t) + num (has_tid v.core.phase t)) → o.core.phase ≢ Halted
     → ViewOf sh ram cs us c d v → ViewOf sh ram cs us c d (after_move (grant_taken v k) o e)
-view-grants sh ram cs us c d e k u v o i f n y =
+view-grants e k u {v} o i f n y =
     record { near = λ b cl dl g. y.near b cl dl (bound-granted b v o e k u i f g); halted = λ q. absurd (n q) }
 
 -- the directory answers: the values stay, or what it sends dooms
@@ -245,10 +243,10 @@ StaysOrDooms sh ram cs c d v s ms = (b : Option ℕ) → c < sh.cores → d < sh
     → IsSeen v.core.cache v.core.phase x y
     → (value_at sh.base ram cs v.dir (Some c) b x ≡ value_at sh.base ram cs s (Some c) b x) ⊎ (1 ≤ among (dooms b x) ms)
 
-pub view-answers : (sh : Shape) (ram : ℕ → ℕ) (cs : List Noted) (us : Uses) (c d : ℕ) (v : Pair) (s : DirState) (ms : List Msg)
+pub view-answers : {sh : Shape} {ram : ℕ → ℕ} {cs : List Noted} {us : Uses} {c d : ℕ} {v : Pair} (s : DirState) (ms : List Msg)
     → StaysOrDooms sh ram cs c d v s ms → EachUse (IsSeen v.core.cache v.core.phase) us → ViewOf sh ram cs us c d v
     → ViewOf sh ram cs us c d (after_answer v s ms)
-view-answers sh ram cs us c d v s ms f q y = record { near = near; halted = y.halted }
+view-answers {sh} {ram} {cs} {us} {c} {d} {v} s ms f q y = record { near = near; halted = y.halted }
   where
     near : (b : Option ℕ) → c < sh.cores → d < sh.dirs → IsBound b (after_answer v s ms)
         → EachUse (NearAt sh ram cs c d b (after_answer v s ms)) us
@@ -275,25 +273,25 @@ unfolding holder
 bound-out None v k h = h
 bound-out (Some t) v k h = h
 
-pub view-out : (sh : Shape) (ram : ℕ → ℕ) (cs : List Noted) (us : Uses) (c d k : ℕ) (v : Pair) → ViewOf sh ram cs us c d v
+pub view-out : {sh : Shape} {ram : ℕ → ℕ} {cs : List Noted} {us : Uses} {c d : ℕ} (k : ℕ) {v : Pair} → ViewOf sh ram cs us c d v
     → ViewOf sh ram cs us c d (out_taken v k)
-view-out sh ram cs us c d k v y = record { near = λ b cl dl g. y.near b cl dl (bound-out b v k g); halted = y.halted }
+view-out k {v} y = record { near = λ b cl dl g. y.near b cl dl (bound-out b v k g); halted = y.halted }
 
 -- the vendor grants
-pub view-other : (sh : Shape) (ram : ℕ → ℕ) (cs : List Noted) (us : Uses) (c d : ℕ) (v : Pair) → ViewOf sh ram cs us c d v
+pub view-other : {sh : Shape} {ram : ℕ → ℕ} {cs : List Noted} {us : Uses} {c d : ℕ} {v : Pair} → ViewOf sh ram cs us c d v
     → ViewOf sh ram cs us c d (after_other_grant v)
 unfolding holder
-view-other sh ram cs us c d v y = record { near = λ b cl dl g. y.near b cl dl (bound-other b g); halted = y.halted }
+view-other {v} y = record { near = λ b cl dl g. y.near b cl dl (bound-other b g); halted = y.halted }
   where
     bound-other : (b : Option ℕ) → IsBound b (after_other_grant v) → IsBound b v
     bound-other None h = h
     bound-other (Some t) h = h
 
 -- to a core that has no TID: its view is as near at the new bound as it was at none
-pub view-given : (sh : Shape) (ram : ℕ → ℕ) (cs : List Noted) (us : Uses) (c d k : ℕ) (v : Pair) → ((t : ℕ) → holder t v ≡ 0)
+pub view-given : {sh : Shape} {ram : ℕ → ℕ} {cs : List Noted} {us : Uses} (c d k : ℕ) {v : Pair} → ((t : ℕ) → holder t v ≡ 0)
     → (c < sh.cores → d < sh.dirs → (x y : ℕ) → NearAt sh ram cs c d None v x y → NearAt sh ram cs c d (Some v.next) v x y)
     → ViewOf sh ram cs us c d v → ViewOf sh ram cs us c d (after_grant v k)
-view-given sh ram cs us c d k v z f y = record { near = near; halted = y.halted }
+view-given {sh} {ram} {cs} {us} c d k {v} z f y = record { near = near; halted = y.halted }
   where
     is-next : (t : ℕ) → 1 ≤ num (v.next == t) → v.next ≡ t
     is-next t h = grind nats

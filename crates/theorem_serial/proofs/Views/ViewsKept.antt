@@ -12,7 +12,7 @@ use Names.{waits_for_tid, RequestOf, stores_word, is_below, counts, value_at, do
 use Names.{nat_lt, ap, num, hit, Core, Dir, Vendor, Msg, TidReq, TidGrant, Inv, in_flight, from_dir, grant, is_violated, may_be_above}
 use Names.{core_takes, vendor_gives, uses_delivered, Invs, passes, grant_taken, back_taken, hit-reads, line_of, home, Answer, Waits, Drops}
 use Names.{Asks, Takes, dir_deliver, Stepped, dir_takes, dir_asks, step, next_history, recorded, UsesStand, views_after, CarriedViews}
-use Names.{granted_by, IsDoomed, ViewedWords, HaltedUsesNone, sent_by, ways_after, to_core, FromDir}
+use Names.{granted_by, IsDoomed, ViewedWords, HaltedUsesNone, sent_by, ways_after, to_core, FromDir, ◌≢◌, tested}
 use proofs.OneCore.Outcomes.{Acts}
 use proofs.Serving.OwnerSteps.{grant-any, asking-none}
 use proofs.Memory.CoreInMemory.{marks_at_homes}
@@ -34,12 +34,12 @@ use proofs.Tids.TidSteps.{live-some, granted_waits}
 pub put-own : (vs : Views) (c : ℕ) (us : Uses) → put vs c us c ≡ us
 put-own vs c us = rw (eq-self c) refl
 
-put-other : (vs : Views) (c j : ℕ) (us : Uses) → (j ≡ c → ⊥) → put vs c us j ≡ vs j
+put-other : (vs : Views) (c j : ℕ) (us : Uses) → j ≢ c → put vs c us j ≡ vs j
 put-other vs c j us n = rw (differ j c n) refl
 
 -- a view that is near, and the others as they were
 pub near-put : (sh : Shape) (ram : ℕ → ℕ) (cs : List Noted) (vs : Views) (w : World) (c : ℕ) (us : Uses)
-    → ((d : ℕ) → ViewOf sh ram cs us c d (pair w c d)) → ((j d : ℕ) → (j ≡ c → ⊥) → ViewOf sh ram cs (vs j) j d (pair w j d))
+    → ((d : ℕ) → ViewOf sh ram cs us c d (pair w c d)) → ((j d : ℕ) → j ≢ c → ViewOf sh ram cs (vs j) j d (pair w j d))
     → AllNear sh ram cs (put vs c us) w
 near-put sh ram cs vs w c us f g j d = either j c
     (λ e. rw e (subst (λ z. ViewOf sh ram cs z c d (pair w c d)) (sym (put-own vs c us)) (f d)))
@@ -52,8 +52,8 @@ running-bound : (v : Pair) (b : Option ℕ) → RequestOf v → v.core.phase ≡
 unfolding holder waits_for_tid has_tid
 running-bound v a r e i = grind (nats, grant-any, v.grants)
 
-not-halted : (q : Phase) → Acts q → q ≡ Halted → ⊥
-not-halted q a e = rw e at a
+not-halted : {q : Phase} → Acts q → q ≡ Halted → ⊥
+not-halted a e = rw e at a
 
 -- a valid word that isn't modified is near when it is used
 used-near : (sh : Shape) (gs : List Grant) (ys : Ways) (ram : ℕ → ℕ) (h : History) → Carried sh gs ys h
@@ -67,9 +67,9 @@ used-near sh gs ys ram h k um c d b cl dl a i x y mo va e = go (h.world.cores c)
         ⊎ (1 ≤ live (InvWord x) (pair h.world c d).back)
         → (y ≡ value_at sh.base ram h.commits (h.world.dirs d) (Some c) b x) ⊎ (1 ≤ live (dooms b x) (pair h.world c d).back)
     go Running q a r = let z : b ≡ None = running-bound (pair h.world c d) b (k.one_tid_request_or_grant c d) q i in rw z r
-    go (Solo t) q a (inl r) = let z : b ≡ Some t = bound-own sh gs ys h k c d t b cl (solo-holds (h.world.cores c).phase t q) i in
+    go (Solo t) q a (inl r) = let z : b ≡ Some t = bound-own k c d t b cl (solo-holds q) i in
         rw z (inl (r ∙ solo-value sh gs ys ram h k c d t x cl dl q))
-    go (Solo t) q a (inr r) = absurd (omega (arith, r, solo-undoomed sh gs ys h k c d x None cl dl (rw q refl)))
+    go (Solo t) q a (inr r) = absurd (omega (arith, r, solo-undoomed k c d x None cl dl (rw q refl)))
     go AwaitTid q a r = absurd a
     go DoomedTid q a r = absurd a
     go (Probing t) q a r = absurd a
@@ -83,8 +83,8 @@ unapplied : (sh : Shape) (gs : List Grant) (ys : Ways) (h : History) → Carried
     → stores_word sh.base (h.world.cores c).stores x ≡ true → is_applied (h.world.dirs d) t ≡ false
 unfolding opens has_tid
 unapplied sh gs ys h k m c d t x cl dl ph e s =
-    served-unapplied h.world d t
-    (open-served sh gs ys h k c d t cl dl (holds ph) (opened ph) (k.directory_that_replied_serves_the_tid.replied c d cl dl (commits ph)))
+    served-unapplied
+    (open-served k c d t cl dl (holds ph) (opened ph) (k.directory_that_replied_serves_the_tid.replied c d cl dl (commits ph)))
   where
     eq : (t == t) ≡ true
     eq = eq-self t
@@ -108,18 +108,16 @@ unapplied sh gs ys h k m c d t x cl dl ph e s =
     opened (inr q) = rw q eq
 
 silent-other : (sh : Shape) (gs : List Grant) (ys : Ways) (h : History) → Carried sh gs ys h → CarriedInMemory sh h
-    → (c d j t x : ℕ) (n : Noted) (b : Option ℕ) → c < sh.cores → d < sh.dirs → (j ≡ c → ⊥)
+    → (c d j t x : ℕ) (n : Noted) (b : Option ℕ) → c < sh.cores → d < sh.dirs → j ≢ c
     → ((h.world.cores c).phase ≡ Ready t) ⊎ ((h.world.cores c).phase ≡ Solo t) → n.tid.0 ≡ t → n.core.0 ≡ c
     → n.stores ≡ (h.world.cores c).stores → home_of sh x ≡ d → IsSilent sh.base (h.world.dirs d) (Some j) b x n
 unfolding counts
-silent-other sh gs ys h k m c d j t x n b cl dl ne ph tn cn st e = go (stores_word sh.base n.stores x) refl
-  where
-    go : (q : Bool) → stores_word sh.base n.stores x ≡ q → IsSilent sh.base (h.world.dirs d) (Some j) b x n
-    go false q = inr q
-    go true q =
-        let a : is_applied (h.world.dirs d) n.tid.0 ≡ false = rw tn (unapplied sh gs ys h k m c d t x cl dl ph e (rw st at q)) in
-        let o : (j == n.core.0) ≡ false = rw cn (differ j c ne) in
-        inl (rw (o, a) ((elim (is_below b n.tid.0) as (λ a. (a && false) ≡ false) [ true ↦ refl | false ↦ refl ])))
+silent-other sh gs ys h k m c d j t x n b cl dl ne ph tn cn st e = elim (tested (stores_word sh.base n.stores x)) [
+  | inr q ↦ inr q
+  | inl q ↦ let a : is_applied (h.world.dirs d) n.tid.0 ≡ false = rw tn (unapplied sh gs ys h k m c d t x cl dl ph e (rw st at q)) in
+      let o : (j == n.core.0) ≡ false = rw cn (differ j c ne) in
+      inl (rw (o, a) ((elim (is_below b n.tid.0) as (λ a. (a && false) ≡ false) [ true ↦ refl | false ↦ refl ])))
+]
 
 pub exec-views : (sh : Shape) (p : Program) (gs : List Grant) (ys : Ways) (ram : ℕ → ℕ) (vs : Views) (h : History) → Carried sh gs ys h
     → CarriedInMemory sh h → UnmodifiedWords sh ram h.world h.commits → AllNear sh ram h.commits vs h.world → (c : ℕ) → c < sh.cores
@@ -137,14 +135,14 @@ exec-views sh p gs ys ram vs h k m um near c cl = IfSome_then (core_exec sh p c 
 
     goes : (o : Out) → Acts w_core.phase → Keeps w_core o.core → AllNear sh ram h.commits (put vs c (vs c ++ new)) (core_moves h.world c o)
     goes o a q = pairs_move (λ j d v. ViewOf sh ram h.commits (put vs c (vs c ++ new) j) j d v) h.world c o
-        (λ d. view-moves sh ram h.commits (put vs c (vs c ++ new) c) c d d (pair h.world c d) o q (all c d)) all
+        (λ d. view-moves d o q (all c d)) all
       where
         mine : (d : ℕ) → ViewOf sh ram h.commits (vs c ++ new) c d (pair h.world c d)
         mine d = record {
           near = λ b cl dl i. each-append (NearAt sh ram h.commits c d b (pair h.world c d)) (vs c) new ((near c d).near b cl dl i)
               (used-each (NearAt sh ram h.commits c d b (pair h.world c d)) sh.base w_core (p.need w_core.local)
               (used-near sh gs ys ram h k um c d b cl dl a i));
-          halted = λ e. absurd (not-halted w_core.phase a e);
+          halted = λ e. absurd (not-halted a e);
         }
 
         all : AllNear sh ram h.commits (put vs c (vs c ++ new)) h.world
@@ -161,7 +159,7 @@ exec-views sh p gs ys ram vs h k m um near c cl = IfSome_then (core_exec sh p c 
         after : ℕ → Pair
         after d = after_move (pair h.world c d) o d
 
-        others : (j d : ℕ) → (j ≡ c → ⊥) → ViewOf sh ram (insert_commit n h.commits) (vs j) j d (pair h.world j d)
+        others : (j d : ℕ) → j ≢ c → ViewOf sh ram (insert_commit n h.commits) (vs j) j d (pair h.world j d)
         others j d ne = record {
           near = λ b jl dl i. each-one (NearAt sh ram h.commits j d b (pair h.world j d))
               (NearAt sh ram (insert_commit n h.commits) j d b (pair h.world j d)) (vs j)
@@ -189,21 +187,21 @@ pub evict-views : (sh : Shape) (ram : ℕ → ℕ) (vs : Views) (h : History) �
 unfolding pair core_moves
 evict-views sh ram vs h near c x y = IfSome_then (core_evict sh x y (h.world.cores c)) (evict-view sh x y (h.world.cores c)) (λ o a.
     rw a.0 (pairs_move (λ j d v. ViewOf sh ram h.commits (vs j) j d v) h.world c o
-    (λ d. view-moves sh ram h.commits (vs c) c d d (pair h.world c d) o a.1 (near c d)) near))
+    (λ d. view-moves d o a.1 (near c d)) near))
 
 -- Every event keeps that a viewed word has the value that it has for its core, or that the attempt is doomed.
 
 -- What a core takes from the vendor and from directories, and what the vendor grants, leaves every core's view near.
 
 -- a grant
-pub grant-views : (sh : Shape) (gs : List Grant) (ys : Ways) (ram : ℕ → ℕ) (vs : Views) (h : History) → Carried sh gs ys h
+pub grant-views : {sh : Shape} {gs : List Grant} {ys : Ways} (ram : ℕ → ℕ) (vs : Views) (h : History) → Carried sh gs ys h
     → AllNear sh ram h.commits vs h.world → ((c : ℕ) → (h.world.cores c).phase ≡ DoomedTid → vs c ≡ []) → (c k u : ℕ)
     → in_flight h.world.net Vendor (Core c) k ≡ Some (TidGrant u)
     → AllNear sh ram (and_noted (grant sh u (h.world.cores c)).commit h.commits) (put vs c (vs c))
     (core_takes h.world Vendor c k (grant sh u (h.world.cores c)))
 unfolding pair
-grant-views sh gs ys ram vs h y near dm c k u i =
-    go (grant-view sh u (h.world.cores c) (vs c) (granted_waits (pair h.world c 0) k u i (y.one_tid_request_or_grant c 0)) (dm c))
+grant-views {sh} ram vs h y near dm c k u i =
+    go (grant-view sh u (h.world.cores c) (vs c) (granted_waits (pair h.world c 0) k i (y.one_tid_request_or_grant c 0)) (dm c))
   where
     o : Out
     o = grant sh u (h.world.cores c)
@@ -213,7 +211,7 @@ grant-views sh gs ys ram vs h y near dm c k u i =
 
     own : Gets u (h.world.cores c) (vs c) o → (d : ℕ) → ViewOf sh ram h.commits (vs c) c d (after d)
     own (inl e) d = subst (λ z. ViewOf sh ram h.commits z c d (after d)) (sym e) (view-empty sh ram h.commits c d (after d))
-    own (inr g) d = view-grants sh ram h.commits (vs c) c d d k u (pair h.world c d) o i g.0 g.1 (near c d)
+    own (inr g) d = view-grants d k u o i g.0 g.1 (near c d)
 
     go : (o.commit ≡ None) × Gets u (h.world.cores c) (vs c) o
         → AllNear sh ram (and_noted o.commit h.commits) (put vs c (vs c)) (core_takes h.world Vendor c k o)
@@ -223,8 +221,8 @@ grant-views sh gs ys ram vs h y near dm c k u i =
         (near-put sh ram h.commits vs h.world c (vs c) (near c) (λ j d n. near j d)))
 
 -- an invalidation that rolls nothing back dooms no use
-none-of : (b : Bool) → num b ≤ 0 → b ≡ false
-none-of a l = grind nats
+none-of : {b : Bool} → num b ≤ 0 → b ≡ false
+none-of l = grind nats
 
 spares-inv : (sh : Shape) (gs : List Grant) (ys : Ways) (h : History) → Carried sh gs ys h → (c d k l n u x y : ℕ) (b : Option ℕ)
     → c < sh.cores → d < sh.dirs → FromDir h.world d c k (Inv l n u) → is_violated l n u (h.world.cores c) ≡ false
@@ -248,9 +246,9 @@ spares-inv sh gs ys h k' c d k l n u x y b cl dl i v g s = go (passes (dooms b x
         let a = ahead (reads_masked l n (h.world.cores c).cache) (may_be_above u (h.world.cores c).phase)
         (hit-reads l n (h.world.cores c).cache x r f (hit-line l n x f)) v in
         let t = tid-ahead u (h.world.cores c).phase a in
-        below t.0 t.2 (bound-own sh gs ys h k' c d t.0 b cl t.1 g) q
+        below t.0 t.2 (bound-own k' c d t.0 b cl t.1 g) q
     no q (inr r) = let o : num (passes (dooms b x) (Inv l n u)) ≡ 1 = ap num q in
-        omega (arith, o, solo-undoomed sh gs ys h k' c d x b cl dl r, live-some (dooms b x) (to_core h.world d c) k (Inv l n u) i)
+        omega (arith, o, solo-undoomed k' c d x b cl dl r, live-some (dooms b x) (to_core h.world d c) k (Inv l n u) i)
 
     go : (q : Bool) → passes (dooms b x) (Inv l n u) ≡ q → q ≡ false
     go false q = refl
@@ -263,7 +261,7 @@ unfolding passes
 spares sh gs ys h k' c d k x y m b cl dl i v g s = go m i v
   where
     other : (m : Msg) → num (passes Invs m) ≡ 0 → passes (dooms b x) m ≡ false
-    other m e = none-of (passes (dooms b x) m) (omega (arith, e, few-doom b x m))
+    other m e = none-of (omega (arith, e, few-doom b x m))
 
     go : (m : Msg) → FromDir h.world d c k m → Spares (h.world.cores c) m → passes (dooms b x) m ≡ false
     go (Inv l n u) i v = spares-inv sh gs ys h k' c d k l n u x y b cl dl i v g s
@@ -301,10 +299,10 @@ back-views sh gs ys ram vs h y seen near dm c d k m i =
     stays : (o : Out) → Keeps (h.world.cores c) o.core → Spares (h.world.cores c) m
         → AllNear sh ram h.commits (put vs c (vs c)) (core_takes h.world (Dir d) c k o)
     stays o q f = pairs_back (λ j e v. ViewOf sh ram h.commits (put vs c (vs c) j) j e v) h.world d c k o
-        (put-view (vs c) d (at-home o) (view-moves sh ram h.commits (vs c) c d d (back_taken (pair h.world c d) k) o q
-        (view-takes sh ram h.commits (vs c) c d k (pair h.world c d) m i
+        (put-view (vs c) d (at-home o) (view-moves d o q
+        (view-takes c d k m i
         (λ b cl dl g x z e s. spares sh gs ys h y c d k x z m b cl dl i f g s) (seen c) (near c d))))
-        (λ e n. put-view (vs c) e (away o e) (view-moves sh ram h.commits (vs c) c e e (pair h.world c e) o q (near c e)))
+        (λ e n. put-view (vs c) e (away o e) (view-moves e o q (near c e)))
         (near-put sh ram h.commits vs h.world c (vs c) (near c) (λ j e n. near j e))
 
     kind : (o : Out) → Back (h.world.cores c) m (vs c) o
@@ -320,25 +318,25 @@ pub vendor-views : (sh : Shape) (gs : List Grant) (ys : Ways) (ram : ℕ → ℕ
     → AllNear sh ram h.commits vs (vendor_gives h.world c k (given h.world c))
 unfolding pair
 vendor-views sh gs ys ram vs h y near c k i = pairs_vendor (λ j d v. ViewOf sh ram h.commits (vs j) j d v) h.world c k
-    (λ d. view-given sh ram h.commits (vs c) c d k (pair h.world c d)
+    (λ d. view-given c d k
     (λ t. asking-none (pair h.world c d) k t i (y.one_tid_request_or_grant c d)) (λ cl dl x z f e. one d cl dl x z (f e))
     (near c d))
-    (λ j d n. view-other sh ram h.commits (vs j) j d (pair h.world j d) (near j d))
+    (λ j d n. view-other (near j d))
   where
     one : (d : ℕ) → c < sh.cores → d < sh.dirs → (x z : ℕ) → (z ≡ value_at sh.base ram h.commits (h.world.dirs d) (Some c) None x)
         ⊎ (1 ≤ live (InvWord x) (pair h.world c d).back)
         → (z ≡ value_at sh.base ram h.commits (h.world.dirs d) (Some c) (Some h.world.next) x)
         ⊎ (1 ≤ live (dooms (Some h.world.next) x) (pair h.world c d).back)
     one d cl dl x z (inl r) =
-        inl (r ∙ value-bounded sh.base ram h.commits (h.world.dirs d) c h.world.next x (λ n j q. listed-below sh gs ys h y n j))
+        inl (r ∙ value-bounded sh.base ram h.commits (h.world.dirs d) c h.world.next x (λ n j q. listed-below y n j))
     one d cl dl x z (inr r) = inr (word-next sh gs ys h y c d x cl dl r)
 
 -- the list's fact from what its pairs say, and the other way
-from-pairs : (sh : Shape) (p : Program) (ram : ℕ → ℕ) (gs : List Grant) (ys : Ways) (vs : Views) (h : History) → Carried sh gs ys h
-    → CarriedViews sh p vs h → AllPairs (λ c d v. ViewOf sh ram h.commits (vs c) c d v) h.world → ViewedWords sh ram h.world h.commits vs
-    × HaltedUsesNone h.world vs
+from-pairs : {sh : Shape} {p : Program} (ram : ℕ → ℕ) {gs : List Grant} {ys : Ways} {vs : Views} {h : History} → Carried sh gs ys h
+    → CarriedViews sh p vs h → AllPairs (λ c d v. ViewOf sh ram h.commits (vs c) c d v) h.world
+    → ViewedWords sh ram h.world h.commits vs × HaltedUsesNone h.world vs
 unfolding pair
-from-pairs sh p ram gs ys vs h k q a = (viewed, λ c e. (a c 0).halted e)
+from-pairs {sh} ram {gs} {ys} {vs} {h} k q a = (viewed, λ c e. (a c 0).halted e)
   where
     viewed : ViewedWords sh ram h.world h.commits vs
     viewed c d b cl dl i = each-two (NearAt sh ram h.commits c d b (pair h.world c d))
@@ -387,7 +385,7 @@ keeps_views sh p entries ram gs ys views m h e k =
     (evict-views sh ram views h near c x y))
     (λ c i t q. after (put views c (views c))
     (record { world = core_takes h.world Vendor c i (grant sh t (h.world.cores c)); noted = (grant sh t (h.world.cores c)).commit })
-    (grant-views sh gs ys ram views h k.carried near doomed c i t q))
+    (grant-views ram views h k.carried near doomed c i t q))
     (λ c d i x q. each (from_dir sh d (h.world.cores c) x) (λ o. put views c (uses_delivered (h.world.cores c) x (views c)))
     (λ o. record { world = core_takes h.world (Dir d) c i o; noted = o.commit })
     (back-views sh gs ys ram views h k.carried seen near doomed c d i x q))
@@ -407,7 +405,7 @@ keeps_views sh p entries ram gs ys views m h e k =
     doomed c q = subst (UsesStand (h.world.cores c).cache (views c)) q (k.carried_views.read_marks_are_the_view c).stand
 
     after : (vs : Views) (o : Stepped) → AllNear sh ram (and_noted o.noted h.commits) vs o.world → Keeping sh p ram h vs o
-    after vs o a gs ys y q = from-pairs sh p ram gs ys vs (After h o) y q a
+    after vs o a gs ys y q = from-pairs ram y q a
 
     each : (x : Option Out) (f : Out → Views) (g : Out → Stepped)
         → IfSome x (λ o. AllNear sh ram (and_noted (g o).noted h.commits) (f o) (g o).world)
@@ -419,14 +417,13 @@ keeps_views sh p entries ram gs ys views m h e k =
         → OfAnswer h.world c d i (λ v. Keeping sh p ram h views (record { world = v; noted = None })) a
     answered c d i Waits f = tt
     answered c d i Drops f =
-        λ gs ys y q. from-pairs sh p ram gs ys views
-        (record { world = dir_takes h.world c d i (h.world.dirs d) (λ dst. []); commits = h.commits }) y q
+        λ gs ys y q. from-pairs ram y q
         (f y.commit_is_on_its_way_or_applied)
     answered c d i (Asks s sends) f =
-        λ gs ys y q. from-pairs sh p ram gs ys views (record { world = dir_asks h.world d s sends; commits = h.commits }) y q
+        λ gs ys y q. from-pairs ram y q
         (f y.commit_is_on_its_way_or_applied)
     answered c d i (Takes s sends) f =
-        λ gs ys y q. from-pairs sh p ram gs ys views (record { world = dir_takes h.world c d i s sends; commits = h.commits }) y q
+        λ gs ys y q. from-pairs ram y q
         (f y.commit_is_on_its_way_or_applied)
 
     recording : (x : Option Stepped) → IfSome x (Keeping sh p ram h (views_after sh p h.world e views))

@@ -77,8 +77,8 @@ pub record Tells (sh : Shape) (s : CoreState) (o : Out) : Type 0 where
       → (skips_here s.phase (writes_at sh s.cache d) t ≡ true) ⊎ (1 ≤ among (Skips t) (o.sends (Dir d)))
   pub commits : IfSome o.commit (TellsCommit sh s o)
 
-tells-steady : (sh : Shape) (s : CoreState) (o : Out) → Steady s o → Tells sh s o
-tells-steady sh s o y = record { skips = λ d t l e. inl (go d t s.phase refl (rw y.phase at e)); commits = rw y.commit tt }
+tells-steady : (sh : Shape) {s : CoreState} {o : Out} → Steady s o → Tells sh s o
+tells-steady sh {s} {o} y = record { skips = λ d t l e. inl (go d t s.phase refl (rw y.phase at e)); commits = rw y.commit tt }
   where
     written : (Acts s.phase → ⊥) → (d : ℕ) → writes_at sh o.core.cache d ≡ writes_at sh s.cache d
     written h d = writes_at-same sh o.core.cache s.cache d (y.modified h)
@@ -90,9 +90,9 @@ tells-steady sh s o y = record { skips = λ d t l e. inl (go d t s.phase refl (r
     go d t _ g e = absurd (cc)
 
 -- it goes on without its TID
-tells-none : (sh : Shape) (s : CoreState) (o : Out) (q : Phase) → o.core.phase ≡ q → ((b : Bool) (t : ℕ) → skips_here q b t ≡ false)
+tells-none : {sh : Shape} {s : CoreState} {o : Out} (q : Phase) → o.core.phase ≡ q → ((b : Bool) (t : ℕ) → skips_here q b t ≡ false)
     → IfSome o.commit (TellsCommit sh s o) → Tells sh s o
-tells-none sh s o q e h c =
+tells-none {sh} {o} q e h c =
     record {
       skips = λ d t l x.
           absurd (let z = h (writes_at sh o.core.cache d) t in let y : skips_here q (writes_at sh o.core.cache d) t ≡ true = rw e at x in
@@ -106,7 +106,7 @@ skips-after a b t = grind nats
 tells-alone : (sh : Shape) (c u : ℕ) (s : CoreState) (l : Local) (e : Outcome) → s.phase ≡ Solo u → OneCore sh s
     → Tells sh s (solo_commit sh c u (after_end s l e))
 unfolding solo_commit committed_core noted has_tid live_way
-tells-alone sh c u s l e q h = tells-none sh s (solo_commit sh c u (after_end s l e)) (phase_after_commit e) refl (skips-after e) (record {
+tells-alone sh c u s l e q h = tells-none (phase_after_commit e) refl (skips-after e) (record {
   has = rw q (grind nats);
   told = λ d l. rw q (rw (← stored-solo sh s.cache s.spilled s.stores d words.named) (solo-told sh s.cache s.spilled u d Untold l));
 })
@@ -116,26 +116,26 @@ tells-alone sh c u s l e q h = tells-none sh s (solo_commit sh c u (after_end s 
 
 tells-committed : (sh : Shape) (id u : ℕ) (s : CoreState) → s.phase ≡ Ready u → OneCore sh s → Tells sh s (commit sh id u s)
 unfolding commit committed_core noted has_tid live_way
-tells-committed sh id u s e h = tells-none sh s (commit sh id u s) (phase_after_commit s.ended) refl (skips-after s.ended) (record {
+tells-committed sh id u s e h = tells-none (phase_after_commit s.ended) refl (skips-after s.ended) (record {
   has = rw e (grind nats);
   told = λ d l. rw e (rw (← stored-written sh s.cache s.spilled s.stores d (rw e at h.words)) (ready-told sh s.cache u d l));
 })
 
-pub tells-exec : (sh : Shape) (p : Program) (c : ℕ) (s : CoreState) → OneCore sh s → IfSome (core_exec sh p c s) (λ o. Tells sh s o)
-tells-exec sh p c s h = each-exec sh p c s (λ o. Tells sh s o) go
+pub tells-exec : {sh : Shape} (p : Program) (c : ℕ) {s : CoreState} → OneCore sh s → IfSome (core_exec sh p c s) (λ o. Tells sh s o)
+tells-exec {sh} p c {s} h = each-exec sh p c s (λ o. Tells sh s o) go
   where
     go : (x : Did sh p c s) → Tells sh s (out x)
     go (Commits_now u e) = tells-committed sh c u s e h
-    go (Room_wanted r i) = tells-none sh s (moves (record s { phase = Overflowing None }) (say sh s Wants)) (Overflowing None) refl
+    go (Room_wanted r i) = tells-none (Overflowing None) refl
         (λ b t. refl) tt
-    go (Ends_run l e f r i) = tells-none sh s (moves (record (after_end s l e) { phase = AwaitTid }) (say sh s Wants)) AwaitTid refl
+    go (Ends_run l e f r i) = tells-none AwaitTid refl
         (λ b t. refl) tt
     go (Ends_alone u l e f r i) = tells-alone sh c u s l e r h
-    go x = tells-steady sh s (out x) (did-steady x)
+    go x = tells-steady sh (did-steady x)
 
 pub tells-evict : (sh : Shape) (x y : ℕ) (s : CoreState) → IfSome (core_evict sh x y s) (λ o. Tells sh s o)
 tells-evict sh x y s =
-    each-evict sh x y s (λ o. Tells sh s o) (λ k q u z. tells-steady sh s (emptied sh x y k s) (steady-emptied sh x y s k q u z))
+    each-evict sh x y s (λ o. Tells sh s o) (λ k q u z. tells-steady sh (steady-emptied sh x y s k q u z))
 
 -- a granted TID is skipped where nothing is written
 skips-granted : (sh : Shape) (c : Cache) (b : Bool) (u d t : ℕ) → d < sh.dirs
@@ -143,39 +143,39 @@ skips-granted : (sh : Shape) (c : Cache) (b : Bool) (u d t : ℕ) → d < sh.dir
 unfolding grant_sends among passes
 skips-granted sh c b u d t l e = grind nats
 
-pub tells-grant : (sh : Shape) (u : ℕ) (s : CoreState) → Tells sh s (grant sh u s)
+pub tells-grant : {sh : Shape} (u : ℕ) {s : CoreState} → Tells sh s (grant sh u s)
 unfolding grant
-tells-grant sh u s = go s.phase refl
+tells-grant {sh} u {s} = go s.phase refl
   where
     still : Tells sh s (ignored s)
-    still = tells-steady sh s (ignored s) (ignored-steady s)
+    still = tells-steady sh (ignored-steady s)
 
     go : (q : Phase) → s.phase ≡ q → Tells sh s (grant_in_phase sh u s q)
     go AwaitTid e = record {
       skips = λ d t l x. inr (skips-granted sh s.cache (any_below (is_probed sh s.cache) sh.dirs) u d t l x);
       commits = tt;
     }
-    go DoomedTid e = tells-none sh s (grant_in_phase sh u s DoomedTid) Running refl (λ b t. refl) tt
-    go (Overflowing None) e = tells-none sh s (grant_in_phase sh u s (Overflowing None)) (Overflowing (Some u)) refl (λ b t. refl) tt
+    go DoomedTid e = tells-none Running refl (λ b t. refl) tt
+    go (Overflowing None) e = tells-none (Overflowing (Some u)) refl (λ b t. refl) tt
     go _ e = still
 
-tells-replied : (sh : Shape) (e u : ℕ) (s : CoreState) (o : Out) → Replied sh e u s o → Tells sh s o
-tells-replied sh e u s o (Ignored q n) = rw q (tells-steady sh s (ignored s) (ignored-steady s))
-tells-replied sh e u s o (Probed g f ph ow ca se cm) =
+tells-replied : (sh : Shape) (e u : ℕ) (s : CoreState) {o : Out} → Replied sh e u s o → Tells sh s o
+tells-replied sh e u s (Ignored q n) = rw q (tells-steady sh (ignored-steady s))
+tells-replied sh e u s {o} (Probed g f ph ow ca se cm) =
     record { skips = λ d t l x. inl (go d t (all_replied sh (put s.owing e false)) (rw ph at x)); commits = rw cm tt }
   where
     go : (d t : ℕ) (b : Bool) → skips_here (if b then Ready u else Probing u) (writes_at sh o.core.cache d) t ≡ true
         → skips_here s.phase (writes_at sh s.cache d) t ≡ true
     go d t a x = grind nats
-tells-replied sh e u s o (Left_alone g f ph ow mo se cm) =
-    tells-none sh s o (if all_replied sh (put s.owing e false) then Solo u else Overflowing (Some u)) ph
+tells-replied sh e u s {o} (Left_alone g f ph ow mo se cm) =
+    tells-none (if all_replied sh (put s.owing e false) then Solo u else Overflowing (Some u)) ph
     (none (all_replied sh (put s.owing e false))) (rw cm tt)
   where
     none : (a b : Bool) (t : ℕ) → skips_here (if a then Solo u else Overflowing (Some u)) b t ≡ false
     none a b t = grind nats
 
-tells-hurt : (sh : Shape) (l : ℕ) (s : CoreState) (o : Out) → Invalidated sh l s o → Tells sh s o
-tells-hurt sh l s o i = go i.hurt
+tells-hurt : {sh : Shape} (l : ℕ) (s : CoreState) {o : Out} → Invalidated sh l s o → Tells sh s o
+tells-hurt {sh} l s {o} i = go i.hurt
   where
     quiet : IfSome o.commit (TellsCommit sh s o)
     quiet = rw i.commit tt
@@ -185,14 +185,14 @@ tells-hurt sh l s o i = go i.hurt
       skips = λ d t l x. inl (rw (← writes_at-same sh o.core.cache s.cache d mo) (rw ph at x));
       commits = quiet;
     }
-    go (Rolled ph ph' ow se) = tells-none sh s o Running ph' (λ b t. refl) quiet
-    go (Doomed ph ph' ow se) = tells-none sh s o DoomedTid ph' (λ b t. refl) quiet
-    go (Aborted u ph ph' ow se) = tells-none sh s o Running ph' (λ b t. refl) quiet
-    go (Gave_up u ph ph' ow se) = tells-none sh s o Running ph' (λ b t. refl) quiet
+    go (Rolled ph ph' ow se) = tells-none Running ph' (λ b t. refl) quiet
+    go (Doomed ph ph' ow se) = tells-none DoomedTid ph' (λ b t. refl) quiet
+    go (Aborted u ph ph' ow se) = tells-none Running ph' (λ b t. refl) quiet
+    go (Gave_up u ph ph' ow se) = tells-none Running ph' (λ b t. refl) quiet
 
 pub tells-back : (sh : Shape) (e : ℕ) (s : CoreState) (m : Msg) → IfSome (from_dir sh e s m) (λ o. Tells sh s o)
-tells-back sh e s (ProbeReply u v) = tells-replied sh e u s (probe_reply sh e u s) (reply-cases sh e u s)
-tells-back sh e s (Fill l ws) = tells-steady sh s (fill l ws s) (fill-steady l ws s)
-tells-back sh e s (DataReq l) = tells-steady sh s (data_request sh l s) (data-steady sh l s)
-tells-back sh e s (Inv l m u) = tells-hurt sh l s (invalidate sh l m u s) (invalidate-cases sh l m u s)
+tells-back sh e s (ProbeReply u v) = tells-replied sh e u s (reply-cases sh e u s)
+tells-back sh e s (Fill l ws) = tells-steady sh (fill-steady l ws s)
+tells-back sh e s (DataReq l) = tells-steady sh (data-steady sh l s)
+tells-back sh e s (Inv l m u) = tells-hurt l s (invalidate-cases sh l m u s)
 tells-back sh e s _ = tt

@@ -9,7 +9,7 @@ use Names.{Aborts, Commits, among, passes, KeptCores, Grant, times, KeptOwners, 
 use Names.{Skipped, Aborted, Committed, Ways, told_by, ways_after, part_in, WayAt, KeptWays, stores_at, live_way, KeptLive, commit_way}
 use Names.{KeptCommitted, ap, num, nats, ◌&&◌, ◌||◌, any_below, any_word, word_at, home, lines, reads_at, is_modified, any_below-at}
 use Names.{any_below-found, CoreState, DirState, commit, noted, Drops, Asks, Takes, Kept, OneCore, Reached, loads_word, LoadsMarked}
-use Names.{KeptLoads, loads_at, worked_at, KeptWorked, solo_commit, tid_at}
+use Names.{KeptLoads, loads_at, worked_at, KeptWorked, solo_commit, tid_at, ◌≢◌}
 use proofs.Counts.StepCases.{OfAnswer, sent_cases, step_cases}
 use proofs.Serving.KeptSteps.{core_of_grant, core_of_back}
 use proofs.Counts.Links.{total-le}
@@ -46,8 +46,8 @@ unfolding core_moves core_takes dir_takes dir_asks vendor_gives
 by_core sh p w e L z ex ev gr ba = sent_cases sh p w e (λ x g. ByCore sh w L x)
     (λ c l. moved c l (core_exec sh p c (w.cores c)) (ex c l))
     (λ c x y l. moved c l (core_evict sh x y (w.cores c)) (ev c x y l))
-    (λ c k t i. let l = core_of_grant sh w c k (TidGrant t) z i in Moved c (grant sh t (w.cores c)) l (gr c k t l i) refl refl refl)
-    (λ c d k m i. let l = core_of_back sh w c d k m z i in taken c d k l (from_dir sh d (w.cores c) m) (ba c d m l))
+    (λ c k t i. let l = core_of_grant c k z i in Moved c (grant sh t (w.cores c)) l (gr c k t l i) refl refl refl)
+    (λ c d k m i. let l = core_of_back c d k z i in taken c d k l (from_dir sh d (w.cores c) m) (ba c d m l))
     (λ c d k m i. answered c d k (dir_deliver sh (w.dirs d) c m))
     (λ c k i. Still refl refl refl)
   where
@@ -85,17 +85,17 @@ grant-speaks sh w c k u z i = record {
   untold =
       λ d t l. omega (
         arith,
-        part-grant sh u d t (w.cores c) l (granted_waits (pair w c d) k u i (z.requests c d)),
+        part-grant sh u d t (w.cores c) l (granted_waits (pair w c d) k i (z.requests c d)),
         live-some (Grants t) (w.net Vendor (Core c)) k (TidGrant u) i,
       );
-  tells = tells-grant sh u (w.cores c);
+  tells = tells-grant u;
   noted = noted-grant sh u (w.cores c);
 }
 
-pub step-speaks : (sh : Shape) (p : Program) (w : World) (e : Event) → KeptTids sh w → KeptCores sh w
+pub step-speaks : {sh : Shape} (p : Program) {w : World} (e : Event) → KeptTids sh w → KeptCores sh w
     → IfSome (step sh p w e) (ByCore sh w (Speaks sh w) (sent_by sh p w e))
-step-speaks sh p w e z k = by_core sh p w e (Speaks sh w) z
-    (λ c l. all c (core_exec sh p c (w.cores c)) (λ d t x. part-exec sh p c d t (w.cores c) x) (tells-exec sh p c (w.cores c) (k c))
+step-speaks {sh} p {w} e z k = by_core sh p w e (Speaks sh w) z
+    (λ c l. all c (core_exec sh p c (w.cores c)) (λ d t x. part-exec sh p c d t (w.cores c) x) (tells-exec p c (k c))
     (noted-exec sh p c (w.cores c)))
     (λ c x y l. all c (core_evict sh x y (w.cores c)) (λ d t a. part-evict sh x y d t (w.cores c)) (tells-evict sh x y (w.cores c))
     (noted-evict sh x y (w.cores c)))
@@ -117,8 +117,7 @@ untold-part sh w c d t y c' l r h =
 
 -- a way that was told stays
 stays : (sh : Shape) (w : World) (c d t : ℕ) (ms : List Msg) (y : Way) → c < sh.cores
-    → among (Resolves t) ms ≤ part_in Untold sh d t (pair w c d) → ResolvedAt sh w d t → WayAt sh w d t y → (y ≡ Untold → ⊥)
-    → told_by ms t y ≡ y
+    → among (Resolves t) ms ≤ part_in Untold sh d t (pair w c d) → ResolvedAt sh w d t → WayAt sh w d t y → y ≢ Untold → told_by ms t y ≡ y
 stays sh w c d t ms y c' l r h n = grind (nats, told-none, untold-part)
 
 -- the way of a core's TID
@@ -141,11 +140,15 @@ skips-live (Ready u) true t h = absurd (grind arith)
 skips-live (Ready u) false t h = (grind arith, refl)
 skips-live _ b t h = absurd (cc)
 
-pub step-live-out : (sh : Shape) (gs hs : List Grant) (ys : Ways) (w : World) (cs ds : List Noted) (x : Sends) (o : Stepped) → KeptTids sh w
+pub step-live-out : {sh : Shape} {gs hs : List Grant} (ys : Ways) {w : World} {cs ds : List Noted} {x : Sends} (o : Stepped) → KeptTids sh w
     → KeptOwners sh gs w cs → KeptWays sh ys w → KeptLive sh ys w → ByCore sh w (Speaks sh w) x o → KeptTids sh o.world
     → KeptOwners sh hs o.world ds → KeptWays sh (ways_after x ys) o.world → KeptLive sh (ways_after x ys) o.world
 unfolding part_in pair
-step-live-out sh gs hs ys w cs ds x o z ow k h b z' ow' k' c d t cl dl has = go (live-cases q written t has)
+step-live-out {sh} {hs} ys {w} {ds} {x} o z ow k h b z' ow' k' c d t cl dl has = elim (live-cases q written t has) [
+  | inl a ↦ let n : num (opens q written t) ≡ 1 = ap num a.0 in
+      untold-part sh o.world c d t y cl (omega (arith, n)) (z'.resolved d t dl) (k' d t dl positive) ∙ sym a.1
+  | inr a ↦ skipped b a.0 ∙ sym a.1
+]
   where
     q : Phase
     q = (o.world.cores c).phase
@@ -157,7 +160,7 @@ step-live-out sh gs hs ys w cs ds x o z ow k h b z' ow' k' c d t cl dl has = go 
     y = ways_after x ys d t
 
     positive : 1 ≤ t
-    positive = positive-held sh hs o.world ds c t ow' has
+    positive = positive-held c t ow' has
 
     -- what was skipped before stays skipped
     before : (e : ℕ) (s : Out) → Speaks sh w e s → e < sh.cores → skips_here (w.cores c).phase (writes_at sh (w.cores c).cache d) t ≡ true
@@ -185,15 +188,9 @@ step-live-out sh gs hs ys w cs ds x o z ow k h b z' ow' k' c d t cl dl has = go 
             own r (inl a) = before e s u el (rw r a)
             own r (inr a) = told-skip (s.sends (Dir d)) t (ys d t) a
 
-    go : ((opens q written t ≡ true) × (live_way q written ≡ Untold)) ⊎ ((skips_here q written t ≡ true) × (live_way q written ≡ Skipped))
-        → y ≡ live_way q written
-    go (inl a) = let n : num (opens q written t) ≡ 1 = ap num a.0 in
-        untold-part sh o.world c d t y cl (omega (arith, n)) (z'.resolved d t dl) (k' d t dl positive) ∙ sym a.1
-    go (inr a) = skipped b a.0 ∙ sym a.1
-
 -- the ways of committed TIDs
-told-somehow : (sh : Shape) (n : Noted) (d : ℕ) (y : Way) → y ≡ commit_way sh n d → y ≡ Untold → ⊥
-told-somehow sh n d y e i = go (stores_at sh d n.stores) (sym e ∙ i)
+told-somehow : (sh : Shape) (n : Noted) (d : ℕ) {y : Way} → y ≡ commit_way sh n d → y ≡ Untold → ⊥
+told-somehow sh n d e i = go (stores_at sh d n.stores) (sym e ∙ i)
   where
     go : (b : Bool) → (if b then Committed else Skipped) ≡ Untold → ⊥
     go true q = cc
@@ -211,22 +208,22 @@ told-committed ms t y h = go (nat_lt 0 (among (Skips t) ms)) (nat_lt 0 (among (A
     go false false true q e = inr (grind nats)
     go false false false q e = inl e
 
-pub step-committed-out : (sh : Shape) (gs : List Grant) (ys : Ways) (w : World) (cs : List Noted) (x : Sends) (o : Stepped) → KeptTids sh w
+pub step-committed-out : {sh : Shape} {gs : List Grant} (ys : Ways) {w : World} {cs : List Noted} {x : Sends} {o : Stepped} → KeptTids sh w
     → KeptOwners sh gs w cs → KeptWays sh ys w → KeptLive sh ys w → KeptCommitted sh ys cs → ByCore sh w (Speaks sh w) x o
     → KeptCommitted sh (ways_after x ys) (and_noted o.noted cs)
-step-committed-out sh gs ys w cs x o z ow k lv h (Still e i n) =
+step-committed-out ys z ow k lv h (Still e i n) =
     rw (i, n) (record {
       stored = λ m d q l. told-nothing m.tid.0 (ys d m.tid.0) ∙ h.stored m d q l;
       only = λ d t l q. h.only d t l (sym (told-nothing t (ys d t)) ∙ q);
     })
-step-committed-out sh gs ys w cs x o z ow k lv h (Moved c s cl u f i n) =
+step-committed-out {sh} {gs} ys {w} {cs} z ow k lv h (Moved c s cl u f i n) =
     rw (i, n) (record { stored = λ m d q l. stored m d l s.commit u.tells.commits q; only = only })
   where
     before : (m : Noted) (d : ℕ) → d < sh.dirs → Contains cs m → told_by (s.sends (Dir d)) m.tid.0 (ys d m.tid.0) ≡ commit_way sh m d
     before m d l q =
         let r : ys d m.tid.0 ≡ commit_way sh m d = h.stored m d q l in
         stays sh w c d m.tid.0 (s.sends (Dir d)) (ys d m.tid.0) cl (u.untold d m.tid.0 l) (z.resolved d m.tid.0 l)
-        (k d m.tid.0 l (positive-committed sh gs w cs m ow q)) (told-somehow sh m d (ys d m.tid.0) r) ∙ r
+        (k d m.tid.0 l (positive-committed m ow q)) (told-somehow sh m d r) ∙ r
 
     now : (m : Noted) (d : ℕ) → d < sh.dirs → TellsCommit sh (w.cores c) s m
         → told_by (s.sends (Dir d)) m.tid.0 (ys d m.tid.0) ≡ commit_way sh m d
@@ -238,11 +235,10 @@ step-committed-out sh gs ys w cs x o z ow k lv h (Moved c s cl u f i n) =
     stored m d l (Some b) a q = elim (inserted b m cs q) [ inl e ↦ now m d l (rw e at a) | inr r ↦ before m d l r ]
 
     only : (d t : ℕ) → d < sh.dirs → told_by (s.sends (Dir d)) t (ys d t) ≡ Committed → 1 ≤ times t (and_noted s.commit cs)
-    only d t l q = go (told-committed (s.sends (Dir d)) t (ys d t) q)
-      where
-        go : (ys d t ≡ Committed) ⊎ (1 ≤ among (Commits t) (s.sends (Dir d))) → 1 ≤ times t (and_noted s.commit cs)
-        go (inl e) = omega (arith, h.only d t l e, times-noted t s.commit cs)
-        go (inr e) = omega (arith, e, u.noted d t, times-noted t s.commit cs)
+    only d t l q = elim (told-committed (s.sends (Dir d)) t (ys d t) q) [
+      | inl e ↦ omega (arith, h.only d t l e, times-noted t s.commit cs)
+      | inr e ↦ omega (arith, e, u.noted d t, times-noted t s.commit cs)
+    ]
 
 -- Every event keeps that a directory where a commit loaded or stored has reached its TID.
 
@@ -301,10 +297,10 @@ ready-works sh dirs id u s e h k r = λ d l w. rw e at ((r d).reached l (rw e (t
         go false p true q w = rw (stored d ∙ q) refl
         go false p false q w = absurd (cc)
 
-exec-works : (sh : Shape) (p : Program) (dirs : ℕ → DirState) (c : ℕ) (s : CoreState) → OneCore sh s → LoadsMarked sh s
+exec-works : {sh : Shape} (p : Program) (dirs : ℕ → DirState) (c : ℕ) {s : CoreState} → OneCore sh s → LoadsMarked sh s
     → AllReached sh dirs s → IfSome (core_exec sh p c s) (λ o. Works sh dirs o)
 unfolding solo_commit noted
-exec-works sh p dirs c s h k r = each-exec sh p c s (λ o. Works sh dirs o) go
+exec-works {sh} p dirs c {s} h k r = each-exec sh p c s (λ o. Works sh dirs o) go
   where
     go : (x : Did sh p c s) → Works sh dirs (out x)
     go (Ends_alone u o e f q i) = λ d l w. rw q at ((r d).reached l (rw q refl) ((r d).replied l (rw q refl)))
@@ -372,8 +368,8 @@ pub step-loads : (sh : Shape) (p : Program) (w : World) (e : Event) → Kept sh 
     → IfSome (step sh p w e) (ByCore sh w (Loads sh w) (sent_by sh p w e))
 unfolding pair
 step-loads sh p w e z k h = by_core sh p w e (Loads sh w) z.told.tids
-    (λ c l. both c (core_exec sh p c (w.cores c)) (loads-exec sh p c (w.cores c) (k c) (h c))
-    (exec-works sh p w.dirs c (w.cores c) (k c) (h c) (λ d. (z.probes c d).core)))
+    (λ c l. both c (core_exec sh p c (w.cores c)) (loads-exec p c (k c) (h c))
+    (exec-works p w.dirs c (k c) (h c) (λ d. (z.probes c d).core)))
     (λ c x y l. quiet c (core_evict sh x y (w.cores c)) (loads-evict sh x y (w.cores c) (h c)) (none-evict sh x y (w.cores c)))
     (λ c i t l q. record { loads = loads-grant sh t (w.cores c) (h c); works = rw (none-grant sh t (w.cores c)) tt })
     (λ c d m l. quiet c (from_dir sh d (w.cores c) m) (loads-back sh d (w.cores c) m (h c)) (none-back sh d (w.cores c) m))
@@ -386,25 +382,24 @@ step-loads sh p w e z k h = by_core sh p w e (Loads sh w) z.told.tids
     quiet c None x y = tt
     quiet c (Some o) x y = record { loads = x; works = rw y tt }
 
-pub loads-out : (sh : Shape) (w : World) (x : Sends) (o : Stepped) → KeptLoads sh w → ByCore sh w (Loads sh w) x o → KeptLoads sh o.world
-loads-out sh w x o h (Still e i n) = rw e h
-loads-out sh w x o h (Moved c s l u f i n) = rw f (λ j. go j (j == c))
+pub loads-out : {sh : Shape} {w : World} {x : Sends} {o : Stepped} → KeptLoads sh w → ByCore sh w (Loads sh w) x o → KeptLoads sh o.world
+loads-out h (Still e i n) = rw e h
+loads-out {sh} {w} h (Moved c s l u f i n) = rw f (λ j. go j (j == c))
   where
     go : (j : ℕ) (b : Bool) → LoadsMarked sh (if b then s.core else w.cores j)
     go j true = u.loads
     go j false = h j
 
-pub worked-out : (sh : Shape) (w : World) (cs : List Noted) (x : Sends) (o : Stepped) → Later w o.world → KeptWorked sh w cs
+pub worked-out : {sh : Shape} {w : World} (cs : List Noted) {x : Sends} {o : Stepped} → Later w o.world → KeptWorked sh w cs
     → ByCore sh w (Loads sh w) x o → KeptWorked sh o.world (and_noted o.noted cs)
-worked-out sh w cs x o r h (Still e i n) = rw n (λ m d q l a. omega (arith, h m d q l a, r d))
-worked-out sh w cs x o r h (Moved c s cl u f i n) = rw n (λ m d q l a. go m d l a s.commit u.works q)
+worked-out cs r h (Still e i n) = rw n (λ m d q l a. omega (arith, h m d q l a, r d))
+worked-out {sh} {w} cs {o} r h (Moved c s cl u f i n) = rw n (λ m d q l a. go m d l a s.commit u.works q)
   where
     go : (m : Noted) (d : ℕ) → d < sh.dirs → worked_at sh m d ≡ true → (b : Option Noted)
         → IfSome b (λ n. (d : ℕ) → d < sh.dirs → worked_at sh n d ≡ true → n.tid.0 ≤ tid_at w d)
         → Contains (and_noted b cs) m → m.tid.0 ≤ (tid_at o.world d)
     go m d l a None v q = omega (arith, h m d q l a, r d)
-    go m d l a (Some b) v q = now (inserted b m cs q)
-      where
-        now : (b ≡ m) ⊎ Contains cs m → m.tid.0 ≤ (tid_at o.world d)
-        now (inl e) = let y : m.tid.0 ≤ tid_at w d = rw e at (v d l (rw e a)) in omega (arith, y, r d)
-        now (inr k) = omega (arith, h m d k l a, r d)
+    go m d l a (Some b) v q = elim (inserted b m cs q) [
+      | inl e ↦ let y : m.tid.0 ≤ tid_at w d = rw e at (v d l (rw e a)) in omega (arith, y, r d)
+      | inr k ↦ omega (arith, h m d k l a, r d)
+    ]

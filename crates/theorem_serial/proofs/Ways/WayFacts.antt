@@ -8,7 +8,7 @@ use Names.{KeptWays, AlwaysTold, zero, suc, ◌+◌, ◌≡◌, ◌<◌, ◌≤�
 use Names.{is_skipped, writes_at, sum_below, Phase, World, Commits, live, holder, pair, share, sum_of, opens, ResolvedAt, Way, Untold}
 use Names.{Skipped, Aborted, Committed, part_in, kept_in, WayAt, is_untold, is_given_up, UntoldWhereOpen, UntoldIsLive, Settled, WaysFit}
 use Names.{AllWaysFit, given_up_by, GivenUpOnce, LiveIsOpen, CommittedWhereStored, Contains, Noted, CommitsAreServed, times}
-use Names.{SmallerAreResolved, SmallerAreGivenUp, WorkIsReached, worked_at, nats, tid_at, to_dir, IfSome_then}
+use Names.{SmallerAreResolved, SmallerAreGivenUp, WorkIsReached, worked_at, nats, tid_at, to_dir, IfSome_then, first_state}
 use proofs.Counts.Links.{total-le, total-zero, num-one}
 use proofs.Run.AllInvariants.{step-all, all-at-start}
 use proofs.Serving.CommitSteps.{commits_served}
@@ -20,10 +20,10 @@ use proofs.Ways.WayParts.{parts_in, resolved-split, in-way}
 use proofs.Ways.WaySteps.{step-ways, start-ways}
 
 -- The ways in which each TID was given to each directory, through every event and along every run.
-pub step-run : (sh : Shape) (p : Program) (gs : List Grant) (ys : Ways) (h : History) (e : Event) → KeptRun sh gs ys h
+pub step-run : {sh : Shape} (p : Program) {gs : List Grant} {ys : Ways} {h : History} (e : Event) → KeptRun sh gs ys h
     → IfSome (recorded h (step sh p h.world e)) (λ g. KeptRun sh (gs ++ granted_by h.world e) (ways_after (sent_by sh p h.world e) ys) g)
-step-run sh p gs ys h e k = go (step sh p h.world e) (step-all sh p gs h e k.all) (step-ways sh p ys h.world e k.all.kept k.ways)
-    (step-speaks sh p h.world e k.all.kept.told.tids k.all.cores) (step-loads sh p h.world e k.all.kept k.all.cores k.loads)
+step-run {sh} p {gs} {ys} {h} e k = go (step sh p h.world e) (step-all p e k.all) (step-ways sh p ys h.world e k.all.kept k.ways)
+    (step-speaks p e k.all.kept.told.tids k.all.cores) (step-loads sh p h.world e k.all.kept k.all.cores k.loads)
     (step-later sh p h.world e)
   where
     x : Ways
@@ -40,19 +40,18 @@ step-run sh p gs ys h e k = go (step sh p h.world e) (step-all sh p gs h e k.all
         record {
           all = a;
           ways = w;
-          live = step-live-out sh gs (gs ++ granted_by h.world e) ys h.world h.commits (and_noted o.noted h.commits)
-              (sent_by sh p h.world e) o k.all.kept.told.tids k.all.owners k.ways k.live c a.kept.told.tids a.owners w;
-          committed = step-committed-out sh gs ys h.world h.commits (sent_by sh p h.world e) o k.all.kept.told.tids k.all.owners k.ways
+          live = step-live-out ys o k.all.kept.told.tids k.all.owners k.ways k.live c a.kept.told.tids a.owners w;
+          committed = step-committed-out ys k.all.kept.told.tids k.all.owners k.ways
               k.live k.committed c;
-          loads = loads-out sh h.world (sent_by sh p h.world e) o k.loads d;
-          worked = worked-out sh h.world h.commits (sent_by sh p h.world e) o l k.worked d;
+          loads = loads-out k.loads d;
+          worked = worked-out h.commits l k.worked d;
         }
 
 run_from-ways : (sh : Shape) (p : Program) (es : List Event) (gs : List Grant) (ys : Ways) (h : History) → KeptRun sh gs ys h
     → IfSome (run_from sh p es h) (λ r. KeptRun sh (gs ++ grants_from sh p es h) (ways_from sh p es ys h) r)
 unfolding run_from grants_from ways_from next_history
 run_from-ways sh p [] gs ys h k = rw append-nil k
-run_from-ways sh p (e ∷ es) gs ys h k = go (recorded h (step sh p h.world e)) (step-run sh p gs ys h e k)
+run_from-ways sh p (e ∷ es) gs ys h k = go (recorded h (step sh p h.world e)) (step-run p e k)
     (λ g q. run_from-ways sh p es (gs ++ granted_by h.world e) x g q)
   where
     x : Ways
@@ -67,8 +66,7 @@ run_from-ways sh p (e ∷ es) gs ys h k = go (recorded h (step sh p h.world e)) 
     go None a f = tt
     go (Some g) a f = rw (sym (append_assoc gs (granted_by h.world e) (grants_from sh p es g))) (f g a)
 
-pub start-run : (sh : Shape) (entries : ℕ → Local) (ram : ℕ → ℕ)
-    → KeptRun sh [] first_ways (record { world = start entries ram; commits = [] })
+pub start-run : (sh : Shape) (entries : ℕ → Local) (ram : ℕ → ℕ) → KeptRun sh [] first_ways (first_state entries ram)
 unfolding start core_start has_tid loads_word
 start-run sh entries ram = record {
   all = all-at-start sh entries ram;
@@ -81,10 +79,10 @@ start-run sh entries ram = record {
 
 pub run-ways : (sh : Shape) (p : Program) (entries : ℕ → Local) (ram : ℕ → ℕ) (es : List Event)
     → IfSome (run sh p (start entries ram) es)
-    (λ r. KeptRun sh (grants_from sh p es (record { world = start entries ram; commits = [] }))
-    (ways_from sh p es first_ways (record { world = start entries ram; commits = [] })) r)
+    (λ r. KeptRun sh (grants_from sh p es (first_state entries ram))
+    (ways_from sh p es first_ways (first_state entries ram)) r)
 unfolding run
-run-ways sh p entries ram es = run_from-ways sh p es [] first_ways (record { world = start entries ram; commits = [] })
+run-ways sh p entries ram es = run_from-ways sh p es [] first_ways (first_state entries ram)
     (start-run sh entries ram)
 
 -- what follows from all that is kept holds of every run
@@ -94,7 +92,7 @@ told_from P f sh p entries ram es = IfSome_then (run sh p (start entries ram) es
     (f sh (grants_from sh p es first) (ways_from sh p es first_ways first))
   where
     first : History
-    first = record { world = start entries ram; commits = [] }
+    first = first_state entries ram
 
 -- What the invariants on ways say in words.
 
@@ -252,7 +250,7 @@ live-open : (sh : Shape) (gs : List Grant) (ys : Ways) (h : History) → KeptRun
 unfolding part_in pair holder
 live-open sh gs ys h k = record {
   coming = λ c d t l m g. fits sh h.world c d t (ys d t) Untold l (omega (arith, g)) (k.all.kept.told.tids.resolved d t m)
-      (k.ways d t m (positive-granted sh gs h.world h.commits c t k.all.owners (omega (arith, g))));
+      (k.ways d t m (positive-granted c t k.all.owners (omega (arith, g))));
   held = k.live;
 }
 
@@ -278,18 +276,16 @@ reached-in sh w d u k l h = go (parts_in Committed sh w d u) refl
 reached : (sh : Shape) (gs : List Grant) (ys : Ways) (h : History) (d u : ℕ) → KeptRun sh gs ys h → d < sh.dirs → ys d u ≡ Committed
     → u ≤ (tid_at h.world d)
 reached sh gs ys h d zero k l e = omega arith
-reached sh gs ys h d (suc u) k l e = reached-in sh h.world d (suc u) (commits_served sh h.world k.all.kept k.all.committing) l
+reached sh gs ys h d (suc u) k l e = reached-in sh h.world d (suc u) (commits_served k.all.kept k.all.committing) l
     (rw e at (k.ways d (suc u) l (omega arith)))
 
 -- a TID that a directory has passed was given up there, or is settled
 passed : (sh : Shape) (gs : List Grant) (ys : Ways) (h : History) (d t : ℕ) → KeptRun sh gs ys h → d < sh.dirs → 1 ≤ t
     → t < tid_at h.world d → (is_given_up (ys d t) ≡ true) ⊎ Settled sh ys h.world d t
-passed sh gs ys h d t k l p q = go (passed-way sh h.world d t (ys d t) (k.all.kept.told.tids.resolved d t l) (k.ways d t l p) q)
-  where
-    go : (is_given_up (ys d t) ≡ true) ⊎ ((ys d t ≡ Committed) × (parts_in Committed sh h.world d t ≡ 0))
-        → (is_given_up (ys d t) ≡ true) ⊎ Settled sh ys h.world d t
-    go (inl a) = inl a
-    go (inr a) = inr (record { committed = a.0; handled = λ c m. none-sent sh h.world c d t m a.1 })
+passed sh gs ys h d t k l p q = elim (passed-way sh h.world d t (ys d t) (k.all.kept.told.tids.resolved d t l) (k.ways d t l p) q) [
+  | inl a ↦ inl a
+  | inr a ↦ inr (record { committed = a.0; handled = λ c m. none-sent sh h.world c d t m a.1 })
+]
 
 pub smaller_are_resolved : AlwaysTold SmallerAreResolved
 smaller_are_resolved = told_from SmallerAreResolved (λ sh gs ys h k d u l e. record {

@@ -9,7 +9,7 @@ use Names.{subst, ◌⊎◌, inl, inr, cases_eq, Program, Local, Core, Dir, Vend
 use Names.{vendor_start, in_flight, Sends, nothing, Out, core_exec, core_evict, from_dir, grant, Waits, Drops, sum_below, core_moves}
 use Names.{core_takes, dir_takes, dir_asks, vendor_gives, step, live, among, Pair, pair, after_move, grant_taken, back_taken, after_answer}
 use Names.{out_taken, after_grant, after_other_grant, share, opens, ResolvedAt, Kept, KeptTold, Way, Untold, Skipped, Aborted, Committed}
-use Names.{Ways, told_by, ways_after, sent_by, first_ways, part_in, kept_in, WayAt, KeptWays, FromCore}
+use Names.{Ways, told_by, ways_after, sent_by, first_ways, part_in, kept_in, WayAt, KeptWays, FromCore, ◌≢◌}
 use proofs.Counts.DirOutcome.{Outcome, Waiting, Spent, AsksOwner, TakesSkip, TakesAbort, TakesCommit, TakesAck, outcome}
 use proofs.Tids.TidSteps.{OnceAt, unserved, advance-count, granted_waits}
 use proofs.Counts.Links.{live-sends, live-takes, total-zero}
@@ -35,11 +35,11 @@ HeardBy s m t (Asks new sends) = (new.serving ≡ s.serving) × (new.owed ≡ s.
 HeardBy s m t (Takes new sends) = Heard s m t new
 HeardBy s m t _ = Unit {0}
 
-heard-same : (s : DirState) (m : Msg) (t : ℕ) (new : DirState) → new.serving ≡ s.serving → new.owed ≡ s.owed → Heard s m t new
-heard-same s m t new e f = record { keeps = rw e (omega arith); owed = rw (e, f) (omega arith) }
+heard-same : {s : DirState} {m : Msg} {t : ℕ} {new : DirState} → new.serving ≡ s.serving → new.owed ≡ s.owed → Heard s m t new
+heard-same e f = record { keeps = rw e (omega arith); owed = rw (e, f) (omega arith) }
 
 pub heard-still : (s : DirState) (m : Msg) (t : ℕ) → Heard s m t s
-heard-still s m t = heard-same s m t s refl refl
+heard-still s m t = heard-same refl refl
 
 fewer-skipped : (s : Serving) (t : ℕ) → num (is_skipped (advance s) t) ≤ num (is_skipped s t)
 fewer-skipped s t = let a = advance-count s t in let r = advance-rises s in grind nats
@@ -121,7 +121,7 @@ unfolding core_takes pair
 way-back sh w e c k d t o y l q r h = told-moved sh w (core_takes w (Dir e) c k o) d t (o.sends (Dir d)) y refl refl
     (λ z. sum z (cases_eq d e)) r h
   where
-    sum : (z : Way) → (d ≡ e) ⊎ (d ≡ e → ⊥) → parts_in z sh (core_takes w (Dir e) c k o) d t + lost (o.sends (Dir d)) t z
+    sum : (z : Way) → (d ≡ e) ⊎ (d ≢ e) → parts_in z sh (core_takes w (Dir e) c k o) d t + lost (o.sends (Dir d)) t z
         ≡ parts_in z sh w d t + gained (o.sends (Dir d)) t z
     sum z (inr n) = sum_back_away (part_in z sh d t) sh.cores w e c k o d (lost (o.sends (Dir d)) t z) (gained (o.sends (Dir d)) t z) n l
         (part-moved sh d t (pair w c d) o q z)
@@ -173,7 +173,11 @@ way-dir : (sh : Shape) (w : World) (c e k : ℕ) (m : Msg) (s : DirState) (sends
     → FromCore w c e k m → Heard (w.dirs e) m t s → ResolvedAt sh w d t
     → ResolvedAt sh (dir_takes w c e k s sends) d t → WayAt sh w d t y → WayAt sh (dir_takes w c e k s sends) d t y
 unfolding pair dir_takes
-way-dir sh w c e k m s sends d t y l i u r z h = go (cases_eq d e)
+way-dir sh w c e k m s sends d t y l i u r z h = elim (cases_eq d e) [
+  | inr n ↦ away n y h
+  | inl n ↦ subst (λ x. WayAt sh (dir_takes w c x k s sends) d t y) n
+      (here (rw (sym n) at i) (rw (sym n) at u) (subst (λ x. ResolvedAt sh (dir_takes w c x k s sends) d t) (sym n) z))
+]
   where
     here : FromCore w c d k m → Heard (w.dirs d) m t s → ResolvedAt sh (dir_takes w c d k s sends) d t
         → WayAt sh (dir_takes w c d k s sends) d t y
@@ -192,14 +196,8 @@ way-dir sh w c e k m s sends d t y l i u r z h = go (cases_eq d e)
                   (λ j n. omega (arith, part-still sh d t (pair w j d) s (sends (Core j)) x)),
             )
 
-    away : (d ≡ e → ⊥) → (x : Way) → WayAt sh w d t x → WayAt sh (dir_takes w c e k s sends) d t x
+    away : d ≢ e → (x : Way) → WayAt sh w d t x → WayAt sh (dir_takes w c e k s sends) d t x
     away n x q = let p = sum_dir_away (part_in x sh d t) sh.cores w c e k s sends d n in rw (differ d e n) (omega (arith, q))
-
-    go : (d ≡ e) ⊎ (d ≡ e → ⊥) → WayAt sh (dir_takes w c e k s sends) d t y
-    go (inr n) = away n y h
-    go (inl n) =
-        subst (λ x. WayAt sh (dir_takes w c x k s sends) d t y) n
-        (here (rw (sym n) at i) (rw (sym n) at u) (subst (λ x. ResolvedAt sh (dir_takes w c x k s sends) d t) (sym n) z))
 
 kept-same : (n : ℕ) (s new : DirState) (t : ℕ) (y : Way) → new.serving ≡ s.serving → new.owed ≡ s.owed → kept_in y n new t ≡ kept_in y n s t
 unfolding kept_in
@@ -208,17 +206,15 @@ kept-same n s new t a e f = grind nats
 way-asks : (sh : Shape) (w : World) (e : ℕ) (s : DirState) (sends : Sends) (d t : ℕ) (y : Way) → s.serving ≡ (w.dirs e).serving
     → s.owed ≡ (w.dirs e).owed → WayAt sh w d t y → WayAt sh (dir_asks w e s sends) d t y
 unfolding pair dir_asks
-way-asks sh w e s sends d t y f g h = go (cases_eq d e)
+way-asks sh w e s sends d t y f g h = elim (cases_eq d e) [
+  | inr n ↦ rw (differ d e n) (omega (arith, sum, h))
+  | inl n ↦ let b : (d == e) ≡ true = rw n (eq-self e) in
+      let q : kept_in y w.next s t ≡ kept_in y w.next (w.dirs d) t = kept-same w.next (w.dirs d) s t y (rw n f) (rw n g) in
+      rw b (omega (arith, sum, h, q))
+]
   where
     sum : parts_in y sh (dir_asks w e s sends) d t ≡ parts_in y sh w d t
     sum = sum_asks (part_in y sh d t) (λ j. 0) sh.cores w e s sends d (λ j. part-still sh d t (pair w j d) s (sends (Core j)) y)
-
-    go : (d ≡ e) ⊎ (d ≡ e → ⊥) → WayAt sh (dir_asks w e s sends) d t y
-    go (inr n) = rw (differ d e n) (omega (arith, sum, h))
-    go (inl n) =
-        let b : (d == e) ≡ true = rw n (eq-self e) in
-        let q : kept_in y w.next s t ≡ kept_in y w.next (w.dirs d) t = kept-same w.next (w.dirs d) s t y (rw n f) (rw n g) in
-        rw b (omega (arith, sum, h, q))
 
 -- the vendor grants a TID
 part-next : (sh : Shape) (d t : ℕ) (v : Pair) (z : Way) → part_in z sh d t (after_other_grant v) ≡ part_in z sh d t v
@@ -256,14 +252,14 @@ unfolding pair
 step-ways sh p ys w e z h = sent_cases sh p w e (λ x g o. KeptTold sh o.world → KeptWays sh (ways_after x ys) o.world)
     (λ c l. moved c l (core_exec sh p c (w.cores c)) (λ d t x. part-exec sh p c d t (w.cores c) x))
     (λ c a b l. moved c l (core_evict sh a b (w.cores c)) (λ d t x. part-evict sh a b d t (w.cores c)))
-    (λ c k u i n d t x y. way-granted sh w c k u d t (grant sh u (w.cores c)) (ys d t) (core_of_grant sh w c k (TidGrant u) z.told.tids i) i
-    (part-grant sh u d t (w.cores c) x (granted_waits (pair w c d) k u i (z.told.tids.requests c d))) (z.told.tids.resolved d t x)
+    (λ c k u i n d t x y. way-granted sh w c k u d t (grant sh u (w.cores c)) (ys d t) (core_of_grant c k z.told.tids i) i
+    (part-grant sh u d t (w.cores c) x (granted_waits (pair w c d) k i (z.told.tids.requests c d))) (z.told.tids.resolved d t x)
     (h d t x y))
-    (λ c d k m i. taken c d k (core_of_back sh w c d k m z.told.tids i) (from_dir sh d (w.cores c) m)
+    (λ c d k m i. taken c d k (core_of_back c d k z.told.tids i) (from_dir sh d (w.cores c) m)
     (λ b t x. part-back sh d b t (w.cores c) m x))
-    (λ c d k m i. answered c d k m i (dir_deliver sh (w.dirs d) c m) (λ t. dir-heard sh (w.dirs d) c m t (once_at sh w c d k m z.told i)))
+    (λ c d k m i. answered c d k m i (dir_deliver sh (w.dirs d) c m) (λ t. dir-heard sh (w.dirs d) c m t (once_at c d k z.told i)))
     (λ c k i n d t x y. rw (told-nothing t (ys d t))
-    (way-vendor sh w c k d t (ys d t) (core_of_ask sh w c k TidReq z.told.tids i) (h d t x y)))
+    (way-vendor sh w c k d t (ys d t) (core_of_ask c k z.told.tids i) (h d t x y)))
   where
     moved : (c : ℕ) → c < sh.cores → (a : Option Out) → ((d t : ℕ) → d < sh.dirs → IfSome a (λ o. KeepsPart sh d t 0 (w.cores c) o))
         → IfSome a (λ o. KeptTold sh (core_moves w c o) → KeptWays sh (ways_after o.sends ys) (core_moves w c o))
@@ -279,7 +275,7 @@ step-ways sh p ys w e z h = sent_cases sh p w e (λ x g o. KeptTold sh o.world �
         → KeptTold sh (dir_takes w c d k s sends) → KeptWays sh (ways_after nothing ys) (dir_takes w c d k s sends)
     dir c e k m s sends i u n d t x y =
         rw (told-nothing t (ys d t))
-        (way-dir sh w c e k m s sends d t (ys d t) (core_of_out sh w c e k m z.told.tids i) i (u t) (z.told.tids.resolved d t x)
+        (way-dir sh w c e k m s sends d t (ys d t) (core_of_out c e k z.told.tids i) i (u t) (z.told.tids.resolved d t x)
         (n.tids.resolved d t x) (h d t x y))
 
     answered : (c d k : ℕ) (m : Msg) → FromCore w c d k m → (a : Answer) → ((t : ℕ) → HeardBy (w.dirs d) m t a)
