@@ -1,5 +1,4 @@
 -- All of it together, along every run.
-pub mod Always
 pub mod AllInvariants
 pub mod FactsOfRuns
 pub mod AllCarried

@@ -4,6 +4,5 @@ pub mod CoreDue
 pub mod DirDue
 pub mod ProbingSteps
 pub mod OwingKept
-pub mod CoreCommits
 pub mod CommitSteps
 pub mod OwnerSteps

@@ -2,7 +2,6 @@
 pub mod ValueAt
 pub mod ModifiedWords
 pub mod FramedSteps
-pub mod DirsKeepFramed
 pub mod FramedCores
 pub mod FramedWords
 pub mod WordValues

@@ -1,6 +1,5 @@
 -- In which way each TID was given to each directory, and what its core says of it.
 pub mod CoreSkips
-pub mod WayParts
 pub mod WayFacts
 pub mod WaySteps
 pub mod ToldSteps

@@ -24,7 +24,7 @@ use proofs.OneCore.Outcomes.{message, out, said}
 pub ready-copies : (sh : Shape) (l id u : ℕ) (s : CoreState) → s.phase ≡ Ready u → OneCore sh s → Conserves sh l s (commit sh id u s)
 unfolding commit committed_core committed noted names_line
 ready-copies sh l id u s e h =
-    let x = committed-frame sh s.cache (committed u s.cache) l u h.words.cache (λ k i. refl) in
+    let x = committed-frame (committed u s.cache) l u h.words.cache (λ k i. refl) in
     let z : (t : ℕ) → num (is_modified s.cache l && u == t) ≡ num (names_line sh.base s.stores l && u == t) =
     λ t. rw (modified-line sh.base s.cache s.stores l (unspilled sh s.cache s.spilled s.stores (rw e at h.words))) refl in
     let y : (t m : ℕ) → num ((is_modified s.cache l && u == t) && not (modified_mask s.cache l == m)) ≡ num
@@ -118,13 +118,12 @@ alone-copies {sh} {b} l id u s i j h = go (holds s.spilled l) refl
     go : (b : Bool) → holds s.spilled l ≡ b → Conserves sh l s (solo_commit sh id u s)
     go false q =
         let none = none-held s.spilled l q in
-        let x = committed-frame sh s.cache after l u h.cache (λ k i. rw (none k i) refl) in
+        let x = committed-frame after l u h.cache (λ k i. rw (none k i) refl) in
         let m : is_modified s.cache l ≡ names_line sh.base s.stores l = sym (or-none (is_modified s.cache l) (holds s.spilled l) q)
         ∙ line in
         let n : modified_mask s.cache l ≡ stores_in sh.base s.stores l = sym (unspilled-mask s.cache s.spilled l none) ∙ sym mask in
         record {
-          copies =
-              λ t. (let y : num (holds s.spilled l && u == t) ≡ 0 = rw q refl in
+          copies = λ t. (let y : num (holds s.spilled l && u == t) ≡ 0 = rw q refl in
               let z : num (is_modified s.cache l && u == t) ≡ num (names_line sh.base s.stores l && u == t) = rw m refl in
               omega (arith, x.0 t, y, z, solo-copies sh s.cache s.spilled u l t i j));
           wrong = λ t k. (let y : num ((holds s.spilled l && u == t) && not (spilled_mask s.spilled l == k)) ≡ 0 = rw q refl in
@@ -144,8 +143,7 @@ alone-copies {sh} {b} l id u s i j h = go (holds s.spilled l) refl
                 z,
                 solo-copies sh s.cache s.spilled u l t i j,
               ));
-          wrong =
-              λ t k. (let z : num ((holds s.spilled l && u == t) && not (spilled_mask s.spilled l == k)) ≡ num
+          wrong = λ t k. (let z : num ((holds s.spilled l && u == t) && not (spilled_mask s.spilled l == k)) ≡ num
               ((names_line sh.base s.stores l && u == t) && not (stores_in sh.base s.stores l == k)) = rw (q, stored, n) refl in
               omega (
                 arith,
@@ -202,8 +200,7 @@ copies-exec {sh} l p id {s} m h = each-exec sh p id s (Conserves sh l s) go
     go (Frames a y also n k g i f) = frames a y also (after_store s a k (stored (w a) y also s.cache) s.spilled) (λ v. refl)
     go (Frames_anew a y n k g i q f h2) =
         conserves-still sh l s (moves (after_store s a k (stored (w a) y false (placed sh (line_of (w a)) s.cache)) s.spilled) nothing) refl
-        (λ j i. framed-dirty (w a) y h.words.cache q (word_at l j))
-        (λ t. quiet sh s (CopyOf l t) Silent (λ y. refl) (home sh l))
+        (λ j i. framed-dirty (w a) y h.words.cache q (word_at l j)) (λ t. quiet sh s (CopyOf l t) Silent (λ y. refl) (home sh l))
     go (Misses_anew a n g i q f) =
         conserves-still sh l s (moves (record s { awaited = awaiting (line_of (w a)); cache = placed sh (line_of (w a)) s.cache })
         (say sh s (Requests (line_of (w a))))) refl (λ j i. dirty-placed sh (line_of (w a)) s.cache (word_at l j))
@@ -214,8 +211,7 @@ copies-exec {sh} l p id {s} m h = each-exec sh p id s (Conserves sh l s) go
     go x = conserves-still sh l s (out x) refl (λ k i. refl) (λ t. quiet sh s (CopyOf l t) (said x) (λ y. refl) (home sh l))
 
 pub copies-evict : (sh : Shape) (l x y : ℕ) (s : CoreState) → IfSome (core_evict sh x y s) (Conserves sh l s)
-copies-evict sh l x y s =
-    each-evict sh x y s (Conserves sh l s)
+copies-evict sh l x y s = each-evict sh x y s (Conserves sh l s)
     (λ k e a m. conserves-sent sh s (emptied sh x y k s) refl (λ v. dirty-evicted x y s.cache v k e) (back-home-leaves sh l k s.cache))
 
 -- messages
@@ -276,8 +272,7 @@ copies-back sh l e s m h = each-back sh e s (BackStep sh l s) go m
     none x f g t = heard-quiet (CopyOf l t) x (f t) (g t) (home sh l)
 
     go : (x : Heard sh e s) → BackStep sh l s (message x) (heard x)
-    go (Hands_out k) =
-        Kept (conserves-sent sh s (moves (record s { cache = cleaned k s.cache }) (say sh s (Flushes k))) refl
+    go (Hands_out k) = Kept (conserves-sent sh s (moves (record s { cache = cleaned k s.cache }) (say sh s (Flushes k))) refl
         (λ v. refl) (flushed-leaves sh l k s.cache))
     go (Hurt_none k m u n) = hurt k m u (Hurt_none k m u n) refl (λ v. refl) (none (Hurt_none k m u n) (λ t y. refl) (λ t b. refl))
     go (Hurt_running k m u v q) =

@@ -198,11 +198,11 @@ dirty-modified c e l u h = (
     one : (k : ℕ) → k < 8 → is_some (e.dirty (word_at l k)) ≡ c.modified (word_at l k)
     one k i = rw (h k i) (of (c.modified (word_at l k)))
 
-pub committed-frame : (sh : Shape) (c e : Cache) (l u : ℕ) → IsCache sh c → Committed c e l u
-    → ((t : ℕ) → frame_copy e l t ≡ frame_copy c l t + num (is_modified c l && u == t))
-    × ((t n : ℕ) → frame_wrong e l t n ≡ frame_wrong c l t n + num ((is_modified c l && u == t) && not (modified_mask c l == n)))
+pub committed-frame : {sh : Shape} {c : Cache} (e : Cache) (l u : ℕ) → IsCache sh c → Committed c e l u
+    → ((t : ℕ) → frame_copy e l t ≡ frame_copy c l t + num (is_modified c l && u == t)) ×
+    ((t n : ℕ) → frame_wrong e l t n ≡ frame_wrong c l t n + num ((is_modified c l && u == t) && not (modified_mask c l == n)))
 unfolding frame_copy frame_wrong
-committed-frame sh c e l u h f = go (is_modified c l) refl
+committed-frame {sh} {c} e l u h f = go (is_modified c l) refl
   where
     tag : is_modified c l ≡ true → is_dirty e l ≡ true → dirty_tag e l ≡ u
     tag m d = let x = dirty-found e l d in is (c.modified (word_at l x.0)) (sym (new-dirty sh c e l u h f m x.0 x.1) ∙ x.2)
@@ -252,10 +252,10 @@ leaves-none l k c q = record {
 }
 
 -- one message of the frame's words
-leaves-one : (l k : ℕ) (c : Cache) (m : Msg) → is_dirty c k ≡ true → ((t : ℕ) → passes (CopyOf l t) m ≡ ((k == l) && (dirty_tag c k == t)))
+leaves-one : {l k : ℕ} {c : Cache} (m : Msg) → is_dirty c k ≡ true → ((t : ℕ) → passes (CopyOf l t) m ≡ ((k == l) && (dirty_tag c k == t)))
     → ((t n : ℕ) → passes (CopyMask l t n) m ≡ (((k == l) && (dirty_tag c k == t)) && not (dirty_mask c k == n))) → Leaves l k c (m ∷ [])
 unfolding frame_copy frame_wrong among
-leaves-one l k c m q f g = record {
+leaves-one {l} {k} {c} m q f g = record {
   same = λ e. let z : is_dirty c l ≡ true = rw e at q in let y : (l == l) ≡ true = grind nats in
       (λ t. rw (f t, e, z, y) (omega arith), λ t n. rw (g t n, e, z, y) (omega arith));
   other = λ e t. let y : (k == l) ≡ false = grind nats in rw (f t, y) refl;
@@ -269,7 +269,7 @@ flush-leaves l k c = go (is_dirty c k) refl
         → Leaves l k c (flush_of
         (cond b (Some (record { line = k; mask = dirty_mask c k; words = dirty_words c k; tag = dirty_tag c k })) None))
     go false q = leaves-none l k c q
-    go true q = leaves-one l k c (Flush k (dirty_mask c k) (dirty_words c k) (dirty_tag c k)) q (λ t. refl) (λ t n. refl)
+    go true q = leaves-one (Flush k (dirty_mask c k) (dirty_words c k) (dirty_tag c k)) q (λ t. refl) (λ t n. refl)
 
 back-leaves : (l k : ℕ) (c : Cache) → Leaves l k c (write_back_of (dirty_copy c k))
 unfolding dirty_copy passes
@@ -279,7 +279,7 @@ back-leaves l k c = go (is_dirty c k) refl
         → Leaves l k c (write_back_of
         (cond b (Some (record { line = k; mask = dirty_mask c k; words = dirty_words c k; tag = dirty_tag c k })) None))
     go false q = leaves-none l k c q
-    go true q = leaves-one l k c (WriteBack k (dirty_mask c k) (dirty_words c k) (dirty_tag c k)) q (λ t. refl) (λ t n. refl)
+    go true q = leaves-one (WriteBack k (dirty_mask c k) (dirty_words c k) (dirty_tag c k)) q (λ t. refl) (λ t n. refl)
 
 -- they go to the line's home
 at-home : (sh : Shape) {l k : ℕ} {c : Cache} {ms : List Msg} → Leaves l k c ms → Leaves l k c (to (Dir (home sh k)) ms (Dir (home sh l)))
@@ -338,8 +338,7 @@ solo-copies sh c sp u l t i h = go (nat_lt (home sh l) sh.dirs) (grind nats) (so
         (flat_map (λ k. WriteBack k (spilled_mask sp k) (spilled_words sp k) u ∷ []) (those (λ k. d == home sh k && holds sp k) (lines sh)))
         ≡ num (holds sp l && u == t)
     backs = let a : nat_lt l (lines sh) ≡ true = grind nats in let b : (home sh l == home sh l) ≡ true =
-        grind nats in one-back (λ k. d == home sh k && holds sp k) (spilled_mask sp) (spilled_words sp) u t l (lines sh)
-        ∙ rw (a, b) refl
+        grind nats in one-back (λ k. d == home sh k && holds sp k) (spilled_mask sp) (spilled_words sp) u t l (lines sh) ∙ rw (a, b) refl
 
     marks : among (CopyOf l t)
         (flat_map (λ k. Mark k (written_mask c sp k) u ∷ []) (those (λ k. d == home sh k && is_written c sp k) (lines sh))) ≡ 0
@@ -347,8 +346,7 @@ solo-copies sh c sp u l t i h = go (nat_lt (home sh l) sh.dirs) (grind nats) (so
         (λ k. refl) (those (λ k. d == home sh k && is_written c sp k) (lines sh))
 
     go : (b : Bool) → b ≡ true → (w : Bool)
-        → among (CopyOf l t) (if b
-        then (if w then flat_map (λ k. Mark k (written_mask c sp k) u ∷ [])
+        → among (CopyOf l t) (if b then (if w then flat_map (λ k. Mark k (written_mask c sp k) u ∷ [])
         (those (λ k. d == home sh k && is_written c sp k) (lines sh))
         ++ Commit u (count_below (λ k. d == home sh k && is_written c sp k) (lines sh)) ∷ [] else Skip u ∷ [])
         ++ solo_write_backs sh sp u d else []) ≡ num (holds sp l && u == t)
@@ -377,8 +375,7 @@ solo-wrong sh c sp u l t m i h = go (nat_lt (home sh l) sh.dirs) (grind nats) (s
         (λ k. refl) (those (λ k. d == home sh k && is_written c sp k) (lines sh))
 
     go : (b : Bool) → b ≡ true → (w : Bool)
-        → among (CopyMask l t m)
-        (if b then (if w then flat_map (λ k. Mark k (written_mask c sp k) u ∷ [])
+        → among (CopyMask l t m) (if b then (if w then flat_map (λ k. Mark k (written_mask c sp k) u ∷ [])
         (those (λ k. d == home sh k && is_written c sp k) (lines sh))
         ++ Commit u (count_below (λ k. d == home sh k && is_written c sp k) (lines sh)) ∷ [] else Skip u ∷ [])
         ++ solo_write_backs sh sp u d else []) ≡ num ((holds sp l && u == t) && not (spilled_mask sp l == m))

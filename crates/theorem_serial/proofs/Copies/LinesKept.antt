@@ -45,20 +45,19 @@ pub record Acts (sh : Shape) (w : World) (c : ℕ) (o : Out) : Type 0 where
   pub speaks : Speaks sh w c o
   pub after : AfterStep sh c (w.cores c) o
 
-conserves-pair : (sh : Shape) (w : World) (c d l : ℕ) (o : Out) → Conserves sh l (w.cores c) o → Conserves sh l (pair w c d).core o
+conserves-pair : {sh : Shape} (w : World) (c d : ℕ) {l : ℕ} {o : Out} → Conserves sh l (w.cores c) o → Conserves sh l (pair w c d).core o
 unfolding pair
-conserves-pair sh w c d l o k = k
+conserves-pair w c d k = k
 
 -- a commit that the core notes
 pub new-of : {sh : Shape} {gs : List Grant} {ys : Ways} {h : History} {c d : ℕ} (l : ℕ) {o : Out} {n : Noted} → Before sh gs ys h
     → c < sh.cores → d < sh.dirs → l < lines sh → home sh l ≡ d → o.commit ≡ Some n → n.core.0 ≡ c → Speaks sh h.world c o
     → NewCommit sh.base h.commits c d l (pair h.world c d) o n
 unfolding pair share part part_in
-new-of {sh} {gs} {ys} {h} {c} {d} l {o} {n} b cl dl ll e q r u = record {
+new-of {sh} {h} {c} {d} l {o} {n} b cl dl ll e q r u = record {
   fresh = fresh;
   core = r;
-  tag = λ s f. untagged sh h d l n.tid.0 b.tags dl ll e (positive-held c n.tid.0 b.told.all.owners tells.has)
-      fresh f;
+  tag = λ s f. untagged sh h d l n.tid.0 b.tags dl ll e (positive-held c n.tid.0 b.told.all.owners tells.has) fresh f;
   sent = λ s. sent (commit-sent c d b.told cl tells dl (stored-home sh l n ll e s));
   others = λ t f. let z : among (Commits t) (o.sends (Dir d)) ≤ num (n.tid.0 == t) = rw q at (u.noted d t) in
       let y : num (n.tid.0 == t) ≡ 0 = ap num f in omega (arith, z, y);
@@ -94,22 +93,21 @@ in-memory : (sh : Shape) (d l : ℕ) → d < sh.dirs → l < lines sh → home s
 in-memory sh d l dl ll e = record { line = ll; home = rw e dl }
 
 -- the core's own pairs
-own-lines : (sh : Shape) (gs : List Grant) (ys : Ways) (h : History) (c d : ℕ) (o : Out) → Before sh gs ys h → Acts sh h.world c o
+own-lines : {sh : Shape} {gs : List Grant} {ys : Ways} (h : History) (c d : ℕ) (o : Out) → Before sh gs ys h → Acts sh h.world c o
     → CopiesAt sh (and_noted o.commit h.commits) c d (after_move (pair h.world c d) o d)
-own-lines sh gs ys h c d o b a l cl dl ll e = go a.after
+own-lines {sh} h c d o b a l cl dl ll e = go a.after
   where
     quiet : o.commit ≡ None → (t : ℕ) → among (Commits t) (o.sends (Dir d)) ≡ 0
     quiet q t = let z : among (Commits t) (o.sends (Dir d)) ≤ 0 = rw q at (a.speaks.noted d t) in omega (arith, z)
 
     keeps : Conserves sh l (pair h.world c d).core o
-    keeps = conserves-pair sh h.world c d l o (a.copies l (in-memory sh d l dl ll e))
+    keeps = conserves-pair h.world c d (a.copies l (in-memory sh d l dl ll e))
 
     go : AfterStep sh c (h.world.cores c) o → LineCopies sh.base (and_noted o.commit h.commits) c l (after_move (pair h.world c d) o d)
     go (inl x) = subst (λ n. LineCopies sh.base (and_noted n h.commits) c l (after_move (pair h.world c d) o d)) (sym x.commit)
         (copies-moved sh o e x.commit (quiet x.commit) keeps (b.lines c d l cl dl ll e))
     go (inr x) = subst (λ n. LineCopies sh.base (and_noted n h.commits) c l (after_move (pair h.world c d) o d)) (sym x.commit)
-        (copies-committed c d l o e x.commit
-        (new-of l b cl dl ll e x.commit x.core a.speaks) keeps (b.lines c d l cl dl ll e))
+        (copies-committed c d l o e x.commit (new-of l b cl dl ll e x.commit x.core a.speaks) keeps (b.lines c d l cl dl ll e))
 
 -- another core's: what it wrote stays
 more-lines : {base : ℕ} (n : Noted) {cs : List Noted} (j l : ℕ) {v : Pair} → (n.core.0 == j) ≡ false → LineCopies base cs j l v
@@ -122,14 +120,13 @@ other-lines : (sh : Shape) (h : History) (c j d : ℕ) (o : Out) → j ≢ c →
     → AfterStep sh c (h.world.cores c) o → CopiesAt sh (and_noted o.commit h.commits) j d (pair h.world j d)
 other-lines sh h c j d o n k (inl x) = subst (λ a. CopiesAt sh (and_noted a h.commits) j d (pair h.world j d)) (sym x.commit) (k j d)
 other-lines sh h c j d o n k (inr x) = subst (λ a. CopiesAt sh (and_noted a h.commits) j d (pair h.world j d)) (sym x.commit)
-    (λ l cl dl ll e. more-lines x.noted j l (let y = x.core in grind nats)
-    (k j d l cl dl ll e))
+    (λ l cl dl ll e. more-lines x.noted j l (let y = x.core in grind nats) (k j d l cl dl ll e))
 
-pub moved-lines : (sh : Shape) (gs : List Grant) (ys : Ways) (h : History) (c : ℕ) (o : Out) → Before sh gs ys h → Acts sh h.world c o
+pub moved-lines : {sh : Shape} {gs : List Grant} {ys : Ways} (h : History) (c : ℕ) (o : Out) → Before sh gs ys h → Acts sh h.world c o
     → KeptLines sh (and_noted o.commit h.commits) (core_moves h.world c o)
-moved-lines sh gs ys h c o b a j d = either j c
+moved-lines {sh} h c o b a j d = either j c
     (λ q. subst (λ i. CopiesAt sh (and_noted o.commit h.commits) i d (pair (core_moves h.world c o) i d)) (sym q)
-    (subst (CopiesAt sh (and_noted o.commit h.commits) c d) (sym (moves-own h.world c o d)) (own-lines sh gs ys h c d o b a)))
+    (subst (CopiesAt sh (and_noted o.commit h.commits) c d) (sym (moves-own h.world c o d)) (own-lines h c d o b a)))
     (λ n. subst (CopiesAt sh (and_noted o.commit h.commits) j d) (sym (moves-other h.world c o j d n))
     (other-lines sh h c j d o n b.lines a.after))
 
@@ -142,7 +139,7 @@ right-mask c l t z d e = grind nats
 
 above-one : {base : ℕ} {cs : List Noted} (c l t : ℕ) {v : Pair} → LineCopies base cs c l v → v.dir.lines.tag l < t → AboveOf base cs c l t v
 unfolding copies_with line_copies line_wrong frame_copy
-above-one {base} {cs} c l t {v} h i = record {
+above-one c l t {v} h i = record {
   one = h.above t i;
   framed = right-mask v.core.cache l t (omega (arith, h.masks t i));
   sent = omega (arith, h.masks t i);
@@ -152,12 +149,12 @@ owned-one : {base : ℕ} {cs : List Noted} {c l : ℕ} {v : Pair} → LineCopies
 unfolding copies_with line_copies frame_copy
 owned-one h = h.owned
 
-pub above-from : (sh : Shape) (cs : List Noted) (w : World) → KeptLines sh cs w → KeptAbove sh w cs
+pub above-from : (sh : Shape) {cs : List Noted} (w : World) → KeptLines sh cs w → KeptAbove sh w cs
 unfolding pair
-above-from sh cs w k c d l t cl dl ll e i = above-one c l t (k c d l cl dl ll e) i
+above-from sh w k c d l t cl dl ll e i = above-one c l t (k c d l cl dl ll e) i
 
-pub owned-from : (sh : Shape) (cs : List Noted) (w : World) → KeptLines sh cs w → KeptOwned sh w
-owned-from sh cs w k c d l cl dl ll e = owned-one (k c d l cl dl ll e)
+pub owned-from : (sh : Shape) {cs : List Noted} (w : World) → KeptLines sh cs w → KeptOwned sh w
+owned-from sh w k c d l cl dl ll e = owned-one (k c d l cl dl ll e)
 
 -- at the start
 no-line : (base c t l : ℕ) → wrote_line base [] c t l ≡ false

@@ -19,7 +19,7 @@ use proofs.Counts.Links.{live-takes}
 use proofs.Counts.StepCases.{differ, pairs_dir, pairs_asks, pairs_grant, pairs_back, pairs_vendor, OfAnswer, step_cases}
 use proofs.Marks.AfterKept.{AfterStep, Stays as AfterStays, after-exec, after-evict, after-grant, after-back}
 use proofs.Marks.DirRecords.{RecordStays, Records, Still, Came, Settles, Dropped, RecordsBy, dir-records, CountsMarked}
-use proofs.Serving.CoreCommits.{CommitsNoted, noted-exec, noted-evict, noted-grant, noted-back}
+use proofs.Serving.CoreDue.{CommitsNoted, noted-exec, noted-evict, noted-grant, noted-back}
 use proofs.Serving.CommitSteps.{commits_served}
 use proofs.Serving.KeptSteps.{core_of_back}
 use proofs.Tids.Commits.{positive-committed}
@@ -33,7 +33,7 @@ use proofs.Ways.ToldSteps.{speaks}
 -- a pair in which nothing is different that the copies go by
 pub kept-copies : {base : ℕ} {cs : List Noted} {c l : ℕ} {v : Pair} (w : Pair) → w.core ≡ v.core → w.dir ≡ v.dir → w.out ≡ v.out
     → LineCopies base cs c l v → LineCopies base cs c l w
-kept-copies {base} {cs} {c} {l} {v} w e f g = similar-copies v w (record {
+kept-copies {v} w e f g = similar-copies v w (record {
   cache = rw e refl;
   tag = rw f refl;
   owned = rw (f, g) refl;
@@ -45,7 +45,7 @@ kept-copies {base} {cs} {c} {l} {v} w e f g = similar-copies v w (record {
 -- no Commit of a TID above the served one is in flight
 pub none-later : {sh : Shape} {gs : List Grant} {ys : Ways} {h : History} (c d t : ℕ) → Before sh gs ys h → c < sh.cores → d < sh.dirs
     → tid_at h.world d < t → live (Commits t) (to_dir h.world c d) ≡ 0
-none-later {sh} {h} c d t b cl dl l = elim (cases_lt 0 (live (Commits t) (to_dir h.world c d))) [
+none-later {h} c d t b cl dl l = elim (cases_lt 0 (live (Commits t) (to_dir h.world c d))) [
   | inl x ↦ absurd (let y = commits_served b.told.all.kept b.told.all.committing c d t cl dl (omega (arith, x)) in
       omega (arith, y, l))
   | inr x ↦ omega (arith, x)
@@ -67,7 +67,7 @@ none-counted sh gs ys h c d k l m u t b cl dl ll e i le = elim (cases_lt ((h.wor
 ]
   where
     x : Invalidating sh h c d l
-    x = inv-tag sh gs h c d k l m u b.told.all (on-its-way sh gs ys h b.told) b.tags cl dl ll e i
+    x = inv-tag h c d k l m u b.told.all (on-its-way sh gs ys h b.told) b.tags cl dl ll e i
 
     mine : (o : Option ℕ) → (h.world.dirs d).lines.owner l ≡ o → num (is_this o c) ≡ 0
     mine None q = refl
@@ -100,15 +100,13 @@ pub back-copies : {sh : Shape} {gs : List Grant} {ys : Ways} (h : History) (c e 
     → ((t : ℕ) → among (Commits t) (o.sends (Dir d)) ≡ 0) → BackStep sh l (h.world.cores c) m o
     → LineCopies sh.base h.commits c l (after_move v o d)
 unfolding pair line_copies
-back-copies {sh} h c e d k l v o b cl dl ll q i vc vd vo n z (Kept x) =
-    copies-moved sh o q n z (rw vc x)
+back-copies {sh} h c e d k l v o b cl dl ll q i vc vd vo n z (Kept x) = copies-moved sh o q n z (rw vc x)
     (kept-copies v vc vd vo (b.lines c d l cl dl ll q))
 back-copies {sh} {gs} {ys} h c e d k l v o b cl dl ll q i vc vd vo n z (Invalidates x u r a f) =
     let j : FromDir h.world e c k (Inv l x u) = i ∙ ap (λ y. Some y) r in
     let w : d ≡ e = sym q ∙ inv-home h c e k l x u b j in
     let p : FromDir h.world d c k (Inv l x u) = rw w j in
-    copies-lost sh h.commits c d l v o q z (λ t. rw vc (f t))
-    (λ t g. rw (vc, vo) (none-counted sh gs ys h c d k l x u t b cl dl ll q p (rw vd at g)))
+    copies-lost sh c d l v o q z (λ t. rw vc (f t)) (λ t g. rw (vc, vo) (none-counted sh gs ys h c d k l x u t b cl dl ll q p (rw vd at g)))
     (kept-copies v vc vd vo (b.lines c d l cl dl ll q))
 
 -- Every answer of a directory keeps the copies of each line in memory.
@@ -128,8 +126,7 @@ writer-line {sh} h {c} {d} l ll e t =
     let x = wrote-listed sh.base h.commits n l t.settled.noted
     (λ y k o. t.only y k (sym t.settled.tid ∙ tids y (y.core.0 == n.core.0) (y.tid.0 == n.tid.0) refl o)) in
     subst (λ p. wrote_line sh.base h.commits c p l ≡ has_mark (h.world.dirs d).lines l) t.settled.tid
-    (subst (λ p. wrote_line sh.base h.commits p n.tid.0 l ≡ has_mark (h.world.dirs d).lines l) t.core
-    (x.line ∙ marked-line h l ll e t))
+    (subst (λ p. wrote_line sh.base h.commits p n.tid.0 l ≡ has_mark (h.world.dirs d).lines l) t.core (x.line ∙ marked-line h l ll e t))
   where
     tids : (y : Noted) (a b : Bool) → (y.tid.0 == t.settled.commit.tid.0) ≡ b → (a && b) ≡ true → t.settled.commit.tid.0 ≡ y.tid.0
     tids y true true q o = grind nats
@@ -142,8 +139,7 @@ other-writer sh h c j d l n t = no-writer sh.base h.commits j (tid_at h.world d)
     (λ x k. go x k (x.core.0 == j) (x.tid.0 == tid_at h.world d) refl refl)
   where
     go : (x : Noted) → Contains h.commits x → (a b : Bool) → (x.core.0 == j) ≡ a → (x.tid.0 == tid_at h.world d) ≡ b → (a && b) ≡ false
-    go x k true true q r =
-        absurd (let y : tid_at h.world d ≡ x.tid.0 = grind nats in
+    go x k true true q r = absurd (let y : tid_at h.world d ≡ x.tid.0 = grind nats in
         let z : x.core.0 ≡ t.settled.commit.core.0 = ap (λ u. u.core.0) (t.only x k y) in
         let w : x.core.0 ≡ j = grind nats in n (sym w ∙ z ∙ t.core))
     go x k true false q r = refl
@@ -166,22 +162,19 @@ unfolding passes
 commit-passes sh s m x q = rw q refl
 
 -- the directory's answer as core j sees it; mine: the message was j's
-answer-lines : (sh : Shape) {gs : List Grant} {ys : Ways} (h : History) {c : ℕ} (d k j l : ℕ) {mine : Bool} (m : Msg) (s : DirState)
+answer-lines : (sh : Shape) {gs : List Grant} {ys : Ways} (h : History) {c : ℕ} (d k j l : ℕ) {mine : Bool} (m : Msg) {s : DirState}
     (w : Pair) → Before sh gs ys h → FromCore h.world c d k m → (j == c) ≡ mine → j < sh.cores → d < sh.dirs → l < lines sh → home sh l ≡ d
     → Answered mine m s (pair h.world j d) w → Records sh (h.world.dirs d) c m s → LineCopies sh.base h.commits j l w
 unfolding pair
-answer-lines sh h d k j l {mine} m s w b i z jl dl ll e a (Still y n q) =
-    similar-copies (pair h.world j d) w
+answer-lines sh h d k j l {mine} m w b i z jl dl ll e a (Still y n q) = similar-copies (pair h.world j d) w
     (still-similar sh.base h.commits j l a (y.tags l) (y.owners l) (λ t g. q l t)
     (λ t g. none-passes mine (Commits t) m (n t))) (b.lines j d l jl dl ll e)
-answer-lines sh h {c} d k j l {mine} m s w b i z jl dl ll e a (Came x p o g f n) =
-    similar-copies (pair h.world j d) w
+answer-lines sh h {c} d k j l m {s} w b i z jl dl ll e a (Came x p o g f n) = similar-copies (pair h.world j d) w
     (came-similar sh.base h.commits j c l x m s w z a p o (g l) (f l) n) (b.lines j d l jl dl ll e)
-answer-lines sh {gs} {ys} h {c} d k j l {mine} m s w b i z jl dl ll e a (Settles q g f n) = elim
+answer-lines sh {gs} {ys} h {c} d k j l {mine} m w b i z jl dl ll e a (Settles q g f n) = elim
     (tested (has_mark (h.world.dirs d).lines l)) [
       | inr r ↦ similar-copies (pair h.world j d) w
-          (still-similar sh.base h.commits j l a (g l ∙ rw r refl) (f l ∙ rw r refl) (λ x o. n l x) (quiet r))
-          (b.lines j d l jl dl ll e)
+          (still-similar sh.base h.commits j l a (g l ∙ rw r refl) (f l ∙ rw r refl) (λ x o. n l x) (quiet r)) (b.lines j d l jl dl ll e)
       | inl r ↦ taken-copies c u j l w (record {
         cache = a.cache;
         tag = ap (λ x. x.lines.tag l) a.dir ∙ g l ∙ rw r refl;
@@ -217,40 +210,35 @@ answer-lines sh {gs} {ys} h {c} d k j l {mine} m s w b i z jl dl ll e a (Settles
         → cond (wrote_line sh.base h.commits j u l) (live (Commits u) (to_dir h.world j d)) 0 ≡ num (c == j)
     writer r (inl x) =
         let y : wrote_line sh.base h.commits j u l ≡ true = rw x (writer-line h l ll e t ∙ r) in
-        let n : live (Commits u) (to_dir h.world j d) ≡ 1 =
-        rw x (one-commit sh gs ys h c d l b dl ll e t (marked-line h l ll e t ∙ r)) in
+        let n : live (Commits u) (to_dir h.world j d) ≡ 1 = rw x (one-commit sh gs ys h c d l b dl ll e t (marked-line h l ll e t ∙ r)) in
         let p : (c == j) ≡ true = grind nats in
         rw (y, p) n
     writer r (inr x) = let y : (c == j) ≡ false = grind nats in rw (other-writer sh h c j d l x t, y) refl
 
 -- with the world's frames
-pub dir-lines : (sh : Shape) (gs : List Grant) (ys : Ways) (h : History) (c d k : ℕ) (m : Msg) (s : DirState) (sends : Sends)
+pub dir-lines : {sh : Shape} {gs : List Grant} {ys : Ways} (h : History) (c d k : ℕ) (m : Msg) (s : DirState) (sends : Sends)
     → Before sh gs ys h → FromCore h.world c d k m → Records sh (h.world.dirs d) c m s
     → KeptLines sh h.commits (dir_takes h.world c d k s sends)
 unfolding pair
-dir-lines sh gs ys h c d k m s sends b i r = pairs_dir (CopiesAt sh h.commits) h.world c d k s sends
-    (λ l cl dl ll e. answer-lines sh h d k c l m s (after_answer (out_taken (pair h.world c d) k) s (sends (Core c))) b i
+dir-lines {sh} h c d k m s sends b i r = pairs_dir (CopiesAt sh h.commits) h.world c d k s sends
+    (λ l cl dl ll e. answer-lines sh h d k c l m (after_answer (out_taken (pair h.world c d) k) s (sends (Core c))) b i
     (eq-self c) cl dl ll e (record { cache = refl; dir = refl; lives = λ q. live-takes q (to_dir h.world c d) k m i }) r)
-    (λ j n l jl dl ll e. answer-lines sh h d k j l m s (after_answer (pair h.world j d) s (sends (Core j))) b i
-    (differ j c n) jl dl ll e (record { cache = refl; dir = refl; lives = λ q. omega arith }) r)
-    b.lines
+    (λ j n l jl dl ll e. answer-lines sh h d k j l m (after_answer (pair h.world j d) s (sends (Core j))) b i
+    (differ j c n) jl dl ll e (record { cache = refl; dir = refl; lives = λ q. omega arith }) r) b.lines
 
 pub drop-lines : {sh : Shape} {gs : List Grant} {ys : Ways} (h : History) (c d k : ℕ) (m : Msg) → Before sh gs ys h
     → FromCore h.world c d k m → Dropped (h.world.dirs d) c m
     → KeptLines sh h.commits (dir_takes h.world c d k (h.world.dirs d) (λ dst. []))
 unfolding pair
 drop-lines {sh} h c d k m b i u = pairs_dir (CopiesAt sh h.commits) h.world c d k (h.world.dirs d) (λ dst. [])
-    (λ l cl dl ll e. similar-copies (pair h.world c d)
-    (after_answer (out_taken (pair h.world c d) k) (h.world.dirs d) [])
-    (dropped-similar true m
-    (after_answer (out_taken (pair h.world c d) k) (h.world.dirs d) [])
+    (λ l cl dl ll e. similar-copies (pair h.world c d) (after_answer (out_taken (pair h.world c d) k) (h.world.dirs d) [])
+    (dropped-similar true m (after_answer (out_taken (pair h.world c d) k) (h.world.dirs d) [])
     (record { cache = refl; dir = refl; lives = λ q. live-takes q (to_dir h.world c d) k m i }) u.commit
     (λ t x y. u.late l t y) (λ x y. u.other l y) (b.lines c d l cl dl ll e)) (b.lines c d l cl dl ll e))
     (λ j n l jl dl ll e. similar-copies (pair h.world j d) (after_answer (pair h.world j d) (h.world.dirs d) [])
     (dropped-similar false m (after_answer (pair h.world j d) (h.world.dirs d) [])
     (record { cache = refl; dir = refl; lives = λ q. omega arith }) u.commit (λ t x y. u.late l t y) (λ x y. absurd (cc))
-    (b.lines j d l jl dl ll e)) (b.lines j d l jl dl ll e))
-    b.lines
+    (b.lines j d l jl dl ll e)) (b.lines j d l jl dl ll e)) b.lines
 
 pub asks-lines : {sh : Shape} {gs : List Grant} {ys : Ways} (h : History) (d : ℕ) (s : DirState) (sends : Sends) → Before sh gs ys h
     → RecordStays (h.world.dirs d) s → KeptLines sh h.commits (dir_asks h.world d s sends)
@@ -280,24 +268,21 @@ step-lines sh p gs ys h e b = step_cases sh p h.world e (λ g o. KeptLines sh (a
     (noted-exec sh p c (h.world.cores c)) (after-exec p c (b.told.all.cores c)))
     (λ c x y l. moved c (core_evict sh x y (h.world.cores c)) (λ k m. copies-evict sh k x y (h.world.cores c))
     (λ d t i. part-evict sh x y d t (h.world.cores c)) (tells-evict sh x y (h.world.cores c)) (noted-evict sh x y (h.world.cores c))
-    (after-evict sh c x y (h.world.cores c)))
-    (λ c k u i. granted c k u)
+    (after-evict sh c x y (h.world.cores c))) (λ c k u i. granted c k u)
     (λ c d k m i. taken c d k m (core_of_back c d k b.told.all.kept.told.tids i) i (from_dir sh d (h.world.cores c) m)
     (λ l. copies-back sh l d (h.world.cores c) m (b.told.all.cores c).words.cache) (noted-back sh d (h.world.cores c) m)
     (after-back sh d (h.world.cores c) m))
     (λ c d k m i. answered c d k m i (dir_deliver sh (h.world.dirs d) c m) (dir-records sh (h.world.dirs d) c m))
     (λ c k i. pairs_vendor (CopiesAt sh h.commits) h.world c k
-    (λ d l cl dl ll q. kept-copies (after_grant (pair h.world c d) k) refl refl refl
-    (b.lines c d l cl dl ll q))
-    (λ j d n l jl dl ll q. kept-copies (after_other_grant (pair h.world j d)) refl refl
-    refl (b.lines j d l jl dl ll q)))
+    (λ d l cl dl ll q. kept-copies (after_grant (pair h.world c d) k) refl refl refl (b.lines c d l cl dl ll q))
+    (λ j d n l jl dl ll q. kept-copies (after_other_grant (pair h.world j d)) refl refl refl (b.lines j d l jl dl ll q)))
   where
     moved : (c : ℕ) (x : Option Out) → ((l : ℕ) → InMemory sh l → IfSome x (Conserves sh l (h.world.cores c)))
         → ((d t : ℕ) → d < sh.dirs → IfSome x (λ o. KeepsPart sh d t 0 (h.world.cores c) o)) → IfSome x (λ o. Tells sh (h.world.cores c) o)
         → IfSome x (λ o. CommitsNoted o) → IfSome x (λ o. AfterStep sh c (h.world.cores c) o)
         → IfSome x (λ o. KeptLines sh (and_noted o.commit h.commits) (core_moves h.world c o))
     moved c None k q t n a = tt
-    moved c (Some o) k q t n a = moved-lines sh gs ys h c o b (record { copies = k; speaks = speaks sh h.world c o q t n; after = a })
+    moved c (Some o) k q t n a = moved-lines h c o b (record { copies = k; speaks = speaks sh h.world c o q t n; after = a })
 
     granted : (c k u : ℕ)
         → KeptLines sh (and_noted (grant sh u (h.world.cores c)).commit h.commits)
@@ -306,11 +291,9 @@ step-lines sh p gs ys h e b = step_cases sh p h.world e (λ g o. KeptLines sh (a
         let o : Out = grant sh u (h.world.cores c) in
         let a = after-grant sh u (h.world.cores c) in
         subst (λ n. KeptLines sh (and_noted n h.commits) (core_takes h.world Vendor c k o)) (sym a.commit)
-        (pairs_grant (CopiesAt sh h.commits) h.world c k o
-        (λ d l cl dl ll q. copies-moved sh o q a.commit
+        (pairs_grant (CopiesAt sh h.commits) h.world c k o (λ d l cl dl ll q. copies-moved sh o q a.commit
         (none-sent o (noted-grant sh u (h.world.cores c)) a.commit d) (copies-grant sh l u (h.world.cores c))
-        (kept-copies (grant_taken (pair h.world c d) k) refl refl refl
-        (b.lines c d l cl dl ll q))) b.lines)
+        (kept-copies (grant_taken (pair h.world c d) k) refl refl refl (b.lines c d l cl dl ll q))) b.lines)
 
     taken : (c d k : ℕ) (m : Msg) → c < sh.cores → FromDir h.world d c k m → (x : Option Out)
         → ((l : ℕ) → IfSome x (BackStep sh l (h.world.cores c) m)) → IfSome x (λ o. CommitsNoted o)
@@ -322,12 +305,11 @@ step-lines sh p gs ys h e b = step_cases sh p h.world e (λ g o. KeptLines sh (a
         (λ l cl dl ll q. back-copies h c d d k l (back_taken (pair h.world c d) k) o b cl dl ll q i refl refl refl a.commit
         (none-sent o n a.commit d) (f l))
         (λ x r l cl dl ll q. back-copies h c d x k l (pair h.world c x) o b cl dl ll q i refl refl refl a.commit
-        (none-sent o n a.commit x) (f l))
-        b.lines)
+        (none-sent o n a.commit x) (f l)) b.lines)
 
     answered : (c d k : ℕ) (m : Msg) → FromCore h.world c d k m → (a : Answer)
         → RecordsBy sh (h.world.dirs d) c m a → OfAnswer h.world c d k (λ v. KeptLines sh h.commits v) a
     answered c d k m i Waits u = tt
     answered c d k m i Drops u = drop-lines h c d k m b i u
     answered c d k m i (Asks s sends) u = asks-lines h d s sends b u
-    answered c d k m i (Takes s sends) u = dir-lines sh gs ys h c d k m s sends b i u
+    answered c d k m i (Takes s sends) u = dir-lines h c d k m s sends b i u

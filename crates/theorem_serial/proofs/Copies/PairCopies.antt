@@ -83,11 +83,11 @@ copies-moved sh {cs} {c} {d} {l} {v} o e n z k h = record {
 }
 
 -- copies are lost, and there was none that counts
-pub copies-lost : (sh : Shape) (cs : List Noted) (c d l : ℕ) (v : Pair) (o : Out) → home sh l ≡ d
+pub copies-lost : (sh : Shape) {cs : List Noted} (c d l : ℕ) (v : Pair) (o : Out) → home sh l ≡ d
     → ((t : ℕ) → among (Commits t) (o.sends (Dir d)) ≡ 0)
     → ((t : ℕ) → frame_copy o.core.cache l t + among (CopyOf l t) (o.sends (Dir (home sh l))) ≤ frame_copy v.core.cache l t)
     → ((t : ℕ) → v.dir.lines.tag l ≤ t → line_copies l t v ≡ 0) → LineCopies sh.base cs c l v → LineCopies sh.base cs c l (after_move v o d)
-copies-lost sh cs c d l v o e z k f h = record {
+copies-lost sh {cs} c d l v o e z k f h = record {
   owned = omega (arith, gone (v.dir.lines.tag l) (omega arith), f (v.dir.lines.tag l) (omega arith), h.owned);
   above =
       λ t i. omega (
@@ -273,8 +273,7 @@ taken-copies {base} {cs} c u j l {v} w s h =
     copies t = omega (arith, of-line l t w, of-line l t v, same-frames l t v w s.cache, s.copies t)
 
     none : (t : ℕ) → u < t → line_copies l t w ≡ 0
-    none t i = copies t ∙ h.above t (omega (arith, i, s.old)) ∙ nothing-in (wrote_line base cs j t l)
-        (s.before t i)
+    none t i = copies t ∙ h.above t (omega (arith, i, s.old)) ∙ nothing-in (wrote_line base cs j t l) (s.before t i)
 
     above : (t : ℕ) → u < t → line_copies l t w ≡ cond (wrote_line base cs j t l) (live (Commits t) w.out) 0
     above t i = none t i ∙ sym (nothing-in (wrote_line base cs j t l) (s.after t i))
@@ -298,7 +297,7 @@ pub still-similar : (base : ℕ) (cs : List Noted) (c l : ℕ) {b : Bool} {m : M
     → s.lines.tag l ≡ v.dir.lines.tag l → s.lines.owner l ≡ v.dir.lines.owner l
     → ((t : ℕ) → v.dir.lines.tag l ≤ t → passes (CopyOf l t) m ≡ false)
     → ((t : ℕ) → wrote_line base cs c t l ≡ true → num (b && passes (Commits t) m) ≡ 0) → Similar base cs c l v w
-still-similar base cs c l {b} {m} {s} {v} {w} a e f n q = record {
+still-similar base cs c l {v} {w} a e f n q = record {
   cache = a.cache;
   tag = rw a.dir e;
   owned = let y : num (is_this (w.dir.lines.owner l) c) ≡ num (is_this (v.dir.lines.owner l) c) = rw (a.dir, f) refl in
@@ -330,8 +329,7 @@ dropped-similar {c} {l} b m {v} w a n late other h = record {
     above t i a y e f = grind nats
 
     here : (x y : Bool) → b ≡ x → passes (CopyOf l g) m ≡ y → num (x && y) ≡ 0
-    here true true e f =
-        absurd (let z : num (is_this (v.dir.lines.owner l) c) ≡ 0 = ap num (other e f) in
+    here true true e f = absurd (let z : num (is_this (v.dir.lines.owner l) c) ≡ 0 = ap num (other e f) in
         let p : num (b && passes (CopyOf l g) m) ≡ 1 = rw (e, f) refl in
         omega (arith, z, p, h.owned, of-line l g v, a.lives (CopyOf l g)))
     here true false e f = refl

@@ -26,8 +26,7 @@ use proofs.Marks.AfterKept.{last-insert}
 
 -- a message of core c to directory d is consumed, and the messages to directories are the others still
 abbrev pub Consumes : World → (core dir : ℕ) → Msg → World → Type 0
-Consumes w c d m v = (k : Kind) (j e : ℕ) → live k (to_dir v j e) + num ((j == c && e == d) && passes k m) ≡ live k
-    (to_dir w j e)
+Consumes w c d m v = (k : Kind) (j e : ℕ) → live k (to_dir v j e) + num ((j == c && e == d) && passes k m) ≡ live k (to_dir w j e)
 
 -- the tags stay, and no Commit is consumed; or a Commit is, and the marked lines have its TID
 pub data TagStep (sh : Shape) (w : World) (o : Stepped) : Type 0 where
@@ -50,13 +49,9 @@ takes-consumes w c d k m s sends i q j e = go (j == c) (e == d) refl refl
 
 pub tag-step : (sh : Shape) (p : Program) (w : World) (e : Event) → IfSome (step sh p w e) (TagStep sh w)
 unfolding core_moves core_takes vendor_gives dir_asks dir_takes
-tag-step sh p w e = step_cases sh p w e (λ g o. TagStep sh w o)
-    (λ c l. moved c (core_exec sh p c (w.cores c)))
-    (λ c x y l. moved c (core_evict sh x y (w.cores c)))
-    (λ c k t i. Unheard refl)
-    (λ c d k m i. taken c d k (from_dir sh d (w.cores c) m))
-    (λ c d k m i. answered c d k m i (dir_deliver sh (w.dirs d) c m) (dir-records sh (w.dirs d) c m))
-    (λ c k i. Unheard refl)
+tag-step sh p w e = step_cases sh p w e (λ g o. TagStep sh w o) (λ c l. moved c (core_exec sh p c (w.cores c)))
+    (λ c x y l. moved c (core_evict sh x y (w.cores c))) (λ c k t i. Unheard refl) (λ c d k m i. taken c d k (from_dir sh d (w.cores c) m))
+    (λ c d k m i. answered c d k m i (dir_deliver sh (w.dirs d) c m) (dir-records sh (w.dirs d) c m)) (λ c k i. Unheard refl)
   where
     moved : (c : ℕ) (x : Option Out) → IfSome x (λ o. TagStep sh w (record { world = core_moves w c o; noted = o.commit }))
     moved c None = tt
@@ -201,8 +196,7 @@ taken-commit {sh} {gs} {h} c d k {m} r dl i q =
         omega (arith, one, live-some (Commits u) (to_dir h.world c d) k m i)
 
     core : n.commit.core.0 ≡ c
-    core =
-        granted-once 1 gs u n.commit.core.0 c r.owners.numbered
+    core = granted-once 1 gs u n.commit.core.0 c r.owners.numbered
         (rw n.tid at (granted-at gs h.commits n.commit r.owners.granted n.noted)) ((r.spared c d).owner u sent)
 
 -- another commit is settled as before
@@ -299,8 +293,7 @@ pub tags-out : (sh : Shape) (gs : List Grant) (ys : Ways) (h : History) (o : Ste
     → KeptTags sh h.world h.commits → TagStep sh h.world o → KeptTags sh o.world (and_noted o.noted h.commits)
 tags-out sh gs ys h o k z f t (Unheard e) = unheard-tags sh h.world o.world h.commits o.noted (on-its-way sh gs ys h k) z e f t
 tags-out sh gs ys h o k z f t (Heard n g y) = rw n (heard-tags sh h.world o.world h.commits g y t)
-tags-out sh gs ys h o k z f t (Taken c d i m n j q g b) =
-    rw n (taken-tags sh h.commits h.world o.world c d m (on-its-way sh gs ys h k)
+tags-out sh gs ys h o k z f t (Taken c d i m n j q g b) = rw n (taken-tags sh h.commits h.world o.world c d m (on-its-way sh gs ys h k)
     (λ dl. taken-commit c d i k.all dl j q) q g b t)
 
 pub start-tags : (sh : Shape) (entries : ℕ → Local) (ram : ℕ → ℕ) → KeptTags sh (start entries ram) []
@@ -329,8 +322,7 @@ untagged sh h d l t k dl ll e p z q =
 tag-served : (sh : Shape) (w : World) (cs : List Noted) (d l : ℕ) → CommitsStand sh w cs → KeptTags sh w cs → d < sh.dirs → l < lines sh
     → home sh l ≡ d → (w.dirs d).lines.tag l ≤ tid_at w d
 unfolding settled_in_line
-tag-served sh w cs d l a k dl ll e =
-    rw (k d l dl ll e) (last-most (settled_in_line sh w d l) cs (tid_at w d)
+tag-served sh w cs d l a k dl ll e = rw (k d l dl ll e) (last-most (settled_in_line sh w d l) cs (tid_at w d)
     (λ x j s. one x j (is_settled w d x) (names_line sh.base x.stores l) refl refl s))
   where
     one : (x : Noted) → Contains cs x → (b s : Bool) → is_settled w d x ≡ b → names_line sh.base x.stores l ≡ s → (b && s) ≡ true
@@ -420,7 +412,7 @@ inv-tag-of sh h c d k l m u owes named stored a g cl dl ll e i =
     least : s.serving.serving ≤ s.lines.tag l
     least = omega (arith, n.tid, last-least (settled_in_line sh w d l) h.commits n.commit n.noted settled, g d l dl ll e)
 
-pub inv-tag : (sh : Shape) (gs : List Grant) (h : History) (c d k l m u : ℕ) → KeptAll sh gs h → CommitsStand sh h.world h.commits
-    → KeptTags sh h.world h.commits → c < sh.cores → d < sh.dirs → l < lines sh → home sh l ≡ d
-    → FromDir h.world d c k (Inv l m u) → Invalidating sh h c d l
-inv-tag sh gs h c d k l m u r = inv-tag-of sh h c d k l m u r.kept.told.owed.owed r.named r.stored
+pub inv-tag : {sh : Shape} {gs : List Grant} (h : History) (c d k l m u : ℕ) → KeptAll sh gs h → CommitsStand sh h.world h.commits
+    → KeptTags sh h.world h.commits → c < sh.cores → d < sh.dirs → l < lines sh → home sh l ≡ d → FromDir h.world d c k (Inv l m u)
+    → Invalidating sh h c d l
+inv-tag {sh} h c d k l m u r = inv-tag-of sh h c d k l m u r.kept.told.owed.owed r.named r.stored

@@ -68,8 +68,7 @@ pub wrote-new : (base : ℕ) (n : Noted) (cs : List Noted) (c t l : ℕ) → n.c
     → Wrote base (insert_commit n cs) c t l n
 wrote-new base n cs c t l e f z =
     let own : (b : Bool) → (((c == c) && ((t == t) && b)) || false) ≡ b = λ b. grind nats in
-    wrote-all
-    (λ w. wrote-insert base n cs c t w ∙ rw (wrote-none base cs c t w z, e, f) (own (stores_word base n.stores w)))
+    wrote-all (λ w. wrote-insert base n cs c t w ∙ rw (wrote-none base cs c t w z, e, f) (own (stores_word base n.stores w)))
 
 -- what another one stored stays
 pub record SameWrote (base : ℕ) (cs ds : List Noted) (c t l : ℕ) : Type 0 where
@@ -123,8 +122,7 @@ pub wrote-at : (base : ℕ) (cs : List Noted) (n : Noted) (w k : ℕ) → stores
 unfolding wrote
 wrote-at base [] n w k s i e = absurd (omega (arith, i))
 wrote-at base (x ∷ cs) n w zero s i e = grind nats
-wrote-at base (x ∷ cs) n w (suc k) s i e =
-    rw (wrote-at base cs n w k s (omega (arith, i)) e)
+wrote-at base (x ∷ cs) n w (suc k) s i e = rw (wrote-at base cs n w k s (omega (arith, i)) e)
     (go ((x.core.0 == n.core.0) && ((x.tid.0 == n.tid.0) && stores_word base x.stores w)))
   where
     go : (b : Bool) → (b || true) ≡ true
@@ -207,7 +205,7 @@ uncommitted {sh} {h} c t k l e = let one : num (has_tid (h.world.cores c).phase 
 pub commit-sent : {sh : Shape} {gs : List Grant} {ys : Ways} {h : History} (c d : ℕ) {s : Out} {n : Noted} → KeptRun sh gs ys h
     → c < sh.cores → TellsCommit sh (h.world.cores c) s n → d < sh.dirs → stores_at sh d n.stores ≡ true
     → 1 ≤ among (Commits n.tid.0) (s.sends (Dir d))
-commit-sent {sh} {gs} {ys} {h} c d {s} {n} k cl a dl e =
+commit-sent {sh} {h} c d {s} {n} k cl a dl e =
     let there : (b : Bool) → b ≡ true → (if b then Committed else Skipped) ≡ Committed = λ b q. rw q refl in
     go (told-committed (s.sends (Dir d)) n.tid.0 (live_way (h.world.cores c).phase (writes_at sh (h.world.cores c).cache d))
     (a.told d dl ∙ there (stores_at sh d n.stores) e))
@@ -227,7 +225,7 @@ pub new-commit : {sh : Shape} {gs : List Grant} {ys : Ways} {h : History} {x : S
     → is_applied (h.world.dirs d) n.tid.0 ≡ false
 unfolding share part part_in handled pair
 new-commit k (Still e i q) n d z dl st = absurd (let y = sym q ∙ z in cc)
-new-commit {sh} {gs} {ys} {h} k (Moved c s cl u f i q) n d z dl st = go (is_applied (h.world.dirs d) n.tid.0) refl
+new-commit {sh} {h} k (Moved c s cl u f i q) n d z dl st = go (is_applied (h.world.dirs d) n.tid.0) refl
   where
     t : ℕ
     t = n.tid.0

@@ -158,8 +158,7 @@ unfolding dir_commit owned_by_committer moved_on_if_settled moved_on unmarked
 commit-outcome sh s c t n = go (s.serving.serving == t) (count_below (has_mark s.lines) (lines sh) == n) refl refl
   where
     next : (b : Bool) → (invalidation_count sh s.lines c == 0) ≡ b
-        → Outcome sh s c (Commit s.serving.serving (count_below (has_mark s.lines) (lines sh)))
-        (Takes (if b then moved_on
+        → Outcome sh s c (Commit s.serving.serving (count_below (has_mark s.lines) (lines sh))) (Takes (if b then moved_on
         (record s { lines = owned_by_committer c s.serving.serving s.lines; owed = invalidation_count sh s.lines c })
         else record s { lines = owned_by_committer c s.serving.serving s.lines; owed = invalidation_count sh s.lines c })
         (invalidations sh s.lines c s.serving.serving))
@@ -167,8 +166,7 @@ commit-outcome sh s c t n = go (s.serving.serving == t) (count_below (has_mark s
     next false q = TakesCommit false q
 
     go : (a b : Bool) → (s.serving.serving == t) ≡ a → (count_below (has_mark s.lines) (lines sh) == n) ≡ b
-        → Outcome sh s c (Commit t n)
-        (if a && b then Takes (moved_on_if_settled
+        → Outcome sh s c (Commit t n) (if a && b then Takes (moved_on_if_settled
         (record s { lines = owned_by_committer c t s.lines; owed = invalidation_count sh s.lines c }))
         (invalidations sh s.lines c t) else Waits)
     go false b p q = Waiting (Commit t n)
@@ -183,8 +181,7 @@ unfolding acknowledgement with_sharer moved_on_if_settled moved_on unmarked
 ack-outcome sh s c l b = go (s.owed == 0) refl
   where
     next : (b x : Bool) → (s.owed - 1 == 0) ≡ x → 0 < s.owed
-        → Outcome sh s c (InvAck l b)
-        (Takes (if x then moved_on (record s { lines = unless_keeps b c l s.lines; owed = s.owed - 1 })
+        → Outcome sh s c (InvAck l b) (Takes (if x then moved_on (record s { lines = unless_keeps b c l s.lines; owed = s.owed - 1 })
         else record s { lines = unless_keeps b c l s.lines; owed = s.owed - 1 }) nothing)
     next true true q p = TakesAck l true true p q
     next true false q p = TakesAck l true false p q

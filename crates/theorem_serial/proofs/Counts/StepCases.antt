@@ -92,50 +92,43 @@ vendor-other w c k j d h = rw (differ j c h) (rw (append-none (w.net Vendor (Cor
 
 -- what holds of all pairs
 pub either : {A : Type 0} → (j c : ℕ) → (j ≡ c → A) → ((j ≢ c) → A) → A
-either {A = A} j c f g = elim (cases_eq j c) [ inl e ↦ f e | inr h ↦ g h ]
+either j c f g = elim (cases_eq j c) [ inl e ↦ f e | inr h ↦ g h ]
 
 abbrev pub AllPairs : (ℕ → ℕ → Pair → Type 0) → World → Type 0
 AllPairs P w = (c d : ℕ) → P c d (pair w c d)
 
 pub pairs_move : (P : ℕ → ℕ → Pair → Type 0) (w : World) (c : ℕ) (o : Out) → ((d : ℕ) → P c d (after_move (pair w c d) o d)) → AllPairs P w
     → AllPairs P (core_moves w c o)
-pairs_move P w c o own all j d = either j c
-    (λ e. rw e (subst (P c d) (sym (moves-own w c o d)) (own d)))
+pairs_move P w c o own all j d = either j c (λ e. rw e (subst (P c d) (sym (moves-own w c o d)) (own d)))
     (λ h. subst (P j d) (sym (moves-other w c o j d h)) (all j d))
 
 pub pairs_grant : (P : ℕ → ℕ → Pair → Type 0) (w : World) (c k : ℕ) (o : Out)
     → ((d : ℕ) → P c d (after_move (grant_taken (pair w c d) k) o d)) → AllPairs P w → AllPairs P (core_takes w Vendor c k o)
-pairs_grant P w c k o own all j d = either j c
-    (λ e. rw e (subst (P c d) (sym (grant-own w c k o d)) (own d)))
+pairs_grant P w c k o own all j d = either j c (λ e. rw e (subst (P c d) (sym (grant-own w c k o d)) (own d)))
     (λ h. subst (P j d) (sym (grant-other w c k o j d h)) (all j d))
 
 pub pairs_back : (P : ℕ → ℕ → Pair → Type 0) (w : World) (e c k : ℕ) (o : Out) → P c e (after_move (back_taken (pair w c e) k) o e)
     → ((d : ℕ) → d ≢ e → P c d (after_move (pair w c d) o d)) → AllPairs P w → AllPairs P (core_takes w (Dir e) c k o)
-pairs_back P w e c k o own away all j d = either j c
-    (λ q. either d e
-    (λ r. rw (q, r) (subst (P c e) (sym (back-own w c k o e)) own))
+pairs_back P w e c k o own away all j d = either j c (λ q. either d e (λ r. rw (q, r) (subst (P c e) (sym (back-own w c k o e)) own))
     (λ h. rw q (subst (P c d) (sym (back-away w e c k o d h)) (away d h))))
     (λ h. subst (P j d) (sym (back-other w e c k o j d h)) (all j d))
 
 pub pairs_dir : (P : ℕ → ℕ → Pair → Type 0) (w : World) (c e k : ℕ) (s : DirState) (sends : Node → List Msg)
     → P c e (after_answer (out_taken (pair w c e) k) s (sends (Core c)))
     → ((j : ℕ) → j ≢ c → P j e (after_answer (pair w j e) s (sends (Core j)))) → AllPairs P w → AllPairs P (dir_takes w c e k s sends)
-pairs_dir P w c e k s sends own others all j d = either d e
-    (λ q. either j c
+pairs_dir P w c e k s sends own others all j d = either d e (λ q. either j c
     (λ r. rw (q, r) (subst (P c e) (sym (dir-own w c e k s sends)) own))
     (λ h. rw q (subst (P j e) (sym (dir-other w c e k s sends j h)) (others j h))))
     (λ h. subst (P j d) (sym (dir-away w c e k s sends j d h)) (all j d))
 
 pub pairs_asks : (P : ℕ → ℕ → Pair → Type 0) (w : World) (e : ℕ) (s : DirState) (sends : Node → List Msg)
     → ((j : ℕ) → P j e (after_answer (pair w j e) s (sends (Core j)))) → AllPairs P w → AllPairs P (dir_asks w e s sends)
-pairs_asks P w e s sends own all j d = either d e
-    (λ q. rw q (subst (P j e) (sym (asks-own w e s sends j)) (own j)))
+pairs_asks P w e s sends own all j d = either d e (λ q. rw q (subst (P j e) (sym (asks-own w e s sends j)) (own j)))
     (λ h. subst (P j d) (sym (asks-away w e s sends j d h)) (all j d))
 
 pub pairs_vendor : (P : ℕ → ℕ → Pair → Type 0) (w : World) (c k : ℕ) → ((d : ℕ) → P c d (after_grant (pair w c d) k))
     → ((j d : ℕ) → j ≢ c → P j d (after_other_grant (pair w j d))) → AllPairs P (vendor_gives w c k (given w c))
-pairs_vendor P w c k own others j d = either j c
-    (λ e. rw e (subst (P c d) (sym (vendor-own w c k d)) (own d)))
+pairs_vendor P w c k own others j d = either j c (λ e. rw e (subst (P c d) (sym (vendor-own w c k d)) (own d)))
     (λ h. subst (P j d) (sym (vendor-other w c k j d h)) (others j d h))
 
 -- sums over the cores
@@ -213,8 +206,7 @@ unfolding share
 sum_vendor f n w c k d x y l e others =
     omega (
       arith,
-      total-at (share f (vendor_gives w c k (given w c)) d) (share f w d) n c l
-          (λ j h. ap f (vendor-other w c k j d h) ∙ others j h),
+      total-at (share f (vendor_gives w c k (given w c)) d) (share f w d) n c l (λ j h. ap f (vendor-other w c k j d h) ∙ others j h),
       ap f (vendor-own w c k d),
     )
 
@@ -259,10 +251,8 @@ AnsweringAll sh w R = (c d k : ℕ) (m : Msg) → FromCore w c d k m
 -- G from each kind of event by itself; R takes the views after it, what the event's core sends, what is granted, and the state after it
 abbrev pub FromEvents : Shape → Program → World → Views → (Views → Sends → List Grant → Stepped → Type 0) → ((World → Type 0) → Type 0)
     → Type 0 → Type 0
-FromEvents sh p w vs R Dirs G =
-    ((c : ℕ) → c < sh.cores
-    → IfSome (core_exec sh p c (w.cores c))
-    (λ o. R (put vs c (uses_executed (Some o) (vs c) (new_uses sh p w c))) o.sends []
+FromEvents sh p w vs R Dirs G = ((c : ℕ) → c < sh.cores
+    → IfSome (core_exec sh p c (w.cores c)) (λ o. R (put vs c (uses_executed (Some o) (vs c) (new_uses sh p w c))) o.sends []
     (record { world = core_moves w c o; noted = o.commit })))
     → ((c x y : ℕ) → c < sh.cores
     → IfSome (core_evict sh x y (w.cores c)) (λ o. R vs o.sends [] (record { world = core_moves w c o; noted = o.commit })))
@@ -270,8 +260,7 @@ FromEvents sh p w vs R Dirs G =
     → R (put vs c (vs c)) (grant sh t (w.cores c)).sends []
     (record { world = core_takes w Vendor c k (grant sh t (w.cores c)); noted = (grant sh t (w.cores c)).commit }))
     → ((c d k : ℕ) (m : Msg) → FromDir w d c k m
-    → IfSome (from_dir sh d (w.cores c) m)
-    (λ o. R (put vs c (uses_delivered (w.cores c) m (vs c))) o.sends []
+    → IfSome (from_dir sh d (w.cores c) m) (λ o. R (put vs c (uses_delivered (w.cores c) m (vs c))) o.sends []
     (record { world = core_takes w (Dir d) c k o; noted = o.commit })))
     → Dirs (λ v. R vs nothing [] (record { world = v; noted = None }))
     → ((c k : ℕ) → in_flight w.net (Core c) Vendor k ≡ Some TidReq
@@ -355,13 +344,9 @@ pub dirs_step : (sh : Shape) (p : Program) (w : World) (e : Event) (P : DirState
     → ((c d k : ℕ) (m : Msg) → FromCore w c d k m → Leaves P (dir_deliver sh (w.dirs d) c m))
     → IfSome (step sh p w e) (λ o. (d : ℕ) → P (o.world.dirs d))
 unfolding core_moves core_takes dir_takes dir_asks vendor_gives
-dirs_step sh p w e P h f = step_cases sh p w e (λ g o. (d : ℕ) → P (o.world.dirs d))
-    (λ c l. moved c (core_exec sh p c (w.cores c)))
-    (λ c x y l. moved c (core_evict sh x y (w.cores c)))
-    (λ c k t i. h)
-    (λ c d k m i. taken c d k (from_dir sh d (w.cores c) m))
-    (λ c d k m i. answered c d k (dir_deliver sh (w.dirs d) c m) (f c d k m i))
-    (λ c k i. h)
+dirs_step sh p w e P h f = step_cases sh p w e (λ g o. (d : ℕ) → P (o.world.dirs d)) (λ c l. moved c (core_exec sh p c (w.cores c)))
+    (λ c x y l. moved c (core_evict sh x y (w.cores c))) (λ c k t i. h) (λ c d k m i. taken c d k (from_dir sh d (w.cores c) m))
+    (λ c d k m i. answered c d k (dir_deliver sh (w.dirs d) c m) (f c d k m i)) (λ c k i. h)
   where
     moved : (c : ℕ) (q : Option Out) → IfSome q (λ o. (d : ℕ) → P ((core_moves w c o).dirs d))
     moved c None = tt

@@ -180,8 +180,7 @@ alone-kept {sh} l id u s h q = elim (kept-alone u l s.spilled s.cache q) [
   | inr y ↦ inr (record {
     commit = noted u id s;
     noted = refl;
-    line = sym (written-line sh.base s.cache s.spilled s.stores l h.named)
-        ∙ first (is_modified s.cache l) (holds s.spilled l) y;
+    line = sym (written-line sh.base s.cache s.spilled s.stores l h.named) ∙ first (is_modified s.cache l) (holds s.spilled l) y;
   })
 ]
   where
@@ -208,8 +207,7 @@ holds-exec {sh} l p id {s} h v = each-exec sh p id s (Holds sh l s) go
     go (Reads a x z b g r f) = fewer _ g.idle (fewer-marked (w a) l s.cache)
     go (Frames a y also n k g i f) =
         fewer _ g.idle (λ j b q. fewer-stored (w a) y l also s.cache f.read (acts-valid s.phase refl g.acts (w a)) j b q)
-    go (Frames_anew a y n k g i q f o) =
-        fewer _ g.idle (λ j b z. placed-fewer sh (line_of (w a)) l s.cache j b
+    go (Frames_anew a y n k g i q f o) = fewer _ g.idle (λ j b z. placed-fewer sh (line_of (w a)) l s.cache j b
         (fewer-stored (w a) y l false (placed sh (line_of (w a)) s.cache) (λ q. absurd (cc))
         (placed-reads sh (line_of (w a)) s.cache (acts-valid s.phase refl g.acts) (w a)) j b z))
     go (Misses_anew a n g i q f) = fewer _ g.idle (placed-fewer sh (line_of (w a)) l s.cache)
@@ -223,8 +221,7 @@ holds-exec {sh} l p id {s} h v = each-exec sh p id s (Holds sh l s) go
     go (Ends_run b e f r i) = fewer _ i (λ j b q. q)
 
 pub holds-evict : (sh : Shape) (l x y : ℕ) (s : CoreState) → IfSome (core_evict sh x y s) (Holds sh l s)
-holds-evict sh l x y s =
-    each-evict sh x y s (Holds sh l s)
+holds-evict sh l x y s = each-evict sh x y s (Holds sh l s)
     (λ k e a m. record { kept = by-fewer sh l s (emptied sh x y k s) (fewer-evicted x y l s.cache); fresh = inl })
 
 pub holds-grant : {sh : Shape} (l u : ℕ) {s : CoreState} → Holds sh l s (grant sh u s)
@@ -271,8 +268,7 @@ keeps-none c l e = go (keeps_unmodified c l) refl
 
     go : (b : Bool) → keeps_unmodified c l ≡ b → b ≡ false
     go false q = refl
-    go true q =
-        absurd (let x = any_below-found (λ k. is_kept c (word_at l k)) 8 q in
+    go true q = absurd (let x = any_below-found (λ k. is_kept c (word_at l k)) 8 q in
         let y = any_below-at (λ k. is_some (c.value (word_at l k))) 8 x.0 x.1
         (valid (is_some (c.value (word_at l x.0))) (not (c.modified (word_at l x.0)) || c.read (word_at l x.0)) x.2) in cc)
 
@@ -306,8 +302,7 @@ holds-back sh l e s m = each-back sh e s (HoldsTaken sh l s) go m
     hurt : (k m u : ℕ) (r : CoreState) (q : Said) → Fewer (invalidated k m s.cache) r.cache l → r.awaited ≡ staled k s.awaited
         → Unheard (GoneOf l) q → HoldsTaken sh l s (Inv k m u) (acked sh k r (say sh s q))
     hurt k m u r q f e h = record {
-      holds = still (λ j i z. fewer-invalidated k m l s.cache j i (f j i z))
-          (λ z. staled-fresh k s.awaited (rw e at z));
+      holds = still (λ j i z. fewer-invalidated k m l s.cache j i (f j i z)) (λ z. staled-fresh k s.awaited (rw e at z));
       gone = λ z. gone (grind nats) (keeps r.cache k) refl;
     }
       where

@@ -43,8 +43,7 @@ dir-gets sh s c m = go (outcome sh s c m)
     -- the owner of the line is asked
     sent : (l o : ℕ) → s.lines.owner l ≡ Some o → (x : ℕ) (b : Bool) → (x == l) ≡ b → (if b then true else s.lines.asked x) ≡ true
         → (s.lines.asked x ≡ true) ⊎ ((j : ℕ) → s.lines.owner x ≡ Some j → 1 ≤ among (DataOf x) (to (Core o) (DataReq l ∷ []) (Core j)))
-    sent l o e x true q r =
-        inr (λ j w. let i : l ≡ x = grind nats in let y : Some o ≡ Some j = sym e ∙ ap s.lines.owner i ∙ w in
+    sent l o e x true q r = inr (λ j w. let i : l ≡ x = grind nats in let y : Some o ≡ Some j = sym e ∙ ap s.lines.owner i ∙ w in
         let z : j ≡ o = cc in let n : among (DataOf x) (to (Core o) (DataReq l ∷ []) (Core j)) ≡ 1 = among-to (DataOf x) o j (DataReq l)
         ∙ rw (z, eq-self o, i, eq-self x) refl in omega (arith, n))
     sent l o e x false q r = inl r
@@ -53,8 +52,7 @@ dir-gets sh s c m = go (outcome sh s c m)
     go (Waiting m) = tt
     go (Spent m i) = tt
     go (AsksOwner m l o w e) = λ x r. sent l o e x (x == l) refl r
-    go (TakesCommit b e) =
-        λ x r. record { asked = grind nats; owner = grind nats; tag = grind nats; other = refl }
+    go (TakesCommit b e) = λ x r. record { asked = grind nats; owner = grind nats; tag = grind nats; other = refl }
     go (TakesCopy m l k ws g y e o) = λ x r. record {
       asked = grind nats;
       owner = grind nats;
@@ -76,8 +74,7 @@ gets-moved c d l v o h a e = omega (arith, h a e, live-sends (CopyOf l (v.dir.li
 asked-clean : (sh : Shape) (e l : ℕ) (s : CoreState) (m : Msg) → passes (DataOf l) m ≡ true
     → IfSome (from_dir sh e s m) (λ o. (t : ℕ) → frame_copy o.core.cache l t ≡ 0)
 unfolding passes data_request cleaned
-asked-clean sh e l s (DataReq k) q =
-    clean-frame (cleaned k s.cache) l
+asked-clean sh e l s (DataReq k) q = clean-frame (cleaned k s.cache) l
     (λ i j. (let y : (k == line_of (word_at l i)) ≡ true = (let z : line_of (word_at l i) ≡ l = line_of-word_at l i j in rw z q) in
     rw y refl))
 asked-clean sh e l s (ProbeReply t v) q = absurd (cc)
@@ -124,10 +121,8 @@ pub step-gets : (sh : Shape) (p : Program) (w : World) (cs : List Noted) (e : Ev
     → IfSome (step sh p w e) (λ o. KeptLines sh (and_noted o.noted cs) o.world → KeptGets sh o.world)
 unfolding pair
 step-gets sh p w cs e h = step_cases sh p w e (λ g o. KeptLines sh (and_noted o.noted cs) o.world → KeptGets sh o.world)
-    (λ c l. moved c (core_exec sh p c (w.cores c)))
-    (λ c x y l. moved c (core_evict sh x y (w.cores c)))
-    (λ c k u i n. from (core_takes w Vendor c k (grant sh u (w.cores c)))
-    (pairs_grant (GetsAt sh) w c k (grant sh u (w.cores c))
+    (λ c l. moved c (core_exec sh p c (w.cores c))) (λ c x y l. moved c (core_evict sh x y (w.cores c)))
+    (λ c k u i n. from (core_takes w Vendor c k (grant sh u (w.cores c))) (pairs_grant (GetsAt sh) w c k (grant sh u (w.cores c))
     (λ d l cl dl ll q. gets-moved c d l (pair w c d) (grant sh u (w.cores c)) (h c d l cl dl ll q)) at-pairs))
     (λ c d k m i. taken c d k m i (from_dir sh d (w.cores c) m) (λ l q. asked-clean sh d l (w.cores c) m q))
     (λ c d k m i. answered c d k m i (dir_deliver sh (w.dirs d) c m) (dir-records sh (w.dirs d) c m) (dir-gets sh (w.dirs d) c m))
@@ -143,8 +138,7 @@ step-gets sh p w cs e h = step_cases sh p w e (λ g o. KeptLines sh (and_noted o
     moved : (c : ℕ) (x : Option Out)
         → IfSome x (λ o. KeptLines sh (and_noted o.commit cs) (core_moves w c o) → KeptGets sh (core_moves w c o))
     moved c None = tt
-    moved c (Some o) =
-        λ n. from (core_moves w c o)
+    moved c (Some o) = λ n. from (core_moves w c o)
         (pairs_move (GetsAt sh) w c o (λ d l cl dl ll q. gets-moved c d l (pair w c d) o (h c d l cl dl ll q)) at-pairs)
 
     own : (c d k : ℕ) (m : Msg) (o : Out) → FromDir w d c k m
@@ -167,8 +161,7 @@ step-gets sh p w cs e h = step_cases sh p w e (λ g o. KeptLines sh (and_noted o
         → ((l : ℕ) → passes (DataOf l) m ≡ true → IfSome x (λ o. (t : ℕ) → frame_copy o.core.cache l t ≡ 0))
         → IfSome x (λ o. KeptLines sh (and_noted o.commit cs) (core_takes w (Dir d) c k o) → KeptGets sh (core_takes w (Dir d) c k o))
     taken c d k m i None f = tt
-    taken c d k m i (Some o) f =
-        λ n. from (core_takes w (Dir d) c k o)
+    taken c d k m i (Some o) f = λ n. from (core_takes w (Dir d) c k o)
         (pairs_back (GetsAt sh) w d c k o (own c d k m o i f n) (λ b r l cl dl ll q. gets-moved c b l (pair w c b) o (h c b l cl dl ll q))
         at-pairs)
 

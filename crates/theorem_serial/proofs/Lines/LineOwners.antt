@@ -70,8 +70,7 @@ step-loading sh p w e h = step_cases sh p w e (λ g o. KeptLoading sh o.world)
       arith,
       h c d l,
       loads-grant sh u (w.cores c) d l,
-      live-sends (LoadOf l) (to_dir w c d)
-          ((grant sh u (w.cores c)).sends (Dir d)),
+      live-sends (LoadOf l) (to_dir w c d) ((grant sh u (w.cores c)).sends (Dir d)),
     )) h)
     (λ c d k m i. taken c d k m i (from_dir sh d (w.cores c) m)
     (loads-back sh d (w.cores c) m (λ l. omega (arith, h c d l, live-some (FillOf l) (to_core w d c) k m i))))
@@ -83,8 +82,7 @@ step-loading sh p w e h = step_cases sh p w e (λ g o. KeptLoading sh o.world)
 
     moved : (c : ℕ) (x : Option Out) → IfSome x (λ o. LoadsStep sh (w.cores c) o) → IfSome x (λ o. KeptLoading sh (core_moves w c o))
     moved c None a = tt
-    moved c (Some o) a =
-        pairs_move P w c o (λ d l. omega (arith, h c d l, a d l, live-sends (LoadOf l) (to_dir w c d) (o.sends (Dir d)))) h
+    moved c (Some o) a = pairs_move P w c o (λ d l. omega (arith, h c d l, a d l, live-sends (LoadOf l) (to_dir w c d) (o.sends (Dir d)))) h
 
     self : (d : ℕ) (b : Bool) → num (d == d && b) ≡ num b
     self d b = rw (eq-self d) refl
@@ -109,14 +107,12 @@ step-loading sh p w e h = step_cases sh p w e (λ g o. KeptLoading sh o.world)
           h c b l,
           a b l,
           other b d (passes (FillOf l) m) n,
-          live-sends (LoadOf l) (to_dir w c b)
-              (o.sends (Dir b)),
+          live-sends (LoadOf l) (to_dir w c b) (o.sends (Dir b)),
         )) h
 
     answered : (c d k : ℕ) (m : Msg) → FromCore w c d k m → (a : Answer) → FillsBy c m a → OfAnswer w c d k (λ v. KeptLoading sh v) a
     answered c d k m i Waits u = tt
-    answered c d k m i Drops u = pairs_dir P w c d k (w.dirs d) (λ dst. [])
-        (λ l. let z : num (passes (LoadOf l) m) ≡ 0 = rw (u l) refl in
+    answered c d k m i Drops u = pairs_dir P w c d k (w.dirs d) (λ dst. []) (λ l. let z : num (passes (LoadOf l) m) ≡ 0 = rw (u l) refl in
         omega (
           arith,
           h c d l,
@@ -142,8 +138,7 @@ step-loading sh p w e h = step_cases sh p w e (λ g o. KeptLoading sh o.world)
           h j d l,
           u l j,
           other j c (passes (LoadOf l) m) n,
-          live-sends (FillOf l) (to_core w d j)
-              (sends (Core j)),
+          live-sends (FillOf l) (to_core w d j) (sends (Core j)),
         )) h
 
 pub start-loading : (sh : Shape) (entries : ℕ → Local) (ram : ℕ → ℕ) → KeptLoading sh (start entries ram)
@@ -182,14 +177,12 @@ LineOwners gs s = (l c : ℕ) → s.lines.owner l ≡ Some c → Contains gs (gr
 more-granted : (gs new : List Grant) (w : World) (e : Event) (x : Option Stepped) → IfSome x (λ o. (d : ℕ) → LineOwners gs (o.world.dirs d))
     → IfSome x (λ o. KeptLineOwners (gs ++ new) o.world)
 more-granted gs new w e None h = tt
-more-granted gs new w e (Some o) h = λ d l j q. Contains-append_left gs new (grant_to ((o.world.dirs d).lines.tag l) j)
-    (h d l j q)
+more-granted gs new w e (Some o) h = λ d l j q. Contains-append_left gs new (grant_to ((o.world.dirs d).lines.tag l) j) (h d l j q)
 
 pub step-line-owners : (sh : Shape) (p : Program) (gs : List Grant) (w : World) (e : Event) → SparesCommitter sh gs w → KeptLineOwners gs w
     → IfSome (step sh p w e) (λ o. KeptLineOwners (gs ++ granted_by w e) o.world)
 unfolding pair passes
-step-line-owners sh p gs w e y h =
-    more-granted gs (granted_by w e) w e (step sh p w e)
+step-line-owners sh p gs w e y h = more-granted gs (granted_by w e) w e (step sh p w e)
     (dirs_step sh p w e (LineOwners gs) h (λ c d k m i. owners c d k i (outcome sh (w.dirs d) c m)))
   where
     -- the core of the Commit owns the lines with its TID

@@ -126,7 +126,7 @@ takes-commits : {sh : Shape} {gs : List Grant} {ys : Ways} (h : History) (c d k 
     → home sh l ≡ d → Seen mine j m s sends (pair h.world j d) w → Records sh (h.world.dirs d) c m s
     → Shares sh (h.world.dirs d) c m s sends → CommitsLine sh.base h.commits j l (pair h.world j d)
     → (w.dir.lines.sharers l j ≡ true) ⊎ CommitsLine sh.base h.commits j l w
-takes-commits {sh} {gs} h c d k j l {mine} m s w b i z dl ll e a r f x = go r
+takes-commits {sh} h c d k j l {mine} m s w b i z dl ll e a r f x = go r
   where
     same : num (mine && passes (Commits x.tid) m) ≡ 0 → (w.dir.lines.sharers l j ≡ true) ⊎ CommitsLine sh.base h.commits j l w
     same n = inr (record { tid = x.tid; sent = omega (arith, x.sent, n, a.lives (Commits x.tid)); line = x.line })
@@ -149,8 +149,7 @@ takes-commits {sh} {gs} h c d k j l {mine} m s w b i z dl ll e a r f x = go r
             let n' : wrote_line sh.base h.commits c (tid_at h.world d) l ≡ true =
             subst (λ p. wrote_line sh.base h.commits c p l ≡ true) (sym t)
             (subst (λ p. wrote_line sh.base h.commits p x.tid l ≡ true) y x.line) in
-            let o' : has_mark (h.world.dirs d).lines l ≡ true =
-            sym (writer-line h l ll e (taken-commit c d k b.told.all dl i q)) ∙ n' in
+            let o' : has_mark (h.world.dirs d).lines l ≡ true = sym (writer-line h l ll e (taken-commit c d k b.told.all dl i q)) ∙ n' in
             inl (ap (λ u. u.lines.sharers l j) a.dir ∙ ap (λ u. s.lines.sharers l u) y ∙ f.taken l q o')
 
 pub answer-sharers : {sh : Shape} {gs : List Grant} {ys : Ways} {h : History} {c d : ℕ}
@@ -159,7 +158,7 @@ pub answer-sharers : {sh : Shape} {gs : List Grant} {ys : Ways} {h : History} {c
     → Records sh (h.world.dirs d) c m s → Shares sh (h.world.dirs d) c m s sends → SharerOf sh.base h.commits j l (pair h.world j d)
     → SharerOf sh.base h.commits j l w
 unfolding pair
-answer-sharers {sh} {gs} {ys} {h} {c} {d} k {j} {l} {mine} {m} {s} {sends} w b i z jl dl ll e a r f =
+answer-sharers {h} {c} {d} k {j} {l} {mine} {m} {s} {sends} w b i z jl dl ll e a r f =
     sharer-answered (pair h.world j d) w (record {
       core = a.core;
       kept = λ q. kept (f.kept l j q);
@@ -225,7 +224,7 @@ pub own-sharers : {sh : Shape} {gs : List Grant} {ys : Ways} {h : History} {c d 
     → SharerOf sh.base h.commits c l (pair h.world c d)
     → SharerOf sh.base (and_noted o.commit h.commits) c l (after_move (pair h.world c d) o d)
 unfolding pair
-own-sharers {sh} {gs} {ys} {h} {c} {d} {l} o b ld cl dl ll e s k = sharer-moved refl
+own-sharers {sh} {h} {c} {d} {l} o b ld cl dl ll e s k = sharer-moved refl
     (λ q. held (holds-cases l w q)) more (λ q. omega (arith, s.quiet, live-sends (GoneOf l) v.out (o.sends (Dir d)))) k
   where
     v : Pair
@@ -266,8 +265,7 @@ own-sharers {sh} {gs} {ys} {h} {c} {d} {l} o b ld cl dl ll e s k = sharer-moved 
             arith,
             s.reached,
             above-sent (tid_at h.world d) n.tid.0 (o.sends (Dir d)) z,
-            commit-sent c d b.told cl (tells o.commit q s.speaks.tells.commits) dl
-                (stored-home sh l n ll e i),
+            commit-sent c d b.told cl (tells o.commit q s.speaks.tells.commits) dl (stored-home sh l n ll e i),
           ))
         ]
 
@@ -288,8 +286,7 @@ own-sharers {sh} {gs} {ys} {h} {c} {d} {l} o b ld cl dl ll e s k = sharer-moved 
         line : (n : Noted) → o.commit ≡ Some n → n.core.0 ≡ c → (a : Bool) → is_of c x.tid n ≡ a
             → wrote_line sh.base (insert_commit n h.commits) c x.tid l ≡ true
         line n q r false z = (wrote-other sh.base n h.commits c x.tid l z).line ∙ x.line
-        line n q r true z =
-            absurd (let t : n.tid.0 ≡ x.tid = tids (n.core.0 == c) (n.tid.0 == x.tid) refl z in
+        line n q r true z = absurd (let t : n.tid.0 ≡ x.tid = tids (n.core.0 == c) (n.tid.0 == x.tid) refl z in
             let y = wrote-unknown sh.base h.commits c x.tid l (rw t at (new n q r).fresh) in let u = x.line in cc)
           where
             tids : (a b : Bool) → (n.tid.0 == x.tid) ≡ b → (a && b) ≡ true → n.tid.0 ≡ x.tid
@@ -321,11 +318,11 @@ reads-valid sh w c h k n q x r = go (w.cores c).phase refl
 abbrev pub SharersAt : Shape → List Noted → (core dir : ℕ) → Pair → Type 0
 SharersAt sh cs c d v = (l : ℕ) → c < sh.cores → d < sh.dirs → l < lines sh → home sh l ≡ d → SharerOf sh.base cs c l v
 
-pub dir-sharers : (sh : Shape) (gs : List Grant) (ys : Ways) (h : History) (c d k : ℕ) (m : Msg) (s : DirState) (sends : Sends)
+pub dir-sharers : {sh : Shape} {gs : List Grant} {ys : Ways} (h : History) (c d k : ℕ) (m : Msg) (s : DirState) {sends : Sends}
     → Before sh gs ys h → KeptSharers sh h.world h.commits → FromCore h.world c d k m → Records sh (h.world.dirs d) c m s
     → Shares sh (h.world.dirs d) c m s sends → (j e : ℕ) → SharersAt sh h.commits j e (pair (dir_takes h.world c d k s sends) j e)
 unfolding pair
-dir-sharers sh gs ys h c d k m s sends b t i r f = pairs_dir (SharersAt sh h.commits) h.world c d k s sends
+dir-sharers {sh} h c d k m s {sends} b t i r f = pairs_dir (SharersAt sh h.commits) h.world c d k s sends
     (λ l cl dl ll e. answer-sharers k (after_answer (out_taken (pair h.world c d) k) s (sends (Core c))) b
     i (same c) cl dl ll e (record {
       core = refl;
@@ -359,11 +356,11 @@ other-sharers {base} a {cs} j l {v} f h = go a refl
             inr (record { tid = x.tid; sent = x.sent; line = (wrote-other base n cs j x.tid l (let y = f n e in rw y refl)).line ∙ x.line })
 
 -- a core executes or evicts
-pub moved-sharers : (sh : Shape) (gs : List Grant) (ys : Ways) (h : History) (c : ℕ) (o : Out) → Before sh gs ys h → KeptLoading sh h.world
+pub moved-sharers : {sh : Shape} {gs : List Grant} {ys : Ways} (h : History) (c : ℕ) (o : Out) → Before sh gs ys h → KeptLoading sh h.world
     → KeptSharers sh h.world h.commits → AfterStep sh c (h.world.cores c) o
     → ((d l : ℕ) → d < sh.dirs → l < lines sh → home sh l ≡ d → Sharing sh h c d l o)
     → KeptSharers sh (core_moves h.world c o) (and_noted o.commit h.commits)
-moved-sharers sh gs ys h c o b ld t a f j d = either j c
+moved-sharers {sh} h c o b ld t a f j d = either j c
     (λ q. subst (λ i. SharersAt sh (and_noted o.commit h.commits) i d (pair (core_moves h.world c o) i d)) (sym q)
     (subst (SharersAt sh (and_noted o.commit h.commits) c d) (sym (moves-own h.world c o d))
     (λ l cl dl ll e. own-sharers o b ld cl dl ll e (f d l dl ll e) (t c d l cl dl ll e))))
@@ -411,8 +408,7 @@ back-sharers sh w cs c e d k l m v o h q i vc vd vo vb f g ld t =
       | inl y ↦ holds-kept l u y
       | inr y ↦ let z : e ≡ d = sym (fill-home sh w c e k l m h i y.0) ∙ q in
           let n : num (passes (FillOf l) m) ≡ 1 = ap num y.0 in
-          let p : 1 ≤ live (FillOf l) (to_core w d c) =
-          rw (sym z) (omega (arith, n, live-some (FillOf l) (to_core w e c) k m i)) in
+          let p : 1 ≤ live (FillOf l) (to_core w d c) = rw (sym z) (omega (arith, n, live-some (FillOf l) (to_core w e c) k m i)) in
           holds-fill l u y.1 p
     ]
 

@@ -18,8 +18,8 @@ use proofs.Lines.SharersKept.{back-sharers}
 use proofs.Marks.AfterKept.{AfterStep, Stays, after-exec, after-evict, after-grant, after-back}
 use proofs.Marks.NamedKept.{lines-among, acks-line}
 use proofs.Marks.ReadsKept.{KeptReads}
-use proofs.Serving.CoreCommits.{CommitsNoted, noted-exec, noted-evict, Served, served-exec, served-evict, served-grant}
-use proofs.Serving.CoreDue.{CleanOut, clean-exec, clean-evict, clean-grant}
+use proofs.Serving.CoreDue.{CommitsNoted, noted-exec, noted-evict, Served, served-exec, served-evict, served-grant, CleanOut, clean-exec}
+use proofs.Serving.CoreDue.{clean-evict, clean-grant}
 use proofs.Tids.CoreTids.{KeepsPart, part-exec, part-evict}
 use proofs.Tids.TidSteps.{live-some}
 use proofs.Ways.CoreSkips.{Tells, tells-exec, tells-evict}
@@ -55,7 +55,7 @@ no-message k = refl
 -- what a taken grant leaves
 regranted : {base : ℕ} {cs : List Noted} (c d k l : ℕ) (v : Pair) (o : Out) → SharerOf base cs c l (after_move v o d)
     → SharerOf base cs c l (after_move (grant_taken v k) o d)
-regranted {base} {cs} c d k l v o h = sharer-answered (after_move v o d) (after_move (grant_taken v k) o d)
+regranted c d k l v o h = sharer-answered (after_move v o d) (after_move (grant_taken v k) o d)
     (record {
       core = refl;
       kept = inl;
@@ -67,8 +67,7 @@ regranted {base} {cs} c d k l v o h = sharer-answered (after_move v o d) (after_
 -- the same with other links to and from the vendor, or with other records that don't count here
 same-sharers : {base : ℕ} {cs : List Noted} {c l : ℕ} {v : Pair} (w : Pair) → w.core ≡ v.core
     → w.dir.lines.sharers l c ≡ v.dir.lines.sharers l c → w.out ≡ v.out → w.back ≡ v.back → SharerOf base cs c l v → SharerOf base cs c l w
-same-sharers {base} {cs} {c} {l} {v} w e f g i h =
-    sharer-answered v w
+same-sharers {v} w e f g i h = sharer-answered v w
     (record {
       core = e;
       kept = λ q. inl (f ∙ q);
@@ -81,8 +80,7 @@ dropped-sharers : (sh : Shape) (h : History) (c d k : ℕ) (m : Msg) → KeptSha
     → NoCommit m → KeptSharers sh (dir_takes h.world c d k (h.world.dirs d) (λ dst. [])) h.commits
 unfolding pair
 dropped-sharers sh h c d k m t i u = pairs_dir (SharersAt sh h.commits) h.world c d k (h.world.dirs d) (λ dst. [])
-    (λ l cl dl ll q. sharer-answered (pair h.world c d)
-    (after_answer (out_taken (pair h.world c d) k) (h.world.dirs d) [])
+    (λ l cl dl ll q. sharer-answered (pair h.world c d) (after_answer (out_taken (pair h.world c d) k) (h.world.dirs d) [])
     (record {
       core = refl;
       kept = inl;
@@ -139,32 +137,26 @@ asked-sharers sh h c d k m s sends g t i f = pairs_asks (SharersAt sh h.commits)
 
 pub step-sharers : (sh : Shape) (p : Program) (gs : List Grant) (ys : Ways) (h : History) (e : Event) → Before sh gs ys h
     → KeptLoading sh h.world → KeptHomes sh h.world → KeptReads sh h.world → KeptSharers sh h.world h.commits
-    → IfSome (step sh p h.world e)
-    (λ o. KeptLoading sh o.world
+    → IfSome (step sh p h.world e) (λ o. KeptLoading sh o.world
     → ((n : Noted) (d : ℕ) → o.noted ≡ Some n → d < sh.dirs → stores_at sh d n.stores ≡ true
     → is_applied (h.world.dirs d) n.tid.0 ≡ false) → KeptSharers sh o.world (and_noted o.noted h.commits))
 unfolding pair
-step-sharers sh p gs ys h e b ld hm rd t =
-    step_cases sh p h.world e
-    (λ g o. KeptLoading sh o.world
+step-sharers sh p gs ys h e b ld hm rd t = step_cases sh p h.world e (λ g o. KeptLoading sh o.world
     → ((n : Noted) (d : ℕ) → o.noted ≡ Some n → d < sh.dirs → stores_at sh d n.stores ≡ true
     → is_applied (h.world.dirs d) n.tid.0 ≡ false) → KeptSharers sh o.world (and_noted o.noted h.commits))
     (λ c l. moved c (core_exec sh p c (h.world.cores c))
     (λ x n. holds-exec x p c (b.told.all.cores c) (reads-valid sh h.world c (b.told.all.cores c) rd n))
     (λ d u i. part-exec sh p c d u (h.world.cores c) i) (tells-exec p c (b.told.all.cores c))
-    (noted-exec sh p c (h.world.cores c)) (after-exec p c (b.told.all.cores c))
-    (clean-exec sh p c (h.world.cores c))
+    (noted-exec sh p c (h.world.cores c)) (after-exec p c (b.told.all.cores c)) (clean-exec sh p c (h.world.cores c))
     (λ d. served-exec p c (b.told.all.kept.probes c d).core))
     (λ c x y l. moved c (core_evict sh x y (h.world.cores c)) (λ k n. holds-evict sh k x y (h.world.cores c))
     (λ d u i. part-evict sh x y d u (h.world.cores c)) (tells-evict sh x y (h.world.cores c)) (noted-evict sh x y (h.world.cores c))
     (after-evict sh c x y (h.world.cores c)) (clean-evict sh x y (h.world.cores c))
-    (λ d. served-evict sh x y d (tid_at h.world d) (h.world.cores c)))
-    (λ c k u i n a. granted c k u i)
+    (λ d. served-evict sh x y d (tid_at h.world d) (h.world.cores c))) (λ c k u i n a. granted c k u i)
     (λ c d k m i. taken c d k m i (from_dir sh d (h.world.cores c) m) (λ l. holds-back sh l d (h.world.cores c) m)
     (λ b l. acks-line sh d b l (h.world.cores c) m (not-away c d k m i)) (after-back sh d (h.world.cores c) m))
     (λ c d k m i. answered c d k m i (dir_deliver sh (h.world.dirs d) c m) (dir-records sh (h.world.dirs d) c m)
-    (dir-shares sh (h.world.dirs d) c m))
-    (λ c k i n a. pairs_vendor (SharersAt sh h.commits) h.world c k
+    (dir-shares sh (h.world.dirs d) c m)) (λ c k i n a. pairs_vendor (SharersAt sh h.commits) h.world c k
     (λ d l cl dl ll q. same-sharers (after_grant (pair h.world c d) k) refl refl refl refl
     (t c d l cl dl ll q)) (λ j d r l jl dl ll q. same-sharers
     (after_other_grant (pair h.world j d)) refl refl refl refl (t j d l jl dl ll q)))
@@ -177,7 +169,7 @@ step-sharers sh p gs ys h e b ld hm rd t =
         → ((n : Noted) (d : ℕ) → o.commit ≡ Some n → d < sh.dirs → stores_at sh d n.stores ≡ true
         → is_applied (h.world.dirs d) n.tid.0 ≡ false) → KeptSharers sh (core_moves h.world c o) (and_noted o.commit h.commits))
     moved c None f q s n a z v = tt
-    moved c (Some o) f q s n a z v = λ l u. moved-sharers sh gs ys h c o b ld t a
+    moved c (Some o) f q s n a z v = λ l u. moved-sharers h c o b ld t a
         (λ d l dl ll e. record {
           holds = f l (omega (arith, dl));
           speaks = speaks sh h.world c o q s n;
@@ -193,12 +185,11 @@ step-sharers sh p gs ys h e b ld hm rd t =
     granted c k u i =
         let o : Out = grant sh u (h.world.cores c) in
         let a = after-grant sh u (h.world.cores c) in
-        pairs_grant (SharersAt sh (and_noted o.commit h.commits)) h.world c k o
-        (λ d l cl dl ll q. regranted c d k l (pair h.world c d) o
+        pairs_grant (SharersAt sh (and_noted o.commit h.commits)) h.world c k o (λ d l cl dl ll q. regranted c d k l (pair h.world c d) o
         (own-sharers o b ld cl dl ll q
         (record {
           holds = holds-grant l u;
-          speaks = grant-speaks sh h.world c k u b.told.all.kept.told.tids i;
+          speaks = grant-speaks c k b.told.all.kept.told.tids i;
           after = inl a;
           quiet = none-gone l (o.sends (Dir d)) (clean-grant sh u (h.world.cores c) d).acks;
           reached = served-grant sh u d (tid_at h.world d) (h.world.cores c);
@@ -238,11 +229,10 @@ step-sharers sh p gs ys h e b ld hm rd t =
 
     answered : (c d k : ℕ) (m : Msg) → FromCore h.world c d k m → (a : Answer)
         → RecordsBy sh (h.world.dirs d) c m a → SharesBy sh (h.world.dirs d) c m a
-        → OfAnswer h.world c d k
-        (λ v. KeptLoading sh v
+        → OfAnswer h.world c d k (λ v. KeptLoading sh v
         → ((n : Noted) (d : ℕ) → None ≡ Some n → d < sh.dirs → stores_at sh d n.stores ≡ true
         → is_applied (h.world.dirs d) n.tid.0 ≡ false) → KeptSharers sh v h.commits) a
     answered c d k m i Waits u f = tt
     answered c d k m i Drops u f = λ n a. dropped-sharers sh h c d k m t i u.commit
     answered c d k m i (Asks s sends) u f = λ n a. asked-sharers sh h c d k m s sends b.told.all.named t i f
-    answered c d k m i (Takes s sends) u f = λ n a j x l jl dl ll q. dir-sharers sh gs ys h c d k m s sends b t i u f j x l jl dl ll q
+    answered c d k m i (Takes s sends) u f = λ n a j x l jl dl ll q. dir-sharers h c d k m s b t i u f j x l jl dl ll q

@@ -23,8 +23,7 @@ use proofs.Counts.StepCases.{OfAnswer, step_cases}
 -- without a request for a line there is none that carries something else
 pub no-load : (x : ℕ) (m : Msg) → ((l : ℕ) → num (passes (LoadOf l) m) ≡ 0) → num (passes (LoadNot x) m) ≡ 0
 unfolding passes
-no-load x (LoadReq k a) f =
-    absurd (let y = f k in let z : (k == k) ≡ true = grind nats in let q : num (k == k) ≡ 1 = rw z refl in
+no-load x (LoadReq k a) f = absurd (let y = f k in let z : (k == k) ≡ true = grind nats in let q : num (k == k) ≡ 1 = rw z refl in
     omega (arith, y, q))
 no-load x _ f = refl
 
@@ -92,8 +91,7 @@ after-exec {sh} p c {s} h = each-exec sh p c s (AfterStep sh c s) go
 
 pub after-evict : (sh : Shape) (c x y : ℕ) (s : CoreState) → IfSome (core_evict sh x y s) (λ o. AfterStep sh c s o)
 unfolding passes
-after-evict sh c x y s =
-    each-evict sh x y s (AfterStep sh c s)
+after-evict sh c x y s = each-evict sh x y s (AfterStep sh c s)
     (λ k e a m. inl (stays s (emptied sh x y k s) (λ d y. quiet sh s (LoadNot y) (Empties k) (λ z. refl) d) refl refl))
 
 pub after-grant : (sh : Shape) (t : ℕ) (s : CoreState) → Stays s (grant sh t s)
@@ -201,8 +199,7 @@ unfolding pair
 step-after {sh} p {gs} {w} {cs} e y k g ld h = step_cases sh p w e (λ x o. KeptAfter sh o.world (and_noted o.noted cs))
     (λ c l. moved c l (core_exec sh p c (w.cores c)) (after-exec p c (k c)) (holder-exec sh p c (w.cores c)))
     (λ c a b l. moved c l (core_evict sh a b (w.cores c)) (after-evict sh c a b (w.cores c)) (holder-evict sh a b c (w.cores c)))
-    (λ c i u q. granted c i u)
-    (λ c d i m q. taken c d i m q (from_dir sh d (w.cores c) m) (after-back sh d (w.cores c) m))
+    (λ c i u q. granted c i u) (λ c d i m q. taken c d i m q (from_dir sh d (w.cores c) m) (after-back sh d (w.cores c) m))
     (λ c d i m q. answered c d i m q (dir_deliver sh (w.dirs d) c m))
     (λ c i q. pairs_vendor P w c i (λ d cl dl. record { last = (h c d cl dl).last; carried = (h c d cl dl).carried })
     (λ j d n cl dl. record { last = (h j d cl dl).last; carried = (h j d cl dl).carried }))
@@ -219,8 +216,7 @@ step-after {sh} p {gs} {w} {cs} e y k g ld h = step_cases sh p w e (λ x o. Kept
 
     commits : (c : ℕ) (o : Out) (q : Notes_commit sh c (w.cores c) o) → 1 ≤ holder q.noted.tid.0 (pair w c 0)
         → KeptAfter sh (core_moves w c o) (insert_commit q.noted cs)
-    commits c o q x j d cl dl = either j c
-        (λ i. rw i (subst (AfterOf sh (insert_commit q.noted cs) c d) (sym (moves-own w c o d))
+    commits c o q x j d cl dl = either j c (λ i. rw i (subst (AfterOf sh (insert_commit q.noted cs) c d) (sym (moves-own w c o d))
         (commits-after c d o q (lower c q.noted.tid.0 x d) (idle c d q.idle) (h c d (rw (sym i) cl) dl))))
         (λ n. subst (AfterOf sh (insert_commit q.noted cs) j d) (sym (moves-other w c o j d n))
         (other-after q.noted j d (away j n) (h j d cl dl)))
@@ -244,16 +240,14 @@ step-after {sh} p {gs} {w} {cs} e y k g ld h = step_cases sh p w e (λ x o. Kept
     granted : (c i u : ℕ) → KeptAfter sh (core_takes w Vendor c i (grant sh u (w.cores c))) (and_noted (grant sh u (w.cores c)).commit cs)
     granted c i u = let a = after-grant sh u (w.cores c) in
         subst (λ n. KeptAfter sh (core_takes w Vendor c i (grant sh u (w.cores c))) (and_noted n cs)) (sym a.commit)
-        (pairs_grant P w c i (grant sh u (w.cores c))
-        (λ d cl dl. let z = stays-after a (h c d cl dl) in
+        (pairs_grant P w c i (grant sh u (w.cores c)) (λ d cl dl. let z = stays-after a (h c d cl dl) in
         record { last = z.last; carried = z.carried }) h)
 
     taken : (c d i : ℕ) (m : Msg) → FromDir w d c i m → (x : Option Out) → IfSome x (λ o. Stays (w.cores c) o)
         → IfSome x (λ o. KeptAfter sh (core_takes w (Dir d) c i o) (and_noted o.commit cs))
     taken c d i m q None a = tt
     taken c d i m q (Some o) a = subst (λ n. KeptAfter sh (core_takes w (Dir d) c i o) (and_noted n cs)) (sym a.commit)
-        (pairs_back P w d c i o
-        (λ cl dl. let z = stays-after a (h c d cl dl) in record { last = z.last; carried = z.carried })
+        (pairs_back P w d c i o (λ cl dl. let z = stays-after a (h c d cl dl) in record { last = z.last; carried = z.carried })
         (λ b n cl dl. let z = stays-after a (h c b cl dl) in record { last = z.last; carried = z.carried }) h)
 
     takes : (c d i : ℕ) (m : Msg) (s : DirState) (sends : Sends) → FromCore w c d i m → KeptAfter sh (dir_takes w c d i s sends) cs
@@ -263,8 +257,7 @@ step-after {sh} p {gs} {w} {cs} e y k g ld h = step_cases sh p w e (λ x o. Kept
           carried = omega (
             arith,
             (h c d cl dl).carried,
-            live-takes (LoadNot ((w.cores c).last_commit d))
-                (to_dir w c d) i m q,
+            live-takes (LoadNot ((w.cores c).last_commit d)) (to_dir w c d) i m q,
           );
         })
         (λ j n cl dl. record { last = (h j d cl dl).last; carried = (h j d cl dl).carried }) h

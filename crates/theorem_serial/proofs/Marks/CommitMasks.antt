@@ -11,7 +11,7 @@ use Names.{solo_commit, nats, None, ap, ◌⊎◌, inl, inr, word_at, mask_of, I
 use Names.{written_lines, Running, AwaitTid, DoomedTid, Overflowing, Link, to, marks_for, committed_core, phase_after_commit, probe_reply}
 use Names.{fill, data_request, invalidate, ignored, MarkMask, live, moves, stored_mask, any_below, stores_in, stores_at, Commits, OneCore}
 use Names.{Noted, noted, Some, not, sym}
-use proofs.Serving.CoreCommits.{heard-free, few-of}
+use proofs.Serving.CoreDue.{heard-free, few-of}
 use proofs.Counts.Links.{among-append, total-same, among-fewer, among-flat_map_none, live-fewer}
 use proofs.Marks.CoreMarks.{one-mark, marks-only, unspilled, stored-line, stored-any, stored-cases, modified-line, modified-stored}
 use proofs.Marks.CoreMarks.{written-line, written-stored}
@@ -96,8 +96,7 @@ unfolding commit marked_by has_marked stores_line
 counts-ready sh c d t u s ph ow n x =
     let p : ℕ → Bool = λ l. d == home sh l && is_modified s.cache l in
     let r : (u ≡ t) × (count_below p (lines sh) ≡ n) = is-commit sh s.cache u d t n x in
-    counts-lines p (mine s.phase (has-ready ph) r.0) r.1
-    (λ l. rw (ph, ow) (omega (arith, (told-commit sh s.cache u d t l).1)))
+    counts-lines p (mine s.phase (has-ready ph) r.0) r.1 (λ l. rw (ph, ow) (omega (arith, (told-commit sh s.cache u d t l).1)))
 
 -- a core alone
 pub is-alone : (sh : Shape) (c : Cache) (sp : Spilled) (u d t n : ℕ) → 1 ≤ among (CommitOf t n) (solo_sends sh c sp u (Dir d))
@@ -151,7 +150,7 @@ is-alone sh c sp u d t n x = go (nat_lt d sh.dirs) (solo_writes_at sh c sp d) x
 counts-alone : {sh : Shape} (d t u : ℕ) (s : CoreState) {o : Out} → s.phase ≡ Solo u → o.sends ≡ solo_sends sh s.cache s.spilled u
     → CountsAll sh d t s o
 unfolding marked_by has_marked
-counts-alone {sh} d t u s {o} q se n x = let f = is-alone sh s.cache s.spilled u d t n (rw se at x) in
+counts-alone {sh} d t u s q se n x = let f = is-alone sh s.cache s.spilled u d t n (rw se at x) in
     counts-lines (λ k. d == home sh k && is_written s.cache s.spilled k) (mine s.phase (has-solo q) f.0) f.1
     (λ l. rw (se, q) (omega (arith, f.2 l)))
 
@@ -228,8 +227,7 @@ gone {t} {o} q e h =
     record { sent = λ x. absurd (none x); stays = λ x. absurd (none x) }
 
 masking-steady : (sh : Shape) (d t l : ℕ) {s : CoreState} {o : Out} → Steady s o → Masking sh d t l s o
-masking-steady sh d t l {s} {o} y = masking-unsaid (unsaid-quiet t l (o.sends (Dir d)) (y.quiet d))
-    (λ x. go (has_marked s.phase) refl)
+masking-steady sh d t l {s} {o} y = masking-unsaid (unsaid-quiet t l (o.sends (Dir d)) (y.quiet d)) (λ x. go (has_marked s.phase) refl)
   where
     go : (b : Bool) → has_marked s.phase ≡ b → (marked_by sh s d l ≡ 0) ⊎ (modified_mask o.core.cache l ≡ modified_mask s.cache l)
     go false e = inl (unmarked sh s d l e)
@@ -274,8 +272,7 @@ masking-replied sh {e} {u} d t l s (Probed ph ow ph' ow' ca se cm) =
   where
     go : (b : Bool) → among (MarkMask t l (modified_mask s.cache l)) (if b then marks_for sh s.cache u e else []) ≡ 0
     go a = grind (nats, masked-for, few-masked, unsaid-nothing)
-masking-replied sh d t l s {o} (Left_alone ph ow ph' ow' ca se cm) = masking-unsaid
-    (rw (ap (λ f. f (Dir d)) se) (unsaid-nothing t l))
+masking-replied sh d t l s {o} (Left_alone ph ow ph' ow' ca se cm) = masking-unsaid (rw (ap (λ f. f (Dir d)) se) (unsaid-nothing t l))
     (λ x. inr (mask-same o.core.cache s.cache l ca))
 
 pub masking-back : (sh : Shape) (e d t l : ℕ) (s : CoreState) (m : Msg) → IfSome (from_dir sh e s m) (λ o. Masking sh d t l s o)
@@ -401,8 +398,7 @@ storing-alone {sh} c d t u s r ph cm st se h x = record {
   tid = same;
   core = refl;
   held = mine s.phase (has-solo ph) same;
-  stored =
-      rw st (sym (stored-any sh d s.stores (λ l. d == home sh l && is_written s.cache s.spilled l) line)
+  stored = rw st (sym (stored-any sh d s.stores (λ l. d == home sh l && is_written s.cache s.spilled l) line)
       ∙ alone-writes sh s.cache s.spilled u d t (rw se at x));
   marks = λ l. rw (se, st) (omega (arith, marks l, nothing l));
   right = λ l. rw (se, st) (right l (stored-cases sh d s.stores l));
@@ -430,8 +426,7 @@ storing-alone {sh} c d t u s r ph cm st se h x = record {
 
     right : (l : ℕ) → (stored_mask sh d s.stores l ≡ stores_in sh.base s.stores l) ⊎ (stored_mask sh d s.stores l ≡ 0)
         → among (MarkMask t l (stored_mask sh d s.stores l)) all ≡ 0
-    right l (inl e) = rw (e ∙ written-stored sh.base s.cache s.spilled s.stores l h.words.named)
-        (alone-masked sh s.cache s.spilled u d t l)
+    right l (inl e) = rw (e ∙ written-stored sh.base s.cache s.spilled s.stores l h.words.named) (alone-masked sh s.cache s.spilled u d t l)
     right l (inr e) = let z : num (nat_lt 0 (stored_mask sh d s.stores l)) ≡ 0 = rw e refl in
         omega (arith, few-masked t l (stored_mask sh d s.stores l) all, marks l, z)
 

@@ -122,7 +122,7 @@ marking-steady sh d t l {s} {o} y = silent (unsaid-quiet t l (o.sends (Dir d)) (
 -- the core has no TID any more
 pub silent-none : {sh : Shape} {d t l : ℕ} {s : CoreState} {o : Out} (q : Phase) → o.core.phase ≡ q → has_tid q t ≡ false
     → Unsaid t l (o.sends (Dir d)) → Marking sh d t l s o
-silent-none {sh} {d} {t} {l} {s} {o} q e h u = silent u (λ k. let x : has_tid o.core.phase t ≡ false = rw e h in absurd (cc))
+silent-none {t} {o} q e h u = silent u (λ k. let x : has_tid o.core.phase t ≡ false = rw e h in absurd (cc))
 
 -- it has none any more, and has spoken of its TID u without a Mark
 pub last-words : {sh : Shape} {d t l : ℕ} (u : ℕ) {s : CoreState} {o : Out} (q : Phase) → o.core.phase ≡ q → has_tid q t ≡ false
@@ -228,10 +228,8 @@ marking-exec sh p c d t l s = each-exec sh p c s (λ o. Marking sh d t l s o) go
 
     go : (x : Did sh p c s) → Marking sh d t l s (out x)
     go (Commits_now u e) = ready u e
-    go (Room_wanted r i) = silent-none
-        (Overflowing None) refl refl (unsaid-nothing t l)
-    go (Ends_run n e f r i) = silent-none AwaitTid refl
-        refl (unsaid-nothing t l)
+    go (Room_wanted r i) = silent-none (Overflowing None) refl refl (unsaid-nothing t l)
+    go (Ends_run n e f r i) = silent-none AwaitTid refl refl (unsaid-nothing t l)
     go (Ends_alone u n e f r i) = marking-alone d t l u s e r refl refl
     go x = marking-steady sh d t l (did-steady x)
 

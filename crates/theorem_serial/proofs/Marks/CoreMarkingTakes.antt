@@ -87,8 +87,7 @@ marking-hurt {sh} x d t l s {o} i = go i.hurt
         ))
 
     go : Hurt sh s o.core i.sends → Marking sh d t l s o
-    go (Unhurt ph ow mo re se) =
-        silent (quiet (se (Dir d)))
+    go (Unhurt ph ow mo re se) = silent (quiet (se (Dir d)))
         (λ x. (rw ph at x, marked-same sh s o.core d l ph (ap (λ f. f d) ow) (λ m. stores-same sh o.core.cache s.cache d l mo)))
     go (Rolled ph ph' ow se) = silent-none Running ph' refl (quiet (se (Dir d)))
     go (Doomed ph ph' ow se) = silent-none DoomedTid ph' refl (quiet (se (Dir d)))
@@ -152,8 +151,7 @@ marking-here sh e u t l s o ph ow ph' ow' ca se = record {
   words = rw se (full-for sh s.cache u e);
   kept = λ x. let y : u ≡ t = last (all_replied sh (put s.owing e false)) (rw ph' at x) in
       (mine s.phase has y, rw (se, ph, ow, ca, marks-for sh s.cache u e t l) (after y));
-  once =
-      rw (se, ph, ow, marks-for sh s.cache u e t l)
+  once = rw (se, ph, ow, marks-for sh s.cache u e t l)
       (no-more ((u == t) && stores_line sh s.cache e l) (has_marked (Probing u)) (stores_line sh s.cache e l));
   opened = λ x. opening (rw se at x);
   skips = λ x. absurd (omega (arith, rw se at x, no-skips sh s.cache u e t));

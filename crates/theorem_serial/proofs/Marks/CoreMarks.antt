@@ -102,8 +102,7 @@ solo-mark sh c sp u d t l = go (nat_lt d sh.dirs) (solo_writes_at sh c sp d)
     few b = grind nats
 
     go : (a w : Bool)
-        → among (MarkOf t l) (if a
-        then (if w then flat_map (λ k. Mark k (written_mask c sp k) u ∷ []) (those p (lines sh))
+        → among (MarkOf t l) (if a then (if w then flat_map (λ k. Mark k (written_mask c sp k) u ∷ []) (those p (lines sh))
         ++ Commit u (count_below p (lines sh)) ∷ [] else Skip u ∷ []) ++ solo_write_backs sh sp u d else []) ≤ num (u == t)
     go false w = omega arith
     go true false = rw (among-append, backs) (omega arith)
@@ -125,8 +124,7 @@ solo-full sh c sp u d = go (nat_lt d sh.dirs) (solo_writes_at sh c sp d)
         (λ k. refl) (those (λ k. d == home sh k && holds sp k) (lines sh))
 
     go : (a w : Bool)
-        → among EmptyMarks (if a
-        then (if w then flat_map (λ k. Mark k (written_mask c sp k) u ∷ []) (those p (lines sh))
+        → among EmptyMarks (if a then (if w then flat_map (λ k. Mark k (written_mask c sp k) u ∷ []) (those p (lines sh))
         ++ Commit u (count_below p (lines sh)) ∷ [] else Skip u ∷ []) ++ solo_write_backs sh sp u d else []) ≡ 0
     go false w = refl
     go true false = rw (among-append, backs) (omega arith)
@@ -154,8 +152,7 @@ solo-owned sh c sp u d t =
         (λ x. omega (arith, e x (spilled_mask sp x) (spilled_words sp x))) (those (λ x. d == home sh x && holds sp x) (lines sh))
 
     sends : (a w : Bool) → List Msg
-    sends a w =
-        if a then (if w then flat_map (λ k. Mark k (written_mask c sp k) u ∷ []) (those p (lines sh))
+    sends a w = if a then (if w then flat_map (λ k. Mark k (written_mask c sp k) u ∷ []) (those p (lines sh))
         ++ Commit u (count_below p (lines sh)) ∷ [] else Skip u ∷ []) ++ solo_write_backs sh sp u d else []
 
     none : (u == t) ≡ false → (a w : Bool) → among (Marks t) (sends a w) + among (Resolves t) (sends a w) ≡ 0
@@ -166,8 +163,7 @@ solo-owned sh c sp u d t =
           among-append,
           among-append,
           backs (Marks t) (λ x m ws. refl),
-          marks-only (Marks t) p (written_mask c sp) u (lines sh)
-              (λ x m. rw q refl),
+          marks-only (Marks t) p (written_mask c sp) u (lines sh) (λ x m. rw q refl),
           among-append,
           among-append,
           backs (Resolves t) (λ x m ws. refl),

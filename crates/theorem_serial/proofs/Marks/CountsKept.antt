@@ -9,7 +9,7 @@ use Names.{arith, Program, nat_lt, MarkOf, passes, nat_le, Option, IfSome, TidRe
 use Names.{World, share, subst, Noted, Local, Event, Phase, start, Sends, grant, Waits, Drops, Takes, true, List, ◌++◌, ◌==◌, ◌&&◌, refl}
 use Names.{Skip, Link, live, Pair, Kind, pair, part, Some, None, Core, Asks, step, Acks, Kept, skip, ◌+◌, ◌≡◌, ◌<◌, ◌≤◌, ◌∙◌, ◌⊎◌, inl, inr}
 use Names.{num, Dir, Msg, Out, set, nats, tid_at, to_dir, FromCore, grant_to, ◌≢◌}
-use proofs.Serving.CoreCommits.{granted-free}
+use proofs.Serving.CoreDue.{granted-free}
 use proofs.Counts.Links.{live-sends, total-same, total-plus, total-le, live-fewer, live-takes}
 use proofs.Counts.StepCases.{dir-own, dir-other, asks-own, pairs_move, pairs_grant, pairs_back, pairs_dir, pairs_asks, pairs_vendor}
 use proofs.Counts.StepCases.{OfAnswer, step_cases}
@@ -93,12 +93,12 @@ counted-moved {sh} gs c {d} {t} {v} {o} cl y k m free unowed h = record {
         (λ l. none-sent t l d v o (told n l dl b (cases_lt 0 (among (MarkOf t l) (o.sends (Dir d)))))) (h.counted n dl b)
 
 -- a directory answers: of a TID whose Commit is in flight the Marks stay, in flight or handled
-pub marks-stay : (sh : Shape) (d t l : ℕ) (v : Pair) (m : Msg) (s : DirState) (ms : List Msg) (k : Link) → Marked v.dir m s
+pub marks-stay : (sh : Shape) (d t l : ℕ) (v : Pair) {m : Msg} {s : DirState} (ms : List Msg) (k : Link) → Marked v.dir m s
     → (live (MarkOf t l) k + num (passes (MarkOf t l) m) ≡ live (MarkOf t l) v.out)
     → (m ≡ Skip v.dir.serving.serving → has_mark v.dir.lines l ≡ false) → passes EmptyMarks m ≡ false → s.serving.serving ≤ t
     → marks_of t l v ≤ 1 → marks_of t l (after_answer (record v { out = k }) s ms) ≡ marks_of t l v
 unfolding marks_of
-marks-stay sh d t l v m s ms k y eqn skip nonempty ahead one = holds t l (live (MarkOf t l) k) y eqn skip nonempty one (λ x. ahead) refl
+marks-stay sh d t l v ms k y eqn skip nonempty ahead one = holds t l (live (MarkOf t l) k) y eqn skip nonempty one (λ x. ahead) refl
 
 -- where a Commit counts the marked lines, none of its Marks is in flight
 pub none-away : (sh : Shape) (l : ℕ) (v : Pair) → CountsMarks sh (count_below (has_mark v.dir.lines) (lines sh)) v.dir.serving.serving v
@@ -126,10 +126,10 @@ none-away sh l v h = elim (cases_lt l (lines sh)) [
         omega (arith, a, h.sum, total-num (has_mark v.dir.lines) (lines sh))
 
 -- a TID that a core has open isn't owed anything for
-pub open-unowed : (sh : Shape) (w : World) (c d : ℕ) → KeptTids sh w → c < sh.cores → d < sh.dirs
+pub open-unowed : {sh : Shape} {w : World} (c d : ℕ) → KeptTids sh w → c < sh.cores → d < sh.dirs
     → opens (w.cores c).phase (writes_at sh (w.cores c).cache d) (tid_at w d) ≡ true → (w.dirs d).owed ≡ 0
 unfolding share part pair handled
-open-unowed sh w c d k l x h = elim (cases_lt 0 (w.dirs d).owed) [
+open-unowed {sh} {w} c d k l x h = elim (cases_lt 0 (w.dirs d).owed) [
   | inr q ↦ omega (arith, q)
   | inl q ↦ let n : num (opens (w.cores c).phase (writes_at sh (w.cores c).cache d) t) ≡ 1 = ap num h in
       let b : num ((t == t) && nat_lt 0 (w.dirs d).owed) ≡ 1 = grind nats in
@@ -170,7 +170,7 @@ counted-answered {sh} {gs} {j} {d} {t} {v} m s ms k y less eqn skip nonempty ahe
         let b : CountsMarks sh n t v = h.counted n dl (omega (arith, x, less (CommitOf t n))) in
         let c : Contains gs (grant_to t j) = g.owner (omega (arith, a, less (Resolves t))) in
         same-counts (after_answer (record v { out = k }) s ms)
-        (λ l. marks-stay sh d t l v m s ms k y (eqn l (inl c)) (skip l) nonempty (ahead dl a) (below-one l b)) b
+        (λ l. marks-stay sh d t l v ms k y (eqn l (inl c)) (skip l) nonempty (ahead dl a) (below-one l b)) b
 
     settled : (l : ℕ) → d < sh.dirs → 1 ≤ s.owed → (s.serving.serving ≡ v.dir.serving.serving) ⊎ (s.owed ≡ 0)
         → (1 ≤ s.owed → 1 ≤ v.dir.owed) ⊎ ((l : ℕ) → d < sh.dirs → live (MarkOf v.dir.serving.serving l) v.out ≡ 0)
@@ -185,7 +185,7 @@ none-granted t l d k v o z = omega (arith, z, live-sends (MarkOf t l) v.out (o.s
 -- a grant sends none of these
 pub counted-granted : {sh : Shape} (d t k : ℕ) {v : Pair} (o : Out) → ((u l : ℕ) → among (MarkOf u l) (o.sends (Dir d)) ≡ 0)
     → among AnyCommit (o.sends (Dir d)) ≡ 0 → CountedOf sh d t v → CountedOf sh d t (after_move (grant_taken v k) o d)
-counted-granted {sh} d t k {v} o f z h = record {
+counted-granted d t k {v} o f z h = record {
   counted = λ n dl x. same-counts (after_move (grant_taken v k) o d) (λ l. none-granted t l d k v o (f t l))
       (h.counted n dl (omega (arith, x, z, few-any t n (o.sends (Dir d)), live-sends (CommitOf t n) v.out (o.sends (Dir d)))));
   settled =
@@ -193,8 +193,7 @@ counted-granted {sh} d t k {v} o f z h = record {
         arith,
         h.settled l dl x,
         f v.dir.serving.serving l,
-        live-sends (MarkOf v.dir.serving.serving l) v.out
-            (o.sends (Dir d)),
+        live-sends (MarkOf v.dir.serving.serving l) v.out (o.sends (Dir d)),
       );
 }
 
@@ -224,8 +223,7 @@ none-left {sh} {gs} w c j d k y a h cl i q l dl =
 
     other : j ≢ c → (0 < live (MarkOf u l) (to_dir w j d)) ⊎ (live (MarkOf u l) (to_dir w j d) ≤ 0) → live (MarkOf u l) (to_dir w j d) ≡ 0
     other e (inr z) = omega (arith, z)
-    other e (inl z) =
-        absurd (e (granted-once 1 gs u j c y.numbered ((a j d u l).owner (omega (arith, z, (kinds u l (to_dir w j d)).0)))
+    other e (inl z) = absurd (e (granted-once 1 gs u j c y.numbered ((a j d u l).owner (omega (arith, z, (kinds u l (to_dir w j d)).0)))
         ((a c d u l).owner (omega (arith, sent, is-word u n (to_dir w c d))))))
 
 dir-counted : {sh : Shape} {gs : List Grant} {w : World} {cs : List Noted} (c : ℕ) {d : ℕ}
@@ -234,7 +232,7 @@ dir-counted : {sh : Shape} {gs : List Grant} {w : World} {cs : List Noted} (c : 
     → Due sh d (w.dirs d) ack s sends → (s.owed ≤ (w.dirs d).owed) ⊎ CountsMarked sh (w.dirs d) m
     → KeptCounted sh (dir_takes w c d k s sends)
 unfolding pair
-dir-counted {sh} {gs} {w} {cs} c {d} k {m} {s} {sends} b y a h z cl i u p o =
+dir-counted {sh} {w} c {d} k {m} {s} {sends} b y a h z cl i u p o =
     pairs_dir (λ j e v. (t : ℕ) → j < sh.cores → CountedOf sh e t v) w c d k s sends
     (λ t x. counted-answered m s (sends (Core c)) (set (to_dir w c d) k None) u
     (λ q. taken-less k q (to_dir w c d) i) (λ l q. live-takes (MarkOf t l) (to_dir w c d) k m i) skip nonempty
@@ -243,8 +241,7 @@ dir-counted {sh} {gs} {w} {cs} c {d} k {m} {s} {sends} b y a h z cl i u p o =
     (λ j n t x. counted-answered m s (sends (Core j)) (to_dir w j d) u (λ q. omega arith)
     (λ l. only-there c j d k t l y a i n) skip nonempty
     (λ dl. subst (λ v. 1 ≤ live (Resolves t) v.out → v.dir.serving.serving ≤ t) (dir-other w c d k s sends j n)
-    (told-ahead j d t z.tids x dl)) (serves p.served) (owes j o) (a j d t 0) (h j d t x))
-    h
+    (told-ahead j d t z.tids x dl)) (serves p.served) (owes j o) (a j d t 0) (h j d t x)) h
   where
     new : World
     new = dir_takes w c d k s sends
@@ -253,7 +250,7 @@ dir-counted {sh} {gs} {w} {cs} c {d} k {m} {s} {sends} b y a h z cl i u p o =
     skip l = skip-unmarked c d k l b a i
 
     nonempty : passes EmptyMarks m ≡ false
-    nonempty = empty-one (to_dir w c d) k m i (a c d 0 0).words
+    nonempty = empty-one (to_dir w c d) k i (a c d 0 0).words
 
     serves : {B : Type 0} → ((s.serving.serving ≡ tid_at w d) × B) ⊎ (s.owed ≡ 0) → (s.serving.serving ≡ tid_at w d) ⊎ (s.owed ≡ 0)
     serves (inl q) = inl q.0
@@ -264,17 +261,16 @@ dir-counted {sh} {gs} {w} {cs} c {d} k {m} {s} {sends} b y a h z cl i u p o =
     owes j (inl q) = inl (λ x. omega (arith, q, x))
     owes j (inr q) = inr (none-left w c j d k y a h cl i q)
 
-asks-counted : (sh : Shape) (gs : List Grant) (w : World) (d : ℕ) (s : DirState) (sends : Sends) → KeptMarks sh gs w → KeptCounted sh w
-    → KeptTold sh (dir_asks w d s sends) → (s.serving.serving ≡ tid_at w d)
-    × ((l : ℕ) → s.lines.mark l ≡ (w.dirs d).lines.mark l) → s.owed ≤ (w.dirs d).owed → KeptCounted sh (dir_asks w d s sends)
+asks-counted : {sh : Shape} {gs : List Grant} (w : World) (d : ℕ) (s : DirState) (sends : Sends) → KeptMarks sh gs w → KeptCounted sh w
+    → KeptTold sh (dir_asks w d s sends) → (s.serving.serving ≡ tid_at w d) × ((l : ℕ) → s.lines.mark l ≡ (w.dirs d).lines.mark l)
+    → s.owed ≤ (w.dirs d).owed → KeptCounted sh (dir_asks w d s sends)
 unfolding pair
-asks-counted sh gs w d s sends a h z u o = pairs_asks (λ j e v. (t : ℕ) → j < sh.cores → CountedOf sh e t v) w d s sends
+asks-counted {sh} w d s sends a h z u o = pairs_asks (λ j e v. (t : ℕ) → j < sh.cores → CountedOf sh e t v) w d s sends
     (λ j t x. counted-answered TidReq s (sends (Core j)) (to_dir w j d)
     (Stays u.0 u.1 (λ b e q. let f = no-request b e in absurd (cc))) (λ q. omega arith)
     (λ l q. rw (no-request t l) (omega arith)) (λ l e. absurd (cc)) no-empty
     (λ dl. subst (λ v. 1 ≤ live (Resolves t) v.out → v.dir.serving.serving ≤ t) (asks-own w d s sends j)
-    (told-ahead j d t z.tids x dl)) (inl u.0) (inl (λ q. omega (arith, q, o))) (a j d t 0) (h j d t x))
-    h
+    (told-ahead j d t z.tids x dl)) (inl u.0) (inl (λ q. omega (arith, q, o))) (a j d t 0) (h j d t x)) h
   where
     new : World
     new = dir_asks w d s sends
@@ -303,20 +299,19 @@ passed h = record {
   settled = h.settled;
 }
 
-pub start-counted : (sh : Shape) (entries : ℕ → Local) (ram : ℕ → ℕ) → KeptCounted sh (start entries ram)
+pub start-counted : {sh : Shape} (entries : ℕ → Local) (ram : ℕ → ℕ) → KeptCounted sh (start entries ram)
 unfolding start dir_start pair live
-start-counted sh entries ram c d t cl = record { counted = λ n dl x. absurd (omega (arith, x)); settled = λ l dl x. refl }
+start-counted entries ram c d t cl = record { counted = λ n dl x. absurd (omega (arith, x)); settled = λ l dl x. refl }
 
 pub step-counted : {sh : Shape} (p : Program) {gs : List Grant} {w : World} {cs : List Noted} (e : Event) → Kept sh w
     → KeptOwners sh gs w cs → KeptCores sh w → KeptMarks sh gs w → KeptCounted sh w
     → IfSome (step sh p w e) (λ o. KeptTold sh o.world → KeptCounted sh o.world)
 unfolding pair
-step-counted {sh} p {gs} {w} {cs} e z y x a h = step_cases sh p w e (λ g o. KeptTold sh o.world → KeptCounted sh o.world)
+step-counted {sh} p {gs} {w} e z y x a h = step_cases sh p w e (λ g o. KeptTold sh o.world → KeptCounted sh o.world)
     (λ c l. moved c l (core_exec sh p c (w.cores c)) (λ d t l. marking-exec sh p c d t l (w.cores c))
     (λ d t. counts-exec sh p c d t (w.cores c) (λ q. (x c).owing d (waits-not (w.cores c).phase q))))
     (λ c r b l. moved c l (core_evict sh r b (w.cores c)) (λ d t l. marking-evict sh r b d t l (w.cores c))
-    (λ d t. counts-evict sh r b d t (w.cores c)))
-    (λ c k u i n. pairs_grant P w c k (grant sh u (w.cores c))
+    (λ d t. counts-evict sh r b d t (w.cores c))) (λ c k u i n. pairs_grant P w c k (grant sh u (w.cores c))
     (λ d t cl. counted-granted d t k (grant sh u (w.cores c))
     (λ b l. (granting sh u d b l (w.cores c) (granted_waits (pair w c d) k i (z.told.tids.requests c d))).marks)
     (granted-free sh u d (w.cores c)) (h c d t cl)) h)
@@ -325,8 +320,7 @@ step-counted {sh} p {gs} {w} {cs} e z y x a h = step_cases sh p w e (λ g o. Kep
     (λ c d k m i. answered c d k m i (core_of_out c d k z.told.tids i) (dir_deliver sh (w.dirs d) c m) (dir-marked sh (w.dirs d) c m)
     (dir-owes sh (w.dirs d) c m)
     (dir-due sh d (w.dirs d) c m (once_at c d k z.told i) (z.told.owed.at_home c d).marked (marks_home c d k z.told.owed i)
-    (acks_owed c d k z.told.owed (core_of_out c d k z.told.tids i) i)))
-    (λ c k i n. pairs_vendor P w c k (λ d t cl. given k (h c d t cl))
+    (acks_owed c d k z.told.owed (core_of_out c d k z.told.tids i) i))) (λ c k i n. pairs_vendor P w c k (λ d t cl. given k (h c d t cl))
     (λ j d q t cl. passed (h j d t cl)))
   where
     P : ℕ → ℕ → Pair → Type 0
@@ -335,7 +329,7 @@ step-counted {sh} p {gs} {w} {cs} e z y x a h = step_cases sh p w e (λ g o. Kep
     own : (c d t : ℕ) (o : Out) → c < sh.cores → ((d t l : ℕ) → Marking sh d t l (w.cores c) o) → CountsAll sh d t (w.cores c) o
         → CountedOf sh d t (after_move (pair w c d) o d)
     own c d t o cl u k = counted-moved gs c cl (λ b l. u d b l) k (λ l. a c d t l)
-        (λ dl r. open-untold c d t z.told.tids cl dl r) (λ dl r. open-unowed sh w c d z.told.tids cl dl r) (h c d t cl)
+        (λ dl r. open-untold c d t z.told.tids cl dl r) (λ dl r. open-unowed c d z.told.tids cl dl r) (h c d t cl)
 
     moved : (c : ℕ) → c < sh.cores → (q : Option Out) → ((d t l : ℕ) → IfSome q (λ o. Marking sh d t l (w.cores c) o))
         → ((d t : ℕ) → IfSome q (λ o. CountsAll sh d t (w.cores c) o))
@@ -347,7 +341,7 @@ step-counted {sh} p {gs} {w} {cs} e z y x a h = step_cases sh p w e (λ g o. Kep
         → CountedOf sh d t (after_move (back_taken (pair w c d) k) o d)
     back c d k t o cl u q = counted-moved gs c cl (λ b l. u d b l) q
         (λ l. back-marks w k (a c d t l)) (λ dl r. open-untold c d t z.told.tids cl dl r)
-        (λ dl r. open-unowed sh w c d z.told.tids cl dl r) (taken-back k (h c d t cl))
+        (λ dl r. open-unowed c d z.told.tids cl dl r) (taken-back k (h c d t cl))
 
     taken : (c d k : ℕ) → c < sh.cores → (q : Option Out) → ((b t l : ℕ) → IfSome q (λ o. Marking sh b t l (w.cores c) o))
         → ((b t : ℕ) → IfSome q (λ o. CountsAll sh b t (w.cores c) o))
@@ -360,6 +354,5 @@ step-counted {sh} p {gs} {w} {cs} e z y x a h = step_cases sh p w e (λ g o. Kep
     answered c d k m i cl Waits u o p = tt
     answered c d k m i cl Drops u o p = λ n. dir-counted c k z.told y a h n cl i
         (Stays refl (λ l. refl) u) (still-due sh d (w.dirs d) (z.told.owed.at_home c d).marked) (inl (omega arith))
-    answered c d k m i cl (Asks s sends) u o p = λ n. asks-counted sh gs w d s sends a h n u o
-    answered c d k m i cl (Takes s sends) u o p =
-        λ n. dir-counted c k z.told y a h n cl i u p o
+    answered c d k m i cl (Asks s sends) u o p = λ n. asks-counted w d s sends a h n u o
+    answered c d k m i cl (Takes s sends) u o p = λ n. dir-counted c k z.told y a h n cl i u p o

@@ -80,28 +80,28 @@ marks-grow f {s} t l n z (Marks a i e g h) k w = rw (g, h l) (go (l == a) refl (
         rw r (omega (arith, w i (e ∙ rw (c, d) refl) r))
 
 -- All its Marks are counted, unless the TID is passed, or the message is the Mark.
-pub marks-count : (s new : DirState) (m : Msg) (t l : ℕ) → Marked s m new → (m ≡ Skip s.serving.serving → has_mark s.lines l ≡ false)
-    → passes EmptyMarks m ≡ false
+pub marks-count : (s : DirState) {new : DirState} {m : Msg} (t l : ℕ) → Marked s m new
+    → (m ≡ Skip s.serving.serving → has_mark s.lines l ≡ false) → passes EmptyMarks m ≡ false
     → (num (new.serving.serving == t && has_mark new.lines l) ≡ num (s.serving.serving == t && has_mark s.lines l) + num
-    (passes (MarkOf t l) m))
-    ⊎ ((t < new.serving.serving) ⊎ ((num (new.serving.serving == t && has_mark new.lines l) ≡ 1) × (num (passes (MarkOf t l) m) ≡ 1)))
+    (passes (MarkOf t l) m)) ⊎
+    ((t < new.serving.serving) ⊎ ((num (new.serving.serving == t && has_mark new.lines l) ≡ 1) × (num (passes (MarkOf t l) m) ≡ 1)))
 unfolding passes
-marks-count s new m t l (Stays e f g) k w = rw (e, f l) (go (passes (MarkOf t l) m) refl)
+marks-count s {m} t l (Stays e f g) k w = rw (e, f l) (go (passes (MarkOf t l) m) refl)
   where
     go : (b : Bool) → passes (MarkOf t l) m ≡ b
         → (num (s.serving.serving == t && has_mark s.lines l) ≡ num (s.serving.serving == t && has_mark s.lines l) + num b)
         ⊎ ((t < s.serving.serving) ⊎ ((num (s.serving.serving == t && has_mark s.lines l) ≡ 1) × (num b ≡ 1)))
     go true p = inr (inl (g t l p))
     go false p = inl (omega arith)
-marks-count s new m t l (Clears e f g) k w = rw (f l, g t l) (go (cases_eq s.serving.serving t))
+marks-count s {new} t l (Clears e f g) k w = rw (f l, g t l) (go (cases_eq s.serving.serving t))
   where
     go : {A : Type 0} → (s.serving.serving ≡ t) ⊎ (s.serving.serving ≢ t)
         → (num (new.serving.serving == t && nat_lt 0 0) ≡ num (s.serving.serving == t && has_mark s.lines l) + 0)
         ⊎ ((t < new.serving.serving) ⊎ A)
     go (inl p) = inr (inl (omega (arith, e, p)))
     go (inr p) = inl (grind nats)
-marks-count s new m t l (Skipped e f) k w = inl (rw (f l, k e, e) (grind arith))
-marks-count s new m t l (Marks a i e g f) k w = rw (g, f l, e) (go (rw e at w) (l == a) refl (s.serving.serving == t) refl)
+marks-count s t l (Skipped e f) k w = inl (rw (f l, k e, e) (grind arith))
+marks-count s t l (Marks a i e g f) k w = rw (g, f l, e) (go (rw e at w) (l == a) refl (s.serving.serving == t) refl)
   where
     go : (i == 0) ≡ false → (x : Bool) → (l == a) ≡ x → (y : Bool) → (s.serving.serving == t) ≡ y
         → (num (y && nat_lt 0 (if x then i else s.lines.mark l)) ≡ num (y && has_mark s.lines l) + num (y && (a == l)))

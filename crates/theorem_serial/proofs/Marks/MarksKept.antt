@@ -89,11 +89,11 @@ marks-moved {sh} {gs} {c} {d} {t} {l} {v} {o} y cl alone mine free h = record {
         )
 
 -- a core takes its grant
-granted-here : (sh : Shape) (gs : List Grant) (c d u l k : ℕ) (v : Pair) (o : Out) → slice_index_or v.grants k None ≡ Some (TidGrant u)
-    → num (nat_le v.next u) + live (Grants u) v.grants ≤ 1 → Contains gs (grant_to u c) → Granting sh u d u l o
-    → MarksOf sh gs c d u l v → MarksOf sh gs c d u l (after_move (grant_taken v k) o d)
+granted-here : {sh : Shape} {gs : List Grant} {c : ℕ} (d u l k : ℕ) (v : Pair) (o : Out)
+    → slice_index_or v.grants k None ≡ Some (TidGrant u) → num (nat_le v.next u) + live (Grants u) v.grants ≤ 1 → Contains gs (grant_to u c)
+    → Granting sh u d u l o → MarksOf sh gs c d u l v → MarksOf sh gs c d u l (after_move (grant_taken v k) o d)
 unfolding marks_of
-granted-here sh gs c d u l k v o i one mine y h = record {
+granted-here d u l k v o i one mine y h = record {
   owner = λ x. mine;
   words = omega (arith, live-sends EmptyMarks v.out (o.sends (Dir d)), y.words, h.words);
   fresh = λ x. absurd (omega (arith, x, one, live-takes (Grants u) v.grants k (TidGrant u) i, is_mine u));
@@ -115,8 +115,7 @@ pub marks-granted : (sh : Shape) (gs : List Grant) (c d t l k u : ℕ) (v : Pair
     → ((x : ℕ) → Granting sh u d x l o) → ((x : ℕ) → MarksOf sh gs c d x l v) → MarksOf sh gs c d t l (after_move (grant_taken v k) o d)
 unfolding marks_of
 marks-granted sh gs c d t l k u v o i one mine y h = elim (cases_eq u t) [
-  | inl e ↦ subst (λ x. MarksOf sh gs c d x l (after_move (grant_taken v k) o d)) e
-      (granted-here sh gs c d u l k v o i one mine (y u) (h u))
+  | inl e ↦ subst (λ x. MarksOf sh gs c d x l (after_move (grant_taken v k) o d)) e (granted-here d u l k v o i one mine (y u) (h u))
   | inr n ↦ record {
     owner =
         λ x. (h t).owner (omega (
@@ -159,20 +158,19 @@ is-mark t a b = grind nats
 pub falls : {s new : DirState} {m : Msg} (t l x y : ℕ) → Marked s m new → y + num (passes (MarkOf t l) m) ≡ x
     → (m ≡ Skip s.serving.serving → has_mark s.lines l ≡ false) → x + num (s.serving.serving == t && has_mark s.lines l) ≡ 0
     → y + num (new.serving.serving == t && has_mark new.lines l) ≡ 0
-falls {s} {new} {m} t l x y h q k z =
+falls {m} t l x y h q k z =
     omega (
       arith,
       q,
       z,
-      marks-grow (nat_lt 0) t l (num (passes (MarkOf t l) m)) refl h k
-          (λ i e r. rw e (omega (arith, is-mark t l i))),
+      marks-grow (nat_lt 0) t l (num (passes (MarkOf t l) m)) refl h k (λ i e r. rw e (omega (arith, is-mark t l i))),
     )
 
 -- a line of which one Mark was sent at most, b, by a TID that isn't passed
 pub holds : {s new : DirState} {m : Msg} (t l : ℕ) {x : ℕ} (y : ℕ) {b : ℕ} → Marked s m new → y + num (passes (MarkOf t l) m) ≡ x
     → (m ≡ Skip s.serving.serving → has_mark s.lines l ≡ false) → passes EmptyMarks m ≡ false → b ≤ 1 → (1 ≤ b → new.serving.serving ≤ t)
     → x + num (s.serving.serving == t && has_mark s.lines l) ≡ b → y + num (new.serving.serving == t && has_mark new.lines l) ≡ b
-holds {s} {new} {m} t l y {b} h q k nonempty once reached z = go (marks-count s new m t l h k nonempty) (cases_lt 0 b)
+holds {s} {new} {m} t l y {b} h q k nonempty once reached z = go (marks-count s t l h k nonempty) (cases_lt 0 b)
   where
     go : (num (new.serving.serving == t && has_mark new.lines l) ≡ num (s.serving.serving == t && has_mark s.lines l) + num
         (passes (MarkOf t l) m))
@@ -259,7 +257,7 @@ is-granted c t k l = k.held c 0 t l
 
 pub has-granted : {sh : Shape} {gs : List Grant} {w : World} {cs : List Noted} (c t : ℕ) → KeptOwners sh gs w cs
     → has_tid (w.cores c).phase t ≡ true → Contains gs (grant_to t c)
-has-granted {sh} {gs} {w} {cs} c t k h = let n : num (has_tid (w.cores c).phase t) ≡ 1 = ap num h in is-granted c t k (omega (arith, n))
+has-granted {w} c t k h = let n : num (has_tid (w.cores c).phase t) ≡ 1 = ap num h in is-granted c t k (omega (arith, n))
 
 pub open-untold : {sh : Shape} {w : World} (c d t : ℕ) → KeptTids sh w → c < sh.cores → d < sh.dirs
     → opens (w.cores c).phase (writes_at sh (w.cores c).cache d) t ≡ true → live (Resolves t) (to_dir w c d) ≡ 0
@@ -267,10 +265,10 @@ unfolding share part pair
 open-untold {sh} {w} c d t k l x h = let n : num (opens (w.cores c).phase (writes_at sh (w.cores c).cache d) t) ≡ 1 = ap num h in
     omega (arith, n, k.resolved d t x, total-le (share (part sh d t) w d) sh.cores c l)
 
-pub open-ahead : (sh : Shape) (w : World) (c d t : ℕ) → KeptTids sh w → c < sh.cores → d < sh.dirs
+pub open-ahead : {sh : Shape} {w : World} (c d t : ℕ) → KeptTids sh w → c < sh.cores → d < sh.dirs
     → opens (w.cores c).phase (writes_at sh (w.cores c).cache d) t ≡ true → tid_at w d ≤ t
 unfolding share part pair handled
-open-ahead sh w c d t k l x h = elim (cases_lt t (tid_at w d)) [
+open-ahead {sh} {w} c d t k l x h = elim (cases_lt t (tid_at w d)) [
   | inr q ↦ q
   | inl q ↦ let n : num (opens (w.cores c).phase (writes_at sh (w.cores c).cache d) t) ≡ 1 = ap num h in
       let b : num (nat_lt t (tid_at w d)) ≡ 1 = grind nats in
@@ -280,8 +278,8 @@ open-ahead sh w c d t k l x h = elim (cases_lt t (tid_at w d)) [
 pub taken-less : (k : ℕ) (x : Kind) (l : Link) {m : Msg} → slice_index_or l k None ≡ Some m → live x (slice_set l k None) ≤ live x l
 taken-less k x l {m} i = omega (arith, live-takes x l k m i)
 
-pub empty-one : (l : Link) (k : ℕ) (m : Msg) → slice_index_or l k None ≡ Some m → live EmptyMarks l ≡ 0 → passes EmptyMarks m ≡ false
-empty-one l k m i z = none-taken EmptyMarks l k i z
+pub empty-one : (l : Link) (k : ℕ) {m : Msg} → slice_index_or l k None ≡ Some m → live EmptyMarks l ≡ 0 → passes EmptyMarks m ≡ false
+empty-one l k i z = none-taken EmptyMarks l k i z
 
 is-resolve : (t : ℕ) (m : Msg) → num (passes (Skips t) m) ≤ num (passes AnyResolve m)
 unfolding passes
@@ -311,8 +309,7 @@ unfolding marks_of pair
 skip-unmarked {sh} {w} c d k l z h i e =
     let u : ℕ = tid_at w d in
     let j : FromCore w c d k (Skip u) = i ∙ ap (λ y. Some y) e in
-    unmarked-of (w.dirs d) l (live (MarkOf u l) (to_dir w c d))
-    ((h c d u l).skipped (inside-dirs sh w c d k u z j)
+    unmarked-of (w.dirs d) l (live (MarkOf u l) (to_dir w c d)) ((h c d u l).skipped (inside-dirs sh w c d k u z j)
     (omega (arith, live-some (Skips u) (to_dir w c d) k (Skip u) j, is-skip u)))
 
 -- a Mark of a TID comes from one core, to which the TID was granted
@@ -327,21 +324,19 @@ only-there {gs} {w} c j d k t l {m} y h i n q =
     some p = let o : num (passes (MarkOf t l) m) ≡ 1 = ap num p in omega (arith, o, live-some (MarkOf t l) (to_dir w c d) k m i)
 
     not : 1 ≤ live (MarkOf t l) (to_dir w c d) → (Contains gs (grant_to t j)) ⊎ (1 ≤ num (nat_le w.next t)) → ⊥
-    not x (inl a) =
-        n (granted-once 1 gs t j c y.numbered a ((h c d t l).owner (omega (arith, x, (kinds t l (to_dir w c d)).0))))
+    not x (inl a) = n (granted-once 1 gs t j c y.numbered a ((h c d t l).owner (omega (arith, x, (kinds t l (to_dir w c d)).0))))
     not x (inr b) = omega (arith, x, (h c d t l).fresh (omega (arith, b)))
 
 dir-marks : {sh : Shape} {gs : List Grant} {w : World} {cs : List Noted} (c d k : ℕ) {m : Msg} (s : DirState) (sends : Sends)
     → KeptTold sh w → KeptOwners sh gs w cs → KeptMarks sh gs w → KeptTold sh (dir_takes w c d k s sends) → FromCore w c d k m
     → Marked (w.dirs d) m s → KeptMarks sh gs (dir_takes w c d k s sends)
 unfolding dir_takes pair
-dir-marks {sh} {gs} {w} {cs} c d k {m} s sends a y h z i u = pairs_dir (λ j e v. (t l : ℕ) → MarksOf sh gs j e t l v) w c d k s sends
+dir-marks {sh} {gs} {w} c d k {m} s sends a y h z i u = pairs_dir (λ j e v. (t l : ℕ) → MarksOf sh gs j e t l v) w c d k s sends
     (λ t l. marks-answered m s (sends (Core c)) (set (to_dir w c d) k None) u
     (λ x. taken-less k x (to_dir w c d) i) (λ q. live-takes (MarkOf t l) (to_dir w c d) k m i) (skip l)
     (is-granted c t y) (reached c t) nonempty (h c d t l))
     (λ j n t l. marks-answered m s (sends (Core j)) (to_dir w j d) u (λ x. omega arith)
-    (only-there c j d k t l y h i n) (skip l) (is-granted j t y) (reached j t) nonempty (h j d t l))
-    h
+    (only-there c j d k t l y h i n) (skip l) (is-granted j t y) (reached j t) nonempty (h j d t l)) h
   where
     v : World
     v = dir_takes w c d k s sends
@@ -350,11 +345,11 @@ dir-marks {sh} {gs} {w} {cs} c d k {m} s sends a y h z i u = pairs_dir (λ j e v
     skip l = skip-unmarked c d k l a h i
 
     nonempty : passes EmptyMarks m ≡ false
-    nonempty = empty-one (to_dir w c d) k m i (h c d 0 0).words
+    nonempty = empty-one (to_dir w c d) k i (h c d 0 0).words
 
     reached : (j t : ℕ) → j < sh.cores → d < sh.dirs → opens (w.cores j).phase (writes_at sh (w.cores j).cache d) t ≡ true
         → s.serving.serving ≤ t
-    reached j t x l o = rw (tid_at, eq-self d) at (open-ahead sh v j d t z.tids x l o)
+    reached j t x l o = rw (tid_at, eq-self d) at (open-ahead j d t z.tids x l o)
 
 pub no-request : (t l : ℕ) → passes (MarkOf t l) TidReq ≡ false
 unfolding passes
@@ -364,22 +359,21 @@ pub no-empty : passes EmptyMarks TidReq ≡ false
 unfolding passes
 no-empty = refl
 
-asks-marks : (sh : Shape) (gs : List Grant) (w : World) (cs : List Noted) (d : ℕ) (s : DirState) (sends : Sends) → KeptOwners sh gs w cs
-    → KeptMarks sh gs w → KeptTold sh (dir_asks w d s sends) → (s.serving.serving ≡ tid_at w d)
-    × ((l : ℕ) → s.lines.mark l ≡ (w.dirs d).lines.mark l) → KeptMarks sh gs (dir_asks w d s sends)
+asks-marks : {sh : Shape} {gs : List Grant} (w : World) {cs : List Noted} (d : ℕ) (s : DirState) (sends : Sends) → KeptOwners sh gs w cs
+    → KeptMarks sh gs w → KeptTold sh (dir_asks w d s sends)
+    → (s.serving.serving ≡ tid_at w d) × ((l : ℕ) → s.lines.mark l ≡ (w.dirs d).lines.mark l) → KeptMarks sh gs (dir_asks w d s sends)
 unfolding dir_asks pair
-asks-marks sh gs w cs d s sends y h z u = pairs_asks (λ j e v. (t l : ℕ) → MarksOf sh gs j e t l v) w d s sends
+asks-marks {sh} {gs} w d s sends y h z u = pairs_asks (λ j e v. (t l : ℕ) → MarksOf sh gs j e t l v) w d s sends
     (λ j t l. marks-answered TidReq s (sends (Core j)) (to_dir w j d)
     (Stays u.0 u.1 (λ a b q. let e = no-request a b in absurd (cc))) (λ x. omega arith) (λ q. rw (no-request t l) (omega arith))
-    (λ e. absurd (cc)) (is-granted j t y) (reached j t) no-empty (h j d t l))
-    h
+    (λ e. absurd (cc)) (is-granted j t y) (reached j t) no-empty (h j d t l)) h
   where
     v : World
     v = dir_asks w d s sends
 
     reached : (j t : ℕ) → j < sh.cores → d < sh.dirs → opens (w.cores j).phase (writes_at sh (w.cores j).cache d) t ≡ true
         → s.serving.serving ≤ t
-    reached j t x l o = rw (tid_at, eq-self d) at (open-ahead sh v j d t z.tids x l o)
+    reached j t x l o = rw (tid_at, eq-self d) at (open-ahead j d t z.tids x l o)
 
 pub taken-back : {sh : Shape} {gs : List Grant} (w : World) {c d : ℕ} (k : ℕ) {t l : ℕ} → MarksOf sh gs c d t l (pair w c d)
     → MarksOf sh gs c d t l (back_taken (pair w c d) k)
@@ -389,16 +383,12 @@ taken-back w k h = record { owner = h.owner; words = h.words; fresh = h.fresh; s
 pub step-marks : {sh : Shape} (p : Program) {gs : List Grant} {w : World} {cs : List Noted} (e : Event) → Kept sh w → KeptOwners sh gs w cs
     → KeptMarks sh gs w → IfSome (step sh p w e) (λ o. KeptTold sh o.world → KeptMarks sh (gs ++ granted_by w e) o.world)
 unfolding pair
-step-marks {sh} p {gs} {w} {cs} e z y h = step_cases sh p w e (λ g o. KeptTold sh o.world → KeptMarks sh (gs ++ g) o.world)
+step-marks {sh} p {gs} {w} e z y h = step_cases sh p w e (λ g o. KeptTold sh o.world → KeptMarks sh (gs ++ g) o.world)
     (λ c x. moved c x (core_exec sh p c (w.cores c)) (λ d t l. marking-exec sh p c d t l (w.cores c)))
-    (λ c a b x. moved c x (core_evict sh a b (w.cores c)) (λ d t l. marking-evict sh a b d t l (w.cores c)))
-    (λ c k u i n. rw append-nil
-    (pairs_grant P w c k (grant sh u (w.cores c))
-    (λ d t l. marks-granted sh gs c d t l k u (pair w c d) (grant sh u (w.cores c)) i
-    (grant-alone c u y (core_of_grant c k z.told.tids i))
-    (is-granted c u y (came c k u i))
-    (λ x. granting sh u d x l (w.cores c) (granted_waits (pair w c d) k i (z.told.tids.requests c d))) (λ x. h c d x l))
-    h))
+    (λ c a b x. moved c x (core_evict sh a b (w.cores c)) (λ d t l. marking-evict sh a b d t l (w.cores c))) (λ c k u i n. rw append-nil
+    (pairs_grant P w c k (grant sh u (w.cores c)) (λ d t l. marks-granted sh gs c d t l k u (pair w c d) (grant sh u (w.cores c)) i
+    (grant-alone c u y (core_of_grant c k z.told.tids i)) (is-granted c u y (came c k u i))
+    (λ x. granting sh u d x l (w.cores c) (granted_waits (pair w c d) k i (z.told.tids.requests c d))) (λ x. h c d x l)) h))
     (λ c d k m i. taken c d k (core_of_back c d k z.told.tids i) (from_dir sh d (w.cores c) m)
     (λ b t l. marking-back sh d b t l (w.cores c) m))
     (λ c d k m i. answered c d k m i (dir_deliver sh (w.dirs d) c m) (dir-marked sh (w.dirs d) c m))
@@ -420,8 +410,7 @@ step-marks {sh} p {gs} {w} {cs} e z y h = step_cases sh p w e (λ g o. KeptTold 
 
     own : (c d t l : ℕ) (o : Out) → c < sh.cores → Marking sh d t l (w.cores c) o → MarksOf sh gs c d t l (pair w c d)
         → MarksOf sh gs c d t l (after_move (pair w c d) o d)
-    own c d t l o x a b = marks-moved a x (has-alone c t y x) (has-granted c t y)
-        (λ dl r. open-untold c d t z.told.tids x dl r) b
+    own c d t l o x a b = marks-moved a x (has-alone c t y x) (has-granted c t y) (λ dl r. open-untold c d t z.told.tids x dl r) b
 
     moved : (c : ℕ) → c < sh.cores → (x : Option Out) → ((d t l : ℕ) → IfSome x (λ o. Marking sh d t l (w.cores c) o))
         → IfSome x (λ o. KeptTold sh (core_moves w c o) → KeptMarks sh (gs ++ []) (core_moves w c o))
@@ -437,16 +426,14 @@ step-marks {sh} p {gs} {w} {cs} e z y h = step_cases sh p w e (λ g o. KeptTold 
     taken : (c d k : ℕ) → c < sh.cores → (x : Option Out) → ((b t l : ℕ) → IfSome x (λ o. Marking sh b t l (w.cores c) o))
         → IfSome x (λ o. KeptTold sh (core_takes w (Dir d) c k o) → KeptMarks sh (gs ++ []) (core_takes w (Dir d) c k o))
     taken c d k a None u = tt
-    taken c d k a (Some o) u =
-        λ n. rw append-nil (pairs_back P w d c k o (λ t l. back c d k o a t l (u d t l))
+    taken c d k a (Some o) u = λ n. rw append-nil (pairs_back P w d c k o (λ t l. back c d k o a t l (u d t l))
         (λ b q t l. own c b t l o a (u b t l) (h c b t l)) h)
 
     answered : (c d k : ℕ) (m : Msg) → FromCore w c d k m → (a : Answer) → MarkedBy (w.dirs d) m a
         → OfAnswer w c d k (λ v. KeptTold sh v → KeptMarks sh (gs ++ []) v) a
     answered c d k m i Waits u = tt
-    answered c d k m i Drops u =
-        λ n. rw append-nil (dir-marks c d k (w.dirs d) (λ dst. []) z.told y h n i (Stays refl (λ l. refl) u))
-    answered c d k m i (Asks s sends) u = λ n. rw append-nil (asks-marks sh gs w cs d s sends y h n u)
+    answered c d k m i Drops u = λ n. rw append-nil (dir-marks c d k (w.dirs d) (λ dst. []) z.told y h n i (Stays refl (λ l. refl) u))
+    answered c d k m i (Asks s sends) u = λ n. rw append-nil (asks-marks w d s sends y h n u)
     answered c d k m i (Takes s sends) u = λ n. rw append-nil (dir-marks c d k s sends z.told y h n i u)
 
 pub start-marks : (sh : Shape) (entries : ℕ → Local) (ram : ℕ → ℕ) → KeptMarks sh [] (start entries ram)

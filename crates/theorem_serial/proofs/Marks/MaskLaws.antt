@@ -47,12 +47,11 @@ marked-stores : (sh : Shape) (s : CoreState) (d l : ℕ) → 1 ≤ marked_by sh 
 unfolding marked_by
 marked-stores sh s d l x = grind nats
 
-served-marks : (sh : Shape) (gs : List Grant) (w : World) → KeptMarks sh gs w → KeptMasks sh w → MarkedByServed sh w
+served-marks : {sh : Shape} {gs : List Grant} (w : World) → KeptMarks sh gs w → KeptMasks sh w → MarkedByServed sh w
 unfolding pair
-served-marks sh gs w m q = record {
+served-marks {sh} w m q = record {
   granted = λ d l h. granted d l h (cases_lt (tid_at w d) w.next);
-  stored =
-      λ c d l x y t h. marked-stores sh (w.cores c) d l
+  stored = λ c d l x y t h. marked-stores sh (w.cores c) d l
       (omega (arith, marked-one l (pair w c d) h, (m c d (tid_at w d) l).held x y t));
   masked = λ c d l x y t h. marked-right l (modified_mask (w.cores c).cache l) (pair w c d) h (q c d (tid_at w d) l x y t);
 }
@@ -100,8 +99,7 @@ commits-marks sh gs h k = record { stored = stored; counted = counted; sent = se
     counted : (x : Noted) (d n : ℕ) → Contains h.commits x → d < sh.dirs → 1 ≤ live (CommitOf x.tid.0 n) (to_dir w x.core.0 d)
         → count_below (λ l. nat_lt 0 (stored_mask sh d x.stores l)) (lines sh) ≡ n
     counted x d n c dl o =
-        let z : 1 ≤ live (Commits x.tid.0) (to_dir w x.core.0 d) =
-        omega (arith, o, few-commits x.tid.0 n (to_dir w x.core.0 d)) in
+        let z : 1 ≤ live (Commits x.tid.0) (to_dir w x.core.0 d) = omega (arith, o, few-commits x.tid.0 n (to_dir w x.core.0 d)) in
         sym (total-num (λ l. nat_lt 0 (stored_mask sh d x.stores l)) (lines sh))
         ∙ total-same (λ l. num (nat_lt 0 (stored_mask sh d x.stores l))) (λ l. marks_of x.tid.0 l (pair w x.core.0 d)) (lines sh)
         (λ l b. sym (sent x d l c dl z).one) ∙ ((k.counted x.core.0 d x.tid.0 (inside x d z)).counted n dl o).sum
@@ -111,11 +109,9 @@ commits-marks sh gs h k = record { stored = stored; counted = counted; sent = se
         → (w.dirs d).lines.mark l ≡ stored_mask sh d x.stores l
     taken x d l c dl e o =
         let n : ℕ = count_below (has_mark (w.dirs d).lines) (lines sh) in
-        let z : 1 ≤ live (Commits x.tid.0) (to_dir w x.core.0 d) =
-        omega (arith, o, few-commits x.tid.0 n (to_dir w x.core.0 d)) in
+        let z : 1 ≤ live (Commits x.tid.0) (to_dir w x.core.0 d) = omega (arith, o, few-commits x.tid.0 n (to_dir w x.core.0 d)) in
         let counts : CountsMarks sh n x.tid.0 (pair w x.core.0 d) = (k.counted x.core.0 d x.tid.0 (inside x d z)).counted n dl o in
-        taken-marks l (pair w x.core.0 d) (none-away sh l (pair w x.core.0 d) (rw e counts))
-        (rw e (sent x d l c dl z))
+        taken-marks l (pair w x.core.0 d) (none-away sh l (pair w x.core.0 d) (rw e counts)) (rw e (sent x d l c dl z))
 
     owed : (x : Noted) (d l : ℕ) → Contains h.commits x → d < sh.dirs → tid_at w d ≡ x.tid.0 → 1 ≤ (w.dirs d).owed
         → (w.dirs d).lines.mark l ≡ stored_mask sh d x.stores l
@@ -136,7 +132,7 @@ pub masks_stored : Always KeptMasks
 masks_stored = from_all (λ sh cs w. KeptMasks sh w) (λ sh gs h k. k.masks)
 
 pub marked_by_served : Always MarkedByServed
-marked_by_served = from_all (λ sh cs w. MarkedByServed sh w) (λ sh gs h k. served-marks sh gs h.world k.marks k.masks)
+marked_by_served = from_all (λ sh cs w. MarkedByServed sh w) (λ sh gs h k. served-marks h.world k.marks k.masks)
 
 pub commits_stored : AlwaysSince KeptStored
 commits_stored = from_all KeptStored (λ sh gs h k. k.stored)

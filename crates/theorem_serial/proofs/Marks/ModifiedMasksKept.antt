@@ -56,7 +56,7 @@ pub wrong-falls : {s new : DirState} {m : Msg} (t l q : ℕ) {x : ℕ} (y : ℕ)
     → (m ≡ Skip s.serving.serving → has_mark s.lines l ≡ false)
     → x + num (s.serving.serving == t && (has_mark s.lines l && not (s.lines.mark l == q))) ≡ 0
     → y + num (new.serving.serving == t && (has_mark new.lines l && not (new.lines.mark l == q))) ≡ 0
-wrong-falls {s} {new} {m} t l q y h p k z =
+wrong-falls {m} t l q y h p k z =
     omega (
       arith,
       p,
@@ -65,21 +65,20 @@ wrong-falls {s} {new} {m} t l q y h p k z =
           (λ e. rw (k e) refl) (λ i e r. rw e (wrong-one l i t q r)),
     )
 
-masks-answered : (t l : ℕ) (v : Pair) (m : Msg) (s : DirState) (ms : List Msg) (k : Link) → Marked v.dir m s
+masks-answered : (t l : ℕ) (v : Pair) {m : Msg} {s : DirState} (ms : List Msg) (k : Link) → Marked v.dir m s
     → (has_tid v.core.phase t ≡ true
     → live (MarkMask t l (modified_mask v.core.cache l)) k + num (passes (MarkMask t l (modified_mask v.core.cache l)) m) ≡ live
-    (MarkMask t l (modified_mask v.core.cache l)) v.out)
-    → (m ≡ Skip v.dir.serving.serving → has_mark v.dir.lines l ≡ false) → MaskedOf t l v
-    → MaskedOf t l (after_answer (record v { out = k }) s ms)
+    (MarkMask t l (modified_mask v.core.cache l)) v.out) → (m ≡ Skip v.dir.serving.serving → has_mark v.dir.lines l ≡ false)
+    → MaskedOf t l v → MaskedOf t l (after_answer (record v { out = k }) s ms)
 unfolding wrong_marks
-masks-answered t l v m s ms k y eqn skip h = λ x. wrong-falls t l (modified_mask v.core.cache l)
+masks-answered t l v ms k y eqn skip h = λ x. wrong-falls t l (modified_mask v.core.cache l)
     (live (MarkMask t l (modified_mask v.core.cache l)) k) y (eqn x) skip (h x)
 
 -- a message from another core is no Mark of this core's TID
 pub masked-there : {sh : Shape} {gs : List Grant} {w : World} {cs : List Noted} (c j d k t l q : ℕ) {m : Msg} → KeptOwners sh gs w cs
     → KeptMarks sh gs w → FromCore w c d k m → j ≢ c → Contains gs (grant_to t j)
     → live (MarkMask t l q) (to_dir w j d) + num (passes (MarkMask t l q) m) ≡ live (MarkMask t l q) (to_dir w j d)
-masked-there {sh} {gs} {w} {cs} c j d k t l q {m} y h i n g =
+masked-there c j d k t l q {m} y h i n g =
     let z : num (passes (MarkOf t l) m) ≡ 0 = omega (arith, only-there c j d k t l y h i n (inl g)) in
     omega (arith, passes-masked t l q m z)
 
@@ -87,13 +86,12 @@ dir-masks : {sh : Shape} {gs : List Grant} {w : World} {cs : List Noted} (c d k 
     → KeptTold sh w → KeptOwners sh gs w cs → KeptMarks sh gs w → KeptMasks sh w → FromCore w c d k m → Marked (w.dirs d) m s
     → KeptMasks sh (dir_takes w c d k s sends)
 unfolding pair
-dir-masks {sh} {gs} {w} {cs} c d k {m} s sends a y b h i u =
+dir-masks {sh} {w} c d k {m} s sends a y b h i u =
     λ j e t l x z. pairs_dir (λ j e v. (t l : ℕ) → j < sh.cores → e < sh.dirs → MaskedOf t l v) w c d k s sends
-    (λ t l x z. masks-answered t l (pair w c d) m s (sends (Core c)) (set (to_dir w c d) k None) u
+    (λ t l x z. masks-answered t l (pair w c d) (sends (Core c)) (set (to_dir w c d) k None) u
     (λ r. live-takes (MarkMask t l (modified_mask (w.cores c).cache l)) (to_dir w c d) k m i) (skip l) (h c d t l x z))
-    (λ j n t l x z. masks-answered t l (pair w j d) m s (sends (Core j)) (to_dir w j d) u
-    (λ r. masked-there c j d k t l (modified_mask (w.cores j).cache l) y b i n (has-granted j t y r))
-    (skip l) (h j d t l x z))
+    (λ j n t l x z. masks-answered t l (pair w j d) (sends (Core j)) (to_dir w j d) u
+    (λ r. masked-there c j d k t l (modified_mask (w.cores j).cache l) y b i n (has-granted j t y r)) (skip l) (h j d t l x z))
     h j e t l x z
   where
     skip : (l : ℕ) → m ≡ Skip (tid_at w d) → has_mark (w.dirs d).lines l ≡ false
@@ -109,7 +107,7 @@ masks-asked t l v s ms e f h = λ x. rw (e, f) (h x)
 pub step-masks : {sh : Shape} (p : Program) {gs : List Grant} {w : World} {cs : List Noted} (e : Event) → Kept sh w → KeptOwners sh gs w cs
     → KeptMarks sh gs w → KeptMasks sh w → IfSome (step sh p w e) (λ o. KeptMasks sh o.world)
 unfolding pair wrong_marks
-step-masks {sh} p {gs} {w} {cs} e z y b h = step_cases sh p w e (λ g o. KeptMasks sh o.world)
+step-masks {sh} p {gs} {w} e z y b h = step_cases sh p w e (λ g o. KeptMasks sh o.world)
     (λ c x. moved c x (core_exec sh p c (w.cores c)) (λ d t l. marking-exec sh p c d t l (w.cores c))
     (λ d t l. masking-exec sh p c d t l (w.cores c)))
     (λ c r q x. moved c x (core_evict sh r q (w.cores c)) (λ d t l. marking-evict sh r q d t l (w.cores c))
@@ -127,8 +125,7 @@ step-masks {sh} p {gs} {w} {cs} e z y b h = step_cases sh p w e (λ g o. KeptMas
         → MaskedOf t l (after_move (grant_taken (pair w c d) k) (grant sh u (w.cores c)) d)
     granted c k u i d t l x r = masks-granted d t l k (pair w c d) x r (comes t)
         (marks-granted sh gs c d t l k u (pair w c d) (grant sh u (w.cores c)) i (grant-alone c u y x)
-        (is-granted c u y (omega (arith, live-some (Grants u) (w.net Vendor (Core c)) k (TidGrant u) i, is_mine u)))
-        comes (λ t. b c d t l))
+        (is-granted c u y (omega (arith, live-some (Grants u) (w.net Vendor (Core c)) k (TidGrant u) i, is_mine u))) comes (λ t. b c d t l))
       where
         comes : (t : ℕ) → Granting sh u d t l (grant sh u (w.cores c))
         comes t = granting sh u d t l (w.cores c) (granted_waits (pair w c d) k i (z.told.tids.requests c d))
@@ -183,13 +180,13 @@ unfolding marks_of
 one-granted t l d k v o z h = omega (arith, live-sends (MarkOf t l) v.out (o.sends (Dir d)), z, h)
 
 -- A directory that takes m: a Mark still in flight from the core was the only one, so m is none of the line.
-one-answered : (t l : ℕ) (v : Pair) (m : Msg) (s : DirState) (ms : List Msg) (k : Link) → Marked v.dir m s
+one-answered : (t l : ℕ) (v : Pair) {m : Msg} {s : DirState} (ms : List Msg) (k : Link) → Marked v.dir m s
     → live (MarkOf t l) k ≤ live (MarkOf t l) v.out
     → (1 ≤ live (MarkOf t l) v.out → live (MarkOf t l) k + num (passes (MarkOf t l) m) ≡ live (MarkOf t l) v.out)
     → (m ≡ Skip v.dir.serving.serving → has_mark v.dir.lines l ≡ false) → marks_of t l v ≤ 1
     → marks_of t l (after_answer (record v { out = k }) s ms) ≤ 1
 unfolding marks_of
-one-answered t l v m s ms k y less eqn skip h = elim (cases_lt 0 (live (MarkOf t l) k)) [
+one-answered t l v {s} ms k y less eqn skip h = elim (cases_lt 0 (live (MarkOf t l) k)) [
   | inr x ↦ omega (arith, x, num-most (s.serving.serving == t && has_mark s.lines l))
   | inl x ↦ let e = eqn (omega (arith, x, less)) in
       let none : 0 + num (s.serving.serving == t && has_mark s.lines l) ≡ 0 =
@@ -201,14 +198,12 @@ dir-one : {sh : Shape} {gs : List Grant} {w : World} {cs : List Noted} (c d k : 
     → KeptOwners sh gs w cs → KeptMarks sh gs w → OneMark sh w → FromCore w c d k m → Marked (w.dirs d) m s
     → OneMark sh (dir_takes w c d k s sends)
 unfolding pair
-dir-one {sh} {gs} {w} {cs} c d k {m} s sends a y b h i u =
+dir-one {sh} {gs} {w} c d k {m} s sends a y b h i u =
     λ j e t l x z. pairs_dir (λ j e v. (t l : ℕ) → j < sh.cores → e < sh.dirs → marks_of t l v ≤ 1) w c d k s sends
-    (λ t l x z. one-answered t l (pair w c d) m s (sends (Core c)) (set (to_dir w c d) k None) u
-    (taken-less k (MarkOf t l) (to_dir w c d) i) (λ r. live-takes (MarkOf t l) (to_dir w c d) k m i) (skip l)
-    (h c d t l x z))
-    (λ j n t l x z. one-answered t l (pair w j d) m s (sends (Core j)) (to_dir w j d) u (omega arith)
-    (λ r. only-there c j d k t l y b i n (inl (owner j t l r))) (skip l) (h j d t l x z))
-    h j e t l x z
+    (λ t l x z. one-answered t l (pair w c d) (sends (Core c)) (set (to_dir w c d) k None) u
+    (taken-less k (MarkOf t l) (to_dir w c d) i) (λ r. live-takes (MarkOf t l) (to_dir w c d) k m i) (skip l) (h c d t l x z))
+    (λ j n t l x z. one-answered t l (pair w j d) (sends (Core j)) (to_dir w j d) u (omega arith)
+    (λ r. only-there c j d k t l y b i n (inl (owner j t l r))) (skip l) (h j d t l x z)) h j e t l x z
   where
     skip : (l : ℕ) → m ≡ Skip (tid_at w d) → has_mark (w.dirs d).lines l ≡ false
     skip l = skip-unmarked c d k l a b i
@@ -225,14 +220,12 @@ one-asked t l v s ms e f h = rw (e, f) h
 pub step-one-mark : {sh : Shape} (p : Program) {gs : List Grant} {w : World} {cs : List Noted} (e : Event) → Kept sh w
     → KeptOwners sh gs w cs → KeptMarks sh gs w → OneMark sh w → IfSome (step sh p w e) (λ o. OneMark sh o.world)
 unfolding pair marks_of
-step-one-mark {sh} p {gs} {w} {cs} e z y b h = step_cases sh p w e (λ g o. OneMark sh o.world)
+step-one-mark {sh} p {w} e z y b h = step_cases sh p w e (λ g o. OneMark sh o.world)
     (λ c x. moved c x (core_exec sh p c (w.cores c)) (λ d t l. marking-exec sh p c d t l (w.cores c)))
     (λ c r q x. moved c x (core_evict sh r q (w.cores c)) (λ d t l. marking-evict sh r q d t l (w.cores c)))
-    (λ c k u i. pairs_grant P w c k (grant sh u (w.cores c))
-    (λ d t l x r. one-granted t l d k (pair w c d) (grant sh u (w.cores c))
+    (λ c k u i. pairs_grant P w c k (grant sh u (w.cores c)) (λ d t l x r. one-granted t l d k (pair w c d) (grant sh u (w.cores c))
     (granting sh u d t l (w.cores c) (granted_waits (pair w c d) k i (z.told.tids.requests c d))).marks (h c d t l x r))
-    (λ c d t l x r. h c d t l x r))
-    (λ c d k m i. taken c d k (core_of_back c d k z.told.tids i) (from_dir sh d (w.cores c) m)
+    (λ c d t l x r. h c d t l x r)) (λ c d k m i. taken c d k (core_of_back c d k z.told.tids i) (from_dir sh d (w.cores c) m)
     (λ e t l. marking-back sh d e t l (w.cores c) m))
     (λ c d k m i. answered c d k m i (dir_deliver sh (w.dirs d) c m) (dir-marked sh (w.dirs d) c m))
     (λ c k i. pairs_vendor P w c k (λ d t l x r. h c d t l x r) (λ j d n t l x r. h j d t l x r))

@@ -51,7 +51,7 @@ lines-among l m k = (
 acks-of : {sh : Shape} (k l d : ℕ) (s : CoreState) {o : Out} → Invalidated sh k s o
     → among (AckOf l) (o.sends (Dir d)) ≤ num ((d == home sh k) && (k == l))
 unfolding among passes
-acks-of {sh} k l d s {o} i =
+acks-of {sh} k l d s i =
     rw (i.dirs d) (omega (
       arith,
       among-append (AckOf l) (i.sends (Dir d)) (to (Dir (home sh k)) (InvAck k i.kept ∷ []) (Dir d)),
@@ -74,11 +74,9 @@ none-of l {ms} n c = omega (arith, c.acks, (lines-among l 0 ms).2)
 pub acks-line : (sh : Shape) (e d l : ℕ) (s : CoreState) (m : Msg) → passes (InvsAway sh.dirs e) m ≡ false
     → IfSome (from_dir sh e s m) (λ o. among (AckOf l) (o.sends (Dir d)) ≤ num ((d == e) && passes (InvOf l) m))
 unfolding passes
-acks-line sh e d l s (ProbeReply u v) h =
-    none-of l _ (clean-replied sh (reply-cases sh e u s) d)
+acks-line sh e d l s (ProbeReply u v) h = none-of l _ (clean-replied sh (reply-cases sh e u s) d)
 acks-line sh e d l s (Fill k ws) h = none-of l _ (clean-steady sh (fill-steady k ws s) d)
-acks-line sh e d l s (DataReq k) h =
-    none-of l _ (clean-steady sh (data-steady sh k s) d)
+acks-line sh e d l s (DataReq k) h = none-of l _ (clean-steady sh (data-steady sh k s) d)
 acks-line sh e d l s (Inv k m u) h = let q : home sh k ≡ e = at-home sh e k m u h in
     rw (← q) (acks-of k l d s (invalidate-cases sh k m u s))
 acks-line sh e d l s _ h = tt
@@ -152,7 +150,7 @@ named-clean {l} {d} v o c h = named-moved d 0 o v.back (omega (arith, c.acks, (l
 
 named-granted : (l d k : ℕ) {sh : Shape} {v : Pair} (o : Out) → Clean sh d (o.sends (Dir d)) → NamedOf l v
     → NamedOf l (after_move (grant_taken v k) o d)
-named-granted l d k {sh} {v} o c h = named-clean (grant_taken v k) o c (record { one = h.one; mask = h.mask })
+named-granted l d k {v} o c h = named-clean (grant_taken v k) o c (record { one = h.one; mask = h.mask })
 
 -- a directory answers
 
@@ -170,8 +168,7 @@ has-same e = rw e refl
 named-quiet : {l : ℕ} {v : Pair} (s : DirState) (ms : List Msg) (k : Link) → s.lines.mark l ≡ v.dir.lines.mark l → among Invs ms ≡ 0
     → live (AckOf l) k ≤ live (AckOf l) v.out → NamedOf l v → NamedOf l (after_answer (record v { out = k }) s ms)
 named-quiet {l} {v} s ms k e q a h = record {
-  one =
-      omega (arith, h.one, a, q, (lines-among l 0 ms).0, live-sends (InvOf l) v.back ms, has-same e);
+  one = omega (arith, h.one, a, q, (lines-among l 0 ms).0, live-sends (InvOf l) v.back ms, has-same e);
   mask = rw e (omega (arith, h.mask, q, (lines-among l (v.dir.lines.mark l) ms).1, live-sends (InvMask l (v.dir.lines.mark l)) v.back ms));
 }
 
@@ -215,12 +212,10 @@ marks-same w c d k h cl dl i x e (inl o) (IsMarked a b q g f) l =
     absurd (omega (
       arith,
       (h c d 0 cl).settled a dl (omega (arith, x, o)),
-      live-some (MarkOf (tid_at w d) a)
-          (to_dir w c d) k (Mark a b (tid_at w d)) (i ∙ ap (λ y. Some y) q),
+      live-some (MarkOf (tid_at w d) a) (to_dir w c d) k (Mark a b (tid_at w d)) (i ∙ ap (λ y. Some y) q),
       is-mark (tid_at w d) a b,
     ))
-marks-same {sh} w c d k h cl dl i x e (inr o) (IsMarked a b q g f) l =
-    absurd (no-commit-mark sh (w.dirs d) a b (tid_at w d) (sym q ∙ o))
+marks-same {sh} w c d k h cl dl i x e (inr o) (IsMarked a b q g f) l = absurd (no-commit-mark sh (w.dirs d) a b (tid_at w d) (sym q ∙ o))
 
 dir-named : {sh : Shape} {w : World} (c : ℕ) {d : ℕ} (k : ℕ) {ack : ℕ} {m : Msg} {s : DirState} {sends : Sends} → KeptTold sh w
     → KeptCounted sh w → KeptNamed sh w → KeptTold sh (dir_takes w c d k s sends) → c < sh.cores → FromCore w c d k m
@@ -231,8 +226,7 @@ dir-named : {sh : Shape} {w : World} (c : ℕ) {d : ℕ} (k : ℕ) {ack : ℕ} {
 unfolding pair
 dir-named {sh} {w} c {d} k {m} {s} {sends} b g h z cl i u p o n =
     λ j e l. pairs_dir (λ j e v. (l : ℕ) → j < sh.cores → e < sh.dirs → NamedOf l v) w c d k s sends
-    (λ l jl dl. pairs c l jl dl (set (to_dir w c d) k None) (taken-less k (AckOf l) (to_dir w c d) i)
-    (taken-less k Acks (to_dir w c d) i)
+    (λ l jl dl. pairs c l jl dl (set (to_dir w c d) k None) (taken-less k (AckOf l) (to_dir w c d) i) (taken-less k Acks (to_dir w c d) i)
     (subst (λ v. v.dir.owed ≡ 0 → live Invs v.back + live Acks v.out ≡ 0) (dir-own w c d k s sends) (none-due c d z jl)))
     (λ j q l jl dl. pairs j l jl dl (to_dir w j d) (omega arith) (omega arith)
     (subst (λ v. v.dir.owed ≡ 0 → live Invs v.back + live Acks v.out ≡ 0) (dir-other w c d k s sends j q) (none-due j d z jl)))
@@ -255,8 +249,7 @@ dir-named {sh} {w} c {d} k {m} {s} {sends} b g h z cl i u p o n =
             → (((j : ℕ) → among Invs (sends (Core j)) ≡ 0)
             ⊎ ((passes (Resolves (tid_at w d)) m ≡ true) × ((j : ℕ) → Names (w.dirs d).lines (sends (Core j)))))
             → NamedOf l (after_answer (record (pair w j d) { out = q }) s (sends (Core j)))
-        first r x (inl y) = named-quiet s (sends (Core j)) q (marks-same w c d k g cl dl i x r o u l) (y j) a
-            (h j d l jl dl)
+        first r x (inl y) = named-quiet s (sends (Core j)) q (marks-same w c d k g cl dl i x r o u l) (y j) a (h j d l jl dl)
         first r x (inr y) =
             let t = none-due j d b jl (unserved (w.dirs d) m (once_at c d k b i) y.0) in
             named-first l (pair w j d) s (sends (Core j)) q (marks-same w c d k g cl dl i x r o u l) (y.1 j) (omega (arith, t))
@@ -283,18 +276,17 @@ away-back e d c l w m o n a h = let b : (d == e) ≡ false = grind nats in
 
 pub passed-away : {sh : Shape} {w : World} (c e k : ℕ) {m : Msg} → KeptTold sh w → FromDir w e c k m → passes (InvsAway sh.dirs e) m ≡ false
 unfolding pair
-passed-away {sh} {w} c e k {m} z i = none-taken (InvsAway sh.dirs e) (to_core w e c) k i (z.owed.at_home c e).invs
+passed-away {sh} {w} c e k z i = none-taken (InvsAway sh.dirs e) (to_core w e c) k i (z.owed.at_home c e).invs
 
-pub step-named : (sh : Shape) (p : Program) (w : World) (e : Event) → Kept sh w → KeptCounted sh w → KeptNamed sh w
+pub step-named : {sh : Shape} (p : Program) {w : World} (e : Event) → Kept sh w → KeptCounted sh w → KeptNamed sh w
     → IfSome (step sh p w e) (λ o. KeptTold sh o.world → KeptNamed sh o.world)
 unfolding pair
-step-named sh p w e z g h = step_cases sh p w e (λ x o. KeptTold sh o.world → KeptNamed sh o.world)
+step-named {sh} p {w} e z g h = step_cases sh p w e (λ x o. KeptTold sh o.world → KeptNamed sh o.world)
     (λ c l. moved c (core_exec sh p c (w.cores c)) (clean-exec sh p c (w.cores c)))
     (λ c a b l. moved c (core_evict sh a b (w.cores c)) (clean-evict sh a b (w.cores c)))
     (λ c k u i n. pairs_grant P w c k (grant sh u (w.cores c))
     (λ d l x y. named-granted l d k (grant sh u (w.cores c)) (clean-grant sh u (w.cores c) d) (h c d l x y)) h)
-    (λ c d k m i. taken c d k m i (from_dir sh d (w.cores c) m)
-    (λ b l. acks-line sh d b l (w.cores c) m (passed-away c d k z.told i)))
+    (λ c d k m i. taken c d k m i (from_dir sh d (w.cores c) m) (λ b l. acks-line sh d b l (w.cores c) m (passed-away c d k z.told i)))
     (λ c d k m i. answered c d k m i (core_of_out c d k z.told.tids i) (dir_deliver sh (w.dirs d) c m) (dir-marked sh (w.dirs d) c m)
     (dir-owes sh (w.dirs d) c m)
     (dir-due sh d (w.dirs d) c m (once_at c d k z.told i) (z.told.owed.at_home c d).marked (marks_home c d k z.told.owed i)
@@ -322,8 +314,7 @@ step-named sh p w e z g h = step_cases sh p w e (λ x o. KeptTold sh o.world →
     answered c d k m i cl Waits u o p n = tt
     answered c d k m i cl Drops u o p n = λ t. dir-named c k z.told g h t cl i (Stays refl (λ l. refl) u)
         (still-due sh d (w.dirs d) (z.told.owed.at_home c d).marked) (inl (omega arith)) (inl none-quiet)
-    answered c d k m i cl (Asks s sends) u o p n =
-        λ t. pairs_asks P w d s sends
+    answered c d k m i cl (Asks s sends) u o p n = λ t. pairs_asks P w d s sends
         (λ j l x y. named-quiet s (sends (Core j)) (to_dir w j d) (u.1 l) (n j) (omega arith) (h j d l x y)) h
     answered c d k m i cl (Takes s sends) u o p n = λ t. dir-named c k z.told g h t cl i u p o n
 
@@ -372,19 +363,16 @@ unfolding pair
 dir-unacked {sh} gs w c {e} k {m} {s} {sends} h z i u = pairs_dir (UnackedOf sh gs) w c e k s sends
     (unacked-answered sh gs c e (pair w c e) (after_answer (out_taken (pair w c e) k) s (sends (Core c))) u.served
     (omega (arith, live-takes Acks (to_dir w c e) k m i))
-    (subst (λ q. q.dir.owed ≡ 0 → live Acks q.out ≡ 0) (dir-own w c e k s sends) (no-acks c e z))
-    (h c e))
+    (subst (λ q. q.dir.owed ≡ 0 → live Acks q.out ≡ 0) (dir-own w c e k s sends) (no-acks c e z)) (h c e))
     (λ j n. unacked-answered sh gs j e (pair w j e) (after_answer (pair w j e) s (sends (Core j))) u.served (omega arith)
-    (subst (λ q. q.dir.owed ≡ 0 → live Acks q.out ≡ 0) (dir-other w c e k s sends j n)
-    (no-acks j e z)) (h j e)) h
+    (subst (λ q. q.dir.owed ≡ 0 → live Acks q.out ≡ 0) (dir-other w c e k s sends j n) (no-acks j e z)) (h j e)) h
 
-pub step-unacked : (sh : Shape) (p : Program) (gs : List Grant) (w : World) (e : Event) → Kept sh w → SparesCommitter sh gs w
+pub step-unacked : {sh : Shape} (p : Program) {gs : List Grant} {w : World} (e : Event) → Kept sh w → SparesCommitter sh gs w
     → KeptUnacked sh gs w → IfSome (step sh p w e) (λ o. KeptTold sh o.world → KeptUnacked sh (gs ++ granted_by w e) o.world)
 unfolding pair
-step-unacked sh p gs w e z y h = step_cases sh p w e (λ g o. KeptTold sh o.world → KeptUnacked sh (gs ++ g) o.world)
+step-unacked {sh} p {gs} {w} e z y h = step_cases sh p w e (λ g o. KeptTold sh o.world → KeptUnacked sh (gs ++ g) o.world)
     (λ c l. moved c (core_exec sh p c (w.cores c)) (clean-exec sh p c (w.cores c)))
-    (λ c a b l. moved c (core_evict sh a b (w.cores c)) (clean-evict sh a b (w.cores c)))
-    (λ c k u i n. rw append-nil
+    (λ c a b l. moved c (core_evict sh a b (w.cores c)) (clean-evict sh a b (w.cores c))) (λ c k u i n. rw append-nil
     (pairs_grant P w c k (grant sh u (w.cores c))
     (λ d l g. omega (
       arith,
@@ -413,8 +401,7 @@ step-unacked sh p gs w e z y h = step_cases sh p w e (λ g o. KeptTold sh o.worl
     moved : (c : ℕ) (x : Option Out) → IfSome x (λ o. CleanOut sh o)
         → IfSome x (λ o. KeptTold sh (core_moves w c o) → KeptUnacked sh (gs ++ []) (core_moves w c o))
     moved c None a = tt
-    moved c (Some o) a =
-        λ n. rw append-nil (pairs_move P w c o
+    moved c (Some o) a = λ n. rw append-nil (pairs_move P w c o
         (λ d l g. omega (arith, h c d l g, (a d).acks, live-sends Acks (to_dir w c d) (o.sends (Dir d)))) h)
 
     taken : (c d k : ℕ) (m : Msg) → FromDir w d c k m → (x : Option Out) → IfSome x (λ o. BackDue sh d m o)
@@ -434,14 +421,11 @@ step-unacked sh p gs w e z y h = step_cases sh p w e (λ g o. KeptTold sh o.worl
     answered : (c d k : ℕ) (m : Msg) → FromCore w c d k m → (a : Answer)
         → DueBy sh d (w.dirs d) (num (passes Acks m)) a → OfAnswer w c d k (λ v. KeptTold sh v → KeptUnacked sh (gs ++ []) v) a
     answered c d k m i Waits u = tt
-    answered c d k m i Drops u =
-        λ n. rw append-nil (dir-unacked gs w c k h n i
+    answered c d k m i Drops u = λ n. rw append-nil (dir-unacked gs w c k h n i
         (still-due sh d (w.dirs d) (z.told.owed.at_home c d).marked))
-    answered c d k m i (Asks s sends) u =
-        λ n. rw append-nil (pairs_asks P w d s sends
+    answered c d k m i (Asks s sends) u = λ n. rw append-nil (pairs_asks P w d s sends
         (λ j. unacked-answered sh gs j d (pair w j d) (after_answer (pair w j d) s (sends (Core j))) u.served (omega arith)
-        (subst (λ q. q.dir.owed ≡ 0 → live Acks q.out ≡ 0) (asks-own w d s sends j) (no-acks j d n))
-        (h j d)) h)
+        (subst (λ q. q.dir.owed ≡ 0 → live Acks q.out ≡ 0) (asks-own w d s sends j) (no-acks j d n)) (h j d)) h)
     answered c d k m i (Takes s sends) u = λ n. rw append-nil (dir-unacked gs w c k h n i u)
 
 pub start-unacked : (sh : Shape) (entries : ℕ → Local) (ram : ℕ → ℕ) → KeptUnacked sh [] (start entries ram)

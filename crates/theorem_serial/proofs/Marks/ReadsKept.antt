@@ -22,43 +22,41 @@ unfolding holder
 has-holder t v e = rw e (omega arith)
 
 -- an invalidation carries the served TID
-served-inv : (sh : Shape) (w : World) (c e k l m u : ℕ) → KeptTold sh w → FromDir w e c k (Inv l m u) → u ≡ tid_at w e
+served-inv : {sh : Shape} (w : World) (c e k l m u : ℕ) → KeptTold sh w → FromDir w e c k (Inv l m u) → u ≡ tid_at w e
 unfolding pair passes
-served-inv sh w c e k l m u z i = elim (cases_eq u (tid_at w e)) [
+served-inv w c e k l m u z i = elim (cases_eq u (tid_at w e)) [
   | inl q ↦ q
   | inr n ↦ let b : num (not (u == tid_at w e)) ≡ 1 = grind nats in
       absurd (omega (
         arith,
         b,
         (z.owed.at_home c e).served,
-        live-some (InvsNot (tid_at w e)) (to_core w e c) k
-            (Inv l m u) i,
+        live-some (InvsNot (tid_at w e)) (to_core w e c) k (Inv l m u) i,
       ))
 ]
 
-inv-home : (sh : Shape) (w : World) (c e k l m u : ℕ) → KeptTold sh w → FromDir w e c k (Inv l m u) → home sh l ≡ e
+inv-home : {sh : Shape} {w : World} (c e k : ℕ) {l m u : ℕ} → KeptTold sh w → FromDir w e c k (Inv l m u) → home sh l ≡ e
 unfolding passes
-inv-home sh w c e k l m u z i = let a = passed-away c e k z i in grind nats
+inv-home c e k z i = let a = passed-away c e k z i in grind nats
 
 -- and this isn't the TID of the core that it goes to
 not-own : {sh : Shape} {gs : List Grant} (w : World) {cs : List Noted} (c e k l m u : ℕ) → e < sh.dirs → KeptOwners sh gs w cs
     → SparesCommitter sh gs w → FromDir w e c k (Inv l m u) → has_tid (w.cores c).phase (tid_at w e) ≡ true → ⊥
 unfolding pair passes
 not-own {gs} w c e k l m u b y s i h =
-    let g : Contains gs (grant_to (tid_at w e) c) =
-    y.held c e (tid_at w e) (has-holder (tid_at w e) (pair w c e) h) in
+    let g : Contains gs (grant_to (tid_at w e) c) = y.held c e (tid_at w e) (has-holder (tid_at w e) (pair w c e) h) in
     omega (arith, (s c e).own b g, live-some Invs (to_core w e c) k (Inv l m u) i)
 
 -- so the directory has passed the TID of a core that is ahead of it
-inv-passes : (sh : Shape) (gs : List Grant) (w : World) (cs : List Noted) (c e k l m u d : ℕ) → d < sh.dirs → KeptTold sh w
+inv-passes : {sh : Shape} {gs : List Grant} (w : World) {cs : List Noted} (c e k l m u d : ℕ) → d < sh.dirs → KeptTold sh w
     → KeptOwners sh gs w cs → SparesCommitter sh gs w → FromDir w e c k (Inv l m u) → PassesTid sh (w.cores c) d (tid_at w d) l u
-inv-passes sh gs w cs c e k l m u d b z y s i a t h n = rw q (go (cases_eq t u))
+inv-passes w c e k l m u d b z y s i a t h n = rw q (go (cases_eq t u))
   where
     q : d ≡ e
-    q = let x = inv-home sh w c e k l m u z i in cc
+    q = let x = inv-home c e k z i in cc
 
     x : u ≡ (tid_at w e)
-    x = served-inv sh w c e k l m u z i
+    x = served-inv w c e k l m u z i
 
     go : (t ≡ u) ⊎ (t ≢ u) → t < (tid_at w e)
     go (inl r) = absurd (not-own w c e k l m u (rw (sym q) b) y s i (rw (r ∙ x) at h))
@@ -66,7 +64,7 @@ inv-passes sh gs w cs c e k l m u d b z y s i a t h n = rw q (go (cases_eq t u))
 
 admitted : {sh : Shape} {gs : List Grant} {w : World} {cs : List Noted} (c e k : ℕ) (m : Msg) (d : ℕ) → d < sh.dirs → KeptTold sh w
     → KeptOwners sh gs w cs → SparesCommitter sh gs w → FromDir w e c k m → Admits sh (w.cores c) d (tid_at w d) m
-admitted {sh} {gs} {w} {cs} c e k (Inv l m u) d b z y s i = inv-passes sh gs w cs c e k l m u d b z y s i
+admitted {w} c e k (Inv l m u) d b z y s i = inv-passes w c e k l m u d b z y s i
 admitted c e k _ d b z y s i = tt
 
 -- what a directory serves only rises
@@ -76,15 +74,12 @@ read-rises sh d a b s l h x e y = elim (h x e y) [ inl z ↦ inl z | inr z ↦ i
 pub step-reads : {sh : Shape} (p : Program) {gs : List Grant} {w : World} {cs : List Noted} (e : Event) → Kept sh w → KeptOwners sh gs w cs
     → KeptCores sh w → SparesCommitter sh gs w → KeptReads sh w → IfSome (step sh p w e) (λ o. KeptReads sh o.world)
 unfolding pair
-step-reads {sh} p {gs} {w} {cs} e z y ks s h = step_cases sh p w e (λ g o. KeptReads sh o.world)
+step-reads {sh} p {w} e z y ks s h = step_cases sh p w e (λ g o. KeptReads sh o.world)
     (λ c l. moved c (core_exec sh p c (w.cores c)) (reading-exec sh p c (w.cores c)))
     (λ c a b l. moved c (core_evict sh a b (w.cores c)) (reading-evict sh a b (w.cores c)))
-    (λ c k u i. pairs_grant P w c k (grant sh u (w.cores c))
-    (λ d b. read-kept sh d _ (reading-grant sh u (w.cores c)) (h c d b)) h)
-    (λ c d k m i. taken c d k (from_dir sh d (w.cores c) m)
-    (λ a b. reads-back d a (tid_at w a) m (ks c) (admitted c d k m a b z.told y s i)
-    (h c a b)))
-    (λ c d k m i. answered c d k (dir_deliver sh (w.dirs d) c m) (dir-rises sh (w.dirs d) c m))
+    (λ c k u i. pairs_grant P w c k (grant sh u (w.cores c)) (λ d b. read-kept sh d _ (reading-grant sh u (w.cores c)) (h c d b)) h)
+    (λ c d k m i. taken c d k (from_dir sh d (w.cores c) m) (λ a b. reads-back d a (tid_at w a) m (ks c) (admitted c d k m a b z.told y s i)
+    (h c a b))) (λ c d k m i. answered c d k (dir_deliver sh (w.dirs d) c m) (dir-rises sh (w.dirs d) c m))
     (λ c k i. pairs_vendor P w c k (λ d. h c d) (λ j d n. h j d))
   where
     P : ℕ → ℕ → Pair → Type 0

@@ -15,7 +15,7 @@ use proofs.Counts.Links.{live-sends, live-takes}
 use proofs.Counts.StepCases.{dir-own, dir-other, asks-own, pairs_move, pairs_grant, pairs_back, pairs_dir, pairs_asks, pairs_vendor}
 use proofs.Counts.StepCases.{OfAnswer, step_cases}
 use proofs.Marks.CommitMasks.{Storing, StoresAll, storing-exec, storing-evict, storing-back, few-masked, passes-masked}
-use proofs.Serving.CoreCommits.{granted-free, few-of}
+use proofs.Serving.CoreDue.{granted-free, few-of}
 use proofs.Marks.CoreMarking.{Marking, marking-exec, marking-evict}
 use proofs.Marks.CoreMarkingTakes.{marking-back, granting}
 use proofs.Marks.CountsKept.{none-sent, marks-stay, told-ahead, is-commit, none-away}
@@ -130,8 +130,7 @@ stored-moved {sh} gs {cs} {c} {d} {t} {v} {o} cl y s m q free h =
       tid = k.tid;
       core = k.core;
       stored = k.stored;
-      marks = λ l. with-none t l d v o
-          (told l dl (omega (arith, z)) (cases_lt 0 (among (MarkOf t l) (o.sends (Dir d))))) (k.marks l);
+      marks = λ l. with-none t l d v o (told l dl (omega (arith, z)) (cases_lt 0 (among (MarkOf t l) (o.sends (Dir d))))) (k.marks l);
     }
 
 -- a core takes a grant: it sends neither Marks nor Commits
@@ -194,7 +193,7 @@ stored-answered {sh} {gs} {cs} {j} {d} {t} {v} m s ms k y less ones wrongs skip 
         stays : (l q : ℕ) → 1 ≤ live (Resolves t) k → Contains gs (grant_to t j) → j < sh.cores → d < sh.dirs
             → MarkedWith t l q v → MarkedWith t l q (after_answer (record v { out = k }) s ms)
         stays l q a b jl dl w = record {
-          one = marks-stay sh d t l v m s ms k y (ones l b) (skip l) nonempty (ahead jl dl a) (omega (arith, w.one, num-most (nat_lt 0 q)))
+          one = marks-stay sh d t l v ms k y (ones l b) (skip l) nonempty (ahead jl dl a) (omega (arith, w.one, num-most (nat_lt 0 q)))
               ∙ w.one;
           right = wrong-falls t l q (live (MarkMask t l q) k) y (wrongs l q b) (skip l) w.right;
         }
@@ -249,19 +248,16 @@ dir-stored : {sh : Shape} {gs : List Grant} {w : World} {cs : List Noted} (c : �
     → Marked (w.dirs d) m s → Due sh d (w.dirs d) ack s sends → (s.owed ≤ (w.dirs d).owed) ⊎ CountsMarked sh (w.dirs d) m
     → KeptStored sh cs (dir_takes w c d k s sends)
 unfolding pair
-dir-stored {sh} {gs} {w} {cs} c {d} k {m} {s} {sends} b y a g h z cl i u p o = pairs_dir
-    (λ j e v. (t : ℕ) → StoredOf sh cs j e t v) w c d k s sends
-    (λ t. stored-answered m s (sends (Core c)) (set (to_dir w c d) k None) u
+dir-stored {sh} {w} {cs} c {d} k {m} {s} {sends} b y a g h z cl i u p o = pairs_dir
+    (λ j e v. (t : ℕ) → StoredOf sh cs j e t v) w c d k s sends (λ t. stored-answered m s (sends (Core c)) (set (to_dir w c d) k None) u
     (λ x. taken-less k x (to_dir w c d) i) (λ l x. live-takes (MarkOf t l) (to_dir w c d) k m i)
     (λ l q x. live-takes (MarkMask t l q) (to_dir w c d) k m i) skip nonempty
     (λ jl dl. subst (λ v. 1 ≤ live (Resolves t) v.out → v.dir.serving.serving ≤ t) (dir-own w c d k s sends)
     (told-ahead c d t z.tids jl dl)) settles (a c d t 0) (h c d t))
     (λ j n t. stored-answered m s (sends (Core j)) (to_dir w j d) u (λ x. omega arith)
-    (λ l x. only-there c j d k t l y a i n (inl x)) (λ l q x. masked-there c j d k t l q y a i n x) skip
-    nonempty
+    (λ l x. only-there c j d k t l y a i n (inl x)) (λ l q x. masked-there c j d k t l q y a i n x) skip nonempty
     (λ jl dl. subst (λ v. 1 ≤ live (Resolves t) v.out → v.dir.serving.serving ≤ t) (dir-other w c d k s sends j n)
-    (told-ahead j d t z.tids jl dl)) settles (a j d t 0) (h j d t))
-    h
+    (told-ahead j d t z.tids jl dl)) settles (a j d t 0) (h j d t)) h
   where
     new : World
     new = dir_takes w c d k s sends
@@ -270,7 +266,7 @@ dir-stored {sh} {gs} {w} {cs} c {d} k {m} {s} {sends} b y a g h z cl i u p o = p
     skip l = skip-unmarked c d k l b a i
 
     nonempty : passes EmptyMarks m ≡ false
-    nonempty = empty-one (to_dir w c d) k m i (a c d 0 0).words
+    nonempty = empty-one (to_dir w c d) k i (a c d 0 0).words
 
     -- what the directory serves is settled already, or by this message
     before : d < sh.dirs → 1 ≤ s.owed → (s.owed ≤ (w.dirs d).owed) ⊎ CountsMarked sh (w.dirs d) m → SettledCommit sh cs d (w.dirs d)
@@ -289,17 +285,17 @@ dir-stored {sh} {gs} {w} {cs} c {d} k {m} {s} {sends} b y a g h z cl i u p o = p
       marks = λ l. marks-same w c d k g cl dl i x e o u l ∙ n.marks l;
     }
 
-asks-stored : (sh : Shape) (gs : List Grant) (w : World) (cs : List Noted) (d : ℕ) (s : DirState) (sends : Sends) → KeptMarks sh gs w
-    → KeptStored sh cs w → KeptTold sh (dir_asks w d s sends) → (s.serving.serving ≡ tid_at w d)
-    × ((l : ℕ) → s.lines.mark l ≡ (w.dirs d).lines.mark l) → s.owed ≤ (w.dirs d).owed → KeptStored sh cs (dir_asks w d s sends)
+asks-stored : {sh : Shape} {gs : List Grant} (w : World) {cs : List Noted} (d : ℕ) (s : DirState) (sends : Sends) → KeptMarks sh gs w
+    → KeptStored sh cs w → KeptTold sh (dir_asks w d s sends)
+    → (s.serving.serving ≡ tid_at w d) × ((l : ℕ) → s.lines.mark l ≡ (w.dirs d).lines.mark l) → s.owed ≤ (w.dirs d).owed
+    → KeptStored sh cs (dir_asks w d s sends)
 unfolding pair
-asks-stored sh gs w cs d s sends a h z u o = pairs_asks (λ j e v. (t : ℕ) → StoredOf sh cs j e t v) w d s sends
+asks-stored {sh} w {cs} d s sends a h z u o = pairs_asks (λ j e v. (t : ℕ) → StoredOf sh cs j e t v) w d s sends
     (λ j t. stored-answered TidReq s (sends (Core j)) (to_dir w j d)
     (Stays u.0 u.1 (λ b e q. let f = no-request b e in absurd (cc))) (λ q. omega arith) (λ l x. none t l)
     (λ l q x. omega (arith, passes-masked t l q TidReq (ap num (no-request t l)))) (λ l e. absurd (cc)) no-empty
     (λ jl dl. subst (λ v. 1 ≤ live (Resolves t) v.out → v.dir.serving.serving ≤ t) (asks-own w d s sends j)
-    (told-ahead j d t z.tids jl dl)) settles (a j d t 0) (h j d t))
-    h
+    (told-ahead j d t z.tids jl dl)) settles (a j d t 0) (h j d t)) h
   where
     none : {x : ℕ} (t l : ℕ) → x + num (passes (MarkOf t l) TidReq) ≡ x
     none t l = rw (no-request t l) (omega arith)
@@ -335,8 +331,7 @@ pub step-stored : {sh : Shape} (p : Program) {gs : List Grant} {w : World} {cs :
 unfolding pair
 step-stored {sh} p {gs} {w} {cs} e z y x a g q h = step_cases sh p w e
     (λ r o. KeptTold sh o.world → KeptStored sh (and_noted o.noted cs) o.world)
-    (λ c l. moved c l (core_exec sh p c (w.cores c)) (λ d t l. marking-exec sh p c d t l (w.cores c))
-    (λ d t. storing-exec p c d t (x c)))
+    (λ c l. moved c l (core_exec sh p c (w.cores c)) (λ d t l. marking-exec sh p c d t l (w.cores c)) (λ d t. storing-exec p c d t (x c)))
     (λ c r b l. moved c l (core_evict sh r b (w.cores c)) (λ d t l. marking-evict sh r b d t l (w.cores c))
     (λ d t. storing-evict sh r b c d t (w.cores c)))
     (λ c k u i n. pairs_grant (P (grant sh u (w.cores c)).commit) w c k (grant sh u (w.cores c))
@@ -371,11 +366,9 @@ step-stored {sh} p {gs} {w} {cs} e z y x a g q h = step_cases sh p w e
 
     back : (c d k t : ℕ) (o : Out) → c < sh.cores → ((d t l : ℕ) → Marking sh d t l (w.cores c) o) → StoresAll sh c d t (w.cores c) o
         → StoredOf sh (and_noted o.commit cs) c d t (after_move (back_taken (pair w c d) k) o d)
-    back c d k t o cl u r = stored-moved gs cl (λ l. u d t l) r
-        (λ l. back-marks w k (a c d t l))
+    back c d k t o cl u r = stored-moved gs cl (λ l. u d t l) r (λ l. back-marks w k (a c d t l))
         (λ dl l. same-masked t l (pair w c d) (back_taken (pair w c d) k) refl refl refl (q c d t l cl dl))
-        (λ dl r. open-untold c d t z.told.tids cl dl r)
-        (same-stored (back_taken (pair w c d) k) refl refl (h c d t))
+        (λ dl r. open-untold c d t z.told.tids cl dl r) (same-stored (back_taken (pair w c d) k) refl refl (h c d t))
 
     taken : (c d k : ℕ) → c < sh.cores → (r : Option Out) → ((b t l : ℕ) → IfSome r (λ o. Marking sh b t l (w.cores c) o))
         → ((b t : ℕ) → IfSome r (λ o. StoresAll sh c b t (w.cores c) o))
@@ -389,9 +382,8 @@ step-stored {sh} p {gs} {w} {cs} e z y x a g q h = step_cases sh p w e
     answered c d k m i cl Waits u o p = tt
     answered c d k m i cl Drops u o p = λ n. dir-stored c k z.told y a g h n cl i
         (Stays refl (λ l. refl) u) (still-due sh d (w.dirs d) (z.told.owed.at_home c d).marked) (inl (omega arith))
-    answered c d k m i cl (Asks s sends) u o p = λ n. asks-stored sh gs w cs d s sends a h n u o
-    answered c d k m i cl (Takes s sends) u o p =
-        λ n. dir-stored c k z.told y a g h n cl i u p o
+    answered c d k m i cl (Asks s sends) u o p = λ n. asks-stored w d s sends a h n u o
+    answered c d k m i cl (Takes s sends) u o p = λ n. dir-stored c k z.told y a g h n cl i u p o
 
 pub start-stored : (sh : Shape) (entries : ℕ → Local) (ram : ℕ → ℕ) → KeptStored sh [] (start entries ram)
 unfolding start dir_start pair live

@@ -136,15 +136,12 @@ homely-solo sh c sp u d =
         ++ Commit u (count_below (λ k. d == home sh k && is_written c sp k) (lines sh)) ∷ [] else Skip u ∷ [])
         ++ solo_write_backs sh sp u d else [])
     go false w = homely-none sh d
-    go true true =
-        homely-append
-        (homely-append marks last) backs
+    go true true = homely-append (homely-append marks last) backs
     go true false = homely-append skip backs
 
 homely-marks : (sh : Shape) (c : Cache) (u e : ℕ) → HomelyOut sh (to (Dir e) (marks_for sh c u e))
 unfolding marks_for written_lines
-homely-marks sh c u e d =
-    homely-to sh e d (marks_for sh c u e)
+homely-marks sh c u e d = homely-to sh e d (marks_for sh c u e)
     (λ q. homely-those sh d (λ k. Mark k (modified_mask c k) u ∷ []) (λ k. e == home sh k && is_modified c k) (lines sh)
     (λ l x. let y = and-both (e == home sh l) (is_modified c l) x in
     one-mark sh d l (modified_mask c l) u (rw q (eq-from e (home sh l) y.0)) (modified-full c l y.1)))

@@ -79,9 +79,9 @@ placed-frames sh l c m h k e = go (free_way sh c (set_of sh l)) e
     go a e = grind nats
 
 -- where the program accesses memory alone, so does the instruction at hand
-in-memory : (sh : Shape) (p : Program) (s : CoreState) (need : Need) (a : ℕ) → StaysInMemory sh p → Acting p s need → AccessAt a need
+in-memory : (sh : Shape) {p : Program} (s : CoreState) {need : Need} (a : ℕ) → StaysInMemory sh p → Acting p s need → AccessAt a need
     → WordInMemory sh (word_of sh.base a)
-in-memory sh p s need a i g at = go need at (rw g.need at (i s.local))
+in-memory sh s {need} a i g at = go need at (rw g.need at (i s.local))
   where
     go : (need : Need) → AccessAt a need → NeedInMemory sh need → WordInMemory sh (word_of sh.base a)
     go (Loads b z) e n = rw e at n
@@ -92,8 +92,7 @@ in-memory sh p s need a i g at = go need at (rw g.need at (i s.local))
 -- one more load, one more store
 stored-memory : {sh : Shape} {s : CoreState} {a : ℕ} (k : Storing s a) → WordInMemory sh (word_of sh.base a) → CoreInMemory sh s
     → AccessesInMemory sh k.loads (s.stores ++ k.store ∷ [])
-stored-memory {sh} {s} k w h =
-    elim k.loaded [ inl e ↦ rw e more | inr z ↦ rw z.2 (one-load z.0 (rw z.1 w) more) ]
+stored-memory {sh} {s} k w h = elim k.loaded [ inl e ↦ rw e more | inr z ↦ rw z.2 (one-load z.0 (rw z.1 w) more) ]
   where
     more : AccessesInMemory sh s.loads (s.stores ++ k.store ∷ [])
     more = one-store k.store (rw k.addr w) h.accesses
@@ -104,29 +103,25 @@ unfolding commit solo_commit committed_core committed words_dropped noted stored
 exec-memory sh p id s i k = each-exec sh p id s (OutInMemory sh) go
   where
     w : (a : ℕ) (need : Need) → Acting p s need → AccessAt a need → WordInMemory sh (word_of sh.base a)
-    w a need g at = in-memory sh p s need a i g at
+    w a need g at = in-memory sh s a i g at
 
     go : (x : Did sh p id s) → OutInMemory sh (out x)
     go (Finds a x z l g f) = (
       record {
         frames = k.frames;
-        accesses = one-load (load_of a z (part x a z)) (w a (Loads a z) g refl)
-            k.accesses;
+        accesses = one-load (load_of a z (part x a z)) (w a (Loads a z) g refl) k.accesses;
       },
       tt,
     )
     go (Reads a x z l g r f) = (
       record {
         frames = k.frames;
-        accesses = one-load (load_of a z (part x a z)) (w a (Loads a z) g refl)
-            k.accesses;
+        accesses = one-load (load_of a z (part x a z)) (w a (Loads a z) g refl) k.accesses;
       },
       tt,
     )
-    go (Buffers a y v n q g at e f) =
-        (record { frames = k.frames; accesses = stored-memory q (w a n g (stores-access n a at)) k }, tt)
-    go (Frames a y also n q g at f) =
-        (record { frames = k.frames; accesses = stored-memory q (w a n g (stores-access n a at)) k }, tt)
+    go (Buffers a y v n q g at e f) = (record { frames = k.frames; accesses = stored-memory q (w a n g (stores-access n a at)) k }, tt)
+    go (Frames a y also n q g at f) = (record { frames = k.frames; accesses = stored-memory q (w a n g (stores-access n a at)) k }, tt)
     go (Frames_anew a y n q g at e f h) = (
       record {
         frames = placed-frames sh (line_of (word_of sh.base a)) s.cache (w a n g (stores-access n a at)) k.frames;
@@ -303,12 +298,12 @@ solo-memory sh c sp u d = go (nat_lt d sh.dirs) (solo_writes_at sh c sp d)
     go true false = both-outside sh (Skip u ∷ []) (solo_write_backs sh sp u d) (λ l t o. refl) backs
 
 -- what a core sends has words of lines in memory alone
-said-memory : (sh : Shape) (s : CoreState) (q : Said) → IsCache sh s.cache → FramesInMemory sh s.cache → SendsInMemory sh (say sh s q)
+said-memory : {sh : Shape} (s : CoreState) (q : Said) → IsCache sh s.cache → FramesInMemory sh s.cache → SendsInMemory sh (say sh s q)
 unfolding passes
-said-memory sh s (Flushes k) i f = flushed-memory k i f
-said-memory sh s (Empties k) i f = written-memory k i f
-said-memory sh s (Tells_alone t) i f = solo-memory sh s.cache s.spilled t
-said-memory sh s q i f = λ d l t o. quiet sh s (CopyOf l t) q (λ x. refl) d
+said-memory s (Flushes k) i f = flushed-memory k i f
+said-memory s (Empties k) i f = written-memory k i f
+said-memory {sh} s (Tells_alone t) i f = solo-memory sh s.cache s.spilled t
+said-memory {sh} s q i f = λ d l t o. quiet sh s (CopyOf l t) q (λ x. refl) d
 
 pub exec-sends : (sh : Shape) (p : Program) (c : ℕ) (s : CoreState) → IsCache sh s.cache → FramesInMemory sh s.cache
     → IfSome (core_exec sh p c s) (λ o. SendsInMemory sh o.sends)
@@ -316,8 +311,8 @@ unfolding commit solo_commit
 exec-sends sh p c s i f = each-exec sh p c s (λ o. SendsInMemory sh o.sends) go
   where
     go : (x : Did sh p c s) → SendsInMemory sh (out x).sends
-    go (Room_wanted r n) = said-memory sh s Wants i f
-    go x = said-memory sh s (said x) i f
+    go (Room_wanted r n) = said-memory s Wants i f
+    go x = said-memory s (said x) i f
 
 pub evict-sends : (sh : Shape) (x y : ℕ) (s : CoreState) → IsCache sh s.cache → FramesInMemory sh s.cache
     → IfSome (core_evict sh x y s) (λ o. SendsInMemory sh o.sends)

@@ -67,8 +67,8 @@ one-inv sh d l m u e s = record {
 unmarked-away : {sh : Shape} {d : ℕ} (l : ℕ) {ls : Lines} → LinesHome sh d ls → home sh l ≢ d → nat_lt 0 (ls.mark l) ≡ false
 unmarked-away l h n = let u = (h.known l n).mark in rw u refl
 
-marked-here : (sh : Shape) (d l : ℕ) (ls : Lines) → LinesHome sh d ls → nat_lt 0 (ls.mark l) ≡ true → home sh l ≡ d
-marked-here sh d l ls h m = elim (cases_eq (home sh l) d) [ inl e ↦ e | inr n ↦ absurd (let z = unmarked-away l h n in cc) ]
+marked-here : {sh : Shape} (d l : ℕ) {ls : Lines} → LinesHome sh d ls → nat_lt 0 (ls.mark l) ≡ true → home sh l ≡ d
+marked-here {sh} d l h m = elim (cases_eq (home sh l) d) [ inl e ↦ e | inr n ↦ absurd (let z = unmarked-away l h n in cc) ]
 
 dir-homes : (sh : Shape) (d : ℕ) (s : DirState) (c : ℕ) (m : Msg) → c < sh.cores → passes (LinesAway sh.dirs d) m ≡ false
     → LinesHome sh d s.lines → HomesBy sh d (dir_deliver sh s c m)
@@ -85,7 +85,7 @@ dir-homes sh d s c m cl aw h = go (outcome sh s c m) aw
     inv : (j l : ℕ) → (nat_lt j sh.cores && nat_lt 0 (s.lines.mark l) && s.lines.sharers l j && not (j == c)) ≡ true
         → Homely sh d (Inv l (s.lines.mark l) s.serving.serving ∷ [])
     inv j l q = let m = marked (nat_lt j sh.cores) (nat_lt 0 (s.lines.mark l)) (s.lines.sharers l j) (not (j == c)) q in
-        one-inv sh d l (s.lines.mark l) s.serving.serving (marked-here sh d l s.lines h m) m
+        one-inv sh d l (s.lines.mark l) s.serving.serving (marked-here d l h m) m
 
     go : {m : Msg} {a : Answer} → Outcome sh s c m a → passes (LinesAway sh.dirs d) m ≡ false → HomesBy sh d a
     go (AsksOwner m l o w e) a = let p = wants w a in record {
@@ -190,10 +190,10 @@ home-of v h a b e f l = record {
   some_back = f;
 }
 
-pub step-homes : (sh : Shape) (p : Program) (w : World) (e : Event) → Kept sh w → KeptHomes sh w
+pub step-homes : {sh : Shape} (p : Program) {w : World} (e : Event) → Kept sh w → KeptHomes sh w
     → IfSome (step sh p w e) (λ o. KeptHomes sh o.world)
 unfolding pair
-step-homes sh p w e z h = step_cases sh p w e (λ g o. KeptHomes sh o.world)
+step-homes {sh} p {w} e z h = step_cases sh p w e (λ g o. KeptHomes sh o.world)
     (λ c l. moved c (core_exec sh p c (w.cores c)) (homes-exec sh p c (w.cores c)))
     (λ c a b l. moved c (core_evict sh a b (w.cores c)) (homes-evict sh a b (w.cores c)))
     (λ c k u i. pairs_grant P w c k (grant sh u (w.cores c))
@@ -244,17 +244,13 @@ step-homes sh p w e z h = step_cases sh p w e (λ g o. KeptHomes sh o.world)
 
     sent : (c d : ℕ) (o : Out) → HomelyOut sh o.sends → (l : ℕ)
         → HomeOf sh d l (record (pair w c d) { core = o.core; out = to_dir w c d ++ sent_all (o.sends (Dir d)) })
-    sent c d o a l = home-of (record (pair w c d) { core = o.core; out = to_dir w c d ++ sent_all (o.sends (Dir d)) })
-        (home-lines c d)
-        (omega (arith, (h c d l).out, (a d).away, live-sends (LinesAway sh.dirs d) (to_dir w c d) (o.sends (Dir d))))
-        (h c d l).back
-        (omega (arith, (h c d l).some_out, (a d).words, live-sends NoWord (to_dir w c d) (o.sends (Dir d))))
-        (h c d l).some_back l
+    sent c d o a l = home-of (record (pair w c d) { core = o.core; out = to_dir w c d ++ sent_all (o.sends (Dir d)) }) (home-lines c d)
+        (omega (arith, (h c d l).out, (a d).away, live-sends (LinesAway sh.dirs d) (to_dir w c d) (o.sends (Dir d)))) (h c d l).back
+        (omega (arith, (h c d l).some_out, (a d).words, live-sends NoWord (to_dir w c d) (o.sends (Dir d)))) (h c d l).some_back l
 
     moved : (c : ℕ) (x : Option Out) → IfSome x (λ o. HomelyOut sh o.sends) → IfSome x (λ o. KeptHomes sh (core_moves w c o))
     moved c None a = tt
-    moved c (Some o) a =
-        pairs_move P w c o (λ d l. let q = sent c d o a l in
+    moved c (Some o) a = pairs_move P w c o (λ d l. let q = sent c d o a l in
         record {
           known = q.known;
           sharers = q.sharers;
@@ -268,8 +264,7 @@ step-homes sh p w e z h = step_cases sh p w e (λ g o. KeptHomes sh o.world)
     taken : (c d k : ℕ) (m : Msg) → FromDir w d c k m → (x : Option Out) → IfSome x (λ o. HomelyOut sh o.sends)
         → IfSome x (λ o. KeptHomes sh (core_takes w (Dir d) c k o))
     taken c d k m i None a = tt
-    taken c d k m i (Some o) a = pairs_back P w d c k o
-        (λ l. let q = sent c d o a l in
+    taken c d k m i (Some o) a = pairs_back P w d c k o (λ l. let q = sent c d o a l in
         record {
           known = q.known;
           sharers = q.sharers;
@@ -299,8 +294,7 @@ step-homes sh p w e z h = step_cases sh p w e (λ g o. KeptHomes sh o.world)
 
     keep : (c d k : ℕ) (m : Msg) (s : DirState) (sends : Sends) → FromCore w c d k m → Answers sh d s sends
         → KeptHomes sh (dir_takes w c d k s sends)
-    keep c d k m s sends i u = pairs_dir P w c d k s sends
-        (replies c d (out_taken (pair w c d) k) s (sends (Core c))
+    keep c d k m s sends i u = pairs_dir P w c d k s sends (replies c d (out_taken (pair w c d) k) s (sends (Core c))
         (λ l. home-of (out_taken (pair w c d) k) (home-lines c d) (less l) (h c d l).back (fewer l) (h c d l).some_back l)
         (less 0) (fewer 0) u.lines (u.homely c))
         (λ j n. replies j d (pair w j d) s (sends (Core j)) (h j d) (h j d 0).out (h j d 0).some_out u.lines (u.homely j)) h
@@ -314,14 +308,13 @@ step-homes sh p w e z h = step_cases sh p w e (λ g o. KeptHomes sh o.world)
     answered : (c d k : ℕ) (m : Msg) → FromCore w c d k m → (a : Answer) → HomesBy sh d a → OfAnswer w c d k (λ v. KeptHomes sh v) a
     answered c d k m i Waits u = tt
     answered c d k m i Drops u = keep c d k m (w.dirs d) (λ dst. []) i (record { lines = home-lines c d; homely = λ j. homely-none sh d })
-    answered c d k m i (Asks s sends) u =
-        pairs_asks P w d s sends
+    answered c d k m i (Asks s sends) u = pairs_asks P w d s sends
         (λ j. replies j d (pair w j d) s (sends (Core j)) (h j d) (h j d 0).out (h j d 0).some_out u.lines (u.homely j)) h
     answered c d k m i (Takes s sends) u = keep c d k m s sends i u
 
-pub start-homes : (sh : Shape) (entries : ℕ → Local) (ram : ℕ → ℕ) → KeptHomes sh (start entries ram)
+pub start-homes : {sh : Shape} (entries : ℕ → Local) (ram : ℕ → ℕ) → KeptHomes sh (start entries ram)
 unfolding start dir_start no_lines pair live
-start-homes sh entries ram c d l = record {
+start-homes entries ram c d l = record {
   known = λ a. record { sharers = λ j. refl; owner = refl; tag = refl; asked = refl; mark = refl };
   sharers = λ j e. absurd (cc);
   owners = λ j e. absurd (cc);

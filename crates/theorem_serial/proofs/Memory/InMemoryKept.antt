@@ -28,8 +28,7 @@ unfolding core_evict
 evict-memory sh x y s k = go (s.cache.at x y)
   where
     one : (l : ℕ) (b : Bool)
-        → IfSome (if b then None
-        else Some (moves (record s { cache = evicted x y s.cache; spilled = spill_line l s.cache s.spilled })
+        → IfSome (if b then None else Some (moves (record s { cache = evicted x y s.cache; spilled = spill_line l s.cache s.spilled })
         (write_back_line sh s.cache l))) (OutInMemory sh)
     one l true = tt
     one l false = (record { frames = λ m e. k.frames m (evicted-frames x y s.cache m e); accesses = k.accesses }, tt)
@@ -89,9 +88,9 @@ fill-memory sh l ws s k = elim s.awaited as (λ a. OutInMemory sh (fill_awaited 
     one a true = (words a.stale, tt)
     one a false = (k, tt)
 
-data-memory : (sh : Shape) (l : ℕ) (s : CoreState) → CoreInMemory sh s → OutInMemory sh (data_request sh l s)
+data-memory : {sh : Shape} (l : ℕ) {s : CoreState} → CoreInMemory sh s → OutInMemory sh (data_request sh l s)
 unfolding data_request cleaned
-data-memory sh l s k = (same-memory _ refl refl refl k, tt)
+data-memory l k = (same-memory _ refl refl refl k, tt)
 
 -- a core that rolls back keeps its frames, and its attempt is empty
 invalidate-memory : (sh : Shape) (l m u : ℕ) (s : CoreState) → CoreInMemory sh s → OutInMemory sh (invalidate sh l m u s)
@@ -122,7 +121,7 @@ invalidate-memory sh l m u s k = go (is_violated l m u s) s.phase
 pub back-memory : (sh : Shape) (d : ℕ) (s : CoreState) (m : Msg) → CoreInMemory sh s → IfSome (from_dir sh d s m) (OutInMemory sh)
 back-memory sh d s (ProbeReply u v) k = reply-memory sh d u s k
 back-memory sh d s (Fill l ws) k = fill-memory sh l ws s k
-back-memory sh d s (DataReq l) k = data-memory sh l s k
+back-memory sh d s (DataReq l) k = data-memory l k
 back-memory sh d s (Inv l m u) k = invalidate-memory sh l m u s k
 back-memory sh d s _ k = tt
 
@@ -140,8 +139,7 @@ step-copies sh p w e a k h = step_cases sh p w e (λ g o. NoCopiesOutside sh o.w
     (λ c x y l. moved c (core_evict sh x y (w.cores c)) (evict-sends sh x y (w.cores c) (a c).words.cache (k c).frames))
     (λ c n t q. pairs_grant P w c n (grant sh t (w.cores c)) (sent c (grant sh t (w.cores c)) (grant-sent sh t (w.cores c))) h)
     (λ c d n m q. taken c d n (from_dir sh d (w.cores c) m) (back-sends sh d (w.cores c) m (a c).words.cache (k c).frames))
-    (λ c d n m q. answered c d n m q (dir_deliver sh (w.dirs d) c m))
-    (λ c n q. pairs_vendor P w c n (λ d. h c d) (λ j d i. h j d))
+    (λ c d n m q. answered c d n m q (dir_deliver sh (w.dirs d) c m)) (λ c n q. pairs_vendor P w c n (λ d. h c d) (λ j d i. h j d))
   where
     P : ℕ → ℕ → Pair → Type 0
     P c d v = (l t : ℕ) → lines sh ≤ l → live (CopyOf l t) v.out ≡ 0
@@ -161,8 +159,7 @@ step-copies sh p w e a k h = step_cases sh p w e (λ g o. NoCopiesOutside sh o.w
 
     consumed : (c d n : ℕ) (m : Msg) (s : DirState) (sends : Sends) → FromCore w c d n m → NoCopiesOutside sh (dir_takes w c d n s sends)
     consumed c d n m s sends q =
-        pairs_dir P w c d n s sends (λ l t i. omega (arith, h c d l t i, live-takes (CopyOf l t) (to_dir w c d) n m q))
-        (λ j i. h j d) h
+        pairs_dir P w c d n s sends (λ l t i. omega (arith, h c d l t i, live-takes (CopyOf l t) (to_dir w c d) n m q)) (λ j i. h j d) h
 
     answered : (c d n : ℕ) (m : Msg) → FromCore w c d n m → (x : Answer) → OfAnswer w c d n (λ v. NoCopiesOutside sh v) x
     answered c d n m q Waits = tt
@@ -192,8 +189,7 @@ step-memory sh p w e i k = step_cases sh p w e (λ g o. StepInMemory sh o)
     (λ c x y l. moved c (core_evict sh x y (w.cores c)) (evict-memory sh x y (w.cores c) (k c)))
     (λ c n t q. let z = grant-memory sh t (w.cores c) (k c) in (put c (grant sh t (w.cores c)).core z.0, z.1))
     (λ c d n m q. taken c d n (from_dir sh d (w.cores c) m) (back-memory sh d (w.cores c) m (k c)))
-    (λ c d n m q. answered c d n (dir_deliver sh (w.dirs d) c m))
-    (λ c n q. (k, tt))
+    (λ c d n m q. answered c d n (dir_deliver sh (w.dirs d) c m)) (λ c n q. (k, tt))
   where
     put : (c : ℕ) (s : CoreState) → CoreInMemory sh s → (j : ℕ) → CoreInMemory sh (if j == c then s else w.cores j)
     put c s h j = elim (j == c) as (λ b. CoreInMemory sh (if b then s else w.cores j)) [ true ↦ h | false ↦ k j ]
@@ -223,7 +219,7 @@ noted-memory sh (Some x) cs a k = λ n q. go n (inserted x n cs q)
 
 pub step-in-memory : (sh : Shape) (p : Program) (h : History) (e : Event) → StaysInMemory sh p → KeptInMemory sh h
     → IfSome (recorded h (step sh p h.world e)) (λ g. KeptInMemory sh g)
-step-in-memory sh p h e i k = go (step sh p h.world e) (step-cores sh p h.world e k.alone) (step-memory sh p h.world e i k.cores)
+step-in-memory sh p h e i k = go (step sh p h.world e) (step-cores p h.world e k.alone) (step-memory sh p h.world e i k.cores)
     (step-copies sh p h.world e k.alone k.cores k.copies)
   where
     go : (x : Option Stepped) → IfSome x (λ o. KeptCores sh o.world) → IfSome x (StepInMemory sh)

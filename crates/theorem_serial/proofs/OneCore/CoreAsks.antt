@@ -39,14 +39,14 @@ acts-asked : (q : Phase) (a b : Bool) → ((Acts q → ⊥) → a ≡ b) → ask
 acts-asked d a b h = grind nats
 
 asked-steady : {sh : Shape} {d x : ℕ} {s : CoreState} {o : Out} → Steady s o → Reached sh d x s → Reached sh d x o.core
-asked-steady {sh} {d} {x} {s} {o} y h = same-asked y.phase y.owing
+asked-steady {sh} {d} {s} {o} y h = same-asked y.phase y.owing
     (acts-asked s.phase _ _ (λ n. ap₂ (λ a b. a || b) (writes_at-same sh o.core.cache s.cache d (y.modified n))
     (reads_at-same sh o.core.cache s.cache d (y.read n)))) h
 
-asked-after : (sh : Shape) (d x : ℕ) (r : CoreState) (e : Outcome) → r.phase ≡ phase_after_commit e → Reached sh d x r
-asked-after sh d x r (HaltedWith k) q = none-asked Halted q (λ b. refl) refl
-asked-after sh d x r (TrappedWith k) q = none-asked Halted q (λ b. refl) refl
-asked-after sh d x r _ q = none-asked Running q (λ b. refl) refl
+asked-after : {sh : Shape} {d x : ℕ} {r : CoreState} (e : Outcome) → r.phase ≡ phase_after_commit e → Reached sh d x r
+asked-after (HaltedWith k) q = none-asked Halted q (λ b. refl) refl
+asked-after (TrappedWith k) q = none-asked Halted q (λ b. refl) refl
+asked-after _ q = none-asked Running q (λ b. refl) refl
 
 abbrev pub StaysReached : Shape → (dir serving : ℕ) → CoreState → Option Out → Type 0
 StaysReached sh d x s y = IfSome y (λ o. Reached sh d x o.core)
@@ -57,10 +57,10 @@ unfolding commit solo_commit committed_core
 asked-exec {sh} p c d {x} {s} h = each-exec sh p c s (λ o. Reached sh d x o.core) go
   where
     go : (y : Did sh p c s) → Reached sh d x (out y).core
-    go (Commits_now u e) = asked-after sh d x _ s.ended refl
+    go (Commits_now u e) = asked-after s.ended refl
     go (Room_wanted r i) = none-asked (Overflowing None) refl (λ b. refl) refl
     go (Ends_run l e f r i) = none-asked AwaitTid refl (λ b. refl) refl
-    go (Ends_alone u l e f r i) = asked-after sh d x _ e refl
+    go (Ends_alone u l e f r i) = asked-after e refl
     go y = asked-steady (did-steady y) h
 
 pub asked-evict : {sh : Shape} (x' y d : ℕ) {x : ℕ} {s : CoreState} → Reached sh d x s → StaysReached sh d x s (core_evict sh x' y s)
@@ -109,15 +109,14 @@ all-replied sh f d l q = none-below f sh.dirs d l (go (any_below f sh.dirs) refl
     go true e = let n : all_replied sh f ≡ false = rw e refl in absurd (cc)
 
 -- one more directory has replied, and its TID is u
-one_replied : (sh : Shape) (e d x u : ℕ) (s r : CoreState) (go wait : Phase) → (d ≡ e → u ≤ x)
-    → r.phase ≡ (if all_replied sh (put s.owing e false) then go else wait) → r.owing ≡ put s.owing e false
-    → tid_of go ≡ u → tid_of wait ≡ u → tid_of s.phase ≡ u → may_commit wait ≡ false
+one_replied : {sh : Shape} (e : ℕ) {d x : ℕ} (u : ℕ) {s r : CoreState} (go wait : Phase) → (d ≡ e → u ≤ x)
+    → r.phase ≡ (if all_replied sh (put s.owing e false) then go else wait) → r.owing ≡ put s.owing e false → tid_of go ≡ u
+    → tid_of wait ≡ u → tid_of s.phase ≡ u → may_commit wait ≡ false
     → (asks_dir go (writes_at sh r.cache d || reads_at sh r.cache d) ≡ true
     → asks_dir s.phase (writes_at sh s.cache d || reads_at sh s.cache d) ≡ true)
     → (asks_dir wait (writes_at sh r.cache d || reads_at sh r.cache d) ≡ true
-    → asks_dir s.phase (writes_at sh s.cache d || reads_at sh s.cache d) ≡ true)
-    → Reached sh d x s → Reached sh d x r
-one_replied sh e d x u s r go wait f ph ow tg tw ts mw ag aw h = elim (tested (all_replied sh (put s.owing e false))) [
+    → asks_dir s.phase (writes_at sh s.cache d || reads_at sh s.cache d) ≡ true) → Reached sh d x s → Reached sh d x r
+one_replied {sh} e {d} {x} u {s} {r} go wait f ph ow tg tw ts mw ag aw h = elim (tested (all_replied sh (put s.owing e false))) [
   | inl q ↦ let p : r.phase ≡ go = rw q at ph in
       record {
         reached = λ l k o. rw p (low go tg ag l (rw p at k) (rw ow at o));
@@ -136,20 +135,19 @@ one_replied sh e d x u s r go wait f ph ow tg tw ts mw ag aw h = elim (tested (a
         → asks_dir q (writes_at sh r.cache d || reads_at sh r.cache d) ≡ true → put s.owing e false d ≡ false → tid_of q ≤ x
     low q t a l k o = grind nats
 
-asked-replied : {sh : Shape} (e u d x : ℕ) (s : CoreState) {o : Out} → (d ≡ e → u ≤ x) → Replied sh e u s o → Reached sh d x s
+asked-replied : {sh : Shape} (e u : ℕ) {d x : ℕ} {s : CoreState} {o : Out} → (d ≡ e → u ≤ x) → Replied sh e u s o → Reached sh d x s
     → Reached sh d x o.core
-asked-replied e u d x s f (Ignored q n) h = rw q h
-asked-replied {sh} e u d x s {o} f (Probed g w ph ow ca se cm) h = one_replied sh e d x u s o.core (Ready u) (Probing u) f ph ow refl refl
+asked-replied e u f (Ignored q n) h = rw q h
+asked-replied e u f (Probed g w ph ow ca se cm) h = one_replied e u (Ready u) (Probing u) f ph ow refl refl
     (rw g refl) refl (λ k. rw g (rw ca at k)) (λ k. rw g (rw ca at k)) h
-asked-replied {sh} e u d x s {o} f (Left_alone g w ph ow mo se cm) h =
-    one_replied sh e d x u s o.core (Solo u) (Overflowing (Some u)) f ph ow refl refl (rw g refl) refl (λ k. rw g refl) (λ k. rw g refl) h
+asked-replied e u f (Left_alone g w ph ow mo se cm) h =
+    one_replied e u (Solo u) (Overflowing (Some u)) f ph ow refl refl (rw g refl) refl (λ k. rw g refl) (λ k. rw g refl) h
 
 asked-hurt : {sh : Shape} {l : ℕ} (d x : ℕ) (s : CoreState) {o : Out} → Invalidated sh l s o → Reached sh d x s → Reached sh d x o.core
 asked-hurt {sh} d x s {o} i h = go i.hurt
   where
     go : Hurt sh s o.core i.sends → Reached sh d x o.core
-    go (Unhurt ph ow mo re se) =
-        same-asked ph ow
+    go (Unhurt ph ow mo re se) = same-asked ph ow
         (acts-asked s.phase _ _ (λ n. ap₂ (λ a b. a || b) (writes_at-same sh o.core.cache s.cache d mo)
         (reads_at-same sh o.core.cache s.cache d re))) h
     go (Rolled ph ph' ow se) = none-asked Running ph' (λ b. refl) refl
@@ -158,16 +156,16 @@ asked-hurt {sh} d x s {o} i h = go i.hurt
     go (Gave_up u ph ph' ow se) = none-asked Running ph' (λ b. refl) refl
 
 -- x is what directory d serves; a reply of e is of a TID that e has reached
-pub asked-back : (sh : Shape) (e d x : ℕ) (s : CoreState) (m : Msg) → (d ≡ e → passes (RepliesAbove x) m ≡ false) → Reached sh d x s
+pub asked-back : {sh : Shape} (e : ℕ) {d x : ℕ} {s : CoreState} (m : Msg) → (d ≡ e → passes (RepliesAbove x) m ≡ false) → Reached sh d x s
     → StaysReached sh d x s (from_dir sh e s m)
 unfolding passes
-asked-back sh e d x s (ProbeReply u v) f h =
+asked-back {sh} e {x} {s} (ProbeReply u v) f h =
     let low : nat_lt x u ≡ false → u ≤ x = λ k. grind nats in
-    asked-replied e u d x s (λ q. low (f q)) (reply-cases sh e u s) h
-asked-back sh e d x s (Fill l ws) f h = asked-steady (fill-steady l ws s) h
-asked-back sh e d x s (DataReq l) f h = asked-steady (data-steady sh l s) h
-asked-back sh e d x s (Inv l m u) f h = asked-hurt d x s (invalidate-cases sh l m u s) h
-asked-back sh e d x s _ f h = tt
+    asked-replied e u (λ q. low (f q)) (reply-cases sh e u s) h
+asked-back e {s} (Fill l ws) f h = asked-steady (fill-steady l ws s) h
+asked-back {sh} e {s} (DataReq l) f h = asked-steady (data-steady sh l s) h
+asked-back {sh} e {d} {x} {s} (Inv l m u) f h = asked-hurt d x s (invalidate-cases sh l m u s) h
+asked-back e _ f h = tt
 
 -- What a core's step does to its load requests and to the line that it awaits.
 
@@ -207,8 +205,7 @@ loads-exec sh p c s = each-exec sh p c s (LoadsStep sh s) go
 
 pub loads-evict : (sh : Shape) (x y : ℕ) (s : CoreState) → IfSome (core_evict sh x y s) (λ o. LoadsStep sh s o)
 unfolding passes
-loads-evict sh x y s =
-    each-evict sh x y s (LoadsStep sh s)
+loads-evict sh x y s = each-evict sh x y s (LoadsStep sh s)
     (λ k e a m. still sh s (emptied sh x y k s) (λ d l. quiet sh s (LoadOf l) (Empties k) (λ y. refl) d) refl)
 
 pub loads-grant : (sh : Shape) (t : ℕ) (s : CoreState) → LoadsStep sh s (grant sh t s)
@@ -233,15 +230,15 @@ step-back : (sh : Shape) (e : ℕ) (s : CoreState) (m : Msg) (o : Out) → ((l :
     → LoadsBack sh e s m o
 step-back sh e s m o f z a d l = rw (f l) (omega (arith, z d l, a d l, no-fill (d == e)))
 
-fill-count : (a k l d e h : ℕ) → a ≡ k → (l ≡ k → h ≡ e) → num (a == l && h == d) ≡ num (d == e && k == l)
-fill-count a k l d e h p q = grind nats
+fill-count : {a k : ℕ} (l d e h : ℕ) → a ≡ k → (l ≡ k → h ≡ e) → num (a == l && h == d) ≡ num (d == e && k == l)
+fill-count l d e h p q = grind nats
 
 -- the line that is awaited comes
 taken : (sh : Shape) (e k : ℕ) (ws : List ℕ) (s r : CoreState) (a : Awaited) → s.awaited ≡ Some a → a.line ≡ k → r.awaited ≡ None
     → 1 ≤ awaits_at sh e k s.awaited → LoadsBack sh e s (Fill k ws) (moves r nothing)
 unfolding among passes
 taken sh e k ws s r a q i n x d l =
-    rw (q, n) (omega (arith, fill-count a.line k l d e (home sh l) i (λ j. rw j (home-is (a.line == k) (home sh k == e) refl (rw q at x)))))
+    rw (q, n) (omega (arith, fill-count l d e (home sh l) i (λ j. rw j (home-is (a.line == k) (home sh k == e) refl (rw q at x)))))
   where
     home-is : (b c : Bool) → (home sh k == e) ≡ c → 1 ≤ num (b && c) → home sh k ≡ e
     home-is a c g y = grind nats
@@ -269,18 +266,14 @@ loads-back sh e s m h =
     go (Ignores_fill k ws n) h = absurd (let y : awaits_at sh e k s.awaited ≡ 0 = rw n refl in omega (arith, one k ws h, y))
     go (Fills k ws a q i f) h = taken sh e k ws s (record s { awaited = None }) a q i refl (one k ws h)
     go (Fills_none k ws a q i f) h = taken sh e k ws s (record s { awaited = None }) a q i refl (one k ws h)
-    go (Hurt_none k m u n) h =
-        hurt k m u (Hurt_none k m u n) refl
+    go (Hurt_none k m u n) h = hurt k m u (Hurt_none k m u n) refl
         (λ d l. heard-quiet {sh = sh} {e = e} {s = s} (LoadOf l) (Hurt_none k m u n) (λ y. refl) (λ b. refl) d)
-    go (Hurt_running k m u v q) h =
-        hurt k m u (Hurt_running k m u v q) refl
+    go (Hurt_running k m u v q) h = hurt k m u (Hurt_running k m u v q) refl
         (λ d l. heard-quiet {sh = sh} {e = e} {s = s} (LoadOf l) (Hurt_running k m u v q) (λ y. refl) (λ b. refl) d)
-    go (Hurt_waiting k m u v q) h =
-        hurt k m u (Hurt_waiting k m u v q) refl
+    go (Hurt_waiting k m u v q) h = hurt k m u (Hurt_waiting k m u v q) refl
         (λ d l. heard-quiet {sh = sh} {e = e} {s = s} (LoadOf l) (Hurt_waiting k m u v q) (λ y. refl) (λ b. refl) d)
     go (Hurt_probing k m u t v q) h = hurt k m u (Hurt_probing k m u t v q) refl
         (λ d l. heard-quiet {sh = sh} {e = e} {s = s} (LoadOf l) (Hurt_probing k m u t v q) (λ y. refl) (λ b. refl) d)
-    go (Hurt_alone k m u t v q) h =
-        hurt k m u (Hurt_alone k m u t v q) refl
+    go (Hurt_alone k m u t v q) h = hurt k m u (Hurt_alone k m u t v q) refl
         (λ d l. heard-quiet {sh = sh} {e = e} {s = s} (LoadOf l) (Hurt_alone k m u t v q) (λ y. refl) (λ b. refl) d)
     go x h = step-back sh e s (message x) (heard x) (λ l. refl) (λ d l. heard-quiet (LoadOf l) x (λ y. refl) (λ b. refl) d) (λ d l. refl)

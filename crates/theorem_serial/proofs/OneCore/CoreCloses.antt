@@ -86,11 +86,11 @@ next-gives p base (Traps x) i k e n =
     rw (k.outcome, e, k.local, n) (record { local = refl; loads = k.loads; stores = k.stores; console = k.console; outcome = refl })
 next-gives p base _ i k e n = absurd i
 
-last-gives : (sh : Shape) (p : Program) (s : CoreState) (us : Uses) (need : Need) (t : ℕ) → IsEnd need → s.phase ≡ Solo t
+last-gives : {sh : Shape} (p : Program) (s : CoreState) {us : Uses} {need : Need} (t : ℕ) → IsEnd need → s.phase ≡ Solo t
     → p.need s.local ≡ need → Follows sh p s us → (ram : ℕ → ℕ) → IsSmall ram → Agrees us ram
     → IsSomeAnd (steps sh.base p (suc s.n) (begun s.saved ram)) (Gives (finished p need 0 s))
 unfolding steps
-last-gives sh p s us need t i ph n f ram sm ag =
+last-gives {sh} p s {us} {need} t i ph n f ram sm ag =
     let follows : FollowsIn sh p s us (Solo t) = subst (FollowsIn sh p s us) ph f.steps in
     go (steps sh.base p s.n (begun s.saved ram)) (follows ram sm ag)
   where
@@ -152,7 +152,7 @@ exec-leaves sh p c s = each-exec sh p c s (Leaves sh p c s) go
       gives = λ us g ram sm ag. let c : suc s.n ≡ s.n + 1 = omega arith in
           subst (λ (m : ℕ). IsSomeAnd (steps sh.base p m (begun s.saved ram)) (Gives (after_end s l e))) c
           (subst (λ (v : CoreState). IsSomeAnd (steps sh.base p (suc s.n) (begun s.saved ram)) (Gives v)) f.is
-          (last-gives sh p s us f.need t f.end r f.at g ram sm ag));
+          (last-gives p s t f.end r f.at g ram sm ag));
     })
     go (Commits_now t e) = ready-leaves sh p c t s e
     go _ = Stays refl refl refl

@@ -60,7 +60,7 @@ tid-kept s r e n h = Kept (λ t y. n t (rw e at y)) h
 -- a core without a TID enters another phase
 pub no-tid : {s r : CoreState} {q : Phase} → s.phase ≡ q → ((t : ℕ) → has_tid q t ≡ false) → ((x : ℕ) → StillRead s.cache r.cache x)
     → Reading s r
-no-tid {s} {r} {q} e n h = tid-kept s r e (λ t y. absurd (let z = n t in cc)) h
+no-tid {s} {r} e n h = tid-kept s r e (λ t y. absurd (let z = n t in cc)) h
 
 -- what the changes of a cache do
 reads-marked : (w x v : ℕ) (c : Cache) → c.value w ≡ Some x → StillRead c (marked w c) v
@@ -104,8 +104,7 @@ reading-exec sh p c s = each-exec sh p c s (λ o. Reading s o.core) go
     go : (x : Did sh p c s) → Reading s (out x).core
     go (Reads a x z l g r f) = as-before s _ refl (λ v. reads-marked (w a) x v s.cache f)
     go (Frames a y also n k g i f) = as-before s _ refl (λ v. reads-stored (w a) y v also s.cache)
-    go (Frames_anew a y n k g i q f h) =
-        as-before s _ refl (λ v. reads-then s.cache (placed sh (line_of (w a)) s.cache)
+    go (Frames_anew a y n k g i q f h) = as-before s _ refl (λ v. reads-then s.cache (placed sh (line_of (w a)) s.cache)
         (stored (w a) y false (placed sh (line_of (w a)) s.cache)) v (reads-placed sh (line_of (w a)) v s.cache)
         (reads-stored (w a) y v false (placed sh (line_of (w a)) s.cache)))
     go (Misses_anew a n g i q f) = as-before s _ refl (λ v. reads-placed sh (line_of (w a)) v s.cache)
@@ -246,10 +245,10 @@ pub either-way : {sh : Shape} {s r : CoreState} → r.phase ≡ s.phase → r.lo
 either-way {sh} {s} {r} p e m = elim (tested (is_solo s.phase)) [ inl q ↦ Alone_now (rw p q) | inr q ↦ kept sh s r q e m ]
 
 -- one more load, of a word that is marked now
-one-more : (sh : Shape) (s r : CoreState) (m : Load) → is_solo s.phase ≡ false → r.loads ≡ s.loads ++ m ∷ []
+one-more : {sh : Shape} {s r : CoreState} (m : Load) → is_solo s.phase ≡ false → r.loads ≡ s.loads ++ m ∷ []
     → touched r.cache (word_of sh.base m.addr) ≡ true → ((w : ℕ) → touched s.cache w ≡ true → touched r.cache w ≡ true) → Loading sh s r
 unfolding loads_word
-one-more sh s r m b e t k =
+one-more {sh} {s} {r} m b e t k =
     Loaded b (λ w l. go w (loads_word sh.base s.loads w) refl (rw (e, loads_word-append sh.base s.loads (m ∷ []) w) at l)) k
   where
     go : (w : ℕ) (a : Bool) → loads_word sh.base s.loads w ≡ a → (a || ((word_of sh.base m.addr == w) || false)) ≡ true
@@ -296,28 +295,27 @@ storing {sh} {s} {r} {a} k p l t m = go (is_solo s.phase) refl k.loaded
         → Loading sh s r
     go true q z = Alone_now (rw p q)
     go false q (inl z) = kept sh s r q (l ∙ z) m
-    go false q (inr z) = one-more sh s r z.0 q (l ∙ z.2) (rw z.1 t) m
+    go false q (inr z) = one-more z.0 q (l ∙ z.2) (rw z.1 t) m
 
 did-loading : {sh : Shape} {p : Program} {c : ℕ} {s : CoreState} → OneCore sh s → (x : Did sh p c s) → Loading sh s (out x).core
 unfolding commit solo_commit committed_core
-did-loading {sh} {p} {c} {s} h (Finds a x z l g (inl f)) = Alone_now (spilled-solo (word_of sh.base a) h f)
-did-loading {sh} {p} {c} {s} h (Finds a x z l g (inr f)) = Alone_now (acts-alone s.phase g.acts f)
-did-loading {sh} {p} {c} {s} h (Reads a x z l g r f) = one-more sh s _ (load_of a z (part x a z)) (rw r refl) refl
+did-loading {sh} h (Finds a x z l g (inl f)) = Alone_now (spilled-solo (word_of sh.base a) h f)
+did-loading {s} h (Finds a x z l g (inr f)) = Alone_now (acts-alone s.phase g.acts f)
+did-loading {sh} {s} h (Reads a x z l g r f) = one-more (load_of a z (part x a z)) (rw r refl) refl
     (marked-now (word_of sh.base a) s.cache) (λ v t. marked-touched (word_of sh.base a) v s.cache t)
-did-loading {sh} {p} {c} {s} h (Buffers a y v n k g i q f) = Alone_now (spilled-solo v h f)
-did-loading {sh} {p} {c} {s} h (Frames a y also n k g i f) = storing k refl refl (stored-now (word_of sh.base a) y also s.cache)
+did-loading h (Buffers a y v n k g i q f) = Alone_now (spilled-solo v h f)
+did-loading {sh} {s} h (Frames a y also n k g i f) = storing k refl refl (stored-now (word_of sh.base a) y also s.cache)
     (λ v t. stored-touched (word_of sh.base a) y v also s.cache t)
-did-loading {sh} {p} {c} {s} h (Frames_anew a y n k g i q f o) =
+did-loading {sh} {s} h (Frames_anew a y n k g i q f o) =
     storing k refl refl (stored-now (word_of sh.base a) y false (placed sh (line_of (word_of sh.base a)) s.cache))
     (λ v t. stored-touched (word_of sh.base a) y v false (placed sh (line_of (word_of sh.base a)) s.cache)
     (placed-touched sh (line_of (word_of sh.base a)) s.cache v t))
-did-loading {sh} {p} {c} {s} h (Misses_anew a n g i q f) =
-    either-way refl refl (λ v t. placed-touched sh (line_of (word_of sh.base a)) s.cache v t)
-did-loading {sh} {p} {c} {s} h (Room_wanted r i) = kept sh s _ (rw r refl) refl (λ v t. t)
-did-loading {sh} {p} {c} {s} h (Ends_run l e f r i) = kept sh s _ (rw r refl) refl (λ v t. t)
-did-loading {sh} {p} {c} {s} h (Ends_alone t l e f r i) = Empty refl
-did-loading {sh} {p} {c} {s} h (Commits_now t r) = Empty refl
-did-loading {sh} {p} {c} {s} h _ = either-way refl refl (λ v t. t)
+did-loading {sh} {s} h (Misses_anew a n g i q f) = either-way refl refl (λ v t. placed-touched sh (line_of (word_of sh.base a)) s.cache v t)
+did-loading {sh} {s} h (Room_wanted r i) = kept sh s _ (rw r refl) refl (λ v t. t)
+did-loading {sh} {s} h (Ends_run l e f r i) = kept sh s _ (rw r refl) refl (λ v t. t)
+did-loading h (Ends_alone t l e f r i) = Empty refl
+did-loading h (Commits_now t r) = Empty refl
+did-loading h _ = either-way refl refl (λ v t. t)
 
 pub loads-exec : {sh : Shape} (p : Program) (c : ℕ) {s : CoreState} → OneCore sh s → LoadsMarked sh s
     → IfSome (core_exec sh p c s) (λ o. LoadsMarked sh o.core)

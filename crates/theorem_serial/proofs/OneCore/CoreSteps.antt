@@ -46,16 +46,15 @@ IfSteady {sh} {p} {c} {s} x = Steady s (out x)
 
 pub did-steady : {sh : Shape} {p : Program} {c : ℕ} {s : CoreState} (x : Did sh p c s) → IfSteady x
 unfolding passes flush_line
-did-steady {sh} {p} {c} {s} (Idles n l b g) = steady-said sh s _ Silent g.acts refl refl refl (λ x. refl)
-did-steady {sh} {p} {c} {s} (Finds a x z l g f) = steady-said sh s _ Silent g.acts refl refl refl (λ x. refl)
-did-steady {sh} {p} {c} {s} (Reads a x z l g r f) = steady-said sh s _ Silent g.acts refl refl refl (λ x. refl)
-did-steady {sh} {p} {c} {s} (Buffers a y v n k g i q h) = steady-said sh s _ Silent g.acts refl refl refl (λ x. refl)
-did-steady {sh} {p} {c} {s} (Frames a y also n k g i f) = steady-said sh s _ (Flushes (line_of (word_of sh.base a))) g.acts refl refl refl
+did-steady {sh} {s} (Idles n l b g) = steady-said sh s _ Silent g.acts refl refl refl (λ x. refl)
+did-steady {sh} {s} (Finds a x z l g f) = steady-said sh s _ Silent g.acts refl refl refl (λ x. refl)
+did-steady {sh} {s} (Reads a x z l g r f) = steady-said sh s _ Silent g.acts refl refl refl (λ x. refl)
+did-steady {sh} {s} (Buffers a y v n k g i q h) = steady-said sh s _ Silent g.acts refl refl refl (λ x. refl)
+did-steady {sh} {s} (Frames a y also n k g i f) = steady-said sh s _ (Flushes (line_of (word_of sh.base a))) g.acts refl refl refl
     (λ x. refl)
-did-steady {sh} {p} {c} {s} (Frames_anew a y n k g i q f h) = steady-said sh s _ Silent g.acts refl refl refl (λ x. refl)
-did-steady {sh} {p} {c} {s} (Misses a n g i q) = steady-said sh s _ (Requests (line_of (word_of sh.base a))) g.acts refl refl refl
-    (λ x. refl)
-did-steady {sh} {p} {c} {s} (Misses_anew a n g i q f) = steady-said sh s _ (Requests (line_of (word_of sh.base a))) g.acts refl refl refl
+did-steady {sh} {s} (Frames_anew a y n k g i q f h) = steady-said sh s _ Silent g.acts refl refl refl (λ x. refl)
+did-steady {sh} {s} (Misses a n g i q) = steady-said sh s _ (Requests (line_of (word_of sh.base a))) g.acts refl refl refl (λ x. refl)
+did-steady {sh} {s} (Misses_anew a n g i q f) = steady-said sh s _ (Requests (line_of (word_of sh.base a))) g.acts refl refl refl
     (λ x. refl)
 did-steady _ = tt
 
@@ -223,11 +222,11 @@ back-case (Reply_probing u v q o r) = Probed q o (rw r q) refl refl refl refl
 back-case (Last_probing u v q o r) = Probed q o (rw r refl) refl refl refl refl
 back-case (Reply_room u v q o r) = Left_alone q o (rw r q) refl (λ v. refl) refl refl
 back-case (Last_room u v q o r) = Left_alone q o (rw r refl) refl (λ v. refl) refl refl
-back-case {sh} {e} {s} (Hurt_none l m u n) = invalidated-acked _ Silent refl (Unhurt refl refl (λ v. refl) (λ v. refl) (λ n. refl))
-back-case {sh} {e} {s} (Hurt_running l m u v q) = invalidated-acked _ Silent refl (Rolled q refl refl (λ n. refl))
-back-case {sh} {e} {s} (Hurt_waiting l m u v q) = invalidated-acked _ Silent refl (Doomed q refl refl (λ n. refl))
-back-case {sh} {e} {s} (Hurt_probing l m u t v q) = invalidated-acked _ (Aborts_all t) refl (Aborted t q refl refl refl)
-back-case {sh} {e} {s} (Hurt_alone l m u t v q) = invalidated-acked _ (Skips_all t) refl (Gave_up t q refl refl refl)
+back-case (Hurt_none l m u n) = invalidated-acked _ Silent refl (Unhurt refl refl (λ v. refl) (λ v. refl) (λ n. refl))
+back-case (Hurt_running l m u v q) = invalidated-acked _ Silent refl (Rolled q refl refl (λ n. refl))
+back-case (Hurt_waiting l m u v q) = invalidated-acked _ Silent refl (Doomed q refl refl (λ n. refl))
+back-case (Hurt_probing l m u t v q) = invalidated-acked _ (Aborts_all t) refl (Aborted t q refl refl refl)
+back-case (Hurt_alone l m u t v q) = invalidated-acked _ (Skips_all t) refl (Gave_up t q refl refl refl)
 back-case _ = tt
 
 pub reply-cases : (sh : Shape) (e u : ℕ) (s : CoreState) → Replied sh e u s (probe_reply sh e u s)

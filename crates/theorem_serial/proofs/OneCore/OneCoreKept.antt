@@ -44,9 +44,9 @@ executing {s} a e f h w aw = record {
 }
 
 -- a valid word stands in a frame
-framed-held : (sh : Shape) (s : CoreState) (w : ℕ) → IsCache sh s.cache
+framed-held : {sh : Shape} (s : CoreState) (w : ℕ) → IsCache sh s.cache
     → (s.cache.held (line_of w) ≡ true) ⊎ (is_some (s.cache.value w) ≡ true) → s.cache.held (line_of w) ≡ true
-framed-held sh s w k a = grind nats
+framed-held s w k a = grind nats
 
 -- a running core awaits nothing, and waits in another phase
 waits : {sh : Shape} (s : CoreState) (go : Phase) → s.phase ≡ Running → OneCore sh s → s.awaited ≡ None → is_solo go ≡ false
@@ -84,9 +84,9 @@ committed_one s {r} e o n w m = record {
   rested = λ q. m;
 }
 
-commit_one : (sh : Shape) (id t : ℕ) (s : CoreState) → s.phase ≡ Ready t → OneCore sh s → OneCore sh (commit sh id t s).core
+commit_one : {sh : Shape} (id t : ℕ) (s : CoreState) → s.phase ≡ Ready t → OneCore sh s → OneCore sh (commit sh id t s).core
 unfolding commit committed_core committed
-commit_one sh id t s e h = committed_one s refl (λ d. h.owing d (rw e refl)) (idle s.awaited refl)
+commit_one id t s e h = committed_one s refl (λ d. h.owing d (rw e refl)) (idle s.awaited refl)
     (λ b. words-committed b t s.spilled h.words.cache (h.words.spilled_alone (rw e refl)))
     (record { n = refl; loads = refl; stores = refl; console = refl; unread = λ w. refl; unmodified = λ w. refl })
   where
@@ -127,8 +127,7 @@ exec_one sh p id s h = each-exec sh p id s (λ o. OneCore sh o.core) go
     go (Buffers a y v n q g i e f) = done n (after_store s a q s.cache (put s.spilled (w a) (Some y))) g refl refl refl
         (words-buffered (w a) y q.store v e f (ap (word_of sh.base) q.addr) k)
     go (Frames a y also n q g i f) = done n (after_store s a q (stored (w a) y also s.cache) s.spilled) g refl refl refl
-        (words-stored (w a) y also q.store (framed-held sh s (w a) k.cache f.held)
-        f.unspilled f.alone (ap (word_of sh.base) q.addr) k)
+        (words-stored (w a) y also q.store (framed-held s (w a) k.cache f.held) f.unspilled f.alone (ap (word_of sh.base) q.addr) k)
     go (Frames_anew a y n q g i e f u) =
         done n (after_store s a q (stored (w a) y false (placed sh (line_of (w a)) s.cache)) s.spilled) g refl refl refl
         (words-stored (w a) y false q.store
@@ -138,8 +137,7 @@ exec_one sh p id s h = each-exec sh p id s (λ o. OneCore sh o.core) go
         asked n (line_of (w a)) (record s { awaited = awaiting (line_of (w a)); cache = placed sh (line_of (w a)) s.cache }) g refl refl
         refl (anew (line_of (w a)) e) (placed-held sh (line_of (w a)) s.cache f)
     go (Room_wanted r i) = waits s (Overflowing None) r h i refl refl refl
-    go (Ends_run l e f r i) =
-        waits (after_end s l e) AwaitTid r
+    go (Ends_run l e f r i) = waits (after_end s l e) AwaitTid r
         (record {
           words = h.words;
           awaited = h.awaited;
@@ -147,12 +145,10 @@ exec_one sh p id s h = each-exec sh p id s (λ o. OneCore sh o.core) go
           owers = h.owers;
           rested = λ q. absurd (let z : rests s.phase ≡ false = rw r refl in cc);
         }) i refl refl refl
-    go (Ends_alone t l e f r i) = committed_one (after_end s l e) refl
-        (λ d. h.owing d (rw r refl)) i
-        (λ b. words-committed b t none_spilled (words_dropped-keeps sh s.spilled s.cache k.cache)
-        (λ w. refl))
+    go (Ends_alone t l e f r i) = committed_one (after_end s l e) refl (λ d. h.owing d (rw r refl)) i
+        (λ b. words-committed b t none_spilled (words_dropped-keeps sh s.spilled s.cache k.cache) (λ w. refl))
         (record { n = refl; loads = refl; stores = refl; console = refl; unread = λ w. refl; unmodified = λ w. refl })
-    go (Commits_now t r) = commit_one sh id t s r h
+    go (Commits_now t r) = commit_one id t s r h
 
 -- Evictions and messages keep what holds of a core by itself.
 
@@ -171,8 +167,7 @@ evicted-unmodified c s y v h = grind nats
 
 pub evict_one : (sh : Shape) (x y : ℕ) (s : CoreState) → OneCore sh s → IfSome (core_evict sh x y s) (λ o. OneCore sh o.core)
 evict_one sh x y s h = each-evict sh x y s (λ o. OneCore sh o.core) (λ l e q m. record {
-  words = words-evicted x y l e
-      (λ z v i. words-evicted_unmarked sh s.cache l v (unmarked l z m) i) h.words;
+  words = words-evicted x y l e (λ z v i. words-evicted_unmarked sh s.cache l v (unmarked l z m) i) h.words;
   awaited = λ b r. let z = h.awaited b r in (z.0, evicted-held s.cache x y l b.line e (another l s.awaited q b r) z.1);
   owing = h.owing;
   owers = h.owers;
@@ -236,19 +231,17 @@ grant_one sh u s h = each-grant sh u s (λ o. OneCore sh o.core) go
 
     go : (x : Granted sh u s) → OneCore sh (granted x).core
     go (Given e) = probed e (any_below (is_probed sh s.cache) sh.dirs) refl
-    go (Given_doomed e) = rephased Running e refl refl refl refl refl refl refl refl
-        (λ d k. h.owing d (rw e refl)) h.owers h
-    go (Given_room e) = rephased (Overflowing (Some u)) e refl refl refl refl refl refl refl refl
-        (λ d k. absurd (cc)) (λ d k. grind nats) h
+    go (Given_doomed e) = rephased Running e refl refl refl refl refl refl refl refl (λ d k. h.owing d (rw e refl)) h.owers h
+    go (Given_room e) = rephased (Overflowing (Some u)) e refl refl refl refl refl refl refl refl (λ d k. absurd (cc)) (λ d k. grind nats) h
     go (Given_none e) = h
 
 executes-rests : (q : Phase) → executes q ≡ true → rests q ≡ true → ⊥
 executes-rests Running a e = cc
 executes-rests _ a e = cc
 
-data_one : (sh : Shape) (l : ℕ) (s : CoreState) → OneCore sh s → OneCore sh (record s { cache = cleaned l s.cache })
+data_one : {sh : Shape} (l : ℕ) {s : CoreState} → OneCore sh s → OneCore sh (record s { cache = cleaned l s.cache })
 unfolding cleaned
-data_one sh l s h = record {
+data_one l h = record {
   words = words-cleaned l h.words;
   awaited = h.awaited;
   owing = h.owing;
@@ -258,9 +251,9 @@ data_one sh l s h = record {
 }
 
 -- an invalidation, and a roll back with it
-without_one : (sh : Shape) (l m : ℕ) (s : CoreState) → OneCore sh s → OneCore sh (words_invalidated l m s)
+without_one : {sh : Shape} (l m : ℕ) {s : CoreState} → OneCore sh s → OneCore sh (words_invalidated l m s)
 unfolding words_invalidated invalidated
-without_one sh l m s h = record {
+without_one l m {s} h = record {
   words = words-invalidated l m h.words;
   awaited = λ b k. held b s.awaited refl k;
   owing = h.owing;
@@ -283,8 +276,8 @@ rolled_one : {sh : Shape} {s r : CoreState} (q : Phase) → OneCore sh s → r.p
     → r.cache ≡ rolled_back s.cache → ((w : ℕ) → r.spilled w ≡ None) → r.n ≡ 0 → r.loads ≡ [] → r.stores ≡ [] → r.console ≡ []
     → r.owing ≡ (λ d. false) → r.awaited ≡ s.awaited → (executes q ≡ true) ⊎ (executes s.phase ≡ false) → OneCore sh r
 unfolding rolled_back
-rolled_one {sh} {s} {r} q h e a c p n l t o w z x = record {
-  words = rw (e, c, t) (words-rolled sh (is_solo q) s.cache r.spilled h.words.cache p);
+rolled_one {s} {r} q h e a c p n l t o w z x = record {
+  words = rw (e, c, t) (words-rolled (is_solo q) r.spilled h.words.cache p);
   awaited = λ b k. let y = h.awaited b (sym z ∙ k) in (rw e (active x y.0), rw c y.1);
   owing = λ d k. rw w refl;
   owers = λ d k. rw w refl;
@@ -317,8 +310,7 @@ back_one sh e s m h = each-back sh e s (λ m o. OneCore sh o.core) go m
 
     hurt : (l m : ℕ) (q : Phase) (sp : Spilled) → awaits_replies q ≡ false → ((w : ℕ) → sp w ≡ None)
         → (executes q ≡ true) ⊎ (executes s.phase ≡ false) → OneCore sh (rolled l m s q sp)
-    hurt l m q sp a p x = rolled_one q (without_one sh l m s h) refl a refl p refl refl
-        refl refl refl refl x
+    hurt l m q sp a p x = rolled_one q (without_one l m h) refl a refl p refl refl refl refl refl refl x
 
     waiting : (l m : ℕ) → (s.phase ≡ AwaitTid) ⊎ (s.phase ≡ Overflowing None) → OneCore sh (rolled l m s DoomedTid s.spilled)
     waiting l m (inl q) = hurt l m DoomedTid s.spilled refl (h.words.spilled_alone (rw q refl)) (inr (rw q refl))
@@ -331,8 +323,7 @@ back_one sh e s m h = each-back sh e s (λ m o. OneCore sh o.core) go m
     go : (x : Heard sh e s) → OneCore sh (heard x).core
     go (Reply_probing u v q o r) = rephased (Probing u) q refl q refl refl refl refl refl refl (λ d k. absurd (cc)) far h
     go (Last_probing u v q o r) = rephased (Ready u) q refl refl refl refl refl refl refl refl (λ d k. none r d) far h
-    go (Reply_room u v q o r) = rephased (Overflowing (Some u)) q refl q refl refl refl refl refl refl
-        (λ d k. absurd (cc)) far h
+    go (Reply_room u v q o r) = rephased (Overflowing (Some u)) q refl q refl refl refl refl refl refl (λ d k. absurd (cc)) far h
     go (Last_room u v q o r) = record {
       words = words-alone s.cache (subst (λ k. Words sh (is_solo k) s.cache s.spilled s.stores) q h.words);
       awaited = λ a k. absurd (idle sh s (Overflowing (Some u)) q refl h a k);
@@ -340,12 +331,10 @@ back_one sh e s m h = each-back sh e s (λ m o. OneCore sh o.core) go m
       owers = far;
       rested = λ k. absurd (cc);
     }
-    go (Fills l ws a q i f) =
-        filled_one a (filled l ws s.cache) q
-        (words-filled l ws (rw i at (h.awaited a q).1) h.words)
+    go (Fills l ws a q i f) = filled_one a (filled l ws s.cache) q (words-filled l ws (rw i at (h.awaited a q).1) h.words)
     go (Fills_none l ws a q i f) = filled_one a s.cache q h.words
-    go (Hands_out l) = data_one sh l s h
-    go (Hurt_none l m u n) = without_one sh l m s h
+    go (Hands_out l) = data_one l h
+    go (Hurt_none l m u n) = without_one l m h
     go (Hurt_running l m u v q) = hurt l m Running s.spilled refl (h.words.spilled_alone (rw q refl)) (inl refl)
     go (Hurt_waiting l m u v q) = waiting l m q
     go (Hurt_probing l m u t v q) = probing_one l m t q
@@ -359,15 +348,14 @@ put_one : {sh : Shape} (w : World) (c : ℕ) {s : CoreState} → KeptCores sh w 
     → OneCore sh (if j == c then s else w.cores j)
 put_one {sh} w c {s} k h j = elim (j == c) as (λ b. OneCore sh (if b then s else w.cores j)) [ true ↦ h | false ↦ k j ]
 
-pub step-cores : (sh : Shape) (p : Program) (w : World) (e : Event) → KeptCores sh w → IfSome (step sh p w e) (λ o. KeptCores sh o.world)
+pub step-cores : {sh : Shape} (p : Program) (w : World) (e : Event) → KeptCores sh w → IfSome (step sh p w e) (λ o. KeptCores sh o.world)
 unfolding core_moves core_takes dir_takes dir_asks vendor_gives
-step-cores sh p w e k = step_cases sh p w e (λ g o. KeptCores sh o.world)
+step-cores {sh} p w e k = step_cases sh p w e (λ g o. KeptCores sh o.world)
     (λ c l. moved c (core_exec sh p c (w.cores c)) (exec_one sh p c (w.cores c) (k c)))
     (λ c x y l. moved c (core_evict sh x y (w.cores c)) (evict_one sh x y (w.cores c) (k c)))
     (λ c i t q. put_one w c k (grant_one sh t (w.cores c) (k c)))
     (λ c d i m q. taken c d i (from_dir sh d (w.cores c) m) (back_one sh d (w.cores c) m (k c)))
-    (λ c d i m q. answered c d i (dir_deliver sh (w.dirs d) c m))
-    (λ c i q. k)
+    (λ c d i m q. answered c d i (dir_deliver sh (w.dirs d) c m)) (λ c i q. k)
   where
     moved : (c : ℕ) (x : Option Out) → IfSome x (λ o. OneCore sh o.core) → IfSome x (λ o. KeptCores sh (core_moves w c o))
     moved c None h = tt
@@ -395,7 +383,7 @@ run_from-cores : (sh : Shape) (p : Program) (es : List Event) (h : History) → 
     → IfSome (run_from sh p es h) (λ r. KeptCores sh r.world)
 unfolding run_from next_history
 run_from-cores sh p [] h k = k
-run_from-cores sh p (e ∷ es) h k = go (step sh p h.world e) (step-cores sh p h.world e k) (λ g q. run_from-cores sh p es g q)
+run_from-cores sh p (e ∷ es) h k = go (step sh p h.world e) (step-cores p h.world e k) (λ g q. run_from-cores sh p es g q)
   where
     go : (x : Option Stepped) → IfSome x (λ o. KeptCores sh o.world)
         → ((g : History) → KeptCores sh g.world → IfSome (run_from sh p es g) (λ r. KeptCores sh r.world))

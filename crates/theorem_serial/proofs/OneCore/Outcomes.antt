@@ -238,8 +238,7 @@ each-exec sh p c s P k = go s.phase refl
             else Some (moves (finished p need x (stored_in_frame (w a) (new_word need x) (marks_read (w a) s) s))
             (flush_line sh s.cache (line_of (w a))))) P
         held x e true h = buffers_held need x a (new_word need x) g at h
-        held x e false h =
-            frames need x a (new_word need x) (marks_read (w a) s) g
+        held x e false h = frames need x a (new_word need x) (marks_read (w a) s) g
             at (record {
               held = inr (rw e refl);
               unspilled = h;
@@ -472,15 +471,13 @@ heard-quiet {sh} {e} {s} k (Hurt_none l m u n) h a d =
 heard-quiet {sh} {e} {s} k (Hurt_running l m u v q) h a d =
     omega (
       arith,
-      acked-quiet sh k l (keeps (heard {sh = sh} {e = e} {s = s} (Hurt_running l m u v q)).core.cache l) (say sh s Silent) d
-          (a _),
+      acked-quiet sh k l (keeps (heard {sh = sh} {e = e} {s = s} (Hurt_running l m u v q)).core.cache l) (say sh s Silent) d (a _),
       quiet sh s k Silent h d,
     )
 heard-quiet {sh} {e} {s} k (Hurt_waiting l m u v q) h a d =
     omega (
       arith,
-      acked-quiet sh k l (keeps (heard {sh = sh} {e = e} {s = s} (Hurt_waiting l m u v q)).core.cache l) (say sh s Silent) d
-          (a _),
+      acked-quiet sh k l (keeps (heard {sh = sh} {e = e} {s = s} (Hurt_waiting l m u v q)).core.cache l) (say sh s Silent) d (a _),
       quiet sh s k Silent h d,
     )
 heard-quiet {sh} {e} {s} k (Hurt_probing l m u t v q) h a d =
@@ -493,11 +490,10 @@ heard-quiet {sh} {e} {s} k (Hurt_probing l m u t v q) h a d =
 heard-quiet {sh} {e} {s} k (Hurt_alone l m u t v q) h a d =
     omega (
       arith,
-      acked-quiet sh k l (keeps (heard {sh = sh} {e = e} {s = s} (Hurt_alone l m u t v q)).core.cache l)
-          (say sh s (Skips_all t)) d (a _),
+      acked-quiet sh k l (keeps (heard {sh = sh} {e = e} {s = s} (Hurt_alone l m u t v q)).core.cache l) (say sh s (Skips_all t)) d (a _),
       quiet sh s k (Skips_all t) h d,
     )
-heard-quiet {sh} {e} {s} k x h a d = quiet sh s k (heard_said x) h d
+heard-quiet {sh} {s} k x h a d = quiet sh s k (heard_said x) h d
 
 pub writes_at-same : (sh : Shape) (a b : Cache) (d : ℕ) → ((v : ℕ) → a.modified v ≡ b.modified v) → writes_at sh a d ≡ writes_at sh b d
 unfolding writes_at is_modified

@@ -111,8 +111,7 @@ apart-stored base here there a ram addr size value ap e = record {
 
 same_from : {base : ℕ} {here there : ℕ → ℕ} {a : Attempt} (ram : ℕ → ℕ) {other : Option Attempt} → Apart base here there a ram
     → other ≡ Some (record a { ram = ram }) → SameAttempt base here there a other
-same_from ram ap e =
-    record { ram = ram; same = e; stored = ap.stored; kept_here = ap.kept_here; kept_there = ap.kept_there }
+same_from ram ap e = record { ram = ram; same = e; stored = ap.stored; kept_here = ap.kept_here; kept_there = ap.kept_there }
 
 -- the same words at an access give the same value
 same_loaded : (base : ℕ) (ram other : ℕ → ℕ) (addr : ℕ) (size : Size) → ram (word_of base addr) ≡ other (word_of base addr)
@@ -120,31 +119,26 @@ same_loaded : (base : ℕ) (ram other : ℕ → ℕ) (addr : ℕ) (size : Size) 
 unfolding loaded
 same_loaded base ram other addr size e = rw e refl
 
-same_step : (base : ℕ) (p : Program) (here there : ℕ → ℕ) (a : Attempt) (ram : ℕ → ℕ) (need : Need) → Apart base here there a ram
+same_step : {base : ℕ} (p : Program) {here there : ℕ → ℕ} {a : Attempt} (ram : ℕ → ℕ) (need : Need) → Apart base here there a ram
     → IsMemory here → IsMemory there → AlignedNeed need → ((w : ℕ) → reads_word base need w ≡ true → ram w ≡ a.ram w)
     → SameAttempt base here there (stepped base p a need) (Some (stepped base p (record a { ram = ram }) need))
-same_step base p here there a ram Nothing ap mh mt al reads =
-    same_from ram
+same_step p ram Nothing ap mh mt al reads = same_from ram
     (record { stored = ap.stored; kept_here = ap.kept_here; kept_there = ap.kept_there }) refl
-same_step base p here there a ram (Loads addr size) ap mh mt al reads =
-    same_from ram
+same_step {base} p {a} ram (Loads addr size) ap mh mt al reads = same_from ram
     (record { stored = ap.stored; kept_here = ap.kept_here; kept_there = ap.kept_there })
     (rw (same_loaded base ram a.ram addr size (reads (word_of base addr) (grind nats))) refl)
-same_step base p here there a ram (Stores addr size value) ap mh mt al reads =
+same_step {base} p {here} {there} {a} ram (Stores addr size value) ap mh mt al reads =
     let q = apart-stored base here there a ram addr size value ap (same_patched base here there a ram addr size value ap mh mt al reads) in
-    same_from (stored base ram addr size value)
-    (record { stored = q.stored; kept_here = q.kept_here; kept_there = q.kept_there }) refl
-same_step base p here there a ram (Changes addr changed) ap mh mt al reads =
+    same_from (stored base ram addr size value) (record { stored = q.stored; kept_here = q.kept_here; kept_there = q.kept_there }) refl
+same_step {base} p {here} {there} {a} ram (Changes addr changed) ap mh mt al reads =
     let e : ram (word_of base addr) ≡ a.ram (word_of base addr) = reads (word_of base addr) (grind nats) in
     let v : loaded base ram addr Word ≡ loaded base a.ram addr Word = same_loaded base ram a.ram addr Word e in
     let q = apart-stored base here there a ram addr Word (changed (loaded base a.ram addr Word)) ap (rw e refl) in
     same_from (stored base ram addr Word (changed (loaded base a.ram addr Word)))
     (record { stored = q.stored; kept_here = q.kept_here; kept_there = q.kept_there }) (rw v refl)
-same_step base p here there a ram Ends ap mh mt al reads =
-    same_from ram
+same_step p ram Ends ap mh mt al reads = same_from ram
     (record { stored = ap.stored; kept_here = ap.kept_here; kept_there = ap.kept_there }) refl
-same_step base p here there a ram x ap mh mt al reads =
-    same_from ram
+same_step p ram x ap mh mt al reads = same_from ram
     (record { stored = ap.stored; kept_here = ap.kept_here; kept_there = ap.kept_there }) refl
 
 -- one more instruction, where the words that it uses agree
@@ -159,8 +153,7 @@ same_then {base} p {here} {there} a al mh mt f agree = rw f.same (go a.outcome)
 
     go : (o : Outcome) → MatchOption (when_going base p a o) (when_going base p (record a { ram = f.ram }) o ≡ None)
         (λ b. SameAttempt base here there b (when_going base p (record a { ram = f.ram }) o))
-    go Goes = same_step base p here there a f.ram (p.need a.local) apart mh mt (al a.local)
-        (same_word a (p.need a.local) apart agree)
+    go Goes = same_step p f.ram (p.need a.local) apart mh mt (al a.local) (same_word a (p.need a.local) apart agree)
     go _ = refl
 
 abbrev SameOrNone : (base : ℕ) (here there : ℕ → ℕ) → Option Attempt → Option Attempt → Type 0
@@ -247,8 +240,7 @@ then-names base p w used (Some a) n u = go a.outcome
     weaker a r s f e = grind nats
 
     go : (o : Outcome) → IfSome (when_going base p a o) (λ b. (loads_word base b.loads w || stores_word base b.stores w) ≡ true)
-    go Goes =
-        named-stepped base p a (p.need a.local) w
+    go Goes = named-stepped base p a (p.need a.local) w
         (weaker used (reads_word base (p.need a.local) w) (not (stores_whole base a.stores w)) n u)
     go _ = tt
 
@@ -271,8 +263,7 @@ home-below sh l h = omega arith
 -- all uses are current, or one dooms
 agrees-or : (sh : Shape) (ram : ℕ → ℕ) (w : World) (cs : List Noted) (c : ℕ) (b : Option ℕ) (us : Uses) → 1 ≤ sh.dirs
     → ((d : ℕ) → d < sh.dirs
-    → EachUse (λ x y. home sh (line_of x) ≡ d → (y ≡ value_at sh.base ram cs (w.dirs d) (Some c) b x) ⊎ IsDoomed b x (pair w c d))
-    us)
+    → EachUse (λ x y. home sh (line_of x) ≡ d → (y ≡ value_at sh.base ram cs (w.dirs d) (Some c) b x) ⊎ IsDoomed b x (pair w c d)) us)
     → Agrees us (values_for sh ram w cs c b) ⊎ Doomed sh w c b
 unfolding values_for
 agrees-or sh ram w cs c b [] l f = inl tt
@@ -291,12 +282,10 @@ follows-in sh p s us Halted h f = absurd (h refl)
 follows-in sh p s us _ h f = f
 
 pub attempts_sound : AttemptsSound
-attempts_sound sh p entries ram gs ys views m h k c b l n bound runs small =
-    go (agrees-or sh ram h.world h.commits c b (views c) n
+attempts_sound sh p entries ram gs ys views m h k c b l n bound runs small = go (agrees-or sh ram h.world h.commits c b (views c) n
     (λ d i. k.viewed_word_is_current_or_doomed c d b l i (bound-at h.world c 0 d b bound)))
   where
     go : Agrees (views c) (values_for sh ram h.world h.commits c b) ⊎ Doomed sh h.world c b → SoundOrDoomed sh p ram h.world h.commits c b
-    go (inl a) =
-        inl (follows-in sh p (h.world.cores c) (views c) (h.world.cores c).phase runs
+    go (inl a) = inl (follows-in sh p (h.world.cores c) (views c) (h.world.cores c).phase runs
         (k.carried_views.attempt_follows_from_its_view c).steps (values_for sh ram h.world h.commits c b) small a)
     go (inr d) = inr d

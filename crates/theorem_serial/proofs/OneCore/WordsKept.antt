@@ -36,8 +36,7 @@ same-words i r m t k = record {
 pub words-marked : (sh : Shape) (c : Cache) (w x : ℕ) (sp : Spilled) (ss : List Stored) → c.value w ≡ Some x → Words sh false c sp ss
     → Words sh false (marked w c) sp ss
 unfolding marked
-words-marked sh c w x sp ss e k =
-    same-words (marked-keeps sh w c (held_valued sh c w x k.cache e) k.cache)
+words-marked sh c w x sp ss e k = same-words (marked-keeps sh w c (held_valued sh c w x k.cache e) k.cache)
     (λ v q. absurd (cc)) (λ v. refl) (λ v q. q) k
 
 pub placed-marks : (sh : Shape) (l : ℕ) (c : Cache) (v : ℕ)
@@ -52,8 +51,7 @@ placed-marks sh l c v = go (free_way sh c (set_of sh l))
 
 pub words-placed : {sh : Shape} {solo : Bool} {c : Cache} (l : ℕ) {sp : Spilled} {ss : List Stored} → c.held l ≡ false
     → Words sh solo c sp ss → Words sh solo (placed sh l c) sp ss
-words-placed {sh} {solo} {c} l {sp} {ss} e k = same-words (placed-keeps sh l c e k.cache) (λ v q. (same v).0)
-    (λ v. (same v).1) (λ v q. (same v).2 ∙ q) k
+words-placed {sh} {c} l e k = same-words (placed-keeps sh l c e k.cache) (λ v q. (same v).0) (λ v. (same v).1) (λ v q. (same v).2 ∙ q) k
   where
     same : (v : ℕ) → ((placed sh l c).read v ≡ c.read v) × ((placed sh l c).modified v ≡ c.modified v)
         × ((placed sh l c).dirty v ≡ c.dirty v)
@@ -117,8 +115,8 @@ words-buffered {sh} {c} w x {sp} {ss} s v l q e k = record {
     clean u y m true p r = let i : u ≡ w = grind nats in k.clean v y (l ∙ ap line_of (sym i) ∙ m) q
     clean u y m false p r = k.clean u y m (rw p at r)
 
-or_other : (a b : Bool) → a ≡ false → (a || b) ≡ b
-or_other a b e = rw e refl
+or_other : {a : Bool} (b : Bool) → a ≡ false → (a || b) ≡ b
+or_other b e = rw e refl
 
 -- a frame is emptied: what was modified in it is spilled
 evicted-fields : (c : Cache) (s y l v : ℕ) → c.at s y ≡ Some l → ((evicted s y c).read v ≡ (if l == line_of v then false else c.read v))
@@ -151,7 +149,7 @@ words-evicted {sh} {solo} {c} s y l {sp} {ss} e m k = record {
         ≡ stores_word sh.base ss w
     named w false n q r = rw (evicted-fields c s y l w e).1 (rw q (k.named w))
     named w true true q r = rw (evicted-fields c s y l w e).1 (rw (q, r) (sym (or-left (c.modified w) (is_some (sp w)) r) ∙ k.named w))
-    named w true false q r = rw (evicted-fields c s y l w e).1 (rw (q, r) (sym (or_other (c.modified w) (is_some (sp w)) r) ∙ k.named w))
+    named w true false q r = rw (evicted-fields c s y l w e).1 (rw (q, r) (sym (or_other (is_some (sp w)) r) ∙ k.named w))
 
     clean : (v w : ℕ) → line_of v ≡ line_of w → is_some (if (l == line_of v) && c.modified v then Some (unwrap_or (c.value v) 0) else sp v)
         ≡ true → (b : Bool) → (l == line_of w) ≡ b → ((evicted s y c).modified w ≡ false) × ((evicted s y c).dirty w ≡ None)
@@ -164,13 +162,12 @@ words-evicted {sh} {solo} {c} s y l {sp} {ss} e m k = record {
 pub words-filled : {sh : Shape} {solo : Bool} {c : Cache} (l : ℕ) (ws : List ℕ) {sp : Spilled} {ss : List Stored} → c.held l ≡ true
     → Words sh solo c sp ss → Words sh solo (filled l ws c) sp ss
 unfolding filled
-words-filled {sh} {solo} {c} l ws {sp} {ss} e k = same-words (filled-keeps sh l ws c e k.cache) (λ v q. refl)
-    (λ v. refl) (λ v q. q) k
+words-filled {sh} {c} l ws e k = same-words (filled-keeps sh l ws c e k.cache) (λ v q. refl) (λ v. refl) (λ v q. q) k
 
 pub words-invalidated : {sh : Shape} {solo : Bool} {c : Cache} (l m : ℕ) {sp : Spilled} {ss : List Stored} → Words sh solo c sp ss
     → Words sh solo (invalidated l m c) sp ss
 unfolding invalidated
-words-invalidated {sh} {solo} {c} l m {sp} {ss} k = same-words (invalidated-keeps sh l m c k.cache)
+words-invalidated {sh} {c} l m k = same-words (invalidated-keeps sh l m c k.cache)
     (λ v q. refl) (λ v. refl) (λ v q. clean (hit l m v && not (c.modified v)) q) k
   where
     clean : {x : Option ℕ} (b : Bool) → x ≡ None → (if b then None else x) ≡ None
@@ -180,8 +177,7 @@ words-invalidated {sh} {solo} {c} l m {sp} {ss} k = same-words (invalidated-keep
 pub words-cleaned : {sh : Shape} {solo : Bool} {c : Cache} (l : ℕ) {sp : Spilled} {ss : List Stored} → Words sh solo c sp ss
     → Words sh solo (cleaned l c) sp ss
 unfolding cleaned
-words-cleaned {sh} {solo} {c} l {sp} {ss} k = same-words (cleaned-keeps sh l c k.cache) (λ v q. refl) (λ v. refl)
-    (λ v q. clean (l == line_of v) q) k
+words-cleaned {sh} {c} l k = same-words (cleaned-keeps sh l c k.cache) (λ v q. refl) (λ v. refl) (λ v q. clean (l == line_of v) q) k
   where
     clean : {x : Option ℕ} (b : Bool) → x ≡ None → (if b then None else x) ≡ None
     clean true q = refl
@@ -199,10 +195,10 @@ words-none solo sp i r m z = record {
   clean = λ v w e q. let n : is_some (sp v) ≡ false = rw (z v) refl in absurd (cc);
 }
 
-pub words-rolled : (sh : Shape) (solo : Bool) (c : Cache) (sp : Spilled) → IsCache sh c → ((w : ℕ) → sp w ≡ None)
+pub words-rolled : {sh : Shape} (solo : Bool) {c : Cache} (sp : Spilled) → IsCache sh c → ((w : ℕ) → sp w ≡ None)
     → Words sh solo (rolled_back c) sp []
 unfolding rolled_back
-words-rolled sh solo c sp i z = words-none solo sp (rolled_back-keeps sh c i) (λ w. refl) (λ w. refl) z
+words-rolled {sh} solo {c} sp i z = words-none solo sp (rolled_back-keeps sh c i) (λ w. refl) (λ w. refl) z
 
 pub words-committed : {sh : Shape} (solo : Bool) (t : ℕ) {c : Cache} (sp : Spilled) → IsCache sh c → ((w : ℕ) → sp w ≡ None)
     → Words sh solo (committed t c) sp []

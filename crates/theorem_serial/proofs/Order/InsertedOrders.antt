@@ -104,8 +104,7 @@ same_named base p n l here there al mh mt = go (steps base p n (begun l here)) r
         → ((w : ℕ) → uses base p n (begun l here) w ≡ true
         → IfSome o (λ a. (loads_word base a.loads w || stores_word base a.stores w) ≡ true))
         → (AgreeOnUsed base p n l here there
-        → MatchOption o (steps base p n (begun l there) ≡ None)
-        (λ a. SameAttempt base here there a (steps base p n (begun l there))))
+        → MatchOption o (steps base p n (begun l there) ≡ None) (λ a. SameAttempt base here there a (steps base p n (begun l there))))
         → IfSome o (λ a. ((w : ℕ) → (loads_word base a.loads w || stores_word base a.stores w) ≡ true → here w ≡ there w)
         → SameAttempt base here there a (steps base p n (begun l there)))
     go None q u f = tt
@@ -116,8 +115,7 @@ pub transaction_twice : (base : ℕ) (p : Program) (here there : Plain) (core n 
 unfolding transaction begun
 transaction_twice base p here there core n al mh mt e = rw e (run_twice base p here there core (here.cores core).ended _ _
     (closes_twice base p here there core (steps base p n (begun (here.cores core).local here.ram))
-    (steps base p n (begun (here.cores core).local there.ram)) e
-    (steps-memory base p n (begun (here.cores core).local here.ram) al mh)
+    (steps base p n (begun (here.cores core).local there.ram)) e (steps-memory base p n (begun (here.cores core).local here.ram) al mh)
     (steps-memory base p n (begun (here.cores core).local there.ram) al mt)
     (same_named base p n (here.cores core).local here.ram there.ram al mh mt)))
 
@@ -204,11 +202,9 @@ when_again : (base : ℕ) (p : Program) (o : Order) (os : List Order) (here ther
 unfolding orders_core
 when_again base p o os here there false one other more t again = tt
 when_again base p o os here there true None other more t again = tt
-when_again base p o os here there true (Some done) other more t again =
-    swap (and_commit (commit_of o done.1) (more done.0))
+when_again base p o os here there true (Some done) other more t again = swap (and_commit (commit_of o done.1) (more done.0))
     (λ cores. rest_again base p o os here there done (more done.0) other more cores
-    (t (cores o.core (or-left (o.core == o.core) (orders_core os o.core) (grind nats))))
-    (λ k m mk. again done.0 k m mk))
+    (t (cores o.core (or-left (o.core == o.core) (orders_core os o.core) (grind nats)))) (λ k m mk. again done.0 k m mk))
   where
     swap : (x : Option (Plain × List Commit))
         → (((c : ℕ) → orders_core (o ∷ os) c ≡ true → there.cores c ≡ here.cores c)
@@ -288,8 +284,7 @@ whole_inserted : {base : ℕ} {p : Program} {last : ℕ} {early late : List Orde
     → serial base p (last_tid last early) late done ≡ Some (plain, after)
     → serial base p last (early ++ o ∷ late) m ≡ Some (plain, before ++ commit_of o a ∷ after)
 unfolding serial
-whole_inserted plain c e =
-    grind (nats, c.above, serial-below, c.below, serial-append, c.first, c.executed)
+whole_inserted plain c e = grind (nats, c.above, serial-below, c.below, serial-append, c.first, c.executed)
 
 differs : (late : List Order) (c core : ℕ) → orders_core late core ≡ false → orders_core late c ≡ true → c ≢ core
 differs late c core h k e = let q : orders_core late c ≡ orders_core late core = ap (orders_core late) e in absurd (cc)
@@ -325,8 +320,7 @@ order_inserted base p last early late o m start done end a before after al mm c 
     let g : Again base late start done (end, after) (serial base p (last_tid last early) late done) =
     f (λ k h. t.others_here k (differs late k o.core c.another_core h))
     (λ w h. sym (t.kept_here w (untouched w h (stores_word base a.stores w) refl))) in
-    inserted_again o a c.another_core c.apart t g
-    (whole_inserted g.plain c g.same)
+    inserted_again o a c.another_core c.apart t g (whole_inserted g.plain c g.same)
   where
     untouched : (w : ℕ) → commits_touch base after w ≡ true → (b : Bool) → stores_word base a.stores w ≡ b
         → stores_word base a.stores w ≡ false

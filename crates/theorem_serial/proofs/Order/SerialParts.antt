@@ -289,8 +289,7 @@ counts-behind s c t n h = let e : nat_lt n.tid.0 t ≡ false = grind nats in rw 
 pub value-before : (base : ℕ) (ram : ℕ → ℕ) (cs : List Noted) (s : DirState) (c : Option ℕ) (t x : ℕ) → IsRising 0 cs → times t cs ≡ 0
     → t ≤ s.serving.serving → value_at base ram cs s c (Some t) x ≡ all_stores base x (before t cs) (ram x)
 unfolding value_at
-value-before base ram cs s c t x r z l =
-    ap (λ q. after_commits base s c (Some t) x q (ram x)) (cut-joined t cs)
+value-before base ram cs s c t x r z l = ap (λ q. after_commits base s c (Some t) x q (ram x)) (cut-joined t cs)
     ∙ (after-append base s c (Some t) x (before t cs) (behind t cs) (ram x)
     ∙ (after-uncounted base s c (Some t) x (behind t cs) (after_commits base s c (Some t) x (before t cs) (ram x))
     (each-then (λ n. t < n.tid.0) (λ n. counts s c (Some t) n ≡ false) (behind t cs) (counts-behind s c t) (behind-larger t 0 cs r))
@@ -310,8 +309,7 @@ undoomed w c d t x l z h =
       arith,
       z,
       h.hit,
-      live-fewer (InvBelow x t) (InvsNot (tid_at w d))
-          (λ m. below-other x t (tid_at w d) m l) (pair w c d).back,
+      live-fewer (InvBelow x t) (InvsNot (tid_at w d)) (λ m. below-other x t (tid_at w d) m l) (pair w c d).back,
     )
 
 -- so the view is what the commits before left
@@ -327,8 +325,7 @@ pub agrees-before : (sh : Shape) (ram there : ℕ → ℕ) (w : World) (cs : Lis
 agrees-before sh ram there w cs c t [] i r z is free l v = tt
 agrees-before sh ram there w cs c t (u ∷ us) i r z is free l v = (
   go ((v (home_of sh u.0) (home-below sh u.0 i)).0 refl),
-  agrees-before sh ram there w cs c t us i r z is free l.1
-      (λ d k. (v d k).1),
+  agrees-before sh ram there w cs c t us i r z is free l.1 (λ d k. (v d k).1),
 )
   where
     go : (u.1 ≡ value_at sh.base ram cs (w.dirs (home_of sh u.0)) (Some c) (Some t) u.0)

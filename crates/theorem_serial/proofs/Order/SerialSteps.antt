@@ -41,9 +41,9 @@ record Found (x : Option Attempt) (r : CoreState) : Type 0 where
   is : x ≡ Some attempt
   gives : Gives r attempt
 
-found : (x : Option Attempt) (r : CoreState) → IsSomeAnd x (Gives r) → Found x r
-found None r h = absurd h
-found (Some a) r h = record { attempt = a; is = refl; gives = h }
+found : (x : Option Attempt) {r : CoreState} → IsSomeAnd x (Gives r) → Found x r
+found None h = absurd h
+found (Some a) h = record { attempt = a; is = refl; gives = h }
 
 transaction-closed : (base : ℕ) (p : Program) (m : Plain) (core n : ℕ) (l : Local) {a : Attempt} (e : CoreEnd) → (m.cores core).local ≡ l
     → (m.cores core).ended ≡ Run → steps base p n (begun l m.ram) ≡ Some a → end_of a.outcome ≡ Some e
@@ -97,7 +97,7 @@ closed-serial {base} p {cs} c t {saved} r {first} m s al mm ms k = record {
 }
   where
     f : Found (steps base p r.n (begun saved s.start.ram)) r
-    f = found (steps base p r.n (begun saved s.start.ram)) r k.gives
+    f = found (steps base p r.n (begun saved s.start.ram)) k.gives
 
     e : Closed r.ended
     e = has-closed r.ended k.ends
@@ -131,8 +131,7 @@ closed-serial {base} p {cs} c t {saved} r {first} m s al mm ms k = record {
         (before t cs) (behind t cs) al mm can
 
     own : i.plain.cores c ≡ record { local = f.attempt.local; ended = e.end; console = (s.start.cores c).console ++ f.attempt.console }
-    own =
-        i.own_core ∙ put-same s.start.cores c
+    own = i.own_core ∙ put-same s.start.cores c
         (record { local = f.attempt.local; ended = e.end; console = (s.start.cores c).console ++ f.attempt.console })
 
     joined : map order_of_commit (before t cs ++ noted t c r ∷ behind t cs) ≡ map order_of_commit (before t cs)
@@ -200,8 +199,7 @@ stand {sh} {gs} {ys} {h} {c} {t} u k l y = record {
   may = y;
   positive = numbered-least 1 gs (grant_to t c) k.carried.granted_tids_are_those_below_next.0 owned.0;
   fresh = owned.1;
-  last = λ n i e. k.carried.live_tid_is_the_last_granted_to_its_core c 0 t n.tid.0 held
-      (subst (λ q. Contains gs (grant_to n.tid.0 q)) e
+  last = λ n i e. k.carried.live_tid_is_the_last_granted_to_its_core c 0 t n.tid.0 held (subst (λ q. Contains gs (grant_to n.tid.0 q)) e
       (granted-at gs h.commits n k.carried.commits_are_of_granted_tids.1 i));
   reached = reached;
   untold = untold;
@@ -262,8 +260,7 @@ later-apart : {sh : Shape} {p : Program} {entries : ℕ → Local} {ram : ℕ �
     → Uses} {m : Plain} {h : History} {c : ℕ} (t x : ℕ) (n : Noted) → Suits sh p ram → Invariants sh p entries ram gs ys views m h
     → Stand sh h ys c t → stores_word sh.base (h.world.cores c).stores x ≡ true → Contains h.commits n → t < n.tid.0
     → (loads_word sh.base n.loads x || stores_word sh.base n.stores x) ≡ false
-later-apart {sh} {ys} t x n u k s e i l =
-    go (loads_word sh.base n.loads x) (stores_word sh.base n.stores x) refl refl
+later-apart {sh} {ys} t x n u k s e i l = go (loads_word sh.base n.loads x) (stores_word sh.base n.stores x) refl refl
   where
     at : UsedAtHomes sh n.loads n.stores
     at = accesses_at_homes sh n.loads n.stores (k.carried_in_memory.commits_stay_in_memory n i)
@@ -287,8 +284,7 @@ pub closed-core : {sh : Shape} (p : Program) {entries : ℕ → Local} {ram : �
     (m : Plain) (h : History) (c t : ℕ) (r : CoreState) {o : Out} → Suits sh p ram → Invariants sh p entries ram gs ys views m h
     → c < sh.cores → Closing sh p c t (h.world.cores c) r o → ClosedSerial sh.base p h.commits c t r (plain_start entries ram) m
 unfolding plain_start pair
-closed-core {sh} p {entries} {ram} {gs} {ys} {views} m h c t r u k l f = closed-serial p c t r m cut
-    (fits-aligned p u.fits) u.small small can
+closed-core {sh} p {entries} {ram} {ys} {views} m h c t r u k l f = closed-serial p c t r m cut (fits-aligned p u.fits) u.small small can
   where
     s : Stand sh h ys c t
     s = stand u k l f.phase
@@ -299,18 +295,15 @@ closed-core {sh} p {entries} {ram} {gs} {ys} {views} m h c t r u k l f = closed-
         k.commits_are_serial)
 
     small : IsMemory cut.start.ram
-    small =
-        rw cut.first at (serial-memory sh.base p 0 (map order_of_commit (before t h.commits)) (plain_start entries ram)
+    small = rw cut.first at (serial-memory sh.base p 0 (map order_of_commit (before t h.commits)) (plain_start entries ram)
         (fits-aligned p u.fits) u.small)
 
     words : (x : ℕ) → cut.start.ram x ≡ all_stores sh.base x (before t h.commits) (ram x)
     words x = rw cut.first at (serial-holds sh.base p 0 (map order_of_commit (before t h.commits)) (plain_start entries ram) x)
 
     agrees : Agrees (views c) cut.start.ram
-    agrees = agrees-before sh ram cut.start.ram h.world h.commits c t (views c) u.dirs k.carried.commits_are_of_granted_tids.0 s.fresh
-        words
-        (λ d. k.carried.owed_counts_invs_and_acks.served c d)
-        (uses-reached sh h ys c t true (views c) s
+    agrees = agrees-before sh ram cut.start.ram h.world h.commits c t (views c) u.dirs k.carried.commits_are_of_granted_tids.0 s.fresh words
+        (λ d. k.carried.owed_counts_invs_and_acks.served c d) (uses-reached sh h ys c t true (views c) s
         (view-stands t (h.world.cores c) (views c) s.may (k.carried_views.read_marks_are_the_view c).stand))
         (λ d i. k.viewed_word_is_current_or_doomed c d (Some t) l i (may-bound h.world c d t s.may))
 
@@ -334,15 +327,11 @@ closed-core {sh} p {entries} {ram} {gs} {ys} {views} m h c t r u k l f = closed-
       runs = (k.committed_cores_are_serial c l).ended ∙ may-runs t (h.world.cores c).phase (h.world.cores c).ended s.may;
       ends = f.ends (views c) (k.carried_views.attempt_follows_from_its_view c);
       gives = f.gives (views c) (k.carried_views.attempt_follows_from_its_view c) cut.start.ram small agrees;
-      another =
-          orders-another c (behind t h.commits)
+      another = orders-another c (behind t h.commits)
           (each-then (λ n. Contains h.commits n × (t < n.tid.0)) (λ n. (n.core.0 == c) ≡ false) (behind t h.commits) another listed);
-      apart =
-          λ x e. touch-none sh.base x (behind t h.commits)
-          (each-then (λ n. Contains h.commits n × (t < n.tid.0))
+      apart = λ x e. touch-none sh.base x (behind t h.commits) (each-then (λ n. Contains h.commits n × (t < n.tid.0))
           (λ n. (loads_word sh.base n.loads x || stores_word sh.base n.stores x) ≡ false) (behind t h.commits)
-          (λ n i. later-apart t x n u k s (sym (ap (λ q. stores_word sh.base q x) f.stores) ∙ e) i.0
-          i.1) listed);
+          (λ n i. later-apart t x n u k s (sym (ap (λ q. stores_word sh.base q x) f.stores) ∙ e) i.0 i.1) listed);
     }
 
 -- what an event left and noted
@@ -395,17 +384,14 @@ events_serial sh p entries ram gs ys views m h e u k =
       where
         one : (o : Out) → Leaves sh p c (h.world.cores c) o
             → After sh p entries ram h (record { world = core_moves h.world c o; noted = o.commit })
-        one o (Stays n v i) = kept-serial h m (record { world = core_moves h.world c o; noted = o.commit }) n
-            k.commits_are_serial
+        one o (Stays n v i) = kept-serial h m (record { world = core_moves h.world c o; noted = o.commit }) n k.commits_are_serial
             (λ j y. rested-core sh h.world c j o m (record { commit = n; saved = v; ends = i }) (k.committed_cores_are_serial j y))
         one o (Closes t r f) =
-            let g : ClosedSerial sh.base p h.commits c t r (plain_start entries ram) m =
-            closed-core p m h c t r u k l f in
+            let g : ClosedSerial sh.base p h.commits c t r (plain_start entries ram) m = closed-core p m h c t r u k l f in
             record {
               plain = g.plain;
               commits = subst (λ q. CommitsSerial sh p entries ram (and_noted q h.commits) g.plain) (sym f.commit) g.commits;
-              cores = λ j y. closed-cores h.world c j o g f
-                  (k.committed_cores_are_serial j y);
+              cores = λ j y. closed-cores h.world c j o g f (k.committed_cores_are_serial j y);
             }
 
     rested : (c : ℕ) (o : Out) (w : World) → w.cores ≡ (λ j. if j == c then o.core else h.world.cores j)

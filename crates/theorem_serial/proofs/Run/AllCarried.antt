@@ -45,8 +45,7 @@ pub one-more : (sh : Shape) (p : Program) (es : List Event) (e : Event) (ys : Wa
 unfolding run_from grants_from ways_from views_from
 one-more sh p [] e ys vs first h g r n = subst (λ k. next_history sh p k e ≡ Some g → OneMore sh p [] e ys vs first k g)
     (ap (or_else first) r) (only-one sh p e ys vs first g) n
-one-more sh p (x ∷ es) e ys vs first h g r n =
-    go (next_history sh p first x) refl r
+one-more sh p (x ∷ es) e ys vs first h g r n = go (next_history sh p first x) refl r
     (λ f q. one-more sh p es e (ways_after (sent_by sh p first.world x) ys) (views_after sh p first.world x vs) f h g q n)
   where
     go : (o : Option History) → next_history sh p first x ≡ o → and_then (run_from sh p es) o ≡ Some h
@@ -56,8 +55,7 @@ one-more sh p (x ∷ es) e ys vs first h g r n =
     go None q s more = absurd (cc)
     go (Some f) q s more = let k = more f s in record {
       state = rw q k.state;
-      grants =
-          rw q (ap (λ gs. granted_by first.world x ++ gs) k.grants
+      grants = rw q (ap (λ gs. granted_by first.world x ++ gs) k.grants
           ∙ sym (append_assoc (granted_by first.world x) (grants_from sh p es f) (granted_by h.world e)));
       ways = rw q k.ways;
       views = rw q k.views;
@@ -176,10 +174,10 @@ record Proved (sh : Shape) (p : Program) (o : Memo) (h : History) : Type 0 where
 abbrev AllOf : Shape → Program → (ℕ → Local) → (ram : ℕ → ℕ) → Memo → History → Type 0
 AllOf sh p entries ram o h = (m : Plain) × Invariants sh p entries ram o.gs o.ys o.vs m h
 
-proved : (sh : Shape) (p : Program) (entries : ℕ → Local) (ram : ℕ → ℕ) (es : List Event) (h : History) → Suits sh p ram
+proved : {sh : Shape} (p : Program) (entries : ℕ → Local) {ram : ℕ → ℕ} (es : List Event) {h : History} → Suits sh p ram
     → run_from sh p es (first_state entries ram) ≡ Some h → Proved sh p (memo sh p entries ram es) h
 unfolding run
-proved sh p entries ram es h s r = record {
+proved {sh} p entries {ram} es s r = record {
   carried = subst (λ x. IfSome x (λ g. Carried sh o.gs o.ys g)) r (runs_carry sh p entries ram es);
   memory = subst (λ x. IfSome x (λ g. CarriedInMemory sh g)) r (runs_stay_in_memory sh p entries ram es s.inside);
   views = subst (λ x. IfSome x (λ g. CarriedViews sh p o.vs g)) r (runs_carry_views sh p entries ram es s.fits);
@@ -189,10 +187,10 @@ proved sh p entries ram es h s r = record {
     o = memo sh p entries ram es
 
 -- one event keeps the whole list, where what is proved by itself holds after it
-step-all : (sh : Shape) (p : Program) (entries : ℕ → Local) (ram : ℕ → ℕ) (o : Memo) (h : History) (e : Event) → Suits sh p ram
+step-all : {sh : Shape} (p : Program) {entries : ℕ → Local} {ram : ℕ → ℕ} (o : Memo) (h : History) (e : Event) → Suits sh p ram
     → AllOf sh p entries ram o h
     → IfSome (next_history sh p h e) (λ g. Proved sh p (memo_after sh p h e o) g → AllOf sh p entries ram (memo_after sh p h e o) g)
-step-all sh p entries ram o h e s a = go (next_history sh p h e) (homes_kept sh p entries ram o.gs o.ys o.vs a.0 h e s a.1)
+step-all {sh} p {entries} {ram} o h e s a = go (next_history sh p h e) (homes_kept sh p entries ram o.gs o.ys o.vs a.0 h e s a.1)
     (words_kept sh p entries ram o.gs o.ys o.vs a.0 h e s a.1) (keeps_views sh p entries ram o.gs o.ys o.vs a.0 h e a.1)
     (events_serial sh p entries ram o.gs o.ys o.vs a.0 h e s a.1)
   where
@@ -222,8 +220,7 @@ step-all sh p entries ram o h e s a = go (next_history sh p h e) (homes_kept sh 
             viewed_word_is_current_or_doomed = views.0;
             commits_are_serial = d.commits;
             committed_cores_are_serial = d.cores;
-            seen_words_are_serial = seen_follows sh p entries ram n.gs n.ys d.plain g s.dirs k.carried k.memory homes.0
-                homes.1 d.commits;
+            seen_words_are_serial = seen_follows sh p entries ram n.gs n.ys d.plain g s.dirs k.carried k.memory homes.0 homes.1 d.commits;
           },
         )
 
@@ -239,8 +236,7 @@ from-there : (sh : Shape) (p : Program) (entries : ℕ → Local) (ram : ℕ →
     → IfSome (run_from sh p es h) (λ g. AllOf sh p entries ram (memo sh p entries ram (past ++ es)) g)
 unfolding run_from
 from-there sh p entries ram past [] h s r a = rw append-nil a
-from-there sh p entries ram past (e ∷ es) h s r a =
-    go (next_history sh p h e) refl (step-all sh p entries ram (memo sh p entries ram past) h e s a)
+from-there sh p entries ram past (e ∷ es) h s r a = go (next_history sh p h e) refl (step-all p (memo sh p entries ram past) h e s a)
     (λ g q b. from-there sh p entries ram (past ++ e ∷ []) es g s
     (one-more sh p past e first_ways no_views (first_state entries ram) h g r q).state b)
   where
@@ -255,7 +251,7 @@ from-there sh p entries ram past (e ∷ es) h s r a =
     go (Some g) q a more =
         let k = one-more sh p past e first_ways no_views (first_state entries ram) h g r q in
         let same : memo sh p entries ram (past ++ e ∷ []) ≡ o = memo-more entries ram k in
-        let b : AllOf sh p entries ram o g = a (subst (λ y. Proved sh p y g) same (proved sh p entries ram (past ++ e ∷ []) g s k.state)) in
+        let b : AllOf sh p entries ram o g = a (subst (λ y. Proved sh p y g) same (proved p entries (past ++ e ∷ []) s k.state)) in
         subst (λ fs. IfSome (run_from sh p es g) (λ f. AllOf sh p entries ram (memo sh p entries ram fs) f)) (append_assoc past (e ∷ []) es)
         (more g q (subst (λ y. AllOf sh p entries ram y g) (sym same) b))
 

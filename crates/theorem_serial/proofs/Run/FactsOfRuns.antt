@@ -24,7 +24,7 @@ use proofs.Marks.ModifiedMasksKept.{step-one-mark, start-one-mark}
 use proofs.Marks.NamedKept.{KeptUnacked, step-unacked, start-unacked}
 use proofs.Marks.ReadsKept.{KeptReads, step-reads, start-reads, read-words}
 use proofs.Memory.HomesKept.{step-homes, start-homes}
-use proofs.Run.AllInvariants.{step-all, run-all, one_probe_from}
+use proofs.Run.AllInvariants.{step-all, run-all, one_probe_from, passed, owed_from, served_from}
 use proofs.Serving.OwingKept.{KeptOwing, step-owing, start-owing}
 use proofs.Serving.ProbingSteps.{KeptProbed, step-probed, start-probed}
 use proofs.Ways.ToldSteps.{ByCore, Speaks, step-speaks}
@@ -33,7 +33,6 @@ use proofs.Ways.WayFacts.{all_ways_fit, given_up_once, live_is_open, committed_w
 use proofs.Counts.Links.{total-le}
 use proofs.Marks.MaskLaws.{marked_by_served, marks_of_commits}
 use proofs.Memory.InMemoryKept.{KeptInMemory, run-memory}
-use proofs.Run.Always.{passed, owed_from, served_from}
 use proofs.Serving.CommitSteps.{commits_served}
 
 -- What is carried along every run together with all else.
@@ -52,11 +51,9 @@ pub record KeptMore (sh : Shape) (gs : List Grant) (h : History) : Type 0 where
 
 pub step-more : (sh : Shape) (p : Program) (gs : List Grant) (h : History) (e : Event) → KeptMore sh gs h
     → IfSome (recorded h (step sh p h.world e)) (λ g. KeptMore sh (gs ++ granted_by h.world e) g)
-step-more sh p gs h e k =
-    go (step sh p h.world e) (step-all p e k.all) (step-line-owners sh p gs h.world e k.all.spared k.line_owners)
+step-more sh p gs h e k = go (step sh p h.world e) (step-all p e k.all) (step-line-owners sh p gs h.world e k.all.spared k.line_owners)
     (step-loading sh p h.world e k.loading) (step-probed p e k.all.kept k.all.owners k.probed)
-    (step-owing sh p h.world e k.owing) (step-unacked sh p gs h.world e k.all.kept k.all.spared k.unacked)
-    (step-homes sh p h.world e k.all.kept k.homes)
+    (step-owing sh p h.world e k.owing) (step-unacked p e k.all.kept k.all.spared k.unacked) (step-homes p e k.all.kept k.homes)
     (step-after p e k.all.owners k.all.cores k.all.last k.loading k.after)
     (step-one-mark p e k.all.kept k.all.owners k.all.marks k.one_mark)
     (step-reads p e k.all.kept k.all.owners k.all.cores k.all.spared k.reads)
@@ -93,9 +90,9 @@ start-more sh p entries ram =
       line_owners = start-line-owners entries ram;
       loading = start-loading sh entries ram;
       probed = start-probed entries ram;
-      owing = start-owing sh entries ram;
+      owing = start-owing entries ram;
       unacked = start-unacked sh entries ram;
-      homes = start-homes sh entries ram;
+      homes = start-homes entries ram;
       after = start-after sh entries ram;
       one_mark = start-one-mark sh entries ram;
       reads = start-reads sh entries ram;
@@ -193,10 +190,10 @@ holder-same : (w : World) (c d e t : ℕ) → holder t (pair w c d) ≡ holder t
 unfolding pair holder
 holder-same w c d e t = refl
 
-live-granted : (sh : Shape) (gs : List Grant) (h : History) → KeptAll sh gs h → (c d t : ℕ) → c < sh.cores → 1 ≤ holder t (pair h.world c d)
+live-granted : {sh : Shape} {gs : List Grant} (h : History) → KeptAll sh gs h → (c d t : ℕ) → c < sh.cores → 1 ≤ holder t (pair h.world c d)
     → Contains gs (grant_to t c) × (times t h.commits ≡ 0)
 unfolding share
-live-granted sh gs h k c d t l x =
+live-granted {sh} h k c d t l x =
     let y : 1 ≤ holder t (pair h.world c 0) = rw (holder-same h.world c 0 d t) x in
     (k.owners.held c d t x, omega (arith, y, k.owners.once t, total-le (share (holder t) h.world 0) sh.cores c l))
 
@@ -219,18 +216,17 @@ marked-line : {sh : Shape} {gs : List Grant} (h : History) → KeptAll sh gs h �
 unfolding pair marks_of
 marked-line h k c d l cl dl e =
     let f = (k.marks c d (tid_at h.world d) l).fresh in
-    let r =
-    marked-came h.world.next (tid_at h.world d) (live (Grants (tid_at h.world d)) (pair h.world c d).grants)
+    let r = marked-came h.world.next (tid_at h.world d) (live (Grants (tid_at h.world d)) (pair h.world c d).grants)
     (live (MarkOf (tid_at h.world d) l) (pair h.world c d).out) e f in
     ((k.kept.told.owed.at_home c d).marked l e, r.0, r.1)
 
 none-marked : (a b c : Bool) → (a && b) ≡ false → num (a && (b && c)) ≡ 0
 none-marked a b c h = grind nats
 
-marks-wait : (sh : Shape) (gs : List Grant) (h : History) → KeptAll sh gs h → (c d t l : ℕ) → c < sh.cores → d < sh.dirs
+marks-wait : {sh : Shape} {gs : List Grant} (h : History) → KeptAll sh gs h → (c d t l : ℕ) → c < sh.cores → d < sh.dirs
     → MarksWait sh t l d (pair h.world c d)
 unfolding marked_by
-marks-wait sh gs h k c d t l cl dl = record {
+marks-wait {sh} h k c d t l cl dl = record {
   fresh = (k.marks c d t l).fresh;
   unsent =
       λ y z. omega (
@@ -284,7 +280,7 @@ carried sh gs ys h x t = let m = x.more in let k = m.all in record {
   each_tid_is_resolved_in_one_way = (k.kept.told.tids.resolved, t.untold, t.fit);
   commits_are_of_granted_tids = (k.owners.rising, k.owners.granted);
   one_tid_request_or_grant = k.kept.told.tids.requests;
-  live_tid_is_granted_to_its_core = live-granted sh gs h k;
+  live_tid_is_granted_to_its_core = live-granted h k;
   live_tid_is_the_last_granted_to_its_core = k.last;
   open_tid_is_live = t.is_live;
   live_tid_is_open_where_it_must_be = t.is_open;
@@ -308,7 +304,7 @@ carried sh gs ys h x t = let m = x.more in let k = m.all in record {
   directory_that_replied_serves_the_tid = served_from sh h.world k.kept;
   skipped_tid_sent_no_mark = λ c d t l x y. (k.marks c d t l).skipped x y;
   marked_line_was_marked_by_the_served_tid = (marked-line h k, t.served);
-  marks_go_out_with_the_reply = marks-wait sh gs h k;
+  marks_go_out_with_the_reply = marks-wait h k;
   marks_sent_are_in_flight_or_handled = (mark-owner k, k.counted);
   inv_and_ack_name_a_marked_line = k.named;
   line_marked_in_part_has_no_owner = k.whole;
@@ -318,8 +314,8 @@ carried sh gs ys h x t = let m = x.more in let k = m.all in record {
   after_is_the_last_commit_there = m.after;
   one_load_request_or_fill = m.loading;
   line_tag_is_the_last_settled_writer = x.tags;
-  copy_above_the_tag_is_of_a_commit_in_flight = above-from sh h.commits h.world x.lines;
-  owned_line_has_one_copy_with_its_tag = owned-from sh h.commits h.world x.lines;
+  copy_above_the_tag_is_of_a_commit_in_flight = above-from sh h.world x.lines;
+  owned_line_has_one_copy_with_its_tag = owned-from sh h.world x.lines;
   asked_line_gets_its_words = (k.asked, x.gets);
   holder_is_a_sharer = x.sharers;
   read_mark_is_valid_or_passed = read-words k.owners k.last m.reads;
@@ -375,8 +371,7 @@ attempt-memory : (sh : Shape) (gs : List Grant) (ys : Ways) (h : History) → Ca
     → AttemptInMemory sh (h.world.cores c)
 attempt-memory sh gs ys h k m c = record {
   accesses = (m.cores c).accesses;
-  spilled =
-      λ x e. (m.cores c).accesses.stored x
+  spilled = λ x e. (m.cores c).accesses.stored x
       (sym (k.stored_words_are_those_named c x) ∙ either ((h.world.cores c).cache.modified x) (is_some ((h.world.cores c).spilled x)) e);
   awaited = λ a e. (m.cores c).frames a.line (k.awaited_line_has_a_frame c a e).1;
 }

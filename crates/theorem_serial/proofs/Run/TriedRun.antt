@@ -76,9 +76,7 @@ tried_fails = record {
   tag = λ k. unequal 2 1 refl (k 1 3 one-two (let q : 3 < 4 = omega arith in q) refl);
   owner = λ k. unequal 0 1 refl (k 0 1 3 zero-two one-two (let q : 3 < 4 = omega arith in q) refl);
   sharer = λ k. neither never (λ t. no t.sent) ((k 1 1 3 one-two one-two (let q : 3 < 4 = omega arith in q) refl).shares refl);
-  word =
-      λ k. unequal 7 2 refl (home-of 1 24 k refl one-two refl refl
-      refl);
+  word = λ k. unequal 7 2 refl (home-of 1 24 k refl one-two refl refl refl);
   commit = λ k. unequal 1 0 refl (k 1 0 2 2 one-two zero-two (let q : 2 < 4 = omega arith in q) refl zero-two).one;
   uncommitted = λ k. neither (unequal 2 0 refl) no (k 1 1 24 2 one-two one-two refl refl refl);
 }

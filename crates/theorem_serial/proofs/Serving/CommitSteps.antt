@@ -13,8 +13,8 @@ use Names.{live, Pair, pair, part, Kept, true, ◌++◌, Solo, Invs, Acks, ◌<�
 use Names.{ap, nats, tid_at, to_dir, to_core, FromCore, FromDir, IfSome_then, grant_to, first_state, ◌≢◌}
 use proofs.Counts.Links.{live-sends, live-takes, total-le, live-fewer}
 use proofs.Counts.StepCases.{pairs_move, pairs_grant, pairs_back, pairs_dir, pairs_asks, pairs_vendor, OfAnswer, step_cases, given}
-use proofs.Serving.CoreCommits.{CommitsNoted, noted-exec, noted-evict, noted-grant, noted-back, Served, served-exec, served-evict}
-use proofs.Serving.CoreCommits.{served-grant, served-back, fewer-above}
+use proofs.Serving.CoreDue.{CommitsNoted, noted-exec, noted-evict, noted-grant, noted-back, Served, served-exec, served-evict, served-grant}
+use proofs.Serving.CoreDue.{served-back, fewer-above}
 use proofs.Serving.DirDue.{Due, DueBy, dir-due, still-due, none-quiet, SparesOwn, SparesBy, dir-spares, Rises, RisesBy, dir-rises}
 use proofs.Serving.DirDue.{rises-still}
 use proofs.Serving.KeptSteps.{step-kept, start-all, marks_home, acks_owed, invs-few, core_of_out, once_at}
@@ -44,8 +44,7 @@ unfolding pair
 step-committing {sh} p {w} e z h = step_cases sh p w e (λ g o. KeptCommitting o.world)
     (λ c l. moved c (core_exec sh p c (w.cores c)) (λ d. served-exec p c (z.probes c d).core))
     (λ c x y l. moved c (core_evict sh x y (w.cores c)) (λ d. served-evict sh x y d (tid_at w d) (w.cores c)))
-    (λ c k t i. pairs_grant P w c k (grant sh t (w.cores c))
-    (λ d. committing-moved (grant_taken (pair w c d) k) (grant sh t (w.cores c)) d
+    (λ c k t i. pairs_grant P w c k (grant sh t (w.cores c)) (λ d. committing-moved (grant_taken (pair w c d) k) (grant sh t (w.cores c)) d
     (served-grant sh t d (tid_at w d) (w.cores c)) (h c d)) h)
     (λ c d k m i. taken c d k (from_dir sh d (w.cores c) m) (λ e. served-back sh d e (tid_at w e) (w.cores c) m))
     (λ c d k m i. answered c d k m i (dir_deliver sh (w.dirs d) c m) (dir-rises sh (w.dirs d) c m))
@@ -73,8 +72,7 @@ step-committing {sh} p {w} e z h = step_cases sh p w e (λ g o. KeptCommitting o
     answered : (c d k : ℕ) (m : Msg) → FromCore w c d k m → (a : Answer) → RisesBy (w.dirs d) a → OfAnswer w c d k (λ v. KeptCommitting v) a
     answered c d k m i Waits u = tt
     answered c d k m i Drops u = dir c d k m (w.dirs d) (λ dst. []) i (rises-still (w.dirs d))
-    answered c d k m i (Asks s sends) u =
-        pairs_asks P w d s sends (λ j. committing-answered (pair w j d) (sends (Core j)) u (h j d)) h
+    answered c d k m i (Asks s sends) u = pairs_asks P w d s sends (λ j. committing-answered (pair w j d) (sends (Core j)) u (h j d)) h
     answered c d k m i (Takes s sends) u = dir c d k m s sends i u
 
 pub start-committing : (entries : ℕ → Local) (ram : ℕ → ℕ) → KeptCommitting (start entries ram)
@@ -175,8 +173,7 @@ spared-back {gs} w c e k j m s {sends} y h i u p z l g = elim u.served [ inl q �
 
     sent : Contains gs (grant_to (tid_at w e) j) → SparesOwn (w.dirs e) c m sends → among Invs (sends (Core j)) ≡ 0
     sent a (inl q) = q j
-    sent a (inr q) = let x : c ≡ j =
-        granted-once 1 gs (tid_at w e) c j y ((h c e).owner (tid_at w e) (taken q.1)) a in
+    sent a (inr q) = let x : c ≡ j = granted-once 1 gs (tid_at w e) c j y ((h c e).owner (tid_at w e) (taken q.1)) a in
         ap (λ b. among Invs (sends (Core b))) (sym x) ∙ q.0
 
     stays : s.serving.serving ≡ tid_at w e → live Invs (to_core w e j ++ sent_all (sends (Core j))) ≡ 0
@@ -196,14 +193,13 @@ dir-spared {sh} {gs} w c e k {m} s sends y h z i u p = pairs_dir (SparedOf sh gs
     v = dir_takes w c e k s sends
 
     back : (j : ℕ) → e < sh.dirs → Contains gs (grant_to s.serving.serving j) → live Invs (to_core w e j ++ sent_all (sends (Core j))) ≡ 0
-    back j = spared-back w c e k j m s y h i u p
-        (λ x. rw (eq-self e) at (no-invs e j z (rw (eq-self e) x)))
+    back j = spared-back w c e k j m s y h i u p (λ x. rw (eq-self e) at (no-invs e j z (rw (eq-self e) x)))
 
-asks-spared : (sh : Shape) (gs : List Grant) (w : World) (e : ℕ) (s : DirState) (sends : Sends) → SparesCommitter sh gs w
+asks-spared : {sh : Shape} {gs : List Grant} (w : World) (e : ℕ) (s : DirState) {sends : Sends} → SparesCommitter sh gs w
     → KeptTold sh (dir_asks w e s sends) → Due sh e (w.dirs e) 0 s sends → ((j : ℕ) → among Invs (sends (Core j)) ≡ 0)
     → SparesCommitter sh gs (dir_asks w e s sends)
 unfolding dir_asks pair
-asks-spared sh gs w e s sends h z u p =
+asks-spared {sh} {gs} w e s {sends} h z u p =
     pairs_asks (SparedOf sh gs) w e s sends (λ j. spared-answered sh gs j e (pair w j e) s (sends (Core j)) (back j) (h j e).owner) h
   where
     v : World
@@ -268,18 +264,16 @@ no-commit sh u t s = go s.phase
 pub step-spared : {sh : Shape} (p : Program) {gs : List Grant} {w : World} {cs : List Noted} (e : Event) → Kept sh w → KeptOwners sh gs w cs
     → SparesCommitter sh gs w → IfSome (step sh p w e) (λ o. KeptTold sh o.world → SparesCommitter sh (gs ++ granted_by w e) o.world)
 unfolding pair
-step-spared {sh} p {gs} {w} {cs} e z y h = step_cases sh p w e (λ g o. KeptTold sh o.world → SparesCommitter sh (gs ++ g) o.world)
+step-spared {sh} p {gs} {w} e z y h = step_cases sh p w e (λ g o. KeptTold sh o.world → SparesCommitter sh (gs ++ g) o.world)
     (λ c l. moved c (core_exec sh p c (w.cores c)) (holder-exec sh p c (w.cores c)) (noted-exec sh p c (w.cores c)))
     (λ c a b l. moved c (core_evict sh a b (w.cores c)) (holder-evict sh a b c (w.cores c)) (noted-evict sh a b (w.cores c)))
-    (λ c k u i n. rw append-nil
-    (pairs_grant (SparedOf sh gs) w c k (grant sh u (w.cores c))
+    (λ c k u i n. rw append-nil (pairs_grant (SparedOf sh gs) w c k (grant sh u (w.cores c))
     (λ d. spared-moved sh gs c d (grant_taken (pair w c d) k) (grant sh u (w.cores c)) (noted-grant sh u (w.cores c))
     (λ t l. absurd (no-commit sh u t (w.cores c) l)) (record { owner = (h c d).owner; own = (h c d).own })) h))
     (λ c d k m i. taken c d k m i (from_dir sh d (w.cores c) m) (holder-back sh d c (w.cores c) m) (noted-back sh d (w.cores c) m))
     (λ c d k m i. answered c d k m i (dir_deliver sh (w.dirs d) c m)
     (dir-due sh d (w.dirs d) c m (once_at c d k z.told i) (z.told.owed.at_home c d).marked (marks_home c d k z.told.owed i)
-    (acks_owed c d k z.told.owed (core_of_out c d k z.told.tids i) i))
-    (dir-spares sh (w.dirs d) c m))
+    (acks_owed c d k z.told.owed (core_of_out c d k z.told.tids i) i)) (dir-spares sh (w.dirs d) c m))
     (λ c k i n. vendor-spared sh gs w c k h z.told)
   where
     noted : (c t : ℕ) (o : Out) → KeepsHolder c none (w.cores c) o → 1 ≤ noted_tid t o.commit → Contains gs (grant_to t c)
@@ -288,8 +282,7 @@ step-spared {sh} p {gs} {w} {cs} e z y h = step_cases sh p w e (λ g o. KeptTold
     moved : (c : ℕ) (x : Option Out) → IfSome x (λ o. KeepsHolder c none (w.cores c) o) → IfSome x (λ o. CommitsNoted o)
         → IfSome x (λ o. KeptTold sh (core_moves w c o) → SparesCommitter sh (gs ++ []) (core_moves w c o))
     moved c None a b = tt
-    moved c (Some o) a b =
-        λ n. rw append-nil (pairs_move (SparedOf sh gs) w c o
+    moved c (Some o) a b = λ n. rw append-nil (pairs_move (SparedOf sh gs) w c o
         (λ d. spared-moved sh gs c d (pair w c d) o b (λ t l. noted c t o a l) (h c d)) h)
 
     taken : (c d k : ℕ) (m : Msg) → FromDir w d c k m → (x : Option Out)
@@ -307,8 +300,7 @@ step-spared {sh} p {gs} {w} {cs} e z y h = step_cases sh p w e (λ g o. KeptTold
     answered : (c d k : ℕ) (m : Msg) → FromCore w c d k m → (a : Answer) → DueBy sh d (w.dirs d) (num (passes Acks m)) a
         → SparesBy (w.dirs d) c m a → OfAnswer w c d k (λ v. KeptTold sh v → SparesCommitter sh (gs ++ []) v) a
     answered c d k m i Waits u p = tt
-    answered c d k m i Drops u p =
-        λ n. rw append-nil (dir-spared w c d k (w.dirs d) (λ dst. []) y.numbered h n i
+    answered c d k m i Drops u p = λ n. rw append-nil (dir-spared w c d k (w.dirs d) (λ dst. []) y.numbered h n i
         (rw u (still-due sh d (w.dirs d) (z.told.owed.at_home c d).marked)) (inl none-quiet))
-    answered c d k m i (Asks s sends) u p = λ n. rw append-nil (asks-spared sh gs w d s sends h n u p)
+    answered c d k m i (Asks s sends) u p = λ n. rw append-nil (asks-spared w d s h n u p)
     answered c d k m i (Takes s sends) u p = λ n. rw append-nil (dir-spared w c d k s sends y.numbered h n i u p)

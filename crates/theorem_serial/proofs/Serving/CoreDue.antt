@@ -1,17 +1,145 @@
--- A core acknowledges nothing but an invalidation, and marks lines at their homes alone.
+-- What a core sends that directories count: Commits, to those that have reached its TID, and acknowledgements.
 use Rattle.theorem_serial.proofs
 use proofs.Names
-use Names.{ℕ, zero, suc, ◌≡◌, ◌≤◌, ◌%◌, Bool, true, false, List, [], ◌∷◌, ◌++◌, ◌==◌, ◌&&◌, None, IfSome, nat_lt, cond, if◌then◌else◌}
-use Names.{flat_map, arith, refl, flat_map-append, Program, num, those, count_below, Dir, Msg, Fill, Skip, ProbeReply, Mark, Commit}
-use Names.{WriteBack, DataReq, Inv, InvAck, Shape, home, lines, Cache, is_modified, modified_mask, written_lines, Spilled, holds}
-use Names.{spilled_mask, spilled_words, CoreState, Phase, AwaitTid, DoomedTid, Overflowing, Sends, to, marks_for, skip_all, probe_all}
-use Names.{abort_written, Out, commit, commit_sends, solo_sends, solo_marks_or_skip, solo_write_backs, solo_writes_at, is_written}
-use Names.{written_mask, core_exec, core_evict, grant, grant_in_phase, grant_sends, from_dir, probe_reply, ignored, fill, data_request}
-use Names.{invalidate, Kind, Acks, MarksAway, AnyResolve, Protocol, among, passes, solo_commit, nats}
-use proofs.Counts.Links.{among-append, among-flat_map_none}
+use Names.{ℕ, ◌≡◌, ◌<◌, ◌≤◌, true, false, List, IfSome, nat_lt, arith, refl, Program, num, Dir, Msg, Shape, Cache, writes_at, CoreState}
+use Names.{Ready, Link, Out, commit, commit_sends, solo_sends, core_exec, core_evict, grant, from_dir, CommitsAbove, AnyCommit, among, live}
+use Names.{passes, Reached, cases_lt, inl, inr, solo_commit, ◌⊎◌, nats, ◌==◌, Spilled, noted, solo_marks_or_skip, solo_write_backs, Commits}
+use Names.{zero, suc, ◌%◌, Bool, [], ◌∷◌, ◌++◌, ◌&&◌, None, cond, if◌then◌else◌, flat_map, flat_map-append, those, count_below, Fill, Skip}
+use Names.{ProbeReply, Mark, Commit, WriteBack, DataReq, Inv, InvAck, home, lines, is_modified, modified_mask, written_lines, holds}
+use Names.{spilled_mask, spilled_words, Phase, AwaitTid, DoomedTid, Overflowing, Sends, to, marks_for, skip_all, probe_all, abort_written}
+use Names.{solo_writes_at, is_written, written_mask, grant_in_phase, grant_sends, probe_reply, ignored, fill, data_request, invalidate}
+use Names.{Kind, Acks, MarksAway, AnyResolve, Protocol}
+use proofs.Counts.Links.{among-fewer, live-fewer, among-append, among-flat_map_none}
+use proofs.OneCore.Said.{quiet, Empties, Flushes, Silent, Tells_alone, say}
+use proofs.OneCore.Outcomes.{Commits_now, Did, each-exec, out, each-evict, emptied, Ends_alone, Given_none, Granted, Hands_out, Heard}
+use proofs.OneCore.Outcomes.{each-back, each-grant, granted, granted_said, heard, heard-quiet, said, Ends_run, Room_wanted}
+use proofs.Tids.CoreTids.{noted_tid}
 use proofs.OneCore.CoreSteps.{Steady, did-steady, ignored-steady, fill-steady, data-steady, Hurt, Unhurt, Rolled, Doomed, Aborted, Gave_up}
 use proofs.OneCore.CoreSteps.{Invalidated, invalidate-cases, Replied, Ignored, Probed, Left_alone, reply-cases, steady-emptied}
-use proofs.OneCore.Outcomes.{Commits_now, Did, each-exec, out, each-evict, emptied, Ends_alone, Ends_run, Room_wanted}
+
+-- What a core sends as a commit: only to directories that have reached its TID, and of what it notes the commit of.
+
+-- A core sends a Commit only to directories that have reached its TID.
+
+-- no Commit of a TID above x
+abbrev pub Served : (dir x : ℕ) → Out → Type 0
+Served d x o = among (CommitsAbove x) (o.sends (Dir d)) ≡ 0
+
+above-any : (x : ℕ) (m : Msg) → num (passes (CommitsAbove x) m) ≤ num (passes AnyCommit m)
+unfolding passes
+above-any x m = grind nats
+
+few-above : (x : ℕ) (ms : List Msg) → among (CommitsAbove x) ms ≤ among AnyCommit ms
+few-above x ms = among-fewer (CommitsAbove x) AnyCommit (above-any x) ms
+
+served-free : (d x : ℕ) (o : Out) → among AnyCommit (o.sends (Dir d)) ≡ 0 → Served d x o
+served-free d x o h = omega (arith, few-above x (o.sends (Dir d)))
+
+served-commit : (sh : Shape) (c : Cache) (t d x : ℕ) → (d < sh.dirs → writes_at sh c d ≡ true → t ≤ x)
+    → among (CommitsAbove x) (commit_sends sh c t (Dir d)) ≡ 0
+unfolding commit_sends among passes
+served-commit sh c t d x h = grind nats
+
+served-solo : (sh : Shape) (s : CoreState) (t d x : ℕ) → (d < sh.dirs → t ≤ x)
+    → among (CommitsAbove x) (say sh s (Tells_alone t) (Dir d)) ≡ 0
+unfolding passes solo_sends among
+served-solo sh s t d x h = elim (cases_lt d sh.dirs) [
+  | inl l ↦ quiet sh s (CommitsAbove x) (Tells_alone t) (λ y. let i = h l in let z : nat_lt x t ≡ false = grind nats in
+      rw z refl) d
+  | inr l ↦ let z : nat_lt d sh.dirs ≡ false = grind nats in rw z refl
+]
+
+pub served-exec : {sh : Shape} (p : Program) (c : ℕ) {d x : ℕ} {s : CoreState} → Reached sh d x s
+    → IfSome (core_exec sh p c s) (λ o. Served d x o)
+unfolding commit solo_commit passes
+served-exec {sh} p c {d} {x} {s} r = each-exec sh p c s (λ o. Served d x o) go
+  where
+    ready : (u : ℕ) → s.phase ≡ Ready u → d < sh.dirs → writes_at sh s.cache d ≡ true → u ≤ x
+    ready u e l w = rw e at (r.reached l (rw e (rw w refl)) (r.replied l (rw e refl)))
+
+    go : (y : Did sh p c s) → Served d x (out y)
+    go (Ends_alone t l o f q i) = served-solo sh s t d x (λ l. rw q at (r.reached l (rw q refl) (r.replied l (rw q refl))))
+    go (Commits_now u e) = served-commit sh s.cache u d x (ready u e)
+    go y = served-free d x (out y) (quiet sh s AnyCommit (said y) (λ z. refl) d)
+
+pub served-evict : (sh : Shape) (y z d x : ℕ) (s : CoreState) → IfSome (core_evict sh y z s) (λ o. Served d x o)
+unfolding passes
+served-evict sh y z d x s = each-evict sh y z s (λ o. Served d x o)
+    (λ k q u i. served-free d x (emptied sh y z k s) (quiet sh s AnyCommit (Empties k) (λ z. refl) d))
+
+-- no other event sends a Commit
+pub granted-free : (sh : Shape) (u d : ℕ) (s : CoreState) → among AnyCommit ((grant sh u s).sends (Dir d)) ≡ 0
+unfolding passes
+granted-free sh u d s = each-grant sh u s (λ o. among AnyCommit (o.sends (Dir d)) ≡ 0) go
+  where
+    go : (y : Granted sh u s) → among AnyCommit ((granted y).sends (Dir d)) ≡ 0
+    go (Given_none e) = quiet sh s AnyCommit Silent (λ z. refl) d
+    go y = quiet sh s AnyCommit (granted_said y) (λ z. refl) d
+
+pub heard-free : {sh : Shape} {e : ℕ} {s : CoreState} (y : Heard sh e s) (d : ℕ) → among AnyCommit ((heard y).sends (Dir d)) ≡ 0
+unfolding passes
+heard-free {sh} {s} (Hands_out l) d = quiet sh s AnyCommit (Flushes l) (λ z. refl) d
+heard-free y d = heard-quiet AnyCommit y (λ z. refl) (λ b. refl) d
+
+pub served-grant : (sh : Shape) (u d x : ℕ) (s : CoreState) → Served d x (grant sh u s)
+served-grant sh u d x s = served-free d x (grant sh u s) (granted-free sh u d s)
+
+pub served-back : (sh : Shape) (e d x : ℕ) (s : CoreState) (m : Msg) → IfSome (from_dir sh e s m) (λ o. Served d x o)
+served-back sh e d x s m = each-back sh e s (λ m o. Served d x o) (λ y. served-free d x (heard y) (heard-free y d)) m
+
+-- fewer Commits are above a larger TID
+above-fewer : (a b : ℕ) (m : Msg) → a ≤ b → num (passes (CommitsAbove b) m) ≤ num (passes (CommitsAbove a) m)
+unfolding passes
+above-fewer a b m l = grind nats
+
+pub fewer-above : (a b : ℕ) (l : Link) → a ≤ b → live (CommitsAbove b) l ≤ live (CommitsAbove a) l
+fewer-above a b l h = live-fewer (CommitsAbove b) (CommitsAbove a) (λ m. above-fewer a b m h) l
+
+-- What a core sends a Commit of is what it notes the commit of.
+
+-- a Commit is sent of no TID but the one noted
+abbrev pub CommitsNoted : Out → Type 0
+CommitsNoted o = (d t : ℕ) → among (Commits t) (o.sends (Dir d)) ≤ noted_tid t o.commit
+
+of-any : (t : ℕ) (m : Msg) → num (passes (Commits t) m) ≤ num (passes AnyCommit m)
+unfolding passes
+of-any t m = grind nats
+
+pub few-of : (t : ℕ) (ms : List Msg) → among (Commits t) ms ≤ among AnyCommit ms
+few-of t ms = among-fewer (Commits t) AnyCommit (of-any t) ms
+
+noted-free : (o : Out) → ((d : ℕ) → among AnyCommit (o.sends (Dir d)) ≡ 0) → CommitsNoted o
+noted-free o h d t = omega (arith, h d, few-of t (o.sends (Dir d)))
+
+of-commit : (sh : Shape) (c : Cache) (u d t : ℕ) → among (Commits t) (commit_sends sh c u (Dir d)) ≤ num (u == t)
+unfolding commit_sends among passes
+of-commit sh c u d t = grind nats
+
+of-solo : (sh : Shape) (c : Cache) (sp : Spilled) (u d t : ℕ) → among (Commits t) (solo_sends sh c sp u (Dir d)) ≤ num (u == t)
+unfolding solo_sends solo_marks_or_skip solo_write_backs among passes
+of-solo sh c sp u d t = grind (nats, among-flat_map_none, among-append)
+
+pub noted-exec : (sh : Shape) (p : Program) (c : ℕ) (s : CoreState) → IfSome (core_exec sh p c s) (λ o. CommitsNoted o)
+unfolding commit solo_commit noted passes
+noted-exec sh p c s = each-exec sh p c s (λ o. CommitsNoted o) go
+  where
+    go : (x : Did sh p c s) → CommitsNoted (out x)
+    go (Ends_alone t l o f q i) = λ d u. of-solo sh s.cache s.spilled t d u
+    go (Commits_now u e) = λ d t. of-commit sh s.cache u d t
+    go x = noted-free (out x) (λ d. quiet sh s AnyCommit (said x) (λ y. refl) d)
+
+pub noted-evict : (sh : Shape) (x y : ℕ) (s : CoreState) → IfSome (core_evict sh x y s) (λ o. CommitsNoted o)
+unfolding passes
+noted-evict sh x y s = each-evict sh x y s (λ o. CommitsNoted o)
+    (λ k q u z. noted-free (emptied sh x y k s) (λ d. quiet sh s AnyCommit (Empties k) (λ y. refl) d))
+
+pub noted-grant : (sh : Shape) (u : ℕ) (s : CoreState) → CommitsNoted (grant sh u s)
+noted-grant sh u s = noted-free (grant sh u s) (λ d. granted-free sh u d s)
+
+pub noted-back : (sh : Shape) (e : ℕ) (s : CoreState) (m : Msg) → IfSome (from_dir sh e s m) (λ o. CommitsNoted o)
+noted-back sh e s m = each-back sh e s (λ m o. CommitsNoted o) (λ y. noted-free (heard y) (λ d. heard-free y d)) m
+
+-- A core acknowledges nothing but an invalidation, and marks lines at their homes alone.
 
 -- no acknowledgement, no mark of a line that is at home elsewhere, and no word on a TID to a directory that the machine
 -- doesn't have
@@ -103,8 +231,7 @@ clean-solo sh c sp t d = go (nat_lt d sh.dirs) refl (solo_writes_at sh c sp d)
     go false q b = record { acks = refl; marks = refl; far = λ x. refl }
     go true q false = clean-append (Skip t ∷ []) (solo_write_backs sh sp t d)
         (record { acks = refl; marks = refl; far = λ x. absurd (grind nats) }) (clean-backs sh sp t d)
-    go true q true =
-        clean-append _ (solo_write_backs sh sp t d)
+    go true q true = clean-append _ (solo_write_backs sh sp t d)
         (clean-append _ (Commit t (count_below (λ l. d == home sh l && is_written c sp l) (lines sh)) ∷ [])
         (clean-marks sh d t (written_mask c sp) (λ l. d == home sh l && is_written c sp l) (lines sh)
         (λ l q. at-home d (home sh l) (is_written c sp l) q))
@@ -122,13 +249,13 @@ clean-skip : (sh : Shape) (t d : ℕ) → Clean sh d (skip_all sh t (Dir d))
 unfolding skip_all among passes
 clean-skip sh t d = record { acks = grind arith; marks = grind arith; far = λ x. grind nats }
 
-clean-probe : (sh : Shape) (t d : ℕ) → Clean sh d (probe_all sh t (Dir d))
+clean-probe : {sh : Shape} (t d : ℕ) → Clean sh d (probe_all sh t (Dir d))
 unfolding probe_all among passes
-clean-probe sh t d = record { acks = grind arith; marks = grind arith; far = λ x. grind nats }
+clean-probe t d = record { acks = grind arith; marks = grind arith; far = λ x. grind nats }
 
-clean-grants : (sh : Shape) (c : Cache) (t d : ℕ) → Clean sh d (grant_sends sh c t (Dir d))
+clean-grants : {sh : Shape} (c : Cache) (t d : ℕ) → Clean sh d (grant_sends sh c t (Dir d))
 unfolding grant_sends among passes
-clean-grants sh c t d = record { acks = grind arith; marks = grind arith; far = λ x. grind nats }
+clean-grants c t d = record { acks = grind arith; marks = grind arith; far = λ x. grind nats }
 
 clean-none : (sh : Shape) (d : ℕ) → Clean sh d []
 unfolding among
@@ -149,8 +276,7 @@ clean-exec sh p c s = each-exec sh p c s (λ o. CleanOut sh o) go
     go x = clean-steady sh (did-steady x)
 
 pub clean-evict : (sh : Shape) (x y : ℕ) (s : CoreState) → IfSome (core_evict sh x y s) (λ o. CleanOut sh o)
-clean-evict sh x y s =
-    each-evict sh x y s (λ o. CleanOut sh o) (λ k q u z. clean-steady sh (steady-emptied sh x y s k q u z))
+clean-evict sh x y s = each-evict sh x y s (λ o. CleanOut sh o) (λ k q u z. clean-steady sh (steady-emptied sh x y s k q u z))
 
 pub clean-grant : (sh : Shape) (u : ℕ) (s : CoreState) → CleanOut sh (grant sh u s)
 unfolding grant
@@ -160,9 +286,9 @@ clean-grant sh u s = go s.phase
     still = clean-steady sh (ignored-steady s)
 
     go : (q : Phase) → CleanOut sh (grant_in_phase sh u s q)
-    go AwaitTid = clean-grants sh s.cache u
+    go AwaitTid = clean-grants s.cache u
     go DoomedTid = clean-skip sh u
-    go (Overflowing None) = clean-probe sh u
+    go (Overflowing None) = clean-probe u
     go _ = still
 
 pub clean-replied : (sh : Shape) {e u : ℕ} {s : CoreState} {o : Out} → Replied sh e u s o → CleanOut sh o
@@ -189,7 +315,7 @@ clean-hurt sh d (Gave_up u ph ph' ow se) = rw se (clean-skip sh u d)
 
 acks-invalidated : {sh : Shape} (l d : ℕ) (s : CoreState) {o : Out} → Invalidated sh l s o → AcksHome sh l d (o.sends (Dir d))
 unfolding among passes
-acks-invalidated {sh} l d s {o} i = rw (i.dirs d) (record {
+acks-invalidated {sh} l d s i = rw (i.dirs d) (record {
   acks =
       omega (
         arith,

@@ -87,8 +87,7 @@ dir-rises sh s c m = go (outcome sh s c m)
     go (TakesProbe t h) =
         record {
           rises = omega arith;
-          replies = λ j. none-to (RepliesAbove s.serving.serving) c j (ProbeReply t s.serving.serving)
-              (grind nats);
+          replies = λ j. none-to (RepliesAbove s.serving.serving) c j (ProbeReply t s.serving.serving) (grind nats);
         }
     go (TakesLoad l k h e o) =
         record { rises = omega arith; replies = λ j. none-to (RepliesAbove s.serving.serving) c j (Fill l (home_words s l)) refl }
@@ -278,8 +277,7 @@ dir-due sh d s c m h k = go (outcome sh s c m) h
         (λ x q. grind (nats, k x))
     go (TakesProbe u i) h a o = quiet-due sh d s s _ refl (inl refl) (λ j. none-to Invs c j (ProbeReply u s.serving.serving) refl) k
     go (TakesLoad l x i e n) h a o = quiet-due sh d s _ _ refl (inl refl) (λ j. none-to Invs c j (Fill l (home_words s l)) refl) k
-    go (TakesMark l n i) h a o = quiet-due sh d s _ nothing refl (inl refl) none-quiet
-        (λ x q. grind (nats, k x, at-home (l % sh.dirs) d a))
+    go (TakesMark l n i) h a o = quiet-due sh d s _ nothing refl (inl refl) none-quiet (λ x q. grind (nats, k x, at-home (l % sh.dirs) d a))
     go (TakesCommit b e) h a o = let z : s.owed ≡ 0 = unserved s (Commit s.serving.serving (count_below (has_mark s.lines) (lines sh))) h
         (eq-self s.serving.serving) in record {
           owed = omega (arith, z, invs-invalidations sh s.lines c s.serving.serving);

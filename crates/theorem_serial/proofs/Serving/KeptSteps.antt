@@ -41,8 +41,7 @@ pub move-owed : (sh : Shape) (w : World) (c : ℕ) (o : Out) → KeptOwed sh w �
 unfolding core_moves
 move-owed sh w c o k l y = record {
   owed = λ d. let e = sum_move due sh.cores w c o d 0 0 l (due-moved (pair w c d) o (y d)) in omega (arith, k.owed d);
-  at_home = pairs_move (λ c d v. AtHomeOf sh d v) w c o (λ d. home-moved o (y d).marks (y d).far (k.at_home c d))
-      k.at_home;
+  at_home = pairs_move (λ c d v. AtHomeOf sh d v) w c o (λ d. home-moved o (y d).marks (y d).far (k.at_home c d)) k.at_home;
 }
 
 pub grant-owed : (sh : Shape) (w : World) (c k : ℕ) (o : Out) → KeptOwed sh w → c < sh.cores → CleanOut sh o
@@ -111,9 +110,7 @@ back-owed : (sh : Shape) (w : World) (e c k : ℕ) (m : Msg) (o : Out) → KeptO
 unfolding core_takes pair
 back-owed sh w e c k m o h l i y = record {
   owed = λ d. owed d (cases_eq d e);
-  at_home =
-      pairs_back (λ c d v. AtHomeOf sh d v) w e c k o
-      (home-moved o (y.marks e) (y.far e) (home-back e k m i (h.at_home c e)))
+  at_home = pairs_back (λ c d v. AtHomeOf sh d v) w e c k o (home-moved o (y.marks e) (y.far e) (home-back e k m i (h.at_home c e)))
       (λ d n. home-moved o (y.marks d) (y.far d) (h.at_home c d)) h.at_home;
 }
   where
@@ -202,15 +199,13 @@ served-back w {e} j {s} {sends} h u z = go u.served
         ⊎ (s.owed ≡ 0) → live (InvsNot s.serving.serving) (to_core w e j ++ sent_all (sends (Core j))) ≡ 0
     go a = grind (nats, live-sends)
 
-pub dir-owed : (sh : Shape) (w : World) (c e k : ℕ) (m : Msg) (s : DirState) (sends : Sends) → KeptOwed sh w
-    → KeptTids sh (dir_takes w c e k s sends) → c < sh.cores → FromCore w c e k m
-    → Due sh e (w.dirs e) (num (passes Acks m)) s sends → KeptOwed sh (dir_takes w c e k s sends)
+pub dir-owed : {sh : Shape} {w : World} (c e k : ℕ) {m : Msg} (s : DirState) (sends : Sends) → KeptOwed sh w
+    → KeptTids sh (dir_takes w c e k s sends) → c < sh.cores → FromCore w c e k m → Due sh e (w.dirs e) (num (passes Acks m)) s sends
+    → KeptOwed sh (dir_takes w c e k s sends)
 unfolding dir_takes pair
-dir-owed sh w c e k m s sends h z l i u = record {
+dir-owed {sh} {w} c e k {m} s sends h z l i u = record {
   owed = λ d. owed d (cases_eq d e);
-  at_home = pairs_dir (λ c d v. AtHomeOf sh d v) w c e k s sends
-      (home-answered c u (back_of c)
-      (home-taken e k m i (h.at_home c e)))
+  at_home = pairs_dir (λ c d v. AtHomeOf sh d v) w c e k s sends (home-answered c u (back_of c) (home-taken e k m i (h.at_home c e)))
       (λ j n. home-answered j u (back_of j) (h.at_home j e)) h.at_home;
 }
   where
@@ -234,8 +229,7 @@ pub asks-owed : (sh : Shape) (w : World) (e : ℕ) (s : DirState) (sends : Sends
 unfolding dir_asks pair
 asks-owed sh w e s sends h z u = record {
   owed = λ d. owed d (cases_eq d e);
-  at_home = pairs_asks (λ c d v. AtHomeOf sh d v) w e s sends
-      (λ j. home-answered j u (back_of j) (h.at_home j e)) h.at_home;
+  at_home = pairs_asks (λ c d v. AtHomeOf sh d v) w e s sends (λ j. home-answered j u (back_of j) (h.at_home j e)) h.at_home;
 }
   where
     v : World
@@ -293,13 +287,12 @@ start-owed sh entries ram = record {
 pub marks_home : {sh : Shape} {w : World} (c e k : ℕ) {m : Msg} → KeptOwed sh w → FromCore w c e k m
     → passes (MarksAway sh.dirs e) m ≡ false
 unfolding pair
-marks_home {sh} {w} c e k {m} h i = none-taken (MarksAway sh.dirs e) (to_dir w c e) k i (h.at_home c e).marks
+marks_home {sh} {w} c e k h i = none-taken (MarksAway sh.dirs e) (to_dir w c e) k i (h.at_home c e).marks
 
 pub acks_owed : {sh : Shape} {w : World} (c e k : ℕ) {m : Msg} → KeptOwed sh w → c < sh.cores → FromCore w c e k m
     → num (passes Acks m) ≤ (w.dirs e).owed
 unfolding share due pair
-acks_owed {sh} {w} c e k {m} h l i =
-    omega (arith, h.owed e, total-le (share due w e) sh.cores c l, live-takes Acks (to_dir w c e) k m i)
+acks_owed {sh} {w} c e k {m} h l i = omega (arith, h.owed e, total-le (share due w e) sh.cores c l, live-takes Acks (to_dir w c e) k m i)
 
 -- Each kind of event keeps what is known of the directories that a core asked.
 
@@ -337,17 +330,15 @@ back-probes sh w e c k m o h i r = pairs_back (λ c d v. ReachedOf sh d v) w e c
     (λ d n. reached-moved (pair w c d) o (r d) (h c d)) h
 
 -- a reply in flight is of a TID that its directory has reached
-reply-low : (sh : Shape) (w : World) (e c k : ℕ) (m : Msg) → KeptProbes sh w → FromDir w e c k m
+reply-low : {sh : Shape} (w : World) (e c k : ℕ) {m : Msg} → KeptProbes sh w → FromDir w e c k m
     → passes (RepliesAbove (tid_at w e)) m ≡ false
 unfolding pair
-reply-low sh w e c k m h i = none-taken (RepliesAbove (tid_at w e)) (to_core w e c) k i (h c e).replies
+reply-low w e c k h i = none-taken (RepliesAbove (tid_at w e)) (to_core w e c) k i (h c e).replies
 
 pub backs-probes : (sh : Shape) (w : World) (e c k : ℕ) (m : Msg) → KeptProbes sh w → FromDir w e c k m
     → IfSome (from_dir sh e (w.cores c) m) (λ o. KeptProbes sh (core_takes w (Dir e) c k o))
 unfolding pair
-backs-probes sh w e c k m h i =
-    go (from_dir sh e (w.cores c) m)
-    (λ d. asked-back sh e d (tid_at w d) (w.cores c) m (λ q. rw q (reply-low sh w e c k m h i)) (h c d).core)
+backs-probes sh w e c k m h i = go (from_dir sh e (w.cores c) m) (λ d. asked-back e m (λ q. rw q (reply-low w e c k h i)) (h c d).core)
   where
     go : (x : Option Out) → ((d : ℕ) → StaysReached sh d (tid_at w d) (w.cores c) x)
         → IfSome x (λ o. KeptProbes sh (core_takes w (Dir e) c k o))
@@ -378,8 +369,7 @@ dir-probes {sh} w c e k {s} {sends} h u = pairs_dir (λ c d v. ReachedOf sh d v)
 pub asks-probes : (sh : Shape) (w : World) (e : ℕ) (s : DirState) (sends : Sends) → KeptProbes sh w → Rises (w.dirs e) s sends
     → KeptProbes sh (dir_asks w e s sends)
 unfolding pair
-asks-probes sh w e s sends h u = pairs_asks (λ c d v. ReachedOf sh d v) w e s sends
-    (λ j. reached-answered sh e (pair w j e) j u (h j e)) h
+asks-probes sh w e s sends h u = pairs_asks (λ c d v. ReachedOf sh d v) w e s sends (λ j. reached-answered sh e (pair w j e) j u (h j e)) h
 
 pub vendor-probes : (sh : Shape) (w : World) (c k : ℕ) → KeptProbes sh w → KeptProbes sh (vendor_gives w c k (given w c))
 vendor-probes sh w c k h = pairs_vendor (λ c d v. ReachedOf sh d v) w c k (λ d. record { core = (h c d).core; replies = (h c d).replies })
@@ -394,23 +384,20 @@ start-probes sh entries ram c d = record { core = none-asked Running refl (λ b.
 -- the core that a message comes from or goes to is one of the machine
 pub core_of_grant : {sh : Shape} {w : World} (c k : ℕ) {m : Msg} → KeptTids sh w → in_flight w.net Vendor (Core c) k ≡ Some m → c < sh.cores
 unfolding pair
-core_of_grant {sh} {w} c k {m} h i = inside_from sh c (live Any (w.net Vendor (Core c))) (h.inside c 0).grants
+core_of_grant {sh} {w} c k h i = inside_from sh c (live Any (w.net Vendor (Core c))) (h.inside c 0).grants
     (any-one (w.net Vendor (Core c)) k i)
 
 pub core_of_back : {sh : Shape} {w : World} (c d k : ℕ) {m : Msg} → KeptTids sh w → FromDir w d c k m → c < sh.cores
 unfolding pair
-core_of_back {sh} {w} c d k {m} h i = inside_from sh c (live Any (to_core w d c)) (h.inside c d).back
-    (any-one (to_core w d c) k i)
+core_of_back {sh} {w} c d k h i = inside_from sh c (live Any (to_core w d c)) (h.inside c d).back (any-one (to_core w d c) k i)
 
 pub core_of_out : {sh : Shape} {w : World} (c d k : ℕ) {m : Msg} → KeptTids sh w → FromCore w c d k m → c < sh.cores
 unfolding pair
-core_of_out {sh} {w} c d k {m} h i = inside_from sh c (live Any (to_dir w c d)) (h.inside c d).out
-    (any-one (to_dir w c d) k i)
+core_of_out {sh} {w} c d k h i = inside_from sh c (live Any (to_dir w c d)) (h.inside c d).out (any-one (to_dir w c d) k i)
 
 pub core_of_ask : {sh : Shape} {w : World} (c k : ℕ) {m : Msg} → KeptTids sh w → in_flight w.net (Core c) Vendor k ≡ Some m → c < sh.cores
 unfolding pair
-core_of_ask {sh} {w} c k {m} h i = inside_from sh c (live Any (w.net (Core c) Vendor)) (h.inside c 0).asks
-    (any-one (w.net (Core c) Vendor) k i)
+core_of_ask {sh} {w} c k h i = inside_from sh c (live Any (w.net (Core c) Vendor)) (h.inside c 0).asks (any-one (w.net (Core c) Vendor) k i)
 
 resolves-any : (t : ℕ) (m : Msg) → num (passes (Resolves t) m) ≤ num (passes AnyResolve m)
 unfolding passes
@@ -441,47 +428,44 @@ moves : {sh : Shape} {w : World} (c : ℕ) → KeptTold sh w → c < sh.cores �
 moves c h l None r q y = tt
 moves {sh} {w} c h l (Some o) r q y = record { tids = move-kept sh w c o h.tids l r q; owed = move-owed sh w c o h.owed l y }
 
-backs : (sh : Shape) (w : World) (c d k : ℕ) (m : Msg) → KeptTold sh w → FromDir w d c k m → (x : Option Out)
+backs : {sh : Shape} {w : World} (c d k : ℕ) {m : Msg} → KeptTold sh w → FromDir w d c k m → (x : Option Out)
     → IfSome x (λ o. KeepsRequests 0 (w.cores c) o) → ((e t : ℕ) → e < sh.dirs → IfSome x (λ o. KeepsPart sh e t 0 (w.cores c) o))
     → IfSome x (λ o. KeptOwed sh (core_takes w (Dir d) c k o)) → IfSome x (λ o. KeptTold sh (core_takes w (Dir d) c k o))
-backs sh w c d k m h i None r q y = tt
-backs sh w c d k m h i (Some o) r q y = record { tids = back-kept sh w d c k m o h.tids i r q; owed = y }
+backs c d k h i None r q y = tt
+backs {sh} {w} c d k {m} h i (Some o) r q y = record { tids = back-kept sh w d c k m o h.tids i r q; owed = y }
 
-answers : (sh : Shape) (w : World) (c d k : ℕ) (m : Msg) → KeptTold sh w → FromCore w c d k m → (a : Answer)
-    → AnswersInside sh a → ((t : ℕ) → d < sh.dirs → HandledBy (w.dirs d) m t a) → DueBy sh d (w.dirs d) (num (passes Acks m)) a
+answers : {sh : Shape} {w : World} (c d k : ℕ) {m : Msg} → KeptTold sh w → FromCore w c d k m → (a : Answer) → AnswersInside sh a
+    → ((t : ℕ) → d < sh.dirs → HandledBy (w.dirs d) m t a) → DueBy sh d (w.dirs d) (num (passes Acks m)) a
     → OfAnswer w c d k (λ v. KeptTold sh v) a
 unfolding pair
-answers sh w c d k m h i Waits n q u = tt
-answers sh w c d k m h i Drops n q u =
-    let t = dir-kept sh w c d k m (w.dirs d) (λ dst. []) h.tids i (λ j x. no_sends) (h.tids.inside c d).owners
-    (λ t x. rw (q t x) (omega arith)) in
+answers c d k h i Waits n q u = tt
+answers {sh} {w} c d k h i Drops n q u =
+    let t = dir-kept c d k (w.dirs d) (λ dst. []) h.tids i (λ j x. no_sends) (h.tids.inside c d).owners (λ t x. rw (q t x) (omega arith)) in
     record {
       tids = t;
-      owed = dir-owed sh w c d k m (w.dirs d) (λ dst. []) h.owed t (core_of_out c d k h.tids i) i
+      owed = dir-owed c d k (w.dirs d) (λ dst. []) h.owed t (core_of_out c d k h.tids i) i
           (rw u (still-due sh d (w.dirs d) (h.owed.at_home c d).marked));
     }
-answers sh w c d k m h i (Asks s sends) n q u =
+answers {sh} {w} c d k h i (Asks s sends) n q u =
     let t = asks-kept sh w d s sends h.tids n.0 n.1 q in
     record { tids = t; owed = asks-owed sh w d s sends h.owed t u }
-answers sh w c d k m h i (Takes s sends) n q u =
-    let t = dir-kept sh w c d k m s sends h.tids i n.0 n.1 q in
-    record { tids = t; owed = dir-owed sh w c d k m s sends h.owed t (core_of_out c d k h.tids i) i u }
+answers c d k h i (Takes s sends) n q u =
+    let t = dir-kept c d k s sends h.tids i n.0 n.1 q in
+    record { tids = t; owed = dir-owed c d k s sends h.owed t (core_of_out c d k h.tids i) i u }
 
 step-told : (sh : Shape) (p : Program) (w : World) (e : Event) → KeptTold sh w → IfSome (step sh p w e) (λ o. KeptTold sh o.world)
 unfolding pair
 step-told sh p w e h = step_cases sh p w e (λ g o. KeptTold sh o.world)
     (λ c l. moves c h l (core_exec sh p c (w.cores c)) (requests-exec sh p c (w.cores c)) (λ d t x. part-exec sh p c d t (w.cores c) x)
-    (clean-exec sh p c (w.cores c)))
-    (λ c x y l. moves c h l (core_evict sh x y (w.cores c)) (requests-evict sh x y (w.cores c))
+    (clean-exec sh p c (w.cores c))) (λ c x y l. moves c h l (core_evict sh x y (w.cores c)) (requests-evict sh x y (w.cores c))
     (λ d t z. part-evict sh x y d t (w.cores c)) (clean-evict sh x y (w.cores c)))
     (λ c k t i. record {
       tids = grant-kept sh w c k t h.tids i;
-      owed = grant-owed sh w c k (grant sh t (w.cores c)) h.owed (core_of_grant c k h.tids i)
-          (clean-grant sh t (w.cores c));
+      owed = grant-owed sh w c k (grant sh t (w.cores c)) h.owed (core_of_grant c k h.tids i) (clean-grant sh t (w.cores c));
     })
-    (λ c d k m i. backs sh w c d k m h i (from_dir sh d (w.cores c) m) (requests-back sh d (w.cores c) m)
+    (λ c d k m i. backs c d k h i (from_dir sh d (w.cores c) m) (requests-back sh d (w.cores c) m)
     (λ e t x. part-back sh d e t (w.cores c) m x) (backs-owed sh w d c k m h.owed (core_of_back c d k h.tids i) i))
-    (λ c d k m i. answers sh w c d k m h i (dir_deliver sh (w.dirs d) c m)
+    (λ c d k m i. answers c d k h i (dir_deliver sh (w.dirs d) c m)
     (dir-inside sh (w.dirs d) c m (core_of_out c d k h.tids i) (h.tids.inside c d).owners)
     (λ t x. dir-handled sh (w.dirs d) c m t (once_at c d k h i))
     (dir-due sh d (w.dirs d) c m (once_at c d k h i) (h.owed.at_home c d).marked (marks_home c d k h.owed i)
@@ -493,10 +477,8 @@ unfolding pair
 step-probes sh p w e h = step_cases sh p w e (λ g o. KeptProbes sh o.world)
     (λ c l. moved c (core_exec sh p c (w.cores c)) (λ d. asked-exec p c d (h c d).core))
     (λ c x y l. moved c (core_evict sh x y (w.cores c)) (λ d. asked-evict x y d (h c d).core))
-    (λ c k t i. grant-probes sh w c k (grant sh t (w.cores c)) h
-    (λ d. asked-grant t d (h c d).core))
-    (λ c d k m i. backs-probes sh w d c k m h i)
-    (λ c d k m i. answered c d k (dir_deliver sh (w.dirs d) c m) (dir-rises sh (w.dirs d) c m))
+    (λ c k t i. grant-probes sh w c k (grant sh t (w.cores c)) h (λ d. asked-grant t d (h c d).core))
+    (λ c d k m i. backs-probes sh w d c k m h i) (λ c d k m i. answered c d k (dir_deliver sh (w.dirs d) c m) (dir-rises sh (w.dirs d) c m))
     (λ c k i. vendor-probes sh w c k h)
   where
     moved : (c : ℕ) (x : Option Out) → ((d : ℕ) → StaysReached sh d (tid_at w d) (w.cores c) x)

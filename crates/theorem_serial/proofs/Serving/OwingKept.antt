@@ -32,7 +32,7 @@ none-owing {r} e n f = record {
 -- a core that doesn't wait goes on to a phase in which it doesn't wait
 still-none : {sh : Shape} {s r : CoreState} {p : Phase} (q : Phase) → s.phase ≡ p → awaits_replies p ≡ false → r.phase ≡ q
     → awaits_replies q ≡ false → r.owing ≡ s.owing → OwingFits sh s → OwingFits sh r
-still-none {sh} {s} {r} q e n f m ow h = none-owing f m (λ d. rw ow (idle h (rw e n) d))
+still-none q e n f m ow h = none-owing f m (λ d. rw ow (idle h (rw e n) d))
 
 not-acts : (q : Phase) → awaits_replies q ≡ true → Acts q → ⊥
 not-acts Running e a = cc
@@ -50,8 +50,7 @@ same-owing {s} e f g h = record {
 }
 
 steady-owing : {sh : Shape} {s : CoreState} {o : Out} → Steady s o → OwingFits sh s → OwingFits sh o.core
-steady-owing {sh} {s} {o} y h =
-    same-owing y.phase y.owing
+steady-owing {sh} {s} {o} y h = same-owing y.phase y.owing
     (λ a d. ap₂ (λ x z. x || z) (writes_at-same sh o.core.cache s.cache d (y.modified (not-acts s.phase a)))
     (reads_at-same sh o.core.cache s.cache d (y.read (not-acts s.phase a)))) h
 
@@ -63,16 +62,14 @@ unfolding commit solo_commit committed_core
 owing-exec {sh} p c {s} h = each-exec sh p c s (λ o. OwingFits sh o.core) go
   where
     go : (x : Did sh p c s) → OwingFits sh (out x).core
-    go (Commits_now t e) =
-        still-none (phase_after_commit s.ended) e refl refl (after-none s.ended) refl h
+    go (Commits_now t e) = still-none (phase_after_commit s.ended) e refl refl (after-none s.ended) refl h
     go (Room_wanted r i) = still-none (Overflowing None) r refl refl refl refl h
     go (Ends_run l e f r i) = still-none AwaitTid r refl refl refl refl h
     go (Ends_alone t l e f r i) = still-none (phase_after_commit e) r refl refl (after-none e) refl h
     go x = steady-owing (did-steady x) h
 
 owing-evict : {sh : Shape} (x y : ℕ) {s : CoreState} → OwingFits sh s → IfSome (core_evict sh x y s) (λ o. OwingFits sh o.core)
-owing-evict {sh} x y {s} h = each-evict sh x y s (λ o. OwingFits sh o.core)
-    (λ k q u z. steady-owing (steady-emptied sh x y s k q u z) h)
+owing-evict {sh} x y {s} h = each-evict sh x y s (λ o. OwingFits sh o.core) (λ k q u z. steady-owing (steady-emptied sh x y s k q u z) h)
 
 owing-grant : {sh : Shape} (t : ℕ) {s : CoreState} → OwingFits sh s → OwingFits sh (grant sh t s).core
 unfolding grant is_probed
@@ -139,31 +136,28 @@ one-less {sh} e {s} {r} goes wait ph ow n f w h = elim (tested (all_replied sh (
     old : (d : ℕ) → r.owing d ≡ true → s.owing d ≡ true
     old d o = put-true s.owing e d (rw ow at o)
 
-replied-owing : {sh : Shape} (e u : ℕ) (s : CoreState) {o : Out} → Replied sh e u s o → OwingFits sh s → OwingFits sh o.core
-replied-owing e u s (Ignored q n) h = rw q h
-replied-owing {sh} e u s {o} (Probed g w ph ow ca se cm) h = one-less e (Ready u) (Probing u) ph ow refl
-    (λ d a. rw ca (rw g at a)) refl h
-replied-owing {sh} e u s {o} (Left_alone g w ph ow mo se cm) h = one-less e (Solo u) (Overflowing (Some u)) ph ow refl
-    (λ d a. refl) refl h
+replied-owing : {sh : Shape} (e u : ℕ) {s : CoreState} {o : Out} → Replied sh e u s o → OwingFits sh s → OwingFits sh o.core
+replied-owing e u (Ignored q n) h = rw q h
+replied-owing e u (Probed g w ph ow ca se cm) h = one-less e (Ready u) (Probing u) ph ow refl (λ d a. rw ca (rw g at a)) refl h
+replied-owing e u (Left_alone g w ph ow mo se cm) h = one-less e (Solo u) (Overflowing (Some u)) ph ow refl (λ d a. refl) refl h
 
 hurt-owing : {sh : Shape} {l : ℕ} (s : CoreState) {o : Out} → Invalidated sh l s o → OwingFits sh s → OwingFits sh o.core
 hurt-owing {sh} s {o} i h = go i.hurt
   where
     go : Hurt sh s o.core i.sends → OwingFits sh o.core
-    go (Unhurt ph ow mo re se) =
-        same-owing ph ow
+    go (Unhurt ph ow mo re se) = same-owing ph ow
         (λ a d. ap₂ (λ x z. x || z) (writes_at-same sh o.core.cache s.cache d mo) (reads_at-same sh o.core.cache s.cache d re)) h
     go (Rolled ph ph' ow se) = none-owing ph' refl (λ d. rw ow refl)
     go (Doomed ph ph' ow se) = none-owing ph' refl (λ d. rw ow refl)
     go (Aborted u ph ph' ow se) = none-owing ph' refl (λ d. rw ow refl)
     go (Gave_up u ph ph' ow se) = none-owing ph' refl (λ d. rw ow refl)
 
-owing-back : (sh : Shape) (e : ℕ) (s : CoreState) (m : Msg) → OwingFits sh s → IfSome (from_dir sh e s m) (λ o. OwingFits sh o.core)
-owing-back sh e s (ProbeReply u v) h = replied-owing e u s (reply-cases sh e u s) h
-owing-back sh e s (Fill l ws) h = steady-owing (fill-steady l ws s) h
-owing-back sh e s (DataReq l) h = steady-owing (data-steady sh l s) h
-owing-back sh e s (Inv l m u) h = hurt-owing s (invalidate-cases sh l m u s) h
-owing-back sh e s _ h = tt
+owing-back : {sh : Shape} (e : ℕ) {s : CoreState} (m : Msg) → OwingFits sh s → IfSome (from_dir sh e s m) (λ o. OwingFits sh o.core)
+owing-back {sh} e {s} (ProbeReply u v) h = replied-owing e u (reply-cases sh e u s) h
+owing-back e {s} (Fill l ws) h = steady-owing (fill-steady l ws s) h
+owing-back {sh} e {s} (DataReq l) h = steady-owing (data-steady sh l s) h
+owing-back {sh} e {s} (Inv l m u) h = hurt-owing s (invalidate-cases sh l m u s) h
+owing-back e _ h = tt
 
 -- one core has changed
 put-owing : {sh : Shape} (w : World) (c : ℕ) {s : CoreState} → KeptOwing sh w → OwingFits sh s → (j : ℕ)
@@ -174,11 +168,9 @@ pub step-owing : (sh : Shape) (p : Program) (w : World) (e : Event) → KeptOwin
 unfolding core_moves core_takes dir_takes dir_asks vendor_gives
 step-owing sh p w e k = step_cases sh p w e (λ g o. KeptOwing sh o.world)
     (λ c l. moved c (core_exec sh p c (w.cores c)) (owing-exec p c (k c)))
-    (λ c x y l. moved c (core_evict sh x y (w.cores c)) (owing-evict x y (k c)))
-    (λ c i t q. put-owing w c k (owing-grant t (k c)))
-    (λ c d i m q. taken c d i (from_dir sh d (w.cores c) m) (owing-back sh d (w.cores c) m (k c)))
-    (λ c d i m q. answered c d i (dir_deliver sh (w.dirs d) c m))
-    (λ c i q. k)
+    (λ c x y l. moved c (core_evict sh x y (w.cores c)) (owing-evict x y (k c))) (λ c i t q. put-owing w c k (owing-grant t (k c)))
+    (λ c d i m q. taken c d i (from_dir sh d (w.cores c) m) (owing-back d m (k c)))
+    (λ c d i m q. answered c d i (dir_deliver sh (w.dirs d) c m)) (λ c i q. k)
   where
     moved : (c : ℕ) (x : Option Out) → IfSome x (λ o. OwingFits sh o.core) → IfSome x (λ o. KeptOwing sh (core_moves w c o))
     moved c None h = tt
@@ -192,6 +184,6 @@ step-owing sh p w e k = step_cases sh p w e (λ g o. KeptOwing sh o.world)
     answered c d i Waits = tt
     answered c d i _ = k
 
-pub start-owing : (sh : Shape) (entries : ℕ → Local) (ram : ℕ → ℕ) → KeptOwing sh (start entries ram)
+pub start-owing : {sh : Shape} (entries : ℕ → Local) (ram : ℕ → ℕ) → KeptOwing sh (start entries ram)
 unfolding start core_start
-start-owing sh entries ram c = record { asked = λ d e. absurd (cc); waits = λ d e. absurd (cc); some = λ e. absurd (cc) }
+start-owing entries ram c = record { asked = λ d e. absurd (cc); waits = λ d e. absurd (cc); some = λ e. absurd (cc) }

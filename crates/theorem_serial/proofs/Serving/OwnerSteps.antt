@@ -51,7 +51,7 @@ moved-owners : {sh : Shape} {gs : List Grant} {w v : World} {cs : List Noted} (c
     → ((t : ℕ) → sum_of (holder t) sh.cores v 0 + holder t (pair w c 0) ≡ sum_of (holder t) sh.cores w 0 + f t)
     → ((t : ℕ) → f t + noted_tid t n ≤ holder t (pair w c 0)) → IfSome n (λ x. x.core.0 ≡ c)
     → ((j d t : ℕ) → 1 ≤ holder t (pair v j d) → Contains gs (grant_to t j)) → KeptOwners sh gs v (and_noted n cs)
-moved-owners {sh} {gs} {w} {v} {cs} c n f k l e s h o held =
+moved-owners {w} {v} {cs} c n f k l e s h o held =
     let a = commits_after c n k l (λ t. omega (arith, h t)) o in
     record {
       once = λ t. let q : num (nat_le v.next t) ≡ num (nat_le w.next t) = ap (λ x. num (nat_le x t)) e in
@@ -69,44 +69,34 @@ HeldBy gs c d v = (t : ℕ) → 1 ≤ holder t v → Contains gs (grant_to t c)
 swap : (a b : ℕ) → a + b ≡ b + a
 swap a b = omega arith
 
-move-owners : (sh : Shape) (gs : List Grant) (w : World) (cs : List Noted) (c : ℕ) (o : Out) → KeptOwners sh gs w cs → c < sh.cores
+move-owners : {sh : Shape} {gs : List Grant} (w : World) {cs : List Noted} (c : ℕ) (o : Out) → KeptOwners sh gs w cs → c < sh.cores
     → KeepsHolder c none (w.cores c) o → KeptOwners sh gs (core_moves w c o) (and_noted o.commit cs)
 unfolding pair core_moves
-move-owners sh gs w cs c o k l h = moved-owners c o.commit
-    (λ t. holder t (after_move (pair w c 0) o 0)) k l refl
+move-owners {sh} {gs} w c o k l h = moved-owners c o.commit (λ t. holder t (after_move (pair w c 0) o 0)) k l refl
     (λ t. sum_move (holder t) sh.cores w c o 0 (holder t (pair w c 0)) (holder t (after_move (pair w c 0) o 0)) l
-    (swap (holder t (after_move (pair w c 0) o 0)) (holder t (pair w c 0))))
-    (λ t. holder-moved (pair w c 0) 0 t h)
-    h.own
+    (swap (holder t (after_move (pair w c 0) o 0)) (holder t (pair w c 0)))) (λ t. holder-moved (pair w c 0) 0 t h) h.own
     (pairs_move (HeldBy gs) w c o (λ d t x. k.held c d t (omega (arith, holder-moved (pair w c d) d t h))) k.held)
 
 grant-owners : {sh : Shape} {gs : List Grant} (w : World) {cs : List Noted} (c k u : ℕ) {o : Out} → KeptOwners sh gs w cs → c < sh.cores
     → in_flight w.net Vendor (Core c) k ≡ Some (TidGrant u) → KeepsHolder c (λ t. num (u == t)) (w.cores c) o
     → KeptOwners sh gs (core_takes w Vendor c k o) (and_noted o.commit cs)
 unfolding pair core_takes
-grant-owners {sh} {gs} w {cs} c k u {o} h l i y = moved-owners c o.commit
-    (λ t. holder t (after_move (grant_taken (pair w c 0) k) o 0)) h l refl
+grant-owners {sh} {gs} w c k u {o} h l i y = moved-owners c o.commit (λ t. holder t (after_move (grant_taken (pair w c 0) k) o 0)) h l refl
     (λ t. sum_grant (holder t) sh.cores w c k o 0 (holder t (pair w c 0)) (holder t (after_move (grant_taken (pair w c 0) k) o 0)) l
-    (swap (holder t (after_move (grant_taken (pair w c 0) k) o 0)) (holder t (pair w c 0))))
-    (λ t. holder-granted (pair w c 0) 0 t k i y)
-    y.own
-    (pairs_grant (HeldBy gs) w c k o (λ d t x. h.held c d t (omega (arith, holder-granted (pair w c d) d t k i y))) h.held)
+    (swap (holder t (after_move (grant_taken (pair w c 0) k) o 0)) (holder t (pair w c 0)))) (λ t. holder-granted (pair w c 0) 0 t k i y)
+    y.own (pairs_grant (HeldBy gs) w c k o (λ d t x. h.held c d t (omega (arith, holder-granted (pair w c d) d t k i y))) h.held)
 
-back-owners : (sh : Shape) (gs : List Grant) (w : World) (cs : List Noted) (e c k : ℕ) (o : Out) → KeptOwners sh gs w cs → c < sh.cores
+back-owners : {sh : Shape} {gs : List Grant} (w : World) {cs : List Noted} (e c k : ℕ) (o : Out) → KeptOwners sh gs w cs → c < sh.cores
     → KeepsHolder c none (w.cores c) o → KeptOwners sh gs (core_takes w (Dir e) c k o) (and_noted o.commit cs)
 unfolding pair core_takes holder
-back-owners sh gs w cs e c k o h l y = moved-owners c o.commit
-    (λ t. holder t (after_move (pair w c 0) o 0)) h l refl
-    (λ t. sum t (cases_eq 0 e))
-    (λ t. holder-moved (pair w c 0) 0 t y)
-    y.own
+back-owners {sh} {gs} w e c k o h l y = moved-owners c o.commit (λ t. holder t (after_move (pair w c 0) o 0)) h l refl
+    (λ t. sum t (cases_eq 0 e)) (λ t. holder-moved (pair w c 0) 0 t y) y.own
     (pairs_back (HeldBy gs) w e c k o (λ t x. h.held c e t (omega (arith, holder-moved (pair w c e) e t y)))
     (λ d n t x. h.held c d t (omega (arith, holder-moved (pair w c d) d t y))) h.held)
   where
     sum : (t : ℕ) → (0 ≡ e) ⊎ (0 ≢ e) → sum_of (holder t) sh.cores (core_takes w (Dir e) c k o) 0 + holder t (pair w c 0) ≡ sum_of
         (holder t) sh.cores w 0 + holder t (after_move (pair w c 0) o 0)
-    sum t (inl q) =
-        subst (λ e. sum_of (holder t) sh.cores (core_takes w (Dir e) c k o) 0 + holder t (pair w c 0) ≡ sum_of
+    sum t (inl q) = subst (λ e. sum_of (holder t) sh.cores (core_takes w (Dir e) c k o) 0 + holder t (pair w c 0) ≡ sum_of
         (holder t) sh.cores w 0 + holder t (after_move (pair w c 0) o 0)) q
         (sum_back (holder t) sh.cores w c k o 0 (holder t (pair w c 0)) (holder t (after_move (pair w c 0) o 0)) l
         (swap (holder t (after_move (pair w c 0) o 0)) (holder t (pair w c 0))))
@@ -130,12 +120,12 @@ same-owners {sh} {w} {v} k e h = record {
 dir-owners : {sh : Shape} {gs : List Grant} {w : World} {cs : List Noted} (c e k : ℕ) (s : DirState) (sends : Sends) → KeptOwners sh gs w cs
     → KeptOwners sh gs (dir_takes w c e k s sends) cs
 unfolding dir_takes pair holder
-dir-owners {sh} {gs} {w} {cs} c e k s sends h = same-owners h refl (λ t j d. refl)
+dir-owners c e k s sends h = same-owners h refl (λ t j d. refl)
 
-asks-owners : (sh : Shape) (gs : List Grant) (w : World) (cs : List Noted) (e : ℕ) (s : DirState) (sends : Sends) → KeptOwners sh gs w cs
+asks-owners : {sh : Shape} {gs : List Grant} {w : World} {cs : List Noted} (e : ℕ) (s : DirState) (sends : Sends) → KeptOwners sh gs w cs
     → KeptOwners sh gs (dir_asks w e s sends) cs
 unfolding dir_asks pair holder
-asks-owners sh gs w cs e s sends h = same-owners h refl (λ t j d. refl)
+asks-owners e s sends h = same-owners h refl (λ t j d. refl)
 
 -- the vendor grants a TID
 pub holder-given : (v : Pair) (k t : ℕ) → holder t (after_grant v k) + 0 ≡ holder t v + num (v.next == t)
@@ -194,26 +184,24 @@ pub step-owners : {sh : Shape} (p : Program) {gs : List Grant} {w : World} {cs :
 step-owners {sh} p {gs} {w} {cs} e z h = step_cases sh p w e (λ g o. KeptOwners sh (gs ++ g) o.world (and_noted o.noted cs))
     (λ c l. moved c l (core_exec sh p c (w.cores c)) (holder-exec sh p c (w.cores c)))
     (λ c x y l. moved c l (core_evict sh x y (w.cores c)) (holder-evict sh x y c (w.cores c)))
-    (λ c k t i. rw append-nil (grant-owners w c k t h (core_of_grant c k z i) i
-    (holder-grant sh t c (w.cores c))))
+    (λ c k t i. rw append-nil (grant-owners w c k t h (core_of_grant c k z i) i (holder-grant sh t c (w.cores c))))
     (λ c d k m i. backs c d k (core_of_back c d k z i) (from_dir sh d (w.cores c) m) (holder-back sh d c (w.cores c) m))
-    (λ c d k m i. answered c d k (dir_deliver sh (w.dirs d) c m))
-    (λ c k i. vendor-owners sh gs w cs c k h (core_of_ask c k z i))
+    (λ c d k m i. answered c d k (dir_deliver sh (w.dirs d) c m)) (λ c k i. vendor-owners sh gs w cs c k h (core_of_ask c k z i))
   where
     moved : (c : ℕ) → c < sh.cores → (x : Option Out) → IfSome x (λ o. KeepsHolder c none (w.cores c) o)
         → IfSome x (λ o. KeptOwners sh (gs ++ []) (core_moves w c o) (and_noted o.commit cs))
     moved c l None y = tt
-    moved c l (Some o) y = rw append-nil (move-owners sh gs w cs c o h l y)
+    moved c l (Some o) y = rw append-nil (move-owners w c o h l y)
 
     backs : (c d k : ℕ) → c < sh.cores → (x : Option Out) → IfSome x (λ o. KeepsHolder c none (w.cores c) o)
         → IfSome x (λ o. KeptOwners sh (gs ++ []) (core_takes w (Dir d) c k o) (and_noted o.commit cs))
     backs c d k l None y = tt
-    backs c d k l (Some o) y = rw append-nil (back-owners sh gs w cs d c k o h l y)
+    backs c d k l (Some o) y = rw append-nil (back-owners w d c k o h l y)
 
     answered : (c d k : ℕ) (a : Answer) → OfAnswer w c d k (λ v. KeptOwners sh (gs ++ []) v cs) a
     answered c d k Waits = tt
     answered c d k Drops = rw append-nil (dir-owners c d k (w.dirs d) (λ dst. []) h)
-    answered c d k (Asks s sends) = rw append-nil (asks-owners sh gs w cs d s sends h)
+    answered c d k (Asks s sends) = rw append-nil (asks-owners d s sends h)
     answered c d k (Takes s sends) = rw append-nil (dir-owners c d k s sends h)
 
 -- and so does every run
@@ -221,15 +209,13 @@ run_from-owners : (sh : Shape) (p : Program) (es : List Event) (gs : List Grant)
     → KeptOwners sh gs h.world h.commits → IfSome (run_from sh p es h) (λ r. KeptOwners sh (gs ++ grants_from sh p es h) r.world r.commits)
 unfolding run_from grants_from next_history
 run_from-owners sh p [] gs h k o = rw append-nil o
-run_from-owners sh p (e ∷ es) gs h k o =
-    go (step sh p h.world e) (step-kept p e k) (step-owners p e k.told.tids o)
+run_from-owners sh p (e ∷ es) gs h k o = go (step sh p h.world e) (step-kept p e k) (step-owners p e k.told.tids o)
     (λ g q x. run_from-owners sh p es (gs ++ granted_by h.world e) g q x)
   where
     go : (x : Option Stepped) → IfSome x (λ y. Kept sh y.world)
         → IfSome x (λ y. KeptOwners sh (gs ++ granted_by h.world e) y.world (and_noted y.noted h.commits))
         → ((g : History) → Kept sh g.world → KeptOwners sh (gs ++ granted_by h.world e) g.world g.commits
-        → IfSome (run_from sh p es g)
-        (λ r. KeptOwners sh ((gs ++ granted_by h.world e) ++ grants_from sh p es g) r.world r.commits))
+        → IfSome (run_from sh p es g) (λ r. KeptOwners sh ((gs ++ granted_by h.world e) ++ grants_from sh p es g) r.world r.commits))
         → IfSome (and_then (run_from sh p es) (recorded h x))
         (λ r. KeptOwners sh (gs ++ then_grants (granted_by h.world e) (grants_from sh p es) (recorded h x)) r.world r.commits)
     go None a b f = tt
@@ -278,14 +264,11 @@ pub step-last : {sh : Shape} (p : Program) {gs : List Grant} {w : World} {cs : L
 unfolding pair holder
 step-last {sh} p {gs} {w} e z y h = step_cases sh p w e (λ g o. LastGranted (gs ++ g) o.world)
     (λ c l. moved c (core_exec sh p c (w.cores c)) (holder-exec sh p c (w.cores c)))
-    (λ c a b l. moved c (core_evict sh a b (w.cores c)) (holder-evict sh a b c (w.cores c)))
-    (λ c k u i. rw append-nil
-    (pairs_grant (LastOf gs) w c k (grant sh u (w.cores c))
-    (λ d t x q. h c d t x (omega
+    (λ c a b l. moved c (core_evict sh a b (w.cores c)) (holder-evict sh a b c (w.cores c))) (λ c k u i. rw append-nil
+    (pairs_grant (LastOf gs) w c k (grant sh u (w.cores c)) (λ d t x q. h c d t x (omega
     (arith, q, holder-granted (pair w c d) d t k i (holder-grant sh u c (w.cores c))))) h))
     (λ c d k m i. taken c d k (from_dir sh d (w.cores c) m) (holder-back sh d c (w.cores c) m))
-    (λ c d k m i. answered c d k (dir_deliver sh (w.dirs d) c m))
-    (λ c k i. pairs_vendor (LastOf (gs ++ g c ∷ [])) w c k
+    (λ c d k m i. answered c d k (dir_deliver sh (w.dirs d) c m)) (λ c k i. pairs_vendor (LastOf (gs ++ g c ∷ [])) w c k
     (λ d t x q m. own c k d t x i q (Contains-append_cases gs (g c ∷ []) (grant_to x c) m))
     (λ j d n t x q m. other c j d t x n q (Contains-append_cases gs (g c ∷ []) (grant_to x j) m)))
   where

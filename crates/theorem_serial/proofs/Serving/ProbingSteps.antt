@@ -57,14 +57,13 @@ back-quiet sh e s _ = tt
 taken-granted : {sh : Shape} {gs : List Grant} (w : World) {cs : List Noted} (c k u : ℕ) → KeptOwners sh gs w cs
     → in_flight w.net Vendor (Core c) k ≡ Some (TidGrant u) → Contains gs (grant_to u c)
 unfolding holder pair passes
-taken-granted w c k u y i =
-    y.held c 0 u (let n : num (u == u) ≡ 1 = grind nats in
+taken-granted w c k u y i = y.held c 0 u (let n : num (u == u) ≡ 1 = grind nats in
     omega (arith, n, live-some (Grants u) (w.net Vendor (Core c)) k (TidGrant u) i))
 
 pub step-probed : {sh : Shape} (p : Program) {gs : List Grant} {w : World} {cs : List Noted} (e : Event) → Kept sh w → KeptOwners sh gs w cs
     → KeptProbed gs w → IfSome (step sh p w e) (λ o. KeptProbed (gs ++ granted_by w e) o.world)
 unfolding pair
-step-probed {sh} p {gs} {w} {cs} e z y h = step_cases sh p w e (λ g o. KeptProbed (gs ++ g) o.world)
+step-probed {sh} p {gs} {w} e z y h = step_cases sh p w e (λ g o. KeptProbed (gs ++ g) o.world)
     (λ c l. moved c (core_exec sh p c (w.cores c)) (unprobed-exec sh p c (w.cores c)))
     (λ c a b l. moved c (core_evict sh a b (w.cores c)) (unprobed-evict sh a b (w.cores c)))
     (λ c k u i. rw append-nil (pairs_grant P w c k (grant sh u (w.cores c)) (λ d t x. mine c d k u t i x (cases_eq u t)) h))
@@ -93,8 +92,7 @@ step-probed {sh} p {gs} {w} {cs} e z y h = step_cases sh p w e (λ g o. KeptProb
 
     moved : (c : ℕ) (x : Option Out) → IfSome x (λ o. Unprobed (w.cores c) o) → IfSome x (λ o. KeptProbed (gs ++ []) (core_moves w c o))
     moved c None a = tt
-    moved c (Some o) a =
-        rw append-nil (pairs_move P w c o
+    moved c (Some o) a = rw append-nil (pairs_move P w c o
         (λ d t x. h c d t (omega (arith, x, a.sent d t, live-sends (Probes t) (to_dir w c d) (o.sends (Dir d))))) h)
 
     taken : (c d k : ℕ) (m : Msg) → FromDir w d c k m → (x : Option Out) → IfSome x (λ o. Quiet o)
@@ -122,8 +120,7 @@ step-probed {sh} p {gs} {w} {cs} e z y h = step_cases sh p w e (λ g o. KeptProb
           live-sends (Replies t) (to_core w d c) [],
         )))
         (λ j n t x. h j d t (omega (arith, x, none-replied t, live-sends (Replies t) (to_core w d j) []))) h)
-    answered c d k m i (Asks s sends) u =
-        rw append-nil (pairs_asks P w d s sends
+    answered c d k m i (Asks s sends) u = rw append-nil (pairs_asks P w d s sends
         (λ j t x. h j d t (omega (arith, x, u j t, live-sends (Replies t) (to_core w d j) (sends (Core j))))) h)
     answered c d k m i (Takes s sends) u = rw append-nil (pairs_dir P w c d k s sends
         (λ t x. h c d t (omega (
@@ -298,9 +295,9 @@ probing-answered {v} s ms {t} n h = record {
   held = λ k. omega (arith, h.held k, live-sends (Replies t) v.back ms);
 }
 
-probing-exchanged : (v : Pair) (s : DirState) (ms : List Msg) (d t k : ℕ) (m : Msg) → slice_index_or v.out k None ≡ Some m
+probing-exchanged : {v : Pair} (s : DirState) (ms : List Msg) {d : ℕ} (t k : ℕ) (m : Msg) → slice_index_or v.out k None ≡ Some m
     → among (Replies t) ms ≡ num (passes (Probes t) m) → ProbingOf d t v → ProbingOf d t (after_answer (out_taken v k) s ms)
-probing-exchanged v s ms d t k m i n h = record {
+probing-exchanged {v} s ms t k m i n h = record {
   fresh = λ l. omega (arith, h.fresh l, live-sends (Replies t) v.back ms, live-takes (Probes t) v.out k m i);
   held = λ x. omega (arith, h.held x, live-sends (Replies t) v.back ms, live-takes (Probes t) v.out k m i);
 }
@@ -314,8 +311,8 @@ probing-given v k d t h = record {
   held = h.held;
 }
 
-probing-next : (v : Pair) (d t : ℕ) → ProbingOf d t v → ProbingOf d t (after_other_grant v)
-probing-next v d t h = record {
+probing-next : {v : Pair} {d : ℕ} (t : ℕ) → ProbingOf d t v → ProbingOf d t (after_other_grant v)
+probing-next {v} t h = record {
   fresh = λ l. h.fresh (let b : num (nat_le (v.next + 1) t) ≤ num (nat_le v.next t) = grind nats in omega arith);
   held = h.held;
 }
@@ -333,9 +330,9 @@ unfolding passes
 no-reply_inv l m u t = refl
 
 -- a message that is no reply is taken
-dropped : (v : Pair) (e k : ℕ) (m : Msg) (t : ℕ) → slice_index_or v.back k None ≡ Some m → passes (Replies t) m ≡ false → ProbingOf e t v
-    → ProbingOf e t (back_taken v k)
-dropped v e k m t i f h = let n : num (passes (Replies t) m) ≡ 0 = ap num f in record {
+dropped : {v : Pair} {e : ℕ} (k : ℕ) (m : Msg) (t : ℕ) → slice_index_or v.back k None ≡ Some m → passes (Replies t) m ≡ false
+    → ProbingOf e t v → ProbingOf e t (back_taken v k)
+dropped {v} k m t i f h = let n : num (passes (Replies t) m) ≡ 0 = ap num f in record {
   fresh = λ l. omega (arith, h.fresh l, live-takes (Replies t) v.back k m i);
   held = λ x. omega (arith, h.held x, live-takes (Replies t) v.back k m i);
 }
@@ -343,16 +340,14 @@ dropped v e k m t i f h = let n : num (passes (Replies t) m) ≡ 0 = ap num f in
 pub step-probing : {sh : Shape} (p : Program) {gs : List Grant} {w : World} {cs : List Noted} (e : Event) → Kept sh w
     → KeptOwners sh gs w cs → KeptCores sh w → KeptProbing w → IfSome (step sh p w e) (λ o. KeptProbing o.world)
 unfolding pair
-step-probing {sh} p {gs} {w} {cs} e z y x h = step_cases sh p w e (λ g o. KeptProbing o.world)
+step-probing {sh} p {w} e z y x h = step_cases sh p w e (λ g o. KeptProbing o.world)
     (λ c l. moved c (core_exec sh p c (w.cores c)) (unprobed-exec sh p c (w.cores c)))
     (λ c a b l. moved c (core_evict sh a b (w.cores c)) (unprobed-evict sh a b (w.cores c)))
-    (λ c k u i. pairs_grant P w c k (grant sh u (w.cores c))
-    (λ d t. probing-granted d t k u i
+    (λ c k u i. pairs_grant P w c k (grant sh u (w.cores c)) (λ d t. probing-granted d t k u i
     (grant-alone c u y (core_of_grant c k z.told.tids i))
     (granted sh u (w.cores c) (granted_waits (pair w c d) k i (z.told.tids.requests c d))) (h c d u) (h c d t)) h)
-    (λ c d k m i. taken c d k m i)
-    (λ c d k m i. answered c d k m i (dir_deliver sh (w.dirs d) c m) (dir-replies sh (w.dirs d) c m))
-    (λ c k i. pairs_vendor P w c k (λ d t. probing-given (pair w c d) k d t (h c d t)) (λ j d n t. probing-next (pair w j d) d t (h j d t)))
+    (λ c d k m i. taken c d k m i) (λ c d k m i. answered c d k m i (dir_deliver sh (w.dirs d) c m) (dir-replies sh (w.dirs d) c m))
+    (λ c k i. pairs_vendor P w c k (λ d t. probing-given (pair w c d) k d t (h c d t)) (λ j d n t. probing-next t (h j d t)))
   where
     P : ℕ → ℕ → Pair → Type 0
     P c d v = (t : ℕ) → ProbingOf d t v
@@ -363,41 +358,30 @@ step-probing {sh} p {gs} {w} {cs} e z y x h = step_cases sh p w e (λ g o. KeptP
 
     quiet : (c e k : ℕ) (m : Msg) (o : Out) → FromDir w e c k m → ((t : ℕ) → passes (Replies t) m ≡ false)
         → Unprobed (w.cores c) o → KeptProbing (core_takes w (Dir e) c k o)
-    quiet c e k m o i f u =
-        pairs_back P w e c k o (λ t. probing-moved u (dropped (pair w c e) e k m t i (f t) (h c e t)))
+    quiet c e k m o i f u = pairs_back P w e c k o (λ t. probing-moved u (dropped k m t i (f t) (h c e t)))
         (λ d n t. probing-moved u (h c d t)) h
 
     reply : (c e k u v : ℕ) → FromDir w e c k (ProbeReply u v) → KeptProbing (core_takes w (Dir e) c k (probe_reply sh e u (w.cores c)))
     reply c e k u v i =
-        let a = counts sh e u (w.cores c) (probe_reply sh e u (w.cores c)) (λ t. idle_of e t (x c))
-        (reply-cases sh e u (w.cores c)) in
-        pairs_back P w e c k (probe_reply sh e u (w.cores c))
-        (λ t. probing-replied e k u v t i a (h c e t))
+        let a = counts sh e u (w.cores c) (probe_reply sh e u (w.cores c)) (λ t. idle_of e t (x c)) (reply-cases sh e u (w.cores c)) in
+        pairs_back P w e c k (probe_reply sh e u (w.cores c)) (λ t. probing-replied e k u v t i a (h c e t))
         (λ d n t. probing-away (probe_reply sh e u (w.cores c)) d t a.sent (λ q. a.away d t n q) (h c d t)) h
 
     taken : (c d k : ℕ) (m : Msg) → FromDir w d c k m → IfSome (from_dir sh d (w.cores c) m) (λ o. KeptProbing (core_takes w (Dir d) c k o))
     taken c d k (ProbeReply u v) i = reply c d k u v i
-    taken c d k (Fill l ws) i =
-        quiet c d k (Fill l ws) _ i (no-reply_fill l ws)
-        (unprobed-steady (fill-steady l ws (w.cores c)))
-    taken c d k (DataReq l) i =
-        quiet c d k (DataReq l) _ i (no-reply_data l)
-        (unprobed-steady (data-steady sh l (w.cores c)))
-    taken c d k (Inv l m u) i =
-        quiet c d k (Inv l m u) _ i (no-reply_inv l m u)
-        (unprobed-hurt (invalidate-cases sh l m u (w.cores c)))
+    taken c d k (Fill l ws) i = quiet c d k (Fill l ws) _ i (no-reply_fill l ws) (unprobed-steady (fill-steady l ws (w.cores c)))
+    taken c d k (DataReq l) i = quiet c d k (DataReq l) _ i (no-reply_data l) (unprobed-steady (data-steady sh l (w.cores c)))
+    taken c d k (Inv l m u) i = quiet c d k (Inv l m u) _ i (no-reply_inv l m u) (unprobed-hurt (invalidate-cases sh l m u (w.cores c)))
     taken c d k _ i = tt
 
     dir : (c d k : ℕ) (m : Msg) (s : DirState) (sends : Sends) → FromCore w c d k m → Replying m c sends
         → KeptProbing (dir_takes w c d k s sends)
-    dir c d k m s sends i u =
-        pairs_dir P w c d k s sends (λ t. probing-exchanged (pair w c d) s (sends (Core c)) d t k m i (u.own t) (h c d t))
+    dir c d k m s sends i u = pairs_dir P w c d k s sends (λ t. probing-exchanged s (sends (Core c)) t k m i (u.own t) (h c d t))
         (λ j n t. probing-answered s (sends (Core j)) (u.others j t n) (h j d t)) h
 
     answered : (c d k : ℕ) (m : Msg) → FromCore w c d k m → (a : Answer) → RepliesBy m c a → OfAnswer w c d k (λ v. KeptProbing v) a
     answered c d k m i Waits u = tt
     answered c d k m i Drops u =
         dir c d k m (w.dirs d) (λ dst. []) i (record { own = λ t. none-replied t ∙ sym (u t); others = λ j t n. none-replied t })
-    answered c d k m i (Asks s sends) u =
-        pairs_asks P w d s sends (λ j t. probing-answered s (sends (Core j)) (u j t) (h j d t)) h
+    answered c d k m i (Asks s sends) u = pairs_asks P w d s sends (λ j t. probing-answered s (sends (Core j)) (u j t) (h j d t)) h
     answered c d k m i (Takes s sends) u = dir c d k m s sends i u

@@ -87,8 +87,7 @@ unique-at n (suc i) (suc j) (x ∷ gs) g h o t a p b q = unique-at (n + 1) i j g
 
 -- a TID was granted to one core
 pub granted-once : (n : ℕ) (gs : List Grant) (t c d : ℕ) → IsNumbered n gs → Contains gs (grant_to t c) → Contains gs (grant_to t d) → c ≡ d
-granted-once n gs t c d o a b =
-    ap (λ g. g.core) (unique-at n a.0 b.0 gs (grant_to t c) (grant_to t d) o refl a.1 a.2 b.1 b.2)
+granted-once n gs t c d o a b = ap (λ g. g.core) (unique-at n a.0 b.0 gs (grant_to t c) (grant_to t d) o refl a.1 a.2 b.1 b.2)
 
 -- Which commits are listed after a further one, and that TIDs count from 1.
 contains-cases : (x n : Noted) (xs : List Noted) → Contains (x ∷ xs) n → (x ≡ n) ⊎ Contains xs n
@@ -134,13 +133,12 @@ positive-granted {gs} c t o h = numbered-least 1 gs (grant_to t c) o.numbered (o
 pub positive-held : {sh : Shape} {gs : List Grant} {w : World} {cs : List Noted} (c t : ℕ) → KeptOwners sh gs w cs
     → has_tid (w.cores c).phase t ≡ true → 1 ≤ t
 unfolding holder pair
-positive-held {sh} {gs} {w} {cs} c t o h = let n : num (has_tid (w.cores c).phase t) ≡ 1 = ap num h in
+positive-held {w} c t o h = let n : num (has_tid (w.cores c).phase t) ≡ 1 = ap num h in
     positive-granted c t o (omega (arith, n))
 
 pub positive-committed : {sh : Shape} {gs : List Grant} {w : World} {cs : List Noted} (n : Noted) → KeptOwners sh gs w cs → Contains cs n
     → 1 ≤ n.tid.0
-positive-committed {gs} {cs} n o k = numbered-least 1 gs (grant_to n.tid.0 n.core.0) o.numbered
-    (granted-at gs cs n o.granted k)
+positive-committed {gs} {cs} n o k = numbered-least 1 gs (grant_to n.tid.0 n.core.0) o.numbered (granted-at gs cs n o.granted k)
 
 -- The greatest TID of the commits that pass a test.
 later : (m : Noted) (cs : List Noted) (x : Noted) → Contains cs x → Contains (m ∷ cs) x

@@ -79,8 +79,7 @@ unfolding grant waits_for_tid opens
 part-grant sh u d t s l w = go s.phase refl w
   where
     go : (q : Phase) → s.phase ≡ q → waits_for_tid q ≡ true → KeepsPart sh d t (num (u == t)) s (grant_in_phase sh u s q)
-    go AwaitTid e h =
-        rw e (rw (opens-probing (any_below (is_probed sh s.cache) sh.dirs) u (writes_at sh s.cache d) t)
+    go AwaitTid e h = rw e (rw (opens-probing (any_below (is_probed sh s.cache) sh.dirs) u (writes_at sh s.cache d) t)
         (omega (arith, resolves-grant_sends sh s.cache u d t l)))
     go DoomedTid e h = rw e (omega (arith, resolves-skip_all sh u d t l))
     go (Overflowing None) e h = rw e (omega (arith, resolves-probe_all sh u d t))
@@ -117,7 +116,7 @@ part-hurt d t l a = grind (nats, writes_at-same, resolves-abort_written, resolve
 
 part-invalidated : {sh : Shape} (l d t : ℕ) (s : CoreState) {o : Out} → d < sh.dirs → Invalidated sh l s o → KeepsPart sh d t 0 s o
 unfolding among passes
-part-invalidated {sh} l d t s {o} h i =
+part-invalidated {sh} l d t s h i =
     rw (i.dirs d) (omega (
       arith,
       part-hurt d t h i.hurt,
@@ -158,8 +157,7 @@ requests-exec sh p c s = each-exec sh p c s (λ o. KeepsRequests 0 s o) go
     go x = refl
 
 pub requests-evict : (sh : Shape) (x y : ℕ) (s : CoreState) → IfSome (core_evict sh x y s) (λ o. KeepsRequests 0 s o)
-requests-evict sh x y s = each-evict sh x y s (λ o. KeepsRequests 0 s o)
-    (λ k q u z. requests-steady (steady-emptied sh x y s k q u z))
+requests-evict sh x y s = each-evict sh x y s (λ o. KeepsRequests 0 s o) (λ k q u z. requests-steady (steady-emptied sh x y s k q u z))
 
 waits-probing : (b : Bool) (u : ℕ) → waits_for_tid (probing_or_ready b u) ≡ false
 unfolding waits_for_tid
@@ -235,10 +233,8 @@ unfolding commit solo_commit committed_core has_tid passes
 unprobed-exec sh p c s = each-exec sh p c s (λ o. Unprobed s o) go
   where
     go : (x : Did sh p c s) → Unprobed s (out x)
-    go (Room_wanted r i) = unprobed-none (Overflowing None) refl
-        (λ t. refl) (λ d t. quiet sh s (Probes t) Wants (λ y. refl) d)
-    go (Ends_run l e f r i) = unprobed-none AwaitTid refl
-        (λ t. refl) (λ d t. quiet sh s (Probes t) Wants (λ y. refl) d)
+    go (Room_wanted r i) = unprobed-none (Overflowing None) refl (λ t. refl) (λ d t. quiet sh s (Probes t) Wants (λ y. refl) d)
+    go (Ends_run l e f r i) = unprobed-none AwaitTid refl (λ t. refl) (λ d t. quiet sh s (Probes t) Wants (λ y. refl) d)
     go (Ends_alone u l e f r i) = unprobed-none (phase_after_commit e) refl (tid-after e)
         (λ d t. quiet sh s (Probes t) (Tells_alone u) (λ y. refl) d)
     go (Commits_now u e) = unprobed-none (phase_after_commit s.ended) refl (tid-after s.ended)
@@ -246,8 +242,7 @@ unprobed-exec sh p c s = each-exec sh p c s (λ o. Unprobed s o) go
     go x = record { sent = λ d t. quiet sh s (Probes t) (said x) (λ y. refl) d; kept = λ d t h. (h, refl) }
 
 pub unprobed-evict : (sh : Shape) (x y : ℕ) (s : CoreState) → IfSome (core_evict sh x y s) (λ o. Unprobed s o)
-unprobed-evict sh x y s =
-    each-evict sh x y s (λ o. Unprobed s o) (λ k q u z. unprobed-steady (steady-emptied sh x y s k q u z))
+unprobed-evict sh x y s = each-evict sh x y s (λ o. Unprobed s o) (λ k q u z. unprobed-steady (steady-emptied sh x y s k q u z))
 
 pub unprobed-hurt : {sh : Shape} {l : ℕ} {s : CoreState} {o : Out} → Invalidated sh l s o → Unprobed s o
 unfolding has_tid among passes
@@ -338,8 +333,7 @@ unfolding commit solo_commit committed_core has_tid
 holder-exec sh p c s = each-exec sh p c s (λ o. KeepsHolder c none s o) go
   where
     go : (x : Did sh p c s) → KeepsHolder c none s (out x)
-    go (Ends_alone u l e f r i) = holder-noted u (after_end s l e)
-        (rw r (grind nats)) (λ t. rw r refl) refl refl
+    go (Ends_alone u l e f r i) = holder-noted u (after_end s l e) (rw r (grind nats)) (λ t. rw r refl) refl refl
     go (Commits_now u e) = holder-noted u s (rw e (grind nats)) (λ t. rw e refl) refl refl
     go _ = record { holds = λ t. omega arith; own = tt }
 

@@ -212,8 +212,7 @@ pub back-kept : (sh : Shape) (w : World) (e c k : ℕ) (m : Msg) (o : Out) → K
     → ((d t : ℕ) → d < sh.dirs → KeepsPart sh d t 0 (w.cores c) o) → KeptTids sh (core_takes w (Dir e) c k o)
 unfolding pair core_takes part
 back-kept sh w e c k m o h i r p =
-    let l : c < sh.cores = inside_from sh c (live Any (to_core w e c)) (h.inside c e).back
-    (any-one (to_core w e c) k i) in
+    let l : c < sh.cores = inside_from sh c (live Any (to_core w e c)) (h.inside c e).back (any-one (to_core w e c) k i) in
     record {
       inside = pairs_back (λ c d v. InsideOf sh c v) w e c k o (within sh c _ l (h.inside c e).owners)
           (λ d n. within sh c _ l (h.inside c d).owners) h.inside;
@@ -288,14 +287,13 @@ pub no_sends : among Any [] ≡ 0
 unfolding among
 no_sends = refl
 
-pub dir-kept : (sh : Shape) (w : World) (c e k : ℕ) (m : Msg) (s : DirState) (sends : Sends) → KeptTids sh w → FromCore w c e k m
+pub dir-kept : {sh : Shape} {w : World} (c e k : ℕ) {m : Msg} (s : DirState) (sends : Sends) → KeptTids sh w → FromCore w c e k m
     → ((j : ℕ) → sh.cores ≤ j → among Any (sends (Core j)) ≡ 0) → ((l o : ℕ) → s.lines.owner l ≡ Some o → o < sh.cores)
     → ((t : ℕ) → e < sh.dirs → handled s.serving s.owed t ≡ handled (w.dirs e).serving (w.dirs e).owed t + num (passes (Resolves t) m))
     → KeptTids sh (dir_takes w c e k s sends)
 unfolding pair dir_takes
-dir-kept sh w c e k m s sends h i q ow hd =
-    let l : c < sh.cores = inside_from sh c (live Any (to_dir w c e)) (h.inside c e).out
-    (any-one (to_dir w c e) k i) in
+dir-kept {sh} {w} c e k {m} s sends h i q ow hd =
+    let l : c < sh.cores = inside_from sh c (live Any (to_dir w c e)) (h.inside c e).out (any-one (to_dir w c e) k i) in
     record {
       inside = pairs_dir (λ c d v. InsideOf sh c v) w c e k s sends (within sh c _ l ow)
           (λ j n. inside-answered s (sends (Core j)) (q j) ow (h.inside j e)) h.inside;
@@ -315,8 +313,7 @@ dir-kept sh w c e k m s sends h i q ow hd =
     resolved : c < sh.cores → (d t : ℕ) → d < sh.dirs → (d ≡ e) ⊎ (d ≢ e) → ResolvedAt sh (dir_takes w c e k s sends) d t
     resolved l d t x (inr n) = let p = sum_dir_away (part sh d t) sh.cores w c e k s sends d n in
         rw (differ d e n) (omega (arith, h.resolved d t x))
-    resolved l d t x (inl n) = subst (λ y. ResolvedAt sh (dir_takes w c y k s sends) d t) n
-        (here l d t x (rw (sym n) at i)
+    resolved l d t x (inl n) = subst (λ y. ResolvedAt sh (dir_takes w c y k s sends) d t) n (here l d t x (rw (sym n) at i)
         (subst (λ y. handled s.serving s.owed t ≡ handled (w.dirs y).serving (w.dirs y).owed t + num (passes (Resolves t) m)) (sym n)
         (hd t (rw n at x))))
 
@@ -327,8 +324,7 @@ pub asks-kept : (sh : Shape) (w : World) (e : ℕ) (s : DirState) (sends : Sends
     → KeptTids sh (dir_asks w e s sends)
 unfolding pair dir_asks
 asks-kept sh w e s sends h q ow hd = record {
-  inside = pairs_asks (λ c d v. InsideOf sh c v) w e s sends
-      (λ j. inside-answered s (sends (Core j)) (q j) ow (h.inside j e)) h.inside;
+  inside = pairs_asks (λ c d v. InsideOf sh c v) w e s sends (λ j. inside-answered s (sends (Core j)) (q j) ow (h.inside j e)) h.inside;
   requests = pairs_asks (λ c d v. RequestOf v) w e s sends (λ j. h.requests j e) h.requests;
   resolved = λ d t x. resolved d t x (cases_eq d e);
 }
@@ -348,8 +344,7 @@ pub vendor-kept : (sh : Shape) (w : World) (c k : ℕ) → KeptTids sh w → in_
     → KeptTids sh (vendor_gives w c k (given w c))
 unfolding pair vendor_gives
 vendor-kept sh w c k h i =
-    let l : c < sh.cores = inside_from sh c (live Any (w.net (Core c) Vendor)) (h.inside c 0).asks
-    (any-one (w.net (Core c) Vendor) k i) in
+    let l : c < sh.cores = inside_from sh c (live Any (w.net (Core c) Vendor)) (h.inside c 0).asks (any-one (w.net (Core c) Vendor) k i) in
     record {
       inside = pairs_vendor (λ c d v. InsideOf sh c v) w c k (λ d. within sh c _ l (h.inside c d).owners)
           (λ j d n. inside-next (h.inside j d));

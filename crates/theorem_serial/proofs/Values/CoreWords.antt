@@ -96,12 +96,9 @@ words-exec sh p id s h = each-exec sh p id s (Uncommitted sh s) go
 
     go : (x : Did sh p id s) → Uncommitted sh s (out x)
     go (Frames a y also n k g i f) e = framed-sent sh (w a) y also s (after_store s a k (stored (w a) y also s.cache) s.spilled) refl h
-    go (Frames_anew a y n k g i q f o) e =
-        carries-still
-        (framed-dirty (w a) y h q) (framed-value (w a) y h q)
+    go (Frames_anew a y n k g i q f o) e = carries-still (framed-dirty (w a) y h q) (framed-value (w a) y h q)
         (λ l t. quiet sh s (CopyOf l t) Silent (λ y. refl) (home sh l))
-    go (Misses_anew a n g i q f) e =
-        carries-still (dirty-placed sh (line_of (w a)) s.cache)
+    go (Misses_anew a n g i q f) e = carries-still (dirty-placed sh (line_of (w a)) s.cache)
         (λ v d. value-placed sh (line_of (w a)) s.cache v)
         (λ l t. quiet sh s (CopyOf l t) (Requests (line_of (w a))) (λ y. refl) (home sh l))
     go (Ends_alone t l o f r i) e = absurd (cc)
@@ -109,12 +106,11 @@ words-exec sh p id s h = each-exec sh p id s (Uncommitted sh s) go
     go x e = carries-still (λ v. refl) (λ v d. refl) (λ l t. quiet sh s (CopyOf l t) (said x) (λ y. refl) (home sh l))
 
 pub words-evict : (sh : Shape) (x y : ℕ) (s : CoreState) → IsCache sh s.cache → IfSome (core_evict sh x y s) (Quietly sh s)
-words-evict sh x y s h =
-    each-evict sh x y s (Quietly sh s)
+words-evict sh x y s h = each-evict sh x y s (Quietly sh s)
     (λ k e a m. (
       refl,
       λ v. word-sent sh s (emptied sh x y k s) (dirty-evicted x y s.cache v k e)
-          (λ n. value-evicted x y s.cache v k e ∙ other k v n (k == line_of v) refl) (back-home-words sh k v s.cache h),
+          (λ n. value-evicted x y s.cache v k e ∙ other k v n (k == line_of v) refl) (back-home-words k v h),
     ))
   where
     other : (k v : ℕ) → k ≢ line_of v → (b : Bool) → (k == line_of v) ≡ b → (if b then None else s.cache.value v) ≡ s.cache.value v
@@ -128,10 +124,8 @@ unfolding passes
 words-grant sh u s = each-grant sh u s (Carries sh s) go
   where
     go : (x : Granted sh u s) → Carries sh s (granted x)
-    go (Given_none e) = carries-still (λ v. refl) (λ v d. refl)
-        (λ l t. quiet sh s (CopyOf l t) Silent (λ y. refl) (home sh l))
-    go x = carries-still (λ v. refl) (λ v d. refl)
-        (λ l t. quiet sh s (CopyOf l t) (granted_said x) (λ y. refl) (home sh l))
+    go (Given_none e) = carries-still (λ v. refl) (λ v d. refl) (λ l t. quiet sh s (CopyOf l t) Silent (λ y. refl) (home sh l))
+    go x = carries-still (λ v. refl) (λ v d. refl) (λ l t. quiet sh s (CopyOf l t) (granted_said x) (λ y. refl) (home sh l))
 
 -- an invalidation of the word's line: what stays of the word in the frame is as it was, and no copy is sent
 pub data WordBack (sh : Shape) (x : ℕ) (s : CoreState) (m : Msg) (o : Out) : Type 0 where
@@ -191,11 +185,9 @@ words-back sh x e s m h = each-back sh e s (WordBack sh x s) go m
     rolls k m u y c n = hurt k m u y (ap (λ r. r.dirty x) c) (λ d. ap (λ r. r.value x) c ∙ unmodified k m (s.cache.modified x) refl d) n
 
     go : (y : Heard sh e s) → WordBack sh x s (message y) (heard y)
-    go (Hands_out k) =
-        Carried (word-sent sh s (moves (record s { cache = cleaned k s.cache }) (say sh s (Flushes k))) refl
+    go (Hands_out k) = Carried (word-sent sh s (moves (record s { cache = cleaned k s.cache }) (say sh s (Flushes k))) refl
         (λ n. refl) (flushed-words k x h))
-    go (Fills k ws a q i f) =
-        Carried (word-still sh x s (moves (record s { cache = filled k ws s.cache; awaited = None }) nothing) refl
+    go (Fills k ws a q i f) = Carried (word-still sh x s (moves (record s { cache = filled k ws s.cache; awaited = None }) nothing) refl
         (λ d. kept ws x (k == line_of x) (s.cache.value x) (h.dirty x d)) (none (Fills k ws a q i f) (λ t y. refl) (λ t b. refl)))
     go (Hurt_none k m u n) = hurt k m u (Hurt_none k m u n) refl (λ d. refl) (none (Hurt_none k m u n) (λ t y. refl) (λ t b. refl))
     go (Hurt_running k m u v q) = rolls k m u (Hurt_running k m u v q) refl (none (Hurt_running k m u v q) (λ t y. refl) (λ t b. refl))
@@ -295,10 +287,8 @@ solo-word sh x id t s = record {
 
     right : (y : ℕ) → unwrap_or (s.spilled x) y ≡ y → (l : ℕ) (b : Bool) → (l == line_of x) ≡ b → (o : Option ℕ) → s.spilled x ≡ o
         → ((hit l (spilled_mask s.spilled l) x && (t == t)) && not (get_or (spilled_words s.spilled l) (place_of x) 0 == y)) ≡ false
-    right y e l b q None z = off-and _
-        (off-and (t == t) (unhit s.spilled x l z))
-    right y e l false q (Some w) z = off-and _
-        (off-and (t == t) (unhit-line s.spilled x l q))
+    right y e l b q None z = off-and _ (off-and (t == t) (unhit s.spilled x l z))
+    right y e l false q (Some w) z = off-and _ (off-and (t == t) (unhit-line s.spilled x l q))
     right y e l true q (Some w) z =
         let i : l ≡ line_of x = grind nats in
         let v : w ≡ y = rw z at e in

@@ -76,9 +76,9 @@ fades-then : (b c d : Cache) (v : ℕ) → Fades b c v → Fades c d v → Fades
 fades-then b c d v f g y e h = let k = g y e h in f y k.0 k.1
 
 -- executing
-dropped : (o : Option ℕ) (v : Option ℕ) (y : ℕ) → (if is_some o then None else v) ≡ Some y → (v ≡ Some y) × (o ≡ None)
-dropped None v y e = (e, refl)
-dropped (Some x) v y e = absurd (cc)
+dropped : (o : Option ℕ) (v : Option ℕ) {y : ℕ} → (if is_some o then None else v) ≡ Some y → (v ≡ Some y) × (o ≡ None)
+dropped None v e = (e, refl)
+dropped (Some x) v e = absurd (cc)
 
 pub framing-exec : (sh : Shape) (p : Program) (c : ℕ) (s : CoreState) → IfSome (core_exec sh p c s) (Framing c s)
 unfolding commit solo_commit committed_core committed words_dropped
@@ -96,8 +96,7 @@ framing-exec sh p c s = each-exec sh p c s (Framing c s) go
     go : (x : Did sh p c s) → Framing c s (out x)
     go (Reads a x z l g r f) = Stays refl (fading s _ refl (λ v. fades-marked (w a) v s.cache))
     go (Frames a y also n k g i f) = Stays refl (fading s _ refl (λ v. fades-stored (w a) y v also s.cache))
-    go (Frames_anew a y n k g i q f h) =
-        Stays refl (fading s _ refl
+    go (Frames_anew a y n k g i q f h) = Stays refl (fading s _ refl
         (λ v. fades-then s.cache (placed sh (line_of (w a)) s.cache) (stored (w a) y false (placed sh (line_of (w a)) s.cache)) v
         (fades-placed sh (line_of (w a)) v s.cache) (fades-stored (w a) y v false (placed sh (line_of (w a)) s.cache))))
     go (Misses a n g i q) = Stays refl (asked (line_of (w a)) _ g.idle (fades-same s.cache))
@@ -110,7 +109,7 @@ framing-exec sh p c s = each-exec sh p c s (Framing c s) go
           commit = refl;
           stores = refl;
           rests = (λ q. i, refl);
-          words = λ x y v. let z = dropped (s.spilled x) (s.cache.value x) y v in (z.0, λ q. z.1);
+          words = λ x y v. let z = dropped (s.spilled x) (s.cache.value x) v in (z.0, λ q. z.1);
         })
     go (Commits_now t e) =
         Closes (record {
@@ -345,8 +344,7 @@ held-invalid sh d x y k l m u {v} o i f loading h = elim (tested (hit l m x)) [
     gone : hit l m x ≡ true → HeldOf x y (after_move (back_taken v k) o d)
     gone q = record {
       framed = λ z p r. absurd (f.gone x z q p r);
-      filled =
-          λ p. inl (let e : l ≡ line_of x = hit-line l m x q in let z : is_awaited v.core.awaited (line_of x) ≡ false = rw (← e)
+      filled = λ p. inl (let e : l ≡ line_of x = hit-line l m x q in let z : is_awaited v.core.awaited (line_of x) ≡ false = rw (← e)
           (stale-other l v.core.awaited (rw f.staled at p)) in
           omega (
             arith,

@@ -1,27 +1,174 @@
 -- Each event keeps that words in frames and Fills have their values, or are invalidated.
+use Rattle.base_lemmas.proofs.Lemmas.{eq-self as same}
 use Rattle.theorem_serial.specs.KeepsWords.{EventsKeepWords}
 use Rattle.theorem_attempt.proofs.Lemmas.{sees-modified}
 use Rattle.theorem_serial.proofs
 use proofs.Names
-use Names.{ℕ, ◌≡◌, ◌<◌, ◌≤◌, ◌⊎◌, Bool, true, false, ◌==◌, ◌||◌, ◌++◌, List, Option, Some, None, IfSome, is_some, nat_lt, get_or, arith}
-use Names.{refl, sym, ap, subst, ◌∙◌, inl, inr, Noted, Plain, Local, Program, line_of, Dir, Vendor, Msg, LoadReq, Fill, Commit, Event}
-use Names.{Shape, home, Awaited, CoreState, DirState, Phase, Ready, Solo, World, Out, is_solo, noted, from_dir, grant, core_evict}
-use Names.{is_awaited, core_exec, dir_deliver, History, Stepped, step, next_history, recorded, and_noted, insert_commit, core_moves}
-use Names.{core_takes, Uses, Suits, LoadingOf, LinesAway, LoadOf, InvWord, Commits, live, passes, Carried, Invariants, executes, Grant}
-use Names.{granted_by, Pair, pair, after_move, back_taken, grant_taken, after_grant, after_other_grant, is_applied, CommitsStand}
-use Names.{stores_word, after_stores, counts, value_at, UnmodifiedWords, FilledWords, Ways, ways_after, sent_by, Contains, nats, home_of}
-use Names.{FromCore, FromDir, ◌≢◌}
-use proofs.Counts.StepCases.{either, moves-own, moves-other, pairs_move, pairs_grant, pairs_back, pairs_vendor, OfAnswer, node_cases}
-use proofs.Lines.LineOwners.{dir-fills}
-use proofs.Values.FramedCores.{no-fill, held-fades, held-quietly, held-invalid, held-filled, held-elsewhere, Coming, Quiet, Takes, Brings}
-use proofs.Values.FramedCores.{OnlyFades, comes-back, fading-grant, Closing, Framing, Stays, Closes, fades-same, fading, framing-exec}
-use proofs.Values.FramedCores.{fading-evict}
-use proofs.Values.DirsKeepFramed.{answered-quietly, answered-load}
-use proofs.Values.FramedWords.{HeldOf, HeldAt, KeptHeld, few-not, load-home, answered-commit, commit-invalidates}
-use proofs.Values.ModifiedWords.{stored-served, stored-seen, Serves}
-use proofs.Values.ValueAt.{IsSilent, with_commit, value-skip, value-insert}
-use proofs.Order.SerialSteps.{Stand, stand}
+use Names.{ℕ, ◌+◌, ◌≡◌, ◌<◌, ◌≤◌, Bool, true, false, not, ◌==◌, ◌&&◌, List, [], Contains, Option, Some, None, arith, refl, ap, subst, ◌∙◌}
+use Names.{inl, inr, Noted, num, line_of, IsCache, Msg, Core, LoadReq, Shape, lines, DirState, World, Sends, Answer, Waits, Drops, Asks}
+use Names.{Takes, dir_takes, dir_asks, KeptAfter, KeptOwned, stored_there, FillOf, FillNot, LoadOf, LoadNot, Commits, live, among, passes}
+use Names.{CommitsInMemory, LoadsInMemory, pair, is_this, is_applied, CommitsStand, stores_at, stores_word, counts, value_at, word_copies}
+use Names.{HomeWords, last_of, nats, home_of, tid_at, to_dir, to_core, FromCore, ◌≢◌, tested, ◌⊎◌, ◌||◌, ◌++◌, IfSome, is_some, nat_lt}
+use Names.{get_or, sym, Plain, Local, Program, Dir, Vendor, Fill, Commit, Event, home, Awaited, CoreState, Phase, Ready, Solo, Out, is_solo}
+use Names.{noted, from_dir, grant, core_evict, is_awaited, core_exec, dir_deliver, History, Stepped, step, next_history, recorded}
+use Names.{and_noted, insert_commit, core_moves, core_takes, Uses, Suits, LoadingOf, LinesAway, InvWord, Carried, Invariants, executes}
+use Names.{Grant, granted_by, Pair, after_move, back_taken, grant_taken, after_grant, after_other_grant, after_stores, UnmodifiedWords}
+use Names.{FilledWords, Ways, ways_after, sent_by, FromDir}
+use proofs.Counts.StepCases.{differ, either, asks-own, OfAnswer, moves-own, moves-other, pairs_move, pairs_grant, pairs_back, pairs_vendor}
+use proofs.Counts.StepCases.{node_cases}
+use proofs.Lines.LineOwners.{FillsBy, dir-fills}
+use proofs.Memory.CoreInMemory.{accesses_at_homes}
+use proofs.Tids.Commits.{last-least}
 use proofs.Tids.TidSteps.{live-some}
+use proofs.Values.FramedWords.{KeptHeld, few-sent, held-answered, value-stays, FillsHome, value-taken, steady-taken, held-taken, held-asked}
+use proofs.Values.FramedWords.{HeldOf, HeldAt, few-not, load-home, answered-commit, commit-invalidates}
+use proofs.Values.ValueAt.{IsAlike, value-alike, IsSilent, with_commit, value-skip, value-insert}
+use proofs.Values.WordCopies.{few-copies}
+use proofs.Values.FramedCores.{no-fill, held-fades, held-quietly, held-invalid, held-filled, held-elsewhere, Coming, Quiet}
+use proofs.Values.FramedCores.{Takes as TakesWords, Brings, OnlyFades, comes-back, fading-grant, Closing, Framing, Stays, Closes}
+use proofs.Values.FramedCores.{fades-same, fading, framing-exec, fading-evict}
+use proofs.Values.ModifiedWords.{stored-served, stored-seen, Serves}
+use proofs.Order.SerialSteps.{Stand, stand}
+
+-- Where a directory takes a message, each word in a frame or a Fill has its value still, or is invalidated.
+
+-- messages that are neither a load request nor a Commit
+none-among : (x y : ℕ) → among (FillNot x y) [] ≡ 0
+unfolding among
+none-among x y = refl
+
+taken-quietly : {sh : Shape} (ram : ℕ → ℕ) (w : World) (cs : List Noted) (c d k : ℕ) {m : Msg} (s : DirState) (sends : Sends)
+    → CommitsInMemory sh cs → CommitsStand sh w cs → KeptHeld sh ram w cs → FromCore w c d k m → ((t : ℕ) → passes (Commits t) m ≡ false)
+    → ((j x y : ℕ) → among (FillNot x y) (sends (Core j)) ≡ 0) → CommitsStand sh (dir_takes w c d k s sends) cs
+    → KeptHeld sh ram (dir_takes w c d k s sends) cs
+unfolding pair
+taken-quietly {sh} ram w cs c d k s sends inside before h i p f after = held-taken sh ram w cs c d k s sends
+    (λ j x out jl dl e. held-answered out s (sends (Core j)) (value-taken sh ram w cs c d k s sends (Some j) x inside before after dl e
+    (λ n q r. steady-taken w c d k s sends (Some j) n i p)) (f j x _) (h j d x jl dl e)) h
+
+-- where an owner is asked
+value-asked : {sh : Shape} (ram : ℕ → ℕ) (w : World) (cs : List Noted) {d : ℕ} (s : DirState) (sends : Sends) (j : Option ℕ) (x : ℕ)
+    → CommitsInMemory sh cs → CommitsStand sh w cs → CommitsStand sh (dir_asks w d s sends) cs → d < sh.dirs → home_of sh x ≡ d
+    → value_at sh.base ram cs s j None x ≡ value_at sh.base ram cs (w.dirs d) j None x
+unfolding pair
+value-asked {sh} ram w cs {d} s sends j x inside before after dl e =
+    subst (λ r. value_at sh.base ram cs r j None x ≡ value_at sh.base ram cs (w.dirs d) j None x) (ap (λ v. v.dir) (asks-own w d s sends 0))
+    (value-stays ram w (dir_asks w d s sends) cs j x inside before after dl e
+    (λ n q r. inr (ap (λ v. live (Commits n.tid.0) v.out) (asks-own w d s sends n.core.0))))
+
+pub answered-quietly : {sh : Shape} (ram : ℕ → ℕ) (w : World) (cs : List Noted) (c d k : ℕ) {m : Msg} → CommitsInMemory sh cs
+    → CommitsStand sh w cs → KeptHeld sh ram w cs → FromCore w c d k m → ((t : ℕ) → passes (Commits t) m ≡ false)
+    → ((l : ℕ) → passes (LoadOf l) m ≡ false) → (a : Answer) → FillsBy c m a
+    → OfAnswer w c d k (λ v. CommitsStand sh v cs → KeptHeld sh ram v cs) a
+answered-quietly ram w cs c d k inside before h i p l Waits f = tt
+answered-quietly ram w cs c d k inside before h i p l Drops f = λ after. taken-quietly ram w cs c d k (w.dirs d)
+    (λ dst. []) inside before h i p (λ j x y. none-among x y) after
+answered-quietly {sh} ram w cs c d k inside before h i p l (Asks s sends) f =
+    λ after. held-asked sh ram w cs d s sends (λ j x dl e. value-asked ram w cs s sends (Some j) x inside before after dl e)
+    (λ j x y. omega (arith, few-sent x y (sends (Core j)), f (line_of x) j)) h
+answered-quietly ram w cs c d k {m} inside before h i p l (Takes s sends) f =
+    λ after. taken-quietly ram w cs c d k s sends inside before h i p
+    (λ j x y. omega (arith, few-sent x y (sends (Core j)), f (line_of x) j, none (j == c) (passes (LoadOf (line_of x)) m) (l (line_of x))))
+    after
+  where
+    none : (a b : Bool) → b ≡ false → num (a && b) ≡ 0
+    none true b e = rw e refl
+    none false b e = refl
+
+-- a load request
+
+-- a commit below the served TID counts for all cores alike
+counts-passed : (s : DirState) (c : ℕ) (n : Noted) → ((c == n.core.0) ≡ true → n.tid.0 < s.serving.serving)
+    → counts s None None n ≡ counts s (Some c) None n
+unfolding counts is_applied
+counts-passed s c n h = grind nats
+
+commit-passed : (sh : Shape) (cs : List Noted) (c d : ℕ) {a : ℕ} (b : ℕ) (n : Noted) → Contains cs n → stores_at sh d n.stores ≡ true
+    → a ≡ last_of (stored_there sh c d) cs → a < b → (c == n.core.0) ≡ true → n.tid.0 < b
+unfolding stored_there
+commit-passed sh cs c d b n k s e l q =
+    let i : (n.core.0 == c) ≡ true = grind nats in
+    omega (arith, l, e, last-least (stored_there sh c d) cs n k (rw (i, s) refl))
+
+-- The word at home is as the core sees it, where its line has no owner and the core's last commit there is passed.
+home-word : (sh : Shape) (ram : ℕ → ℕ) (w : World) (cs : List Noted) (c d x : ℕ) → CommitsInMemory sh cs → KeptOwned sh w
+    → HomeWords sh ram w cs → KeptAfter sh w cs → ((j : ℕ) → IsCache sh (w.cores j).cache) → c < sh.cores → d < sh.dirs
+    → line_of x < lines sh → home_of sh x ≡ d → (w.dirs d).lines.owner (line_of x) ≡ None → (w.cores c).last_commit d < tid_at w d
+    → (w.dirs d).words x ≡ value_at sh.base ram cs (w.dirs d) (Some c) None x
+unfolding pair
+home-word sh ram w cs c d x inside owned words after caches cl dl il e o p = words.at_home d x dl e none
+    ∙ value-alike sh.base ram cs (w.dirs d) None None (w.dirs d) (Some c) None x (λ n k. alike n k (stores_word sh.base n.stores x) refl)
+  where
+    unowned : (j : ℕ) → num (is_this ((w.dirs d).lines.owner (line_of x)) j) ≡ 0
+    unowned j = rw o refl
+
+    none : (j : ℕ) → j < sh.cores → word_copies x ((w.dirs d).lines.tag (line_of x)) (pair w j d) ≡ 0
+    none j jl = omega (
+      arith,
+      few-copies x ((w.dirs d).lines.tag (line_of x)) (pair w j d) (caches j),
+      owned j d (line_of x) jl dl il e,
+      unowned j,
+    )
+
+    alike : (n : Noted) → Contains cs n → (b : Bool) → stores_word sh.base n.stores x ≡ b
+        → IsAlike sh.base (w.dirs d) None None (w.dirs d) (Some c) None x n
+    alike n k false s = inr s
+    alike n k true s = inl (counts-passed (w.dirs d) c n (commit-passed sh cs c d (tid_at w d) n k
+        (rw e at ((accesses_at_homes sh n.loads n.stores (inside n k)).stored x s)) (after c d cl dl).last p))
+
+-- a load request carries the core's last commit there
+carried-after : {sh : Shape} (w : World) {cs : List Noted} (c d k l a : ℕ) → KeptAfter sh w cs → c < sh.cores → d < sh.dirs
+    → FromCore w c d k (LoadReq l a) → (w.cores c).last_commit d ≡ a
+unfolding pair passes
+carried-after w c d k l a h cl dl i = elim (tested (a == (w.cores c).last_commit d)) [
+  | inl q ↦ grind nats
+  | inr q ↦ let z : num (not (a == (w.cores c).last_commit d)) ≡ 1 = rw q refl in
+      absurd (omega (
+        arith,
+        z,
+        (h c d cl dl).carried,
+        live-some (LoadNot ((w.cores c).last_commit d)) (to_dir w c d) k (LoadReq l a) i,
+      ))
+]
+
+pub answered-load : {sh : Shape} {ram : ℕ → ℕ} (w : World) {cs : List Noted} (c d k : ℕ) {l a : ℕ} → CommitsInMemory sh cs
+    → CommitsStand sh w cs → KeptHeld sh ram w cs → KeptOwned sh w → HomeWords sh ram w cs → KeptAfter sh w cs
+    → ((j : ℕ) → IsCache sh (w.cores j).cache) → LoadsInMemory sh w → c < sh.cores → d < sh.dirs → FromCore w c d k (LoadReq l a)
+    → (b : Answer) → FillsBy c (LoadReq l a) b → FillsHome c l a (w.dirs d) b
+    → OfAnswer w c d k (λ v. CommitsStand sh v cs → KeptHeld sh ram v cs) b
+unfolding pair passes
+answered-load w c d k inside before h owned words last caches loads cl dl i Waits f g = tt
+answered-load {ram} w {cs} c d k inside before h owned words last caches loads cl dl i Drops f g =
+    λ after. taken-quietly ram w cs c d k (w.dirs d) (λ dst. []) inside before h i (λ t. refl) (λ j x y. none-among x y) after
+answered-load {sh} {ram} w {cs} c d k inside before h owned words last caches loads cl dl i (Asks s sends) f g =
+    λ after. held-asked sh ram w cs d s sends (λ j x dl e. value-asked ram w cs s sends (Some j) x inside before after dl e)
+    (λ j x y. omega (arith, few-sent x y (sends (Core j)), f (line_of x) j)) h
+answered-load {sh} {ram} w {cs} c d k {l} {a} inside before h owned words last caches loads cl dl i (Takes s sends) f g =
+    λ after. held-taken sh ram w cs c d k s sends (λ j x out jl dl' e. held-answered out s (sends (Core j))
+    (value-taken sh ram w cs c d k s sends (Some j) x inside before after dl e
+    (λ n q r. steady-taken w c d k s sends (Some j) n i (λ t. refl))) (sent j x e) (h j d x jl dl e)) h
+  where
+    loading : 1 ≤ live (LoadOf l) (to_dir w c d) + live (FillOf l) (to_core w d c)
+    loading = let y : (l == l) ≡ true = same l in let z : num (l == l) ≡ 1 = rw y refl in
+        omega (arith, z, live-some (LoadOf l) (to_dir w c d) k (LoadReq l a) i)
+
+    current : (x : ℕ) → home_of sh x ≡ d → l ≡ line_of x → (w.dirs d).words x ≡ value_at sh.base ram cs (w.dirs d) (Some c) None x
+    current x e q = home-word sh ram w cs c d x inside owned words last caches cl dl (rw q at (loads c d l loading)) e (rw q at g.unowned)
+        (omega (arith, g.passed, carried-after w c d k l a last cl dl i))
+
+    other : (j b : ℕ) → j ≢ c → num (j == c && l == b) ≡ 0
+    other j b n = rw (differ j c n) refl
+
+    sent : (j x : ℕ) → home_of sh x ≡ d → among (FillNot x (value_at sh.base ram cs (w.dirs d) (Some j) None x)) (sends (Core j)) ≡ 0
+    sent j x e = either j c (λ q. rw q (g.words x (value_at sh.base ram cs (w.dirs d) (Some c) None x) (current x e)))
+        (λ n. omega (
+          arith,
+          few-sent x (value_at sh.base ram cs (w.dirs d) (Some j) None x) (sends (Core j)),
+          f (line_of x) j,
+          other j (line_of x) n,
+        ))
+
+-- Each event keeps that words in frames and Fills have their values, or are invalidated.
 
 -- a core commits
 
@@ -67,8 +214,7 @@ pub value-own : {sh : Shape} {p : Program} {entries : ℕ → Local} {ram : ℕ 
     → value_at sh.base ram (insert_commit (noted g.tid c g.last) h.commits) (h.world.dirs (home_of sh x)) (Some c) None x
     ≡ after_stores sh.base (h.world.cores c).stores x (value_at sh.base ram h.commits (h.world.dirs (home_of sh x)) (Some c) None x)
 unfolding noted
-value-own {sh} {p} {entries} {ram} {gs} {ys} {views} {m} {h} {c} x u k l g e = value-insert sh.base ram (noted g.tid c g.last) h.commits d
-    (Some c) None x
+value-own {sh} {ram} {ys} {h} {c} x u k l g e = value-insert sh.base ram (noted g.tid c g.last) h.commits d (Some c) None x
     k.carried.commits_are_of_granted_tids.0 silent
     ∙ (own-value sh.base d c g.tid x _ g.last ∙ ap (λ q. after_stores sh.base q x (value_at sh.base ram h.commits d (Some c) None x))
     g.stores)
@@ -93,7 +239,7 @@ pub value-else : {sh : Shape} {p : Program} {entries : ℕ → Local} {ram : ℕ
     → value_at sh.base ram (insert_commit (noted g.tid c g.last) h.commits) (h.world.dirs (home_of sh x)) (Some j) None x
     ≡ value_at sh.base ram h.commits (h.world.dirs (home_of sh x)) (Some j) None x
 unfolding noted
-value-else {sh} {p} {entries} {ram} {gs} {ys} {views} {m} {h} {c} j x u k l g n =
+value-else {sh} {ram} {h} {c} j x u k l g n =
     value-skip sh.base ram (noted g.tid c g.last) h.commits (h.world.dirs (home_of sh x)) (Some j) None x
     (quiet (stores_word sh.base (h.world.cores c).stores x) refl)
   where
@@ -103,15 +249,12 @@ value-else {sh} {p} {entries} {ram} {gs} {ys} {views} {m} {h} {c} j x u k l g n 
         inl (counts-else (h.world.dirs (home_of sh x)) j c g.tid g.last n y.serving y.owed)
     quiet false q = inr (ap (λ y. stores_word sh.base y x) g.stores ∙ q)
 
-committed : {sh : Shape} (p : Program) {entries : ℕ → Local} {ram : ℕ → ℕ} {gs : List Grant} {ys : Ways} {views : ℕ → Uses} (m : Plain)
+committed : {sh : Shape} {p : Program} {entries : ℕ → Local} {ram : ℕ → ℕ} {gs : List Grant} {ys : Ways} {views : ℕ → Uses} {m : Plain}
     (h : History) (c : ℕ) (o : Out) → Suits sh p ram → Invariants sh p entries ram gs ys views m h → KeptHeld sh ram h.world h.commits
     → c < sh.cores → Closing c (h.world.cores c) o → KeptHeld sh ram (core_moves h.world c o) (and_noted o.commit h.commits)
 unfolding pair noted
-committed {sh} p {entries} {ram} {gs} {ys} {views} m h c o u k held l g = subst
-    (λ q. KeptHeld sh ram (core_moves h.world c o) (and_noted q h.commits))
-    (sym g.commit)
-    (λ j d. either j c
-    (λ q. rw q (subst (HeldAt sh ram cs c d) (sym (moves-own h.world c o d)) (λ x cl dl e. own' d x dl e)))
+committed {sh} {ram} h c o u k held l g = subst (λ q. KeptHeld sh ram (core_moves h.world c o) (and_noted q h.commits)) (sym g.commit)
+    (λ j d. either j c (λ q. rw q (subst (HeldAt sh ram cs c d) (sym (moves-own h.world c o d)) (λ x cl dl e. own' d x dl e)))
     (λ n. subst (HeldAt sh ram cs j d) (sym (moves-other h.world c o j d n)) (λ x jl dl e. other j d x jl dl e n)))
   where
     s : CoreState
@@ -138,8 +281,7 @@ committed {sh} p {entries} {ram} {gs} {ys} {views} m h c o u k held l g = subst
         let r = stored-seen c g.tid x u k l g.phase e in
         inl (sym (sees-modified s r.0 x z n q v) ∙ (r.1 ∙ sym (value-own x u k l g e)))
     framed x z v n false q f =
-        let e : stores_word sh.base s.stores x ≡ false = stores-not
-        (k.carried.stored_words_are_those_named c x) q n in
+        let e : stores_word sh.base s.stores x ≡ false = stores-not (k.carried.stored_words_are_those_named c x) q n in
         let i : stores_word sh.base g.last.stores x ≡ false = ap (λ y. stores_word sh.base y x) g.stores ∙ e in
         rw (value-skip sh.base ram new h.commits (h.world.dirs (home-of x)) (Some c) None x (inr i)) (f.framed z v q)
 
@@ -194,7 +336,7 @@ pub step-held : {sh : Shape} (p : Program) {entries : ℕ → Local} {ram : ℕ 
     → IfSome (step sh p h.world e)
     (λ o. CommitsStand sh o.world (and_noted o.noted h.commits) → KeptHeld sh ram o.world (and_noted o.noted h.commits))
 unfolding pair passes dir_deliver
-step-held {sh} p {entries} {ram} {gs} {ys} {views} m h e u k held = node_cases sh p w e (λ s g o. R o)
+step-held {sh} p {ram} m h e u k held = node_cases sh p w e (λ s g o. R o)
     (λ c l. executed c l (core_exec sh p c (w.cores c)) (framing-exec sh p c (w.cores c)))
     (λ c x y l. emptied c (core_evict sh x y (w.cores c)) (fading-evict sh x y (w.cores c)))
     (λ c n t i after. granted c n (grant sh t (w.cores c)) (fading-grant sh t (w.cores c)))
@@ -222,22 +364,19 @@ step-held {sh} p {entries} {ram} {gs} {ys} {views} m h e u k held = node_cases s
     executed : (c : ℕ) → c < sh.cores → (x : Option Out) → IfSome x (Framing c (w.cores c))
         → IfSome x (λ o. R (record { world = core_moves w c o; noted = o.commit }))
     executed c l None f = tt
-    executed c l (Some o) (Stays n f) =
-        quietly c o (core_moves w c o) n
+    executed c l (Some o) (Stays n f) = quietly c o (core_moves w c o) n
         (pairs_move P w c o (λ d x cl dl q. held-fades (after_move (pair w c d) o d) refl f (held c d x cl dl q)) held)
-    executed c l (Some o) (Closes g) = λ after. committed p m h c o u k held l g
+    executed c l (Some o) (Closes g) = λ after. committed h c o u k held l g
 
     emptied : (c : ℕ) (x : Option Out) → IfSome x (OnlyFades (w.cores c))
         → IfSome x (λ o. R (record { world = core_moves w c o; noted = o.commit }))
     emptied c None f = tt
-    emptied c (Some o) f =
-        quietly c o (core_moves w c o) f.0
+    emptied c (Some o) f = quietly c o (core_moves w c o) f.0
         (pairs_move P w c o (λ d x cl dl q. held-fades (after_move (pair w c d) o d) refl f.1 (held c d x cl dl q)) held)
 
     granted : (c n : ℕ) (o : Out) → OnlyFades (w.cores c) o → KeptHeld sh ram (core_takes w Vendor c n o) (and_noted o.commit h.commits)
     granted c n o f = subst (λ q. KeptHeld sh ram (core_takes w Vendor c n o) (and_noted q h.commits)) (sym f.0)
-        (pairs_grant P w c n o (λ d x cl dl q. held-fades (after_move (grant_taken (pair w c d) n) o d) refl f.1
-        (held c d x cl dl q)) held)
+        (pairs_grant P w c n o (λ d x cl dl q. held-fades (after_move (grant_taken (pair w c d) n) o d) refl f.1 (held c d x cl dl q)) held)
 
     loading : (c d x : ℕ) → LoadingOf sh d (line_of x) (pair w c d)
     loading c d x = k.carried.one_load_request_or_fill c d (line_of x)
@@ -245,10 +384,9 @@ step-held {sh} p {entries} {ram} {gs} {ys} {views} m h e u k held = node_cases s
     come : (c d n : ℕ) (a : Msg) → FromDir w d c n a → (o : Out) → Coming (w.cores c) a o
         → R (record { world = core_takes w (Dir d) c n o; noted = o.commit })
     come c d n a i o (Quiet z f) = quietly c o (core_takes w (Dir d) c n o) f.0 (pairs_back P w d c n o
-        (λ x cl dl q. held-quietly n (after_move (back_taken (pair w c d) n) o d) i refl (z x) f.1
-        (held c d x cl dl q))
+        (λ x cl dl q. held-quietly n (after_move (back_taken (pair w c d) n) o d) i refl (z x) f.1 (held c d x cl dl q))
         (λ b r x cl dl q. held-fades (after_move (pair w c b) o b) refl f.1 (held c b x cl dl q)) held)
-    come c d n a i o (Takes l t v e f) = quietly c o (core_takes w (Dir d) c n o) f.rests.0 (pairs_back P w d c n o
+    come c d n a i o (TakesWords l t v e f) = quietly c o (core_takes w (Dir d) c n o) f.rests.0 (pairs_back P w d c n o
         (λ x cl dl q. held-invalid sh d x _ n l t v o (i ∙ ap (λ y. Some y) e) f (loading c d x) (held c d x cl dl q))
         (λ b r x cl dl q. held-fades (after_move (pair w c b) o b) refl f.rests.1 (held c b x cl dl q)) held)
     come c d n a i o (Brings l ws e f) = quietly c o (core_takes w (Dir d) c n o) f.commit (pairs_back P w d c n o
@@ -264,12 +402,12 @@ step-held {sh} p {entries} {ram} {gs} {ys} {views} m h e u k held = node_cases s
 
     quiet : (c d n : ℕ) (a : Msg) → FromCore w c d n a → ((t : ℕ) → passes (Commits t) a ≡ false) → ((l : ℕ) → passes (LoadOf l) a ≡ false)
         → OfAnswer w c d n (λ v. R (record { world = v; noted = None })) (dir_deliver sh (w.dirs d) c a)
-    quiet c d n a i f g = answered-quietly sh ram w h.commits c d n a k.carried_in_memory.commits_stay_in_memory
+    quiet c d n a i f g = answered-quietly ram w h.commits c d n k.carried_in_memory.commits_stay_in_memory
         k.carried.commit_is_on_its_way_or_applied held i f g (dir_deliver sh (w.dirs d) c a) (dir-fills sh (w.dirs d) c a)
 
     answered : (c d n : ℕ) (a : Msg) → c < sh.cores → d < sh.dirs → FromCore w c d n a
         → OfAnswer w c d n (λ v. R (record { world = v; noted = None })) (dir_deliver sh (w.dirs d) c a)
-    answered c d n (LoadReq l a) cl dl i = answered-load sh ram w h.commits c d n l a k.carried_in_memory.commits_stay_in_memory
+    answered c d n (LoadReq l a) cl dl i = answered-load w c d n k.carried_in_memory.commits_stay_in_memory
         k.carried.commit_is_on_its_way_or_applied held k.carried.owned_line_has_one_copy_with_its_tag k.home_words_are_current
         k.carried.after_is_the_last_commit_there k.carried.frames_stand_in_their_sets
         k.carried_in_memory.loads_in_flight_are_of_lines_in_memory cl dl i
@@ -289,9 +427,7 @@ held-all sh ram w cs a b c d x cl dl e = record { framed = λ z p q. a c d x z c
 
 pub words_kept : EventsKeepWords
 unfolding next_history pair
-words_kept sh p entries ram gs ys views m h e u k =
-    go (step sh p h.world e)
-    (step-held p m h e u k
+words_kept sh p entries ram gs ys views m h e u k = go (step sh p h.world e) (step-held p m h e u k
     (held-all sh ram h.world h.commits k.unmodified_word_is_current_or_inv_in_flight k.filled_word_is_current_or_inv_in_flight))
   where
     go : (x : Option Stepped)

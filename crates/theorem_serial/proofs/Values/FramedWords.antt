@@ -85,8 +85,7 @@ held-idle x z v k f = record { framed = λ a p q. absurd (kept a p q); filled = 
     kept : (a : ℕ) → v.core.cache.value x ≡ Some a → v.core.cache.modified x ≡ false → ⊥
     kept a p q =
         let i : word_at (line_of x) (place_of x) ≡ x = omega arith in
-        let t : keeps_unmodified v.core.cache (line_of x) ≡ true =
-        any_below-at (λ n. is_some (v.core.cache.value (word_at (line_of x) n))
+        let t : keeps_unmodified v.core.cache (line_of x) ≡ true = any_below-at (λ n. is_some (v.core.cache.value (word_at (line_of x) n))
         && (not (v.core.cache.modified (word_at (line_of x) n)) || v.core.cache.read (word_at (line_of x) n))) 8 (place_of x)
         (omega arith) (rw (i, p, q) refl) in
         cc
@@ -108,11 +107,11 @@ unfolding counts
 counts-applied s r c n q = rw q refl
 
 -- A word's value at its home stays where the commits that stored it are on their way as before.
-pub value-stays : (sh : Shape) (ram : ℕ → ℕ) (w v : World) (cs : List Noted) (d : ℕ) (c : Option ℕ) (x : ℕ) → CommitsInMemory sh cs
+pub value-stays : {sh : Shape} (ram : ℕ → ℕ) (w v : World) (cs : List Noted) {d : ℕ} (c : Option ℕ) (x : ℕ) → CommitsInMemory sh cs
     → CommitsStand sh w cs → CommitsStand sh v cs → d < sh.dirs → home_of sh x ≡ d
     → ((n : Noted) → Contains cs n → stores_word sh.base n.stores x ≡ true → IsSteady w v d c n)
     → value_at sh.base ram cs (v.dirs d) c None x ≡ value_at sh.base ram cs (w.dirs d) c None x
-value-stays sh ram w v cs d c x inside before after dl e steady = value-alike sh.base ram cs (v.dirs d) c None (w.dirs d) c None x
+value-stays {sh} ram w v cs {d} c x inside before after dl e steady = value-alike sh.base ram cs (v.dirs d) c None (w.dirs d) c None x
     (λ n k. alike n k (stores_word sh.base n.stores x) refl)
   where
     same : (n : Noted) → Contains cs n → stores_at sh d n.stores ≡ true → IsSteady w v d c n
@@ -190,13 +189,12 @@ pub value-taken : (sh : Shape) (ram : ℕ → ℕ) (w : World) (cs : List Noted)
     → value_at sh.base ram cs s j None x ≡ value_at sh.base ram cs (w.dirs d) j None x
 value-taken sh ram w cs c d k s sends j x inside before after dl e f =
     subst (λ r. value_at sh.base ram cs r j None x ≡ value_at sh.base ram cs (w.dirs d) j None x) (dirs-taken w c d k s sends)
-    (value-stays sh ram w (dir_takes w c d k s sends) cs d j x inside before after dl e f)
+    (value-stays ram w (dir_takes w c d k s sends) cs j x inside before after dl e f)
 
 -- all commits are steady where the message is no Commit
 pub steady-taken : (w : World) (c d k : ℕ) {m : Msg} (s : DirState) (sends : Sends) (j : Option ℕ) (n : Noted) → FromCore w c d k m
     → ((t : ℕ) → passes (Commits t) m ≡ false) → IsSteady w (dir_takes w c d k s sends) d j n
-steady-taken w c d k {m} s sends j n i p = inr (either n.core.0 c
-    (λ q. rw q (commits-own w c d k s sends n.tid.0 i (p n.tid.0)))
+steady-taken w c d k s sends j n i p = inr (either n.core.0 c (λ q. rw q (commits-own w c d k s sends n.tid.0 i (p n.tid.0)))
     (λ h. commits-other w c d k s sends n.core.0 n.tid.0 h))
 
 -- what is to be shown of each core's words where a directory takes a message
@@ -214,8 +212,7 @@ pub held-asked : (sh : Shape) (ram : ℕ → ℕ) (w : World) (cs : List Noted) 
     (Some j) None x) → ((j x y : ℕ) → among (FillNot x y) (sends (Core j)) ≡ 0) → KeptHeld sh ram w cs
     → KeptHeld sh ram (dir_asks w d s sends) cs
 unfolding pair
-held-asked sh ram w cs d s sends v f h =
-    pairs_asks (HeldAt sh ram cs) w d s sends
+held-asked sh ram w cs d s sends v f h = pairs_asks (HeldAt sh ram cs) w d s sends
     (λ j x jl dl e. held-answered (to_dir w j d) s (sends (Core j)) (v j x dl e) (f j x _) (h j d x jl dl e)) h
 
 -- Where a directory takes a Commit, each word that the commit stored is invalidated at every other core that holds it, and all other
@@ -232,8 +229,7 @@ unfolding dir_commit invalidations
 commit-invalidates sh c u n s = go (s.serving.serving == u) (count_below (has_mark s.lines) (lines sh) == n) refl refl
   where
     go : (a b : Bool) → (s.serving.serving == u) ≡ a → (count_below (has_mark s.lines) (lines sh) == n) ≡ b
-        → Invalidates sh c s (Commit u n)
-        (if a && b then Takes (moved_on_if_settled
+        → Invalidates sh c s (Commit u n) (if a && b then Takes (moved_on_if_settled
         (record s { lines = owned_by_committer c u s.lines; owed = invalidation_count sh s.lines c }))
         (invalidations sh s.lines c u) else Waits)
     go false b q r = tt
@@ -281,13 +277,12 @@ sharer-told sh ls c t j x il jl n m h s = sent-one (InvWord x) (λ l. Inv l (ls.
     (line_of x) il (let a : nat_lt j sh.cores ≡ true = grind nats in rw (a, m, s, differ j c n) refl) (rw h (omega arith))
 
 -- a core that isn't a sharer, and has no Commit on its way, holds no word of the line
-idle : (sh : Shape) (w : World) (cs : List Noted) (j d l : ℕ) → KeptLoading sh w → SharerOf sh.base cs j l (pair w j d)
-    → (w.dirs d).lines.sharers l j ≡ false → (CommitsLine sh.base cs j l (pair w j d) → ⊥) → (keeps_unmodified (w.cores j).cache l ≡ false)
-    × (is_stale (w.cores j).awaited ≡ false → live (FillOf l) (to_core w d j) ≡ 0)
+idle : (sh : Shape) (w : World) {cs : List Noted} (j d : ℕ) {l : ℕ} → KeptLoading sh w → SharerOf sh.base cs j l (pair w j d)
+    → (w.dirs d).lines.sharers l j ≡ false → (CommitsLine sh.base cs j l (pair w j d) → ⊥)
+    → (keeps_unmodified (w.cores j).cache l ≡ false) × (is_stale (w.cores j).awaited ≡ false → live (FillOf l) (to_core w d j) ≡ 0)
 unfolding pair holds_line
-idle sh w cs j d l loading shares s n =
-    split (keeps_unmodified (w.cores j).cache l) (is_fresh (w.cores j).awaited && nat_lt 0 (live (FillOf l) (to_core w d j))) refl
-    refl
+idle sh w j d {l} loading shares s n =
+    split (keeps_unmodified (w.cores j).cache l) (is_fresh (w.cores j).awaited && nat_lt 0 (live (FillOf l) (to_core w d j))) refl refl
   where
     v : Pair
     v = pair w j d
@@ -307,11 +302,11 @@ idle sh w cs j d l loading shares s n =
     split false false p q = (p, none (w.cores j).awaited refl q)
 
 -- two Commits in flight to a directory are of one core
-one-committer : (sh : Shape) (w : World) (cs : List Noted) (c j d u : ℕ) → IsRising 0 cs → CommitsAreServed sh w → KeptStored sh cs w
-    → c < sh.cores → j < sh.cores → d < sh.dirs → 1 ≤ live (Commits (tid_at w d)) (to_dir w c d)
-    → 1 ≤ live (Commits u) (to_dir w j d) → j ≡ c
+one-committer : {sh : Shape} (w : World) {cs : List Noted} (c j d u : ℕ) → IsRising 0 cs → CommitsAreServed sh w → KeptStored sh cs w
+    → c < sh.cores → j < sh.cores → d < sh.dirs → 1 ≤ live (Commits (tid_at w d)) (to_dir w c d) → 1 ≤ live (Commits u) (to_dir w j d)
+    → j ≡ c
 unfolding pair
-one-committer sh w cs c j d u rising served stored cl jl dl a b =
+one-committer w {cs} c j d u rising served stored cl jl dl a b =
     let x = (stored c d (tid_at w d)).sent cl dl a in
     let y = (stored j d u).sent jl dl b in
     let t : u ≡ tid_at w d = sym (served j d u jl dl b) in
@@ -327,8 +322,7 @@ answered-commit ram w d k inside before h rising served counted stored loading s
 answered-commit ram w d k inside before h rising served counted stored loading sharers cl dl i lm Drops f g = absurd g
 answered-commit ram w d k inside before h rising served counted stored loading sharers cl dl i lm (Asks s sends) f g = absurd g
 answered-commit {sh} ram w {cs} {c} d k {m} inside before h rising served counted stored loading sharers cl dl i lm (Takes s sends) f g =
-    λ after. held-taken sh ram w cs c d k s sends (λ j x out jl dl' e. either j c
-    (λ q. stays j x out jl e after (λ n r y. rw q (own n)))
+    λ after. held-taken sh ram w cs c d k s sends (λ j x out jl dl' e. either j c (λ q. stays j x out jl e after (λ n r y. rw q (own n)))
     (λ n. other j x out jl n e after (stores_word sh.base was.commit.stores x) refl)) h
   where
     t : ℕ
@@ -357,24 +351,20 @@ answered-commit {sh} ram w {cs} {c} d k {m} inside before h rising served counte
     stays : (j x : ℕ) (out : Link) → j < sh.cores → home_of sh x ≡ d → CommitsStand sh (dir_takes w c d k s sends) cs
         → ((n : Noted) → Contains cs n → stores_word sh.base n.stores x ≡ true → IsSteady w (dir_takes w c d k s sends) d (Some j) n)
         → HeldOf x (value_at sh.base ram cs s (Some j) None x) (after_answer (record (pair w j d) { out = out }) s (sends (Core j)))
-    stays j x out jl e after steady =
-        held-answered out s (sends (Core j))
+    stays j x out jl e after steady = held-answered out s (sends (Core j))
         (value-taken sh ram w cs c d k s sends (Some j) x inside before after dl e steady) (no-fill j x _) (h j d x jl dl e)
 
     -- a commit of another TID
     apart : (n : Noted) → n.tid.0 ≢ t → (b : Option ℕ) → IsSteady w (dir_takes w c d k s sends) d b n
-    apart n r b = inr (either n.core.0 c
-        (λ q. rw q (commits-own w c d k s sends n.tid.0 j'
-        (let z : (t == n.tid.0) ≡ false = grind nats in z)))
-        (λ y. commits-other w c d k s sends n.core.0 n.tid.0 y))
+    apart n r b = inr (either n.core.0 c (λ q. rw q (commits-own w c d k s sends n.tid.0 j'
+        (let z : (t == n.tid.0) ≡ false = grind nats in z))) (λ y. commits-other w c d k s sends n.core.0 n.tid.0 y))
 
     other : (j x : ℕ) (out : Link) → j < sh.cores → j ≢ c → home_of sh x ≡ d → CommitsStand sh (dir_takes w c d k s sends) cs
         → (b : Bool) → stores_word sh.base was.commit.stores x ≡ b
         → HeldOf x (value_at sh.base ram cs s (Some j) None x) (after_answer (record (pair w j d) { out = out }) s (sends (Core j)))
     other j x out jl n e after false y = stays j x out jl e after (λ z q r. either z.tid.0 t
         (λ p. absurd (let i : z ≡ was.commit = same-commit cs z was.commit rising q was.noted (p ∙ sym was.tid) in
-        let r' : stores_word sh.base was.commit.stores x ≡ true = rw i at r in cc))
-        (λ p. apart z p (Some j)))
+        let r' : stores_word sh.base was.commit.stores x ≡ true = rw i at r in cc)) (λ p. apart z p (Some j)))
     other j x out jl n e after true y = shared ((w.dirs d).lines.sharers (line_of x) j) refl
       where
         il : line_of x < lines sh
@@ -398,6 +388,6 @@ answered-commit {sh} ram w {cs} {c} d k {m} inside before h rising served counte
           where
             z : (keeps_unmodified (w.cores j).cache (line_of x) ≡ false)
                 × (is_stale (w.cores j).awaited ≡ false → live (FillOf (line_of x)) (to_core w d j) ≡ 0)
-            z = idle sh w cs j d (line_of x) loading (sharers j d (line_of x) jl dl il e) q
-                (λ r. n (one-committer sh w cs c j d r.tid rising served stored cl jl dl
+            z = idle sh w j d loading (sharers j d (line_of x) jl dl il e) q
+                (λ r. n (one-committer w c j d r.tid rising served stored cl jl dl
                 (omega (arith, one, live-some (Commits t) (to_dir w c d) k _ j')) r.sent))

@@ -106,12 +106,12 @@ record CoreKeeps (x g y z : ℕ) (a b : Pair) : Type 0 where
   tagged : CopiesHave x g y b
   above : (t : ℕ) → g < t → CopiesHave x t z b
 
-pub commit-keeps : {sh : Shape} (p : Program) {entries : ℕ → Local} {ram : ℕ → ℕ} {gs : List Grant} {ys : Ways} {views : ℕ → Uses}
-    (m : Plain) (h : History) (c : ℕ) (o : Out) → Suits sh p ram → Invariants sh p entries ram gs ys views m h → c < sh.cores
+pub commit-keeps : {sh : Shape} {p : Program} {entries : ℕ → Local} {ram : ℕ → ℕ} {gs : List Grant} {ys : Ways} {views : ℕ
+    → Uses} {m : Plain} (h : History) (c : ℕ) (o : Out) → Suits sh p ram → Invariants sh p entries ram gs ys views m h → c < sh.cores
     → Closing c (h.world.cores c) o → CommitsWords sh (h.world.cores c) o
     → KeptValues sh ram (core_moves h.world c o) (and_noted o.commit h.commits)
 unfolding core_moves noted pair
-commit-keeps {sh} p {entries} {ram} {gs} {ys} {views} m h c o u k l g f =
+commit-keeps {sh} {ram} {ys} h c o u k l g f =
     subst (λ q. KeptValues sh ram (core_moves h.world c o) (and_noted q h.commits)) (sym g.commit)
     (λ d x dl e. subst (λ d. ValuesAt sh ram (core_moves h.world c o) cs d x) e (at-home x (rw e dl)))
   where
@@ -149,15 +149,12 @@ commit-keeps {sh} p {entries} {ram} {gs} {ys} {views} m h c o u k l g f =
 
     own : (x : ℕ) → home_of sh x < sh.dirs → (b : Bool) → stores_word sh.base s.stores x ≡ b
         → CoreKeeps x (tag_of w (home_of sh x) x) (value_of sh ram w h.commits (home_of sh x) None x)
-        (value_of sh ram w cs (home_of sh x) (Some c) x) (pair w c (home_of sh x))
-        (after_move (pair w c (home_of sh x)) o (home_of sh x))
+        (value_of sh ram w cs (home_of sh x) (Some c) x) (pair w c (home_of sh x)) (after_move (pair w c (home_of sh x)) o (home_of sh x))
     own x dl false q = record {
       copies = a.copies;
       tagged = a.have (tag_of w d x) _ ((old d x dl refl).in_copies c l);
-      above =
-          λ t i. a.have t _ (subst (λ y. CopiesHave x t y (pair w c d))
-          (sym (value-skip sh.base ram new h.commits (w.dirs d) (Some c) None x (inr (unstored x q))))
-          ((old d x dl refl).above c t l i));
+      above = λ t i. a.have t _ (subst (λ y. CopiesHave x t y (pair w c d))
+          (sym (value-skip sh.base ram new h.commits (w.dirs d) (Some c) None x (inr (unstored x q)))) ((old d x dl refl).above c t l i));
     }
       where
         d : ℕ
@@ -174,12 +171,10 @@ commit-keeps {sh} p {entries} {ram} {gs} {ys} {views} m h c o u k l g f =
     own x dl true q = record {
       copies = (others (tag_of w d x) untag).copies;
       tagged = (others (tag_of w d x) untag).have _ ((old d x dl refl).in_copies c l);
-      above = λ t i. either t g.tid
-          (λ r. rw r (new-copies sh x d g.tid _ seen.0 o (pair w c d) (word x) named
+      above = λ t i. either t g.tid (λ r. rw r (new-copies sh x d g.tid _ seen.0 o (pair w c d) (word x) named
           ((k.carried.modified_and_dirty_words_are_valid_and_apart c).modified x) (fresh (rw r at i))
-          (seen.1 ∙ sym (value-own x u k l g q))))
-          (λ r. (others t (λ y. r (sym y))).have _
-          (none-copied sh x t _ (pair w c d) (k.carried.frames_stand_in_their_sets c) (no-other t i r)));
+          (seen.1 ∙ sym (value-own x u k l g q)))) (λ r. (others t (λ y. r (sym y))).have _
+          (none-copied x t _ (pair w c d) (k.carried.frames_stand_in_their_sets c) (no-other t i r)));
     }
       where
         d : ℕ
@@ -246,9 +241,7 @@ commit-keeps {sh} p {entries} {ram} {gs} {ys} {views} m h c o u k l g f =
             (sym (moves-other w c o j d n)) (record {
               copies = refl;
               tagged = (old d x dl refl).in_copies j jl;
-              above =
-                  λ t i. subst (λ y. CopiesHave x t y (pair w j d)) (sym (value-else j x u k l g n))
-                  ((old d x dl refl).above j t jl i);
+              above = λ t i. subst (λ y. CopiesHave x t y (pair w j d)) (sym (value-else j x u k l g n)) ((old d x dl refl).above j t jl i);
             }))
 
 -- Every event that commits nothing keeps the values of home words and of copies on their way home.
@@ -263,17 +256,14 @@ step-values : {sh : Shape} (p : Program) {entries : ℕ → Local} {ram : ℕ �
 unfolding core_moves core_takes
 step-values {sh} p {entries} {ram} {gs} {ys} {views} m h e u k = node_cases sh p w e (λ x g o. KeepsValues sh ram h o)
     (λ c l. executed c l (core_exec sh p c (w.cores c)) (framing-exec sh p c (w.cores c))
-    (commits-exec sh p c (w.cores c) (b.caches c) (k.carried.marks_fit_the_phase c).spilled)
-    (words-exec sh p c (w.cores c) (b.caches c)))
+    (commits-exec sh p c (w.cores c) (b.caches c) (k.carried.marks_fit_the_phase c).spilled) (words-exec sh p c (w.cores c) (b.caches c)))
     (λ c x y l. evicted c (core_evict sh x y (w.cores c)) (words-evict sh x y (w.cores c) (b.caches c)))
     (λ c n t i. let o = grant sh t (w.cores c) in quietly o.commit (core_takes w Vendor c n o) (grant-stays sh t (w.cores c)).commit
-    (alike-keeps (core_takes w Vendor c n o) refl (granted-alike sh w c n o (words-grant sh t (w.cores c)))
-    b.values))
+    (alike-keeps (core_takes w Vendor c n o) refl (granted-alike sh w c n o (words-grant sh t (w.cores c))) b.values))
     (λ c d n a i. taken c d n a i (from_dir sh d (w.cores c) a) (back-stays sh d (w.cores c) a)
     (λ y. words-back sh y d (w.cores c) a (b.caches c)))
-    (λ c d n a cl dl i. answered sh ram h c d n a (dir_deliver sh (w.dirs d) c a) b cl dl i (dir-records sh (w.dirs d) c a)
-    (λ x. dir-words sh x (w.dirs d) c a))
-    (λ c n i s. granted sh ram h c n b)
+    (λ c d n a cl dl i. answered h c d n (dir_deliver sh (w.dirs d) c a) b cl dl i (dir-records sh (w.dirs d) c a)
+    (λ x. dir-words sh x (w.dirs d) c a)) (λ c n i s. granted h c n b)
   where
     w : World
     w = h.world
@@ -290,23 +280,20 @@ step-values {sh} p {entries} {ram} {gs} {ys} {views} m h e u k = node_cases sh p
         → IfSome x (λ o. KeepsValues sh ram h (record { world = core_moves w c o; noted = o.commit }))
     executed c l None f g a = tt
     executed c l (Some o) (Stays n f) g a =
-        quietly o.commit (core_moves w c o) n (alike-keeps (core_moves w c o) refl (moved-alike sh w c o (a n)) b.values)
-    executed c l (Some o) (Closes f) g a = λ s. commit-keeps p m h c o u k l f g
+        quietly o.commit (core_moves w c o) n (alike-keeps (core_moves w c o) refl (moved-alike w c (a n)) b.values)
+    executed c l (Some o) (Closes f) g a = λ s. commit-keeps h c o u k l f g
 
     evicted : (c : ℕ) (x : Option Out) → IfSome x (Quietly sh (w.cores c))
         → IfSome x (λ o. KeepsValues sh ram h (record { world = core_moves w c o; noted = o.commit }))
     evicted c None a = tt
-    evicted c (Some o) a =
-        quietly o.commit (core_moves w c o) a.0
-        (alike-keeps (core_moves w c o) refl (moved-alike sh w c o a.1) b.values)
+    evicted c (Some o) a = quietly o.commit (core_moves w c o) a.0 (alike-keeps (core_moves w c o) refl (moved-alike w c a.1) b.values)
 
     taken : (c d n : ℕ) (a : Msg) → FromDir w d c n a → (x : Option Out) → IfSome x (CheckpointStays (w.cores c))
         → ((y : ℕ) → IfSome x (WordBack sh y (w.cores c) a))
         → IfSome x (λ o. KeepsValues sh ram h (record { world = core_takes w (Dir d) c n o; noted = o.commit }))
     taken c d n a i None r f = tt
-    taken c d n a i (Some o) r f =
-        quietly o.commit (core_takes w (Dir d) c n o) r.commit
-        (alike-keeps (core_takes w (Dir d) c n o) refl (taken-alike sh ram h c d n a o b i f) b.values)
+    taken c d n a i (Some o) r f = quietly o.commit (core_takes w (Dir d) c n o) r.commit
+        (alike-keeps (core_takes w (Dir d) c n o) refl (taken-alike h c d n o b i f) b.values)
 
 pub homes_kept : EventsKeepHomes
 unfolding next_history

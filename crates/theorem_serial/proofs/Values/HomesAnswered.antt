@@ -29,10 +29,10 @@ use proofs.Values.WordValues.{taken-values, dropped-values, away-values, KeptVal
 -- all, and the words of a marked line that it didn't store are at home.
 
 -- the commit whose Commit is taken
-pub taken-of : (sh : Shape) (ram : ℕ → ℕ) (h : History) (c d k : ℕ) (m : Msg) → Known sh ram h → c < sh.cores → d < sh.dirs
+pub taken-of : {sh : Shape} {ram : ℕ → ℕ} (h : History) (c d k : ℕ) (m : Msg) → Known sh ram h → c < sh.cores → d < sh.dirs
     → FromCore h.world c d k m → CountsMarked sh (h.world.dirs d) m → TakenCommit sh h.commits h.world c d
 unfolding pair passes
-taken-of sh ram h c d k m b cl dl i q = record {
+taken-of {sh} h c d k m b cl dl i q = record {
   settled =
       record {
         commit = n.commit;
@@ -122,7 +122,7 @@ value-after sh ram h c d k x m v s e = value-alike sh.base ram h.commits (v.dirs
     go : (n : Noted) → Contains h.commits n → (y : Bool) → stores_word sh.base n.stores x ≡ y
         → (counts (v.dirs d) None None n ≡ counts (h.world.dirs d) (Some c) None n) ⊎ (stores_word sh.base n.stores x ≡ false)
     go n i false q = inr q
-    go n i true q = inl (applied-after h c d m v s n i (stored-at-home sh h.commits n d x s.known.inside i e q))
+    go n i true q = inl (applied-after h c d m v s n i (stored-at-home h.commits n x s.known.inside i e q))
 
 -- a word that the commit didn't store has the values that it had
 unstored-value : {sh : Shape} {ram : ℕ → ℕ} {h : History} {c d k : ℕ} (x : ℕ) {m : Msg} {v : World} → Settled sh ram h c d k m v
@@ -142,8 +142,7 @@ unstored-value {sh} {ram} {h} {c} {d} x {m} {v} s e t r =
       where
         other : (b : Bool) → (tid_at h.world d == y.tid.0) ≡ b → b ≡ false
         other false p = refl
-        other true p =
-            absurd (let o : tid_at h.world d ≡ y.tid.0 = grind nats in
+        other true p = absurd (let o : tid_at h.world d ≡ y.tid.0 = grind nats in
             let z : stores_word sh.base t.settled.commit.stores x ≡ true = rw (sym (t.only y i o)) q in cc)
 
 -- a line with a mark of stored words lies in memory
@@ -167,8 +166,7 @@ unmarked-values sh ram h c d k x m v s e t r = quiet-keep v (record {
       λ j. omega (
         arith,
         s.answers.net (CopyWord x g) j d,
-        unconsumed (j == c && d == d)
-            (no-word (passes (CopyWord x g) m) refl),
+        unconsumed (j == c && d == d) (no-word (passes (CopyWord x g) m) refl),
       );
   others = λ j u y. omega (arith, s.answers.net (CopyNot x u y) j d);
   value = unstored-value x s e t (unstored (stores_word sh.base t.settled.commit.stores x) refl);
@@ -201,17 +199,17 @@ wrote-has sh h c d x t q =
     (wrote-at sh.base h.commits t.settled.commit x t.settled.noted.0 q t.settled.noted.1 t.settled.noted.2)
 
 -- so that the core's copy has each of them
-stored-copied : (sh : Shape) (ram : ℕ → ℕ) (h : History) (c d x : ℕ) → Known sh ram h → c < sh.cores → d < sh.dirs → home_of sh x ≡ d
+stored-copied : {sh : Shape} {ram : ℕ → ℕ} (h : History) (c d x : ℕ) → Known sh ram h → c < sh.cores → d < sh.dirs → home_of sh x ≡ d
     → (t : TakenCommit sh h.commits h.world c d) → line_of x < lines sh → has_mark (h.world.dirs d).lines (line_of x) ≡ true
     → tag_of h.world d x < tid_at h.world d → stores_word sh.base t.settled.commit.stores x ≡ true
     → 1 ≤ word_copies x (tid_at h.world d) (pair h.world c d)
 unfolding pair
-stored-copied sh ram h c d x b cl dl e t i r o q =
+stored-copied {sh} h c d x b cl dl e t i r o q =
     let u : ℕ = tid_at h.world d in
     let a : AboveOf sh.base h.commits c (line_of x) u (pair h.world c d) = b.above c d (line_of x) u cl dl i e o in
     let w : wrote_line sh.base h.commits c u (line_of x) ≡ true = writer-line h (line_of x) i e t ∙ r in
     let z : copies_with (line_of x) u (pair h.world c d) ≡ live (Commits u) (to_dir h.world c d) = rw w at a.one in
-    let n = copy-has sh x u (wrote_mask sh.base h.commits c u (line_of x)) (pair h.world c d) (b.caches c) (wrote-has sh h c d x t q)
+    let n = copy-has x u (wrote_mask sh.base h.commits c u (line_of x)) (pair h.world c d) (b.caches c) (wrote-has sh h c d x t q)
     a.framed a.sent in
     omega (arith, z, n, t.sent)
 
@@ -225,11 +223,11 @@ unowed : {sh : Shape} {ram : ℕ → ℕ} {h : History} {c d : ℕ} → Known sh
 unowed b dl t = grind (nats, t.settled.commit, applied-owed, b.stand, t.settled.noted, t.settled.stored, t.sent)
 
 -- a word that the commit didn't store has no copy with the line's old tag
-none-old : (sh : Shape) (ram : ℕ → ℕ) (h : History) (c d j x : ℕ) → Known sh ram h → j < sh.cores → d < sh.dirs → home_of sh x ≡ d
+none-old : {sh : Shape} {ram : ℕ → ℕ} (h : History) {c : ℕ} (d j x : ℕ) → Known sh ram h → j < sh.cores → d < sh.dirs → home_of sh x ≡ d
     → (t : TakenCommit sh h.commits h.world c d) → line_of x < lines sh → has_mark (h.world.dirs d).lines (line_of x) ≡ true
     → stores_word sh.base t.settled.commit.stores x ≡ false → word_copies x (tag_of h.world d x) (pair h.world j d) ≡ 0
 unfolding pair stores_in
-none-old sh ram h c d j x b jl dl e t i r q = elim (b.whole d (line_of x) (unowed b dl t) r) [
+none-old {sh} h d j x b jl dl e t i r q = elim (b.whole d (line_of x) (unowed b dl t) r) [
   | inl f ↦ absurd (let y = stored (sym (t.settled.marks (line_of x)) ∙ f) (stored-cases sh d n.stores (line_of x)) in cc)
   | inr f ↦ let o : copies_with (line_of x) (tag_of h.world d x) (pair h.world j d) ≡ num
       (is_this ((h.world.dirs d).lines.owner (line_of x)) j) = b.owned j d (line_of x) jl dl i e in
@@ -272,8 +270,7 @@ marked-values sh ram h c d k x m v s e t r = record {
     i = mask-inside sh d (line_of x) t.settled.commit.stores (t.settled.marks (line_of x)) r
 
     old : tag_of h.world d x < u
-    old =
-        tag-below sh h c d (line_of x) b.stand b.tags s.dir i e
+    old = tag-below sh h c d (line_of x) b.stand b.tags s.dir i e
         (rw (sym t.settled.tid) (rising-above 0 h.commits t.settled.commit b.rising t.settled.noted))
         (λ y o z. ap (λ n. n.core.0) (t.only y o (sym z)) ∙ t.core) t.sent
 
@@ -290,12 +287,11 @@ marked-values sh ram h c d k x m v s e t r = record {
     none : (j y z : ℕ) → j < sh.cores → tag_of h.world d x < y
         → cond (wrote_line sh.base h.commits j y (line_of x)) (live (Commits y) (to_dir h.world j d)) 0 ≡ 0 → CopiesHave x y z (pair v j d)
     none j y z jl l o = have-still (pair v j d) (same-core j) (omega (arith, s.answers.net (CopyNot x y z) j d))
-        refl (none-copied sh x y z (pair h.world j d) (b.caches j) ((b.above j d (line_of x) y jl s.dir i e l).one ∙ o))
+        refl (none-copied x y z (pair h.world j d) (b.caches j) ((b.above j d (line_of x) y jl s.dir i e l).one ∙ o))
 
     above : (j y : ℕ) → j < sh.cores → u < y → CopiesHave x y (value_of sh ram v h.commits d (Some j) x) (pair v j d)
     above j y jl l = none j y (value_of sh ram v h.commits d (Some j) x) jl (omega (arith, old, l))
-        (cond-zero (wrote_line sh.base h.commits j y (line_of x))
-        (later (cases_lt 0 (live (Commits y) (to_dir h.world j d)))))
+        (cond-zero (wrote_line sh.base h.commits j y (line_of x)) (later (cases_lt 0 (live (Commits y) (to_dir h.world j d)))))
       where
         later : (0 < live (Commits y) (to_dir h.world j d)) ⊎ (live (Commits y) (to_dir h.world j d) ≤ 0)
             → live (Commits y) (to_dir h.world j d) ≡ 0
@@ -316,17 +312,15 @@ marked-values sh ram h c d k x m v s e t r = record {
         (omega (
           arith,
           s.answers.net (CopyWord x u) c d,
-          unconsumed (c == c && d == d)
-              (no-word (passes (CopyWord x u) m) refl),
+          unconsumed (c == c && d == d) (no-word (passes (CopyWord x u) m) refl),
         )) in
-        omega (arith, z, p c s.core, stored-copied sh ram h c d x b s.core s.dir e t i r old q))
+        omega (arith, z, p c s.core, stored-copied h c d x b s.core s.dir e t i r old q))
       where
         no-word : (b : Bool) → passes (CopyWord x u) m ≡ b → b ≡ false
         no-word false q = refl
-        no-word true q =
-            absurd (let o : num (passes (CopyWord x u) m) ≡ 1 = ap num q in
+        no-word true q = absurd (let o : num (passes (CopyWord x u) m) ≡ 1 = ap num q in
             let z : num (passes (CopyOf (line_of x) u) m) ≡ 0 = ap num (s.copies (line_of x) u) in omega (arith, o, z, word-line x u m))
-    at-home false q p = s.words x ∙ (b.values d x s.dir e).at_home (λ j jl. none-old sh ram h c d j x b jl s.dir e t i r q)
+    at-home false q p = s.words x ∙ (b.values d x s.dir e).at_home (λ j jl. none-old h d j x b jl s.dir e t i r q)
         ∙ sym (unstored-value x s e t q None)
 
 pub settled-values : (sh : Shape) (ram : ℕ → ℕ) (h : History) (c d k x : ℕ) (m : Msg) (v : World) → Settled sh ram h c d k m v
@@ -337,7 +331,7 @@ settled-values sh ram h c d k x m v s e = elim (tested (has_mark (h.world.dirs d
 ]
   where
     t : TakenCommit sh h.commits h.world c d
-    t = taken-of sh ram h c d k m s.known s.core s.dir s.flight s.counts
+    t = taken-of h c d k m s.known s.core s.dir s.flight s.counts
 
 pub known : (sh : Shape) (p : Program) (entries : ℕ → Local) (ram : ℕ → ℕ) (gs : List Grant) (ys : Ways) (views : ℕ → Uses) (m : Plain)
     (h : History) → Invariants sh p entries ram gs ys views m h → Known sh ram h
@@ -374,7 +368,7 @@ taken : {sh : Shape} {ram : ℕ → ℕ} {h : History} (c d k : ℕ) {m : Msg} (
     → ((x : ℕ) → home_of sh x ≡ d → Answers sh h c d m (dir_takes h.world c d k s sends) → (dir_takes h.world c d k s sends).dirs d ≡ s
     → ValuesAt sh ram (dir_takes h.world c d k s sends) h.commits d x) → KeptValues sh ram (dir_takes h.world c d k s sends) h.commits
 unfolding dir_takes
-taken {sh} {ram} {h} c d k {m} s sends b cl dl i t f e x el q = elim (cases_eq e d) [
+taken {sh} {h} c d k {m} s sends b cl dl i t f e x el q = elim (cases_eq e d) [
   | inl r ↦ rw r (f x (q ∙ r) a (here d s h.world.dirs))
   | inr n ↦ away-values h c d e x m b n el q a (away e d s h.world.dirs n)
 ]
@@ -385,24 +379,20 @@ taken {sh} {ram} {h} c d k {m} s sends b cl dl i t f e x el q = elim (cases_eq e
 -- where no copy is consumed the word stays
 stays : {x : ℕ} {m : Msg} {s new : DirState} → NoCopy m → HomeBy s m x new → new.words x ≡ s.words x
 stays n (Left e f) = e
-stays {x} {m} {s} n (Home e f) =
-    absurd (let o : num (passes (CopyWord x (s.lines.tag (line_of x))) m) ≡ 1 = ap num e in
+stays {x} {m} {s} n (Home e f) = absurd (let o : num (passes (CopyWord x (s.lines.tag (line_of x))) m) ≡ 1 = ap num e in
     let z : num (passes (CopyOf (line_of x) (s.lines.tag (line_of x))) m) ≡ 0 = ap num (n (line_of x) (s.lines.tag (line_of x))) in
     omega (arith, o, z, word-line x (s.lines.tag (line_of x)) m))
 
-takes : (sh : Shape) (ram : ℕ → ℕ) (h : History) (c d k : ℕ) (m : Msg) (s : DirState) (sends : Sends) → Known sh ram h → c < sh.cores
+takes : {sh : Shape} {ram : ℕ → ℕ} (h : History) (c d k : ℕ) (m : Msg) (s : DirState) (sends : Sends) → Known sh ram h → c < sh.cores
     → d < sh.dirs → FromCore h.world c d k m → CommitsStand sh (dir_takes h.world c d k s sends) h.commits
     → ((x : ℕ) → HomeBy (h.world.dirs d) m x s) → Records sh (h.world.dirs d) c m s
     → KeptValues sh ram (dir_takes h.world c d k s sends) h.commits
-takes sh ram h c d k m s sends b cl dl i t f (Still y n q) =
-    taken c d k s sends b cl dl i t
-    (λ x e a r. taken-values h c d k x m b cl dl e i a n
+takes h c d k m s sends b cl dl i t f (Still y n q) = taken c d k s sends b cl dl i t (λ x e a r. taken-values h c d k x m b cl dl e i a n
     (ap (λ z. z.lines.tag (line_of x)) r ∙ y.tags (line_of x)) (subst (HomeBy (h.world.dirs d) m x) (sym r) (f x)))
-takes sh ram h c d k m s sends b cl dl i t f (Came l p o g u n) =
-    taken c d k s sends b cl dl i t
+takes h c d k m s sends b cl dl i t f (Came l p o g u n) = taken c d k s sends b cl dl i t
     (λ x e a r. taken-values h c d k x m b cl dl e i a n
     (ap (λ z. z.lines.tag (line_of x)) r ∙ g (line_of x)) (subst (HomeBy (h.world.dirs d) m x) (sym r) (f x)))
-takes sh ram h c d k m s sends b cl dl i t f (Settles q g u n) =
+takes {sh} {ram} h c d k m s sends b cl dl i t f (Settles q g u n) =
     taken c d k s sends b cl dl i t (λ x e a r. settled-values sh ram h c d k x m (dir_takes h.world c d k s sends) (record {
       known = b;
       core = cl;
@@ -415,17 +405,17 @@ takes sh ram h c d k m s sends b cl dl i t f (Settles q g u n) =
       words = λ y. ap (λ z. z.words y) r ∙ stays n (f y);
     }) e)
 
-drops : (sh : Shape) (ram : ℕ → ℕ) (h : History) (c d k : ℕ) (m : Msg) → Known sh ram h → c < sh.cores → d < sh.dirs
+drops : {sh : Shape} {ram : ℕ → ℕ} (h : History) (c d k : ℕ) (m : Msg) → Known sh ram h → c < sh.cores → d < sh.dirs
     → FromCore h.world c d k m → CommitsStand sh (dir_takes h.world c d k (h.world.dirs d) (λ dst. [])) h.commits
     → Dropped (h.world.dirs d) c m → KeptValues sh ram (dir_takes h.world c d k (h.world.dirs d) (λ dst. [])) h.commits
-drops sh ram h c d k m b cl dl i t n = taken c d k (h.world.dirs d) (λ dst. []) b cl dl i t
+drops h c d k m b cl dl i t n = taken c d k (h.world.dirs d) (λ dst. []) b cl dl i t
     (λ x e a r. dropped-values h c d k x m b cl dl e i a r n)
 
-asks : (sh : Shape) (ram : ℕ → ℕ) (h : History) (d : ℕ) (s : DirState) (sends : Sends) → Known sh ram h
+asks : {sh : Shape} {ram : ℕ → ℕ} (h : History) (d : ℕ) (s : DirState) (sends : Sends) → Known sh ram h
     → CommitsStand sh (dir_asks h.world d s sends) h.commits → ((x : ℕ) → s.words x ≡ (h.world.dirs d).words x)
     → RecordStays (h.world.dirs d) s → KeptValues sh ram (dir_asks h.world d s sends) h.commits
 unfolding dir_asks
-asks sh ram h d s sends b t f y e x el q = elim (cases_eq e d) [
+asks {ram} h d s sends b t f y e x el q = elim (cases_eq e d) [
   | inl r ↦ quiet-keep v (record {
     cores = refl;
     tag = ap (λ z. z.lines.tag (line_of x)) (asked r) ∙ y.tags (line_of x) ∙ rw r refl;
@@ -443,17 +433,17 @@ asks sh ram h d s sends b t f y e x el q = elim (cases_eq e d) [
     asked : (e ≡ d) → v.dirs e ≡ s
     asked r = rw r (here d s h.world.dirs)
 
-pub answered : (sh : Shape) (ram : ℕ → ℕ) (h : History) (c d k : ℕ) (m : Msg) (a : Answer) → Known sh ram h → c < sh.cores → d < sh.dirs
+pub answered : {sh : Shape} {ram : ℕ → ℕ} (h : History) (c d k : ℕ) {m : Msg} (a : Answer) → Known sh ram h → c < sh.cores → d < sh.dirs
     → FromCore h.world c d k m → RecordsBy sh (h.world.dirs d) c m a → ((x : ℕ) → WordsBy (h.world.dirs d) m x a)
     → OfAnswer h.world c d k (λ v. CommitsStand sh v h.commits → KeptValues sh ram v h.commits) a
-answered sh ram h c d k m Waits b cl dl i r f = tt
-answered sh ram h c d k m Drops b cl dl i r f = λ t. drops sh ram h c d k m b cl dl i t r
-answered sh ram h c d k m (Asks s sends) b cl dl i r f = λ t. asks sh ram h d s sends b t f r
-answered sh ram h c d k m (Takes s sends) b cl dl i r f = λ t. takes sh ram h c d k m s sends b cl dl i t f r
+answered h c d k Waits b cl dl i r f = tt
+answered h c d k {m} Drops b cl dl i r f = λ t. drops h c d k m b cl dl i t r
+answered h c d k (Asks s sends) b cl dl i r f = λ t. asks h d s sends b t f r
+answered h c d k {m} (Takes s sends) b cl dl i r f = λ t. takes h c d k m s sends b cl dl i t f r
 
 -- the vendor's grant
-pub granted : (sh : Shape) (ram : ℕ → ℕ) (h : History) (c k : ℕ) → Known sh ram h
+pub granted : {sh : Shape} {ram : ℕ → ℕ} (h : History) (c k : ℕ) → Known sh ram h
     → KeptValues sh ram (vendor_gives h.world c k (given h.world c)) h.commits
 unfolding vendor_gives
-granted sh ram h c k b e x el q = same-values (vendor_gives h.world c k (given h.world c)) refl refl
+granted h c k b e x el q = same-values (vendor_gives h.world c k (given h.world c)) refl refl
     (λ l j. rw (and-false (j == c)) refl) (b.values e x el q)

@@ -30,8 +30,7 @@ pub record Serves (sh : Shape) (h : History) (c t x : ℕ) : Type 0 where
 pub stored-served : {sh : Shape} {p : Program} {entries : ℕ → Local} {ram : ℕ → ℕ} {gs : List Grant} {ys : Ways} {views : ℕ
     → Uses} {m : Plain} {h : History} (c t x : ℕ) → Suits sh p ram → Invariants sh p entries ram gs ys views m h → c < sh.cores
     → May t (h.world.cores c).phase → stores_word sh.base (h.world.cores c).stores x ≡ true → Serves sh h c t x
-stored-served {sh} {p} {entries} {ram} {gs} {ys} {views} {m} {h} c t x u k l y e =
-    record { serving = serving; owed = none (cases_lt 0 (h.world.dirs d).owed) }
+stored-served {sh} {ys} {h} c t x u k l y e = record { serving = serving; owed = none (cases_lt 0 (h.world.dirs d).owed) }
   where
     s : CoreState
     s = h.world.cores c
@@ -49,8 +48,7 @@ stored-served {sh} {p} {entries} {ram} {gs} {ys} {views} {m} {h} c t x u k l y e
     marked = marks_at_homes sh s.cache (k.carried.frames_stand_in_their_sets c) (k.carried_in_memory.frames_are_of_lines_in_memory c)
 
     writes : is_solo s.phase ≡ false → writes_at sh s.cache d ≡ true
-    writes q =
-        marked.modified x (stored-modified (s.cache.modified x)
+    writes q = marked.modified x (stored-modified (s.cache.modified x)
         (k.carried.stored_words_are_those_named c x) e ((k.carried.marks_fit_the_phase c).spilled q x))
 
     serving : tid_at h.world d ≡ t
@@ -84,11 +82,10 @@ counts-until s c t n e z own = grind nats
 pub stored-seen : {sh : Shape} {p : Program} {entries : ℕ → Local} {ram : ℕ → ℕ} {gs : List Grant} {ys : Ways} {views : ℕ
     → Uses} {m : Plain} {h : History} (c t x : ℕ) → Suits sh p ram → Invariants sh p entries ram gs ys views m h → c < sh.cores
     → May t (h.world.cores c).phase → stores_word sh.base (h.world.cores c).stores x ≡ true
-    → (r : ℕ → ℕ) ×
-    (sees (h.world.cores c) r x ≡ after_stores sh.base (h.world.cores c).stores x
+    → (r : ℕ → ℕ) × (sees (h.world.cores c) r x ≡ after_stores sh.base (h.world.cores c).stores x
     (value_at sh.base ram h.commits (h.world.dirs (home_of sh x)) (Some c) None x))
 unfolding plain_start pair
-stored-seen {sh} {p} {entries} {ram} {gs} {ys} {views} {m} {h} c t x u k l y e =
+stored-seen {sh} {p} {entries} {ram} {ys} {views} {m} {h} c t x u k l y e =
     (cut.start.ram, go (steps sh.base p s.n (begun s.saved cut.start.ram)) follows (steps-hold sh.base p s.n s.saved cut.start.ram x))
   where
     s : CoreState
@@ -109,8 +106,7 @@ stored-seen {sh} {p} {entries} {ram} {gs} {ys} {views} {m} {h} c t x u k l y e =
         k.commits_are_serial)
 
     small : IsMemory cut.start.ram
-    small =
-        rw cut.first at (serial-memory sh.base p 0 (map order_of_commit (before t h.commits)) (plain_start entries ram)
+    small = rw cut.first at (serial-memory sh.base p 0 (map order_of_commit (before t h.commits)) (plain_start entries ram)
         (fits-aligned p u.fits) u.small)
 
     words : (x : ℕ) → cut.start.ram x ≡ all_stores sh.base x (before t h.commits) (ram x)
@@ -118,9 +114,7 @@ stored-seen {sh} {p} {entries} {ram} {gs} {ys} {views} {m} {h} c t x u k l y e =
 
     agrees : Agrees (views c) cut.start.ram
     agrees = agrees-before sh ram cut.start.ram h.world h.commits c t (views c) u.dirs k.carried.commits_are_of_granted_tids.0 st.fresh
-        words
-        (λ d. k.carried.owed_counts_invs_and_acks.served c d)
-        (uses-reached sh h ys c t true (views c) st
+        words (λ d. k.carried.owed_counts_invs_and_acks.served c d) (uses-reached sh h ys c t true (views c) st
         (view-stands t (h.world.cores c) (views c) st.may (k.carried_views.read_marks_are_the_view c).stand))
         (λ d i. k.viewed_word_is_current_or_doomed c d (Some t) l i (may-bound h.world c d t st.may))
 
@@ -139,15 +133,12 @@ stored-seen {sh} {p} {entries} {ram} {gs} {ys} {views} {m} {h} c t x u k l y e =
     ]
 
     current : cut.start.ram x ≡ value_at sh.base ram h.commits dir (Some c) None x
-    current =
-        words x ∙ (sym (value-before sh.base ram h.commits dir (Some c) t x k.carried.commits_are_of_granted_tids.0 st.fresh
-        (omega (arith, served.serving)))
-        ∙ value-alike sh.base ram h.commits dir (Some c) (Some t) dir (Some c) None x
+    current = words x ∙ (sym (value-before sh.base ram h.commits dir (Some c) t x k.carried.commits_are_of_granted_tids.0 st.fresh
+        (omega (arith, served.serving))) ∙ value-alike sh.base ram h.commits dir (Some c) (Some t) dir (Some c) None x
         (λ n i. inl (counts-until dir c t n served.serving served.owed (smaller n i))))
 
     go : (o : Option Attempt) → IsSomeAnd o (Reaches s cut.start.ram) → IfSome o (λ a. Holds sh.base x (cut.start.ram x) a)
         → sees s cut.start.ram x ≡ after_stores sh.base s.stores x (value_at sh.base ram h.commits dir (Some c) None x)
     go None f g = absurd f
-    go (Some a) f g =
-        sym (f.words x) ∙ (g ∙ (ap (λ q. after_stores sh.base q x (cut.start.ram x)) f.stores
+    go (Some a) f g = sym (f.words x) ∙ (g ∙ (ap (λ q. after_stores sh.base q x (cut.start.ram x)) f.stores
         ∙ ap (after_stores sh.base s.stores x) current))

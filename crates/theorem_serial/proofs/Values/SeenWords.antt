@@ -186,8 +186,7 @@ applied-or-flying : {sh : Shape} {ram : ℕ → ℕ} {gs : List Grant} {ys : Way
     → (is_applied (at sh h.world x) n.tid.0 ≡ true) ⊎ Flying sh h.world x n.tid.0
 applied-or-flying {sh} {gs} {ys} {h} x n k i s = elim (search (λ c. live (Commits n.tid.0) (to_dir h.world c (home_of sh x))) sh.cores) [
   | inl f ↦ inr f
-  | inr z ↦ inl (is-applied (at sh h.world x) n.tid.0
-      (k.carried.settled_tid_is_passed_or_owed d n.tid.0 (home-below sh x k.dirs) positive
+  | inr z ↦ inl (is-applied (at sh h.world x) n.tid.0 (k.carried.settled_tid_is_passed_or_owed d n.tid.0 (home-below sh x k.dirs) positive
       (record { committed = committed; handled = z })))
 ]
   where
@@ -218,7 +217,7 @@ settled-word : {sh : Shape} {ram : ℕ → ℕ} {gs : List Grant} {ys : Ways} {e
     → ((c g : ℕ) → c < sh.cores → (at sh h.world x).lines.tag (line_of x) < g → word_copies x g (pair h.world c (home_of sh x)) ≡ 0)
     → Greatest sh h.world x ((at sh h.world x).lines.tag (line_of x)) (ends x)
 unfolding counts
-settled-word {sh} {ram} {gs} {ys} {ends} {h} {x} k f none = record {
+settled-word {sh} {ram} {ends} {h} {x} k f none = record {
   none = none;
   have = λ c l. subst (λ y. CopiesHave x ((at sh h.world x).lines.tag (line_of x)) y (pair h.world c (home_of sh x))) value
       (k.homes.in_copies c (home_of sh x) x l (home-below sh x k.dirs) refl);
@@ -230,11 +229,10 @@ settled-word {sh} {ram} {gs} {ys} {ends} {h} {x} k f none = record {
     value = all-value x None k f
 
 -- a word outside memory has no copy, and none stored it
-outside-word : (sh : Shape) (ram : ℕ → ℕ) (gs : List Grant) (ys : Ways) (ends : ℕ → ℕ) (h : History) (x : ℕ) → Known sh ram gs ys ends h
+outside-word : {sh : Shape} {ram : ℕ → ℕ} {gs : List Grant} {ys : Ways} {ends : ℕ → ℕ} (h : History) (x : ℕ) → Known sh ram gs ys ends h
     → (line_of x < lines sh → ⊥) → Greatest sh h.world x ((at sh h.world x).lines.tag (line_of x)) (ends x)
 unfolding word_copies pair
-outside-word sh ram gs ys ends h x k out =
-    settled-word k (λ n i s. absurd (out ((k.inside.commits_stay_in_memory n i).stored x s)))
+outside-word {sh} h x k out = settled-word k (λ n i s. absurd (out ((k.inside.commits_stay_in_memory n i).stored x s)))
     (λ c g l t. omega (
       arith,
       few-words x g (to_dir h.world c (home_of sh x)),
@@ -257,19 +255,17 @@ unfolding pair
 above-none x c g k i l t z = grind nats
 
 -- no Commit is on its way there
-quiet-word : (sh : Shape) (ram : ℕ → ℕ) (gs : List Grant) (ys : Ways) (ends : ℕ → ℕ) (h : History) (x : ℕ) → Known sh ram gs ys ends h
+quiet-word : {sh : Shape} {ram : ℕ → ℕ} {gs : List Grant} {ys : Ways} {ends : ℕ → ℕ} (h : History) (x : ℕ) → Known sh ram gs ys ends h
     → line_of x < lines sh
     → ((c : ℕ) → c < sh.cores → live (Commits (at sh h.world x).serving.serving) (to_dir h.world c (home_of sh x)) ≡ 0)
     → Greatest sh h.world x ((at sh h.world x).lines.tag (line_of x)) (ends x)
 unfolding pair
-quiet-word sh ram gs ys ends h x k i z =
-    settled-word k (λ n j s. applied n (applied-or-flying x n k j s))
+quiet-word {sh} h x k i z = settled-word k (λ n j s. applied n (applied-or-flying x n k j s))
     (λ c g l t. let y = few-copies x g (pair h.world c (home_of sh x)) (k.carried.frames_stand_in_their_sets c) in
     omega (
       arith,
       y,
-      above-none x c g k i l t
-          (still c g l (nat_le 1 (live (Commits g) (to_dir h.world c (home_of sh x)))) refl),
+      above-none x c g k i l t (still c g l (nat_le 1 (live (Commits g) (to_dir h.world c (home_of sh x)))) refl),
     ))
   where
     never : (c t : ℕ) → c < sh.cores → 1 ≤ live (Commits t) (to_dir h.world c (home_of sh x)) → ⊥
@@ -307,8 +303,7 @@ coming-core : {sh : Shape} {ram : ℕ → ℕ} {gs : List Grant} {ys : Ways} {en
     → Known sh ram gs ys ends h → Coming sh h x c n → 1 ≤ live (Commits (at sh h.world x).serving.serving) (to_dir h.world e (home_of sh x))
     → e ≡ c
 unfolding pair
-coming-core {sh} {gs} h x c e k f s =
-    granted-once 1 gs (at sh h.world x).serving.serving e c k.carried.granted_tids_are_those_below_next.0
+coming-core {sh} {gs} h x c e k f s = granted-once 1 gs (at sh h.world x).serving.serving e c k.carried.granted_tids_are_those_below_next.0
     ((k.carried.no_inv_to_the_core_that_committed.0 e (home_of sh x)).owner (at sh h.world x).serving.serving s)
     ((k.carried.no_inv_to_the_core_that_committed.0 c (home_of sh x)).owner (at sh h.world x).serving.serving f.sent)
 
@@ -317,15 +312,13 @@ other-word : {sh : Shape} {ram : ℕ → ℕ} {gs : List Grant} {ys : Ways} {end
     → Known sh ram gs ys ends h → line_of x < lines sh → Coming sh h x c n → stores_word sh.base n.stores x ≡ false
     → Greatest sh h.world x ((at sh h.world x).lines.tag (line_of x)) (ends x)
 unfolding pair
-other-word {sh} {ram} {gs} {ys} {ends} h x {c} {n} k i f s =
-    settled-word k (λ m j t. applied m j t (applied-or-flying x m k j t))
+other-word {sh} h x {n} k i f s = settled-word k (λ m j t. applied m j t (applied-or-flying x m k j t))
     (λ e g l t. none e g l t (nat_le 1 (live (Commits g) (to_dir h.world e (home_of sh x)))) refl)
   where
     applied : (m : Noted) → Contains h.commits m → stores_word sh.base m.stores x ≡ true → (is_applied (at sh h.world x) m.tid.0 ≡ true)
         ⊎ Flying sh h.world x m.tid.0 → is_applied (at sh h.world x) m.tid.0 ≡ true
     applied m j t (inl e) = e
-    applied m j t (inr y) =
-        absurd (let o : stores_word sh.base m.stores x ≡ false = ap (λ z. stores_word sh.base z.stores x)
+    applied m j t (inr y) = absurd (let o : stores_word sh.base m.stores x ≡ false = ap (λ z. stores_word sh.base z.stores x)
         (only-coming y.0 m k f j y.1 y.2) ∙ s in cc)
 
     none : (e g : ℕ) → e < sh.cores → (at sh h.world x).lines.tag (line_of x) < g → (b : Bool)
@@ -338,28 +331,24 @@ other-word {sh} {ram} {gs} {ys} {ends} h x {c} {n} k i f s =
         let y : (at sh h.world x).serving.serving ≡ g = k.carried.committing_tid_is_served e (home_of sh x) g l
         (home-below sh x k.dirs) z in
         unwritten-none x (k.carried.frames_stand_in_their_sets e)
-        (k.carried.copy_above_the_tag_is_of_a_commit_in_flight e (home_of sh x) (line_of x) g l
-        (home-below sh x k.dirs) i refl t)
+        (k.carried.copy_above_the_tag_is_of_a_commit_in_flight e (home_of sh x) (line_of x) g l (home-below sh x k.dirs) i refl t)
         (wrote-none sh.base h.commits e g x (each-listed (λ m. m.tid.0 ≡ g → stores_word sh.base m.stores x ≡ false) h.commits
         (λ m j u. ap (λ z. stores_word sh.base z.stores x)
-        (one-commit 0 h.commits m n k.carried.commits_are_of_granted_tids.0 j f.listed (u ∙ (sym y ∙ sym f.tid)))
-        ∙ s)))
+        (one-commit 0 h.commits m n k.carried.commits_are_of_granted_tids.0 j f.listed (u ∙ (sym y ∙ sym f.tid))) ∙ s)))
 
 -- it stored the word: its TID is the greatest
 coming-below : {sh : Shape} {ram : ℕ → ℕ} {gs : List Grant} {ys : Ways} {ends : ℕ → ℕ} (h : History) (x c : ℕ) (n : Noted)
     → Known sh ram gs ys ends h → line_of x < lines sh → Coming sh h x c n
     → (at sh h.world x).lines.tag (line_of x) < (at sh h.world x).serving.serving
 unfolding settled_in_line is_settled is_applied pair
-coming-below {sh} {gs} h x c n k i f =
-    subst (λ q. q < (at sh h.world x).serving.serving)
+coming-below {sh} {gs} h x c n k i f = subst (λ q. q < (at sh h.world x).serving.serving)
     (sym (k.carried.line_tag_is_the_last_settled_writer (home_of sh x) (line_of x) (home-below sh x k.dirs) i refl))
     (last-under (settled_in_line sh h.world (home_of sh x) (line_of x)) (at sh h.world x).serving.serving h.commits positive
     (each-listed (λ m. settled_in_line sh h.world (home_of sh x) (line_of x) m ≡ true
     → m.tid.0 < (at sh h.world x).serving.serving) h.commits below))
   where
     positive : 1 ≤ (at sh h.world x).serving.serving
-    positive = numbered-least 1 gs (grant_to (at sh h.world x).serving.serving c)
-        k.carried.granted_tids_are_those_below_next.0
+    positive = numbered-least 1 gs (grant_to (at sh h.world x).serving.serving c) k.carried.granted_tids_are_those_below_next.0
         ((k.carried.no_inv_to_the_core_that_committed.0 c (home_of sh x)).owner (at sh h.world x).serving.serving f.sent)
 
     stands : (m : Noted) → Contains h.commits m → names_line sh.base m.stores (line_of x) ≡ true
@@ -388,8 +377,7 @@ coming-below {sh} {gs} h x c n k i f =
             → (b : Bool) → (m.tid.0 == (at sh h.world x).serving.serving) ≡ b → m.tid.0 < (at sh h.world x).serving.serving
         last z o true p b q = grind nats
         last z o false p true q = absurd (served m j (grind nats) z)
-        last z o false p false q =
-            absurd (let y : is_applied (at sh h.world x) m.tid.0 ≡ false = rw (p, q) refl in
+        last z o false p false q = absurd (let y : is_applied (at sh h.world x) m.tid.0 ≡ false = rw (p, q) refl in
             let w : num (is_applied (at sh h.world x) m.tid.0) ≡ 0 = ap num y in omega (arith, o, w))
 
         go : (a : Bool) → (live (Commits m.tid.0) (to_dir h.world m.core.0 (home_of sh x)) == 0) ≡ a → (b : Bool)
@@ -404,7 +392,7 @@ stored-word : {sh : Shape} {ram : ℕ → ℕ} {gs : List Grant} {ys : Ways} {en
     → Known sh ram gs ys ends h → line_of x < lines sh → Coming sh h x c n → stores_word sh.base n.stores x ≡ true
     → Greatest sh h.world x (at sh h.world x).serving.serving (ends x)
 unfolding counts wrote_line pair
-stored-word {sh} {ram} {gs} {ys} {ends} h x {c} {n} k i f s = record {
+stored-word {sh} {ram} {ends} h x {c} {n} k i f s = record {
   none = λ e g l t. let y = few-copies x g (pair h.world e (home_of sh x)) (k.carried.frames_stand_in_their_sets e) in
       omega (
         arith,
@@ -412,8 +400,7 @@ stored-word {sh} {ram} {gs} {ys} {ends} h x {c} {n} k i f s = record {
         above-none x e g k i l (omega (arith, t, below))
             (later e g l t (nat_le 1 (live (Commits g) (to_dir h.world e (home_of sh x)))) refl),
       );
-  have = λ e l. have e l (nat_le 1 (live (Commits (at sh h.world x).serving.serving) (to_dir h.world e (home_of sh x))))
-      refl;
+  have = λ e l. have e l (nat_le 1 (live (Commits (at sh h.world x).serving.serving) (to_dir h.world e (home_of sh x)))) refl;
   line = omega (arith, below);
   some = λ z. absurd (omega (arith, z c f.below, copied));
 }
@@ -442,13 +429,11 @@ stored-word {sh} {ram} {gs} {ys} {ends} h x {c} {n} k i f s = record {
         subst (λ y. CopiesHave x (at sh h.world x).serving.serving y (pair h.world e (home_of sh x)))
         (ap (λ j. value_at sh.base ram h.commits (at sh h.world x) (Some j) None x) o ∙ value)
         (k.above e (home_of sh x) x (at sh h.world x).serving.serving l (home-below sh x k.dirs) refl below)
-    have e l false q = none-copied sh x (at sh h.world x).serving.serving (ends x) (pair h.world e (home_of sh x))
-        (k.carried.frames_stand_in_their_sets e)
-        (above-none x e (at sh h.world x).serving.serving k i l below (grind nats))
+    have e l false q = none-copied x (at sh h.world x).serving.serving (ends x) (pair h.world e (home_of sh x))
+        (k.carried.frames_stand_in_their_sets e) (above-none x e (at sh h.world x).serving.serving k i l below (grind nats))
 
     written : wrote sh.base h.commits c (at sh h.world x).serving.serving x ≡ true
-    written =
-        subst (λ j. wrote sh.base h.commits c j x ≡ true) f.tid
+    written = subst (λ j. wrote sh.base h.commits c j x ≡ true) f.tid
         (subst (λ j. wrote sh.base h.commits j n.tid.0 x ≡ true) f.core (wrote-word sh.base h.commits n x f.listed s))
 
     kept : AboveOf sh.base h.commits c (line_of x) (at sh h.world x).serving.serving (pair h.world c (home_of sh x))
@@ -467,7 +452,7 @@ stored-word {sh} {ram} {gs} {ys} {ends} h x {c} {n} k i f s = record {
       arith,
       f.sent,
       one,
-      copy-has sh x (at sh h.world x).serving.serving (wrote_mask sh.base h.commits c (at sh h.world x).serving.serving (line_of x))
+      copy-has x (at sh h.world x).serving.serving (wrote_mask sh.base h.commits c (at sh h.world x).serving.serving (line_of x))
           (pair h.world c (home_of sh x)) (k.carried.frames_stand_in_their_sets c)
           (mask-wrote sh.base h.commits c (at sh h.world x).serving.serving x ∙ written) kept.framed kept.sent,
     )
@@ -483,27 +468,21 @@ word-seen : (sh : Shape) (ram : ℕ → ℕ) (gs : List Grant) (ys : Ways) (ends
     → seen sh h.world x ≡ ends x
 unfolding pair
 word-seen sh ram gs ys ends h x k = elim (tested (nat_lt (line_of x) (lines sh))) [
-  | inl q ↦ flying (grind nats)
-      (search (λ c. live (Commits (at sh h.world x).serving.serving) (to_dir h.world c (home_of sh x))) sh.cores)
-  | inr q ↦ seen-greatest
-      (outside-word sh ram gs ys ends h x k (λ l. absurd (let y : nat_lt (line_of x) (lines sh) ≡ true = grind nats in cc)))
+  | inl q ↦ flying (grind nats) (search (λ c. live (Commits (at sh h.world x).serving.serving) (to_dir h.world c (home_of sh x))) sh.cores)
+  | inr q ↦ seen-greatest (outside-word h x k (λ l. absurd (let y : nat_lt (line_of x) (lines sh) ≡ true = grind nats in cc)))
 ]
   where
     flying : line_of x < lines sh
-        → ((c : ℕ) × (c < sh.cores)
-        × (1 ≤ live (Commits (at sh h.world x).serving.serving) (to_dir h.world c (home_of sh x))))
+        → ((c : ℕ) × (c < sh.cores) × (1 ≤ live (Commits (at sh h.world x).serving.serving) (to_dir h.world c (home_of sh x))))
         ⊎ ((c : ℕ) → c < sh.cores → live (Commits (at sh h.world x).serving.serving) (to_dir h.world c (home_of sh x)) ≡ 0)
         → seen sh h.world x ≡ ends x
-    flying i (inr z) = seen-greatest
-        (quiet-word sh ram gs ys ends h x k i z)
+    flying i (inr z) = seen-greatest (quiet-word h x k i z)
     flying i (inl f) = word (k.carried.marks_sent_are_the_lines_stored.2 f.0 (home_of sh x) (at sh h.world x).serving.serving).sent
       where
         by : (m : MarkedCommit sh h.commits f.0 (home_of sh x) (at sh h.world x).serving.serving (pair h.world f.0 (home_of sh x)))
             → (b : Bool) → stores_word sh.base m.commit.stores x ≡ b → seen sh h.world x ≡ ends x
-        by m true s = seen-greatest
-            (stored-word h x k i (coming h x f.1 f.2 m) s)
-        by m false s = seen-greatest
-            (other-word h x k i (coming h x f.1 f.2 m) s)
+        by m true s = seen-greatest (stored-word h x k i (coming h x f.1 f.2 m) s)
+        by m false s = seen-greatest (other-word h x k i (coming h x f.1 f.2 m) s)
 
         word : (f.0 < sh.cores → home_of sh x < sh.dirs
             → 1 ≤ live (Commits (at sh h.world x).serving.serving) (to_dir h.world f.0 (home_of sh x))

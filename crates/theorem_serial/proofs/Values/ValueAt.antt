@@ -97,8 +97,7 @@ after-insert : (base : ℕ) (s : DirState) (c b : Option ℕ) (x last : ℕ) (n 
     → after_commits base s c b x (insert_commit n cs) y ≡ with_commit base s c b x n (after_commits base s c b x cs y)
 unfolding after_commits insert_commit IsRising
 after-insert base s c b x last n [] y r h = refl
-after-insert base s c b x last n (m ∷ cs) y r h =
-    go (nat_lt n.tid.0 m.tid.0) refl
+after-insert base s c b x last n (m ∷ cs) y r h = go (nat_lt n.tid.0 m.tid.0) refl
     (after-insert base s c b x m.tid.0 n cs (with_commit base s c b x m y) r.1 (λ k i l. h k (later-held m k cs i) l))
   where
     above : n.tid.0 < m.tid.0 → (k : Noted) → Contains (m ∷ cs) k → IsSilent base s c b x k
@@ -226,12 +225,10 @@ unfolding copies_of word_copies pair
 core-copies sh w x t y c f h =
     let a = in-frame t y ((w.cores c).cache.value x) ((w.cores c).cache.dirty x) (λ g i. omega (arith, f g i)) h.framed in
     let b = on-link x t y (to_dir w c (home_of sh x)) (λ g i. omega (arith, f g i)) h.sent in (
-      top-append t y (copy_in ((w.cores c).cache.value x) ((w.cores c).cache.dirty x))
-          (copies_on x (to_dir w c (home_of sh x))) a.0 b.0,
+      top-append t y (copy_in ((w.cores c).cache.value x) ((w.cores c).cache.dirty x)) (copies_on x (to_dir w c (home_of sh x))) a.0 b.0,
       omega (
         arith,
-        tagged-append t (copy_in ((w.cores c).cache.value x) ((w.cores c).cache.dirty x))
-            (copies_on x (to_dir w c (home_of sh x))),
+        tagged-append t (copy_in ((w.cores c).cache.value x) ((w.cores c).cache.dirty x)) (copies_on x (to_dir w c (home_of sh x))),
         a.1,
         b.1,
       ),
@@ -277,6 +274,5 @@ seen-greatest {sh} {w} {x} {t} {y} k = newest-top t y (home_copy sh w x) (flat_m
         → (((w.dirs (home_of sh x)).lines.tag (line_of x) ≡ t) × ((w.dirs (home_of sh x)).words x ≡ y))
         ⊎ (1 ≤ tagged t (flat_map (copies_of sh w x) (numbers sh.cores)))
     go true q = inr (grind nats)
-    go false q =
-        inl (k.some (λ c l. let z : tagged t (flat_map (copies_of sh w x) (numbers sh.cores)) ≡ 0 = grind nats in
+    go false q = inl (k.some (λ c l. let z : tagged t (flat_map (copies_of sh w x) (numbers sh.cores)) ≡ 0 = grind nats in
         omega (arith, z, all-tagged t (copies_of sh w x) sh.cores c l, (core c l).1)))

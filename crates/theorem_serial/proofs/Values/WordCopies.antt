@@ -61,11 +61,10 @@ dirty-line sh c x t h e = let y : c.dirty (word_at (line_of x) (place_of x)) ≡
     (some-dirty c (line_of x) (place_of x) t (omega arith) y, tag-of (line_of x) (place_of x) t h (omega arith) y)
 
 -- a core without a copy of the line has none of the word
-pub none-copied : (sh : Shape) (x t y : ℕ) (v : Pair) → IsCache sh v.core.cache → copies_with (line_of x) t v ≡ 0 → CopiesHave x t y v
+pub none-copied : {sh : Shape} (x t y : ℕ) (v : Pair) → IsCache sh v.core.cache → copies_with (line_of x) t v ≡ 0 → CopiesHave x t y v
 unfolding copies_with
-none-copied sh x t y v h z = record {
-  framed =
-      λ e. absurd (let d = dirty-line sh v.core.cache x t h e in
+none-copied {sh} x t y v h z = record {
+  framed = λ e. absurd (let d = dirty-line sh v.core.cache x t h e in
       let q : (dirty_tag v.core.cache (line_of x) == t) ≡ true = (let f = d.1 in grind nats) in
       let o : num (is_dirty v.core.cache (line_of x) && dirty_tag v.core.cache (line_of x) == t) ≡ 1 = rw (d.0, q) refl in
       omega (arith, z, o));
@@ -87,11 +86,11 @@ mask-dirty c x n i e = let y : has (dirty_mask c (line_of x)) (place_of x) ≡ t
     sym (rw (word_at-own x) at (has-mask_of (λ k. is_some (c.dirty (word_at (line_of x) k))) (place_of x) (omega arith))) ∙ y
 
 -- a copy of the line with a mask that has the word is a copy of the word
-pub copy-has : (sh : Shape) (x t n : ℕ) (v : Pair) → IsCache sh v.core.cache → has n (place_of x) ≡ true
+pub copy-has : {sh : Shape} (x t n : ℕ) (v : Pair) → IsCache sh v.core.cache → has n (place_of x) ≡ true
     → (is_dirty v.core.cache (line_of x) ≡ true → dirty_tag v.core.cache (line_of x) ≡ t → dirty_mask v.core.cache (line_of x) ≡ n)
     → live (CopyMask (line_of x) t n) v.out ≡ 0 → copies_with (line_of x) t v ≤ word_copies x t v
 unfolding copies_with word_copies
-copy-has sh x t n v h i f z =
+copy-has x t n v h i f z =
     omega (
       arith,
       live-words x t n i v.out,
@@ -155,9 +154,9 @@ word-clean sh k x c h q e = go (c.dirty x) refl
     go : (o : Option ℕ) → c.dirty x ≡ o → o ≡ None
     go a r = grind (nats, dirty-line)
 
-leaves-none : (sh : Shape) (k x : ℕ) (c : Cache) → IsCache sh c → is_dirty c k ≡ false → WordLeaves k x c []
+leaves-none : {sh : Shape} (k x : ℕ) {c : Cache} → IsCache sh c → is_dirty c k ≡ false → WordLeaves k x c []
 unfolding among
-leaves-none sh k x c h q = record { same = λ e t. rw (word-clean sh k x c h q e) refl; other = λ e t. refl; right = λ t y f. refl }
+leaves-none {sh} k x {c} h q = record { same = λ e t. rw (word-clean sh k x c h q e) refl; other = λ e t. refl; right = λ t y f. refl }
 
 -- the mask and the words of the line's copy, at the word's place
 mask-at : (c : Cache) (x : ℕ) → has (dirty_mask c (line_of x)) (place_of x) ≡ is_some (c.dirty x)
@@ -200,24 +199,24 @@ leaves-one {k} {x} {c} m h f g =
     right t y q (inl e) = let z : (line_of x == line_of x) ≡ true = grind nats in
         rw (g t y, e, z, mask-at c x) (omega (arith, wrong t y (c.dirty x) refl q))
 
-flush-leaves : (sh : Shape) (k x : ℕ) (c : Cache) → IsCache sh c → WordLeaves k x c (flush_of (dirty_copy c k))
+flush-leaves : {sh : Shape} (k x : ℕ) (c : Cache) → IsCache sh c → WordLeaves k x c (flush_of (dirty_copy c k))
 unfolding dirty_copy passes
-flush-leaves sh k x c h = go (is_dirty c k) refl
+flush-leaves k x c h = go (is_dirty c k) refl
   where
     go : (b : Bool) → is_dirty c k ≡ b
         → WordLeaves k x c (flush_of
         (cond b (Some (record { line = k; mask = dirty_mask c k; words = dirty_words c k; tag = dirty_tag c k })) None))
-    go false q = leaves-none sh k x c h q
+    go false q = leaves-none k x h q
     go true q = leaves-one (Flush k (dirty_mask c k) (dirty_words c k) (dirty_tag c k)) h (λ t. refl) (λ t y. refl)
 
-back-leaves : (sh : Shape) (k x : ℕ) (c : Cache) → IsCache sh c → WordLeaves k x c (write_back_of (dirty_copy c k))
+back-leaves : {sh : Shape} (k x : ℕ) (c : Cache) → IsCache sh c → WordLeaves k x c (write_back_of (dirty_copy c k))
 unfolding dirty_copy passes
-back-leaves sh k x c h = go (is_dirty c k) refl
+back-leaves k x c h = go (is_dirty c k) refl
   where
     go : (b : Bool) → is_dirty c k ≡ b
         → WordLeaves k x c (write_back_of
         (cond b (Some (record { line = k; mask = dirty_mask c k; words = dirty_words c k; tag = dirty_tag c k })) None))
-    go false q = leaves-none sh k x c h q
+    go false q = leaves-none k x h q
     go true q = leaves-one (WriteBack k (dirty_mask c k) (dirty_words c k) (dirty_tag c k)) h (λ t. refl) (λ t y. refl)
 
 -- they go to the line's home
@@ -236,11 +235,11 @@ at-home sh {k} {x} {c} {ms} h = go (home_of sh x == home sh k) refl
 
 pub flushed-words : {sh : Shape} (k x : ℕ) {c : Cache} → IsCache sh c → WordLeaves k x c (flush_line sh c k (Dir (home_of sh x)))
 unfolding flush_line
-flushed-words {sh} k x {c} h = at-home sh (flush-leaves sh k x c h)
+flushed-words {sh} k x {c} h = at-home sh (flush-leaves k x c h)
 
-pub back-home-words : (sh : Shape) (k x : ℕ) (c : Cache) → IsCache sh c → WordLeaves k x c (write_back_line sh c k (Dir (home_of sh x)))
+pub back-home-words : {sh : Shape} (k x : ℕ) {c : Cache} → IsCache sh c → WordLeaves k x c (write_back_line sh c k (Dir (home_of sh x)))
 unfolding write_back_line
-back-home-words sh k x c h = at-home sh (back-leaves sh k x c h)
+back-home-words {sh} k x {c} h = at-home sh (back-leaves k x c h)
 
 -- the dirty words of line k are sent, and become clean
 pub word-sent : (sh : Shape) {k x : ℕ} (s : CoreState) (o : Out) → o.core.cache.dirty x ≡ (if k == line_of x then None else s.cache.dirty x)

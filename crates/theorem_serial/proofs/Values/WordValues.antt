@@ -42,8 +42,7 @@ pub from-values : {sh : Shape} {ram : ℕ → ℕ} {w : World} {cs : List Noted}
     → HomeWords sh ram w cs × CopiesAbove sh ram w cs
 from-values k = (
   record { at_home = λ d x dl e. (k d x dl e).at_home; in_copies = λ c d x cl dl e. (k d x dl e).in_copies c cl },
-  λ c d x t cl dl e i.
-      (k d x dl e).above c t cl i,
+  λ c d x t cl dl e i. (k d x dl e).above c t cl i,
 )
 
 -- an event that leaves the cores, the line's tag and the word's values
@@ -66,10 +65,8 @@ pub stands-keep : {sh : Shape} {ram : ℕ → ℕ} {w v : World} {cs : List Note
 unfolding pair
 stands-keep {sh} {ram} {w} {v} {cs} {d} {x} s h = record {
   at_home = λ p. s.home (λ c cl. rw s.tag at (p c cl)) ∙ sym (s.value None);
-  in_copies =
-      λ c cl. rw s.tag (have-still
-      (pair v c d) (ap (λ f. f c) s.cores) (s.others c (tag_of w d x) (value_of sh ram w cs d None x)) (s.value None)
-      (h.in_copies c cl));
+  in_copies = λ c cl. rw s.tag (have-still
+      (pair v c d) (ap (λ f. f c) s.cores) (s.others c (tag_of w d x) (value_of sh ram w cs d None x)) (s.value None) (h.in_copies c cl));
   above = λ c t cl i. have-still (pair v c d)
       (ap (λ f. f c) s.cores) (s.others c t (value_of sh ram w cs d (Some c) x)) (s.value (Some c)) (h.above c t cl (rw s.tag at i));
 }
@@ -92,7 +89,7 @@ same-copies x t a b e f = rw (e, f) refl
 pub quiet-keep : {sh : Shape} {ram : ℕ → ℕ} {w : World} (v : World) {cs : List Noted} {d x : ℕ} → Quiet sh ram w v cs d x
     → ValuesAt sh ram w cs d x → ValuesAt sh ram v cs d x
 unfolding pair
-quiet-keep {sh} {ram} {w} v {cs} {d} {x} q h = stands-keep (record {
+quiet-keep {w} v {d} {x} q h = stands-keep (record {
   cores = q.cores;
   tag = q.tag;
   others = q.others;
@@ -116,10 +113,10 @@ same-values {sh} {ram} {w} v {cs} {d} {x} e f g h = quiet-keep v (record {
 -- which commits count
 
 -- a commit that stored the word stored at the word's home
-pub stored-at-home : (sh : Shape) (cs : List Noted) (n : Noted) (d x : ℕ) → CommitsInMemory sh cs → Contains cs n → home_of sh x ≡ d
+pub stored-at-home : {sh : Shape} (cs : List Noted) (n : Noted) {d : ℕ} (x : ℕ) → CommitsInMemory sh cs → Contains cs n → home_of sh x ≡ d
     → stores_word sh.base n.stores x ≡ true → stores_at sh d n.stores ≡ true
 unfolding names_line
-stored-at-home sh cs n d x k i e s = stored-home sh (line_of x) n ((k n i).stored x s) e (line-has (stores_word sh.base n.stores) x s)
+stored-at-home {sh} cs n x k i e s = stored-home sh (line_of x) n ((k n i).stored x s) e (line-has (stores_word sh.base n.stores) x s)
 
 -- no Commit of a commit that stored the word is consumed
 abbrev pub SameCommits : Shape → World → World → List Noted → (dir word : ℕ) → Type 0
@@ -138,7 +135,7 @@ same-value {sh} ram w v cs {d} x a b k dl e f c = value-alike sh.base ram cs (v.
         → (counts (v.dirs d) c None n ≡ counts (w.dirs d) c None n) ⊎ (stores_word sh.base n.stores x ≡ false)
     go n i false q = inr q
     go n i true q =
-        let s = stored-at-home sh cs n d x k i e q in
+        let s = stored-at-home cs n x k i e q in
         let y : is_applied (v.dirs d) n.tid.0 ≡ is_applied (w.dirs d) n.tid.0 =
         num-same (is_applied (v.dirs d) n.tid.0) (is_applied (w.dirs d) n.tid.0) (omega (arith, a n d i dl s, b n d i dl s, f n i q)) in
         inl (rw y refl)
@@ -182,15 +179,14 @@ elsewhere a b y e = grind nats
 
 quiet-commits : {sh : Shape} {h : History} {c d : ℕ} (x : ℕ) {m : Msg} {v : World} → Answers sh h c d m v → NoCommit m
     → SameCommits sh h.world v h.commits d x
-quiet-commits {c} {d} x {m} a n y i s =
-    omega (arith, a.net (Commits y.tid.0) y.core.0 d, unconsumed (y.core.0 == c && d == d) (n y.tid.0))
+quiet-commits {c} {d} x a n y i s = omega (arith, a.net (Commits y.tid.0) y.core.0 d, unconsumed (y.core.0 == c && d == d) (n y.tid.0))
 
 -- the word stays, and no copy of it is consumed; or a copy with its line's tag comes home
 pub taken-values : {sh : Shape} {ram : ℕ → ℕ} (h : History) (c d k x : ℕ) (m : Msg) {v : World} → Known sh ram h → c < sh.cores
     → d < sh.dirs → home_of sh x ≡ d → FromCore h.world c d k m → Answers sh h c d m v → NoCommit m → tag_of v d x ≡ tag_of h.world d x
     → HomeBy (h.world.dirs d) m x (v.dirs d) → ValuesAt sh ram v h.commits d x
 unfolding pair
-taken-values {sh} {ram} h c d k x m {v} b cl dl e i a n t (Left w f) = quiet-keep v (record {
+taken-values {ram} h c d k x m {v} b cl dl e i a n t (Left w f) = quiet-keep v (record {
   cores = a.cores;
   tag = t;
   words = w;
@@ -217,8 +213,7 @@ taken-values {sh} {ram} h c d k x m {v} b cl dl e i a n t (Home f g) = stands-ke
     -- the copy that came had the word's value
     came : (z : Bool) → ((v.dirs d).words x == y) ≡ z → (v.dirs d).words x ≡ y
     came true q = grind nats
-    came false q =
-        absurd (let o : num (passes (CopyNot x (tag_of h.world d x) y) m) ≡ 1 = rw (g y, q) refl in
+    came false q = absurd (let o : num (passes (CopyNot x (tag_of h.world d x) y) m) ≡ 1 = rw (g y, q) refl in
         omega (
           arith,
           o,
@@ -231,7 +226,7 @@ pub dropped-values : {sh : Shape} {ram : ℕ → ℕ} (h : History) (c d k x : �
     → d < sh.dirs → home_of sh x ≡ d → FromCore h.world c d k m → Answers sh h c d m v → v.dirs d ≡ h.world.dirs d
     → Dropped (h.world.dirs d) c m → ValuesAt sh ram v h.commits d x
 unfolding pair copies_with
-dropped-values {sh} {ram} h c d k x m {v} b cl dl e i a f n = quiet-keep v (record {
+dropped-values {ram} h c d k x m {v} b cl dl e i a f n = quiet-keep v (record {
   cores = a.cores;
   tag = ap (λ s. s.lines.tag (line_of x)) f;
   words = ap (λ s. s.words x) f;
@@ -239,8 +234,7 @@ dropped-values {sh} {ram} h c d k x m {v} b cl dl e i a f n = quiet-keep v (reco
       λ j. omega (
         arith,
         a.net (CopyWord x g) j d,
-        unconsumed (j == c && d == d)
-            (old (passes (CopyWord x g) m) refl),
+        unconsumed (j == c && d == d) (old (passes (CopyWord x g) m) refl),
       );
   others = λ j u y. omega (arith, a.net (CopyNot x u y) j d);
   value = same-value ram h.world v h.commits x b.stand a.stand b.inside dl e (quiet-commits x a n.commit);
@@ -261,13 +255,12 @@ dropped-values {sh} {ram} h c d k x m {v} b cl dl e i a f n = quiet-keep v (reco
             omega (arith, o, p, word-line x g m)
         of true r =
             let o : num (passes (CopyOf l g) m) ≡ 1 = ap num r in
-            let s : 1 ≤ live (CopyOf l g) (to_dir h.world c d) =
-            omega (arith, o, live-some (CopyOf l g) (to_dir h.world c d) k m i) in
+            let s : 1 ≤ live (CopyOf l g) (to_dir h.world c d) = omega (arith, o, live-some (CopyOf l g) (to_dir h.world c d) k m i) in
             let p : num (is_this ((h.world.dirs d).lines.owner l) c) ≡ 0 = ap num (n.other l r) in
             omega (arith, s, p, b.owned c d l cl dl (b.copies c d l g s) e)
 
 -- at another directory
 pub away-values : {sh : Shape} {ram : ℕ → ℕ} (h : History) (c d e x : ℕ) (m : Msg) {v : World} → Known sh ram h → e ≢ d → e < sh.dirs
     → home_of sh x ≡ e → Answers sh h c d m v → v.dirs e ≡ h.world.dirs e → ValuesAt sh ram v h.commits e x
-away-values {sh} {ram} h c d e x m {v} b n el q a f = same-values v a.cores f
+away-values h c d e x m {v} b n el q a f = same-values v a.cores f
     (λ k j. omega (arith, a.net k j e, elsewhere (j == c) (e == d) (passes k m) (grind nats))) (b.values e x el q)

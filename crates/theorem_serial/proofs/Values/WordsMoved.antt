@@ -57,15 +57,13 @@ carried-alike {x} {d} g {o} a b e h m = record { copies = copies; have = have }
   where
     copies : num (is_this (b.core.cache.dirty x) g) + live (CopyWord x g) b.out ≡ num (is_this (a.core.cache.dirty x) g) + live
         (CopyWord x g) a.out
-    copies =
-        rw (m.core, m.out) (let y : num (is_this (o.core.cache.dirty x) g) + among (CopyWord x g) (o.sends (Dir d)) ≡ num
+    copies = rw (m.core, m.out) (let y : num (is_this (o.core.cache.dirty x) g) + among (CopyWord x g) (o.sends (Dir d)) ≡ num
         (is_this (a.core.cache.dirty x) g) = rw e at (h.copies g) in
         omega (arith, y, live-sends (CopyWord x g) a.out (o.sends (Dir d))))
 
     have : (t y : ℕ) → CopiesHave x t y a → CopiesHave x t y b
     have t y q = record {
-      framed =
-          λ r. (let f = h.framed t (sym (ap (λ c. c.cache.dirty x) m.core) ∙ r) in ap (λ c. c.cache.value x) m.core ∙ f.1
+      framed = λ r. (let f = h.framed t (sym (ap (λ c. c.cache.dirty x) m.core) ∙ r) in ap (λ c. c.cache.value x) m.core ∙ f.1
           ∙ q.framed f.0);
       sent = rw m.out (let z : among (CopyNot x t y) (o.sends (Dir d)) ≡ 0 = rw e at (h.sent t y q.framed) in
           omega (arith, z, q.sent, live-sends (CopyNot x t y) a.out (o.sends (Dir d))));
@@ -95,8 +93,7 @@ lost-alike sh x d {g} o {a} b n f z m = record { copies = copies; have = have }
 
     have : (t y : ℕ) → CopiesHave x t y a → CopiesHave x t y b
     have t y q = record {
-      framed =
-          λ r. (let h = f t (sym (ap (λ c. c.cache.dirty x) m.core) ∙ r) in ap (λ c. c.cache.value x) m.core ∙ h.1 ∙ q.framed h.0);
+      framed = λ r. (let h = f t (sym (ap (λ c. c.cache.dirty x) m.core) ∙ r) in ap (λ c. c.cache.value x) m.core ∙ h.1 ∙ q.framed h.0);
       sent =
           rw m.out (omega (
             arith,
@@ -118,10 +115,10 @@ inv-home sh ram h c e k l m u b i = elim (tested (home sh l == e)) [
 ]
 
 -- and of a line in memory, for it is marked
-inv-inside : (sh : Shape) (ram : ℕ → ℕ) (h : History) (c d k l m u : ℕ) → Known sh ram h → c < sh.cores → d < sh.dirs
+inv-inside : {sh : Shape} {ram : ℕ → ℕ} (h : History) (c d k l m u : ℕ) → Known sh ram h → c < sh.cores → d < sh.dirs
     → FromDir h.world d c k (Inv l m u) → l < lines sh
 unfolding pair passes due share
-inv-inside sh ram h c d k l m u b cl dl i =
+inv-inside {sh} h c d k l m u b cl dl i =
     let owed : 1 ≤ (h.world.dirs d).owed = omega (arith, invs, b.invs.owed d, total-le (share due h.world d) sh.cores c cl) in
     let n : SettledCommit sh h.commits d (h.world.dirs d) = (b.stored 0 d 0).settled dl owed in
     mask-inside sh d l n.commit.stores (n.marks l) (marked (has_mark (h.world.dirs d).lines l) refl)
@@ -136,18 +133,17 @@ inv-inside sh ram h c d k l m u b cl dl i =
         omega (arith, z, w, live-some (InvOf l) (to_core h.world d c) k (Inv l m u) i, (b.named c d l cl dl).one))
 
 -- the core that it goes to has no copy of the word with the line's tag, for it isn't the owner
-none-with-tag : (sh : Shape) (ram : ℕ → ℕ) (h : History) (c d k x m u : ℕ) → Known sh ram h → c < sh.cores → d < sh.dirs
+none-with-tag : {sh : Shape} {ram : ℕ → ℕ} (h : History) (c d k x m u : ℕ) → Known sh ram h → c < sh.cores → d < sh.dirs
     → line_of x < lines sh → home_of sh x ≡ d → FromDir h.world d c k (Inv (line_of x) m u)
     → word_copies x (tag_of h.world d x) (pair h.world c d) ≡ 0
 unfolding pair
-none-with-tag sh ram h c d k x m u b cl dl ll e i = let y : copies_with (line_of x) (tag_of h.world d x) (pair h.world c d) ≡ num
+none-with-tag {sh} h c d k x m u b cl dl ll e i = let y : copies_with (line_of x) (tag_of h.world d x) (pair h.world c d) ≡ num
     (is_this ((h.world.dirs d).lines.owner (line_of x)) c) = b.owned c d (line_of x) cl dl ll e in
     omega (
       arith,
       y,
       mine ((h.world.dirs d).lines.owner (line_of x)) refl,
-      few-copies x (tag_of h.world d x) (pair h.world c d)
-          (b.caches c),
+      few-copies x (tag_of h.world d x) (pair h.world c d) (b.caches c),
     )
   where
     t : Invalidating sh h c d (line_of x)
@@ -159,23 +155,20 @@ none-with-tag sh ram h c d k x m u b cl dl ll e i = let y : copies_with (line_of
       where
         which : (y : Bool) → (o == c) ≡ y → num y ≡ 0
         which false r = refl
-        which true r =
-            absurd (let z : o ≡ c = grind nats in
+        which true r = absurd (let z : o ≡ c = grind nats in
             omega (arith, t.sent, b.spared c d (line_of x) dl (q ∙ ap (λ n. Some n) z) t.tag))
 
 -- a core moves, takes a grant, takes a message of a directory
-pub moved-alike : (sh : Shape) (w : World) (c : ℕ) (o : Out) → Carries sh (w.cores c) o → AllPairs (AlikeAt sh w) (core_moves w c o)
+pub moved-alike : {sh : Shape} (w : World) (c : ℕ) {o : Out} → Carries sh (w.cores c) o → AllPairs (AlikeAt sh w) (core_moves w c o)
 unfolding pair
-moved-alike sh w c o h =
-    pairs_move (AlikeAt sh w) w c o
+moved-alike {sh} w c {o} h = pairs_move (AlikeAt sh w) w c o
     (λ d x cl dl e. carried-alike (tag_of w d x) (pair w c d) (after_move (pair w c d) o d) e (h x)
     (record { core = refl; out = refl })) (still-alike sh w)
 
 pub granted-alike : (sh : Shape) (w : World) (c k : ℕ) (o : Out) → Carries sh (w.cores c) o
     → AllPairs (AlikeAt sh w) (core_takes w Vendor c k o)
 unfolding pair
-granted-alike sh w c k o h =
-    pairs_grant (AlikeAt sh w) w c k o
+granted-alike sh w c k o h = pairs_grant (AlikeAt sh w) w c k o
     (λ d x cl dl e. carried-alike (tag_of w d x) (pair w c d) (after_move (grant_taken (pair w c d) k) o d) e (h x)
     (record { core = refl; out = refl })) (still-alike sh w)
 
@@ -183,20 +176,17 @@ taken-one : {sh : Shape} {ram : ℕ → ℕ} (h : History) (c e d k x : ℕ) {m 
     → d < sh.dirs → home_of sh x ≡ d → FromDir h.world e c k m → WordBack sh x (h.world.cores c) m o → Moved o d (pair h.world c d) v
     → Alike x (tag_of h.world d x) (pair h.world c d) v
 unfolding pair
-taken-one {sh} h c e d k x o v b cl dl q i (Carried y) n = carried-alike (tag_of h.world d x) (pair h.world c d) v q y n
+taken-one h c e d k x o v b cl dl q i (Carried y) n = carried-alike (tag_of h.world d x) (pair h.world c d) v q y n
 taken-one {sh} {ram} h c e d k x o v b cl dl q i (Lost p u r f z) n =
     let j : FromDir h.world e c k (Inv (line_of x) p u) = i ∙ ap (λ y. Some y) r in
     let w : d ≡ e = sym q ∙ inv-home sh ram h c e k (line_of x) p u b j in
-    lost-alike sh x d o v
-    (none-with-tag sh ram h c d k x p u b cl dl (inv-inside sh ram h c d k (line_of x) p u b cl dl (rw w j)) q (rw w j)) f
+    lost-alike sh x d o v (none-with-tag h c d k x p u b cl dl (inv-inside h c d k (line_of x) p u b cl dl (rw w j)) q (rw w j)) f
     (λ t. rw q at (z t)) n
 
-pub taken-alike : (sh : Shape) (ram : ℕ → ℕ) (h : History) (c e k : ℕ) (m : Msg) (o : Out) → Known sh ram h → FromDir h.world e c k m
+pub taken-alike : {sh : Shape} {ram : ℕ → ℕ} (h : History) (c e k : ℕ) {m : Msg} (o : Out) → Known sh ram h → FromDir h.world e c k m
     → ((x : ℕ) → WordBack sh x (h.world.cores c) m o) → AllPairs (AlikeAt sh h.world) (core_takes h.world (Dir e) c k o)
 unfolding pair
-taken-alike sh ram h c e k m o b i f = pairs_back (AlikeAt sh h.world) h.world e c k o
+taken-alike {sh} h c e k o b i f = pairs_back (AlikeAt sh h.world) h.world e c k o
     (λ x cl dl q. taken-one h c e e k x o (after_move (back_taken (pair h.world c e) k) o e) b cl dl q i (f x)
-    (record { core = refl; out = refl }))
-    (λ d n x cl dl q. taken-one h c e d k x o (after_move (pair h.world c d) o d) b cl dl q i (f x)
-    (record { core = refl; out = refl }))
-    (still-alike sh h.world)
+    (record { core = refl; out = refl })) (λ d n x cl dl q. taken-one h c e d k x o (after_move (pair h.world c d) o d) b cl dl q i (f x)
+    (record { core = refl; out = refl })) (still-alike sh h.world)

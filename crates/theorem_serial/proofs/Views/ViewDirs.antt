@@ -84,9 +84,8 @@ stays-value sh ram cs w v j d x b m a z dl e f = value-alike sh.base ram cs (w.d
     go : (n : Noted) → Contains cs n → (q : Bool) → stores_word sh.base n.stores x ≡ q
         → IsAlike sh.base (w.dirs d) (Some j) b (v.dirs d) (Some j) b x n
     go n i false q = inr q
-    go n i true q =
-        inl (counts-alike (w.dirs d) (v.dirs d) (Some j) b n
-        (applied-same sh cs w v n d a z i dl (stored-at-home sh cs n d x m i e q) (f n)))
+    go n i true q = inl (counts-alike (w.dirs d) (v.dirs d) (Some j) b n
+        (applied-same sh cs w v n d a z i dl (stored-at-home cs n x m i e q) (f n)))
 
 -- the directory takes the Commit of TID u from core c
 pub record Taken (sh : Shape) (w : World) (c d u : ℕ) : Type 0 where
@@ -118,20 +117,19 @@ unfolding holds_line keeps_unmodified any_word
 holds-word v x r e =
     let i : word_at (line_of x) (place_of x) ≡ x = omega arith in
     let one : (is_some (v.core.cache.value x) && (not (v.core.cache.modified x) || v.core.cache.read x)) ≡ true = grind arith in
-    let a =
-    any_below-at (λ k. is_some (v.core.cache.value (word_at (line_of x) k))
+    let a = any_below-at (λ k. is_some (v.core.cache.value (word_at (line_of x) k))
     && (not (v.core.cache.modified (word_at (line_of x) k)) || v.core.cache.read (word_at (line_of x) k))) 8 (place_of x)
     (omega arith) (subst (λ y. (is_some (v.core.cache.value y) && (not (v.core.cache.modified y) || v.core.cache.read y)) ≡ true)
     (sym i) one) in
     rw a refl
 
 -- each core sees the values that it saw, or the invalidation that it is sent dooms the use
-pub commit-value : (sh : Shape) (gs : List Grant) (ys : Ways) (ram : ℕ → ℕ) (h : History) → Carried sh gs ys h
+pub commit-value : {sh : Shape} {gs : List Grant} {ys : Ways} (ram : ℕ → ℕ) (h : History) → Carried sh gs ys h
     → CommitsInMemory sh h.commits → (v : World) → CommitsStand sh v h.commits → (c d u : ℕ) → Taken sh h.world c d u
     → ((n : Noted) → n.tid.0 ≢ u → live (Commits n.tid.0) (to_dir v n.core.0 d) ≡ live (Commits n.tid.0) (to_dir h.world n.core.0 d))
     → (j : ℕ) → StaysOrDooms sh ram h.commits j d (pair h.world j d) (v.dirs d) (invalidations sh (h.world.dirs d).lines c u (Core j))
 unfolding pair invalidations invs_to counts stored_mask stores_in hit any_word is_invalidated
-commit-value sh gs ys ram h k mem v stand c d u t f j b jl dl bound x y e seen = below (is_below b u) refl
+commit-value {sh} {gs} ram h k mem v stand c d u t f j b jl dl bound x y e seen = below (is_below b u) refl
   where
     w : World
     w = h.world
@@ -152,10 +150,9 @@ commit-value sh gs ys ram h k mem v stand c d u t f j b jl dl bound x y e seen =
             → IsAlike sh.base (w.dirs d) (Some j) b (v.dirs d) (Some j) b x o
         one o i false q z = inr q
         one o i true q (inl z) = inl (g o i z q)
-        one o i true q (inr z) =
-            inl (counts-alike (w.dirs d) (v.dirs d) (Some j) b o
+        one o i true q (inr z) = inl (counts-alike (w.dirs d) (v.dirs d) (Some j) b o
             (applied-same sh h.commits w v o d k.commit_is_on_its_way_or_applied stand i dl
-            (stored-at-home sh h.commits o d x mem i e q) (f o z)))
+            (stored-at-home h.commits o x mem i e q) (f o z)))
 
     -- the core's bound isn't above the commit
     unbounded : (o : Noted) → o.tid.0 ≡ u → is_below b u ≡ false → counts (w.dirs d) (Some j) b o ≡ counts (v.dirs d) (Some j) b o
@@ -167,8 +164,7 @@ commit-value sh gs ys ram h k mem v stand c d u t f j b jl dl bound x y e seen =
 
     own : j ≡ c → (o : Noted) → Contains h.commits o → o.tid.0 ≡ u → counts (w.dirs d) (Some j) b o ≡ counts (v.dirs d) (Some j) b o
     own q o i z =
-        let g : Contains gs (grant_to u o.core.0) =
-        rw z at (granted-at gs h.commits o k.commits_are_of_granted_tids.1 i) in
+        let g : Contains gs (grant_to u o.core.0) = rw z at (granted-at gs h.commits o k.commits_are_of_granted_tids.1 i) in
         let r : o.core.0 ≡ c = granted-once 1 gs u o.core.0 c k.granted_tids_are_those_below_next.0 g granted in
         let a : is_this (Some j) o.core.0 ≡ true = rw (q, r) (eq-self c) in
         rw a refl
@@ -203,16 +199,14 @@ commit-value sh gs ys ram h k mem v stand c d u t f j b jl dl bound x y e seen =
         mask = rw here refl
 
         hit-mark : hit (line_of x) ((w.dirs d).lines.mark (line_of x)) x ≡ true
-        hit-mark =
-            rw (mark, mask, eq-self (line_of x))
+        hit-mark = rw (mark, mask, eq-self (line_of x))
             (has-mask_of (λ i. stores_word sh.base n.stores (word_at (line_of x) i)) (place_of x) (omega arith) ∙ stored)
 
         named : any_word (stores_word sh.base n.stores) (line_of x) ≡ true
         named = any_below-at (λ i. stores_word sh.base n.stores (word_at (line_of x) i)) 8 (place_of x) (omega arith) stored
 
         marked : has_mark (w.dirs d).lines (line_of x) ≡ true
-        marked =
-            rw mark (num-true (nat_lt 0 (stored_mask sh d n.stores (line_of x)))
+        marked = rw mark (num-true (nat_lt 0 (stored_mask sh d n.stores (line_of x)))
             (ap num (all-true (nat_lt (line_of x) (lines sh)) (d == home_of sh x) here named) ∙ stored-line sh d n.stores (line_of x)))
 
         read : (w.cores j).cache.read x ≡ true
@@ -278,10 +272,7 @@ near-takes : (sh : Shape) (ram : ℕ → ℕ) (cs : List Noted) (vs : ℕ → Us
     → AllNear sh ram cs vs (dir_takes w c d k s sends)
 unfolding pair
 near-takes sh ram cs vs w c d k s sends q h f = pairs_dir (λ c d v. ViewOf sh ram cs (vs c) c d v) w c d k s sends
-    (view-answers s (sends (Core c)) own (q c)
-    (view-out k (h c d)))
-    (λ j n. view-answers s (sends (Core j)) (f j) (q j) (h j d))
-    h
+    (view-answers s (sends (Core c)) own (q c) (view-out k (h c d))) (λ j n. view-answers s (sends (Core j)) (f j) (q j) (h j d)) h
   where
     own : StaysOrDooms sh ram cs c d (out_taken (pair w c d) k) s (sends (Core c))
     own b cl dl i = f c b cl dl (bound-out b (pair w c d) k i)
@@ -316,16 +307,15 @@ plain-views sh ram cs vs w c d k m a mem st q h i f = go a
     go Waits = tt
     go Drops = takes (w.dirs d) (λ dst. [])
     go (Takes s sends) = takes s sends
-    go (Asks s sends) = λ z. near-asks sh ram cs vs w d s sends q h
-        (λ j b cl dl g x y e r. inl
+    go (Asks s sends) = λ z. near-asks sh ram cs vs w d s sends q h (λ j b cl dl g x y e r. inl
         (rw (eq-self d) at (stays-value sh ram cs w (dir_asks w d s sends) j d x b mem st z dl e
         (λ n. ap (λ v. live (Commits n.tid.0) v.out) (asks-own w d s sends n.core.0)))))
 
-commit-views : (sh : Shape) (gs : List Grant) (ys : Ways) (ram : ℕ → ℕ) (vs : ℕ → Uses) (h : History) (c d k u n : ℕ) → Carried sh gs ys h
+commit-views : {sh : Shape} {gs : List Grant} {ys : Ways} (ram : ℕ → ℕ) (vs : ℕ → Uses) (h : History) (c d k u n : ℕ) → Carried sh gs ys h
     → CommitsInMemory sh h.commits → AllSeen vs h.world → AllNear sh ram h.commits vs h.world → c < sh.cores
     → FromCore h.world c d k (Commit u n) → OfAnswer h.world c d k (NearAfter sh ram h.commits vs) (dir_commit sh c u n (h.world.dirs d))
 unfolding dir_commit passes
-commit-views sh gs ys ram vs h c d k u n y mem q near cl i =
+commit-views {sh} ram vs h c d k u n y mem q near cl i =
     go (s.serving.serving == u) refl (count_below (has_mark s.lines) (lines sh) == n) refl
   where
     w : World
@@ -354,9 +344,8 @@ commit-views sh gs ys ram vs h c d k u n y mem q near cl i =
 
         one : CommitsStand sh (dir_takes w c d k r (invalidations sh s.lines c u)) h.commits → (j : ℕ)
             → StaysOrDooms sh ram h.commits j d (pair w j d) r (invalidations sh s.lines c u (Core j))
-        one z j b jl dl g =
-            rw (dirs-taken w c d k r (invalidations sh s.lines c u))
-            at (commit-value sh gs ys ram h y mem (dir_takes w c d k r (invalidations sh s.lines c u)) z c d u
+        one z j b jl dl g = rw (dirs-taken w c d k r (invalidations sh s.lines c u))
+            at (commit-value ram h y mem (dir_takes w c d k r (invalidations sh s.lines c u)) z c d u
             (record {
               core = cl;
               dir = dl;
@@ -364,8 +353,7 @@ commit-views sh gs ys ram vs h c d k u n y mem q near cl i =
               sent = omega (
                 arith,
                 counted,
-                live-some (CommitOf u (count_below (has_mark s.lines) (lines sh)))
-                    (to_dir w c d) k (Commit u n) i,
+                live-some (CommitOf u (count_below (has_mark s.lines) (lines sh))) (to_dir w c d) k (Commit u n) i,
               );
               commit = omega (arith, meant, live-some (Commits u) (to_dir w c d) k (Commit u n) i);
             })
@@ -383,7 +371,7 @@ answered-views sh gs ys ram vs h c d k m y mem q near cl i = go m i
         y.commit_is_on_its_way_or_applied q near i f
 
     go : (m : Msg) → FromCore h.world c d k m → OfAnswer h.world c d k (NearAfter sh ram h.commits vs) (dir_deliver sh (h.world.dirs d) c m)
-    go (Commit u n) i = commit-views sh gs ys ram vs h c d k u n y mem q near cl i
+    go (Commit u n) i = commit-views ram vs h c d k u n y mem q near cl i
     go TidReq i = tt
     go (TidGrant u) i = tt
     go (Fill l ws) i = tt

@@ -30,7 +30,7 @@ one-holder k c d e t u l a b =
 pub bound-own : {sh : Shape} {gs : List Grant} {ys : Ways} {h : History} → Carried sh gs ys h → (c d t : ℕ) (b : Option ℕ) → c < sh.cores
     → has_tid (h.world.cores c).phase t ≡ true → IsBound b (pair h.world c d) → b ≡ Some t
 bound-own {h} k c d t None l e i = absurd (omega (arith, i t, own-holder h.world c d t e))
-bound-own {sh} {gs} {ys} {h} k c d t (Some u) l e i = ap Some (one-holder k c d d u t l i (own-holder h.world c d t e))
+bound-own {h} k c d t (Some u) l e i = ap Some (one-holder k c d d u t l i (own-holder h.world c d t e))
 
 -- a directory at which a core's TID is open
 pub record IsServed (w : World) (d t : ℕ) : Type 0 where
@@ -51,8 +51,7 @@ open-served {sh} {gs} {ys} {h} k c d t cl dl e o f = record { serving = s; owed 
     go : (0 < (h.world.dirs d).owed) ⊎ ((h.world.dirs d).owed ≤ 0) → (h.world.dirs d).owed ≡ 0
     go (inr l) = omega (arith, l)
     go (inl l) =
-        let y : Settled sh ys h.world d t =
-        k.owed_only_where_settled d t dl
+        let y : Settled sh ys h.world d t = k.owed_only_where_settled d t dl
         (numbered-least 1 gs (grant_to t c) k.granted_tids_are_those_below_next.0 g.0) s (omega (arith, l)) in
         absurd (omega (arith, g.1, k.committed_tid_is_given_up_where_it_stored_nothing.only d t dl y.committed))
 
@@ -79,7 +78,7 @@ solo-holds e = rw e (grind nats)
 pub solo-served : {sh : Shape} {gs : List Grant} {ys : Ways} {h : History} → Carried sh gs ys h → (c d : ℕ) {t : ℕ} → c < sh.cores
     → d < sh.dirs → (h.world.cores c).phase ≡ Solo t → IsServed h.world d t
 unfolding has_tid opens
-solo-served {sh} {gs} {ys} {h} k c d {t} cl dl e =
+solo-served k c d {t} cl dl e =
     let s : (t == t) ≡ true = grind nats in
     open-served k c d t cl dl (rw e s) (rw e s) (k.directory_that_replied_serves_the_tid.replied c d cl dl (rw e refl))
 
@@ -111,7 +110,7 @@ below-served sh gs ys h k c d x b i = grind (nats, k.owed_counts_invs_and_acks.s
 -- a core that is alone has none in flight to it
 pub solo-undoomed : {sh : Shape} {gs : List Grant} {ys : Ways} {h : History} → Carried sh gs ys h → (c d x : ℕ) (b : Option ℕ)
     → c < sh.cores → d < sh.dirs → is_solo (h.world.cores c).phase ≡ true → live (dooms b x) (pair h.world c d).back ≡ 0
-solo-undoomed {sh} {gs} {ys} {h} k c d x b cl dl e =
+solo-undoomed {h} k c d x b cl dl e =
     let t = solo-tid (h.world.cores c).phase e in
     omega (
       arith,
@@ -155,12 +154,12 @@ uses-seen c x us s n = stand-seen false c x us s
 abbrev pub IsNear : Shape → (value : ℕ) → (b : Option ℕ) → (dir : ℕ) → (back : Link) → (word had : ℕ) → Type 0
 IsNear sh value b d l x y = home_of sh x ≡ d → (y ≡ value) ⊎ (1 ≤ live (dooms b x) l)
 
-pub doomed-again : (sh : Shape) (gs : List Grant) (ys : Ways) (h : History) → Carried sh gs ys h → (c d x y : ℕ) (b : Option ℕ)
+pub doomed-again : {sh : Shape} {gs : List Grant} {ys : Ways} (h : History) → Carried sh gs ys h → (c d x y : ℕ) (b : Option ℕ)
     → c < sh.cores → d < sh.dirs → home_of sh x ≡ d → IsBound b (pair h.world c d)
     → IsSeen (h.world.cores c).cache (h.world.cores c).phase x y → 1 ≤ live (dooms b x) (pair h.world c d).back
     → IsDoomed b x (pair h.world c d)
 unfolding pair
-doomed-again sh gs ys h k c d x y b cl dl e i s l = go s
+doomed-again h k c d x y b cl dl e i s l = go s
   where
     valid : (b : Option ℕ) → 1 ≤ live (dooms b x) (pair h.world c d).back → (is_some ((h.world.cores c).cache.value x) ≡ true)
         ⊎ IsPassed b (tid_at h.world d) → is_some ((h.world.cores c).cache.value x) ≡ true
@@ -201,11 +200,11 @@ unfolding counts
 value-bounded base ram cs s c t x f = grind (nats, value-alike)
 
 -- what counts for a core that is alone is below its TID
-pub solo-value : (sh : Shape) (gs : List Grant) (ys : Ways) (ram : ℕ → ℕ) (h : History) → Carried sh gs ys h → (c d t x : ℕ) → c < sh.cores
+pub solo-value : {sh : Shape} {gs : List Grant} {ys : Ways} (ram : ℕ → ℕ) (h : History) → Carried sh gs ys h → (c d t x : ℕ) → c < sh.cores
     → d < sh.dirs → (h.world.cores c).phase ≡ Solo t
     → value_at sh.base ram h.commits (h.world.dirs d) (Some c) None x ≡ value_at sh.base ram h.commits (h.world.dirs d) (Some c) (Some t) x
 unfolding is_applied
-solo-value sh gs ys ram h k c d t x cl dl e = value-bounded sh.base ram h.commits (h.world.dirs d) c t x below
+solo-value {sh} {gs} ram h k c d t x cl dl e = value-bounded sh.base ram h.commits (h.world.dirs d) c t x below
   where
     held : 1 ≤ holder t (pair h.world c d)
     held = own-holder h.world c d t (solo-holds e)
@@ -219,8 +218,7 @@ solo-value sh gs ys ram h k c d t x cl dl e = value-bounded sh.base ram h.commit
 
     own : (n : Noted) → Contains h.commits n → n.core.0 ≡ c → n.tid.0 < t
     own n i q =
-        let g : Contains gs (grant_to n.tid.0 c) =
-        rw q at (granted-at gs h.commits n k.commits_are_of_granted_tids.1 i) in
+        let g : Contains gs (grant_to n.tid.0 c) = rw q at (granted-at gs h.commits n k.commits_are_of_granted_tids.1 i) in
         let l : n.tid.0 ≤ t = k.live_tid_is_the_last_granted_to_its_core c d t n.tid.0 held g in
         go (cases_lt n.tid.0 t) l
       where
@@ -240,8 +238,7 @@ pub applied-same : (sh : Shape) (cs : List Noted) (v w : World) (n : Noted) (d :
     → Contains cs n → d < sh.dirs → stores_at sh d n.stores ≡ true
     → live (Commits n.tid.0) (to_dir w n.core.0 d) ≡ live (Commits n.tid.0) (to_dir v n.core.0 d)
     → is_applied (v.dirs d) n.tid.0 ≡ is_applied (w.dirs d) n.tid.0
-applied-same sh cs v w n d a b i l s e = num-same
-    (omega (arith, a n d i l s, b n d i l s, e))
+applied-same sh cs v w n d a b i l s e = num-same (omega (arith, a n d i l s, b n d i l s, e))
 
 -- an invalidation of the word carries the served TID, which has committed
 word-either : (x t s : ℕ) → s < t → (m : Msg) → num (passes (InvWord x) m) ≤ num (passes (InvBelow x t) m) + num (passes (InvsNot s) m)
@@ -254,10 +251,10 @@ word-below x t s b [] = omega arith
 word-below x t s b (None ∷ l) = word-below x t s b l
 word-below x t s b (Some m ∷ l) = omega (arith, word-either x t s b m, word-below x t s b l)
 
-pub word-next : (sh : Shape) (gs : List Grant) (ys : Ways) (h : History) → Carried sh gs ys h → (c d x : ℕ) → c < sh.cores → d < sh.dirs
+pub word-next : {sh : Shape} {gs : List Grant} {ys : Ways} (h : History) → Carried sh gs ys h → (c d x : ℕ) → c < sh.cores → d < sh.dirs
     → 1 ≤ live (InvWord x) (pair h.world c d).back → 1 ≤ live (InvBelow x h.world.next) (pair h.world c d).back
 unfolding pair
-word-next sh gs ys h k c d x cl dl i =
+word-next h k c d x cl dl i =
     omega (
       arith,
       i,

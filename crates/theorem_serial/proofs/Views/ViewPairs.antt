@@ -96,8 +96,7 @@ evict-view sh x y s = each-evict sh x y s (λ o. (o.commit ≡ None) × Keeps s 
 
 -- the core has the granted TID, or it had no view
 abbrev pub Gets : (tid : ℕ) → CoreState → Uses → Out → Type 0
-Gets u s us o =
-    (us ≡ []) ⊎ (((t : ℕ) → num (has_tid o.core.phase t) ≡ num (u == t) + num (has_tid s.phase t)) × (o.core.phase ≢ Halted))
+Gets u s us o = (us ≡ []) ⊎ (((t : ℕ) → num (has_tid o.core.phase t) ≡ num (u == t) + num (has_tid s.phase t)) × (o.core.phase ≢ Halted))
 
 pub grant-view : (sh : Shape) (u : ℕ) (s : CoreState) (us : Uses) → waits_for_tid s.phase ≡ true → (s.phase ≡ DoomedTid → us ≡ [])
     → ((grant sh u s).commit ≡ None) × Gets u s us (grant sh u s)
@@ -190,8 +189,7 @@ bound-moved (Some t) v o d k h = bound-kept (Some t) v k h
 
 pub view-moves : {sh : Shape} {ram : ℕ → ℕ} {cs : List Noted} {us : Uses} {c d : ℕ} (e : ℕ) {v : Pair} (o : Out) → Keeps v.core o.core
     → ViewOf sh ram cs us c d v → ViewOf sh ram cs us c d (after_move v o e)
-view-moves e {v} o k y =
-    record { near = λ b cl dl i. y.near b cl dl (bound-moved b v o e k i); halted = λ q. y.halted (k.halted q) }
+view-moves e {v} o k y = record { near = λ b cl dl i. y.near b cl dl (bound-moved b v o e k i); halted = λ q. y.halted (k.halted q) }
 
 -- a message to the core is consumed that dooms no use
 bound-back : (b : Option ℕ) (v : Pair) (k : ℕ) → IsBound b (back_taken v k) → IsBound b v

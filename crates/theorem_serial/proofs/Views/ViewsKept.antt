@@ -56,19 +56,19 @@ not-halted : {q : Phase} → Acts q → q ≡ Halted → ⊥
 not-halted a e = rw e at a
 
 -- a valid word that isn't modified is near when it is used
-used-near : (sh : Shape) (gs : List Grant) (ys : Ways) (ram : ℕ → ℕ) (h : History) → Carried sh gs ys h
+used-near : {sh : Shape} {gs : List Grant} {ys : Ways} (ram : ℕ → ℕ) (h : History) → Carried sh gs ys h
     → UnmodifiedWords sh ram h.world h.commits → (c d : ℕ) (b : Option ℕ) → c < sh.cores → d < sh.dirs → Acts (h.world.cores c).phase
     → IsBound b (pair h.world c d) → (x y : ℕ) → (h.world.cores c).cache.modified x ≡ false → (h.world.cores c).cache.value x ≡ Some y
     → NearAt sh ram h.commits c d b (pair h.world c d) x y
 unfolding pair
-used-near sh gs ys ram h k um c d b cl dl a i x y mo va e = go (h.world.cores c).phase refl a (um c d x y cl dl e va mo)
+used-near {sh} ram h k um c d b cl dl a i x y mo va e = go (h.world.cores c).phase refl a (um c d x y cl dl e va mo)
   where
     go : (q : Phase) → (h.world.cores c).phase ≡ q → Acts q → (y ≡ value_at sh.base ram h.commits (h.world.dirs d) (Some c) None x)
         ⊎ (1 ≤ live (InvWord x) (pair h.world c d).back)
         → (y ≡ value_at sh.base ram h.commits (h.world.dirs d) (Some c) b x) ⊎ (1 ≤ live (dooms b x) (pair h.world c d).back)
     go Running q a r = let z : b ≡ None = running-bound (pair h.world c d) b (k.one_tid_request_or_grant c d) q i in rw z r
     go (Solo t) q a (inl r) = let z : b ≡ Some t = bound-own k c d t b cl (solo-holds q) i in
-        rw z (inl (r ∙ solo-value sh gs ys ram h k c d t x cl dl q))
+        rw z (inl (r ∙ solo-value ram h k c d t x cl dl q))
     go (Solo t) q a (inr r) = absurd (omega (arith, r, solo-undoomed k c d x None cl dl (rw q refl)))
     go AwaitTid q a r = absurd a
     go DoomedTid q a r = absurd a
@@ -78,12 +78,11 @@ used-near sh gs ys ram h k um c d b cl dl a i x y mo va e = go (h.world.cores c)
     go Halted q a r = absurd a
 
 -- a commit changes no value for another core
-unapplied : (sh : Shape) (gs : List Grant) (ys : Ways) (h : History) → Carried sh gs ys h → CarriedInMemory sh h → (c d t x : ℕ)
+unapplied : {sh : Shape} {gs : List Grant} {ys : Ways} (h : History) → Carried sh gs ys h → CarriedInMemory sh h → (c d t x : ℕ)
     → c < sh.cores → d < sh.dirs → ((h.world.cores c).phase ≡ Ready t) ⊎ ((h.world.cores c).phase ≡ Solo t) → home_of sh x ≡ d
     → stores_word sh.base (h.world.cores c).stores x ≡ true → is_applied (h.world.dirs d) t ≡ false
 unfolding opens has_tid
-unapplied sh gs ys h k m c d t x cl dl ph e s =
-    served-unapplied
+unapplied {sh} h k m c d t x cl dl ph e s = served-unapplied
     (open-served k c d t cl dl (holds ph) (opened ph) (k.directory_that_replied_serves_the_tid.replied c d cl dl (commits ph)))
   where
     eq : (t == t) ≡ true
@@ -107,14 +106,14 @@ unapplied sh gs ys h k m c d t x cl dl ph e s =
         rw (q, rw e at a) (rw eq refl)
     opened (inr q) = rw q eq
 
-silent-other : (sh : Shape) (gs : List Grant) (ys : Ways) (h : History) → Carried sh gs ys h → CarriedInMemory sh h
+silent-other : {sh : Shape} {gs : List Grant} {ys : Ways} (h : History) → Carried sh gs ys h → CarriedInMemory sh h
     → (c d j t x : ℕ) (n : Noted) (b : Option ℕ) → c < sh.cores → d < sh.dirs → j ≢ c
     → ((h.world.cores c).phase ≡ Ready t) ⊎ ((h.world.cores c).phase ≡ Solo t) → n.tid.0 ≡ t → n.core.0 ≡ c
     → n.stores ≡ (h.world.cores c).stores → home_of sh x ≡ d → IsSilent sh.base (h.world.dirs d) (Some j) b x n
 unfolding counts
-silent-other sh gs ys h k m c d j t x n b cl dl ne ph tn cn st e = elim (tested (stores_word sh.base n.stores x)) [
+silent-other {sh} h k m c d j t x n b cl dl ne ph tn cn st e = elim (tested (stores_word sh.base n.stores x)) [
   | inr q ↦ inr q
-  | inl q ↦ let a : is_applied (h.world.dirs d) n.tid.0 ≡ false = rw tn (unapplied sh gs ys h k m c d t x cl dl ph e (rw st at q)) in
+  | inl q ↦ let a : is_applied (h.world.dirs d) n.tid.0 ≡ false = rw tn (unapplied h k m c d t x cl dl ph e (rw st at q)) in
       let o : (j == n.core.0) ≡ false = rw cn (differ j c ne) in
       inl (rw (o, a) ((elim (is_below b n.tid.0) as (λ a. (a && false) ≡ false) [ true ↦ refl | false ↦ refl ])))
 ]
@@ -141,7 +140,7 @@ exec-views sh p gs ys ram vs h k m um near c cl = IfSome_then (core_exec sh p c 
         mine d = record {
           near = λ b cl dl i. each-append (NearAt sh ram h.commits c d b (pair h.world c d)) (vs c) new ((near c d).near b cl dl i)
               (used-each (NearAt sh ram h.commits c d b (pair h.world c d)) sh.base w_core (p.need w_core.local)
-              (used-near sh gs ys ram h k um c d b cl dl a i));
+              (used-near ram h k um c d b cl dl a i));
           halted = λ e. absurd (not-halted a e);
         }
 
@@ -152,8 +151,7 @@ exec-views sh p gs ys ram vs h k m um near c cl = IfSome_then (core_exec sh p c 
         → n.stores ≡ w_core.stores → AllNear sh ram (insert_commit n h.commits) (put vs c []) (core_moves h.world c o)
     commits o t n ph tn cn st = pairs_move (λ j d v. ViewOf sh ram (insert_commit n h.commits) (put vs c [] j) j d v) h.world c o
         (λ d. subst (λ z. ViewOf sh ram (insert_commit n h.commits) z c d (after d)) (sym (put-own vs c []))
-        (view-empty sh ram (insert_commit n h.commits) c d (after d)))
-        (near-put sh ram (insert_commit n h.commits) vs h.world c []
+        (view-empty sh ram (insert_commit n h.commits) c d (after d))) (near-put sh ram (insert_commit n h.commits) vs h.world c []
         (λ d. view-empty sh ram (insert_commit n h.commits) c d (pair h.world c d)) others)
       where
         after : ℕ → Pair
@@ -171,9 +169,8 @@ exec-views sh p gs ys ram vs h k m um near c cl = IfSome_then (core_exec sh p c 
                 → (y ≡ value_at sh.base ram h.commits (h.world.dirs d) (Some j) b x) ⊎ (1 ≤ live (dooms b x) (pair h.world j d).back)
                 → (y ≡ value_at sh.base ram (insert_commit n h.commits) (h.world.dirs d) (Some j) b x)
                 ⊎ (1 ≤ live (dooms b x) (pair h.world j d).back)
-            one b dl x y e (inl r) =
-                inl (r ∙ sym (value-skip sh.base ram n h.commits (h.world.dirs d) (Some j) b x
-                (silent-other sh gs ys h k m c d j t x n b cl dl ne ph tn cn st e)))
+            one b dl x y e (inl r) = inl (r ∙ sym (value-skip sh.base ram n h.commits (h.world.dirs d) (Some j) b x
+                (silent-other h k m c d j t x n b cl dl ne ph tn cn st e)))
             one b dl x y e (inr r) = inr r
 
     kind : (o : Out) → Exec w_core c o → AllNear sh ram (and_noted o.commit h.commits) (put vs c (uses_executed (Some o) (vs c) new))
@@ -186,8 +183,7 @@ pub evict-views : (sh : Shape) (ram : ℕ → ℕ) (vs : Views) (h : History) �
     → IfSome (core_evict sh x y (h.world.cores c)) (λ o. AllNear sh ram (and_noted o.commit h.commits) vs (core_moves h.world c o))
 unfolding pair core_moves
 evict-views sh ram vs h near c x y = IfSome_then (core_evict sh x y (h.world.cores c)) (evict-view sh x y (h.world.cores c)) (λ o a.
-    rw a.0 (pairs_move (λ j d v. ViewOf sh ram h.commits (vs j) j d v) h.world c o
-    (λ d. view-moves d o a.1 (near c d)) near))
+    rw a.0 (pairs_move (λ j d v. ViewOf sh ram h.commits (vs j) j d v) h.world c o (λ d. view-moves d o a.1 (near c d)) near))
 
 -- Every event keeps that a viewed word has the value that it has for its core, or that the attempt is doomed.
 
@@ -224,11 +220,11 @@ grant-views {sh} ram vs h y near dm c k u i =
 none-of : {b : Bool} → num b ≤ 0 → b ≡ false
 none-of l = grind nats
 
-spares-inv : (sh : Shape) (gs : List Grant) (ys : Ways) (h : History) → Carried sh gs ys h → (c d k l n u x y : ℕ) (b : Option ℕ)
+spares-inv : {sh : Shape} {gs : List Grant} {ys : Ways} (h : History) → Carried sh gs ys h → (c d k l n u x y : ℕ) (b : Option ℕ)
     → c < sh.cores → d < sh.dirs → FromDir h.world d c k (Inv l n u) → is_violated l n u (h.world.cores c) ≡ false
     → IsBound b (pair h.world c d) → IsSeen (h.world.cores c).cache (h.world.cores c).phase x y → passes (dooms b x) (Inv l n u) ≡ false
 unfolding pair is_violated passes
-spares-inv sh gs ys h k' c d k l n u x y b cl dl i v g s = go (passes (dooms b x) (Inv l n u)) refl
+spares-inv h k' c d k l n u x y b cl dl i v g s = go (passes (dooms b x) (Inv l n u)) refl
   where
     hits : (b : Option ℕ) → passes (dooms b x) (Inv l n u) ≡ true → hit l n x ≡ true
     hits a q = grind nats
@@ -254,17 +250,17 @@ spares-inv sh gs ys h k' c d k l n u x y b cl dl i v g s = go (passes (dooms b x
     go false q = refl
     go true q = absurd (no q s)
 
-spares : (sh : Shape) (gs : List Grant) (ys : Ways) (h : History) → Carried sh gs ys h → (c d k x y : ℕ) (m : Msg) (b : Option ℕ)
-    → c < sh.cores → d < sh.dirs → FromDir h.world d c k m → Spares (h.world.cores c) m
-    → IsBound b (pair h.world c d) → IsSeen (h.world.cores c).cache (h.world.cores c).phase x y → passes (dooms b x) m ≡ false
+spares : {sh : Shape} {gs : List Grant} {ys : Ways} (h : History) → Carried sh gs ys h → (c d k x y : ℕ) (m : Msg) (b : Option ℕ)
+    → c < sh.cores → d < sh.dirs → FromDir h.world d c k m → Spares (h.world.cores c) m → IsBound b (pair h.world c d)
+    → IsSeen (h.world.cores c).cache (h.world.cores c).phase x y → passes (dooms b x) m ≡ false
 unfolding passes
-spares sh gs ys h k' c d k x y m b cl dl i v g s = go m i v
+spares h k' c d k x y m b cl dl i v g s = go m i v
   where
     other : (m : Msg) → num (passes Invs m) ≡ 0 → passes (dooms b x) m ≡ false
     other m e = none-of (omega (arith, e, few-doom b x m))
 
     go : (m : Msg) → FromDir h.world d c k m → Spares (h.world.cores c) m → passes (dooms b x) m ≡ false
-    go (Inv l n u) i v = spares-inv sh gs ys h k' c d k l n u x y b cl dl i v g s
+    go (Inv l n u) i v = spares-inv h k' c d k l n u x y b cl dl i v g s
     go m i v = other m refl
 
 -- a message of a directory
@@ -299,9 +295,8 @@ back-views sh gs ys ram vs h y seen near dm c d k m i =
     stays : (o : Out) → Keeps (h.world.cores c) o.core → Spares (h.world.cores c) m
         → AllNear sh ram h.commits (put vs c (vs c)) (core_takes h.world (Dir d) c k o)
     stays o q f = pairs_back (λ j e v. ViewOf sh ram h.commits (put vs c (vs c) j) j e v) h.world d c k o
-        (put-view (vs c) d (at-home o) (view-moves d o q
-        (view-takes c d k m i
-        (λ b cl dl g x z e s. spares sh gs ys h y c d k x z m b cl dl i f g s) (seen c) (near c d))))
+        (put-view (vs c) d (at-home o) (view-moves d o q (view-takes c d k m i
+        (λ b cl dl g x z e s. spares h y c d k x z m b cl dl i f g s) (seen c) (near c d))))
         (λ e n. put-view (vs c) e (away o e) (view-moves e o q (near c e)))
         (near-put sh ram h.commits vs h.world c (vs c) (near c) (λ j e n. near j e))
 
@@ -313,30 +308,27 @@ back-views sh gs ys ram vs h y seen near dm c d k m i =
         (subst (λ z. AllNear sh ram h.commits (put vs c z) (core_takes h.world (Dir d) c k o)) (sym u) (stays o q f))
 
 -- the vendor grants
-pub vendor-views : (sh : Shape) (gs : List Grant) (ys : Ways) (ram : ℕ → ℕ) (vs : Views) (h : History) → Carried sh gs ys h
+pub vendor-views : {sh : Shape} {gs : List Grant} {ys : Ways} (ram : ℕ → ℕ) (vs : Views) (h : History) → Carried sh gs ys h
     → AllNear sh ram h.commits vs h.world → (c k : ℕ) → in_flight h.world.net (Core c) Vendor k ≡ Some TidReq
     → AllNear sh ram h.commits vs (vendor_gives h.world c k (given h.world c))
 unfolding pair
-vendor-views sh gs ys ram vs h y near c k i = pairs_vendor (λ j d v. ViewOf sh ram h.commits (vs j) j d v) h.world c k
-    (λ d. view-given c d k
-    (λ t. asking-none (pair h.world c d) k t i (y.one_tid_request_or_grant c d)) (λ cl dl x z f e. one d cl dl x z (f e))
-    (near c d))
+vendor-views {sh} ram vs h y near c k i = pairs_vendor (λ j d v. ViewOf sh ram h.commits (vs j) j d v) h.world c k (λ d. view-given c d k
+    (λ t. asking-none (pair h.world c d) k t i (y.one_tid_request_or_grant c d)) (λ cl dl x z f e. one d cl dl x z (f e)) (near c d))
     (λ j d n. view-other (near j d))
   where
     one : (d : ℕ) → c < sh.cores → d < sh.dirs → (x z : ℕ) → (z ≡ value_at sh.base ram h.commits (h.world.dirs d) (Some c) None x)
         ⊎ (1 ≤ live (InvWord x) (pair h.world c d).back)
         → (z ≡ value_at sh.base ram h.commits (h.world.dirs d) (Some c) (Some h.world.next) x)
         ⊎ (1 ≤ live (dooms (Some h.world.next) x) (pair h.world c d).back)
-    one d cl dl x z (inl r) =
-        inl (r ∙ value-bounded sh.base ram h.commits (h.world.dirs d) c h.world.next x (λ n j q. listed-below y n j))
-    one d cl dl x z (inr r) = inr (word-next sh gs ys h y c d x cl dl r)
+    one d cl dl x z (inl r) = inl (r ∙ value-bounded sh.base ram h.commits (h.world.dirs d) c h.world.next x (λ n j q. listed-below y n j))
+    one d cl dl x z (inr r) = inr (word-next h y c d x cl dl r)
 
 -- the list's fact from what its pairs say, and the other way
 from-pairs : {sh : Shape} {p : Program} (ram : ℕ → ℕ) {gs : List Grant} {ys : Ways} {vs : Views} {h : History} → Carried sh gs ys h
     → CarriedViews sh p vs h → AllPairs (λ c d v. ViewOf sh ram h.commits (vs c) c d v) h.world
     → ViewedWords sh ram h.world h.commits vs × HaltedUsesNone h.world vs
 unfolding pair
-from-pairs {sh} ram {gs} {ys} {vs} {h} k q a = (viewed, λ c e. (a c 0).halted e)
+from-pairs {sh} ram {vs} {h} k q a = (viewed, λ c e. (a c 0).halted e)
   where
     viewed : ViewedWords sh ram h.world h.commits vs
     viewed c d b cl dl i = each-two (NearAt sh ram h.commits c d b (pair h.world c d))
@@ -347,15 +339,14 @@ from-pairs {sh} ram {gs} {ys} {vs} {h} k q a = (viewed, λ c e. (a c 0).halted e
       where
         one : (x y : ℕ) → NearAt sh ram h.commits c d b (pair h.world c d) x y → IsSeen (h.world.cores c).cache (h.world.cores c).phase x y
             → home_of sh x ≡ d → (y ≡ value_at sh.base ram h.commits (h.world.dirs d) (Some c) b x) ⊎ IsDoomed b x (pair h.world c d)
-        one x y n s e = elim (n e) [ inl r ↦ inl r | inr r ↦ inr (doomed-again sh gs ys h k c d x y b cl dl e i s r) ]
+        one x y n s e = elim (n e) [ inl r ↦ inl r | inr r ↦ inr (doomed-again h k c d x y b cl dl e i s r) ]
 
 to-pairs : (sh : Shape) (ram : ℕ → ℕ) (vs : Views) (h : History) → ViewedWords sh ram h.world h.commits vs → HaltedUsesNone h.world vs
     → AllPairs (λ c d v. ViewOf sh ram h.commits (vs c) c d v) h.world
 unfolding pair
 to-pairs sh ram vs h a n c d =
     record {
-      near = λ b cl dl i.
-          each-one (λ x y. home sh (line_of x) ≡ d → (y ≡ value_at sh.base ram h.commits (h.world.dirs d) (Some c) b x)
+      near = λ b cl dl i. each-one (λ x y. home sh (line_of x) ≡ d → (y ≡ value_at sh.base ram h.commits (h.world.dirs d) (Some c) b x)
           ⊎ IsDoomed b x (pair h.world c d)) (NearAt sh ram h.commits c d b (pair h.world c d)) (vs c) (λ x y f e. one b x y (f e))
           (a c d b cl dl i);
       halted = n c;
@@ -382,8 +373,7 @@ keeps_views sh p entries ram gs ys views m h e k =
     (λ o. record { world = core_moves h.world c o; noted = o.commit })
     (exec-views sh p gs ys ram views h k.carried k.carried_in_memory k.unmodified_word_is_current_or_inv_in_flight near c l))
     (λ c x y l. each (core_evict sh x y (h.world.cores c)) (λ o. views) (λ o. record { world = core_moves h.world c o; noted = o.commit })
-    (evict-views sh ram views h near c x y))
-    (λ c i t q. after (put views c (views c))
+    (evict-views sh ram views h near c x y)) (λ c i t q. after (put views c (views c))
     (record { world = core_takes h.world Vendor c i (grant sh t (h.world.cores c)); noted = (grant sh t (h.world.cores c)).commit })
     (grant-views ram views h k.carried near doomed c i t q))
     (λ c d i x q. each (from_dir sh d (h.world.cores c) x) (λ o. put views c (uses_delivered (h.world.cores c) x (views c)))
@@ -392,7 +382,7 @@ keeps_views sh p entries ram gs ys views m h e k =
     (λ c d i x l y q. answered c d i (dir_deliver sh (h.world.dirs d) c x)
     (answered-views sh gs ys ram views h c d i x k.carried k.carried_in_memory.commits_stay_in_memory seen near l q))
     (λ c i q. after views (record { world = vendor_gives h.world c i (given h.world c); noted = None })
-    (vendor-views sh gs ys ram views h k.carried near c i q)))
+    (vendor-views ram views h k.carried near c i q)))
   where
     near : AllNear sh ram h.commits views h.world
     near = to-pairs sh ram views h k.viewed_word_is_current_or_doomed k.no_view_after_the_halt
@@ -416,15 +406,9 @@ keeps_views sh p entries ram gs ys views m h e k =
     answered : (c d i : ℕ) (a : Answer) → OfAnswer h.world c d i (NearAfter sh ram h.commits views) a
         → OfAnswer h.world c d i (λ v. Keeping sh p ram h views (record { world = v; noted = None })) a
     answered c d i Waits f = tt
-    answered c d i Drops f =
-        λ gs ys y q. from-pairs ram y q
-        (f y.commit_is_on_its_way_or_applied)
-    answered c d i (Asks s sends) f =
-        λ gs ys y q. from-pairs ram y q
-        (f y.commit_is_on_its_way_or_applied)
-    answered c d i (Takes s sends) f =
-        λ gs ys y q. from-pairs ram y q
-        (f y.commit_is_on_its_way_or_applied)
+    answered c d i Drops f = λ gs ys y q. from-pairs ram y q (f y.commit_is_on_its_way_or_applied)
+    answered c d i (Asks s sends) f = λ gs ys y q. from-pairs ram y q (f y.commit_is_on_its_way_or_applied)
+    answered c d i (Takes s sends) f = λ gs ys y q. from-pairs ram y q (f y.commit_is_on_its_way_or_applied)
 
     recording : (x : Option Stepped) → IfSome x (Keeping sh p ram h (views_after sh p h.world e views))
         → IfSome (recorded h x) (λ g. Carried sh (gs ++ granted_by h.world e) (ways_after (sent_by sh p h.world e) ys) g

@@ -13,12 +13,12 @@ use Names.{KeptLoads, loads_at, worked_at, KeptWorked, solo_commit, tid_at, ◌�
 use proofs.Counts.StepCases.{OfAnswer, sent_cases, step_cases}
 use proofs.Serving.KeptSteps.{core_of_grant, core_of_back}
 use proofs.Counts.Links.{total-le}
-use proofs.Serving.CoreCommits.{CommitsNoted, noted-exec, noted-evict, noted-grant, noted-back}
+use proofs.Serving.CoreDue.{CommitsNoted, noted-exec, noted-evict, noted-grant, noted-back}
 use proofs.Tids.Commits.{inserted, positive-held, positive-committed}
 use proofs.Tids.CoreTids.{KeepsPart, part-exec, part-evict, part-grant, part-back}
 use proofs.Tids.TidSteps.{granted_waits, live-some}
-use proofs.Ways.CoreSkips.{skips_here, Tells, TellsCommit, tells-exec, tells-evict, tells-grant, tells-back}
-use proofs.Ways.WayParts.{in-way, told-none, told-skip, told-nothing}
+use proofs.Ways.CoreSkips.{skips_here, Tells, TellsCommit, tells-exec, tells-evict, tells-grant, tells-back, in-way, told-none, told-skip}
+use proofs.Ways.CoreSkips.{told-nothing}
 use proofs.Serving.OwnerSteps.{times-noted}
 use proofs.OneCore.CoreReads.{loads-exec, loads-evict, loads-grant, loads-back}
 use proofs.Marks.CoreMarks.{stored-written}
@@ -36,20 +36,18 @@ pub data ByCore (sh : Shape) (w : World) (L : ℕ → Out → Type 0) (x : Sends
   Moved : (c : ℕ) (y : Out) → c < sh.cores → L c y → o.world.cores ≡ (λ j. if j == c then y.core else w.cores j) → x ≡ y.sends
       → o.noted ≡ y.commit → ByCore sh w L x o
 
-pub by_core : (sh : Shape) (p : Program) (w : World) (e : Event) (L : ℕ → Out → Type 0) → KeptTids sh w
+pub by_core : {sh : Shape} (p : Program) {w : World} (e : Event) (L : ℕ → Out → Type 0) → KeptTids sh w
     → ((c : ℕ) → c < sh.cores → IfSome (core_exec sh p c (w.cores c)) (L c))
     → ((c x y : ℕ) → c < sh.cores → IfSome (core_evict sh x y (w.cores c)) (L c))
     → ((c k t : ℕ) → c < sh.cores → in_flight w.net Vendor (Core c) k ≡ Some (TidGrant t) → L c (grant sh t (w.cores c)))
     → ((c d : ℕ) (m : Msg) → c < sh.cores → IfSome (from_dir sh d (w.cores c) m) (L c))
     → IfSome (step sh p w e) (ByCore sh w L (sent_by sh p w e))
 unfolding core_moves core_takes dir_takes dir_asks vendor_gives
-by_core sh p w e L z ex ev gr ba = sent_cases sh p w e (λ x g. ByCore sh w L x)
-    (λ c l. moved c l (core_exec sh p c (w.cores c)) (ex c l))
-    (λ c x y l. moved c l (core_evict sh x y (w.cores c)) (ev c x y l))
+by_core {sh} p {w} e L z ex ev gr ba = sent_cases sh p w e (λ x g. ByCore sh w L x)
+    (λ c l. moved c l (core_exec sh p c (w.cores c)) (ex c l)) (λ c x y l. moved c l (core_evict sh x y (w.cores c)) (ev c x y l))
     (λ c k t i. let l = core_of_grant c k z i in Moved c (grant sh t (w.cores c)) l (gr c k t l i) refl refl refl)
     (λ c d k m i. let l = core_of_back c d k z i in taken c d k l (from_dir sh d (w.cores c) m) (ba c d m l))
-    (λ c d k m i. answered c d k (dir_deliver sh (w.dirs d) c m))
-    (λ c k i. Still refl refl refl)
+    (λ c d k m i. answered c d k (dir_deliver sh (w.dirs d) c m)) (λ c k i. Still refl refl refl)
   where
     moved : (c : ℕ) → c < sh.cores → (a : Option Out) → IfSome a (L c)
         → IfSome a (λ o. ByCore sh w L o.sends (record { world = core_moves w c o; noted = o.commit }))
@@ -78,10 +76,10 @@ pub speaks : (sh : Shape) (w : World) (c : ℕ) (y : Out) → ((d t : ℕ) → d
 unfolding part_in pair
 speaks sh w c y k h n = record { untold = λ d t l. omega (arith, k d t l); tells = h; noted = n }
 
-pub grant-speaks : (sh : Shape) (w : World) (c k u : ℕ) → KeptTids sh w → in_flight w.net Vendor (Core c) k ≡ Some (TidGrant u)
+pub grant-speaks : {sh : Shape} {w : World} (c k : ℕ) {u : ℕ} → KeptTids sh w → in_flight w.net Vendor (Core c) k ≡ Some (TidGrant u)
     → Speaks sh w c (grant sh u (w.cores c))
 unfolding part_in pair passes
-grant-speaks sh w c k u z i = record {
+grant-speaks {sh} {w} c k {u} z i = record {
   untold =
       λ d t l. omega (
         arith,
@@ -94,12 +92,11 @@ grant-speaks sh w c k u z i = record {
 
 pub step-speaks : {sh : Shape} (p : Program) {w : World} (e : Event) → KeptTids sh w → KeptCores sh w
     → IfSome (step sh p w e) (ByCore sh w (Speaks sh w) (sent_by sh p w e))
-step-speaks {sh} p {w} e z k = by_core sh p w e (Speaks sh w) z
+step-speaks {sh} p {w} e z k = by_core p e (Speaks sh w) z
     (λ c l. all c (core_exec sh p c (w.cores c)) (λ d t x. part-exec sh p c d t (w.cores c) x) (tells-exec p c (k c))
     (noted-exec sh p c (w.cores c)))
     (λ c x y l. all c (core_evict sh x y (w.cores c)) (λ d t a. part-evict sh x y d t (w.cores c)) (tells-evict sh x y (w.cores c))
-    (noted-evict sh x y (w.cores c)))
-    (λ c i t l q. grant-speaks sh w c i t z q)
+    (noted-evict sh x y (w.cores c))) (λ c i t l q. grant-speaks c i z q)
     (λ c d m l. all c (from_dir sh d (w.cores c) m) (λ b t x. part-back sh d b t (w.cores c) m x) (tells-back sh d (w.cores c) m)
     (noted-back sh d (w.cores c) m))
   where
@@ -112,8 +109,7 @@ step-speaks {sh} p {w} e z k = by_core sh p w e (Speaks sh w) z
 untold-part : (sh : Shape) (w : World) (c d t : ℕ) (y : Way) → c < sh.cores → 1 ≤ part_in Untold sh d t (pair w c d) → ResolvedAt sh w d t
     → WayAt sh w d t y → y ≡ Untold
 unfolding share
-untold-part sh w c d t y c' l r h =
-    in-way sh w d t y Untold r h (omega (arith, l, total-le (share (part_in Untold sh d t) w d) sh.cores c c'))
+untold-part sh w c d t y c' l r h = in-way sh w d t r h (omega (arith, l, total-le (share (part_in Untold sh d t) w d) sh.cores c c'))
 
 -- a way that was told stays
 stays : (sh : Shape) (w : World) (c d t : ℕ) (ms : List Msg) (y : Way) → c < sh.cores
@@ -144,7 +140,7 @@ pub step-live-out : {sh : Shape} {gs hs : List Grant} (ys : Ways) {w : World} {c
     → KeptOwners sh gs w cs → KeptWays sh ys w → KeptLive sh ys w → ByCore sh w (Speaks sh w) x o → KeptTids sh o.world
     → KeptOwners sh hs o.world ds → KeptWays sh (ways_after x ys) o.world → KeptLive sh (ways_after x ys) o.world
 unfolding part_in pair
-step-live-out {sh} {hs} ys {w} {ds} {x} o z ow k h b z' ow' k' c d t cl dl has = elim (live-cases q written t has) [
+step-live-out {sh} ys {w} {x} o z ow k h b z' ow' k' c d t cl dl has = elim (live-cases q written t has) [
   | inl a ↦ let n : num (opens q written t) ≡ 1 = ap num a.0 in
       untold-part sh o.world c d t y cl (omega (arith, n)) (z'.resolved d t dl) (k' d t dl positive) ∙ sym a.1
   | inr a ↦ skipped b a.0 ∙ sym a.1
@@ -216,7 +212,7 @@ step-committed-out ys z ow k lv h (Still e i n) =
       stored = λ m d q l. told-nothing m.tid.0 (ys d m.tid.0) ∙ h.stored m d q l;
       only = λ d t l q. h.only d t l (sym (told-nothing t (ys d t)) ∙ q);
     })
-step-committed-out {sh} {gs} ys {w} {cs} z ow k lv h (Moved c s cl u f i n) =
+step-committed-out {sh} ys {w} {cs} z ow k lv h (Moved c s cl u f i n) =
     rw (i, n) (record { stored = λ m d q l. stored m d l s.commit u.tells.commits q; only = only })
   where
     before : (m : Noted) (d : ℕ) → d < sh.dirs → Contains cs m → told_by (s.sends (Dir d)) m.tid.0 (ys d m.tid.0) ≡ commit_way sh m d
@@ -314,13 +310,9 @@ Later w v = (d : ℕ) → tid_at w d ≤ tid_at v d
 
 pub step-later : (sh : Shape) (p : Program) (w : World) (e : Event) → IfSome (step sh p w e) (λ o. Later w o.world)
 unfolding core_moves core_takes dir_takes dir_asks vendor_gives
-step-later sh p w e = step_cases sh p w e (λ g o. Later w o.world)
-    (λ c l. moved c (core_exec sh p c (w.cores c)))
-    (λ c x y l. moved c (core_evict sh x y (w.cores c)))
-    (λ c k t i d. omega arith)
-    (λ c d k m i. taken c d k (from_dir sh d (w.cores c) m))
-    (λ c d k m i. answered c d k (dir_deliver sh (w.dirs d) c m) (dir-rises sh (w.dirs d) c m))
-    (λ c k i d. omega arith)
+step-later sh p w e = step_cases sh p w e (λ g o. Later w o.world) (λ c l. moved c (core_exec sh p c (w.cores c)))
+    (λ c x y l. moved c (core_evict sh x y (w.cores c))) (λ c k t i d. omega arith) (λ c d k m i. taken c d k (from_dir sh d (w.cores c) m))
+    (λ c d k m i. answered c d k (dir_deliver sh (w.dirs d) c m) (dir-rises sh (w.dirs d) c m)) (λ c k i d. omega arith)
   where
     moved : (c : ℕ) (a : Option Out) → IfSome a (λ o. Later w (core_moves w c o))
     moved c None = tt
@@ -364,10 +356,10 @@ pub record Loads (sh : Shape) (w : World) (c : ℕ) (y : Out) : Type 0 where
   pub loads : LoadsMarked sh y.core
   pub works : Works sh w.dirs y
 
-pub step-loads : (sh : Shape) (p : Program) (w : World) (e : Event) → Kept sh w → KeptCores sh w → KeptLoads sh w
+pub step-loads : {sh : Shape} (p : Program) {w : World} (e : Event) → Kept sh w → KeptCores sh w → KeptLoads sh w
     → IfSome (step sh p w e) (ByCore sh w (Loads sh w) (sent_by sh p w e))
 unfolding pair
-step-loads sh p w e z k h = by_core sh p w e (Loads sh w) z.told.tids
+step-loads {sh} p {w} e z k h = by_core p e (Loads sh w) z.told.tids
     (λ c l. both c (core_exec sh p c (w.cores c)) (loads-exec p c (k c) (h c))
     (exec-works p w.dirs c (k c) (h c) (λ d. (z.probes c d).core)))
     (λ c x y l. quiet c (core_evict sh x y (w.cores c)) (loads-evict sh x y (w.cores c) (h c)) (none-evict sh x y (w.cores c)))

@@ -16,15 +16,14 @@ use proofs.Tids.Commits.{positive-granted}
 use proofs.Tids.TidSteps.{skipped-above}
 use proofs.Ways.ToldSteps.{ByCore, Speaks, step-speaks, step-live-out, step-committed-out, Loads, Later, step-loads, step-later, loads-out}
 use proofs.Ways.ToldSteps.{worked-out}
-use proofs.Ways.WayParts.{parts_in, resolved-split, in-way}
+use proofs.Ways.CoreSkips.{parts_in, resolved-split, in-way}
 use proofs.Ways.WaySteps.{step-ways, start-ways}
 
 -- The ways in which each TID was given to each directory, through every event and along every run.
 pub step-run : {sh : Shape} (p : Program) {gs : List Grant} {ys : Ways} {h : History} (e : Event) → KeptRun sh gs ys h
     → IfSome (recorded h (step sh p h.world e)) (λ g. KeptRun sh (gs ++ granted_by h.world e) (ways_after (sent_by sh p h.world e) ys) g)
-step-run {sh} p {gs} {ys} {h} e k = go (step sh p h.world e) (step-all p e k.all) (step-ways sh p ys h.world e k.all.kept k.ways)
-    (step-speaks p e k.all.kept.told.tids k.all.cores) (step-loads sh p h.world e k.all.kept k.all.cores k.loads)
-    (step-later sh p h.world e)
+step-run {sh} p {gs} {ys} {h} e k = go (step sh p h.world e) (step-all p e k.all) (step-ways p ys e k.all.kept k.ways)
+    (step-speaks p e k.all.kept.told.tids k.all.cores) (step-loads p e k.all.kept k.all.cores k.loads) (step-later sh p h.world e)
   where
     x : Ways
     x = ways_after (sent_by sh p h.world e) ys
@@ -41,8 +40,7 @@ step-run {sh} p {gs} {ys} {h} e k = go (step sh p h.world e) (step-all p e k.all
           all = a;
           ways = w;
           live = step-live-out ys o k.all.kept.told.tids k.all.owners k.ways k.live c a.kept.told.tids a.owners w;
-          committed = step-committed-out ys k.all.kept.told.tids k.all.owners k.ways
-              k.live k.committed c;
+          committed = step-committed-out ys k.all.kept.told.tids k.all.owners k.ways k.live k.committed c;
           loads = loads-out k.loads d;
           worked = worked-out h.commits l k.worked d;
         }
@@ -59,8 +57,7 @@ run_from-ways sh p (e ∷ es) gs ys h k = go (recorded h (step sh p h.world e)) 
 
     go : (a : Option History) → IfSome a (λ g. KeptRun sh (gs ++ granted_by h.world e) x g)
         → ((g : History) → KeptRun sh (gs ++ granted_by h.world e) x g
-        → IfSome (run_from sh p es g)
-        (λ r. KeptRun sh ((gs ++ granted_by h.world e) ++ grants_from sh p es g) (ways_from sh p es x g) r))
+        → IfSome (run_from sh p es g) (λ r. KeptRun sh ((gs ++ granted_by h.world e) ++ grants_from sh p es g) (ways_from sh p es x g) r))
         → IfSome (and_then (run_from sh p es) a)
         (λ r. KeptRun sh (gs ++ then_grants (granted_by h.world e) (grants_from sh p es) a) (then_ways ys (ways_from sh p es x) a) r)
     go None a f = tt
@@ -78,12 +75,10 @@ start-run sh entries ram = record {
 }
 
 pub run-ways : (sh : Shape) (p : Program) (entries : ℕ → Local) (ram : ℕ → ℕ) (es : List Event)
-    → IfSome (run sh p (start entries ram) es)
-    (λ r. KeptRun sh (grants_from sh p es (first_state entries ram))
+    → IfSome (run sh p (start entries ram) es) (λ r. KeptRun sh (grants_from sh p es (first_state entries ram))
     (ways_from sh p es first_ways (first_state entries ram)) r)
 unfolding run
-run-ways sh p entries ram es = run_from-ways sh p es [] first_ways (first_state entries ram)
-    (start-run sh entries ram)
+run-ways sh p entries ram es = run_from-ways sh p es [] first_ways (first_state entries ram) (start-run sh entries ram)
 
 -- what follows from all that is kept holds of every run
 pub told_from : (P : Shape → Ways → History → Type 0)
@@ -103,8 +98,7 @@ unfolding kept_in
 untold-at sh w d t a r h = grind (nats, resolved-split)
 
 pub untold_where_open : AlwaysTold UntoldWhereOpen
-untold_where_open =
-    told_from UntoldWhereOpen
+untold_where_open = told_from UntoldWhereOpen
     (λ sh gs ys h k d t l p. untold-at sh h.world d t (ys d t) (k.all.kept.told.tids.resolved d t l) (k.ways d t l p))
 
 -- a sum that isn't 0 has a summand that isn't
@@ -139,7 +133,7 @@ untold_is_live = told_from UntoldIsLive (λ sh gs ys h k d t l p m e. untold-liv
 fits : (sh : Shape) (w : World) (c d t : ℕ) (y z : Way) → c < sh.cores → 1 ≤ part_in z sh d t (pair w c d) → ResolvedAt sh w d t
     → WayAt sh w d t y → y ≡ z
 unfolding share
-fits sh w c d t y z l p r h = in-way sh w d t y z r h (omega (arith, p, total-le (share (part_in z sh d t) w d) sh.cores c l))
+fits sh w c d t y z l p r h = in-way sh w d t r h (omega (arith, p, total-le (share (part_in z sh d t) w d) sh.cores c l))
 
 kept-way : (sh : Shape) (w : World) (d t : ℕ) (y : Way) → ResolvedAt sh w d t → WayAt sh w d t y → is_skipped (w.dirs d).serving t ≡ true
     → is_given_up y ≡ true
@@ -241,8 +235,7 @@ given-once sh w d t Aborted r h g = omega (arith, h, given-split sh w d t sh.cor
 given-once sh w d t _ r h g = absurd (cc)
 
 pub given_up_once : AlwaysTold GivenUpOnce
-given_up_once =
-    told_from GivenUpOnce (λ sh gs ys h k d t l p g. given-once sh h.world d t (ys d t) (k.all.kept.told.tids.resolved d t l)
+given_up_once = told_from GivenUpOnce (λ sh gs ys h k d t l p g. given-once sh h.world d t (ys d t) (k.all.kept.told.tids.resolved d t l)
     (k.ways d t l p) g)
 
 -- live TIDs

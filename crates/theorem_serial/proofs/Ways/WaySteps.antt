@@ -17,7 +17,7 @@ use proofs.Counts.StepCases.{differ, given, sum_move, sum_grant, sum_back, sum_b
 use proofs.Counts.StepCases.{OfAnswer, sent_cases}
 use proofs.Serving.KeptSteps.{core_of_grant, core_of_back, core_of_out, core_of_ask, once_at}
 use proofs.Tids.CoreTids.{KeepsPart, part-exec, part-evict, part-grant, part-back}
-use proofs.Ways.WayParts.{parts_in, resolved-split, gained, lost, told-moved, told-nothing}
+use proofs.Ways.CoreSkips.{parts_in, resolved-split, gained, lost, told-moved, told-nothing}
 
 -- What a directory keeps as skipped is a TID of which a Skip or an Abort came, and it is owed acknowledgements only for one whose
 -- Commit came.
@@ -125,8 +125,7 @@ way-back sh w e c k d t o y l q r h = told-moved sh w (core_takes w (Dir e) c k 
         ≡ parts_in z sh w d t + gained (o.sends (Dir d)) t z
     sum z (inr n) = sum_back_away (part_in z sh d t) sh.cores w e c k o d (lost (o.sends (Dir d)) t z) (gained (o.sends (Dir d)) t z) n l
         (part-moved sh d t (pair w c d) o q z)
-    sum z (inl n) =
-        subst (λ e. parts_in z sh (core_takes w (Dir e) c k o) d t + lost (o.sends (Dir d)) t z ≡ parts_in z sh w d t + gained
+    sum z (inl n) = subst (λ e. parts_in z sh (core_takes w (Dir e) c k o) d t + lost (o.sends (Dir d)) t z ≡ parts_in z sh w d t + gained
         (o.sends (Dir d)) t z) n
         (sum_back (part_in z sh d t) sh.cores w c k o d (lost (o.sends (Dir d)) t z) (gained (o.sends (Dir d)) t z) l
         (rw (part-taken sh d t k (pair w c d) z) at (part-moved sh d t (back_taken (pair w c d) k) o q z)))
@@ -246,20 +245,18 @@ way-vendor sh w c k d t y l h = go y h
     go m q = omega (arith, q, sum m)
 
 -- every event
-pub step-ways : (sh : Shape) (p : Program) (ys : Ways) (w : World) (e : Event) → Kept sh w → KeptWays sh ys w
+pub step-ways : {sh : Shape} (p : Program) (ys : Ways) {w : World} (e : Event) → Kept sh w → KeptWays sh ys w
     → IfSome (step sh p w e) (λ o. KeptTold sh o.world → KeptWays sh (ways_after (sent_by sh p w e) ys) o.world)
 unfolding pair
-step-ways sh p ys w e z h = sent_cases sh p w e (λ x g o. KeptTold sh o.world → KeptWays sh (ways_after x ys) o.world)
+step-ways {sh} p ys {w} e z h = sent_cases sh p w e (λ x g o. KeptTold sh o.world → KeptWays sh (ways_after x ys) o.world)
     (λ c l. moved c l (core_exec sh p c (w.cores c)) (λ d t x. part-exec sh p c d t (w.cores c) x))
     (λ c a b l. moved c l (core_evict sh a b (w.cores c)) (λ d t x. part-evict sh a b d t (w.cores c)))
     (λ c k u i n d t x y. way-granted sh w c k u d t (grant sh u (w.cores c)) (ys d t) (core_of_grant c k z.told.tids i) i
     (part-grant sh u d t (w.cores c) x (granted_waits (pair w c d) k i (z.told.tids.requests c d))) (z.told.tids.resolved d t x)
-    (h d t x y))
-    (λ c d k m i. taken c d k (core_of_back c d k z.told.tids i) (from_dir sh d (w.cores c) m)
+    (h d t x y)) (λ c d k m i. taken c d k (core_of_back c d k z.told.tids i) (from_dir sh d (w.cores c) m)
     (λ b t x. part-back sh d b t (w.cores c) m x))
     (λ c d k m i. answered c d k m i (dir_deliver sh (w.dirs d) c m) (λ t. dir-heard sh (w.dirs d) c m t (once_at c d k z.told i)))
-    (λ c k i n d t x y. rw (told-nothing t (ys d t))
-    (way-vendor sh w c k d t (ys d t) (core_of_ask c k z.told.tids i) (h d t x y)))
+    (λ c k i n d t x y. rw (told-nothing t (ys d t)) (way-vendor sh w c k d t (ys d t) (core_of_ask c k z.told.tids i) (h d t x y)))
   where
     moved : (c : ℕ) → c < sh.cores → (a : Option Out) → ((d t : ℕ) → d < sh.dirs → IfSome a (λ o. KeepsPart sh d t 0 (w.cores c) o))
         → IfSome a (λ o. KeptTold sh (core_moves w c o) → KeptWays sh (ways_after o.sends ys) (core_moves w c o))
@@ -273,8 +270,7 @@ step-ways sh p ys w e z h = sent_cases sh p w e (λ x g o. KeptTold sh o.world �
 
     dir : (c d k : ℕ) (m : Msg) (s : DirState) (sends : Sends) → FromCore w c d k m → ((t : ℕ) → Heard (w.dirs d) m t s)
         → KeptTold sh (dir_takes w c d k s sends) → KeptWays sh (ways_after nothing ys) (dir_takes w c d k s sends)
-    dir c e k m s sends i u n d t x y =
-        rw (told-nothing t (ys d t))
+    dir c e k m s sends i u n d t x y = rw (told-nothing t (ys d t))
         (way-dir sh w c e k m s sends d t (ys d t) (core_of_out c e k z.told.tids i) i (u t) (z.told.tids.resolved d t x)
         (n.tids.resolved d t x) (h d t x y))
 

@@ -1,4 +1,4 @@
-use Rattle.theorem_serial.proofs.Run.Always.{never_passes}
+use Rattle.theorem_serial.proofs.Run.AllInvariants.{never_passes}
 use Rattle.theorem_serial.proofs.serving_never_passes_an_unresolved_tid.Goals as goal
 
 pub returns : goal.returns
