@@ -17,7 +17,8 @@ pub use Rattle.theorem_serial.proofs.OneCore.OneCoreKept.{evict_one, grant_one, 
 pub use Rattle.theorem_serial.proofs.Run.AllCarried.{runs_are_serial}
 pub use Rattle.theorem_serial.proofs.Run.FactsOfRuns.{runs_carry, runs_stay_in_memory}
 pub use Rattle.theorem_serial.proofs.Run.AllInvariants.{commits_are_by_cores}
-pub use Rattle.theorem_serial.proofs.Serving.OwnerSteps.{run-owners, grant-any}
+pub use Rattle.theorem_serial.proofs.Serving.OwnerSteps.{grant-any}
+pub use Rattle.theorem_serial.proofs.Run.AllInvariants.{run-owners}
 pub use Rattle.theorem_serial.proofs.Tids.Commits.{granted-once, numbered-least, numbered-most, last-most, granted-at, only-one}
 pub use Rattle.theorem_serial.proofs.Tids.CoreTids.{KeepsHolder, none as no_grant, noted_tid, holder-exec, holder-evict, holder-grant}
 pub use Rattle.theorem_serial.proofs.Tids.CoreTids.{holder-back}

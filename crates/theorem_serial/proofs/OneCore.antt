@@ -1,4 +1,13 @@
 -- One core by itself: what each of its rules does to its cache, its attempt and what it asks.
+pub use Said.*
+pub use Outcomes.*
+pub use CoreSteps.*
+pub use UsedWords.*
+pub use WordsKept.*
+pub use CoreReads.*
+pub use CoreCloses.*
+pub use OneCoreKept.*
+pub use CoreAsks.*
 pub mod Said
 pub mod Outcomes
 pub mod CoreSteps

@@ -1,23 +1,21 @@
 -- What a core's events do to the copies of a line: all keep them, but that a commit makes new ones.
-use Rattle.base_lemmas.proofs.Lemmas.{line_of-word_at}
 use Rattle.rules_maps.proofs.Lemmas.{dirty-placed}
 use Rattle.theorem_serial.proofs
 use proofs.Names
-use Names.{committed_core, if◌then◌else◌, modified_mask, words_dropped, dirty-evicted, spilled_mask, any_below-at, commit_sends}
-use Names.{written_mask, read_cleared, is_modified, solo_commit, invalidated, rolled_back, committed, is_written, names_line, core_evict}
-use Names.{CoreState, stores_in, core_exec, any_word, cases_eq, ◌≡◌, from_dir, is_some, word_at, mask_of, Spilled, OneCore, Program}
-use Names.{word_of, line_of, IsCache, cleaned, ◌<◌, nothing, is_solo, Option, commit, IfSome, filled, CopyOf, passes, stored, marked}
+use Names.{line_of-word_at, committed_core, if◌then◌else◌, modified_mask, words_dropped, dirty-evicted, spilled_mask, any_below-at}
+use Names.{commit_sends, written_mask, read_cleared, is_modified, solo_commit, invalidated, rolled_back, committed, is_written, names_line}
+use Names.{core_evict, CoreState, stores_in, core_exec, any_word, cases_eq, ◌≡◌, from_dir, is_some, word_at, mask_of, Spilled, OneCore}
+use Names.{Program, word_of, line_of, IsCache, cleaned, ◌<◌, nothing, Option, commit, IfSome, filled, CopyOf, passes, stored, marked}
 use Names.{placed, false, arith, Shape, lines, Cache, holds, Ready, noted, Words, moves, grant, among, ◌==◌, ◌&&◌, ◌||◌, Bool, true, not}
 use Names.{Some, None, refl, home, sym, ◌∙◌, num, Dir, ◌+◌, ◌≤◌, ◌⊎◌, inl, inr, hit, Msg, Inv, Out, ℕ, nats, ◌≢◌}
 use proofs.Copies.CopySends.{few-masks, commit-copies, solo-copies, solo-wrong, flushed-leaves, back-home-leaves, Conserves}
 use proofs.Copies.CopySends.{conserves-still, conserves-sent, framed-dirty, wrong-copy, IsClean, clean-frame, committed-frame, frame_copy}
 use proofs.Copies.CopySends.{fewer-frame}
 use proofs.Marks.CoreMarks.{holds-found, unspilled, modified-line, modified-stored, written-line, written-stored}
-use proofs.OneCore.Said.{Flushes, Requests, Silent, Unheard, quiet, say}
-use proofs.OneCore.Outcomes.{Commits_now, Did, Ends_alone, Frames, Frames_anew, Given_none, Granted, Hands_out, Heard, Hurt_alone}
-use proofs.OneCore.Outcomes.{Hurt_probing, Hurt_running, Hurt_waiting, Misses_anew, Hurt_none, after_end, after_store, awaiting, each-back}
-use proofs.OneCore.Outcomes.{each-evict, each-exec, each-grant, emptied, granted, granted_said, heard, heard-quiet, heard_said, hears_ack}
-use proofs.OneCore.Outcomes.{message, out, said}
+use proofs.OneCore.{Flushes, Requests, Silent, Unheard, quiet, say, Commits_now, Did, Ends_alone, Frames, Frames_anew, Given_none, Granted}
+use proofs.OneCore.{Hands_out, Heard, Hurt_alone, Hurt_probing, Hurt_running, Hurt_waiting, Misses_anew, Hurt_none, after_end, after_store}
+use proofs.OneCore.{awaiting, each-back, each-evict, each-exec, each-grant, emptied, granted, granted_said, heard, heard-quiet, heard_said}
+use proofs.OneCore.{hears_ack, message, out, said}
 
 -- A commit makes one copy of each line that it stored, with its TID and of the stored words: in the frame, or sent from the overflow
 -- buffer.
@@ -26,13 +24,13 @@ unfolding commit committed_core committed noted names_line
 ready-copies sh l id u s e h =
     let x = committed-frame (committed u s.cache) l u h.words.cache (λ k i. refl) in
     let z : (t : ℕ) → num (is_modified s.cache l && u == t) ≡ num (names_line sh.base s.stores l && u == t) =
-    λ t. rw (modified-line sh.base s.cache s.stores l (unspilled sh s.cache s.spilled s.stores (rw e at h.words))) refl in
+    λ t. rw (modified-line sh.base s.cache s.stores l (unspilled sh s.cache s.spilled s.stores (rw e at h.words))) in
     let y : (t m : ℕ) → num ((is_modified s.cache l && u == t) && not (modified_mask s.cache l == m)) ≡ num
     ((names_line sh.base s.stores l && u == t) && not (stores_in sh.base s.stores l == m)) =
     λ t m. rw (
       modified-line sh.base s.cache s.stores l (unspilled sh s.cache s.spilled s.stores (rw e at h.words)),
       modified-stored sh.base s.cache s.stores l (unspilled sh s.cache s.spilled s.stores (rw e at h.words)),
-    ) refl in
+    ) in
     record {
       copies = λ t. omega (arith, x.0 t, z t, commit-copies sh s.cache u l t (home sh l));
       wrong =
@@ -51,7 +49,7 @@ none-held sp l e k i = go (sp (word_at l k)) refl
   where
     go : (a : Option ℕ) → sp (word_at l k) ≡ a → sp (word_at l k) ≡ None
     go None q = q
-    go (Some x) q = absurd (let a = any_below-at (λ k. is_some (sp (word_at l k))) 8 k i (rw q refl) in cc)
+    go (Some x) q = absurd (let a = any_below-at (λ k. is_some (sp (word_at l k))) 8 k i (rw q) in cc)
 
 -- of a line without spilled words the written ones are the modified ones, and of one with some they are the spilled ones
 unspilled-mask : (c : Cache) (sp : Spilled) (l : ℕ) → ((k : ℕ) → k < 8 → sp (word_at l k) ≡ None) → written_mask c sp l ≡ modified_mask c l
@@ -75,7 +73,7 @@ unspilled-mask c sp l h =
       or-none (c.modified (word_at l 5)),
       or-none (c.modified (word_at l 6)),
       or-none (c.modified (word_at l 7)),
-    ) refl)
+    ))
   where
     or-none : (b : Bool) → (b || false) ≡ b
     or-none a = grind nats
@@ -93,7 +91,7 @@ spilled-only c sp l h =
       h 5 (omega arith),
       h 6 (omega arith),
       h 7 (omega arith),
-    ) refl
+    )
 
 pub alone-copies : {sh : Shape} {b : Bool} (l id u : ℕ) (s : CoreState) → l < lines sh → home sh l < sh.dirs
     → Words sh b s.cache s.spilled s.stores → Conserves sh l s (solo_commit sh id u s)
@@ -109,33 +107,32 @@ alone-copies {sh} {b} l id u s i j h = go (holds s.spilled l) refl
     mask : stores_in sh.base s.stores l ≡ written_mask s.cache s.spilled l
     mask = written-stored sh.base s.cache s.spilled s.stores l h.named
 
-    or-last : (a c : Bool) → c ≡ true → (a || c) ≡ true
-    or-last a c e = grind nats
+    or-last : (a : Bool) {c : Bool} → c ≡ true → (a || c) ≡ true
+    or-last a e = grind nats
 
-    or-none : (a c : Bool) → c ≡ false → (a || c) ≡ a
-    or-none a c e = grind nats
+    or-none : (a : Bool) {c : Bool} → c ≡ false → (a || c) ≡ a
+    or-none a e = grind nats
 
     go : (b : Bool) → holds s.spilled l ≡ b → Conserves sh l s (solo_commit sh id u s)
     go false q =
         let none = none-held s.spilled l q in
-        let x = committed-frame after l u h.cache (λ k i. rw (none k i) refl) in
-        let m : is_modified s.cache l ≡ names_line sh.base s.stores l = sym (or-none (is_modified s.cache l) (holds s.spilled l) q)
-        ∙ line in
+        let x = committed-frame after l u h.cache (λ k i. rw (none k i)) in
+        let m : is_modified s.cache l ≡ names_line sh.base s.stores l = sym (or-none (is_modified s.cache l) q) ∙ line in
         let n : modified_mask s.cache l ≡ stores_in sh.base s.stores l = sym (unspilled-mask s.cache s.spilled l none) ∙ sym mask in
         record {
-          copies = λ t. (let y : num (holds s.spilled l && u == t) ≡ 0 = rw q refl in
-              let z : num (is_modified s.cache l && u == t) ≡ num (names_line sh.base s.stores l && u == t) = rw m refl in
+          copies = λ t. (let y : num (holds s.spilled l && u == t) ≡ 0 = rw q in
+              let z : num (is_modified s.cache l && u == t) ≡ num (names_line sh.base s.stores l && u == t) = rw m in
               omega (arith, x.0 t, y, z, solo-copies sh s.cache s.spilled u l t i j));
-          wrong = λ t k. (let y : num ((holds s.spilled l && u == t) && not (spilled_mask s.spilled l == k)) ≡ 0 = rw q refl in
+          wrong = λ t k. (let y : num ((holds s.spilled l && u == t) && not (spilled_mask s.spilled l == k)) ≡ 0 = rw q in
               let z : num ((is_modified s.cache l && u == t) && not (modified_mask s.cache l == k)) ≡ num
-              ((names_line sh.base s.stores l && u == t) && not (stores_in sh.base s.stores l == k)) = rw (m, n) refl in
+              ((names_line sh.base s.stores l && u == t) && not (stores_in sh.base s.stores l == k)) = rw (m, n) in
               omega (arith, x.1 t k, y, z, solo-wrong sh s.cache s.spilled u l t k i j));
         }
     go true q = alone (holds-found s.spilled l q)
       where
         alone : (k : ℕ) × (k < 8) × (is_some (s.spilled (word_at l k)) ≡ true) → Conserves sh l s (solo_commit sh id u s)
         alone v = record {
-          copies = λ t. (let z : num (holds s.spilled l && u == t) ≡ num (names_line sh.base s.stores l && u == t) = rw (q, stored) refl in
+          copies = λ t. (let z : num (holds s.spilled l && u == t) ≡ num (names_line sh.base s.stores l && u == t) = rw (q, stored) in
               omega (
                 arith,
                 clean-frame s.cache l (λ k i. (words k i).1) t,
@@ -144,7 +141,7 @@ alone-copies {sh} {b} l id u s i j h = go (holds s.spilled l) refl
                 solo-copies sh s.cache s.spilled u l t i j,
               ));
           wrong = λ t k. (let z : num ((holds s.spilled l && u == t) && not (spilled_mask s.spilled l == k)) ≡ num
-              ((names_line sh.base s.stores l && u == t) && not (stores_in sh.base s.stores l == k)) = rw (q, stored, n) refl in
+              ((names_line sh.base s.stores l && u == t) && not (stores_in sh.base s.stores l == k)) = rw (q, stored, n) in
               omega (
                 arith,
                 clean-frame s.cache l (λ k i. (words k i).1) t,
@@ -168,7 +165,7 @@ alone-copies {sh} {b} l id u s i j h = go (holds s.spilled l) refl
                 (words k i).0 (words k i).1
 
             stored : names_line sh.base s.stores l ≡ true
-            stored = sym line ∙ or-last (is_modified s.cache l) (holds s.spilled l) q
+            stored = sym line ∙ or-last (is_modified s.cache l) q
 
             n : spilled_mask s.spilled l ≡ stores_in sh.base s.stores l
             n = sym (spilled-only s.cache s.spilled l (λ k i. (words k i).0)) ∙ sym mask
@@ -219,7 +216,7 @@ copies-evict sh l x y s = each-evict sh x y s (Conserves sh l s)
 -- a word of another line isn't hit
 pub missed : (k m l w : ℕ) → line_of w ≡ l → k ≢ l → hit k m w ≡ false
 unfolding hit
-missed k m l w e n = let z : (k == line_of w) ≡ false = rw e (grind nats) in rw z refl
+missed k m l w e n = let z : (k == line_of w) ≡ false = rw e (grind nats) in rw z
 
 pub copies-grant : (sh : Shape) (l u : ℕ) (s : CoreState) → Conserves sh l s (grant sh u s)
 unfolding passes
@@ -262,7 +259,7 @@ copies-back sh l e s m h = each-back sh e s (BackStep sh l s) go m
         → ((v : ℕ) → (heard x).core.cache.dirty v ≡ (invalidated k m s.cache).dirty v)
         → ((t : ℕ) → among (CopyOf l t) ((heard x).sends (Dir (home sh l))) ≡ 0) → BackStep sh l s (Inv k m u) (heard x)
     hurt k m u x n f told = elim (cases_eq k l) [
-      | inl q ↦ Invalidates m u (rw q refl) n
+      | inl q ↦ Invalidates m u (rw q) n
           (λ t. omega (arith, told t, fewer-frame sh s.cache (heard x).core.cache l h (λ j i. rw (f (word_at l j)) (here k m j i)) t))
       | inr q ↦ Kept (conserves-still sh l s (heard x) n (λ j i. f (word_at l j) ∙ away k m q j i) told)
     ]

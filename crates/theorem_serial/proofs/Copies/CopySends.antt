@@ -1,17 +1,16 @@
 -- The dirty words in frames, the copies of a line among what a core sends, and what its instructions and evictions do to them.
-use Rattle.base_lemmas.proofs.Lemmas.{line_of-word_at, unheld-clean}
 use Rattle.rules_tcc.specs.Sends.{write_back_of}
 use Rattle.rules_maps.proofs.Lemmas.{dirty-placed}
 use Rattle.theorem_serial.proofs
 use proofs.Names
-use Names.{ℕ, ◌+◌, ◌≡◌, ◌<◌, ◌≤◌, ◌⊎◌, ◌==◌, ◌&&◌, ◌||◌, Bool, true, false, not, Option, Some, None, is_some, unwrap_or, if◌then◌else◌}
-use Names.{arith, refl, sym, ◌∙◌, inl, inr, num, any_below, any_word, word_at, or_else, mask_of, Shape, Cache, IsCache, is_dirty}
-use Names.{is_modified, dirty_tag, dirty_mask, modified_mask, first_of_line, any_below-found, any_below-at, nats, zero, suc, cond, List, []}
-use Names.{◌∷◌, ◌++◌, nat_lt, flat_map, flat_map-append, those, count_below, Dir, Msg, Skip, Mark, Commit, WriteBack, Flush, home, lines}
-use Names.{dirty_words, dirty_copy, Spilled, holds, spilled_mask, spilled_words, commit_sends, solo_sends, solo_marks_or_skip}
-use Names.{solo_write_backs, solo_writes_at, is_written, written_mask, to, flush_of, flush_line, write_back_line, CopyOf, CopyMask, among}
-use Names.{passes, stored, cases_eq, Noted, line_of, placed, CoreState, Out, stores_in, names_line, ◌≢◌, tested}
-use proofs.Counts.Links.{among-append, among-flat_map_none}
+use Names.{line_of-word_at, unheld-clean, ℕ, ◌+◌, ◌≡◌, ◌<◌, ◌≤◌, ◌⊎◌, ◌==◌, ◌&&◌, ◌||◌, Bool, true, false, not, Option, Some, None, is_some}
+use Names.{unwrap_or, if◌then◌else◌, arith, refl, sym, ◌∙◌, inl, inr, num, any_below, any_word, word_at, or_else, mask_of, Shape, Cache}
+use Names.{IsCache, is_dirty, is_modified, dirty_tag, dirty_mask, modified_mask, first_of_line, any_below-found, any_below-at, nats, zero}
+use Names.{suc, cond, List, [], ◌∷◌, ◌++◌, nat_lt, flat_map, flat_map-append, those, count_below, Dir, Msg, Skip, Mark, Commit, WriteBack}
+use Names.{Flush, home, lines, dirty_words, dirty_copy, Spilled, holds, spilled_mask, spilled_words, commit_sends, solo_sends}
+use Names.{solo_marks_or_skip, solo_write_backs, solo_writes_at, is_written, written_mask, to, flush_of, flush_line, write_back_line}
+use Names.{CopyOf, CopyMask, among, passes, stored, cases_eq, Noted, line_of, placed, CoreState, Out, stores_in, names_line, ◌≢◌, tested}
+use proofs.Counts.{among-append, among-flat_map_none}
 
 -- The copies of a line in a core's frame, by the dirty words of the line.
 
@@ -46,7 +45,7 @@ same-dirty c e l h = (
     h 5 (omega arith),
     h 6 (omega arith),
     h 7 (omega arith),
-  ) refl,
+  ),
   rw (
     h 0 (omega arith),
     h 1 (omega arith),
@@ -56,7 +55,7 @@ same-dirty c e l h = (
     h 5 (omega arith),
     h 6 (omega arith),
     h 7 (omega arith),
-  ) refl,
+  ),
   rw (
     h 0 (omega arith),
     h 1 (omega arith),
@@ -66,13 +65,13 @@ same-dirty c e l h = (
     h 5 (omega arith),
     h 6 (omega arith),
     h 7 (omega arith),
-  ) refl,
+  ),
 )
 
 pub same-frame : (c e : Cache) (l : ℕ) → SameDirty c e l → ((t : ℕ) → frame_copy e l t ≡ frame_copy c l t)
     × ((t n : ℕ) → frame_wrong e l t n ≡ frame_wrong c l t n)
 unfolding frame_copy frame_wrong
-same-frame c e l h = let x = same-dirty c e l h in (λ t. rw (x.0, x.1) refl, λ t n. rw (x.0, x.1, x.2) refl)
+same-frame c e l h = let x = same-dirty c e l h in (λ t. rw (x.0, x.1), λ t n. rw (x.0, x.1, x.2))
 
 clean-dirty : (c : Cache) (l : ℕ) → IsClean c l → is_dirty c l ≡ false
 unfolding is_dirty any_word any_below
@@ -85,11 +84,11 @@ clean-dirty c l h = rw (
   h 5 (omega arith),
   h 6 (omega arith),
   h 7 (omega arith),
-) refl
+)
 
 pub clean-frame : (c : Cache) (l : ℕ) → IsClean c l → (t : ℕ) → frame_copy c l t ≡ 0
 unfolding frame_copy
-clean-frame c l h t = rw (clean-dirty c l h) refl
+clean-frame c l h t = rw (clean-dirty c l h)
 
 -- a dirty line has a word with its tag
 pub dirty-found : (c : Cache) (l : ℕ) → is_dirty c l ≡ true → (k : ℕ) × (k < 8) × (c.dirty (word_at l k) ≡ Some (dirty_tag c l))
@@ -119,7 +118,7 @@ dirty-found c l h = go (c.dirty (word_at l 0)) (c.dirty (word_at l 1)) (c.dirty 
 
 pub some-dirty : (c : Cache) (l k t : ℕ) → k < 8 → c.dirty (word_at l k) ≡ Some t → is_dirty c l ≡ true
 unfolding is_dirty any_word
-some-dirty c l k t i e = any_below-at (λ k. is_some (c.dirty (word_at l k))) 8 k i (rw e refl)
+some-dirty c l k t i e = any_below-at (λ k. is_some (c.dirty (word_at l k))) 8 k i (rw e)
 
 -- the tag of a word that is dirty is that of its line
 pub tag-of : {sh : Shape} {c : Cache} (l k t : ℕ) → IsCache sh c → k < 8 → c.dirty (word_at l k) ≡ Some t → dirty_tag c l ≡ t
@@ -179,7 +178,7 @@ dirty-modified c e l u h = (
     one 5 (omega arith),
     one 6 (omega arith),
     one 7 (omega arith),
-  ) refl,
+  ),
   rw (
     one 0 (omega arith),
     one 1 (omega arith),
@@ -189,7 +188,7 @@ dirty-modified c e l u h = (
     one 5 (omega arith),
     one 6 (omega arith),
     one 7 (omega arith),
-  ) refl,
+  ),
 )
   where
     of : (b : Bool) → is_some (if b then Some u else None) ≡ b
@@ -247,7 +246,7 @@ pub record Leaves (l k : ℕ) (c : Cache) (ms : List Msg) : Type 0 where
 leaves-none : (l k : ℕ) (c : Cache) → is_dirty c k ≡ false → Leaves l k c []
 unfolding frame_copy frame_wrong among
 leaves-none l k c q = record {
-  same = λ e. let z : is_dirty c l ≡ false = rw e at q in (λ t. rw z refl, λ t n. rw z refl);
+  same = λ e. let z : is_dirty c l ≡ false = rw e at q in (λ t. rw z, λ t n. rw z);
   other = λ e t. refl;
 }
 
@@ -258,7 +257,7 @@ unfolding frame_copy frame_wrong among
 leaves-one {l} {k} {c} m q f g = record {
   same = λ e. let z : is_dirty c l ≡ true = rw e at q in let y : (l == l) ≡ true = grind nats in
       (λ t. rw (f t, e, z, y) (omega arith), λ t n. rw (g t n, e, z, y) (omega arith));
-  other = λ e t. let y : (k == l) ≡ false = grind nats in rw (f t, y) refl;
+  other = λ e t. let y : (k == l) ≡ false = grind nats in rw (f t, y);
 }
 
 flush-leaves : (l k : ℕ) (c : Cache) → Leaves l k c (flush_of (dirty_copy c k))
@@ -338,7 +337,7 @@ solo-copies sh c sp u l t i h = go (nat_lt (home sh l) sh.dirs) (grind nats) (so
         (flat_map (λ k. WriteBack k (spilled_mask sp k) (spilled_words sp k) u ∷ []) (those (λ k. d == home sh k && holds sp k) (lines sh)))
         ≡ num (holds sp l && u == t)
     backs = let a : nat_lt l (lines sh) ≡ true = grind nats in let b : (home sh l == home sh l) ≡ true =
-        grind nats in one-back (λ k. d == home sh k && holds sp k) (spilled_mask sp) (spilled_words sp) u t l (lines sh) ∙ rw (a, b) refl
+        grind nats in one-back (λ k. d == home sh k && holds sp k) (spilled_mask sp) (spilled_words sp) u t l (lines sh) ∙ rw (a, b)
 
     marks : among (CopyOf l t)
         (flat_map (λ k. Mark k (written_mask c sp k) u ∷ []) (those (λ k. d == home sh k && is_written c sp k) (lines sh))) ≡ 0
@@ -366,8 +365,7 @@ solo-wrong sh c sp u l t m i h = go (nat_lt (home sh l) sh.dirs) (grind nats) (s
         (flat_map (λ k. WriteBack k (spilled_mask sp k) (spilled_words sp k) u ∷ []) (those (λ k. d == home sh k && holds sp k) (lines sh)))
         ≡ num ((holds sp l && u == t) && not (spilled_mask sp l == m))
     backs = let a : nat_lt l (lines sh) ≡ true = grind nats in let b : (home sh l == home sh l) ≡ true =
-        grind nats in wrong-back (λ k. d == home sh k && holds sp k) (spilled_mask sp) (spilled_words sp) u t l m (lines sh)
-        ∙ rw (a, b) refl
+        grind nats in wrong-back (λ k. d == home sh k && holds sp k) (spilled_mask sp) (spilled_words sp) u t l m (lines sh) ∙ rw (a, b)
 
     marks : among (CopyMask l t m)
         (flat_map (λ k. Mark k (written_mask c sp k) u ∷ []) (those (λ k. d == home sh k && is_written c sp k) (lines sh))) ≡ 0
@@ -421,16 +419,16 @@ pub conserves-sent : (sh : Shape) {l k : ℕ} (s : CoreState) (o : Out) → o.co
 conserves-sent sh {l} {k} s o e h y = elim (cases_eq k l) [
   | inl q ↦ let x = y.same q in
       let z : (k == l) ≡ true = grind nats in
-      let f : (t : ℕ) → frame_copy o.core.cache l t ≡ 0 = clean-frame o.core.cache l (λ i j. at-line i j true z) in record {
+      let f : (t : ℕ) → frame_copy o.core.cache l t ≡ 0 = clean-frame o.core.cache l (λ i j. at-line i j z) in record {
         copies = λ t. rw e (omega (arith, f t, x.0 t));
         wrong = λ t m. rw e (omega (arith, f t, wrong-copy o.core.cache l t m, x.1 t m));
       }
-  | inr q ↦ let z : (k == l) ≡ false = grind nats in conserves-still sh l s o e (λ i j. at-line i j false z) (y.other q)
+  | inr q ↦ let z : (k == l) ≡ false = grind nats in conserves-still sh l s o e (λ i j. at-line i j z) (y.other q)
 ]
   where
-    at-line : (i : ℕ) → i < 8 → (b : Bool) → (k == l) ≡ b
+    at-line : (i : ℕ) → i < 8 → {b : Bool} → (k == l) ≡ b
         → o.core.cache.dirty (word_at l i) ≡ (if b then None else s.cache.dirty (word_at l i))
-    at-line i j b q = let z : line_of (word_at l i) ≡ l = line_of-word_at l i j in h (word_at l i) ∙ rw (z, q) refl
+    at-line i j q = let z : line_of (word_at l i) ≡ l = line_of-word_at l i j in h (word_at l i) ∙ rw (z, q)
 
 -- nor after a store into it
 pub framed-dirty : {sh : Shape} (w x : ℕ) {c : Cache} → IsCache sh c → c.held (line_of w) ≡ false → (v : ℕ)

@@ -6,18 +6,17 @@ use Names.{ℕ, ◌+◌, ◌≡◌, ◌<◌, ◌≤◌, ◌==◌, false, List, O
 use Names.{Shape, home, lines, World, Out, core_moves, History, and_noted, insert_commit, KeptTags, KeptLineOwners, Commits, live, among}
 use Names.{KeptRun, Grant, times, Pair, pair, after_move, share, part, Ways, part_in, nats, to_dir, true, [], Local, any_below, any_word}
 use Names.{Cache, empty_cache, is_dirty, dirty_tag, dirty_mask, no_lines, start, core_start, dir_start, copies_with, AboveOf, KeptAbove}
-use Names.{OwnedOf, KeptOwned, wrote, wrote_line, wrote_mask, ◌≢◌}
-use proofs.Serving.CommitSteps.{ofs-resolve}
+use Names.{OwnedOf, KeptOwned, wrote, wrote_line, ◌≢◌}
+use proofs.Serving.{ofs-resolve}
 use proofs.Marks.AfterKept.{AfterStep}
 use proofs.Copies.CopySends.{Conserves, frame_copy, frame_wrong}
 use proofs.Ways.CoreSkips.{TellsCommit}
 use proofs.Copies.CopyRules.{InMemory}
 use proofs.Copies.TagsKept.{untagged, stored-home}
-use proofs.Counts.Links.{total-le}
-use proofs.Tids.Commits.{positive-held}
+use proofs.Counts.{total-le, either, moves-own, moves-other}
+use proofs.Tids.{positive-held}
 use proofs.Copies.WroteLines.{uncommitted, commit-sent, few-resolves, SameWrote, wrote-other}
 use proofs.Copies.PairCopies.{LineCopies, copies-moved, NewCommit, copies-committed, line_copies, line_wrong}
-use proofs.Counts.StepCases.{either, moves-own, moves-other}
 use proofs.Ways.ToldSteps.{Speaks}
 
 -- Every event keeps the copies of each line in memory: the owner's one with the line's tag, and those of commits on their way with a
@@ -64,10 +63,10 @@ new-of {sh} {h} {c} {d} l {o} {n} b cl dl ll e q r u = record {
 }
   where
     tells : TellsCommit sh (h.world.cores c) o n
-    tells = of o.commit q u.tells.commits
+    tells = of q u.tells.commits
       where
-        of : (a : Option Noted) → a ≡ Some n → IfSome a (TellsCommit sh (h.world.cores c) o) → TellsCommit sh (h.world.cores c) o n
-        of a e y = rw e at y
+        of : {a : Option Noted} → a ≡ Some n → IfSome a (TellsCommit sh (h.world.cores c) o) → TellsCommit sh (h.world.cores c) o n
+        of e y = rw e at y
 
     fresh : times n.tid.0 h.commits ≡ 0
     fresh = uncommitted c n.tid.0 b.told cl tells.has
@@ -113,7 +112,7 @@ own-lines {sh} h c d o b a l cl dl ll e = go a.after
 more-lines : {base : ℕ} (n : Noted) {cs : List Noted} (j l : ℕ) {v : Pair} → (n.core.0 == j) ≡ false → LineCopies base cs j l v
     → LineCopies base (insert_commit n cs) j l v
 more-lines {base} n {cs} j l e h =
-    let same : (t : ℕ) → SameWrote base cs (insert_commit n cs) j t l = λ t. wrote-other base n cs j t l (rw e refl) in
+    let same : (t : ℕ) → SameWrote base cs (insert_commit n cs) j t l = λ t. wrote-other base n cs j t l (rw e) in
     record { owned = h.owned; above = λ t i. rw (same t).line (h.above t i); masks = λ t i. rw (same t).mask (h.masks t i) }
 
 other-lines : (sh : Shape) (h : History) (c j d : ℕ) (o : Out) → j ≢ c → KeptLines sh h.commits h.world
@@ -168,7 +167,7 @@ clean l = refl
 pub start-lines : (sh : Shape) (entries : ℕ → Local) (ram : ℕ → ℕ) → KeptLines sh [] (start entries ram)
 unfolding start core_start dir_start no_lines pair line_copies line_wrong frame_copy frame_wrong live
 start-lines sh entries ram c d l cl dl ll e = record {
-  owned = rw (clean l) refl;
-  above = λ t i. rw (clean l, no-line sh.base c t l) refl;
-  masks = λ t i. rw (clean l) refl;
+  owned = rw (clean l);
+  above = λ t i. rw (clean l, no-line sh.base c t l);
+  masks = λ t i. rw (clean l);
 }

@@ -1,13 +1,12 @@
 -- Every event keeps the copies of each line in memory, each kind of event by itself.
-use Rattle.base_lemmas.proofs.Lemmas.{eq-self}
 use Rattle.theorem_serial.proofs
 use proofs.Names
-use Names.{ℕ, ◌%◌, ◌≡◌, ◌<◌, ◌≤◌, ◌⊎◌, ◌==◌, Bool, true, false, not, cond, List, Option, Some, None, arith, refl, ap, sym, ◌∙◌, inl, inr}
-use Names.{cases_lt, Noted, num, Core, Dir, Msg, Inv, Shape, home, lines, Out, History, Commits, InvsAway, live, among, passes, Grant, Pair}
-use Names.{pair, after_move, Ways, wrote_line, ◌+◌, ◌&&◌, nat_lt, [], Contains, subst, cases_eq, has_mark, DirState, Sends, dir_takes}
-use Names.{dir_asks, CopyOf, after_answer, out_taken, is_applied, names_line, IfSome, Program, Vendor, Event, core_exec, core_evict}
-use Names.{from_dir, grant, Answer, Waits, Drops, Asks, Takes, dir_deliver, core_moves, core_takes, and_noted, step, grant_taken}
-use Names.{back_taken, after_grant, after_other_grant, is_this, nats, tid_at, to_dir, to_core, FromCore, FromDir, ◌≢◌, tested}
+use Names.{eq-self, ℕ, ◌%◌, ◌≡◌, ◌<◌, ◌≤◌, ◌⊎◌, ◌==◌, Bool, true, false, not, cond, List, Option, Some, None, arith, refl, ap, sym, ◌∙◌}
+use Names.{inl, inr, cases_lt, Noted, num, Core, Dir, Msg, Inv, Shape, home, lines, Out, History, Commits, InvsAway, live, among, passes}
+use Names.{Grant, Pair, pair, after_move, Ways, wrote_line, ◌+◌, ◌&&◌, nat_lt, [], Contains, subst, cases_eq, has_mark, DirState, Sends}
+use Names.{dir_takes, dir_asks, CopyOf, after_answer, out_taken, is_applied, names_line, IfSome, Program, Vendor, Event, core_exec}
+use Names.{core_evict, from_dir, grant, Answer, Waits, Drops, Asks, Takes, dir_deliver, core_moves, core_takes, and_noted, step}
+use Names.{grant_taken, back_taken, after_grant, after_other_grant, is_this, nats, tid_at, to_dir, to_core, FromCore, FromDir, ◌≢◌, tested}
 use proofs.Copies.PairCopies.{Answered, none-passes, still-similar, dropped-similar, came-similar, similar-copies, taken-copies}
 use proofs.Copies.PairCopies.{line_copies, LineCopies, copies-moved, copies-lost}
 use proofs.Copies.CopyRules.{BackStep, Kept, Invalidates, InMemory, copies-exec, copies-evict, copies-grant, copies-back}
@@ -15,16 +14,11 @@ use proofs.Copies.CopySends.{Conserves}
 use proofs.Copies.LinesKept.{Before, CopiesAt, KeptLines, moved-lines}
 use proofs.Copies.TagsKept.{inv-tag, tag-below, stored-home, stored-in, TakenCommit, taken-commit, Invalidating}
 use proofs.Copies.WroteLines.{on-its-way, wrote-listed, no-writer}
-use proofs.Counts.Links.{live-takes}
-use proofs.Counts.StepCases.{differ, pairs_dir, pairs_asks, pairs_grant, pairs_back, pairs_vendor, OfAnswer, step_cases}
+use proofs.Counts.{live-takes, differ, pairs_dir, pairs_asks, pairs_grant, pairs_back, pairs_vendor, OfAnswer, step_cases}
 use proofs.Marks.AfterKept.{AfterStep, Stays as AfterStays, after-exec, after-evict, after-grant, after-back}
 use proofs.Marks.DirRecords.{RecordStays, Records, Still, Came, Settles, Dropped, RecordsBy, dir-records, CountsMarked}
-use proofs.Serving.CoreDue.{CommitsNoted, noted-exec, noted-evict, noted-grant, noted-back}
-use proofs.Serving.CommitSteps.{commits_served}
-use proofs.Serving.KeptSteps.{core_of_back}
-use proofs.Tids.Commits.{positive-committed}
-use proofs.Tids.CoreTids.{KeepsPart, part-exec, part-evict}
-use proofs.Tids.TidSteps.{live-some}
+use proofs.Serving.{CommitsNoted, noted-exec, noted-evict, noted-grant, noted-back, commits_served, core_of_back}
+use proofs.Tids.{positive-committed, KeepsPart, part-exec, part-evict, live-some}
 use proofs.Ways.CoreSkips.{Tells, tells-exec, tells-evict}
 use proofs.Ways.ToldSteps.{speaks}
 
@@ -34,12 +28,12 @@ use proofs.Ways.ToldSteps.{speaks}
 pub kept-copies : {base : ℕ} {cs : List Noted} {c l : ℕ} {v : Pair} (w : Pair) → w.core ≡ v.core → w.dir ≡ v.dir → w.out ≡ v.out
     → LineCopies base cs c l v → LineCopies base cs c l w
 kept-copies {v} w e f g = similar-copies v w (record {
-  cache = rw e refl;
-  tag = rw f refl;
-  owned = rw (f, g) refl;
-  copies = λ t i. rw g refl;
+  cache = rw e;
+  tag = rw f;
+  owned = rw (f, g);
+  copies = λ t i. rw g;
   wrong = λ t m. rw g (omega arith);
-  commits = λ t i. rw g refl;
+  commits = λ t i. rw g;
 })
 
 -- no Commit of a TID above the served one is in flight
@@ -84,7 +78,7 @@ inv-home : {sh : Shape} {gs : List Grant} {ys : Ways} (h : History) (c e k l m u
 unfolding pair passes
 inv-home {sh} h c e k l m u b i = elim (tested (home sh l == e)) [
   | inl q ↦ grind nats
-  | inr q ↦ absurd (let n : num (not ((l % sh.dirs) == e)) ≡ 1 = rw q refl in
+  | inr q ↦ absurd (let n : num (not ((l % sh.dirs) == e)) ≡ 1 = rw q in
       omega (
         arith,
         n,
@@ -159,7 +153,7 @@ one-commit sh gs ys h c d l b dl ll e t s =
 
 pub commit-passes : (sh : Shape) (s : DirState) (m : Msg) (x : ℕ) → CountsMarked sh s m → passes (Commits x) m ≡ (s.serving.serving == x)
 unfolding passes
-commit-passes sh s m x q = rw q refl
+commit-passes sh s m x q = rw q
 
 -- the directory's answer as core j sees it; mine: the message was j's
 answer-lines : (sh : Shape) {gs : List Grant} {ys : Ways} (h : History) {c : ℕ} (d k j l : ℕ) {mine : Bool} (m : Msg) {s : DirState}
@@ -174,14 +168,14 @@ answer-lines sh h {c} d k j l m {s} w b i z jl dl ll e a (Came x p o g f n) = si
 answer-lines sh {gs} {ys} h {c} d k j l {mine} m w b i z jl dl ll e a (Settles q g f n) = elim
     (tested (has_mark (h.world.dirs d).lines l)) [
       | inr r ↦ similar-copies (pair h.world j d) w
-          (still-similar sh.base h.commits j l a (g l ∙ rw r refl) (f l ∙ rw r refl) (λ x o. n l x) (quiet r)) (b.lines j d l jl dl ll e)
+          (still-similar sh.base h.commits j l a (g l ∙ rw r) (f l ∙ rw r) (λ x o. n l x) (quiet r)) (b.lines j d l jl dl ll e)
       | inl r ↦ taken-copies c u j l w (record {
         cache = a.cache;
-        tag = ap (λ x. x.lines.tag l) a.dir ∙ g l ∙ rw r refl;
+        tag = ap (λ x. x.lines.tag l) a.dir ∙ g l ∙ rw r;
         old = tag-below sh h c d l (on-its-way sh gs ys h b.told) b.tags dl ll e
             (rw (sym t.settled.tid) (positive-committed t.settled.commit b.told.all.owners t.settled.noted))
             (λ x o y. ap (λ n. n.core.0) (t.only x o (sym y)) ∙ t.core) t.sent;
-        owner = ap (λ x. x.lines.owner l) a.dir ∙ f l ∙ rw r refl;
+        owner = ap (λ x. x.lines.owner l) a.dir ∙ f l ∙ rw r;
         copies = λ x. (let y = none-passes mine (CopyOf l x) m (n l x) in omega (arith, y, a.lives (CopyOf l x)));
         writer = writer r (cases_eq j c);
         before = λ x o. none-later j d x b jl dl o;
@@ -201,7 +195,7 @@ answer-lines sh {gs} {ys} h {c} d k j l {mine} m w b i z jl dl ll e a (Settles q
     quiet r x y = which (j == c) (u == x) refl refl z
       where
         which : (p v : Bool) → (j == c) ≡ p → (u == x) ≡ v → p ≡ mine → num (mine && passes (Commits x) m) ≡ 0
-        which false v e0 e1 e2 = rw (sym e2) refl
+        which false v e0 e1 e2 = rw (sym e2)
         which true false e0 e1 e2 = none-passes mine (Commits x) m (commit-passes sh (h.world.dirs d) m x q ∙ e1)
         which true true e0 e1 e2 = absurd (let v : j ≡ c = grind nats in let y' : u ≡ x = grind nats in
             let o : wrote_line sh.base h.commits c u l ≡ true = rw (v, sym y') at y in let p = writer-line h l ll e t in cc)
@@ -213,7 +207,7 @@ answer-lines sh {gs} {ys} h {c} d k j l {mine} m w b i z jl dl ll e a (Settles q
         let n : live (Commits u) (to_dir h.world j d) ≡ 1 = rw x (one-commit sh gs ys h c d l b dl ll e t (marked-line h l ll e t ∙ r)) in
         let p : (c == j) ≡ true = grind nats in
         rw (y, p) n
-    writer r (inr x) = let y : (c == j) ≡ false = grind nats in rw (other-writer sh h c j d l x t, y) refl
+    writer r (inr x) = let y : (c == j) ≡ false = grind nats in rw (other-writer sh h c j d l x t, y)
 
 -- with the world's frames
 pub dir-lines : {sh : Shape} {gs : List Grant} {ys : Ways} (h : History) (c d k : ℕ) (m : Msg) (s : DirState) (sends : Sends)
@@ -248,7 +242,7 @@ asks-lines {sh} h d s sends b u = pairs_asks (CopiesAt sh h.commits) h.world d s
     (record {
       cache = refl;
       tag = u.tags l;
-      owned = rw (u.owners l) refl;
+      owned = rw (u.owners l);
       copies = λ t i. refl;
       wrong = λ t m. omega arith;
       commits = λ t i. refl;
@@ -269,7 +263,7 @@ step-lines sh p gs ys h e b = step_cases sh p h.world e (λ g o. KeptLines sh (a
     (λ c x y l. moved c (core_evict sh x y (h.world.cores c)) (λ k m. copies-evict sh k x y (h.world.cores c))
     (λ d t i. part-evict sh x y d t (h.world.cores c)) (tells-evict sh x y (h.world.cores c)) (noted-evict sh x y (h.world.cores c))
     (after-evict sh c x y (h.world.cores c))) (λ c k u i. granted c k u)
-    (λ c d k m i. taken c d k m (core_of_back c d k b.told.all.kept.told.tids i) i (from_dir sh d (h.world.cores c) m)
+    (λ c d k m i. taken c d k (core_of_back c d k b.told.all.kept.told.tids i) i (from_dir sh d (h.world.cores c) m)
     (λ l. copies-back sh l d (h.world.cores c) m (b.told.all.cores c).words.cache) (noted-back sh d (h.world.cores c) m)
     (after-back sh d (h.world.cores c) m))
     (λ c d k m i. answered c d k m i (dir_deliver sh (h.world.dirs d) c m) (dir-records sh (h.world.dirs d) c m))
@@ -295,12 +289,12 @@ step-lines sh p gs ys h e b = step_cases sh p h.world e (λ g o. KeptLines sh (a
         (none-sent o (noted-grant sh u (h.world.cores c)) a.commit d) (copies-grant sh l u (h.world.cores c))
         (kept-copies (grant_taken (pair h.world c d) k) refl refl refl (b.lines c d l cl dl ll q))) b.lines)
 
-    taken : (c d k : ℕ) (m : Msg) → c < sh.cores → FromDir h.world d c k m → (x : Option Out)
+    taken : (c d k : ℕ) {m : Msg} → c < sh.cores → FromDir h.world d c k m → (x : Option Out)
         → ((l : ℕ) → IfSome x (BackStep sh l (h.world.cores c) m)) → IfSome x (λ o. CommitsNoted o)
         → IfSome x (λ o. AfterStays (h.world.cores c) o)
         → IfSome x (λ o. KeptLines sh (and_noted o.commit h.commits) (core_takes h.world (Dir d) c k o))
-    taken c d k m cl i None f n a = tt
-    taken c d k m cl i (Some o) f n a = subst (λ x. KeptLines sh (and_noted x h.commits) (core_takes h.world (Dir d) c k o)) (sym a.commit)
+    taken c d k cl i None f n a = tt
+    taken c d k cl i (Some o) f n a = subst (λ x. KeptLines sh (and_noted x h.commits) (core_takes h.world (Dir d) c k o)) (sym a.commit)
         (pairs_back (CopiesAt sh h.commits) h.world d c k o
         (λ l cl dl ll q. back-copies h c d d k l (back_taken (pair h.world c d) k) o b cl dl ll q i refl refl refl a.commit
         (none-sent o n a.commit d) (f l))

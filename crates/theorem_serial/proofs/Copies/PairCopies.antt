@@ -6,7 +6,7 @@ use Names.{cases_eq, Noted, num, Dir, Shape, home, Link, Out, insert_commit, Com
 use Names.{after_move, is_this, stores_in, names_line, wrote_line, wrote_mask, nats, sym, if◌then◌else◌, ap, Msg, DirState, Kind, passes}
 use Names.{◌≢◌}
 use proofs.Copies.CopySends.{Conserves, mask-copy, frame_copy, frame_wrong, wrong-copy}
-use proofs.Counts.Links.{live-sends}
+use proofs.Counts.{live-sends}
 use proofs.Copies.WroteLines.{Wrote, wrote-new, SameWrote, wrote-other, wrote-unknown}
 use proofs.Marks.DirRecords.{NoCommit}
 
@@ -163,7 +163,7 @@ copies-committed {sh} {cs} c d l {v} o {n} e q x k h =
 
     above : (t : ℕ) → v.dir.lines.tag l < t → (u ≡ t) ⊎ (u ≢ t)
         → line_copies l t (after_move v o d) ≡ cond (wrote_line sh.base ds c t l) (live (Commits t) (after_move v o d).out) 0
-    above t i (inl r) = let y = (new t r).line in let z : line_copies l t v ≡ 0 = h.above t i ∙ rw (mine t r) refl in
+    above t i (inl r) = let y = (new t r).line in let z : line_copies l t v ≡ 0 = h.above t i ∙ rw (mine t r) in
         rw y (copies t ∙ rw z (let w = one t (names_line sh.base n.stores l) r refl in omega (arith, w)))
     above t i (inr r) =
         let y : (u == t) ≡ false = grind nats in
@@ -180,7 +180,7 @@ copies-committed {sh} {cs} c d l {v} o {n} e q x k h =
     masks : (t : ℕ) → v.dir.lines.tag l < t → (u ≡ t) ⊎ (u ≢ t) → line_wrong l t (wrote_mask sh.base ds c t l) (after_move v o d) ≡ 0
     masks t i (inl r) =
         let y = (new t r).mask in
-        let z : line_copies l t v ≡ 0 = h.above t i ∙ rw (mine t r) refl in
+        let z : line_copies l t v ≡ 0 = h.above t i ∙ rw (mine t r) in
         let s : (stores_in sh.base n.stores l == stores_in sh.base n.stores l) ≡ true = grind nats in
         let w : num ((names_line sh.base n.stores l && u == t) && not (stores_in sh.base n.stores l == stores_in sh.base n.stores l)) ≡ 0 =
         rw s (never (names_line sh.base n.stores l && u == t)) in
@@ -213,10 +213,10 @@ pub record Similar (base : ℕ) (cs : List Noted) (c l : ℕ) (v w : Pair) : Typ
   pub commits : (t : ℕ) → wrote_line base cs c t l ≡ true → live (Commits t) w.out ≡ live (Commits t) v.out
 
 same-frames : (l t : ℕ) (v w : Pair) → w.core.cache ≡ v.core.cache → frame_copy w.core.cache l t ≡ frame_copy v.core.cache l t
-same-frames l t v w e = rw e refl
+same-frames l t v w e = rw e
 
 same-wrong : (l t m : ℕ) (v w : Pair) → w.core.cache ≡ v.core.cache → frame_wrong w.core.cache l t m ≡ frame_wrong v.core.cache l t m
-same-wrong l t m v w e = rw e refl
+same-wrong l t m v w e = rw e
 
 pub similar-copies : {base : ℕ} {cs : List Noted} {c l : ℕ} (v w : Pair) → Similar base cs c l v w → LineCopies base cs c l v
     → LineCopies base cs c l w
@@ -300,7 +300,7 @@ pub still-similar : (base : ℕ) (cs : List Noted) (c l : ℕ) {b : Bool} {m : M
 still-similar base cs c l {v} {w} a e f n q = record {
   cache = a.cache;
   tag = rw a.dir e;
-  owned = let y : num (is_this (w.dir.lines.owner l) c) ≡ num (is_this (v.dir.lines.owner l) c) = rw (a.dir, f) refl in
+  owned = let y : num (is_this (w.dir.lines.owner l) c) ≡ num (is_this (v.dir.lines.owner l) c) = rw (a.dir, f) in
       omega (arith, y, still-live (CopyOf l (v.dir.lines.tag l)) a (n (v.dir.lines.tag l) (omega arith)));
   copies = λ t i. still-live (CopyOf l t) a (n t (omega (arith, i)));
   wrong = λ t k. omega (arith, a.lives (CopyMask l t k));
@@ -314,8 +314,8 @@ pub dropped-similar : {base : ℕ} {cs : List Noted} {c l : ℕ} (b : Bool) (m :
     → Similar base cs c l v w
 dropped-similar {c} {l} b m {v} w a n late other h = record {
   cache = a.cache;
-  tag = rw a.dir refl;
-  owned = let y : num (is_this (w.dir.lines.owner l) c) ≡ num (is_this (v.dir.lines.owner l) c) = rw a.dir refl in
+  tag = rw a.dir;
+  owned = let y : num (is_this (w.dir.lines.owner l) c) ≡ num (is_this (v.dir.lines.owner l) c) = rw a.dir in
       omega (arith, y, a.lives (CopyOf l (v.dir.lines.tag l)), here b (passes (CopyOf l (v.dir.lines.tag l)) m) refl refl);
   copies = λ t i. omega (arith, a.lives (CopyOf l t), above t i b (passes (CopyOf l t) m) refl refl);
   wrong = λ t k. omega (arith, a.lives (CopyMask l t k));
@@ -330,7 +330,7 @@ dropped-similar {c} {l} b m {v} w a n late other h = record {
 
     here : (x y : Bool) → b ≡ x → passes (CopyOf l g) m ≡ y → num (x && y) ≡ 0
     here true true e f = absurd (let z : num (is_this (v.dir.lines.owner l) c) ≡ 0 = ap num (other e f) in
-        let p : num (b && passes (CopyOf l g) m) ≡ 1 = rw (e, f) refl in
+        let p : num (b && passes (CopyOf l g) m) ≡ 1 = rw (e, f) in
         omega (arith, z, p, h.owned, of-line l g v, a.lives (CopyOf l g)))
     here true false e f = refl
     here false y e f = refl
@@ -350,18 +350,18 @@ came-similar base cs c o l k {b} m s {v} w z a p own e f n = go (cases_eq k l)
 
     go : (k ≡ l) ⊎ (k ≢ l) → Similar base cs c l v w
     go (inr q) = let y : (k == l) ≡ false = grind nats in let x : (l == k) ≡ false = grind nats in
-        still-similar base cs c l a e (rw x at f) (λ t i. p l t ∙ rw y refl) quiet
+        still-similar base cs c l a e (rw x at f) (λ t i. p l t ∙ rw y) quiet
     go (inl q) =
         let y : (l == l) ≡ true = grind nats in
         let x : (g == g) ≡ true = grind nats in
-        let r : passes (CopyOf l g) m ≡ true = p l g ∙ rw (q, y, x) refl in
-        let u : w.dir.lines.owner l ≡ None = ap (λ d. d.lines.owner l) a.dir ∙ f ∙ rw (q, y) refl in
+        let r : passes (CopyOf l g) m ≡ true = p l g ∙ rw (q, y, x) in
+        let u : w.dir.lines.owner l ≡ None = ap (λ d. d.lines.owner l) a.dir ∙ f ∙ rw (q, y) in
         let i : v.dir.lines.owner l ≡ Some o = rw q at own in
         let j : num (is_this (v.dir.lines.owner l) c) ≡ num b = rw (i, sym z) (turn o c) in
         let d : num (b && passes (CopyOf l g) m) ≡ num b = rw r (all b) in record {
           cache = a.cache;
           tag = rw a.dir e;
-          owned = let t : num (is_this (w.dir.lines.owner l) c) ≡ 0 = rw u refl in omega (arith, t, j, d, a.lives (CopyOf l g));
+          owned = let t : num (is_this (w.dir.lines.owner l) c) ≡ 0 = rw u in omega (arith, t, j, d, a.lives (CopyOf l g));
           copies = λ t h. still-live (CopyOf l t) a (p l t ∙ rw q (later t h));
           wrong = λ t h. omega (arith, a.lives (CopyMask l t h));
           commits = λ t h. omega (arith, a.lives (Commits t), quiet t h);

@@ -1,25 +1,22 @@
 -- Every event keeps that the tag of a line in memory is the greatest TID that is settled at its home and stored in it.
-use Rattle.base_lemmas.proofs.Lemmas.{and-false}
 use Rattle.theorem_serial.proofs
 use proofs.Names
-use Names.{ℕ, ◌+◌, ◌≡◌, ◌<◌, ◌≤◌, ◌⊎◌, ◌==◌, ◌&&◌, Bool, true, false, nat_lt, List, [], Contains, Option, Some, None, IfSome, max, cond}
-use Names.{set, if◌then◌else◌, arith, refl, ap, sym, ◌∙◌, cases_eq, Noted, Program, Local, num, any_word, has_mark, no_lines, Core, Dir}
-use Names.{Msg, Event, Shape, home, lines, any_below-at, DirState, World, start, dir_start, Sends, Out, core_exec, core_evict, from_dir}
-use Names.{Answer, Waits, Drops, Asks, Takes, dir_deliver, core_moves, core_takes, dir_takes, dir_asks, vendor_gives, History, Stepped}
-use Names.{and_noted, step, settled_in_line, KeptTags, Kind, Commits, live, passes, KeptAll, KeptRun, pair, Grant, is_settled, is_applied}
-use Names.{CommitsStand, stored_mask, stores_at, SettledCommit, stores_word, Ways, names_line, last_of, ◌∷◌, cases_lt, Inv, Invs, InvOf}
-use Names.{KeptNamed, due, OwedAt, times, share, KeptStored, inl, inr, ◌-◌, subst, insert_commit, nats, tid_at, to_dir, to_core, FromCore}
-use Names.{FromDir, ◌≢◌, tested}
+use Names.{and-false, ℕ, ◌+◌, ◌≡◌, ◌<◌, ◌≤◌, ◌⊎◌, ◌==◌, ◌&&◌, Bool, true, false, nat_lt, List, [], Contains, Option, Some, None, IfSome}
+use Names.{max, cond, set, if◌then◌else◌, arith, refl, ap, sym, ◌∙◌, cases_eq, Noted, Program, Local, num, any_word, has_mark, no_lines}
+use Names.{Core, Dir, Msg, Event, Shape, home, lines, any_below-at, DirState, World, start, dir_start, Sends, Out, core_exec, core_evict}
+use Names.{from_dir, Answer, Waits, Drops, Asks, Takes, dir_deliver, core_moves, core_takes, dir_takes, dir_asks, vendor_gives, History}
+use Names.{Stepped, and_noted, step, settled_in_line, KeptTags, Kind, Commits, live, passes, KeptAll, KeptRun, pair, Grant, is_settled}
+use Names.{is_applied, CommitsStand, stored_mask, stores_at, SettledCommit, stores_word, Ways, names_line, last_of, ◌∷◌, cases_lt, Inv}
+use Names.{Invs, InvOf, KeptNamed, due, OwedAt, times, share, KeptStored, inl, inr, ◌-◌, subst, insert_commit, nats, tid_at, to_dir}
+use Names.{to_core, FromCore, FromDir, tested}
 use proofs.Copies.WroteLines.{on-its-way, applied-or}
-use proofs.Counts.Links.{num-same, live-takes, total-le}
-use proofs.Counts.StepCases.{OfAnswer, step_cases}
+use proofs.Counts.{num-same, live-takes, total-le, OfAnswer, step_cases}
 use proofs.Marks.DirRecords.{NoCommit, Records, Still, Came, Settles, RecordsBy, dir-records, CountsMarked}
 use proofs.Marks.MaskLaws.{same-commit}
 use proofs.Marks.StoredKept.{noted-keeps, taken-stored, noted-has}
 use proofs.Marks.CoreMarks.{stored-line}
-use proofs.Serving.KeptSteps.{core_of_out}
-use proofs.Tids.Commits.{granted-once, last-same, last-most, last-least, granted-at}
-use proofs.Tids.TidSteps.{live-some}
+use proofs.Serving.{core_of_out}
+use proofs.Tids.{granted-once, last-same, last-most, last-least, granted-at, live-some}
 use proofs.Marks.AfterKept.{last-insert}
 
 -- what an event does to the tags
@@ -130,7 +127,7 @@ unheard-tags sh w v cs a b z e f h d l dl i q = rw e (h d l dl i q ∙ go a refl
         rw e at (z x d (noted-keeps a cs x k) dl (here x s)) in
         let y : live (Commits x.tid.0) (to_dir v x.core.0 d) ≡ live (Commits x.tid.0) (to_dir w x.core.0 d) =
         omega (arith, n, b x d k dl (here x s)) in
-        rw y refl)
+        rw y)
 
     new : (n : Noted) → a ≡ Some n → Contains (and_noted a cs) n → settled_in_line sh v d l n ≡ false
     new n r k = elim (tested (names_line sh.base n.stores l)) [
@@ -139,7 +136,7 @@ unheard-tags sh w v cs a b z e f h d l dl i q = rw e (h d l dl i q ∙ go a refl
           rw e at (z n d k dl (here n s)) in
           let u : num (is_applied (w.dirs d) n.tid.0) ≡ 0 = ap num (f n d r dl (here n s)) in
           let x : live (Commits n.tid.0) (to_dir v n.core.0 d) ≡ 1 = omega (arith, y, u) in
-          rw x refl
+          rw x
     ]
 
     go : (b : Option Noted) → a ≡ b → last_of (settled_in_line sh w d l) cs ≡ last_of (settled_in_line sh v d l) (and_noted b cs)
@@ -159,7 +156,7 @@ heard-tags : (sh : Shape) (w v : World) (cs : List Noted) → ((e l : ℕ) → (
     → ((t j e : ℕ) → live (Commits t) (to_dir v j e) ≡ live (Commits t) (to_dir w j e)) → KeptTags sh w cs → KeptTags sh v cs
 unfolding settled_in_line is_settled
 heard-tags sh w v cs f g h d l dl i q = f d l ∙ h d l dl i q
-    ∙ sym (last-same (settled_in_line sh v d l) (settled_in_line sh w d l) cs (λ x k. rw (g x.tid.0 x.core.0 d) refl))
+    ∙ sym (last-same (settled_in_line sh v d l) (settled_in_line sh w d l) cs (λ x k. rw (g x.tid.0 x.core.0 d)))
 
 pub applied-served : (s : DirState) (t : ℕ) → 1 ≤ num (is_applied s t) → t ≤ s.serving.serving
 applied-served s t l = grind (nats, applied-or)
@@ -221,7 +218,7 @@ settled-now w v c d m a dl q b t st =
     let before : 1 ≤ live (Commits x.tid.0) (to_dir w x.core.0 d) = rw (t.core, e) t.sent in
     let z : live (Commits x.tid.0) (to_dir v x.core.0 d) ≡ 0 =
     omega (arith, one, before, b (Commits x.tid.0) x.core.0 d, a x d t.settled.noted dl st) in
-    rw z refl
+    rw z
 
 -- where a Commit is taken, each line of its commit has its TID, which is the greatest that is settled
 taken-here : (sh : Shape) (cs : List Noted) (w v : World) (c d l : ℕ) (m : Msg) → CommitsStand sh w cs → d < sh.dirs → l < lines sh
@@ -260,13 +257,13 @@ taken-here sh cs w v c d l m a dl i e q b t g h = go (has_mark (w.dirs d).lines 
         → (v.dirs d).lines.tag l ≡ last_of (settled_in_line sh v d l) cs
     go true f g =
         let s : names_line sh.base n.stores l ≡ true = line ∙ f in
-        let y : settled_in_line sh v d l n ≡ true = rw (settled-now w v c d m a dl q b t (stored-home sh l n i e s), s) refl in
+        let y : settled_in_line sh v d l n ≡ true = rw (settled-now w v c d m a dl q b t (stored-home sh l n i e s), s) in
         let z : n.tid.0 ≡ u = t.settled.tid in
         omega (arith, g, z, last-least (settled_in_line sh v d l) cs n t.settled.noted y, last-most (settled_in_line sh v d l) cs u most)
     go false f g = g ∙ h ∙ sym (last-same (settled_in_line sh v d l) (settled_in_line sh w d l) cs one)
       where
         one : (x : Noted) → Contains cs x → settled_in_line sh v d l x ≡ settled_in_line sh w d l x
-        one x j = same-test (is_settled v d x) (is_settled w d x) (names_line sh.base x.stores l) (λ s. tid (u == x.tid.0) refl s)
+        one x j = same-test (is_settled v d x) (is_settled w d x) (names_line sh.base x.stores l) (tid (u == x.tid.0) refl)
           where
             tid : (y : Bool) → (u == x.tid.0) ≡ y → names_line sh.base x.stores l ≡ true → is_settled v d x ≡ is_settled w d x
             tid false z s = other x z
@@ -284,7 +281,7 @@ taken-tags sh cs w v c d m a t q g b h e l el i k = elim (cases_eq e d) [
       taken-here sh cs w v c d l m a dl i (k ∙ p) q b (t dl) (rw y at (g d l)) (h d l dl i (k ∙ p)))
   | inr p ↦ let y : (e == d) ≡ false = grind nats in (rw y at (g e l)) ∙ h e l el i k
       ∙ sym (last-same (settled_in_line sh v e l) (settled_in_line sh w e l) cs
-      (λ x j. rw (still-settled w v c d m x e b (inl (rw y (and-false (x.core.0 == c))))) refl))
+      (λ x j. rw (still-settled w v c d m x e b (inl (rw y (and-false (x.core.0 == c)))))))
 ]
 
 pub tags-out : (sh : Shape) (gs : List Grant) (ys : Ways) (h : History) (o : Stepped) → KeptRun sh gs ys h
@@ -391,7 +388,7 @@ inv-tag-of sh h c d k l m u owes named stored a g cl dl ll e i =
 
     marked : (b : Bool) → has_mark s.lines l ≡ b → b ≡ true
     marked true q = refl
-    marked false q = absurd (let y : (l == l) ≡ true = grind nats in let z : num (l == l) ≡ 1 = rw y refl in
+    marked false q = absurd (let y : (l == l) ≡ true = grind nats in let z : num (l == l) ≡ 1 = rw y in
         let n : num (has_mark s.lines l) ≡ 0 = ap num q in
         omega (arith, z, n, live-some (InvOf l) (to_core w d c) k (Inv l m u) i, (named c d l cl dl).one))
 
@@ -407,7 +404,7 @@ inv-tag-of sh h c d k l m u owes named stored a g cl dl ll e i =
     settled : settled_in_line sh w d l n.commit ≡ true
     settled = let y : num (is_applied s n.commit.tid.0) ≡ 1 = ap num applied in
         let z : live (Commits n.commit.tid.0) (to_dir w n.commit.core.0 d) ≡ 0 =
-        omega (arith, y, a n.commit d n.noted dl (stored-home sh l n.commit ll e line)) in rw (z, line) refl
+        omega (arith, y, a n.commit d n.noted dl (stored-home sh l n.commit ll e line)) in rw (z, line)
 
     least : s.serving.serving ≤ s.lines.tag l
     least = omega (arith, n.tid, last-least (settled_in_line sh w d l) h.commits n.commit n.noted settled, g d l dl ll e)

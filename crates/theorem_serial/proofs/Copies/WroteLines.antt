@@ -7,10 +7,10 @@ use Names.{stores_word, names_line, wrote, wrote_line, wrote_mask, ◌+◌, ◌�
 use Names.{sum_below, DirState, History, Commits, live, KeptRun, Grant, pair, share, is_applied, CommitsStand, stores_at, Skipped}
 use Names.{Committed, Ways, part_in, kept_in, WayAt, Some, writes_at, Msg, Out, Sends, Stepped, Resolves, among, holder, has_tid, part}
 use Names.{handled, live_way, Option, IfSome, nats, to_dir, ◌≢◌}
-use proofs.Counts.Links.{total-zero, total-le}
+use proofs.Counts.{total-zero, total-le}
 use proofs.Marks.MaskLaws.{few-any}
-use proofs.Serving.CommitSteps.{of-resolves}
-use proofs.Tids.Commits.{granted-once, granted-at, positive-committed}
+use proofs.Serving.{of-resolves}
+use proofs.Tids.{granted-once, granted-at, positive-committed}
 use proofs.Ways.ToldSteps.{ByCore, Still, Moved, Speaks, told-committed}
 use proofs.Ways.CoreSkips.{TellsCommit}
 
@@ -108,7 +108,7 @@ line-never base cs c t l h =
       h (word_at l 5),
       h (word_at l 6),
       h (word_at l 7),
-    ) refl
+    )
 
 pub no-writer : (base : ℕ) (cs : List Noted) (c t l : ℕ) → ((x : Noted) → Contains cs x → is_of c t x ≡ false)
     → wrote_line base cs c t l ≡ false
@@ -152,7 +152,7 @@ wrote-listed base cs n l k h = wrote-all (λ w. go w (stores_word base n.stores 
 total-only : (f : ℕ → ℕ) (n c : ℕ) → ((j : ℕ) → j < n → j ≢ c → f j ≡ 0) → (n ≤ c → f c ≡ 0) → sum_below f n ≡ f c
 unfolding sum_below
 total-only f zero c h z = sym (z (omega arith))
-total-only f (suc n) c h z = go (cases_eq n c) (λ g. total-only f n c (λ j l i. h j (omega arith) i) g)
+total-only f (suc n) c h z = go (cases_eq n c) (total-only f n c (λ j l i. h j (omega arith) i))
   where
     go : (n ≡ c) ⊎ (n ≢ c) → ((n ≤ c → f c ≡ 0) → sum_below f n ≡ f c) → sum_below f n + f n ≡ f c
     go a g = grind (nats, total-zero)
@@ -171,7 +171,7 @@ on-its-way sh gs ys h k n d i dl s = omega (arith, place, one, applied-or (h.wor
 
     way : ys d t ≡ Committed
     way =
-        let told : (b : Bool) → b ≡ true → (if b then Committed else Skipped) ≡ Committed = λ b e. rw e refl in
+        let told : (b : Bool) → b ≡ true → (if b then Committed else Skipped) ≡ Committed = λ b e. rw e in
         k.committed.stored n d i dl ∙ told (stores_at sh d n.stores) s
 
     place : WayAt sh h.world d t Committed
@@ -206,7 +206,7 @@ pub commit-sent : {sh : Shape} {gs : List Grant} {ys : Ways} {h : History} (c d 
     → c < sh.cores → TellsCommit sh (h.world.cores c) s n → d < sh.dirs → stores_at sh d n.stores ≡ true
     → 1 ≤ among (Commits n.tid.0) (s.sends (Dir d))
 commit-sent {sh} {h} c d {s} {n} k cl a dl e =
-    let there : (b : Bool) → b ≡ true → (if b then Committed else Skipped) ≡ Committed = λ b q. rw q refl in
+    let there : (b : Bool) → b ≡ true → (if b then Committed else Skipped) ≡ Committed = λ b q. rw q in
     go (told-committed (s.sends (Dir d)) n.tid.0 (live_way (h.world.cores c).phase (writes_at sh (h.world.cores c).cache d))
     (a.told d dl ∙ there (stores_at sh d n.stores) e))
   where

@@ -1,15 +1,15 @@
 -- What a directory does with a message: each outcome with the whole new state and what is sent. All else about its rules is shown of these.
 use Rattle.rules_tcc.specs.DirDeliver.{dir_commit}
-use Rattle.base_lemmas.proofs.Lemmas.{those-empty}
 use Rattle.theorem_serial.proofs
 use proofs.Names
-use Names.{ℕ, ◌-◌, ◌≡◌, ◌<◌, ◌≤◌, ◌⊎◌, Bool, true, false, List, [], ◌∷◌, get_or, ◌==◌, ◌&&◌, ◌||◌, not, Option, Some, None, nat_lt, nat_le}
-use Names.{if◌then◌else◌, arith, refl, inl, inr, num, count_below, those, place_of, hit, full, Lines, has_mark, with_asked, with_mark}
-use Names.{with_sharer, with_owner, unmarked, judge, is_owner, Current, Outdated, TooEarly, advance, skipped, kept, Core, Msg, LoadReq}
-use Names.{Fill, Skip, Probe, ProbeReply, Mark, Commit, Abort, WriteBack, Flush, DataReq, Inv, InvAck, Shape, lines, DirState, nothing, to}
-use Names.{Answer, Waits, Drops, Asks, Takes, skip, abort, acknowledgement, dir_deliver, moved_on, moved_on_if_settled, owned_by_committer}
-use Names.{invalidation_count, invalidations, invs_to, is_invalidated, unless_keeps, ask_owner, load_unless_owned, load_request, home_words}
-use Names.{mark_taken, mark_unless_owned, mark, judged, write_back, came_home, probe, Kind, among, passes, nats, Sends, Any}
+use Names.{those-empty, ℕ, ◌-◌, ◌≡◌, ◌<◌, ◌≤◌, ◌⊎◌, Bool, true, false, List, [], ◌∷◌, get_or, ◌==◌, ◌&&◌, ◌||◌, not, Option, Some, None}
+use Names.{nat_lt, nat_le, if◌then◌else◌, arith, refl, inl, inr, num, count_below, those, place_of, hit, full, Lines, has_mark, with_asked}
+use Names.{with_mark, with_sharer, with_owner, unmarked, judge, is_owner, Current, Outdated, TooEarly, advance, skipped, kept, Core, Msg}
+use Names.{LoadReq, Fill, Skip, Probe, ProbeReply, Mark, Commit, Abort, WriteBack, Flush, DataReq, Inv, InvAck, Shape, lines, DirState}
+use Names.{nothing, to, Answer, Waits, Drops, Asks, Takes, skip, abort, acknowledgement, dir_deliver, moved_on, moved_on_if_settled}
+use Names.{owned_by_committer, invalidation_count, invalidations, invs_to, is_invalidated, unless_keeps, ask_owner, load_unless_owned}
+use Names.{load_request, home_words, mark_taken, mark_unless_owned, mark, judged, write_back, came_home, probe, Kind, among, passes, nats}
+use Names.{Sends, Any}
 use proofs.Counts.Links.{among-flat_map_none}
 
 -- a WriteBack or Flush, which count alike
@@ -206,8 +206,8 @@ back-outcome {sh} {s} {c} l k ws g {m} y = go (nat_lt (s.lines.tag l) g) (s.line
         → Outcome sh s c m (judged l k ws s (if a then TooEarly else (if b && x then Current else Outdated)))
     go true b x p q r = Waiting m
     go false true true p q r = TakesCopy m l k ws g y (grind nats) (own (s.lines.owner l) r)
-    go false true false p q r = Spent m (CopyPassed m l k ws g y (grind nats) (rw (q, r) refl))
-    go false false x p q r = Spent m (CopyPassed m l k ws g y (grind nats) (rw q refl))
+    go false true false p q r = Spent m (CopyPassed m l k ws g y (grind nats) (rw (q, r)))
+    go false false x p q r = Spent m (CopyPassed m l k ws g y (grind nats) (rw q))
 
 flush-alike : (q : Kind) (l k : ℕ) (ws : List ℕ) (g : ℕ) → passes q (Flush l k ws g) ≡ passes q (WriteBack l k ws g)
 unfolding passes
@@ -237,14 +237,14 @@ among-none q = refl
 
 pub none-to : (q : Kind) (c j : ℕ) (m : Msg) → passes q m ≡ false → among q (to (Core c) (m ∷ []) (Core j)) ≡ 0
 unfolding among
-none-to q c j m e = elim (j == c) as (λ b. among q (if b then m ∷ [] else []) ≡ 0) [ true ↦ rw e refl | false ↦ refl ]
+none-to q c j m e = elim (j == c) as (λ b. among q (if b then m ∷ [] else []) ≡ 0) [ true ↦ rw e | false ↦ refl ]
 
 pub none-invalidations : (q : Kind) → ((l k t : ℕ) → passes q (Inv l k t) ≡ false) → (sh : Shape) (ls : Lines) (c t j : ℕ)
     → among q (invalidations sh ls c t (Core j)) ≡ 0
 unfolding invalidations invs_to among
 none-invalidations q e sh ls c t j =
-    let one : (l : ℕ) → among q (Inv l (ls.mark l) t ∷ []) ≡ 0 = λ l. rw (e l (ls.mark l) t) refl in
-    among-flat_map_none q (λ l. Inv l (ls.mark l) t ∷ []) (λ l. one l) (those (is_invalidated sh ls c j) (lines sh))
+    let one : (l : ℕ) → among q (Inv l (ls.mark l) t ∷ []) ≡ 0 = λ l. rw (e l (ls.mark l) t) in
+    among-flat_map_none q (λ l. Inv l (ls.mark l) t ∷ []) one (those (is_invalidated sh ls c j) (lines sh))
 
 -- No message goes to a core that the machine doesn't have, and none of them owns a line.
 
@@ -267,18 +267,18 @@ quiet-inside sh j l = refl
 
 to-inside : (sh : Shape) (c : ℕ) (m : Msg) → c < sh.cores → SendsInside sh (to (Core c) (m ∷ []))
 unfolding among
-to-inside sh c m h j l = let e : (j == c) ≡ false = grind nats in rw e refl
+to-inside sh c m h j l = let e : (j == c) ≡ false = grind nats in rw e
 
 is_invalidated-outside : (sh : Shape) (ls : Lines) (c j k : ℕ) → nat_lt j sh.cores ≡ false → is_invalidated sh ls c j k ≡ false
 unfolding is_invalidated
-is_invalidated-outside sh ls c j k e = rw e refl
+is_invalidated-outside sh ls c j k e = rw e
 
 invalidations-inside : (sh : Shape) (ls : Lines) (c t : ℕ) → SendsInside sh (invalidations sh ls c t)
 unfolding invalidations invs_to among
 invalidations-inside sh ls c t j l =
     let outside : nat_lt j sh.cores ≡ false = grind nats in
     let none : (k : ℕ) → is_invalidated sh ls c j k ≡ false = λ k. is_invalidated-outside sh ls c j k outside in
-    rw (those-empty (is_invalidated sh ls c j) (lines sh) (λ k. none k)) refl
+    rw (those-empty (is_invalidated sh ls c j) (lines sh) none)
 
 pub dir-inside : (sh : Shape) (s : DirState) (c : ℕ) (m : Msg) → c < sh.cores → OwnersInside sh s → AnswersInside sh (dir_deliver sh s c m)
 dir-inside sh s c m l h = go (outcome sh s c m)

@@ -1,16 +1,15 @@
 -- What is to be shown of a step, by the kind of its event, and what each kind does to the pairs of a core and a directory.
-use Rattle.base_lemmas.proofs.Lemmas.{and-false, eq-self}
 use Rattle.rules_tcc.specs.VendorDeliver.{Granted}
 use Rattle.theorem_serial.proofs
 use proofs.Names
-use Names.{DirState, from_dir, ℕ, ◌+◌, ◌≡◌, ◌<◌, Bool, true, false, List, [], ◌∷◌, ◌++◌, ◌==◌, ◌&&◌, arith, refl, ap, sym, subst, ◌∙◌, inl}
-use Names.{inr, cases_eq, Node, Core, Dir, Vendor, Msg, TidGrant, sum_below, World, Link, sent_all, to, Out, core_moves, core_takes}
-use Names.{dir_takes, dir_asks, vendor_gives, Pair, pair, after_move, grant_taken, back_taken, after_answer, out_taken, after_grant}
-use Names.{after_other_grant, share, sum_of, Option, Some, None, IfSome, nat_lt, if◌then◌else◌, Program, Event, Exec, Evict, Deliver}
-use Names.{TidReq, Shape, in_flight, Sends, nothing, core_exec, core_evict, core_deliver, grant, Answer, Waits, Drops, Asks, Takes}
-use Names.{dir_deliver, Stepped, step, if_core_moves, if_core_takes, answered, delivered, if_in_flight, happens, names_nodes, is_node}
-use Names.{Grant, grant_for, granted_by, sends_of, sends_for, sent_by, Uses, used_by, Views, uses_executed, uses_delivered, views_after}
-use Names.{put, nats, FromCore, FromDir, grant_to, ◌≢◌}
+use Names.{and-false, eq-self, DirState, from_dir, ℕ, ◌+◌, ◌≡◌, ◌<◌, Bool, true, false, List, [], ◌∷◌, ◌++◌, ◌==◌, ◌&&◌, arith, refl, ap}
+use Names.{sym, subst, ◌∙◌, inl, inr, cases_eq, Node, Core, Dir, Vendor, Msg, TidGrant, sum_below, World, Link, sent_all, to, Out}
+use Names.{core_moves, core_takes, dir_takes, dir_asks, vendor_gives, Pair, pair, after_move, grant_taken, back_taken, after_answer}
+use Names.{out_taken, after_grant, after_other_grant, share, sum_of, Option, Some, None, IfSome, nat_lt, if◌then◌else◌, Program, Event}
+use Names.{Exec, Evict, Deliver, TidReq, Shape, in_flight, Sends, nothing, core_exec, core_evict, core_deliver, grant, Answer, Waits, Drops}
+use Names.{Asks, Takes, dir_deliver, Stepped, step, if_core_moves, if_core_takes, answered, delivered, if_in_flight, happens, names_nodes}
+use Names.{is_node, Grant, grant_for, granted_by, sends_of, sends_for, sent_by, Uses, used_by, Views, uses_executed, uses_delivered}
+use Names.{views_after, put, nats, FromCore, FromDir, grant_to, ◌≢◌}
 use proofs.Counts.Links.{total-same, total-at, total-plus}
 
 pub differ : (j c : ℕ) → j ≢ c → (j == c) ≡ false
@@ -18,63 +17,63 @@ differ j c h = grind nats
 
 append-none : (l : Link) → l ++ [] ≡ l
 append-none [] = refl
-append-none (x ∷ l) = rw (append-none l) refl
+append-none (x ∷ l) = rw (append-none l)
 
 -- a core moves
 pub moves-own : (w : World) (c : ℕ) (o : Out) (d : ℕ) → pair (core_moves w c o) c d ≡ after_move (pair w c d) o d
 unfolding pair core_moves
-moves-own w c o d = rw (eq-self c) refl
+moves-own w c o d = rw (eq-self c)
 
 pub moves-other : (w : World) (c : ℕ) (o : Out) (j d : ℕ) → j ≢ c → pair (core_moves w c o) j d ≡ pair w j d
 unfolding pair core_moves
-moves-other w c o j d h = rw (differ j c h) refl
+moves-other w c o j d h = rw (differ j c h)
 
 -- a core takes a grant
 grant-own : (w : World) (c k : ℕ) (o : Out) (d : ℕ) → pair (core_takes w Vendor c k o) c d ≡ after_move (grant_taken (pair w c d) k) o d
 unfolding pair core_takes
-grant-own w c k o d = rw (eq-self c) refl
+grant-own w c k o d = rw (eq-self c)
 
 grant-other : (w : World) (c k : ℕ) (o : Out) (j d : ℕ) → j ≢ c → pair (core_takes w Vendor c k o) j d ≡ pair w j d
 unfolding pair core_takes
-grant-other w c k o j d h = rw (differ j c h) refl
+grant-other w c k o j d h = rw (differ j c h)
 
 -- a core takes a message of directory e
 pub back-own : (w : World) (c k : ℕ) (o : Out) (d : ℕ) → pair (core_takes w (Dir d) c k o) c d ≡ after_move (back_taken (pair w c d) k) o d
 unfolding pair core_takes
-back-own w c k o d = rw (eq-self c) (rw (eq-self d) refl)
+back-own w c k o d = rw (eq-self c) (rw (eq-self d))
 
 pub back-away : (w : World) (e c k : ℕ) (o : Out) (d : ℕ) → d ≢ e → pair (core_takes w (Dir e) c k o) c d ≡ after_move (pair w c d) o d
 unfolding pair core_takes
-back-away w e c k o d h = rw (eq-self c) (rw (differ d e h) refl)
+back-away w e c k o d h = rw (eq-self c) (rw (differ d e h))
 
 back-other : (w : World) (e c k : ℕ) (o : Out) (j d : ℕ) → j ≢ c → pair (core_takes w (Dir e) c k o) j d ≡ pair w j d
 unfolding pair core_takes
-back-other w e c k o j d h = rw (differ j c h) (rw (and-false (d == e)) refl)
+back-other w e c k o j d h = rw (differ j c h) (rw (and-false (d == e)))
 
 -- directory e takes a message of core c
 pub dir-own : (w : World) (c d k : ℕ) (s : DirState) (sends : Node → List Msg)
     → pair (dir_takes w c d k s sends) c d ≡ after_answer (out_taken (pair w c d) k) s (sends (Core c))
 unfolding pair dir_takes
-dir-own w c d k s sends = rw (eq-self c) (rw (eq-self d) refl)
+dir-own w c d k s sends = rw (eq-self c) (rw (eq-self d))
 
 pub dir-other : (w : World) (c d k : ℕ) (s : DirState) (sends : Node → List Msg) (j : ℕ) → j ≢ c
     → pair (dir_takes w c d k s sends) j d ≡ after_answer (pair w j d) s (sends (Core j))
 unfolding pair dir_takes
-dir-other w c d k s sends j h = rw (differ j c h) (rw (eq-self d) refl)
+dir-other w c d k s sends j h = rw (differ j c h) (rw (eq-self d))
 
 dir-away : (w : World) (c e k : ℕ) (s : DirState) (sends : Node → List Msg) (j d : ℕ) → d ≢ e
     → pair (dir_takes w c e k s sends) j d ≡ pair w j d
 unfolding pair dir_takes
-dir-away w c e k s sends j d h = rw (differ d e h) (rw (and-false (j == c)) refl)
+dir-away w c e k s sends j d h = rw (differ d e h) (rw (and-false (j == c)))
 
 pub asks-own : (w : World) (d : ℕ) (s : DirState) (sends : Node → List Msg) (j : ℕ)
     → pair (dir_asks w d s sends) j d ≡ after_answer (pair w j d) s (sends (Core j))
 unfolding pair dir_asks
-asks-own w d s sends j = rw (eq-self d) refl
+asks-own w d s sends j = rw (eq-self d)
 
 asks-away : (w : World) (e : ℕ) (s : DirState) (sends : Node → List Msg) (j d : ℕ) → d ≢ e → pair (dir_asks w e s sends) j d ≡ pair w j d
 unfolding pair dir_asks
-asks-away w e s sends j d h = rw (differ d e h) refl
+asks-away w e s sends j d h = rw (differ d e h)
 
 -- the vendor grants
 
@@ -84,11 +83,11 @@ given w c = record { next = w.next + 1; sends = to (Core c) (TidGrant w.next ∷
 
 vendor-own : (w : World) (c k d : ℕ) → pair (vendor_gives w c k (given w c)) c d ≡ after_grant (pair w c d) k
 unfolding pair vendor_gives
-vendor-own w c k d = rw (eq-self c) refl
+vendor-own w c k d = rw (eq-self c)
 
 vendor-other : (w : World) (c k j d : ℕ) → j ≢ c → pair (vendor_gives w c k (given w c)) j d ≡ after_other_grant (pair w j d)
 unfolding pair vendor_gives sent_all
-vendor-other w c k j d h = rw (differ j c h) (rw (append-none (w.net Vendor (Core j))) refl)
+vendor-other w c k j d h = rw (differ j c h) (rw (append-none (w.net Vendor (Core j))))
 
 -- what holds of all pairs
 pub either : {A : Type 0} → (j c : ℕ) → (j ≡ c → A) → ((j ≢ c) → A) → A

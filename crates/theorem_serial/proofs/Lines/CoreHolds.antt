@@ -4,16 +4,16 @@ use proofs.Names
 use Names.{ℕ, ◌≡◌, ◌<◌, ◌⊎◌, ◌==◌, ◌&&◌, ◌||◌, Bool, true, false, not, Option, Some, None, is_some, if◌then◌else◌, refl, inl, inr}
 use Names.{any_below, any_word, word_at, line_of, hit, Cache, is_modified, marked, stored, invalidated, evicted, evicted_line, rolled_back}
 use Names.{read_cleared, committed, words_dropped, Spilled, any_below-found, any_below-at, keeps_unmodified, nats, IfSome, sym, ◌∙◌, Noted}
-use Names.{Program, word_of, Shape, set_of, free_way, placed, placed_at, holds, CoreState, Phase, Running, Ready, Solo, Out, is_solo}
-use Names.{commit, committed_core, noted, solo_commit, is_written, grant, core_exec, core_evict, is_fresh, OneCore, Words, acting}
-use Names.{names_line, put, none_spilled, DoomedTid, moves, List, arith, Dir, Msg, ProbeReply, Inv, home, keeps, filled, cleaned, Awaited}
-use Names.{nothing, from_dir, staled, is_awaited, FillOf, GoneOf, InvOf, among, passes, ◌/◌, tested}
+use Names.{Program, word_of, Shape, set_of, free_way, placed, placed_at, holds, CoreState, Phase, Running, Ready, Solo, Out, commit}
+use Names.{committed_core, noted, solo_commit, is_written, grant, core_exec, core_evict, is_fresh, OneCore, Words, acting, names_line, put}
+use Names.{none_spilled, DoomedTid, moves, List, arith, Dir, Msg, ProbeReply, Inv, home, keeps, filled, cleaned, Awaited, nothing, from_dir}
+use Names.{staled, is_awaited, FillOf, GoneOf, InvOf, among, passes, ◌/◌, tested}
 use proofs.Marks.CoreMarks.{unspilled, modified-line, written-line}
-use proofs.OneCore.Outcomes.{Acts, Buffers, Commits_now, Did, Ends_alone, Ends_run, Finds, Frames, Frames_anew, Given_none, Granted, Idles}
-use proofs.OneCore.Outcomes.{Misses, Misses_anew, Reads, Room_wanted, after_end, each-evict, each-exec, each-grant, emptied, granted, out}
-use proofs.OneCore.Outcomes.{Last_room, Fills, Fills_none, Heard, Hurt_alone, Hurt_probing, Hurt_running, Hurt_waiting, Hurt_none, acked}
-use proofs.OneCore.Outcomes.{each-back, heard, message, rolled}
-use proofs.OneCore.Said.{Aborts_all, Said, Silent, Skips_all, Unheard, acked-quiet, quiet, say}
+use proofs.OneCore.{Acts, Buffers, Commits_now, Did, Ends_alone, Ends_run, Finds, Frames, Frames_anew, Given_none, Granted, Idles, Misses}
+use proofs.OneCore.{Misses_anew, Reads, Room_wanted, after_end, each-evict, each-exec, each-grant, emptied, granted, out, Last_room, Fills}
+use proofs.OneCore.{Fills_none, Heard, Hurt_alone, Hurt_probing, Hurt_running, Hurt_waiting, Hurt_none, acked, each-back, heard, message}
+use proofs.OneCore.{rolled, Aborts_all, Silent, Skips_all, Unheard, acked-quiet, quiet, say}
+use proofs.OneCore.Said.{Said}
 
 -- Which changes of a cache keep what a core holds of a line: valid words that aren't modified or are marked read.
 
@@ -180,12 +180,12 @@ alone-kept {sh} l id u s h q = elim (kept-alone u l s.spilled s.cache q) [
   | inr y ↦ inr (record {
     commit = noted u id s;
     noted = refl;
-    line = sym (written-line sh.base s.cache s.spilled s.stores l h.named) ∙ first (is_modified s.cache l) (holds s.spilled l) y;
+    line = sym (written-line sh.base s.cache s.spilled s.stores l h.named) ∙ first (holds s.spilled l) y;
   })
 ]
   where
-    first : (x y : Bool) → x ≡ true → (x || y) ≡ true
-    first a y e = grind nats
+    first : {x : Bool} (y : Bool) → x ≡ true → (x || y) ≡ true
+    first y e = grind nats
 
 pub holds-exec : {sh : Shape} (l : ℕ) (p : Program) (id : ℕ) {s : CoreState} → OneCore sh s → (acting s.phase ≡ true → ReadsValid s.cache)
     → IfSome (core_exec sh p id s) (Holds sh l s)
@@ -196,8 +196,8 @@ holds-exec {sh} l p id {s} h v = each-exec sh p id s (Holds sh l s) go
     w a = word_of sh.base a
 
     acts-valid : (q : Phase) → s.phase ≡ q → Acts q → ReadsValid s.cache
-    acts-valid Running e a = v (rw e refl)
-    acts-valid (Solo t) e a = v (rw e refl)
+    acts-valid Running e a = v (rw e)
+    acts-valid (Solo t) e a = v (rw e)
     acts-valid _ e a = absurd a
 
     fewer : (o : Out) → s.awaited ≡ None → Fewer s.cache o.core.cache l → Holds sh l s o
@@ -206,7 +206,7 @@ holds-exec {sh} l p id {s} h v = each-exec sh p id s (Holds sh l s) go
     go : (x : Did sh p id s) → Holds sh l s (out x)
     go (Reads a x z b g r f) = fewer _ g.idle (fewer-marked (w a) l s.cache)
     go (Frames a y also n k g i f) =
-        fewer _ g.idle (λ j b q. fewer-stored (w a) y l also s.cache f.read (acts-valid s.phase refl g.acts (w a)) j b q)
+        fewer _ g.idle (fewer-stored (w a) y l also s.cache f.read (acts-valid s.phase refl g.acts (w a)))
     go (Frames_anew a y n k g i q f o) = fewer _ g.idle (λ j b z. placed-fewer sh (line_of (w a)) l s.cache j b
         (fewer-stored (w a) y l false (placed sh (line_of (w a)) s.cache) (λ q. absurd (cc))
         (placed-reads sh (line_of (w a)) s.cache (acts-valid s.phase refl g.acts) (w a)) j b z))
@@ -254,7 +254,7 @@ unfolding filled
 filled-kept k l ws c q = elim (tested (k == l)) [
   | inl e ↦ inr e
   | inr e ↦ inl (fewer-kept c (filled k ws c) l
-      (λ j i r. (let z : (word_at l j) / 8 ≡ l = omega (arith, i) in let y : (k == (word_at l j) / 8) ≡ false = rw (z, e) refl in
+      (λ j i r. (let z : (word_at l j) / 8 ≡ l = omega (arith, i) in let y : (k == (word_at l j) / 8) ≡ false = rw (z, e) in
       rw y at r)) q)
 ]
 
@@ -292,11 +292,11 @@ holds-back sh l e s m = each-back sh e s (HoldsTaken sh l s) go m
     other m o n h f = record { holds = still h f; gone = λ q. absurd (cc) }
 
     -- the words of the awaited line come
-    added : (k : ℕ) (ws : List ℕ) (a : Awaited) → s.awaited ≡ Some a → a.stale ≡ false
-        → (keeps_unmodified s.cache l ≡ true) ⊎ ((k == l) ≡ true) → (keeps_unmodified s.cache l ≡ true)
-        ⊎ (((k == l) ≡ true) × (is_fresh s.awaited ≡ true))
-    added k ws a q f (inl y) = inl y
-    added k ws a q f (inr y) = inr (y, rw (q, f) refl)
+    added : (k : ℕ) (ws : List ℕ) {a : Awaited} → s.awaited ≡ Some a → a.stale ≡ false
+        → (keeps_unmodified s.cache l ≡ true) ⊎ ((k == l) ≡ true)
+        → (keeps_unmodified s.cache l ≡ true) ⊎ (((k == l) ≡ true) × (is_fresh s.awaited ≡ true))
+    added k ws q f (inl y) = inl y
+    added k ws q f (inr y) = inr (y, rw (q, f))
 
     -- an invalidation: where the core keeps no word of the line it says so, and holds nothing
     hurt : (k m u : ℕ) (r : CoreState) (q : Said) → Fewer (invalidated k m s.cache) r.cache l → r.awaited ≡ staled k s.awaited
@@ -326,7 +326,7 @@ holds-back sh l e s m = each-back sh e s (HoldsTaken sh l s) go m
         (fewer-cleared l s.cache) (λ q. q)
     go (Fills k ws a q i f) =
         record {
-          holds = record { kept = λ z. added k ws a q f (filled-kept k l ws s.cache z); fresh = λ z. absurd (cc) };
+          holds = record { kept = λ z. added k ws q f (filled-kept k l ws s.cache z); fresh = λ z. absurd (cc) };
           gone = λ z. absurd (cc);
         }
     go (Fills_none k ws a q i f) = record { holds = record { kept = inl; fresh = λ z. absurd (cc) }; gone = λ z. absurd (cc) }

@@ -1,20 +1,17 @@
 -- Every event keeps that of an asked line the request is in flight to the owner, or its words are on their way from the owner.
-use Rattle.base_lemmas.proofs.Lemmas.{eq-self, line_of-word_at}
 use Rattle.theorem_serial.proofs
 use proofs.Names
-use Names.{ℕ, ◌≡◌, ◌≤◌, ◌⊎◌, Bool, true, false, [], ◌∷◌, ◌==◌, Some, if◌then◌else◌, arith, refl, sym, ap, ◌∙◌, inl, inr, Core, Msg, DataReq}
-use Names.{Shape, DirState, Sends, to, Answer, Asks, Takes, dir_deliver, CopyOf, DataOf, among, passes, nats, ◌+◌, ◌<◌, ◌&&◌, List, Option}
-use Names.{None, IfSome, subst, Noted, Program, Local, num, line_of, word_at, cleaned, no_lines, Dir, Vendor, Fill, ProbeReply, Inv, Event}
-use Names.{home, lines, CoreState, World, start, dir_start, Out, core_exec, core_evict, from_dir, grant, data_request, Waits, Drops}
-use Names.{core_moves, core_takes, dir_takes, dir_asks, vendor_gives, and_noted, step, GetsOf, KeptGets, live, Pair, pair, after_move}
-use Names.{back_taken, out_taken, after_answer, is_this, to_dir, to_core, FromCore, FromDir, tested}
-use proofs.Counts.DirOutcome.{Outcome, Waiting, Spent, AsksOwner, TakesCommit, TakesCopy, outcome, among-to}
+use Names.{eq-self, line_of-word_at, ℕ, ◌≡◌, ◌≤◌, ◌⊎◌, Bool, true, false, [], ◌∷◌, ◌==◌, Some, if◌then◌else◌, arith, refl, sym, ap, ◌∙◌}
+use Names.{inl, inr, Core, Msg, DataReq, Shape, DirState, Sends, to, Answer, Asks, Takes, dir_deliver, CopyOf, DataOf, among, passes, nats}
+use Names.{◌+◌, ◌<◌, ◌&&◌, List, Option, None, IfSome, subst, Noted, Program, Local, num, line_of, word_at, cleaned, no_lines, Dir, Vendor}
+use Names.{Fill, ProbeReply, Inv, Event, home, lines, CoreState, World, start, dir_start, Out, core_exec, core_evict, from_dir, grant}
+use Names.{data_request, Waits, Drops, core_moves, core_takes, dir_takes, dir_asks, vendor_gives, and_noted, step, GetsOf, KeptGets, live}
+use Names.{Pair, pair, after_move, back_taken, out_taken, after_answer, is_this, to_dir, to_core, FromCore, FromDir, tested}
+use proofs.Counts.{Outcome, Waiting, Spent, AsksOwner, TakesCommit, TakesCopy, outcome, among-to, live-sends, live-takes, given, back-own}
+use proofs.Counts.{pairs_move, pairs_grant, pairs_back, pairs_dir, pairs_asks, pairs_vendor, OfAnswer, step_cases}
 use proofs.Copies.CopySends.{frame_copy, clean-frame}
 use proofs.Copies.LinesKept.{KeptLines}
 use proofs.Copies.PairCopies.{LineCopies, of-line}
-use proofs.Counts.Links.{live-sends, live-takes}
-use proofs.Counts.StepCases.{given, back-own, pairs_move, pairs_grant, pairs_back, pairs_dir, pairs_asks, pairs_vendor, OfAnswer}
-use proofs.Counts.StepCases.{step_cases}
 use proofs.Marks.DirRecords.{RecordsBy, dir-records}
 
 -- What a directory's rules do to the lines of which it has asked the owner: it asks with a request, and a line that stays asked keeps its
@@ -45,7 +42,7 @@ dir-gets sh s c m = go (outcome sh s c m)
         → (s.lines.asked x ≡ true) ⊎ ((j : ℕ) → s.lines.owner x ≡ Some j → 1 ≤ among (DataOf x) (to (Core o) (DataReq l ∷ []) (Core j)))
     sent l o e x true q r = inr (λ j w. let i : l ≡ x = grind nats in let y : Some o ≡ Some j = sym e ∙ ap s.lines.owner i ∙ w in
         let z : j ≡ o = cc in let n : among (DataOf x) (to (Core o) (DataReq l ∷ []) (Core j)) ≡ 1 = among-to (DataOf x) o j (DataReq l)
-        ∙ rw (z, eq-self o, i, eq-self x) refl in omega (arith, n))
+        ∙ rw (z, eq-self o, i, eq-self x) in omega (arith, n))
     sent l o e x false q r = inl r
 
     go : {m : Msg} {a : Answer} → Outcome sh s c m a → GetsBy s m a
@@ -76,7 +73,7 @@ asked-clean : (sh : Shape) (e l : ℕ) (s : CoreState) (m : Msg) → passes (Dat
 unfolding passes data_request cleaned
 asked-clean sh e l s (DataReq k) q = clean-frame (cleaned k s.cache) l
     (λ i j. (let y : (k == line_of (word_at l i)) ≡ true = (let z : line_of (word_at l i) ≡ l = line_of-word_at l i j in rw z q) in
-    rw y refl))
+    rw y))
 asked-clean sh e l s (ProbeReply t v) q = absurd (cc)
 asked-clean sh e l s (Fill k ws) q = absurd (cc)
 asked-clean sh e l s (Inv k m u) q = absurd (cc)
@@ -87,7 +84,7 @@ gets-answered : (base : ℕ) (cs : List Noted) (c l : ℕ) (v : Pair) → LineCo
     → GetsOf c l v
 gets-answered base cs c l v h z a e =
     let y : (c == c) ≡ true = grind nats in
-    let x : num (is_this (v.dir.lines.owner l) c) ≡ 1 = rw (e, y) refl in
+    let x : num (is_this (v.dir.lines.owner l) c) ≡ 1 = rw (e, y) in
     omega (arith, h.owned, of-line l (v.dir.lines.tag l) v, z (v.dir.lines.tag l), x)
 
 -- a message of core c is taken by a directory that keeps the line asked; mine: the message is this core's
@@ -127,7 +124,7 @@ step-gets sh p w cs e h = step_cases sh p w e (λ g o. KeptLines sh (and_noted o
     (λ c d k m i. taken c d k m i (from_dir sh d (w.cores c) m) (λ l q. asked-clean sh d l (w.cores c) m q))
     (λ c d k m i. answered c d k m i (dir_deliver sh (w.dirs d) c m) (dir-records sh (w.dirs d) c m) (dir-gets sh (w.dirs d) c m))
     (λ c k i n. from (vendor_gives w c k (given w c))
-    (pairs_vendor (GetsAt sh) w c k (λ d l cl dl ll q. h c d l cl dl ll q) (λ j d r l cl dl ll q. h j d l cl dl ll q)))
+    (pairs_vendor (GetsAt sh) w c k (h c) (λ j d r l cl dl ll q. h j d l cl dl ll q)))
   where
     at-pairs : (c d : ℕ) → GetsAt sh c d (pair w c d)
     at-pairs c d l cl dl ll q = h c d l cl dl ll q
@@ -178,7 +175,7 @@ step-gets sh p w cs e h = step_cases sh p w e (λ g o. KeptLines sh (and_noted o
         (λ t. live-takes (CopyOf l t) (to_dir w c d) k m i) (more d c l (λ dst. [])) (h c d l cl dl ll q))
         (λ j r l jl dl ll q a e. omega (arith, h j d l jl dl ll q a e, more d j l (λ dst. []))) at-pairs)
     answered c d k m i (Asks s sends) u f =
-        λ n. from (dir_asks w d s sends) (pairs_asks (GetsAt sh) w d s sends (λ j l jl dl ll q. now j l jl dl ll q) at-pairs)
+        λ n. from (dir_asks w d s sends) (pairs_asks (GetsAt sh) w d s sends now at-pairs)
       where
         now : (j l : ℕ) → j < sh.cores → d < sh.dirs → l < lines sh → home sh l ≡ d
             → GetsOf j l (after_answer (pair w j d) s (sends (Core j)))

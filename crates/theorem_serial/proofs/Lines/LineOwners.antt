@@ -1,21 +1,18 @@
 -- Every event keeps what is known of the owner of a line and of the loads of it: an asked line has an owner, one marked in part has none.
-use Rattle.base_lemmas.proofs.Lemmas.{eq-self}
 use Rattle.theorem_serial.specs.Asked.{AskedOwned, KeptAsked}
 use Rattle.theorem_serial.proofs
 use proofs.Names
-use Names.{ℕ, ◌≡◌, Bool, false, [], ◌==◌, ◌&&◌, Option, Some, None, IfSome, arith, refl, Program, Local, num, Core, Dir, Event, Msg, Fill}
-use Names.{ProbeReply, DataReq, Shape, DirState, World, start, core_start, Out, core_exec, core_evict, from_dir, grant, Answer, Waits}
-use Names.{Drops, Asks, Takes, dir_deliver, home_words, core_moves, core_takes, step, LoadingOf, KeptLoading, LoadOf, FillOf, live, among}
-use Names.{passes, Pair, pair, nats, to_dir, to_core, FromCore, FromDir, no_lines, dir_start, Commit, true, List, ◌++◌, Contains}
+use Names.{eq-self, ℕ, ◌≡◌, Bool, false, [], ◌==◌, ◌&&◌, Option, Some, None, IfSome, arith, refl, Program, Local, num, Core, Dir, Event}
+use Names.{Msg, Fill, ProbeReply, DataReq, Shape, DirState, World, start, core_start, Out, core_exec, core_evict, from_dir, grant, Answer}
+use Names.{Waits, Drops, Asks, Takes, dir_deliver, home_words, core_moves, core_takes, step, LoadingOf, KeptLoading, LoadOf, FillOf, live}
+use Names.{among, passes, Pair, pair, nats, to_dir, to_core, FromCore, FromDir, no_lines, dir_start, Commit, true, List, ◌++◌, Contains}
 use Names.{if◌then◌else◌, ap, Contains-append_left, has_mark, KeptLineOwners, Commits, Grant, granted_by, SparesCommitter, Stepped, tid_at}
 use Names.{inr, WhollyOrHome, KeptWhole, grant_to, ◌≢◌}
-use proofs.Counts.DirOutcome.{Outcome, Waiting, Spent, AsksOwner, TakesProbe, TakesLoad, TakesCommit, TakesCopy, IsSpent, CopyPassed}
-use proofs.Counts.DirOutcome.{outcome, among-none, among-to, none-to, none-invalidations, TakesAbort, TakesMark, TakesAck}
-use proofs.Counts.Links.{live-sends, live-takes}
-use proofs.Counts.StepCases.{differ, pairs_move, pairs_grant, pairs_back, pairs_dir, pairs_asks, pairs_vendor, OfAnswer, step_cases, Leaves}
-use proofs.Counts.StepCases.{dirs_step}
-use proofs.OneCore.CoreAsks.{LoadsStep, LoadsBack, loads-exec, loads-evict, loads-grant, loads-back}
-use proofs.Tids.TidSteps.{live-some}
+use proofs.Counts.{Outcome, Waiting, Spent, AsksOwner, TakesProbe, TakesLoad, TakesCommit, TakesCopy, IsSpent, CopyPassed, outcome}
+use proofs.Counts.{among-none, among-to, none-to, none-invalidations, TakesAbort, TakesMark, TakesAck, live-sends, live-takes, differ}
+use proofs.Counts.{pairs_move, pairs_grant, pairs_back, pairs_dir, pairs_asks, pairs_vendor, OfAnswer, step_cases, Leaves, dirs_step}
+use proofs.OneCore.{LoadsStep, LoadsBack, loads-exec, loads-evict, loads-grant, loads-back}
+use proofs.Tids.{live-some}
 
 -- Every event keeps that one load request or Fill is in flight exactly for the line that a core awaits.
 
@@ -75,7 +72,7 @@ step-loading sh p w e h = step_cases sh p w e (λ g o. KeptLoading sh o.world)
     (λ c d k m i. taken c d k m i (from_dir sh d (w.cores c) m)
     (loads-back sh d (w.cores c) m (λ l. omega (arith, h c d l, live-some (FillOf l) (to_core w d c) k m i))))
     (λ c d k m i. answered c d k m i (dir_deliver sh (w.dirs d) c m) (dir-fills sh (w.dirs d) c m))
-    (λ c k i. pairs_vendor P w c k (λ d l. h c d l) (λ j d n l. h j d l))
+    (λ c k i. pairs_vendor P w c k (h c) (λ j d n l. h j d l))
   where
     P : ℕ → ℕ → Pair → Type 0
     P c d v = (l : ℕ) → LoadingOf sh d l v
@@ -85,10 +82,10 @@ step-loading sh p w e h = step_cases sh p w e (λ g o. KeptLoading sh o.world)
     moved c (Some o) a = pairs_move P w c o (λ d l. omega (arith, h c d l, a d l, live-sends (LoadOf l) (to_dir w c d) (o.sends (Dir d)))) h
 
     self : (d : ℕ) (b : Bool) → num (d == d && b) ≡ num b
-    self d b = rw (eq-self d) refl
+    self d b = rw (eq-self d)
 
     other : (d e : ℕ) (b : Bool) → d ≢ e → num (d == e && b) ≡ 0
-    other d e b n = rw (differ d e n) refl
+    other d e b n = rw (differ d e n)
 
     taken : (c d k : ℕ) (m : Msg) → FromDir w d c k m → (x : Option Out)
         → IfSome x (λ o. LoadsBack sh d (w.cores c) m o) → IfSome x (λ o. KeptLoading sh (core_takes w (Dir d) c k o))
@@ -112,7 +109,7 @@ step-loading sh p w e h = step_cases sh p w e (λ g o. KeptLoading sh o.world)
 
     answered : (c d k : ℕ) (m : Msg) → FromCore w c d k m → (a : Answer) → FillsBy c m a → OfAnswer w c d k (λ v. KeptLoading sh v) a
     answered c d k m i Waits u = tt
-    answered c d k m i Drops u = pairs_dir P w c d k (w.dirs d) (λ dst. []) (λ l. let z : num (passes (LoadOf l) m) ≡ 0 = rw (u l) refl in
+    answered c d k m i Drops u = pairs_dir P w c d k (w.dirs d) (λ dst. []) (λ l. let z : num (passes (LoadOf l) m) ≡ 0 = rw (u l) in
         omega (
           arith,
           h c d l,

@@ -1,29 +1,27 @@
 -- Every event keeps that a core which holds a line in memory is one of its sharers, or its Commit of the line is in flight.
-use Rattle.base_lemmas.proofs.Lemmas.{eq-self as same}
 use Rattle.theorem_serial.proofs
 use proofs.Names
-use Names.{ℕ, ◌≡◌, ◌≤◌, ◌⊎◌, ◌&&◌, ◌||◌, Bool, true, false, nat_lt, List, arith, refl, ap, sym, ◌∙◌, inl, inr, Noted, keeps_unmodified}
-use Names.{is_fresh, holds_line, CommitsLine, SharerOf, FillOf, GoneOf, live, Pair, ◌+◌, ◌<◌, ◌==◌, [], ◌∷◌, Some, None, subst, cases_lt}
-use Names.{num, has_mark, Core, Dir, Msg, Shape, home, lines, DirState, Link, Sends, History, Kind, AckOf, Commits, among, passes, Grant}
-use Names.{pair, Ways, wrote_line, Option, IfSome, Out, and_noted, insert_commit, KeptLoading, LoadOf, CommitsAbove, due, after_move, share}
-use Names.{is_applied, stores_at, names_line, is_some, CoreState, Phase, Running, World, core_moves, dir_takes, KeptSharers, OneCore}
-use Names.{acting, after_answer, out_taken, has_tid, ◌%◌, not, is_awaited, KeptHomes, LoadingOf, InvOf, LinesAway, nats, home_of, tid_at}
-use Names.{to_dir, to_core, FromCore, FromDir, ◌≢◌, tested}
+use Names.{eq-self as same, ℕ, ◌≡◌, ◌≤◌, ◌⊎◌, ◌&&◌, ◌||◌, Bool, true, false, nat_lt, List, arith, refl, ap, sym, ◌∙◌, inl, inr, Noted}
+use Names.{keeps_unmodified, is_fresh, holds_line, CommitsLine, SharerOf, FillOf, GoneOf, live, Pair, ◌+◌, ◌<◌, ◌==◌, [], ◌∷◌, Some, None}
+use Names.{subst, cases_lt, num, has_mark, Core, Dir, Msg, Shape, home, lines, DirState, Link, Sends, History, Kind, AckOf, Commits, among}
+use Names.{passes, Grant, pair, Ways, wrote_line, Option, IfSome, Out, and_noted, insert_commit, KeptLoading, LoadOf, CommitsAbove, due}
+use Names.{after_move, share, is_applied, stores_at, names_line, is_some, CoreState, Phase, Running, World, core_moves, dir_takes}
+use Names.{KeptSharers, OneCore, acting, after_answer, out_taken, has_tid, ◌%◌, not, is_awaited, KeptHomes, LoadingOf, InvOf, LinesAway}
+use Names.{nats, home_of, tid_at, to_dir, to_core, FromCore, FromDir, ◌≢◌, tested}
 use proofs.Copies.LinesKept.{Before, new-of}
 use proofs.Copies.LinesStep.{writer-line, commit-passes}
 use proofs.Copies.PairCopies.{NewCommit}
 use proofs.Copies.TagsKept.{taken-commit, stored-home}
 use proofs.Copies.WroteLines.{applied-or, is_of, wrote-new, wrote-other, commit-sent, wrote-unknown}
-use proofs.Counts.Links.{live-sends, total-le, live-takes}
-use proofs.Counts.StepCases.{differ, either, moves-own, moves-other, pairs_dir}
+use proofs.Counts.{live-sends, total-le, live-takes, differ, either, moves-own, moves-other, pairs_dir}
 use proofs.Lines.CoreHolds.{Holds, ReadsValid, HoldsTaken, Gone}
 use proofs.Marks.DirRecords.{Shares, Records, Still, Came, Settles}
 use proofs.Marks.AfterKept.{AfterStep}
 use proofs.Marks.NamedKept.{lines-live}
 use proofs.Marks.ReadsKept.{KeptReads}
-use proofs.OneCore.CoreReads.{ValidOrPassed}
-use proofs.Serving.CommitSteps.{of-above}
-use proofs.Tids.TidSteps.{live-some}
+use proofs.OneCore.{ValidOrPassed}
+use proofs.Serving.{of-above}
+use proofs.Tids.{live-some}
 use proofs.Ways.CoreSkips.{TellsCommit}
 use proofs.Ways.ToldSteps.{Speaks}
 
@@ -44,7 +42,7 @@ holds-cases l v q = go (keeps_unmodified v.core.cache l) (is_fresh v.core.awaite
 
 pub holds-kept : (l : ℕ) (v : Pair) → keeps_unmodified v.core.cache l ≡ true → holds_line l v ≡ true
 unfolding holds_line
-holds-kept l v q = rw q refl
+holds-kept l v q = rw q
 
 pub holds-fill : (l : ℕ) (v : Pair) → is_fresh v.core.awaited ≡ true → 1 ≤ live (FillOf l) v.back → holds_line l v ≡ true
 unfolding holds_line
@@ -141,7 +139,7 @@ takes-commits {sh} h c d k j l {mine} m s w b i z dl ll e a r f x = go r
       where
         cases : (p v : Bool) → (j == c) ≡ p → (tid_at h.world d == x.tid) ≡ v
             → (w.dir.lines.sharers l j ≡ true) ⊎ CommitsLine sh.base h.commits j l w
-        cases false v e0 e1 = same (rw (sym z ∙ e0) refl)
+        cases false v e0 e1 = same (rw (sym z ∙ e0))
         cases true false e0 e1 = same (none mine (commit-passes sh (h.world.dirs d) m x.tid q ∙ e1))
         cases true true e0 e1 =
             let y : j ≡ c = grind nats in
@@ -150,7 +148,7 @@ takes-commits {sh} h c d k j l {mine} m s w b i z dl ll e a r f x = go r
             subst (λ p. wrote_line sh.base h.commits c p l ≡ true) (sym t)
             (subst (λ p. wrote_line sh.base h.commits p x.tid l ≡ true) y x.line) in
             let o' : has_mark (h.world.dirs d).lines l ≡ true = sym (writer-line h l ll e (taken-commit c d k b.told.all dl i q)) ∙ n' in
-            inl (ap (λ u. u.lines.sharers l j) a.dir ∙ ap (λ u. s.lines.sharers l u) y ∙ f.taken l q o')
+            inl (ap (λ u. u.lines.sharers l j) a.dir ∙ ap (s.lines.sharers l) y ∙ f.taken l q o')
 
 pub answer-sharers : {sh : Shape} {gs : List Grant} {ys : Ways} {h : History} {c d : ℕ}
     (k : ℕ) {j l : ℕ} {mine : Bool} {m : Msg} {s : DirState} {sends : Sends} (w : Pair) → Before sh gs ys h → FromCore h.world c d k m
@@ -171,7 +169,7 @@ answer-sharers {h} {c} {d} k {j} {l} {mine} {m} {s} {sends} w b i z jl dl ll e a
         → (w.dir.lines.sharers l j ≡ true) ⊎ (1 ≤ live (GoneOf l) (to_dir h.world j d))
     kept (inl q) = inl (ap (λ u. u.lines.sharers l j) a.dir ∙ q)
     kept (inr q) = let y : mine ≡ true = sym z ∙ (let p = q.0 in grind nats) in
-        let n : num (mine && passes (GoneOf l) m) ≡ 1 = rw (y, q.1) refl in inr (omega (arith, n, a.lives (GoneOf l)))
+        let n : num (mine && passes (GoneOf l) m) ≡ 1 = rw (y, q.1) in inr (omega (arith, n, a.lives (GoneOf l)))
 
     filled : (0 < among (FillOf l) (sends (Core j))) ⊎ (among (FillOf l) (sends (Core j)) ≤ 0)
         → (live (FillOf l) w.back ≤ live (FillOf l) (to_core h.world d j))
@@ -233,14 +231,14 @@ own-sharers {sh} {h} {c} {d} {l} o b ld cl dl ll e s k = sharer-moved refl
     w : Pair
     w = after_move v o d
 
-    new : (n : Noted) → o.commit ≡ Some n → n.core.0 ≡ c → NewCommit sh.base h.commits c d l v o n
-    new n q r = new-of l b cl dl ll e q r s.speaks
+    new : {n : Noted} → o.commit ≡ Some n → n.core.0 ≡ c → NewCommit sh.base h.commits c d l v o n
+    new q r = new-of l b cl dl ll e q r s.speaks
 
-    stored : (n : Noted) → o.commit ≡ Some n → names_line sh.base n.stores l ≡ true → AfterStep sh c (h.world.cores c) o
+    stored : {n : Noted} → o.commit ≡ Some n → names_line sh.base n.stores l ≡ true → AfterStep sh c (h.world.cores c) o
         → CommitsLine sh.base (and_noted o.commit h.commits) c l w × (live (GoneOf l) v.out ≡ 0)
-    stored n q i (inl x) = absurd (let y = sym x.commit ∙ q in cc)
-    stored n q i (inr x) =
-        let y : NewCommit sh.base h.commits c d l v o n = new n q core in (
+    stored q i (inl x) = absurd (let y = sym x.commit ∙ q in cc)
+    stored {n} q i (inr x) =
+        let y : NewCommit sh.base h.commits c d l v o n = new q core in (
           subst (λ a. CommitsLine sh.base (and_noted a h.commits) c l w) (sym q)
               (record {
                 tid = n.tid.0;
@@ -250,8 +248,8 @@ own-sharers {sh} {h} {c} {d} {l} o b ld cl dl ll e s k = sharer-moved refl
           unowed h c d l b cl (served-owed (h.world.dirs d) n.tid.0 below (s.unapplied n q (stored-home sh l n ll e i))),
         )
       where
-        tells : (a : Option Noted) → a ≡ Some n → IfSome a (TellsCommit sh (h.world.cores c) o) → TellsCommit sh (h.world.cores c) o n
-        tells a f g = rw f at g
+        tells : {a : Option Noted} → a ≡ Some n → IfSome a (TellsCommit sh (h.world.cores c) o) → TellsCommit sh (h.world.cores c) o n
+        tells f g = rw f at g
 
         core : n.core.0 ≡ c
         core =
@@ -265,13 +263,13 @@ own-sharers {sh} {h} {c} {d} {l} o b ld cl dl ll e s k = sharer-moved refl
             arith,
             s.reached,
             above-sent (tid_at h.world d) n.tid.0 (o.sends (Dir d)) z,
-            commit-sent c d b.told cl (tells o.commit q s.speaks.tells.commits) dl (stored-home sh l n ll e i),
+            commit-sent c d b.told cl (tells q s.speaks.tells.commits) dl (stored-home sh l n ll e i),
           ))
         ]
 
     held : (keeps_unmodified w.core.cache l ≡ true) ⊎ ((is_fresh w.core.awaited ≡ true) × (1 ≤ live (FillOf l) w.back))
         → (holds_line l v ≡ true) ⊎ (CommitsLine sh.base (and_noted o.commit h.commits) c l w × (live (GoneOf l) v.out ≡ 0))
-    held (inl q) = elim (s.holds.kept q) [ inl x ↦ inl (holds-kept l v x) | inr x ↦ inr (stored x.commit x.noted x.line s.after) ]
+    held (inl q) = elim (s.holds.kept q) [ inl x ↦ inl (holds-kept l v x) | inr x ↦ inr (stored x.noted x.line s.after) ]
     held (inr q) = elim (s.holds.fresh q.0) [
       | inl x ↦ inl (holds-fill l v x q.1)
       | inr x ↦ absurd (let y : live (LoadOf l) v.out + live (FillOf l) v.back ≡ 0 = rw x at (ld c d l) in omega (arith, y, q.1))
@@ -287,7 +285,7 @@ own-sharers {sh} {h} {c} {d} {l} o b ld cl dl ll e s k = sharer-moved refl
             → wrote_line sh.base (insert_commit n h.commits) c x.tid l ≡ true
         line n q r false z = (wrote-other sh.base n h.commits c x.tid l z).line ∙ x.line
         line n q r true z = absurd (let t : n.tid.0 ≡ x.tid = tids (n.core.0 == c) (n.tid.0 == x.tid) refl z in
-            let y = wrote-unknown sh.base h.commits c x.tid l (rw t at (new n q r).fresh) in let u = x.line in cc)
+            let y = wrote-unknown sh.base h.commits c x.tid l (rw t at (new q r).fresh) in let u = x.line in cc)
           where
             tids : (a b : Bool) → (n.tid.0 == x.tid) ≡ b → (a && b) ≡ true → n.tid.0 ≡ x.tid
             tids true true p f = grind nats
@@ -338,7 +336,7 @@ dir-sharers {sh} h c d k m s {sends} b t i r f = pairs_dir (SharersAt sh h.commi
       lives = λ q. omega arith;
       back = λ q. live-sends q (to_core h.world d j) (sends (Core j));
     }) r f (t j d l jl dl ll e))
-    (λ j e l jl el ll q. t j e l jl el ll q)
+    t
 
 -- another core's: what it wrote stays
 other-sharers : {base : ℕ} (a : Option Noted) {cs : List Noted} (j l : ℕ) {v : Pair} → ((n : Noted) → a ≡ Some n → (n.core.0 == j) ≡ false)
@@ -353,7 +351,7 @@ other-sharers {base} a {cs} j l {v} f h = go a refl
             → (v.dir.lines.sharers l j ≡ true) ⊎ CommitsLine base (insert_commit n cs) j l v
         more (inl x) = inl x
         more (inr x) =
-            inr (record { tid = x.tid; sent = x.sent; line = (wrote-other base n cs j x.tid l (let y = f n e in rw y refl)).line ∙ x.line })
+            inr (record { tid = x.tid; sent = x.sent; line = (wrote-other base n cs j x.tid l (let y = f n e in rw y)).line ∙ x.line })
 
 -- a core executes or evicts
 pub moved-sharers : {sh : Shape} {gs : List Grant} {ys : Ways} (h : History) (c : ℕ) (o : Out) → Before sh gs ys h → KeptLoading sh h.world
@@ -381,7 +379,7 @@ fill-home : (sh : Shape) (w : World) (c e k l : ℕ) (m : Msg) → KeptHomes sh 
 unfolding pair
 fill-home sh w c e k l m h i q = elim (tested (home sh l == e)) [
   | inl p ↦ grind nats
-  | inr p ↦ absurd (let n : num (passes (LinesAway sh.dirs e) m) ≡ 1 = ap num (fill-away sh.dirs e l m q) ∙ rw p refl in
+  | inr p ↦ absurd (let n : num (passes (LinesAway sh.dirs e) m) ≡ 1 = ap num (fill-away sh.dirs e l m q) ∙ rw p in
       omega (arith, n, live-some (LinesAway sh.dirs e) (to_core w e c) k m i, (h c e l).back))
 ]
 
@@ -415,13 +413,13 @@ back-sharers sh w cs c e d k l m v o h q i vc vd vo vb f g ld t =
     more : CommitsLine sh.base cs c l u → CommitsLine sh.base cs c l x
     more y = record {
       tid = y.tid;
-      sent = let z : live (Commits y.tid) v.out ≡ live (Commits y.tid) u.out = rw vo refl in
+      sent = let z : live (Commits y.tid) v.out ≡ live (Commits y.tid) u.out = rw vo in
           omega (arith, y.sent, z, live-sends (Commits y.tid) v.out (o.sends (Dir d)));
       line = y.line;
     }
 
     same : among (GoneOf l) (o.sends (Dir d)) ≡ 0 → live (GoneOf l) x.out ≡ live (GoneOf l) u.out
-    same z = let y : live (GoneOf l) v.out ≡ live (GoneOf l) u.out = rw vo refl in
+    same z = let y : live (GoneOf l) v.out ≡ live (GoneOf l) u.out = rw vo in
         omega (arith, z, y, live-sends (GoneOf l) v.out (o.sends (Dir d)))
 
     -- a core that says that it keeps no word holds none

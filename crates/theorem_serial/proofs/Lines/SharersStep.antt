@@ -9,8 +9,8 @@ use Names.{dir_asks, History, and_noted, step, KeptNamed, KeptLoading, KeptHomes
 use Names.{InvOf, InvsAway, FillOf, among, passes, Grant, Pair, after_move, grant_taken, back_taken, after_answer, out_taken, after_grant}
 use Names.{after_other_grant, is_applied, stores_at, Ways, Bool, tid_at, to_dir, to_core, FromCore, FromDir}
 use proofs.Copies.LinesKept.{Before}
-use proofs.Counts.Links.{live-sends, live-takes, none-taken}
-use proofs.Counts.StepCases.{back-own, back-away, pairs_grant, pairs_back, pairs_dir, pairs_asks, pairs_vendor, OfAnswer, step_cases}
+use proofs.Counts.{live-sends, live-takes, none-taken, back-own, back-away, pairs_grant, pairs_back, pairs_dir, pairs_asks, pairs_vendor}
+use proofs.Counts.{OfAnswer, step_cases}
 use proofs.Lines.CoreHolds.{Holds, holds-exec, holds-evict, holds-grant, HoldsTaken, holds-back}
 use proofs.Marks.DirRecords.{Shares, SharesBy, dir-shares, NoCommit, RecordsBy, dir-records}
 use proofs.Lines.SharersKept.{sharer-answered, gone-ack, gone-acks, SharersAt, reads-valid, dir-sharers, moved-sharers, own-sharers}
@@ -18,10 +18,9 @@ use proofs.Lines.SharersKept.{back-sharers}
 use proofs.Marks.AfterKept.{AfterStep, Stays, after-exec, after-evict, after-grant, after-back}
 use proofs.Marks.NamedKept.{lines-among, acks-line}
 use proofs.Marks.ReadsKept.{KeptReads}
-use proofs.Serving.CoreDue.{CommitsNoted, noted-exec, noted-evict, Served, served-exec, served-evict, served-grant, CleanOut, clean-exec}
-use proofs.Serving.CoreDue.{clean-evict, clean-grant}
-use proofs.Tids.CoreTids.{KeepsPart, part-exec, part-evict}
-use proofs.Tids.TidSteps.{live-some}
+use proofs.Serving.{CommitsNoted, noted-exec, noted-evict, Served, served-exec, served-evict, served-grant, CleanOut, clean-exec}
+use proofs.Serving.{clean-evict, clean-grant}
+use proofs.Tids.{KeepsPart, part-exec, part-evict, live-some}
 use proofs.Ways.CoreSkips.{Tells, tells-exec, tells-evict}
 use proofs.Ways.ToldSteps.{speaks, grant-speaks}
 
@@ -32,7 +31,7 @@ empty-keeps l = refl
 
 holds-none : (entries : ℕ → Local) (ram : ℕ → ℕ) (c d l : ℕ) → holds_line l (pair (start entries ram) c d) ≡ false
 unfolding start core_start pair holds_line live
-holds-none entries ram c d l = rw (empty-keeps l) refl
+holds-none entries ram c d l = rw (empty-keeps l)
 
 pub start-sharers : (sh : Shape) (entries : ℕ → Local) (ram : ℕ → ℕ) → KeptSharers sh (start entries ram) []
 start-sharers sh entries ram c d l a b i e = record {
@@ -102,7 +101,7 @@ dropped-sharers sh h c d k m t i u = pairs_dir (SharersAt sh h.commits) h.world 
       gone = omega arith;
     })
     (t j d l jl dl ll q))
-    (λ j x l jl dl ll q. t j x l jl dl ll q)
+    t
   where
     none : (l : ℕ) → among (FillOf l) [] ≡ 0
     none l = no-message (FillOf l)
@@ -120,7 +119,7 @@ asked-sharers sh h c d k m s sends g t i f = pairs_asks (SharersAt sh h.commits)
       filled = filled j l jl dl (cases_lt 0 (among (FillOf l) (sends (Core j))));
       gone = omega arith;
     }) (t j d l jl dl ll q))
-    (λ j x l jl dl ll q. t j x l jl dl ll q)
+    t
   where
     kept : (j l : ℕ) → (s.lines.sharers l j ≡ true) ⊎ ((j ≡ c) × (passes (GoneOf l) m ≡ true))
         → (s.lines.sharers l j ≡ true) ⊎ (1 ≤ live (GoneOf l) (to_dir h.world j d))
@@ -213,11 +212,11 @@ step-sharers sh p gs ys h e b ld hm rd t = step_cases sh p h.world e (λ g o. Ke
     taken c d k m i (Some o) f g a = λ n u. subst (λ x. KeptSharers sh (core_takes h.world (Dir d) c k o) (and_noted x h.commits))
         (sym a.commit) (pairs_back (SharersAt sh h.commits) h.world d c k o
         (λ l cl dl ll q. back-sharers sh h.world h.commits c d d k l m (back_taken (pair h.world c d) k) o hm q i refl refl refl
-        (omega (arith, live-takes (FillOf l) (to_core h.world d c) k m i)) (f l) (λ r. quiet d l r)
+        (omega (arith, live-takes (FillOf l) (to_core h.world d c) k m i)) (f l) (quiet d l)
         (subst (LoadingOf sh d l) (back-own h.world c k o d) (n c d l)) (t c d l cl dl ll q))
         (λ x r l cl dl ll q. back-sharers sh h.world h.commits c d x k l m (pair h.world c x) o hm q i refl refl refl (omega arith) (f l)
-        (λ r. quiet x l r) (subst (LoadingOf sh x l) (back-away h.world d c k o x r) (n c x l)) (t c x l cl dl ll q))
-        (λ j x l jl dl ll q. t j x l jl dl ll q))
+        (quiet x l) (subst (LoadingOf sh x l) (back-away h.world d c k o x r) (n c x l)) (t c x l cl dl ll q))
+        t)
       where
         quiet : (x l : ℕ) → passes (InvOf l) m ≡ false → among (GoneOf l) (o.sends (Dir x)) ≡ 0
         quiet x l r = let z : num ((x == d) && passes (InvOf l) m) ≡ 0 = rw r (none (x == d)) in

@@ -9,21 +9,20 @@ use Names.{Link, start, core_start, Sends, Answer, Waits, Drops, Asks, Takes, di
 use Names.{and_noted, insert_commit, AfterOf, KeptAfter, KeptLoading, stored_there, live, KeptCores, Grant, AreGranted, holder, KeptOwners}
 use Names.{LastGranted, Pair, pair, after_move, last_of, to_dir, FromCore, FromDir, grant_to, ◌≢◌}
 use proofs.Marks.CoreMarks.{stored-solo, stored-written}
-use proofs.OneCore.Said.{Empties, Flushes, Requests, Silent, Tells_alone, Tells_commit, quiet, say}
-use proofs.OneCore.Outcomes.{Commits_now, Did, Ends_alone, Given_none, Granted, Hands_out, Heard, Misses, Misses_anew, after_end, each-back}
-use proofs.OneCore.Outcomes.{each-evict, each-exec, each-grant, emptied, granted, granted_said, heard, heard-quiet, out, said}
-use proofs.Tids.CoreTids.{KeepsHolder, noted_tid, none, holder-exec, holder-evict}
-use proofs.Counts.Links.{live-sends, live-takes}
-use proofs.Serving.OwnerSteps.{holder-moved}
-use proofs.Counts.StepCases.{either, moves-own, moves-other, pairs_move, pairs_grant, pairs_back, pairs_dir, pairs_asks, pairs_vendor}
-use proofs.Counts.StepCases.{OfAnswer, step_cases}
+use proofs.OneCore.{Empties, Flushes, Requests, Silent, Tells_alone, Tells_commit, quiet, say, Commits_now, Did, Ends_alone, Given_none}
+use proofs.OneCore.{Granted, Hands_out, Heard, Misses, Misses_anew, after_end, each-back, each-evict, each-exec, each-grant, emptied}
+use proofs.OneCore.{granted, granted_said, heard, heard-quiet, out, said}
+use proofs.Tids.{KeepsHolder, noted_tid, none, holder-exec, holder-evict}
+use proofs.Counts.{live-sends, live-takes, either, moves-own, moves-other, pairs_move, pairs_grant, pairs_back, pairs_dir, pairs_asks}
+use proofs.Counts.{pairs_vendor, OfAnswer, step_cases}
+use proofs.Serving.{holder-moved}
 
 -- What a core's step does to the TIDs that it notes of its last commit at each directory.
 
 -- without a request for a line there is none that carries something else
 pub no-load : (x : ℕ) (m : Msg) → ((l : ℕ) → num (passes (LoadOf l) m) ≡ 0) → num (passes (LoadNot x) m) ≡ 0
 unfolding passes
-no-load x (LoadReq k a) f = absurd (let y = f k in let z : (k == k) ≡ true = grind nats in let q : num (k == k) ≡ 1 = rw z refl in
+no-load x (LoadReq k a) f = absurd (let y = f k in let z : (k == k) ≡ true = grind nats in let q : num (k == k) ≡ 1 = rw z in
     omega (arith, y, q))
 no-load x _ f = refl
 
@@ -64,9 +63,9 @@ pub after-exec : {sh : Shape} (p : Program) (c : ℕ) {s : CoreState} → OneCor
 unfolding passes commit solo_commit committed_core noted with_last_commit
 after-exec {sh} p c {s} h = each-exec sh p c s (AfterStep sh c s) go
   where
-    rests : (t : ℕ) → s.phase ≡ Ready t → (a : Option Awaited) → s.awaited ≡ a → a ≡ None
-    rests t q None e = refl
-    rests t q (Some a) e = let x = (h.awaited a e).0 in absurd (let y : executes s.phase ≡ false = rw q refl in cc)
+    rests : {t : ℕ} → s.phase ≡ Ready t → (a : Option Awaited) → s.awaited ≡ a → a ≡ None
+    rests q None e = refl
+    rests q (Some a) e = let x = (h.awaited a e).0 in absurd (let y : executes s.phase ≡ false = rw q in cc)
 
     go : (x : Did sh p c s) → AfterStep sh c s (out x)
     go (Misses a n g i q) = inl (asked sh (line_of (word_of sh.base a)) s _ refl)
@@ -75,7 +74,7 @@ after-exec {sh} p c {s} h = each-exec sh p c s (AfterStep sh c s) go
       noted = noted t c (after_end s l e);
       commit = refl;
       core = refl;
-      after = λ d. rw (stored-solo sh s.cache s.spilled s.stores d (λ w. h.words.named w)) refl;
+      after = λ d. rw (stored-solo sh s.cache s.spilled s.stores d h.words.named);
       quiet = λ d x. quiet sh s (LoadNot x) (Tells_alone t) (λ y. refl) d;
       idle = i;
     })
@@ -83,9 +82,9 @@ after-exec {sh} p c {s} h = each-exec sh p c s (AfterStep sh c s) go
       noted = noted t c s;
       commit = refl;
       core = refl;
-      after = λ d. rw (stored-written sh s.cache s.spilled s.stores d (rw e at h.words)) refl;
+      after = λ d. rw (stored-written sh s.cache s.spilled s.stores d (rw e at h.words));
       quiet = λ d x. quiet sh s (LoadNot x) (Tells_commit t) (λ y. refl) d;
-      idle = rests t e s.awaited refl;
+      idle = rests e s.awaited refl;
     })
     go x = inl (stays s (out x) (λ d y. quiet sh s (LoadNot y) (said x) (λ z. refl) d) refl refl)
 
@@ -199,7 +198,7 @@ unfolding pair
 step-after {sh} p {gs} {w} {cs} e y k g ld h = step_cases sh p w e (λ x o. KeptAfter sh o.world (and_noted o.noted cs))
     (λ c l. moved c l (core_exec sh p c (w.cores c)) (after-exec p c (k c)) (holder-exec sh p c (w.cores c)))
     (λ c a b l. moved c l (core_evict sh a b (w.cores c)) (after-evict sh c a b (w.cores c)) (holder-evict sh a b c (w.cores c)))
-    (λ c i u q. granted c i u) (λ c d i m q. taken c d i m q (from_dir sh d (w.cores c) m) (after-back sh d (w.cores c) m))
+    (λ c i u q. granted c i u) (λ c d i m q. taken c d i q (from_dir sh d (w.cores c) m) (after-back sh d (w.cores c) m))
     (λ c d i m q. answered c d i m q (dir_deliver sh (w.dirs d) c m))
     (λ c i q. pairs_vendor P w c i (λ d cl dl. record { last = (h c d cl dl).last; carried = (h c d cl dl).carried })
     (λ j d n cl dl. record { last = (h j d cl dl).last; carried = (h j d cl dl).carried }))
@@ -225,7 +224,7 @@ step-after {sh} p {gs} {w} {cs} e y k g ld h = step_cases sh p w e (λ x o. Kept
         away j n = grind nats
 
     noted-one : (n : Noted) → noted_tid n.tid.0 (Some n) ≡ 1
-    noted-one n = let z : (n.tid.0 == n.tid.0) ≡ true = grind nats in rw z refl
+    noted-one n = let z : (n.tid.0 == n.tid.0) ≡ true = grind nats in rw z
 
     moved : (c : ℕ) → c < sh.cores → (x : Option Out) → IfSome x (λ o. AfterStep sh c (w.cores c) o)
         → IfSome x (λ o. KeepsHolder c none (w.cores c) o) → IfSome x (λ o. KeptAfter sh (core_moves w c o) (and_noted o.commit cs))
@@ -243,10 +242,10 @@ step-after {sh} p {gs} {w} {cs} e y k g ld h = step_cases sh p w e (λ x o. Kept
         (pairs_grant P w c i (grant sh u (w.cores c)) (λ d cl dl. let z = stays-after a (h c d cl dl) in
         record { last = z.last; carried = z.carried }) h)
 
-    taken : (c d i : ℕ) (m : Msg) → FromDir w d c i m → (x : Option Out) → IfSome x (λ o. Stays (w.cores c) o)
+    taken : (c d i : ℕ) {m : Msg} → FromDir w d c i m → (x : Option Out) → IfSome x (λ o. Stays (w.cores c) o)
         → IfSome x (λ o. KeptAfter sh (core_takes w (Dir d) c i o) (and_noted o.commit cs))
-    taken c d i m q None a = tt
-    taken c d i m q (Some o) a = subst (λ n. KeptAfter sh (core_takes w (Dir d) c i o) (and_noted n cs)) (sym a.commit)
+    taken c d i q None a = tt
+    taken c d i q (Some o) a = subst (λ n. KeptAfter sh (core_takes w (Dir d) c i o) (and_noted n cs)) (sym a.commit)
         (pairs_back P w d c i o (λ cl dl. let z = stays-after a (h c d cl dl) in record { last = z.last; carried = z.carried })
         (λ b n cl dl. let z = stays-after a (h c b cl dl) in record { last = z.last; carried = z.carried }) h)
 

@@ -1,27 +1,23 @@
 -- What a commit says of its Marks: how many it counts, and that their masks are the words that it stored.
-use Rattle.base_lemmas.proofs.Lemmas.{eq-self}
 use Rattle.theorem_serial.proofs
 use proofs.Names
-use Names.{ℕ, zero, suc, ◌+◌, ◌≡◌, ◌<◌, ◌≤◌, Bool, true, false, List, [], ◌∷◌, ◌++◌, ◌==◌, ◌&&◌, IfSome, nat_lt, if◌then◌else◌, flat_map}
-use Names.{arith, refl, ◌∙◌, Program, num, those, count_below, Dir, Msg, Skip, Mark, Commit, WriteBack, Shape, home, lines, Cache}
+use Names.{eq-self, ℕ, zero, suc, ◌+◌, ◌≡◌, ◌<◌, ◌≤◌, Bool, true, false, List, [], ◌∷◌, ◌++◌, ◌==◌, ◌&&◌, IfSome, nat_lt, if◌then◌else◌}
+use Names.{flat_map, arith, refl, ◌∙◌, Program, num, those, count_below, Dir, Msg, Skip, Mark, Commit, WriteBack, Shape, home, lines, Cache}
 use Names.{is_modified, writes_at, Spilled, holds, spilled_mask, spilled_words, CoreState, Phase, Ready, Solo, Out, commit, commit_sends}
 use Names.{solo_sends, solo_marks_or_skip, solo_write_backs, solo_writes_at, is_written, written_mask, core_exec, core_evict, from_dir}
 use Names.{sum_below, Kind, MarkOf, AnyCommit, CommitOf, among, passes, has_marked, stores_line, marked_by, may_commit, has_tid}
 use Names.{solo_commit, nats, None, ap, ◌⊎◌, inl, inr, word_at, mask_of, InvAck, ProbeReply, Fill, DataReq, Inv, modified_mask}
-use Names.{written_lines, Running, AwaitTid, DoomedTid, Overflowing, Link, to, marks_for, committed_core, phase_after_commit, probe_reply}
-use Names.{fill, data_request, invalidate, ignored, MarkMask, live, moves, stored_mask, any_below, stores_in, stores_at, Commits, OneCore}
-use Names.{Noted, noted, Some, not, sym}
-use proofs.Serving.CoreDue.{heard-free, few-of}
-use proofs.Counts.Links.{among-append, total-same, among-fewer, among-flat_map_none, live-fewer}
+use Names.{written_lines, Running, AwaitTid, DoomedTid, Overflowing, Link, to, marks_for, committed_core, phase_after_commit, MarkMask}
+use Names.{live, stored_mask, any_below, stores_in, stores_at, Commits, OneCore, Noted, noted, Some, not, sym}
+use proofs.Serving.{heard-free, few-of}
+use proofs.Counts.{among-append, total-same, among-fewer, among-flat_map_none, live-fewer}
 use proofs.Marks.CoreMarks.{one-mark, marks-only, unspilled, stored-line, stored-any, stored-cases, modified-line, modified-stored}
 use proofs.Marks.CoreMarks.{written-line, written-stored}
 use proofs.Marks.CoreMarking.{mine, told-commit, has-ready, Unsaid, unsaid-quiet, unsaid-nothing, unsaid-append, acked, idle}
-use proofs.OneCore.Said.{quiet, Empties, Wants, say}
-use proofs.OneCore.Outcomes.{Commits_now, Did, each-exec, out, each-evict, emptied, Ends_alone, after_end, each-back, heard, said, Ends_run}
-use proofs.OneCore.Outcomes.{Room_wanted}
-use proofs.Tids.CoreTids.{tid-after}
-use proofs.OneCore.CoreSteps.{Steady, did-steady, fill-steady, data-steady, ignored-steady, Hurt, Unhurt, Rolled, Doomed, Aborted, Gave_up}
-use proofs.OneCore.CoreSteps.{Invalidated, invalidate-cases, Replied, Ignored, Probed, Left_alone, reply-cases, steady-emptied}
+use proofs.OneCore.{quiet, Empties, Commits_now, Did, each-exec, out, each-evict, emptied, Ends_alone, after_end, each-back, heard, said}
+use proofs.OneCore.{Ends_run, Room_wanted, Steady, did-steady, fill-steady, data-steady, ignored-steady, Hurt, Unhurt, Rolled, Doomed}
+use proofs.OneCore.{Aborted, Gave_up, Invalidated, invalidate-cases, Replied, Ignored, Probed, Left_alone, reply-cases, steady-emptied}
+use proofs.Tids.{tid-after}
 use proofs.Marks.CoreMarkingTakes.{unmarked}
 
 -- A Commit that a core sends counts the Marks that it has sent, or sends with it.
@@ -57,7 +53,7 @@ counts-lines {sh} {d} {t} {s} {o} p h e f = record {
     few a b = grind nats
 
     below : (l : ℕ) → l < lines sh → num (nat_lt l (lines sh) && p l) ≡ num (p l)
-    below l x = let b : nat_lt l (lines sh) ≡ true = grind nats in rw b refl
+    below l x = let b : nat_lt l (lines sh) ≡ true = grind nats in rw b
 
 -- none is sent
 of-any : (t n : ℕ) (m : Msg) → num (passes (CommitOf t n) m) ≤ num (passes AnyCommit m)
@@ -161,7 +157,7 @@ counts-exec sh p c d t s f = each-exec sh p c s (λ o. CountsAll sh d t s o) go
   where
     go : (x : Did sh p c s) → CountsAll sh d t s (out x)
     go (Ends_alone u l o g q i) = counts-alone d t u s q refl
-    go (Commits_now u e) = counts-ready sh c d t u s e (f (rw e refl))
+    go (Commits_now u e) = counts-ready sh c d t u s e (f (rw e))
     go x = counts-none sh d t s (out x) (quiet sh s AnyCommit (said x) (λ y. refl) d)
 
 pub counts-evict : (sh : Shape) (x y d t : ℕ) (s : CoreState) → IfSome (core_evict sh x y s) (λ o. CountsAll sh d t s o)
@@ -268,7 +264,7 @@ masking-hurt {sh} x d t l s {o} i = go i.hurt
 masking-replied : (sh : Shape) {e u : ℕ} (d t l : ℕ) (s : CoreState) {o : Out} → Replied sh e u s o → Masking sh d t l s o
 masking-replied sh d t l s (Ignored q f) = rw q (masking-steady sh d t l (ignored-steady s))
 masking-replied sh {e} {u} d t l s (Probed ph ow ph' ow' ca se cm) =
-    record { sent = λ x. rw (ca, se) (go (d == e)); stays = λ x. inr (rw ca refl) }
+    record { sent = λ x. rw (ca, se) (go (d == e)); stays = λ x. inr (rw ca) }
   where
     go : (b : Bool) → among (MarkMask t l (modified_mask s.cache l)) (if b then marks_for sh s.cache u e else []) ≡ 0
     go a = grind (nats, masked-for, few-masked, unsaid-nothing)
@@ -356,7 +352,7 @@ storing-ready sh c d t u s ph h x = record {
     same = (is-commit sh s.cache u d t sent.0 sent.1).0
 
     owing : s.owing d ≡ false
-    owing = h.owing d (rw ph refl)
+    owing = h.owing d (rw ph)
 
     line : (l : ℕ) → num (nat_lt l (lines sh) && (d == home sh l && is_modified s.cache l)) ≡ num (nat_lt 0 (stored_mask sh d s.stores l))
     line l = rw (modified-line sh.base s.cache s.stores l (unspilled sh s.cache s.spilled s.stores (rw ph at h.words)))
@@ -372,7 +368,7 @@ storing-ready sh c d t u s ph h x = record {
         → (num (has_marked s.phase && (not (s.owing d) && (nat_lt l (lines sh) && (d == home sh l && is_modified s.cache l)))) ≡ 0)
         ⊎ (stored_mask sh d s.stores l ≡ modified_mask s.cache l)
     before l (inl e) = inr (e ∙ modified-stored sh.base s.cache s.stores l (unspilled sh s.cache s.spilled s.stores (rw ph at h.words)))
-    before l (inr e) = let z : num (nat_lt 0 (stored_mask sh d s.stores l)) ≡ 0 = rw e refl in inl (omega (arith, marks l, z))
+    before l (inr e) = let z : num (nat_lt 0 (stored_mask sh d s.stores l)) ≡ 0 = rw e in inl (omega (arith, marks l, z))
 
 -- a core alone marks what its stores name
 alone-masked : (sh : Shape) (c : Cache) (sp : Spilled) (u d t l : ℕ)
@@ -387,7 +383,7 @@ alone-writes sh c sp u d t x = grind (nats, among-flat_map_none, among-append)
 
 alone : (u : ℕ) (q : Phase) → q ≡ Solo u → has_marked q ≡ false
 unfolding has_marked
-alone u q e = rw e refl
+alone u q e = rw e
 
 storing-alone : {sh : Shape} (c d t u : ℕ) (s r : CoreState) {o : Out} → s.phase ≡ Solo u → o.commit ≡ Some (noted u c r)
     → r.stores ≡ s.stores → o.sends ≡ solo_sends sh s.cache s.spilled u → OneCore sh s → StoresAll sh c d t s o
@@ -427,7 +423,7 @@ storing-alone {sh} c d t u s r ph cm st se h x = record {
     right : (l : ℕ) → (stored_mask sh d s.stores l ≡ stores_in sh.base s.stores l) ⊎ (stored_mask sh d s.stores l ≡ 0)
         → among (MarkMask t l (stored_mask sh d s.stores l)) all ≡ 0
     right l (inl e) = rw (e ∙ written-stored sh.base s.cache s.spilled s.stores l h.words.named) (alone-masked sh s.cache s.spilled u d t l)
-    right l (inr e) = let z : num (nat_lt 0 (stored_mask sh d s.stores l)) ≡ 0 = rw e refl in
+    right l (inr e) = let z : num (nat_lt 0 (stored_mask sh d s.stores l)) ≡ 0 = rw e in
         omega (arith, few-masked t l (stored_mask sh d s.stores l) all, marks l, z)
 
 pub storing-exec : {sh : Shape} (p : Program) (c d t : ℕ) {s : CoreState} → OneCore sh s

@@ -1,18 +1,16 @@
 -- What each of a core's rules does to its Marks, Skips and the words on its TID.
-use Rattle.base_lemmas.proofs.Lemmas.{eq-self, num-most}
 use Rattle.theorem_serial.proofs
 use proofs.Names
-use Names.{ℕ, ◌+◌, ◌≡◌, ◌≤◌, Bool, true, false, not, List, [], ◌∷◌, ◌++◌, ◌==◌, ◌&&◌, None, IfSome, nat_lt, if◌then◌else◌, arith, refl, ap}
-use Names.{◌⊎◌, inl, inr, cases_eq, Program, num, any_word, Dir, Msg, InvAck, Shape, home, lines, Cache, writes_at, is_modified, CoreState}
-use Names.{Phase, Running, AwaitTid, Ready, Overflowing, Solo, to, skip_all, abort_written, Out, commit, committed_core, phase_after_commit}
-use Names.{commit_sends, solo_sends, core_exec, core_evict, Resolves, Protocol, Marks, MarkOf, EmptyMarks, Skips, among, passes, has_marked}
-use Names.{stores_line, marked_by, has_tid, opens, Outcome, moves, solo_commit, nats, ◌≢◌}
-use proofs.Counts.Links.{among-append}
-use proofs.Tids.CoreTids.{tid-after}
-use proofs.OneCore.CoreSteps.{Steady, did-steady, steady-emptied}
+use Names.{eq-self, num-most, ℕ, ◌+◌, ◌≡◌, ◌≤◌, Bool, true, false, not, List, [], ◌∷◌, ◌++◌, ◌==◌, ◌&&◌, None, IfSome, nat_lt}
+use Names.{if◌then◌else◌, arith, refl, ap, ◌⊎◌, inl, inr, cases_eq, Program, num, any_word, Dir, Msg, InvAck, Shape, home, lines, Cache}
+use Names.{writes_at, is_modified, CoreState, Phase, Running, AwaitTid, Ready, Overflowing, Solo, to, skip_all, abort_written, Out, commit}
+use Names.{committed_core, phase_after_commit, commit_sends, solo_sends, core_exec, core_evict, Resolves, Protocol, Marks, MarkOf}
+use Names.{EmptyMarks, Skips, among, passes, has_marked, stores_line, marked_by, has_tid, opens, Outcome, solo_commit, nats, ◌≢◌}
+use proofs.Counts.{among-append}
+use proofs.Tids.{tid-after}
+use proofs.OneCore.{Steady, did-steady, steady-emptied, Acts, Commits_now, Did, each-exec, out, each-evict, Ends_alone, Ends_run}
+use proofs.OneCore.{Room_wanted}
 use proofs.Marks.CoreMarks.{solo-mark, solo-full, solo-skips, solo-owned}
-use proofs.OneCore.Said.{Wants, say}
-use proofs.OneCore.Outcomes.{Acts, Commits_now, Did, each-exec, out, each-evict, emptied, Ends_alone, Ends_run, Room_wanted, after_end}
 
 -- A core speaks only of its TID. While it keeps it, it has sent a Mark of each line that it has to; it marks a line once, only where
 -- the TID is open, and skips only where it has sent no Mark.
@@ -223,7 +221,7 @@ marking-exec sh p c d t l s = each-exec sh p c s (λ o. Marking sh d t l s o) go
   where
     ready : (u : ℕ) → s.phase ≡ Ready u → Marking sh d t l s (commit sh c u s)
     ready u e = let f = told-commit sh s.cache u d t l in last-words u (phase_after_commit s.ended) refl
-        (tid-after s.ended t) (λ z. mine s.phase (has-ready e) z) f.0 f.1 (is-tid u t _ (swap (cases_eq u t)) f.3)
+        (tid-after s.ended t) (mine s.phase (has-ready e)) f.0 f.1 (is-tid u t _ (swap (cases_eq u t)) f.3)
         (λ x. absurd (omega (arith, x, f.2)))
 
     go : (x : Did sh p c s) → Marking sh d t l s (out x)

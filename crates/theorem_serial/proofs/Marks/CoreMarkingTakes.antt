@@ -1,19 +1,18 @@
 -- What each message to a core does to its Marks, Skips and the words on its TID.
-use Rattle.base_lemmas.proofs.Lemmas.{and-left, and-right, eq-self}
 use Rattle.theorem_serial.proofs
 use proofs.Names
-use Names.{ℕ, ◌+◌, ◌≡◌, ◌<◌, ◌≤◌, Bool, true, false, not, List, [], ◌∷◌, ◌++◌, ◌==◌, ◌&&◌, Some, None, IfSome, if◌then◌else◌, arith, refl}
-use Names.{sym, ap, ◌∙◌, ◌⊎◌, inl, inr, cases_eq, put, num, any_below, Dir, Msg, InvAck, ProbeReply, Fill, DataReq, Inv, Shape, home, lines}
-use Names.{Cache, is_modified, modified_mask, written_lines, writes_at, CoreState, Phase, Running, AwaitTid, DoomedTid, Probing, Ready}
-use Names.{Overflowing, Solo, to, marks_for, skip_all, abort_written, probe_all, Out, from_dir, all_replied, probe_reply, fill}
-use Names.{data_request, invalidate, ignored, grant, grant_in_phase, grant_sends, is_probed, probing_or_ready, Resolves, Marks, MarkOf}
-use Names.{EmptyMarks, Skips, among, passes, has_marked, stores_line, marked_by, has_tid, opens, waits_for_tid, nats, ◌≢◌}
-use proofs.Counts.Links.{among-append, num-one}
+use Names.{and-left, and-right, eq-self, ℕ, ◌+◌, ◌≡◌, ◌<◌, ◌≤◌, Bool, true, false, not, List, [], ◌∷◌, ◌++◌, ◌==◌, ◌&&◌, Some, None, IfSome}
+use Names.{if◌then◌else◌, arith, refl, sym, ap, ◌∙◌, ◌⊎◌, inl, inr, cases_eq, put, num, any_below, Dir, Msg, InvAck, ProbeReply, Fill}
+use Names.{DataReq, Inv, Shape, home, lines, Cache, is_modified, modified_mask, written_lines, writes_at, CoreState, Phase, Running}
+use Names.{AwaitTid, DoomedTid, Probing, Ready, Overflowing, Solo, to, marks_for, skip_all, abort_written, probe_all, Out, from_dir}
+use Names.{all_replied, grant, grant_in_phase, grant_sends, is_probed, probing_or_ready, Resolves, Marks, MarkOf, EmptyMarks, Skips, among}
+use Names.{passes, has_marked, stores_line, marked_by, has_tid, opens, waits_for_tid, nats, ◌≢◌}
+use proofs.Counts.{among-append, num-one}
 use proofs.Marks.CoreMarking.{Marking, Unsaid, unsaid-nothing, unsaid-append, acked, silent, silent-none, marking-steady, last-words}
 use proofs.Marks.CoreMarking.{is-tid, swap, mine, told-abort, told-skip, marked-same, stores-same}
 use proofs.Marks.CoreMarks.{marks-for, marks-only, full-for, stores-writes}
-use proofs.OneCore.CoreSteps.{fill-steady, data-steady, ignored-steady, Hurt, Unhurt, Rolled, Doomed, Aborted, Gave_up, Invalidated}
-use proofs.OneCore.CoreSteps.{invalidate-cases, Replied, Ignored, Probed, Left_alone, reply-cases}
+use proofs.OneCore.{fill-steady, data-steady, ignored-steady, Hurt, Unhurt, Rolled, Doomed, Aborted, Gave_up, Invalidated, invalidate-cases}
+use proofs.OneCore.{Replied, Ignored, Probed, Left_alone, reply-cases}
 
 -- before an acknowledgement
 append-told : (t l : ℕ) (a b : List Msg) → Unsaid t l b → (among EmptyMarks (a ++ b) ≡ among EmptyMarks a)
@@ -36,7 +35,7 @@ silent-alone u q a = grind nats
 
 pub unmarked : (sh : Shape) (s : CoreState) (d l : ℕ) → has_marked s.phase ≡ false → marked_by sh s d l ≡ 0
 unfolding marked_by
-unmarked sh s d l e = rw e refl
+unmarked sh s d l e = rw e
 
 skips-mine : (u t : ℕ) (a b : ℕ) → 1 ≤ a → a ≤ b → (b ≡ 0) ⊎ (u ≡ t) → u ≡ t
 skips-mine u t a b x y d = grind nats
@@ -112,10 +111,10 @@ unfolding has_marked
 none-marked a u = grind nats
 
 put_same : (e : ℕ) (f : ℕ → Bool) → put f e false e ≡ false
-put_same e f = let b : (e == e) ≡ true = eq-self e in rw b refl
+put_same e f = let b : (e == e) ≡ true = eq-self e in rw b
 
 put_other : (e d : ℕ) (f : ℕ → Bool) → d ≢ e → put f e false d ≡ f d
-put_other e d f n = let b : (d == e) ≡ false = grind nats in rw b refl
+put_other e d f n = let b : (d == e) ≡ false = grind nats in rw b
 
 nothing-more : (a b : Bool) → num (true && b) + num (a && (not true && b)) ≡ num (true && (not false && b))
 nothing-more a b = grind nats
@@ -125,7 +124,7 @@ no-more a b c = grind nats
 
 opens-probing : (u t : ℕ) {w : Bool} → (u == t) ≡ true → w ≡ true → opens (Probing u) w t ≡ true
 unfolding opens
-opens-probing u t a b = rw (a, b) refl
+opens-probing u t a b = rw (a, b)
 
 pub marks-mine : (sh : Shape) (c : Cache) (u e t : ℕ) → (u == t) ≡ false
     → among (Marks t) (marks_for sh c u e) + among (Resolves t) (marks_for sh c u e) ≡ 0
@@ -193,7 +192,7 @@ marking-away sh e u d t l s o n ph ph' ow' ca se =
     silent (rw se (unsaid-nothing t l))
     (λ x. (
       mine s.phase (has-of u s.phase (inl (inl ph))) (last-tid (all_replied sh (put s.owing e false)) u t (rw ph' at x)),
-      rw (ca, was, now, same) refl,
+      rw (ca, was, now, same),
     ))
 
 marking-alone : (sh : Shape) (e u d t l : ℕ) (s : CoreState) (o : Out) → s.phase ≡ Overflowing (Some u)
@@ -214,10 +213,10 @@ marking-replied sh e u d t l s {o} (Probed ph ow ph' ow' ca se cm) = elim (cases
 ]
   where
     here : to (Dir e) (marks_for sh s.cache u e) (Dir e) ≡ marks_for sh s.cache u e
-    here = let b : (e == e) ≡ true = eq-self e in rw b refl
+    here = let b : (e == e) ≡ true = eq-self e in rw b
 
     away : d ≢ e → to (Dir e) (marks_for sh s.cache u e) (Dir d) ≡ []
-    away n = let b : (d == e) ≡ false = grind nats in rw b refl
+    away n = let b : (d == e) ≡ false = grind nats in rw b
 marking-replied sh e u d t l s {o} (Left_alone ph ow ph' ow' ca se cm) = marking-alone sh e u d t l s o ph ph' (ap (λ f. f (Dir d)) se)
 
 pub marking-back : (sh : Shape) (e d t l : ℕ) (s : CoreState) (m : Msg) → IfSome (from_dir sh e s m) (λ o. Marking sh d t l s o)

@@ -1,14 +1,14 @@
 -- What a core marks: a line that it stores gets a Mark at a directory that replies, with the words that its stores name.
-use Rattle.base_lemmas.proofs.Lemmas.{any_below-same, mask_of-none}
 use Rattle.theorem_serial.proofs
 use proofs.Names
-use Names.{ℕ, zero, suc, ◌+◌, ◌≡◌, ◌<◌, ◌≤◌, Bool, true, false, List, [], ◌∷◌, ◌++◌, ◌==◌, ◌&&◌, ◌||◌, is_some, nat_lt, if◌then◌else◌}
-use Names.{flat_map, arith, refl, ◌⊎◌, inl, inr, cases_eq, flat_map-append, num, those, count_below, any_word, word_at, mask_of, Dir, Msg}
-use Names.{Skip, Mark, Commit, WriteBack, Shape, home, lines, Cache, is_modified, modified_mask, written_lines, writes_at, Spilled, holds}
-use Names.{spilled_mask, spilled_words, any_below-at, any_below-found, marks_for, solo_sends, solo_marks_or_skip, solo_write_backs}
-use Names.{solo_writes_at, is_written, written_mask, Kind, Resolves, Marks, MarkOf, EmptyMarks, Skips, among, passes, stores_line, nats}
-use Names.{Option, None, sym, ap, ◌∙◌, Stored, any_below, Words, stores_in, stored_mask, stores_at, stores_word, ◌≢◌, tested}
-use proofs.Counts.Links.{among-append, among-flat_map_none, num-same}
+use Names.{any_below-same, mask_of-none, ℕ, zero, suc, ◌+◌, ◌≡◌, ◌<◌, ◌≤◌, Bool, true, false, List, [], ◌∷◌, ◌++◌, ◌==◌, ◌&&◌, ◌||◌}
+use Names.{is_some, nat_lt, if◌then◌else◌, flat_map, arith, refl, ◌⊎◌, inl, inr, cases_eq, flat_map-append, num, those, count_below}
+use Names.{any_word, word_at, mask_of, Dir, Msg, Skip, Mark, Commit, WriteBack, Shape, home, lines, Cache, is_modified, modified_mask}
+use Names.{written_lines, writes_at, Spilled, holds, spilled_mask, spilled_words, any_below-at, any_below-found, marks_for, solo_sends}
+use Names.{solo_marks_or_skip, solo_write_backs, solo_writes_at, is_written, written_mask, Kind, Resolves, Marks, MarkOf, EmptyMarks, Skips}
+use Names.{among, passes, stores_line, nats, Option, None, sym, ap, ◌∙◌, Stored, any_below, Words, stores_in, stored_mask, stores_at}
+use Names.{stores_word, tested}
+use proofs.Counts.{among-append, among-flat_map_none, num-same}
 
 -- A core sends a Mark of each line that it stores to a directory that replies, and Skips and Marks to none at once.
 
@@ -66,7 +66,7 @@ written-full c sp l e = elim (tested (is_modified c l)) [
     p k = c.modified (word_at l k) || is_some (sp (word_at l k))
 
     left : (k : ℕ) → c.modified (word_at l k) ≡ true → p k ≡ true
-    left k q = rw q refl
+    left k q = rw q
 
     right : (k : ℕ) → is_some (sp (word_at l k)) ≡ true → p k ≡ true
     right k q = grind arith
@@ -163,7 +163,7 @@ solo-owned sh c sp u d t =
           among-append,
           among-append,
           backs (Marks t) (λ x m ws. refl),
-          marks-only (Marks t) p (written_mask c sp) u (lines sh) (λ x m. rw q refl),
+          marks-only (Marks t) p (written_mask c sp) u (lines sh) (λ x m. rw q),
           among-append,
           among-append,
           backs (Resolves t) (λ x m ws. refl),
@@ -176,7 +176,7 @@ solo-owned sh c sp u d t =
 mask-any : (p : ℕ → Bool) → nat_lt 0 (mask_of p) ≡ any_below p 8
 mask-any p = elim (tested (any_below p 8)) [
   | inl e ↦ let r = any_below-found p 8 e in let n : 0 < mask_of p = some-mask p r.0 r.1 r.2 in rw e (grind nats)
-  | inr e ↦ rw (e, mask_of-none p (none e)) refl
+  | inr e ↦ rw (e, mask_of-none p (none e))
 ]
   where
     none : any_below p 8 ≡ false → (k : ℕ) → k < 8 → p k ≡ false

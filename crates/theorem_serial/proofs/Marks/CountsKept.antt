@@ -3,26 +3,22 @@ use Rattle.theorem_serial.proofs
 use proofs.Names
 use Names.{after_other_grant, awaits_replies, after_answer, count_below, CountsMarks, grant_taken, dir_deliver, ap, KeptCounted}
 use Names.{after_grant, EmptyMarks, after_move, core_evict, core_moves, core_takes, KeptOwners, false, back_taken, may_commit, writes_at}
-use Names.{sum_below, marked_by, CountedOf, AnyCommit, dir_start, [], core_exec, dir_takes, KeptMarks, KeptCores, cases_lt, has_mark}
-use Names.{DirState, sent_all, Resolves, CommitOf, marks_of, Contains, KeptTids, cases_eq, from_dir, dir_asks, KeptTold, MarksOf, handled}
-use Names.{arith, Program, nat_lt, MarkOf, passes, nat_le, Option, IfSome, TidReq, Commit, Answer, Shape, lines, among, ℕ, Grant, opens}
-use Names.{World, share, subst, Noted, Local, Event, Phase, start, Sends, grant, Waits, Drops, Takes, true, List, ◌++◌, ◌==◌, ◌&&◌, refl}
-use Names.{Skip, Link, live, Pair, Kind, pair, part, Some, None, Core, Asks, step, Acks, Kept, skip, ◌+◌, ◌≡◌, ◌<◌, ◌≤◌, ◌∙◌, ◌⊎◌, inl, inr}
-use Names.{num, Dir, Msg, Out, set, nats, tid_at, to_dir, FromCore, grant_to, ◌≢◌}
-use proofs.Serving.CoreDue.{granted-free}
-use proofs.Counts.Links.{live-sends, total-same, total-plus, total-le, live-fewer, live-takes}
-use proofs.Counts.StepCases.{dir-own, dir-other, asks-own, pairs_move, pairs_grant, pairs_back, pairs_dir, pairs_asks, pairs_vendor}
-use proofs.Counts.StepCases.{OfAnswer, step_cases}
+use Names.{sum_below, marked_by, CountedOf, AnyCommit, dir_start, core_exec, dir_takes, KeptMarks, KeptCores, cases_lt, has_mark, DirState}
+use Names.{sent_all, Resolves, CommitOf, marks_of, Contains, KeptTids, cases_eq, from_dir, dir_asks, KeptTold, MarksOf, handled, arith}
+use Names.{Program, nat_lt, MarkOf, passes, nat_le, Option, IfSome, TidReq, Commit, Answer, Shape, lines, among, ℕ, Grant, opens, World}
+use Names.{share, subst, Noted, Local, Event, Phase, start, Sends, grant, Waits, Drops, Takes, true, List, ◌++◌, ◌==◌, ◌&&◌, refl, Skip}
+use Names.{Link, live, Pair, Kind, pair, part, Some, None, Core, Asks, step, Acks, Kept, skip, ◌+◌, ◌≡◌, ◌<◌, ◌≤◌, ◌∙◌, ◌⊎◌, inl, inr, num}
+use Names.{Dir, Msg, Out, set, nats, tid_at, to_dir, FromCore, grant_to, ◌≢◌}
+use proofs.Serving.{granted-free, Due, DueBy, dir-due, still-due, core_of_back, core_of_out, once_at, marks_home, acks_owed}
+use proofs.Counts.{live-sends, total-same, total-plus, total-le, live-fewer, live-takes, dir-own, dir-other, asks-own, pairs_move}
+use proofs.Counts.{pairs_grant, pairs_back, pairs_dir, pairs_asks, pairs_vendor, OfAnswer, step_cases}
 use proofs.Marks.CommitMasks.{Counts, CountsAll, total-num, few-any, counts-exec, counts-evict, counts-back}
 use proofs.Marks.CoreMarking.{Marking, marking-exec, marking-evict}
 use proofs.Marks.CoreMarkingTakes.{marking-back, granting}
 use proofs.Marks.DirRecords.{Marked, Stays, MarkedBy, dir-marked, CountsMarked, OwesBy, dir-owes}
 use proofs.Marks.MarksKept.{holds, open-untold, taken-less, empty-one, skip-unmarked, only-there, no-request, no-empty}
 use proofs.Marks.MarksKept.{taken-back as back-marks, kinds}
-use proofs.Serving.DirDue.{Due, DueBy, dir-due, still-due}
-use proofs.Serving.KeptSteps.{core_of_back, core_of_out, once_at, marks_home, acks_owed}
-use proofs.Tids.Commits.{granted-once}
-use proofs.Tids.TidSteps.{granted_waits, live-some}
+use proofs.Tids.{granted-once, granted_waits, live-some}
 
 -- How each kind of event keeps that a Commit counts its Marks, between a core and a directory.
 one-resolve : (t n : ℕ) (m : Msg) → num (passes (CommitOf t n) m) ≤ num (passes (Resolves t) m)
@@ -117,7 +113,7 @@ none-away sh l v h = elim (cases_lt l (lines sh)) [
 
     split : (x : ℕ) → x < lines sh → live (MarkOf u x) v.out + num (u == u && has_mark v.dir.lines x) ≡ live (MarkOf u x) v.out + num
         (has_mark v.dir.lines x)
-    split x z = rw self refl
+    split x z = rw self
 
     sum : sum_below (λ x. live (MarkOf u x) v.out) (lines sh) ≡ 0
     sum =
@@ -317,7 +313,7 @@ step-counted {sh} p {gs} {w} e z y x a h = step_cases sh p w e (λ g o. KeptTold
     (granted-free sh u d (w.cores c)) (h c d t cl)) h)
     (λ c d k m i. taken c d k (core_of_back c d k z.told.tids i) (from_dir sh d (w.cores c) m)
     (λ b t l. marking-back sh d b t l (w.cores c) m) (λ b t. counts-back sh d b t (w.cores c) m))
-    (λ c d k m i. answered c d k m i (core_of_out c d k z.told.tids i) (dir_deliver sh (w.dirs d) c m) (dir-marked sh (w.dirs d) c m)
+    (λ c d k m i. answered c d k i (core_of_out c d k z.told.tids i) (dir_deliver sh (w.dirs d) c m) (dir-marked sh (w.dirs d) c m)
     (dir-owes sh (w.dirs d) c m)
     (dir-due sh d (w.dirs d) c m (once_at c d k z.told i) (z.told.owed.at_home c d).marked (marks_home c d k z.told.owed i)
     (acks_owed c d k z.told.owed (core_of_out c d k z.told.tids i) i))) (λ c k i n. pairs_vendor P w c k (λ d t cl. given k (h c d t cl))
@@ -328,8 +324,8 @@ step-counted {sh} p {gs} {w} e z y x a h = step_cases sh p w e (λ g o. KeptTold
 
     own : (c d t : ℕ) (o : Out) → c < sh.cores → ((d t l : ℕ) → Marking sh d t l (w.cores c) o) → CountsAll sh d t (w.cores c) o
         → CountedOf sh d t (after_move (pair w c d) o d)
-    own c d t o cl u k = counted-moved gs c cl (λ b l. u d b l) k (λ l. a c d t l)
-        (λ dl r. open-untold c d t z.told.tids cl dl r) (λ dl r. open-unowed c d z.told.tids cl dl r) (h c d t cl)
+    own c d t o cl u k = counted-moved gs c cl (u d) k (a c d t)
+        (open-untold c d t z.told.tids cl) (open-unowed c d z.told.tids cl) (h c d t cl)
 
     moved : (c : ℕ) → c < sh.cores → (q : Option Out) → ((d t l : ℕ) → IfSome q (λ o. Marking sh d t l (w.cores c) o))
         → ((d t : ℕ) → IfSome q (λ o. CountsAll sh d t (w.cores c) o))
@@ -339,9 +335,9 @@ step-counted {sh} p {gs} {w} e z y x a h = step_cases sh p w e (λ g o. KeptTold
 
     back : (c d k t : ℕ) (o : Out) → c < sh.cores → ((d t l : ℕ) → Marking sh d t l (w.cores c) o) → CountsAll sh d t (w.cores c) o
         → CountedOf sh d t (after_move (back_taken (pair w c d) k) o d)
-    back c d k t o cl u q = counted-moved gs c cl (λ b l. u d b l) q
-        (λ l. back-marks w k (a c d t l)) (λ dl r. open-untold c d t z.told.tids cl dl r)
-        (λ dl r. open-unowed c d z.told.tids cl dl r) (taken-back k (h c d t cl))
+    back c d k t o cl u q = counted-moved gs c cl (u d) q
+        (λ l. back-marks w k (a c d t l)) (open-untold c d t z.told.tids cl)
+        (open-unowed c d z.told.tids cl) (taken-back k (h c d t cl))
 
     taken : (c d k : ℕ) → c < sh.cores → (q : Option Out) → ((b t l : ℕ) → IfSome q (λ o. Marking sh b t l (w.cores c) o))
         → ((b t : ℕ) → IfSome q (λ o. CountsAll sh b t (w.cores c) o))
@@ -349,10 +345,10 @@ step-counted {sh} p {gs} {w} e z y x a h = step_cases sh p w e (λ g o. KeptTold
     taken c d k cl None u f = tt
     taken c d k cl (Some o) u f = λ n. pairs_back P w d c k o (λ t l. back c d k t o cl u (f d t)) (λ b r t l. own c b t o cl u (f b t)) h
 
-    answered : (c d k : ℕ) (m : Msg) → FromCore w c d k m → c < sh.cores → (b : Answer) → MarkedBy (w.dirs d) m b → OwesBy sh (w.dirs d) m b
+    answered : (c d k : ℕ) {m : Msg} → FromCore w c d k m → c < sh.cores → (b : Answer) → MarkedBy (w.dirs d) m b → OwesBy sh (w.dirs d) m b
         → DueBy sh d (w.dirs d) (num (passes Acks m)) b → OfAnswer w c d k (λ v. KeptTold sh v → KeptCounted sh v) b
-    answered c d k m i cl Waits u o p = tt
-    answered c d k m i cl Drops u o p = λ n. dir-counted c k z.told y a h n cl i
+    answered c d k i cl Waits u o p = tt
+    answered c d k i cl Drops u o p = λ n. dir-counted c k z.told y a h n cl i
         (Stays refl (λ l. refl) u) (still-due sh d (w.dirs d) (z.told.owed.at_home c d).marked) (inl (omega arith))
-    answered c d k m i cl (Asks s sends) u o p = λ n. asks-counted w d s sends a h n u o
-    answered c d k m i cl (Takes s sends) u o p = λ n. dir-counted c k z.told y a h n cl i u p o
+    answered c d k i cl (Asks s sends) u o p = λ n. asks-counted w d s sends a h n u o
+    answered c d k i cl (Takes s sends) u o p = λ n. dir-counted c k z.told y a h n cl i u p o

@@ -1,14 +1,13 @@
 -- What a directory's rules do to what it records of its lines: marks, tags, owners and sharers, and what it owes.
-use Rattle.base_lemmas.proofs.Lemmas.{eq-self}
 use Rattle.theorem_serial.proofs
 use proofs.Names
-use Names.{has_mark, ℕ, ◌≡◌, ◌<◌, Bool, true, false, ◌==◌, if◌then◌else◌, arith, refl, advance, kept, Msg, Skip, Mark, Shape, advance-rises}
-use Names.{DirState, Answer, Waits, Drops, Asks, Takes, dir_deliver, MarkOf, passes, num, ◌≤◌, ◌+◌, ◌⊎◌, inl, inr, ◌∙◌, EmptyMarks}
-use Names.{cases_eq, nat_lt, ◌&&◌, nats, count_below, Commit, lines, Some, None, is_owner, Commits, CopyOf, is_this, [], Core, Fill}
-use Names.{ProbeReply, DataReq, Sends, home_words, FillOf, GoneOf, among, AnyCommit, ◌≢◌}
-use proofs.Counts.DirOutcome.{Outcome, Waiting, Spent, AsksOwner, TakesSkip, TakesAbort, TakesMark, TakesCommit, TakesAck, TakesCopy}
-use proofs.Counts.DirOutcome.{IsSpent, MarkPassed, CopyPassed, outcome, TakesProbe, TakesLoad, ToLoad, ToMark, among-to, among-none}
-use proofs.Counts.DirOutcome.{none-to, none-invalidations}
+use Names.{eq-self, has_mark, ℕ, ◌≡◌, ◌<◌, Bool, true, false, ◌==◌, if◌then◌else◌, arith, refl, advance, kept, Msg, Skip, Mark, Shape}
+use Names.{advance-rises, DirState, Answer, Waits, Drops, Asks, Takes, dir_deliver, MarkOf, passes, num, ◌≤◌, ◌+◌, ◌⊎◌, inl, inr, ◌∙◌}
+use Names.{EmptyMarks, cases_eq, nat_lt, ◌&&◌, nats, count_below, Commit, lines, Some, None, is_owner, Commits, CopyOf, is_this, [], Core}
+use Names.{Fill, ProbeReply, DataReq, Sends, home_words, FillOf, GoneOf, among, AnyCommit, ◌≢◌}
+use proofs.Counts.{Outcome, Waiting, Spent, AsksOwner, TakesSkip, TakesAbort, TakesMark, TakesCommit, TakesAck, TakesCopy, IsSpent}
+use proofs.Counts.{MarkPassed, CopyPassed, outcome, TakesProbe, TakesLoad, ToLoad, ToMark, among-to, among-none, none-to}
+use proofs.Counts.{none-invalidations}
 
 -- What a directory's rules do to its marks: it marks a line by the served TID, and clears all marks where it moves on; a Skip
 -- moves it on without.
@@ -48,13 +47,13 @@ dir-marked sh s c m = go (outcome sh s c m)
     settled : {m : Msg} (b : Bool) → NoMark m → (new : DirState) → new.serving ≡ (if b then advance s.serving else s.serving)
         → ((x : ℕ) → new.lines.mark x ≡ (if b then 0 else s.lines.mark x)) → Marked s m new
     settled true n new e f = Clears (rw e (advance-rises s.serving)) f n
-    settled false n new e f = Stays (rw e refl) f (none _ n)
+    settled false n new e f = Stays (rw e) f (none _ n)
 
     go : {m : Msg} {a : Answer} → Outcome sh s c m a → MarkedBy s m a
     go (Waiting m) = tt
     go (Spent m i) = spent i
     go (AsksOwner m l o w e) = (refl, λ x. refl)
-    go (TakesSkip u true e h) = let i : s.serving.serving ≡ u = grind nats in Skipped (rw i refl) (λ x. refl)
+    go (TakesSkip u true e h) = let i : s.serving.serving ≡ u = grind nats in Skipped (rw i) (λ x. refl)
     go (TakesAbort u true e h) = settled true (λ t x. refl) _ refl (λ x. refl)
     go (TakesMark l k h) = Marks l k refl refl (λ x. refl)
     go (TakesCommit b e) = settled b (λ t x. refl) _ refl (λ x. refl)
@@ -77,7 +76,7 @@ marks-grow f {s} t l n z (Marks a i e g h) k w = rw (g, h l) (go (l == a) refl (
     go true p false q b r = omega arith
     go true p true q false r = rw r (omega arith)
     go true p true q true r = let c : a ≡ l = grind nats in let d : s.serving.serving ≡ t = grind nats in
-        rw r (omega (arith, w i (e ∙ rw (c, d) refl) r))
+        rw r (omega (arith, w i (e ∙ rw (c, d)) r))
 
 -- All its Marks are counted, unless the TID is passed, or the message is the Mark.
 pub marks-count : (s : DirState) {new : DirState} {m : Msg} (t l : ℕ) → Marked s m new
@@ -204,7 +203,7 @@ dir-records sh s c m = go (outcome sh s c m)
     go (Spent m i) = spent i
     go (AsksOwner m l o w e) = same-records (λ x. refl) (λ x. refl)
     go (TakesCommit b e) = Settles refl (λ x. refl) (λ x. refl) (λ x t. refl)
-    go (TakesCopy m k n ws g y e o) = Came k (λ l t. y.alike (CopyOf l t) ∙ rw e refl) o (λ x. refl) (λ x. refl) (λ t. y.alike (Commits t))
+    go (TakesCopy m k n ws g y e o) = Came k (λ l t. y.alike (CopyOf l t) ∙ rw e) o (λ x. refl) (λ x. refl) (λ t. y.alike (Commits t))
     go _ = Still (same-records (λ x. refl) (λ x. refl)) (λ t. refl) (λ x t. refl)
 
 -- What a directory's rules do to the sharers of its lines: a Fill goes to a sharer, a commit is one of its lines, and a core is a sharer
@@ -251,7 +250,7 @@ dir-shares sh s c m = go (outcome sh s c m)
     go (TakesCommit b e) = record {
       kept = λ x j q. inl (grind (nats, q));
       filled = λ x j q. absurd (omega (arith, q, none-invalidations (FillOf x) (λ l k t. refl) sh s.lines c s.serving.serving j));
-      taken = λ x q r. rw (r, eq-self c) refl;
+      taken = λ x q r. rw (r, eq-self c);
     }
     go (TakesAck l k b h e) = record {
       kept = λ x j q. grind (nats, q);

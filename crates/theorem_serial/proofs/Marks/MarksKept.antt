@@ -1,8 +1,7 @@
 -- Every event keeps that the Marks of a TID are those of the lines that its core stores.
-use Rattle.base_lemmas.proofs.Lemmas.{eq-self}
 use Rattle.theorem_serial.proofs
 use proofs.Names
-use Names.{ℕ, ◌+◌, ◌≡◌, ◌<◌, ◌≤◌, Bool, true, false, List, ◌++◌, ◌==◌, ◌&&◌, Contains, Some, None, nat_lt, nat_le, slice_index_or, arith}
+use Names.{eq-self, ℕ, ◌+◌, ◌≡◌, ◌<◌, ◌≤◌, true, false, List, ◌++◌, ◌==◌, ◌&&◌, Contains, Some, None, nat_lt, nat_le, slice_index_or, arith}
 use Names.{refl, ap, subst, ◌⊎◌, inl, inr, cases_eq, cases_lt, num, has_mark, Dir, Msg, TidGrant, Mark, Skip, Shape, writes_at, DirState}
 use Names.{Link, Out, sent_all, Grants, Resolves, Marks, MarkOf, EmptyMarks, Skips, live, among, passes, marks_of, MarksOf, Grant, Pair}
 use Names.{after_move, grant_taken, has_tid, opens, [], ◌∷◌, slice_set, ◌∙◌, Contains-append_left, Noted, Core, Vendor, CoreState, World}
@@ -11,16 +10,14 @@ use Names.{after_other_grant, part, handled, KeptTids, KeptTold, Option, IfSome,
 use Names.{start, core_start, dir_start, Sends, core_exec, core_evict, from_dir, grant, Answer, Waits, Drops, Asks, Takes, dir_deliver}
 use Names.{core_moves, core_takes, dir_takes, dir_asks, step, granted_by, back_taken, Kept, nats, tid_at, to_dir, FromCore, grant_to, ◌≢◌}
 use Names.{tested}
-use proofs.Counts.Links.{live-sends, live-takes, live-fewer, total-le, none-taken}
-use proofs.Counts.StepCases.{pairs_move, pairs_grant, pairs_back, pairs_dir, pairs_asks, pairs_vendor, OfAnswer, step_cases}
+use proofs.Counts.{live-sends, live-takes, live-fewer, total-le, none-taken, pairs_move, pairs_grant, pairs_back, pairs_dir, pairs_asks}
+use proofs.Counts.{pairs_vendor, OfAnswer, step_cases}
 use proofs.Marks.CoreMarking.{Marking, few, at-most-one, marking-exec, marking-evict}
 use proofs.Marks.CoreMarkingTakes.{Granting, marking-back, granting}
 use proofs.Marks.CoreMarks.{stores-writes}
 use proofs.Marks.DirRecords.{Marked, Stays, MarkedBy, dir-marked, marks-grow, marks-count}
-use proofs.Serving.KeptSteps.{core_of_grant, core_of_back}
-use proofs.Serving.OwnerSteps.{grant-alone}
-use proofs.Tids.Commits.{granted-once}
-use proofs.Tids.TidSteps.{is_mine, not_mine, live-some, granted_waits}
+use proofs.Serving.{core_of_grant, core_of_back, grant-alone}
+use proofs.Tids.{granted-once, is_mine, not_mine, live-some, granted_waits}
 
 -- How each kind of event keeps what is known of the Marks between a core and a directory.
 one-kind : (t l : ℕ) (m : Msg) → (num (passes (MarkOf t l) m) ≤ num (passes (Marks t) m))
@@ -391,7 +388,7 @@ step-marks {sh} p {gs} {w} e z y h = step_cases sh p w e (λ g o. KeptTold sh o.
     (λ x. granting sh u d x l (w.cores c) (granted_waits (pair w c d) k i (z.told.tids.requests c d))) (λ x. h c d x l)) h))
     (λ c d k m i. taken c d k (core_of_back c d k z.told.tids i) (from_dir sh d (w.cores c) m)
     (λ b t l. marking-back sh d b t l (w.cores c) m))
-    (λ c d k m i. answered c d k m i (dir_deliver sh (w.dirs d) c m) (dir-marked sh (w.dirs d) c m))
+    (λ c d k m i. answered c d k i (dir_deliver sh (w.dirs d) c m) (dir-marked sh (w.dirs d) c m))
     (λ c k i n. pairs_vendor (Q c) w c k (λ d t l. marks-given sh gs (new c) c d t l k (pair w c d) (h c d t l))
     (λ j d n t l. marks-next sh gs (new c) j d t l (pair w j d) (h j d t l)))
   where
@@ -408,33 +405,33 @@ step-marks {sh} p {gs} {w} e z y h = step_cases sh p w e (λ g o. KeptTold sh o.
         → 1 ≤ live (Grants u) (w.net Vendor (Core c)) + num (has_tid (w.cores c).phase u)
     came c k u i = omega (arith, live-some (Grants u) (w.net Vendor (Core c)) k (TidGrant u) i, is_mine u)
 
-    own : (c d t l : ℕ) (o : Out) → c < sh.cores → Marking sh d t l (w.cores c) o → MarksOf sh gs c d t l (pair w c d)
+    own : {c d t l : ℕ} {o : Out} → c < sh.cores → Marking sh d t l (w.cores c) o → MarksOf sh gs c d t l (pair w c d)
         → MarksOf sh gs c d t l (after_move (pair w c d) o d)
-    own c d t l o x a b = marks-moved a x (has-alone c t y x) (has-granted c t y) (λ dl r. open-untold c d t z.told.tids x dl r) b
+    own {c} {d} {t} x a b = marks-moved a x (has-alone c t y x) (has-granted c t y) (open-untold c d t z.told.tids x) b
 
     moved : (c : ℕ) → c < sh.cores → (x : Option Out) → ((d t l : ℕ) → IfSome x (λ o. Marking sh d t l (w.cores c) o))
         → IfSome x (λ o. KeptTold sh (core_moves w c o) → KeptMarks sh (gs ++ []) (core_moves w c o))
     moved c a None u = tt
-    moved c a (Some o) u = λ n. rw append-nil (pairs_move P w c o (λ d t l. own c d t l o a (u d t l) (h c d t l)) h)
+    moved c a (Some o) u = λ n. rw append-nil (pairs_move P w c o (λ d t l. own a (u d t l) (h c d t l)) h)
 
     -- what came from the directory counts for nothing here
     back : (c d k : ℕ) (o : Out) → c < sh.cores → (t l : ℕ) → Marking sh d t l (w.cores c) o
         → MarksOf sh gs c d t l (after_move (back_taken (pair w c d) k) o d)
     back c d k o x t l a = marks-moved a x (has-alone c t y x)
-        (has-granted c t y) (λ dl r. open-untold c d t z.told.tids x dl r) (taken-back w k (h c d t l))
+        (has-granted c t y) (open-untold c d t z.told.tids x) (taken-back w k (h c d t l))
 
     taken : (c d k : ℕ) → c < sh.cores → (x : Option Out) → ((b t l : ℕ) → IfSome x (λ o. Marking sh b t l (w.cores c) o))
         → IfSome x (λ o. KeptTold sh (core_takes w (Dir d) c k o) → KeptMarks sh (gs ++ []) (core_takes w (Dir d) c k o))
     taken c d k a None u = tt
     taken c d k a (Some o) u = λ n. rw append-nil (pairs_back P w d c k o (λ t l. back c d k o a t l (u d t l))
-        (λ b q t l. own c b t l o a (u b t l) (h c b t l)) h)
+        (λ b q t l. own a (u b t l) (h c b t l)) h)
 
-    answered : (c d k : ℕ) (m : Msg) → FromCore w c d k m → (a : Answer) → MarkedBy (w.dirs d) m a
+    answered : (c d k : ℕ) {m : Msg} → FromCore w c d k m → (a : Answer) → MarkedBy (w.dirs d) m a
         → OfAnswer w c d k (λ v. KeptTold sh v → KeptMarks sh (gs ++ []) v) a
-    answered c d k m i Waits u = tt
-    answered c d k m i Drops u = λ n. rw append-nil (dir-marks c d k (w.dirs d) (λ dst. []) z.told y h n i (Stays refl (λ l. refl) u))
-    answered c d k m i (Asks s sends) u = λ n. rw append-nil (asks-marks w d s sends y h n u)
-    answered c d k m i (Takes s sends) u = λ n. rw append-nil (dir-marks c d k s sends z.told y h n i u)
+    answered c d k i Waits u = tt
+    answered c d k i Drops u = λ n. rw append-nil (dir-marks c d k (w.dirs d) (λ dst. []) z.told y h n i (Stays refl (λ l. refl) u))
+    answered c d k i (Asks s sends) u = λ n. rw append-nil (asks-marks w d s sends y h n u)
+    answered c d k i (Takes s sends) u = λ n. rw append-nil (dir-marks c d k s sends z.told y h n i u)
 
 pub start-marks : (sh : Shape) (entries : ℕ → Local) (ram : ℕ → ℕ) → KeptMarks sh [] (start entries ram)
 unfolding start core_start dir_start no_lines pair live marks_of has_tid

@@ -1,17 +1,17 @@
 -- The laws on the marks of directories, from the invariants.
 use Rattle.theorem_serial.proofs
 use proofs.Names
-use Names.{ℕ, zero, suc, ◌≡◌, ◌<◌, ◌≤◌, true, List, [], ◌∷◌, ◌==◌, Contains, Option, Some, None, IfSome, length, slice_index_or, nat_lt}
-use Names.{nat_le, arith, sym, ap, subst, ◌∙◌, ◌⊎◌, inl, inr, cases_lt, Noted, num, count_below, modified_mask, has_mark, Msg, Shape, lines}
-use Names.{CoreState, World, Link, start, History, run, Any, Commits, CommitOf, live, passes, CountsMarks, KeptAll, Always, marks_of}
-use Names.{stores_line, marked_by, KeptMarks, wrong_marks, KeptMasks, AlwaysSince, MarkedByServed, MarksOfCommits, Grant, grants_from}
-use Names.{IsRising, Pair, pair, stored_mask, stores_at, MarkedWith, KeptStored, nats, tid_at, to_dir, IfSome_then, first_state}
-use proofs.Counts.Links.{total-same, live-fewer}
+use Names.{ℕ, zero, suc, ◌≡◌, ◌<◌, ◌≤◌, true, List, [], ◌∷◌, ◌==◌, Contains, length, slice_index_or, nat_lt, nat_le, arith, sym, ap, subst}
+use Names.{◌∙◌, ◌⊎◌, inl, inr, cases_lt, Noted, num, count_below, modified_mask, has_mark, Msg, Shape, lines, CoreState, World, Link, start}
+use Names.{History, run, Any, Commits, CommitOf, live, passes, CountsMarks, KeptAll, Always, marks_of, stores_line, marked_by, KeptMarks}
+use Names.{wrong_marks, KeptMasks, AlwaysSince, MarkedByServed, MarksOfCommits, Grant, grants_from, IsRising, Pair, pair, stored_mask}
+use Names.{stores_at, MarkedWith, KeptStored, nats, tid_at, to_dir, IfSome_then, first_state}
+use proofs.Counts.{total-same, live-fewer}
 use proofs.Marks.CommitMasks.{total-num}
 use proofs.Marks.CountsKept.{none-away}
 use proofs.Marks.StoredKept.{taken-marks, one-commit}
 use proofs.Run.AllInvariants.{run-all}
-use proofs.Tids.TidSteps.{inside_from}
+use proofs.Tids.{inside_from}
 
 -- a TID is that of one commit
 rising-at : (last k : ℕ) (cs : List Noted) (x : Noted) → IsRising last cs → k < length cs → slice_index_or cs k x ≡ x → last < x.tid.0

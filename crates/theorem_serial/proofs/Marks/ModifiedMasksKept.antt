@@ -1,24 +1,21 @@
 -- Every event keeps that the Marks of a core's TID have the words that the core has modified as their masks, and are of different lines.
-use Rattle.base_lemmas.proofs.Lemmas.{num-most}
 use Rattle.theorem_serial.proofs
 use proofs.Names
-use Names.{ℕ, ◌+◌, ◌≡◌, ◌<◌, ◌≤◌, true, false, not, List, [], ◌==◌, ◌&&◌, Contains, Option, Some, None, IfSome, nat_lt, set, arith, refl}
-use Names.{◌⊎◌, inl, inr, Noted, Program, Local, num, modified_mask, has_mark, Core, Dir, Vendor, Msg, TidGrant, Skip, Mark, Event, Shape}
-use Names.{DirState, World, Link, start, core_start, in_flight, Sends, Out, core_exec, core_evict, from_dir, grant, Answer, Waits, Drops}
-use Names.{Asks, Takes, dir_deliver, core_moves, core_takes, dir_takes, step, Grants, MarkOf, MarkMask, live, passes, marks_of, marked_by}
-use Names.{MarksOf, KeptMarks, wrong_marks, MaskedOf, KeptMasks, Grant, KeptOwners, Pair, pair, after_move, grant_taken, after_answer}
-use Names.{has_tid, Kept, KeptTold, cases_lt, no_lines, first_serving, dir_start, among, OneMark, nats, tid_at, to_dir, FromCore, grant_to}
-use Names.{◌≢◌}
-use proofs.Counts.Links.{live-sends, live-takes}
-use proofs.Counts.StepCases.{pairs_move, pairs_grant, pairs_back, pairs_dir, pairs_asks, pairs_vendor, OfAnswer, step_cases}
+use Names.{num-most, ℕ, ◌+◌, ◌≡◌, ◌<◌, ◌≤◌, true, false, not, List, [], ◌==◌, ◌&&◌, Contains, Option, Some, None, IfSome, nat_lt, set}
+use Names.{arith, refl, ◌⊎◌, inl, inr, Noted, Program, Local, num, modified_mask, has_mark, Core, Dir, Vendor, Msg, TidGrant, Skip, Mark}
+use Names.{Event, Shape, DirState, World, Link, start, core_start, in_flight, Sends, Out, core_exec, core_evict, from_dir, grant, Answer}
+use Names.{Waits, Drops, Asks, Takes, dir_deliver, core_moves, core_takes, dir_takes, step, Grants, MarkOf, MarkMask, live, passes}
+use Names.{marks_of, marked_by, MarksOf, KeptMarks, wrong_marks, MaskedOf, KeptMasks, Grant, KeptOwners, Pair, pair, after_move}
+use Names.{grant_taken, after_answer, has_tid, Kept, KeptTold, cases_lt, no_lines, first_serving, dir_start, among, OneMark, nats, tid_at}
+use Names.{to_dir, FromCore, grant_to, ◌≢◌}
+use proofs.Counts.{live-sends, live-takes, pairs_move, pairs_grant, pairs_back, pairs_dir, pairs_asks, pairs_vendor, OfAnswer, step_cases}
 use proofs.Marks.CoreMarking.{Marking, marking-exec, marking-evict, few}
 use proofs.Marks.CoreMarkingTakes.{Granting, marking-back, granting}
 use proofs.Marks.CommitMasks.{Masking, live-masked, passes-masked, masking-exec, masking-evict, masking-back}
 use proofs.Marks.DirRecords.{Marked, Stays, MarkedBy, dir-marked, marks-grow}
 use proofs.Marks.MarksKept.{marks-granted, has-granted, is-granted, skip-unmarked, only-there, kinds, falls, taken-less}
-use proofs.Serving.KeptSteps.{core_of_back}
-use proofs.Serving.OwnerSteps.{grant-alone}
-use proofs.Tids.TidSteps.{granted_waits, live-some, is_mine}
+use proofs.Serving.{core_of_back, grant-alone}
+use proofs.Tids.{granted_waits, live-some, is_mine}
 
 -- Every event keeps that the Marks of a core's TID have the words that the core has modified as their masks.
 
@@ -62,7 +59,7 @@ wrong-falls {m} t l q y h p k z =
       p,
       z,
       marks-grow (λ b. nat_lt 0 b && not (b == q)) t l (num (passes (MarkMask t l q) m)) refl h
-          (λ e. rw (k e) refl) (λ i e r. rw e (wrong-one l i t q r)),
+          (λ e. rw (k e)) (λ i e r. rw e (wrong-one l i t q r)),
     )
 
 masks-answered : (t l : ℕ) (v : Pair) {m : Msg} {s : DirState} (ms : List Msg) (k : Link) → Marked v.dir m s
@@ -112,11 +109,11 @@ step-masks {sh} p {gs} {w} e z y b h = step_cases sh p w e (λ g o. KeptMasks sh
     (λ d t l. masking-exec sh p c d t l (w.cores c)))
     (λ c r q x. moved c x (core_evict sh r q (w.cores c)) (λ d t l. marking-evict sh r q d t l (w.cores c))
     (λ d t l. masking-evict sh r q d t l (w.cores c)))
-    (λ c k u i. (pairs_grant P w c k (grant sh u (w.cores c)) (λ d t l x r. granted c k u i d t l x r) (λ c d t l x r. h c d t l x r)))
+    (λ c k u i. (pairs_grant P w c k (grant sh u (w.cores c)) (granted c k u i) h))
     (λ c d k m i. taken c d k (core_of_back c d k z.told.tids i) (from_dir sh d (w.cores c) m)
     (λ e t l. marking-back sh d e t l (w.cores c) m) (λ e t l. masking-back sh d e t l (w.cores c) m))
-    (λ c d k m i. answered c d k m i (dir_deliver sh (w.dirs d) c m) (dir-marked sh (w.dirs d) c m))
-    (λ c k i. pairs_vendor P w c k (λ d t l x r. h c d t l x r) (λ j d n t l x r. h j d t l x r))
+    (λ c d k m i. answered c d k i (dir_deliver sh (w.dirs d) c m) (dir-marked sh (w.dirs d) c m))
+    (λ c k i. pairs_vendor P w c k (h c) (λ j d n t l x r. h j d t l x r))
   where
     P : ℕ → ℕ → Pair → Type 0
     P c d v = (t l : ℕ) → c < sh.cores → d < sh.dirs → MaskedOf t l v
@@ -130,29 +127,29 @@ step-masks {sh} p {gs} {w} e z y b h = step_cases sh p w e (λ g o. KeptMasks sh
         comes : (t : ℕ) → Granting sh u d t l (grant sh u (w.cores c))
         comes t = granting sh u d t l (w.cores c) (granted_waits (pair w c d) k i (z.told.tids.requests c d))
 
-    own : (c d t l : ℕ) (o : Out) → c < sh.cores → d < sh.dirs → Marking sh d t l (w.cores c) o → Masking sh d t l (w.cores c) o
+    own : (c : ℕ) {d t l : ℕ} {o : Out} → c < sh.cores → d < sh.dirs → Marking sh d t l (w.cores c) o → Masking sh d t l (w.cores c) o
         → MaskedOf t l (after_move (pair w c d) o d)
-    own c d t l o x r a q = masks-moved d t l o a q x r (b c d t l) (h c d t l x r)
+    own c {d} {t} {l} {o} x r a q = masks-moved d t l o a q x r (b c d t l) (h c d t l x r)
 
     moved : (c : ℕ) → c < sh.cores → (x : Option Out) → ((d t l : ℕ) → IfSome x (λ o. Marking sh d t l (w.cores c) o))
         → ((d t l : ℕ) → IfSome x (λ o. Masking sh d t l (w.cores c) o)) → IfSome x (λ o. KeptMasks sh (core_moves w c o))
     moved c a None u q = tt
-    moved c a (Some o) u q = pairs_move P w c o (λ d t l x r. own c d t l o x r (u d t l) (q d t l)) (λ c d t l x r. h c d t l x r)
+    moved c a (Some o) u q = pairs_move P w c o (λ d t l x r. own c x r (u d t l) (q d t l)) h
 
     taken : (c d k : ℕ) → c < sh.cores → (x : Option Out) → ((e t l : ℕ) → IfSome x (λ o. Marking sh e t l (w.cores c) o))
         → ((e t l : ℕ) → IfSome x (λ o. Masking sh e t l (w.cores c) o)) → IfSome x (λ o. KeptMasks sh (core_takes w (Dir d) c k o))
     taken c d k a None u q = tt
-    taken c d k a (Some o) u q = pairs_back P w d c k o (λ t l x r. own c d t l o x r (u d t l) (q d t l))
-        (λ e n t l x r. own c e t l o x r (u e t l) (q e t l)) (λ c d t l x r. h c d t l x r)
+    taken c d k a (Some o) u q = pairs_back P w d c k o (λ t l x r. own c x r (u d t l) (q d t l))
+        (λ e n t l x r. own c x r (u e t l) (q e t l)) h
 
-    answered : (c d k : ℕ) (m : Msg) → FromCore w c d k m → (a : Answer) → MarkedBy (w.dirs d) m a
+    answered : (c d k : ℕ) {m : Msg} → FromCore w c d k m → (a : Answer) → MarkedBy (w.dirs d) m a
         → OfAnswer w c d k (λ v. KeptMasks sh v) a
-    answered c d k m i Waits u = tt
-    answered c d k m i Drops u = dir-masks c d k (w.dirs d) (λ dst. []) z.told y b h i (Stays refl (λ l. refl) u)
-    answered c d k m i (Asks s sends) u =
+    answered c d k i Waits u = tt
+    answered c d k i Drops u = dir-masks c d k (w.dirs d) (λ dst. []) z.told y b h i (Stays refl (λ l. refl) u)
+    answered c d k i (Asks s sends) u =
         pairs_asks P w d s sends (λ j t l x r. masks-asked t l (pair w j d) s (sends (Core j)) u.0 (u.1 l) (h j d t l x r))
-        (λ c d t l x r. h c d t l x r)
-    answered c d k m i (Takes s sends) u = dir-masks c d k s sends z.told y b h i u
+        h
+    answered c d k i (Takes s sends) u = dir-masks c d k s sends z.told y b h i u
 
 pub start-masks : (sh : Shape) (entries : ℕ → Local) (ram : ℕ → ℕ) → KeptMasks sh (start entries ram)
 unfolding start core_start pair has_tid
@@ -225,36 +222,36 @@ step-one-mark {sh} p {w} e z y b h = step_cases sh p w e (λ g o. OneMark sh o.w
     (λ c r q x. moved c x (core_evict sh r q (w.cores c)) (λ d t l. marking-evict sh r q d t l (w.cores c)))
     (λ c k u i. pairs_grant P w c k (grant sh u (w.cores c)) (λ d t l x r. one-granted t l d k (pair w c d) (grant sh u (w.cores c))
     (granting sh u d t l (w.cores c) (granted_waits (pair w c d) k i (z.told.tids.requests c d))).marks (h c d t l x r))
-    (λ c d t l x r. h c d t l x r)) (λ c d k m i. taken c d k (core_of_back c d k z.told.tids i) (from_dir sh d (w.cores c) m)
+    h) (λ c d k m i. taken c d k (core_of_back c d k z.told.tids i) (from_dir sh d (w.cores c) m)
     (λ e t l. marking-back sh d e t l (w.cores c) m))
-    (λ c d k m i. answered c d k m i (dir_deliver sh (w.dirs d) c m) (dir-marked sh (w.dirs d) c m))
-    (λ c k i. pairs_vendor P w c k (λ d t l x r. h c d t l x r) (λ j d n t l x r. h j d t l x r))
+    (λ c d k m i. answered c d k i (dir_deliver sh (w.dirs d) c m) (dir-marked sh (w.dirs d) c m))
+    (λ c k i. pairs_vendor P w c k (h c) (λ j d n t l x r. h j d t l x r))
   where
     P : ℕ → ℕ → Pair → Type 0
     P c d v = (t l : ℕ) → c < sh.cores → d < sh.dirs → marks_of t l v ≤ 1
 
-    own : (c d t l : ℕ) (o : Out) → c < sh.cores → d < sh.dirs → Marking sh d t l (w.cores c) o
+    own : (c : ℕ) {d t l : ℕ} {o : Out} → c < sh.cores → d < sh.dirs → Marking sh d t l (w.cores c) o
         → marks_of t l (after_move (pair w c d) o d) ≤ 1
-    own c d t l o x r a = one-moved d t l o a x r (b c d t l) (h c d t l x r)
+    own c {d} {t} {l} {o} x r a = one-moved d t l o a x r (b c d t l) (h c d t l x r)
 
     moved : (c : ℕ) → c < sh.cores → (x : Option Out) → ((d t l : ℕ) → IfSome x (λ o. Marking sh d t l (w.cores c) o))
         → IfSome x (λ o. OneMark sh (core_moves w c o))
     moved c a None u = tt
-    moved c a (Some o) u = pairs_move P w c o (λ d t l x r. own c d t l o x r (u d t l)) (λ c d t l x r. h c d t l x r)
+    moved c a (Some o) u = pairs_move P w c o (λ d t l x r. own c x r (u d t l)) h
 
     taken : (c d k : ℕ) → c < sh.cores → (x : Option Out) → ((e t l : ℕ) → IfSome x (λ o. Marking sh e t l (w.cores c) o))
         → IfSome x (λ o. OneMark sh (core_takes w (Dir d) c k o))
     taken c d k a None u = tt
-    taken c d k a (Some o) u = pairs_back P w d c k o (λ t l x r. own c d t l o x r (u d t l)) (λ e n t l x r. own c e t l o x r (u e t l))
-        (λ c d t l x r. h c d t l x r)
+    taken c d k a (Some o) u = pairs_back P w d c k o (λ t l x r. own c x r (u d t l)) (λ e n t l x r. own c x r (u e t l))
+        h
 
-    answered : (c d k : ℕ) (m : Msg) → FromCore w c d k m → (a : Answer) → MarkedBy (w.dirs d) m a → OfAnswer w c d k (λ v. OneMark sh v) a
-    answered c d k m i Waits u = tt
-    answered c d k m i Drops u = dir-one c d k (w.dirs d) (λ dst. []) z.told y b h i (Stays refl (λ l. refl) u)
-    answered c d k m i (Asks s sends) u =
+    answered : (c d k : ℕ) {m : Msg} → FromCore w c d k m → (a : Answer) → MarkedBy (w.dirs d) m a → OfAnswer w c d k (λ v. OneMark sh v) a
+    answered c d k i Waits u = tt
+    answered c d k i Drops u = dir-one c d k (w.dirs d) (λ dst. []) z.told y b h i (Stays refl (λ l. refl) u)
+    answered c d k i (Asks s sends) u =
         pairs_asks P w d s sends (λ j t l x r. one-asked t l (pair w j d) s (sends (Core j)) u.0 (u.1 l) (h j d t l x r))
-        (λ c d t l x r. h c d t l x r)
-    answered c d k m i (Takes s sends) u = dir-one c d k s sends z.told y b h i u
+        h
+    answered c d k i (Takes s sends) u = dir-one c d k s sends z.told y b h i u
 
 pub start-one-mark : (sh : Shape) (entries : ℕ → Local) (ram : ℕ → ℕ) → OneMark sh (start entries ram)
 unfolding start dir_start no_lines pair live marks_of

@@ -1,27 +1,23 @@
 -- Every event keeps that invalidations in flight name marked lines with their masks, once each.
-use Rattle.base_lemmas.proofs.Lemmas.{eq-self}
 use Rattle.theorem_serial.proofs
-use proofs.Names.{Contains-append_cases, flat_map-append, SparesCommitter, is_invalidated, if◌then◌else◌, invalidations, data_request}
-use proofs.Names.{after_answer, probe_reply, dir_deliver, KeptCounted, grant_taken, ProbeReply, invalidate, core_evict, core_moves}
-use proofs.Names.{core_takes, after_move, back_taken, append-nil, granted_by, home_words, CoreState, core_exec, dir_takes, KeptNamed}
-use proofs.Names.{out_taken, flat_map, cases_eq, has_mark, DirState, from_dir, InvsAway, Resolves, cases_lt, KeptTold, Contains, dir_asks}
-use proofs.Names.{DataReq, invs_to, InvMask, Program, NamedOf, handled, IfSome, nat_lt, InvAck, Answer, passes, Option, MarkOf, false}
-use proofs.Names.{arith, those, Lines, Shape, lines, Waits, Drops, Takes, InvOf, AckOf, among, subst, Local, Event, World, start, Sends}
-use proofs.Names.{grant, share, Grant, zero, Bool, true, List, ◌==◌, ◌&&◌, Some, None, refl, Core, Fill, Mark, home, Link, fill, Asks, Invs}
-use proofs.Names.{Acks, live, step, Pair, pair, Kept, ◌++◌, suc, ◌+◌, ◌≡◌, ◌≤◌, ◌∷◌, ◌⊎◌, inl, inr, num, Dir, Msg, Inv, Out, ◌<◌, set, sym}
-use proofs.Names.{◌∙◌, due, Any, [], to, ap, ℕ, nats, tid_at, to_dir, to_core, FromCore, FromDir, grant_to, ◌≢◌}
-use proofs.Counts.DirOutcome.{Outcome, Waiting, Spent, AsksOwner, TakesProbe, TakesLoad, TakesCommit, outcome, none-to, among-none}
-use proofs.Counts.Links.{among-append, among-flat_map_none, live-sends, live-takes, total-le, live-fewer, none-taken, among-fewer}
-use proofs.Counts.StepCases.{dir-own, dir-other, pairs_move, pairs_grant, pairs_back, pairs_dir, pairs_asks, pairs_vendor, OfAnswer}
-use proofs.Counts.StepCases.{step_cases, asks-own}
+use proofs.Names.{eq-self, Contains-append_cases, flat_map-append, SparesCommitter, is_invalidated, if◌then◌else◌, invalidations}
+use proofs.Names.{after_answer, dir_deliver, KeptCounted, grant_taken, ProbeReply, core_evict, core_moves, core_takes, after_move}
+use proofs.Names.{back_taken, append-nil, granted_by, home_words, CoreState, core_exec, dir_takes, KeptNamed, out_taken, flat_map, cases_eq}
+use proofs.Names.{has_mark, DirState, from_dir, InvsAway, Resolves, cases_lt, KeptTold, Contains, DataReq, invs_to, InvMask, Program}
+use proofs.Names.{NamedOf, handled, IfSome, nat_lt, InvAck, Answer, passes, Option, MarkOf, false, arith, those, Lines, Shape, lines, Waits}
+use proofs.Names.{Drops, Takes, InvOf, AckOf, among, subst, Local, Event, World, start, Sends, grant, share, Grant, zero, Bool, true, List}
+use proofs.Names.{◌==◌, ◌&&◌, Some, None, refl, Core, Fill, Mark, home, Link, Asks, Invs, Acks, live, step, Pair, pair, Kept, ◌++◌, suc}
+use proofs.Names.{◌+◌, ◌≡◌, ◌≤◌, ◌∷◌, ◌⊎◌, inl, inr, num, Dir, Msg, Inv, Out, ◌<◌, set, sym, ◌∙◌, due, Any, [], to, ap, ℕ, nats, tid_at}
+use proofs.Names.{to_dir, to_core, FromCore, FromDir, grant_to, ◌≢◌}
+use proofs.Counts.{Outcome, Waiting, Spent, AsksOwner, TakesProbe, TakesLoad, TakesCommit, outcome, none-to, among-none, among-append}
+use proofs.Counts.{among-flat_map_none, live-sends, live-takes, total-le, live-fewer, none-taken, among-fewer, dir-own, dir-other}
+use proofs.Counts.{pairs_move, pairs_grant, pairs_back, pairs_dir, pairs_asks, pairs_vendor, OfAnswer, step_cases, asks-own}
 use proofs.Marks.DirRecords.{Marked, Stays, Clears, Skipped, Marks as IsMarked, MarkedBy, dir-marked, CountsMarked, OwesBy, dir-owes}
 use proofs.Marks.MarksKept.{taken-less, is-mark}
-use proofs.OneCore.CoreSteps.{fill-steady, data-steady, Invalidated, invalidate-cases, reply-cases}
-use proofs.Serving.CoreDue.{Clean, clean-hurt, clean-replied, clean-steady, CleanOut, clean-exec, clean-evict, clean-grant}
-use proofs.Serving.DirDue.{Due, DueBy, dir-due, still-due, none-quiet, Quiet}
-use proofs.Serving.KeptSteps.{core_of_out, once_at, marks_home, acks_owed, BackDue, back-due}
-use proofs.Tids.Commits.{only-one}
-use proofs.Tids.TidSteps.{unserved, live-some}
+use proofs.OneCore.{fill-steady, data-steady, Invalidated, invalidate-cases, reply-cases}
+use proofs.Serving.{Clean, clean-hurt, clean-replied, clean-steady, CleanOut, clean-exec, clean-evict, clean-grant, Due, DueBy, dir-due}
+use proofs.Serving.{still-due, none-quiet, Quiet, core_of_out, once_at, marks_home, acks_owed, BackDue, back-due}
+use proofs.Tids.{only-one, unserved, live-some}
 
 -- What nodes send of invalidations and acknowledgements, line by line.
 
@@ -162,7 +158,7 @@ named-none l v a b = let r = lines-live l (v.dir.lines.mark l) v.back in let s =
 }
 
 has-same : {a b : ℕ} → a ≡ b → num (nat_lt 0 a) ≡ num (nat_lt 0 b)
-has-same e = rw e refl
+has-same e = rw e
 
 -- the marks stay, and no invalidation goes out
 named-quiet : {l : ℕ} {v : Pair} (s : DirState) (ms : List Msg) (k : Link) → s.lines.mark l ≡ v.dir.lines.mark l → among Invs ms ≡ 0
@@ -230,7 +226,7 @@ dir-named {sh} {w} c {d} k {m} {s} {sends} b g h z cl i u p o n =
     (subst (λ v. v.dir.owed ≡ 0 → live Invs v.back + live Acks v.out ≡ 0) (dir-own w c d k s sends) (none-due c d z jl)))
     (λ j q l jl dl. pairs j l jl dl (to_dir w j d) (omega arith) (omega arith)
     (subst (λ v. v.dir.owed ≡ 0 → live Invs v.back + live Acks v.out ≡ 0) (dir-other w c d k s sends j q) (none-due j d z jl)))
-    (λ j e l. h j e l) j e l
+    h j e l
   where
     new : World
     new = dir_takes w c d k s sends
@@ -287,7 +283,7 @@ step-named {sh} p {w} e z g h = step_cases sh p w e (λ x o. KeptTold sh o.world
     (λ c k u i n. pairs_grant P w c k (grant sh u (w.cores c))
     (λ d l x y. named-granted l d k (grant sh u (w.cores c)) (clean-grant sh u (w.cores c) d) (h c d l x y)) h)
     (λ c d k m i. taken c d k m i (from_dir sh d (w.cores c) m) (λ b l. acks-line sh d b l (w.cores c) m (passed-away c d k z.told i)))
-    (λ c d k m i. answered c d k m i (core_of_out c d k z.told.tids i) (dir_deliver sh (w.dirs d) c m) (dir-marked sh (w.dirs d) c m)
+    (λ c d k m i. answered c d k i (core_of_out c d k z.told.tids i) (dir_deliver sh (w.dirs d) c m) (dir-marked sh (w.dirs d) c m)
     (dir-owes sh (w.dirs d) c m)
     (dir-due sh d (w.dirs d) c m (once_at c d k z.told i) (z.told.owed.at_home c d).marked (marks_home c d k z.told.owed i)
     (acks_owed c d k z.told.owed (core_of_out c d k z.told.tids i) i)) (dir-names sh (w.dirs d) c m))
@@ -309,14 +305,14 @@ step-named {sh} p {w} e z g h = step_cases sh p w e (λ x o. KeptTold sh o.world
     taken c d k m i (Some o) u = λ n. pairs_back P w d c k o (λ l x y. near-back k d d c l sh w m o i (u d l) (h c d l x y))
         (λ b r l x y. away-back d b c l w m o r (u b l) (h c b l x y)) h
 
-    answered : (c d k : ℕ) (m : Msg) → FromCore w c d k m → c < sh.cores → (b : Answer) → MarkedBy (w.dirs d) m b → OwesBy sh (w.dirs d) m b
+    answered : (c d k : ℕ) {m : Msg} → FromCore w c d k m → c < sh.cores → (b : Answer) → MarkedBy (w.dirs d) m b → OwesBy sh (w.dirs d) m b
         → DueBy sh d (w.dirs d) (num (passes Acks m)) b → NamesBy (w.dirs d) m b → OfAnswer w c d k (λ v. KeptTold sh v → KeptNamed sh v) b
-    answered c d k m i cl Waits u o p n = tt
-    answered c d k m i cl Drops u o p n = λ t. dir-named c k z.told g h t cl i (Stays refl (λ l. refl) u)
+    answered c d k i cl Waits u o p n = tt
+    answered c d k i cl Drops u o p n = λ t. dir-named c k z.told g h t cl i (Stays refl (λ l. refl) u)
         (still-due sh d (w.dirs d) (z.told.owed.at_home c d).marked) (inl (omega arith)) (inl none-quiet)
-    answered c d k m i cl (Asks s sends) u o p n = λ t. pairs_asks P w d s sends
+    answered c d k i cl (Asks s sends) u o p n = λ t. pairs_asks P w d s sends
         (λ j l x y. named-quiet s (sends (Core j)) (to_dir w j d) (u.1 l) (n j) (omega arith) (h j d l x y)) h
-    answered c d k m i cl (Takes s sends) u o p n = λ t. dir-named c k z.told g h t cl i u p o n
+    answered c d k i cl (Takes s sends) u o p n = λ t. dir-named c k z.told g h t cl i u p o n
 
 pub start-named : (sh : Shape) (entries : ℕ → Local) (ram : ℕ → ℕ) → KeptNamed sh (start entries ram)
 unfolding start pair live
@@ -381,7 +377,7 @@ step-unacked {sh} p {gs} {w} e z y h = step_cases sh p w e (λ g o. KeptTold sh 
       live-sends Acks (to_dir w c d) ((grant sh u (w.cores c)).sends (Dir d)),
     )) h))
     (λ c d k m i. taken c d k m i (from_dir sh d (w.cores c) m) (back-due sh d (w.cores c) m (passed-away c d k z.told i)))
-    (λ c d k m i. answered c d k m i (dir_deliver sh (w.dirs d) c m)
+    (λ c d k m i. answered c d k i (dir_deliver sh (w.dirs d) c m)
     (dir-due sh d (w.dirs d) c m (once_at c d k z.told i) (z.told.owed.at_home c d).marked (marks_home c d k z.told.owed i)
     (acks_owed c d k z.told.owed (core_of_out c d k z.told.tids i) i)))
     (λ c k i n. pairs_vendor (UnackedOf sh (gs ++ grant_to w.next c ∷ [])) w c k
@@ -418,15 +414,14 @@ step-unacked {sh} p {gs} {w} e z y h = step_cases sh p w e (λ g o. KeptTold sh 
         ))
         (λ b q l g. omega (arith, h c b l g, a.away b q, live-sends Acks (to_dir w c b) (o.sends (Dir b)))) h)
 
-    answered : (c d k : ℕ) (m : Msg) → FromCore w c d k m → (a : Answer)
-        → DueBy sh d (w.dirs d) (num (passes Acks m)) a → OfAnswer w c d k (λ v. KeptTold sh v → KeptUnacked sh (gs ++ []) v) a
-    answered c d k m i Waits u = tt
-    answered c d k m i Drops u = λ n. rw append-nil (dir-unacked gs w c k h n i
-        (still-due sh d (w.dirs d) (z.told.owed.at_home c d).marked))
-    answered c d k m i (Asks s sends) u = λ n. rw append-nil (pairs_asks P w d s sends
+    answered : (c d k : ℕ) {m : Msg} → FromCore w c d k m → (a : Answer) → DueBy sh d (w.dirs d) (num (passes Acks m)) a
+        → OfAnswer w c d k (λ v. KeptTold sh v → KeptUnacked sh (gs ++ []) v) a
+    answered c d k i Waits u = tt
+    answered c d k i Drops u = λ n. rw append-nil (dir-unacked gs w c k h n i (still-due sh d (w.dirs d) (z.told.owed.at_home c d).marked))
+    answered c d k i (Asks s sends) u = λ n. rw append-nil (pairs_asks P w d s sends
         (λ j. unacked-answered sh gs j d (pair w j d) (after_answer (pair w j d) s (sends (Core j))) u.served (omega arith)
         (subst (λ q. q.dir.owed ≡ 0 → live Acks q.out ≡ 0) (asks-own w d s sends j) (no-acks j d n)) (h j d)) h)
-    answered c d k m i (Takes s sends) u = λ n. rw append-nil (dir-unacked gs w c k h n i u)
+    answered c d k i (Takes s sends) u = λ n. rw append-nil (dir-unacked gs w c k h n i u)
 
 pub start-unacked : (sh : Shape) (entries : ℕ → Local) (ram : ℕ → ℕ) → KeptUnacked sh [] (start entries ram)
 unfolding start pair live

@@ -6,12 +6,11 @@ use Names.{Noted, Program, Local, num, Dir, Msg, Inv, Event, Shape, home, empty_
 use Names.{core_evict, from_dir, grant, Answer, Waits, Drops, Asks, Takes, dir_deliver, core_moves, core_takes, step, Invs, InvsNot, passes}
 use Names.{Kept, KeptTold, KeptCores, Grant, KeptOwners, LastGranted, SparesCommitter, holder, Pair, pair, IsBound, has_tid, IsPassed}
 use Names.{ReadWords, sym, ◌∙◌, nats, tid_at, to_core, FromDir, grant_to, ◌≢◌}
-use proofs.Counts.StepCases.{pairs_move, pairs_grant, pairs_back, pairs_dir, pairs_asks, pairs_vendor, OfAnswer, step_cases}
+use proofs.Counts.{pairs_move, pairs_grant, pairs_back, pairs_dir, pairs_asks, pairs_vendor, OfAnswer, step_cases}
 use proofs.Marks.NamedKept.{passed-away}
-use proofs.OneCore.CoreReads.{Reading, ValidOrPassed, ReadOf, read-kept, reading-exec, reading-evict, PassesTid, Admits, reading-grant}
-use proofs.OneCore.CoreReads.{reads-back}
-use proofs.Serving.DirDue.{RisesBy, dir-rises}
-use proofs.Tids.TidSteps.{live-some}
+use proofs.OneCore.{Reading, ValidOrPassed, ReadOf, read-kept, reading-exec, reading-evict, PassesTid, Admits, reading-grant, reads-back}
+use proofs.Serving.{RisesBy, dir-rises}
+use proofs.Tids.{live-some}
 
 abbrev pub KeptReads : Shape → World → Type 0
 KeptReads sh w = (c d : ℕ) → d < sh.dirs → ReadOf sh d (tid_at w d) (w.cores c)
@@ -80,7 +79,7 @@ step-reads {sh} p {w} e z y ks s h = step_cases sh p w e (λ g o. KeptReads sh o
     (λ c k u i. pairs_grant P w c k (grant sh u (w.cores c)) (λ d b. read-kept sh d _ (reading-grant sh u (w.cores c)) (h c d b)) h)
     (λ c d k m i. taken c d k (from_dir sh d (w.cores c) m) (λ a b. reads-back d a (tid_at w a) m (ks c) (admitted c d k m a b z.told y s i)
     (h c a b))) (λ c d k m i. answered c d k (dir_deliver sh (w.dirs d) c m) (dir-rises sh (w.dirs d) c m))
-    (λ c k i. pairs_vendor P w c k (λ d. h c d) (λ j d n. h j d))
+    (λ c k i. pairs_vendor P w c k (h c) (λ j d n. h j d))
   where
     P : ℕ → ℕ → Pair → Type 0
     P c d v = d < sh.dirs → ReadOf sh d v.dir.serving.serving v.core

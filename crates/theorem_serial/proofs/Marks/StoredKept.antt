@@ -1,21 +1,20 @@
 -- Every event keeps that a TID that commits has marked what its commit stored, also while acknowledgements of it are owed.
-use Rattle.base_lemmas.proofs.Lemmas.{num-most}
 use Rattle.theorem_serial.proofs
 use proofs.Names
-use Names.{after_other_grant, slice_index_or, if◌then◌else◌, modified_mask, insert_commit, SettledCommit, Contains, after_answer}
+use Names.{num-most, after_other_grant, slice_index_or, if◌then◌else◌, modified_mask, insert_commit, SettledCommit, Contains, after_answer}
 use Names.{MarkedCommit, wrong_marks, grant_taken, stored_mask, count_below, dir_deliver, EmptyMarks, KeptCounted, after_grant, after_move}
 use Names.{MarkedWith, core_evict, core_moves, core_takes, KeptOwners, false, back_taken, KeptStored, writes_at, and_noted, AnyCommit}
-use Names.{marked_by, dir_start, [], core_exec, dir_takes, KeptMarks, KeptMasks, KeptCores, cases_lt, has_mark, DirState, sent_all}
-use Names.{Resolves, MarkMask, marks_of, MaskedOf, StoredOf, from_dir, dir_asks, CommitOf, KeptTold, Commits, MarksOf, arith, Program}
-use Names.{Option, length, nat_lt, MarkOf, passes, IfSome, TidReq, Commit, Answer, Noted, Shape, among, ℕ, Grant, opens, subst, Local}
-use Names.{Event, lines, World, start, Sends, grant, Waits, Drops, Takes, zero, Bool, true, List, ◌++◌, Some, None, refl, Skip, Link, Kind}
-use Names.{live, Pair, Core, Asks, step, Acks, pair, Kept, skip, suc, ◌+◌, ◌≡◌, ◌<◌, ◌≤◌, ◌∷◌, ◌∙◌, ◌⊎◌, inl, inr, num, Dir, Msg, Out, set}
-use Names.{sym, ap, nats, tid_at, to_dir, FromCore, grant_to}
-use proofs.Counts.Links.{live-sends, live-takes}
-use proofs.Counts.StepCases.{dir-own, dir-other, asks-own, pairs_move, pairs_grant, pairs_back, pairs_dir, pairs_asks, pairs_vendor}
-use proofs.Counts.StepCases.{OfAnswer, step_cases}
+use Names.{dir_start, [], core_exec, dir_takes, KeptMarks, KeptMasks, KeptCores, cases_lt, has_mark, DirState, sent_all, Resolves, MarkMask}
+use Names.{marks_of, MaskedOf, StoredOf, from_dir, dir_asks, CommitOf, KeptTold, Commits, MarksOf, arith, Program, Option, length, nat_lt}
+use Names.{MarkOf, passes, IfSome, TidReq, Commit, Answer, Noted, Shape, among, ℕ, Grant, opens, subst, Local, Event, lines, World, start}
+use Names.{Sends, grant, Waits, Drops, Takes, zero, Bool, true, List, ◌++◌, Some, None, refl, Skip, Link, Kind, live, Pair, Core, Asks}
+use Names.{step, Acks, pair, Kept, skip, suc, ◌+◌, ◌≡◌, ◌<◌, ◌≤◌, ◌∷◌, ◌∙◌, ◌⊎◌, inl, inr, num, Dir, Msg, Out, set, sym, ap, nats, tid_at}
+use Names.{to_dir, FromCore, grant_to}
+use proofs.Counts.{live-sends, live-takes, dir-own, dir-other, asks-own, pairs_move, pairs_grant, pairs_back, pairs_dir, pairs_asks}
+use proofs.Counts.{pairs_vendor, OfAnswer, step_cases}
 use proofs.Marks.CommitMasks.{Storing, StoresAll, storing-exec, storing-evict, storing-back, few-masked, passes-masked}
-use proofs.Serving.CoreDue.{granted-free, few-of}
+use proofs.Serving.{granted-free, few-of, ofs-resolve, Due, DueBy, dir-due, still-due, core_of_back, core_of_out, once_at, marks_home}
+use proofs.Serving.{acks_owed}
 use proofs.Marks.CoreMarking.{Marking, marking-exec, marking-evict}
 use proofs.Marks.CoreMarkingTakes.{marking-back, granting}
 use proofs.Marks.CountsKept.{none-sent, marks-stay, told-ahead, is-commit, none-away}
@@ -23,10 +22,7 @@ use proofs.Marks.DirRecords.{Marked, Stays, MarkedBy, dir-marked, CountsMarked, 
 use proofs.Marks.MarksKept.{open-untold, taken-less, empty-one, skip-unmarked, only-there, no-request, no-empty, taken-back as back-marks}
 use proofs.Marks.ModifiedMasksKept.{wrong-few, wrong-falls, masked-there}
 use proofs.Marks.NamedKept.{marks-same}
-use proofs.Serving.CommitSteps.{ofs-resolve}
-use proofs.Serving.DirDue.{Due, DueBy, dir-due, still-due}
-use proofs.Serving.KeptSteps.{core_of_back, core_of_out, once_at, marks_home, acks_owed}
-use proofs.Tids.TidSteps.{granted_waits, live-some}
+use proofs.Tids.{granted_waits, live-some}
 
 -- How each kind of event keeps, between a core and a directory, that a Commit in flight is of a commit that stored what was marked.
 
@@ -187,12 +183,12 @@ stored-answered {sh} {gs} {cs} {j} {d} {t} {v} m s ms k y less ones wrongs skip 
           tid = n.tid;
           core = n.core;
           stored = n.stored;
-          marks = λ l. stays l (stored_mask sh d n.commit.stores l) a b jl dl (n.marks l);
+          marks = λ l. stays l a b jl dl (n.marks l);
         }
       where
-        stays : (l q : ℕ) → 1 ≤ live (Resolves t) k → Contains gs (grant_to t j) → j < sh.cores → d < sh.dirs
-            → MarkedWith t l q v → MarkedWith t l q (after_answer (record v { out = k }) s ms)
-        stays l q a b jl dl w = record {
+        stays : (l : ℕ) {q : ℕ} → 1 ≤ live (Resolves t) k → Contains gs (grant_to t j) → j < sh.cores → d < sh.dirs → MarkedWith t l q v
+            → MarkedWith t l q (after_answer (record v { out = k }) s ms)
+        stays l {q} a b jl dl w = record {
           one = marks-stay sh d t l v ms k y (ones l b) (skip l) nonempty (ahead jl dl a) (omega (arith, w.one, num-most (nat_lt 0 q)))
               ∙ w.one;
           right = wrong-falls t l q (live (MarkMask t l q) k) y (wrongs l q b) (skip l) w.right;
@@ -340,7 +336,7 @@ step-stored {sh} p {gs} {w} {cs} e z y x a g q h = step_cases sh p w e
     (granted-free sh u d (w.cores c)) (h c d t)) (more (grant sh u (w.cores c)).commit))
     (λ c d k m i. taken c d k (core_of_back c d k z.told.tids i) (from_dir sh d (w.cores c) m)
     (λ b t l. marking-back sh d b t l (w.cores c) m) (λ b t. storing-back sh d c b t (w.cores c) m))
-    (λ c d k m i. answered c d k m i (core_of_out c d k z.told.tids i) (dir_deliver sh (w.dirs d) c m) (dir-marked sh (w.dirs d) c m)
+    (λ c d k m i. answered c d k i (core_of_out c d k z.told.tids i) (dir_deliver sh (w.dirs d) c m) (dir-marked sh (w.dirs d) c m)
     (dir-owes sh (w.dirs d) c m)
     (dir-due sh d (w.dirs d) c m (once_at c d k z.told i) (z.told.owed.at_home c d).marked (marks_home c d k z.told.owed i)
     (acks_owed c d k z.told.owed (core_of_out c d k z.told.tids i) i)))
@@ -353,37 +349,37 @@ step-stored {sh} p {gs} {w} {cs} e z y x a g q h = step_cases sh p w e
     more : (n : Option Noted) → KeptStored sh (and_noted n cs) w
     more n c d t = stored-more n (h c d t)
 
-    own : (c d t : ℕ) (o : Out) → c < sh.cores → ((d t l : ℕ) → Marking sh d t l (w.cores c) o) → StoresAll sh c d t (w.cores c) o
+    own : {c d t : ℕ} {o : Out} → c < sh.cores → ((d t l : ℕ) → Marking sh d t l (w.cores c) o) → StoresAll sh c d t (w.cores c) o
         → StoredOf sh (and_noted o.commit cs) c d t (after_move (pair w c d) o d)
-    own c d t o cl u k = stored-moved gs cl (λ l. u d t l) k (λ l. a c d t l) (λ dl l. q c d t l cl dl)
-        (λ dl r. open-untold c d t z.told.tids cl dl r) (h c d t)
+    own {c} {d} {t} cl u k = stored-moved gs cl (u d t) k (a c d t) (λ dl l. q c d t l cl dl)
+        (open-untold c d t z.told.tids cl) (h c d t)
 
     moved : (c : ℕ) → c < sh.cores → (r : Option Out) → ((d t l : ℕ) → IfSome r (λ o. Marking sh d t l (w.cores c) o))
         → ((d t : ℕ) → IfSome r (λ o. StoresAll sh c d t (w.cores c) o))
         → IfSome r (λ o. KeptTold sh (core_moves w c o) → KeptStored sh (and_noted o.commit cs) (core_moves w c o))
     moved c cl None u k = tt
-    moved c cl (Some o) u k = λ n. pairs_move (P o.commit) w c o (λ d t. own c d t o cl u (k d t)) (more o.commit)
+    moved c cl (Some o) u k = λ n. pairs_move (P o.commit) w c o (λ d t. own cl u (k d t)) (more o.commit)
 
     back : (c d k t : ℕ) (o : Out) → c < sh.cores → ((d t l : ℕ) → Marking sh d t l (w.cores c) o) → StoresAll sh c d t (w.cores c) o
         → StoredOf sh (and_noted o.commit cs) c d t (after_move (back_taken (pair w c d) k) o d)
-    back c d k t o cl u r = stored-moved gs cl (λ l. u d t l) r (λ l. back-marks w k (a c d t l))
+    back c d k t o cl u r = stored-moved gs cl (u d t) r (λ l. back-marks w k (a c d t l))
         (λ dl l. same-masked t l (pair w c d) (back_taken (pair w c d) k) refl refl refl (q c d t l cl dl))
-        (λ dl r. open-untold c d t z.told.tids cl dl r) (same-stored (back_taken (pair w c d) k) refl refl (h c d t))
+        (open-untold c d t z.told.tids cl) (same-stored (back_taken (pair w c d) k) refl refl (h c d t))
 
     taken : (c d k : ℕ) → c < sh.cores → (r : Option Out) → ((b t l : ℕ) → IfSome r (λ o. Marking sh b t l (w.cores c) o))
         → ((b t : ℕ) → IfSome r (λ o. StoresAll sh c b t (w.cores c) o))
         → IfSome r (λ o. KeptTold sh (core_takes w (Dir d) c k o) → KeptStored sh (and_noted o.commit cs) (core_takes w (Dir d) c k o))
     taken c d k cl None u f = tt
     taken c d k cl (Some o) u f = λ n. pairs_back (P o.commit) w d c k o (λ t. back c d k t o cl u (f d t))
-        (λ b r t. own c b t o cl u (f b t)) (more o.commit)
+        (λ b r t. own cl u (f b t)) (more o.commit)
 
-    answered : (c d k : ℕ) (m : Msg) → FromCore w c d k m → c < sh.cores → (b : Answer) → MarkedBy (w.dirs d) m b → OwesBy sh (w.dirs d) m b
+    answered : (c d k : ℕ) {m : Msg} → FromCore w c d k m → c < sh.cores → (b : Answer) → MarkedBy (w.dirs d) m b → OwesBy sh (w.dirs d) m b
         → DueBy sh d (w.dirs d) (num (passes Acks m)) b → OfAnswer w c d k (λ v. KeptTold sh v → KeptStored sh cs v) b
-    answered c d k m i cl Waits u o p = tt
-    answered c d k m i cl Drops u o p = λ n. dir-stored c k z.told y a g h n cl i
+    answered c d k i cl Waits u o p = tt
+    answered c d k i cl Drops u o p = λ n. dir-stored c k z.told y a g h n cl i
         (Stays refl (λ l. refl) u) (still-due sh d (w.dirs d) (z.told.owed.at_home c d).marked) (inl (omega arith))
-    answered c d k m i cl (Asks s sends) u o p = λ n. asks-stored w d s sends a h n u o
-    answered c d k m i cl (Takes s sends) u o p = λ n. dir-stored c k z.told y a g h n cl i u p o
+    answered c d k i cl (Asks s sends) u o p = λ n. asks-stored w d s sends a h n u o
+    answered c d k i cl (Takes s sends) u o p = λ n. dir-stored c k z.told y a g h n cl i u p o
 
 pub start-stored : (sh : Shape) (entries : ℕ → Local) (ram : ℕ → ℕ) → KeptStored sh [] (start entries ram)
 unfolding start dir_start pair live

@@ -1,20 +1,20 @@
 -- What a core sends about lines goes to their homes, and names some word where it names words.
-use Rattle.base_lemmas.proofs.Lemmas.{and-both, eq-from}
 use Rattle.rules_tcc.specs.Sends.{write_back_of}
 use Rattle.theorem_serial.proofs
 use proofs.Names
-use Names.{ℕ, ◌%◌, ◌≡◌, ◌<◌, Bool, true, false, not, List, [], ◌∷◌, ◌++◌, ◌==◌, ◌&&◌, cond, Some, None, IfSome, is_some, nat_lt}
-use Names.{if◌then◌else◌, flat_map, arith, refl, any_below-found, Program, num, those, count_below, any_word, word_at, Dir, Msg, LoadReq}
-use Names.{Skip, Mark, Commit, WriteBack, Flush, InvAck, Shape, home, lines, Cache, keeps, is_dirty, dirty_mask, dirty_copy, dirty_words}
-use Names.{dirty_tag, is_modified, modified_mask, written_lines, Spilled, holds, spilled_mask, spilled_words, CoreState, Sends, to}
-use Names.{flush_of, flush_line, write_back_line, marks_for, commit, solo_commit, solo_sends, solo_marks_or_skip, solo_write_backs}
+use Names.{and-both, eq-from, ℕ, ◌%◌, ◌≡◌, ◌<◌, Bool, true, false, not, List, [], ◌∷◌, ◌++◌, ◌==◌, ◌&&◌, cond, Some, None, IfSome, is_some}
+use Names.{nat_lt, if◌then◌else◌, flat_map, arith, refl, any_below-found, Program, num, those, count_below, any_word, word_at, Dir, Msg}
+use Names.{LoadReq, Skip, Mark, Commit, WriteBack, Flush, InvAck, Shape, home, lines, Cache, keeps, is_dirty, dirty_mask, dirty_copy}
+use Names.{dirty_words, dirty_tag, is_modified, modified_mask, written_lines, Spilled, holds, spilled_mask, spilled_words, CoreState, Sends}
+use Names.{to, flush_of, flush_line, write_back_line, marks_for, commit, solo_commit, solo_sends, solo_marks_or_skip, solo_write_backs}
 use Names.{solo_writes_at, is_written, written_mask, core_exec, core_evict, grant, from_dir, LinesAway, NoWord, among, passes, nats}
-use proofs.Counts.Links.{among-append}
-use proofs.Serving.CoreDue.{among-those_none}
+use proofs.Counts.{among-append}
+use proofs.Serving.{among-those_none}
 use proofs.Marks.CoreMarks.{some-mask, modified-full, written-full, holds-found}
-use proofs.OneCore.Said.{Aborts_all, Empties, Flushes, Marks_at, Requests, Said, Silent, Skips_all, Tells_alone, Wants, quiet, say}
-use proofs.OneCore.Outcomes.{Did, Given_none, Granted, Heard, Hurt_alone, Hurt_probing, Hurt_running, Hurt_waiting, Room_wanted, Hurt_none}
-use proofs.OneCore.Outcomes.{acked, each-back, each-evict, each-exec, each-grant, granted, granted_said, heard, heard_said, out, said}
+use proofs.OneCore.{Aborts_all, Empties, Flushes, Marks_at, Requests, Silent, Skips_all, Tells_alone, Wants, quiet, say, Did, Given_none}
+use proofs.OneCore.{Granted, Heard, Hurt_alone, Hurt_probing, Hurt_running, Hurt_waiting, Room_wanted, Hurt_none, acked, each-back}
+use proofs.OneCore.{each-evict, each-exec, each-grant, granted, granted_said, heard, heard_said, out, said}
+use proofs.OneCore.Said.{Said}
 
 -- each of these messages to the directory is about a line at home there, if about any, and of some word, if of words
 pub record Homely (sh : Shape) (d : ℕ) (ms : List Msg) : Type 0 where
@@ -53,10 +53,10 @@ homely-to sh h d ms f = go (d == h) refl
 
 -- one message
 at-home : (sh : Shape) (d l : ℕ) → d ≡ home sh l → num (not ((l % sh.dirs) == d)) ≡ 0
-at-home sh d l e = let b : ((l % sh.dirs) == d) ≡ true = rw e (grind nats) in rw b refl
+at-home sh d l e = let b : ((l % sh.dirs) == d) ≡ true = rw e (grind nats) in rw b
 
 some-word : (m : ℕ) → 0 < m → num (m == 0) ≡ 0
-some-word m l = let b : (m == 0) ≡ false = grind nats in rw b refl
+some-word m l = let b : (m == 0) ≡ false = grind nats in rw b
 
 one-load : (sh : Shape) (d l a : ℕ) → d ≡ home sh l → Homely sh d (LoadReq l a ∷ [])
 unfolding among passes
@@ -89,7 +89,7 @@ spilled-full sp l e = let x = holds-found sp l e in some-mask (λ k. is_some (sp
 
 homely-flushed : (sh : Shape) (c : Cache) (l : ℕ) → HomelyOut sh (flush_line sh c l)
 unfolding flush_line dirty_copy
-homely-flushed sh c l d = homely-to sh (home sh l) d (flush_of (dirty_copy c l)) (λ e. go (is_dirty c l) refl e)
+homely-flushed sh c l d = homely-to sh (home sh l) d (flush_of (dirty_copy c l)) (go (is_dirty c l) refl)
   where
     go : (b : Bool) → is_dirty c l ≡ b → d ≡ home sh l
         → Homely sh d (flush_of (cond b (Some (record { line = l; mask = dirty_mask c l; words = dirty_words c l; tag = dirty_tag c l }))
@@ -99,7 +99,7 @@ homely-flushed sh c l d = homely-to sh (home sh l) d (flush_of (dirty_copy c l))
 
 homely-written : (sh : Shape) (c : Cache) (l : ℕ) → HomelyOut sh (write_back_line sh c l)
 unfolding write_back_line dirty_copy
-homely-written sh c l d = homely-to sh (home sh l) d (write_back_of (dirty_copy c l)) (λ e. go (is_dirty c l) refl e)
+homely-written sh c l d = homely-to sh (home sh l) d (write_back_of (dirty_copy c l)) (go (is_dirty c l) refl)
   where
     go : (b : Bool) → is_dirty c l ≡ b → d ≡ home sh l
         → Homely sh d (write_back_of
@@ -152,7 +152,7 @@ unfolding passes
 homely-said sh s (Flushes l) = homely-flushed sh s.cache l
 homely-said sh s (Empties l) = homely-written sh s.cache l
 homely-said sh s (Requests l) = λ d. homely-to sh (home sh l) d (LoadReq l (s.last_commit (home sh l)) ∷ [])
-    (λ e. one-load sh d l (s.last_commit (home sh l)) e)
+    (one-load sh d l (s.last_commit (home sh l)))
 homely-said sh s (Tells_alone t) = homely-solo sh s.cache s.spilled t
 homely-said sh s (Marks_at e t) = homely-marks sh s.cache t e
 homely-said sh s q = λ d. record { away = quiet sh s (LinesAway sh.dirs d) q (λ x. refl) d; words = quiet sh s NoWord q (λ x. refl) d }
@@ -180,7 +180,7 @@ homes-back sh e s m = each-back sh e s (λ m o. HomelyOut sh o.sends) go m
   where
     hurt : (k : ℕ) (r : CoreState) (q : Said) → HomelyOut sh (acked sh k r (say sh s q)).sends
     hurt k r q d = homely-append
-        (homely-said sh s q d) (homely-to sh (home sh k) d (InvAck k (keeps r.cache k) ∷ []) (λ e. one-ack sh d k (keeps r.cache k) e))
+        (homely-said sh s q d) (homely-to sh (home sh k) d (InvAck k (keeps r.cache k) ∷ []) (one-ack sh d k (keeps r.cache k)))
 
     go : (x : Heard sh e s) → HomelyOut sh (heard x).sends
     go (Hurt_none k m u n) = hurt k (heard {sh = sh} {e = e} {s = s} (Hurt_none k m u n)).core Silent

@@ -3,23 +3,23 @@ use Rattle.rules_program.specs.Ram.{part}
 use Rattle.rules_tcc.specs.Sends.{write_back_of}
 use Rattle.theorem_serial.proofs
 use proofs.Names
-use Names.{inl, inr, ◌⊎◌, ℕ, ◌≡◌, ◌<◌, Bool, true, false, ◌||◌, ◌==◌, List, [], ◌∷◌, ◌++◌, Option, IfSome, if◌then◌else◌, refl, Load}
-use Names.{Stored, Program, Need, Loads, Stores, Changes, load_of, word_of, line_of, Shape, set_of, lines, Cache, free_way, marked, stored}
-use Names.{placed, placed_at, committed, words_dropped, CoreState, World, Out, noted, commit, committed_core, solo_commit, core_exec}
-use Names.{WordInMemory, NeedInMemory, StaysInMemory, FramesInMemory, AccessesInMemory, loads_word, stores_word, nats, suc, ◌&&◌, is_some}
-use Names.{arith, sym, ◌∙◌, Noted, any_below, any_word, place_of, word_at, home, is_modified, writes_at, reads_at, any_below-found}
-use Names.{any_below-at, AccessesAtHomes, MarksAtHomes, WrittenInMemory, CommitsInMemory, stores_at, loads_at, names_line, wrote}
-use Names.{wrote_line, zero, ◌≤◌, cond, Some, None, nat_lt, flat_map, flat_map-append, those, count_below, Dir, Msg, Skip, Mark, Commit}
-use Names.{WriteBack, IsCache, is_dirty, dirty_mask, dirty_copy, dirty_words, dirty_tag, Spilled, holds, spilled_mask, spilled_words, Sends}
-use Names.{nothing, flush_of, flush_line, write_back_line, solo_sends, solo_marks_or_skip, solo_write_backs, solo_writes_at, is_written}
-use Names.{written_mask, core_evict, grant, from_dir, CopyOf, among, passes}
-use proofs.OneCore.UsedWords.{loads_word-append, stores_word-append}
-use proofs.OneCore.Outcomes.{AccessAt, Acting, Buffers, Commits_now, Did, Ends_alone, Finds, Frames, Frames_anew, Misses_anew, Reads}
-use proofs.OneCore.Outcomes.{Storing, each-exec, out, stores-access, Given_none, Granted, Hands_out, Heard, Room_wanted, each-back}
-use proofs.OneCore.Outcomes.{each-evict, each-grant, granted, granted_said, heard, heard-quiet, said}
-use proofs.Counts.Links.{among-append, among-flat_map_none}
+use Names.{inl, inr, ℕ, ◌≡◌, ◌<◌, Bool, true, false, ◌||◌, ◌==◌, List, [], ◌∷◌, ◌++◌, Option, IfSome, if◌then◌else◌, refl, Load, Stored}
+use Names.{Program, Need, Loads, Stores, Changes, load_of, word_of, line_of, Shape, set_of, lines, Cache, free_way, marked, stored, placed}
+use Names.{placed_at, committed, words_dropped, CoreState, World, Out, noted, commit, committed_core, solo_commit, core_exec, WordInMemory}
+use Names.{NeedInMemory, StaysInMemory, FramesInMemory, AccessesInMemory, loads_word, stores_word, nats, suc, ◌&&◌, is_some, arith, sym}
+use Names.{◌∙◌, Noted, any_below, any_word, place_of, word_at, home, is_modified, writes_at, reads_at, any_below-found, any_below-at}
+use Names.{AccessesAtHomes, MarksAtHomes, WrittenInMemory, CommitsInMemory, stores_at, loads_at, names_line, wrote, wrote_line, zero, ◌≤◌}
+use Names.{cond, Some, None, nat_lt, flat_map, flat_map-append, those, count_below, Dir, Msg, Skip, Mark, Commit, WriteBack, IsCache}
+use Names.{is_dirty, dirty_mask, dirty_copy, dirty_words, dirty_tag, Spilled, holds, spilled_mask, spilled_words, Sends, nothing, flush_of}
+use Names.{flush_line, write_back_line, solo_sends, solo_marks_or_skip, solo_write_backs, solo_writes_at, is_written, written_mask}
+use Names.{core_evict, grant, from_dir, CopyOf, among, passes}
+use proofs.OneCore.{loads_word-append, stores_word-append, AccessAt, Acting, Buffers, Commits_now, Did, Ends_alone, Finds, Frames}
+use proofs.OneCore.{Frames_anew, Misses_anew, Reads, Storing, each-exec, out, stores-access, Given_none, Granted, Hands_out, Heard}
+use proofs.OneCore.{Room_wanted, each-back, each-evict, each-grant, granted, granted_said, heard, heard-quiet, said, Empties, Flushes}
+use proofs.OneCore.{Tells_alone, Wants, quiet, say}
+use proofs.OneCore.Said.{Said}
+use proofs.Counts.{among-append, among-flat_map_none}
 use proofs.Marks.CoreMarks.{stored-any, stored-line}
-use proofs.OneCore.Said.{Empties, Flushes, Said, Tells_alone, Wants, quiet, say}
 
 -- Each of a core's rules keeps that its frames and what its attempt used lie in memory, where the next instruction's access does.
 
@@ -102,35 +102,35 @@ pub exec-memory : (sh : Shape) (p : Program) (id : ℕ) (s : CoreState) → Stay
 unfolding commit solo_commit committed_core committed words_dropped noted stored marked
 exec-memory sh p id s i k = each-exec sh p id s (OutInMemory sh) go
   where
-    w : (a : ℕ) (need : Need) → Acting p s need → AccessAt a need → WordInMemory sh (word_of sh.base a)
-    w a need g at = in-memory sh s a i g at
+    w : (a : ℕ) {need : Need} → Acting p s need → AccessAt a need → WordInMemory sh (word_of sh.base a)
+    w a g at = in-memory sh s a i g at
 
     go : (x : Did sh p id s) → OutInMemory sh (out x)
     go (Finds a x z l g f) = (
       record {
         frames = k.frames;
-        accesses = one-load (load_of a z (part x a z)) (w a (Loads a z) g refl) k.accesses;
+        accesses = one-load (load_of a z (part x a z)) (w a g refl) k.accesses;
       },
       tt,
     )
     go (Reads a x z l g r f) = (
       record {
         frames = k.frames;
-        accesses = one-load (load_of a z (part x a z)) (w a (Loads a z) g refl) k.accesses;
+        accesses = one-load (load_of a z (part x a z)) (w a g refl) k.accesses;
       },
       tt,
     )
-    go (Buffers a y v n q g at e f) = (record { frames = k.frames; accesses = stored-memory q (w a n g (stores-access n a at)) k }, tt)
-    go (Frames a y also n q g at f) = (record { frames = k.frames; accesses = stored-memory q (w a n g (stores-access n a at)) k }, tt)
+    go (Buffers a y v n q g at e f) = (record { frames = k.frames; accesses = stored-memory q (w a g (stores-access n a at)) k }, tt)
+    go (Frames a y also n q g at f) = (record { frames = k.frames; accesses = stored-memory q (w a g (stores-access n a at)) k }, tt)
     go (Frames_anew a y n q g at e f h) = (
       record {
-        frames = placed-frames sh (line_of (word_of sh.base a)) s.cache (w a n g (stores-access n a at)) k.frames;
-        accesses = stored-memory q (w a n g (stores-access n a at)) k;
+        frames = placed-frames sh (line_of (word_of sh.base a)) s.cache (w a g (stores-access n a at)) k.frames;
+        accesses = stored-memory q (w a g (stores-access n a at)) k;
       },
       tt,
     )
     go (Misses_anew a n g at e f) =
-        (record { frames = placed-frames sh (line_of (word_of sh.base a)) s.cache (w a n g at) k.frames; accesses = k.accesses }, tt)
+        (record { frames = placed-frames sh (line_of (word_of sh.base a)) s.cache (w a g at) k.frames; accesses = k.accesses }, tt)
     go (Ends_alone t l e f r n) = (record { frames = k.frames; accesses = nothing-used sh }, k.accesses)
     go (Commits_now t r) = (record { frames = k.frames; accesses = nothing-used sh }, k.accesses)
     go _ = (same-memory _ refl refl refl k, tt)
@@ -153,7 +153,7 @@ line-found p l e = let k = any_below-found (λ k. p (word_at l k)) 8 e in (word_
 at-home : (sh : Shape) (p : ℕ → Bool) (l : ℕ) → l < lines sh → any_word p l ≡ true
     → any_below (λ k. home sh l == home sh k && any_word p k) (lines sh) ≡ true
 at-home sh p l i e = any_below-at (λ k. home sh l == home sh k && any_word p k) (lines sh) l i
-    (let h : (home sh l == home sh l) ≡ true = grind nats in rw (h, e) refl)
+    (let h : (home sh l == home sh l) ≡ true = grind nats in rw (h, e))
 
 stored-at : (sh : Shape) (ss : List Stored) (l : ℕ) → l < lines sh → any_word (stores_word sh.base ss) l ≡ true
     → stores_at sh (home sh l) ss ≡ true
@@ -193,7 +193,7 @@ word-wrote : (sh : Shape) (cs : List Noted) (c t x : ℕ) → CommitsInMemory sh
 unfolding wrote
 word-wrote sh [] c t x k e = absurd (cc)
 word-wrote sh (n ∷ cs) c t x k e = go (n.core.0 == c) (n.tid.0 == t) (stores_word sh.base n.stores x) refl e
-    (λ f. word-wrote sh cs c t x (λ m q. k m (suc q.0, omega (arith, q.1), q.2)) f)
+    (word-wrote sh cs c t x (λ m q. k m (suc q.0, omega (arith, q.1), q.2)))
   where
     go : (a b d : Bool) → stores_word sh.base n.stores x ≡ d → ((a && (b && d)) || wrote sh.base cs c t x) ≡ true
         → (wrote sh.base cs c t x ≡ true → WordInMemory sh x) → WordInMemory sh x
@@ -244,7 +244,7 @@ flushed-memory {sh} {c} k i f d l t o = go (d == home sh k) (is_dirty c k) refl
         else []) ≡ 0
     go false b q = refl
     go true false q = refl
-    go true true q = rw (another sh k l (dirty-memory k i f q) o) refl
+    go true true q = rw (another sh k l (dirty-memory k i f q) o)
 
 written-memory : {sh : Shape} {c : Cache} (k : ℕ) → IsCache sh c → FramesInMemory sh c → SendsInMemory sh (write_back_line sh c k)
 unfolding write_back_line dirty_copy among passes
@@ -256,7 +256,7 @@ written-memory {sh} {c} k i f d l t o = go (d == home sh k) (is_dirty c k) refl
         None) else []) ≡ 0
     go false b q = refl
     go true false q = refl
-    go true true q = rw (another sh k l (dirty-memory k i f q) o) refl
+    go true true q = rw (another sh k l (dirty-memory k i f q) o)
 
 -- what goes out at a commit of a core that is alone
 backs-memory : (sh : Shape) (sp : Spilled) (u n : ℕ) (p : ℕ → Bool) → n ≤ lines sh

@@ -7,13 +7,11 @@ use Names.{Shape, home, lines, DirState, World, start, dir_start, sent_all, Out,
 use Names.{Answer, Waits, Drops, Asks, Takes, dir_deliver, invalidations, is_invalidated, invs_to, home_words, core_moves, core_takes}
 use Names.{dir_takes, step, IsUnknown, HomeOf, KeptHomes, LinesAway, NoWord, live, among, passes, Kept, Pair, pair, after_answer, out_taken}
 use Names.{nats, to_dir, to_core, FromCore, FromDir, ◌≢◌}
-use proofs.Counts.DirOutcome.{Outcome, AsksOwner, TakesSkip, TakesAbort, TakesProbe, TakesLoad, TakesMark, TakesCommit, TakesAck, TakesCopy}
-use proofs.Counts.DirOutcome.{Wants, ToLoad, ToMark, outcome}
-use proofs.Counts.Links.{live-sends, live-takes, none-taken}
-use proofs.Counts.StepCases.{pairs_move, pairs_grant, pairs_back, pairs_dir, pairs_asks, pairs_vendor, OfAnswer, step_cases}
+use proofs.Counts.{Outcome, AsksOwner, TakesSkip, TakesAbort, TakesProbe, TakesLoad, TakesMark, TakesCommit, TakesAck, TakesCopy, Wants}
+use proofs.Counts.{ToLoad, ToMark, outcome, live-sends, live-takes, none-taken, pairs_move, pairs_grant, pairs_back, pairs_dir, pairs_asks}
+use proofs.Counts.{pairs_vendor, OfAnswer, step_cases}
 use proofs.Memory.CoreHomes.{Homely, HomelyOut, homely-none, homely-those, homes-exec, homes-evict, homes-grant, homes-back}
-use proofs.Serving.DirDue.{at-home}
-use proofs.Serving.KeptSteps.{core_of_out}
+use proofs.Serving.{at-home, core_of_out}
 
 -- what a directory knows is of lines at home there, and of cores that the machine has
 pub record LinesHome (sh : Shape) (d : ℕ) (ls : Lines) : Type 0 where
@@ -37,7 +35,7 @@ other : (sh : Shape) (d l x : ℕ) → home sh l ≡ d → home sh x ≢ d → (
 other sh d l x e n = elim (cases_eq x l) [ inl q ↦ absurd (n (rw q e)) | inr q ↦ grind nats ]
 
 home-count : (sh : Shape) (d l : ℕ) → home sh l ≡ d → num (not ((l % sh.dirs) == d)) ≡ 0
-home-count sh d l e = let b : ((l % sh.dirs) == d) ≡ true = rw e (grind nats) in rw b refl
+home-count sh d l e = let b : ((l % sh.dirs) == d) ≡ true = rw e (grind nats) in rw b
 
 -- one message to one core
 one-to : (sh : Shape) (d c j : ℕ) (m : Msg) → Homely sh d (m ∷ []) → Homely sh d (to (Core c) (m ∷ []) (Core j))
@@ -60,12 +58,12 @@ unfolding among passes
 one-inv sh d l m u e s = record {
   away = omega (arith, home-count sh d l e);
   words = let b : (m == 0) ≡ false = grind nats in
-      let z : num (m == 0) ≡ 0 = rw b refl in omega (arith, z);
+      let z : num (m == 0) ≡ 0 = rw b in omega (arith, z);
 }
 
 -- a line that is at home elsewhere isn't marked
 unmarked-away : {sh : Shape} {d : ℕ} (l : ℕ) {ls : Lines} → LinesHome sh d ls → home sh l ≢ d → nat_lt 0 (ls.mark l) ≡ false
-unmarked-away l h n = let u = (h.known l n).mark in rw u refl
+unmarked-away l h n = let u = (h.known l n).mark in rw u
 
 marked-here : {sh : Shape} (d l : ℕ) {ls : Lines} → LinesHome sh d ls → nat_lt 0 (ls.mark l) ≡ true → home sh l ≡ d
 marked-here {sh} d l h m = elim (cases_eq (home sh l) d) [ inl e ↦ e | inr n ↦ absurd (let z = unmarked-away l h n in cc) ]
@@ -145,7 +143,7 @@ dir-homes sh d s c m cl aw h = go (outcome sh s c m) aw
         owners = λ x j q. grind (nats, h.owners x j, cl);
       };
       homely = λ j. homely-those sh d (λ l. Inv l (s.lines.mark l) s.serving.serving ∷ []) (is_invalidated sh s.lines c j) (lines sh)
-          (λ l q. inv j l q);
+          (inv j);
     }
     go (TakesAck l k b i e) a = quietly (record {
       known = λ x n. let u = h.known x n in
@@ -286,18 +284,18 @@ step-homes {sh} p {w} e z h = step_cases sh p w e (λ g o. KeptHomes sh o.world)
         }) h
 
     -- a directory's lines and what it sends; a message to it may have been taken
-    replies : (j d : ℕ) (v : Pair) (s : DirState) (ms : List Msg) → ((l : ℕ) → HomeOf sh d l v) → live (LinesAway sh.dirs d) v.out ≡ 0
+    replies : (j : ℕ) {d : ℕ} (v : Pair) (s : DirState) {ms : List Msg} → ((l : ℕ) → HomeOf sh d l v) → live (LinesAway sh.dirs d) v.out ≡ 0
         → live NoWord v.out ≡ 0 → LinesHome sh d s.lines → Homely sh d ms → (l : ℕ) → HomeOf sh d l (after_answer v s ms)
-    replies j d v s ms f a b n y l =
+    replies j {d} v s {ms} f a b n y l =
         home-of (after_answer v s ms) n a (omega (arith, (f l).back, y.away, live-sends (LinesAway sh.dirs d) v.back ms)) b
         (omega (arith, (f l).some_back, y.words, live-sends NoWord v.back ms)) l
 
     keep : (c d k : ℕ) (m : Msg) (s : DirState) (sends : Sends) → FromCore w c d k m → Answers sh d s sends
         → KeptHomes sh (dir_takes w c d k s sends)
-    keep c d k m s sends i u = pairs_dir P w c d k s sends (replies c d (out_taken (pair w c d) k) s (sends (Core c))
+    keep c d k m s sends i u = pairs_dir P w c d k s sends (replies c (out_taken (pair w c d) k) s
         (λ l. home-of (out_taken (pair w c d) k) (home-lines c d) (less l) (h c d l).back (fewer l) (h c d l).some_back l)
         (less 0) (fewer 0) u.lines (u.homely c))
-        (λ j n. replies j d (pair w j d) s (sends (Core j)) (h j d) (h j d 0).out (h j d 0).some_out u.lines (u.homely j)) h
+        (λ j n. replies j (pair w j d) s (h j d) (h j d 0).out (h j d 0).some_out u.lines (u.homely j)) h
       where
         less : (l : ℕ) → live (LinesAway sh.dirs d) (out_taken (pair w c d) k).out ≡ 0
         less l = omega (arith, (h c d l).out, live-takes (LinesAway sh.dirs d) (to_dir w c d) k m i)
@@ -309,7 +307,7 @@ step-homes {sh} p {w} e z h = step_cases sh p w e (λ g o. KeptHomes sh o.world)
     answered c d k m i Waits u = tt
     answered c d k m i Drops u = keep c d k m (w.dirs d) (λ dst. []) i (record { lines = home-lines c d; homely = λ j. homely-none sh d })
     answered c d k m i (Asks s sends) u = pairs_asks P w d s sends
-        (λ j. replies j d (pair w j d) s (sends (Core j)) (h j d) (h j d 0).out (h j d 0).some_out u.lines (u.homely j)) h
+        (λ j. replies j (pair w j d) s (h j d) (h j d 0).out (h j d 0).some_out u.lines (u.homely j)) h
     answered c d k m i (Takes s sends) u = keep c d k m s sends i u
 
 pub start-homes : {sh : Shape} (entries : ℕ → Local) (ram : ℕ → ℕ) → KeptHomes sh (start entries ram)

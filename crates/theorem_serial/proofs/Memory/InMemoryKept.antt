@@ -11,12 +11,11 @@ use Names.{evicted, Awaited, Running, Probing, nothing, is_solo, ignored, replie
 use Names.{Halted, Answer, CopyOf, Cache, Phase, Ready, moves, grant, arith, Local, Event, lines, World, start, Waits, Drops, Takes, Sends}
 use Names.{subst, Noted, Bool, true, ◌&&◌, ◌||◌, ◌==◌, List, Some, None, refl, Fill, Solo, fill, ◌++◌, Asks, step, live, Pair, pair, ◌≡◌}
 use Names.{not, Dir, Msg, Inv, ◌≤◌, Out, ◌∷◌, ◌⊎◌, inl, inr, run, to, [], nats, to_dir, FromCore}
-use proofs.Counts.Links.{live-sends, live-takes}
-use proofs.Counts.StepCases.{pairs_move, pairs_grant, pairs_back, pairs_dir, pairs_asks, pairs_vendor, OfAnswer, step_cases}
+use proofs.Counts.{live-sends, live-takes, pairs_move, pairs_grant, pairs_back, pairs_dir, pairs_asks, pairs_vendor, OfAnswer, step_cases}
 use proofs.Memory.CoreInMemory.{CoreInMemory, OutInMemory, same-memory, nothing-used, CoresInMemory, exec-memory, SendsInMemory, exec-sends}
 use proofs.Memory.CoreInMemory.{evict-sends, grant-sent, back-sends}
-use proofs.OneCore.OneCoreKept.{step-cores, start-cores}
-use proofs.Tids.Commits.{inserted}
+use proofs.OneCore.{step-cores, start-cores}
+use proofs.Tids.{inserted}
 
 -- Evict and messages keep that a core's frames and what its attempt used lie in memory.
 evicted-frames : (x y : ℕ) (c : Cache) (k : ℕ) → (evicted x y c).held k ≡ true → c.held k ≡ true
@@ -139,7 +138,7 @@ step-copies sh p w e a k h = step_cases sh p w e (λ g o. NoCopiesOutside sh o.w
     (λ c x y l. moved c (core_evict sh x y (w.cores c)) (evict-sends sh x y (w.cores c) (a c).words.cache (k c).frames))
     (λ c n t q. pairs_grant P w c n (grant sh t (w.cores c)) (sent c (grant sh t (w.cores c)) (grant-sent sh t (w.cores c))) h)
     (λ c d n m q. taken c d n (from_dir sh d (w.cores c) m) (back-sends sh d (w.cores c) m (a c).words.cache (k c).frames))
-    (λ c d n m q. answered c d n m q (dir_deliver sh (w.dirs d) c m)) (λ c n q. pairs_vendor P w c n (λ d. h c d) (λ j d i. h j d))
+    (λ c d n m q. answered c d n m q (dir_deliver sh (w.dirs d) c m)) (λ c n q. pairs_vendor P w c n (h c) (λ j d i. h j d))
   where
     P : ℕ → ℕ → Pair → Type 0
     P c d v = (l t : ℕ) → lines sh ≤ l → live (CopyOf l t) v.out ≡ 0
@@ -187,22 +186,22 @@ unfolding core_moves core_takes dir_takes dir_asks vendor_gives
 step-memory sh p w e i k = step_cases sh p w e (λ g o. StepInMemory sh o)
     (λ c l. moved c (core_exec sh p c (w.cores c)) (exec-memory sh p c (w.cores c) i (k c)))
     (λ c x y l. moved c (core_evict sh x y (w.cores c)) (evict-memory sh x y (w.cores c) (k c)))
-    (λ c n t q. let z = grant-memory sh t (w.cores c) (k c) in (put c (grant sh t (w.cores c)).core z.0, z.1))
+    (λ c n t q. let z = grant-memory sh t (w.cores c) (k c) in (put c z.0, z.1))
     (λ c d n m q. taken c d n (from_dir sh d (w.cores c) m) (back-memory sh d (w.cores c) m (k c)))
     (λ c d n m q. answered c d n (dir_deliver sh (w.dirs d) c m)) (λ c n q. (k, tt))
   where
-    put : (c : ℕ) (s : CoreState) → CoreInMemory sh s → (j : ℕ) → CoreInMemory sh (if j == c then s else w.cores j)
-    put c s h j = elim (j == c) as (λ b. CoreInMemory sh (if b then s else w.cores j)) [ true ↦ h | false ↦ k j ]
+    put : (c : ℕ) {s : CoreState} → CoreInMemory sh s → (j : ℕ) → CoreInMemory sh (if j == c then s else w.cores j)
+    put c {s} h j = elim (j == c) as (λ b. CoreInMemory sh (if b then s else w.cores j)) [ true ↦ h | false ↦ k j ]
 
     moved : (c : ℕ) (x : Option Out) → IfSome x (OutInMemory sh)
         → IfSome x (λ o. StepInMemory sh (record { world = core_moves w c o; noted = o.commit }))
     moved c None h = tt
-    moved c (Some o) h = (put c o.core h.0, h.1)
+    moved c (Some o) h = (put c h.0, h.1)
 
     taken : (c d n : ℕ) (x : Option Out) → IfSome x (OutInMemory sh)
         → IfSome x (λ o. StepInMemory sh (record { world = core_takes w (Dir d) c n o; noted = o.commit }))
     taken c d n None h = tt
-    taken c d n (Some o) h = (put c o.core h.0, h.1)
+    taken c d n (Some o) h = (put c h.0, h.1)
 
     answered : (c d n : ℕ) (a : Answer) → OfAnswer w c d n (λ v. StepInMemory sh (record { world = v; noted = None })) a
     answered c d n Waits = tt

@@ -5,9 +5,8 @@ use Names.{ℕ, ◌≡◌, ◌<◌, ◌≤◌, Bool, true, false, ◌==◌, ◌&
 use Names.{put, Program, Outcome, HaltedWith, TrappedWith, any_below, any_below-at, Msg, Fill, ProbeReply, DataReq, Inv, Shape, Cache}
 use Names.{writes_at, reads_at, CoreState, Phase, Running, AwaitTid, DoomedTid, Probing, Ready, Overflowing, Solo, Halted, Out, commit}
 use Names.{committed_core, phase_after_commit, core_exec, core_evict, grant, grant_in_phase, from_dir, probing_or_ready, is_probed}
-use Names.{probe_reply, all_replied, fill, data_request, invalidate, RepliesAbove, passes, tid_of, asks_dir, may_commit, Reached}
-use Names.{solo_commit, nats, ◌+◌, List, [], ◌∷◌, arith, word_of, num, line_of, Dir, LoadReq, home, Awaited, nothing, moves, is_awaited}
-use Names.{staled, LoadOf, FillOf, among, ◌≢◌, tested, inl, inr}
+use Names.{all_replied, RepliesAbove, passes, tid_of, asks_dir, may_commit, Reached, solo_commit, nats, ◌+◌, List, [], ◌∷◌, arith, word_of}
+use Names.{num, line_of, Dir, LoadReq, home, Awaited, nothing, moves, is_awaited, staled, LoadOf, FillOf, among, ◌≢◌, tested, inl, inr}
 use proofs.OneCore.CoreSteps.{Steady, did-steady, reads_at-same, fill-steady, data-steady, Hurt, Unhurt, Rolled, Doomed, Aborted, Gave_up}
 use proofs.OneCore.CoreSteps.{Invalidated, invalidate-cases, Replied, Ignored, Probed, Left_alone, reply-cases, steady-emptied}
 use proofs.OneCore.Outcomes.{Acts, Commits_now, Did, each-exec, out, each-evict, emptied, writes_at-same, Ends_alone, Ends_run, Room_wanted}
@@ -99,14 +98,14 @@ asked-grant {sh} u d {x} {s} h = go s.phase
 
 -- a reply of a directory that has reached the TID
 put-away : (f : ℕ → Bool) (e d : ℕ) (x : Bool) → d ≢ e → put f e x d ≡ f d
-put-away f e d x q = let b : (d == e) ≡ false = grind nats in rw b refl
+put-away f e d x q = let b : (d == e) ≡ false = grind nats in rw b
 
 pub all-replied : (sh : Shape) (f : ℕ → Bool) (d : ℕ) → d < sh.dirs → all_replied sh f ≡ true → f d ≡ false
 all-replied sh f d l q = none-below f sh.dirs d l (go (any_below f sh.dirs) refl)
   where
     go : (b : Bool) → any_below f sh.dirs ≡ b → any_below f sh.dirs ≡ false
     go false e = e
-    go true e = let n : all_replied sh f ≡ false = rw e refl in absurd (cc)
+    go true e = let n : all_replied sh f ≡ false = rw e in absurd (cc)
 
 -- one more directory has replied, and its TID is u
 one_replied : {sh : Shape} (e : ℕ) {d x : ℕ} (u : ℕ) {s r : CoreState} (go wait : Phase) → (d ≡ e → u ≤ x)
@@ -139,9 +138,9 @@ asked-replied : {sh : Shape} (e u : ℕ) {d x : ℕ} {s : CoreState} {o : Out} �
     → Reached sh d x o.core
 asked-replied e u f (Ignored q n) h = rw q h
 asked-replied e u f (Probed g w ph ow ca se cm) h = one_replied e u (Ready u) (Probing u) f ph ow refl refl
-    (rw g refl) refl (λ k. rw g (rw ca at k)) (λ k. rw g (rw ca at k)) h
+    (rw g) refl (λ k. rw g (rw ca at k)) (λ k. rw g (rw ca at k)) h
 asked-replied e u f (Left_alone g w ph ow mo se cm) h =
-    one_replied e u (Solo u) (Overflowing (Some u)) f ph ow refl refl (rw g refl) refl (λ k. rw g refl) (λ k. rw g refl) h
+    one_replied e u (Solo u) (Overflowing (Some u)) f ph ow refl refl (rw g) refl (λ k. rw g) (λ k. rw g) h
 
 asked-hurt : {sh : Shape} {l : ℕ} (d x : ℕ) (s : CoreState) {o : Out} → Invalidated sh l s o → Reached sh d x s → Reached sh d x o.core
 asked-hurt {sh} d x s {o} i h = go i.hurt
@@ -189,7 +188,7 @@ asked-count k l d h g e = grind nats
 asked : (sh : Shape) (k : ℕ) (s : CoreState) → s.awaited ≡ None
     → LoadsStep sh s (moves (record s { awaited = awaiting k }) (say sh s (Requests k)))
 unfolding among passes
-asked sh k s n d l = rw n (let c = asked-count k l d (home sh k) (home sh l) (λ e. rw e refl) in omega (arith, one (d == home sh k), c))
+asked sh k s n d l = rw n (let c = asked-count k l d (home sh k) (home sh l) (λ e. rw e) in omega (arith, one (d == home sh k), c))
   where
     one : (b : Bool) → among (LoadOf l) (if b then LoadReq k (s.last_commit (home sh k)) ∷ [] else []) ≡ num (b && k == l)
     one a = grind nats
@@ -263,7 +262,7 @@ loads-back sh e s m h =
     hurt k m u x a z = step-back sh e s (Inv k m u) (heard x) (λ l. refl) z (λ d l. rw a (staled-awaits k d l s.awaited))
 
     go : (x : Heard sh e s) → Fits (message x) → LoadsBack sh e s (message x) (heard x)
-    go (Ignores_fill k ws n) h = absurd (let y : awaits_at sh e k s.awaited ≡ 0 = rw n refl in omega (arith, one k ws h, y))
+    go (Ignores_fill k ws n) h = absurd (let y : awaits_at sh e k s.awaited ≡ 0 = rw n in omega (arith, one k ws h, y))
     go (Fills k ws a q i f) h = taken sh e k ws s (record s { awaited = None }) a q i refl (one k ws h)
     go (Fills_none k ws a q i f) h = taken sh e k ws s (record s { awaited = None }) a q i refl (one k ws h)
     go (Hurt_none k m u n) h = hurt k m u (Hurt_none k m u n) refl

@@ -29,23 +29,23 @@ grant-stays sh u s = each-grant sh u s (CheckpointStays s) go
 
     go : (x : Granted sh u s) → CheckpointStays s (granted x)
     go (Given e) = record { commit = refl; saved = refl; ends = awaited (any_below (is_probed sh s.cache) sh.dirs) e }
-    go (Given_doomed e) = record { commit = refl; saved = refl; ends = rw e refl }
-    go (Given_room e) = record { commit = refl; saved = refl; ends = rw e refl }
+    go (Given_doomed e) = record { commit = refl; saved = refl; ends = rw e }
+    go (Given_room e) = record { commit = refl; saved = refl; ends = rw e }
     go (Given_none e) = record { commit = refl; saved = refl; ends = refl }
 
 pub back-stays : (sh : Shape) (d : ℕ) (s : CoreState) (m : Msg) → IfSome (from_dir sh d s m) (CheckpointStays s)
 back-stays sh d s m = each-back sh d s (λ m o. CheckpointStays s o) go m
   where
     go : (x : Heard sh d s) → CheckpointStays s (heard x)
-    go (Last_probing u v q o r) = record { commit = refl; saved = refl; ends = rw q refl }
-    go (Last_room u v q o r) = record { commit = refl; saved = refl; ends = rw q refl }
-    go (Hurt_running l m u v q) = record { commit = refl; saved = refl; ends = rw q refl }
-    go (Hurt_waiting l m u v (inl q)) = record { commit = refl; saved = refl; ends = rw q refl }
-    go (Hurt_waiting l m u v (inr q)) = record { commit = refl; saved = refl; ends = rw q refl }
-    go (Hurt_probing l m u t v (inl q)) = record { commit = refl; saved = refl; ends = rw q refl }
-    go (Hurt_probing l m u t v (inr q)) = record { commit = refl; saved = refl; ends = rw q refl }
-    go (Hurt_alone l m u t v (inl q)) = record { commit = refl; saved = refl; ends = rw q refl }
-    go (Hurt_alone l m u t v (inr q)) = record { commit = refl; saved = refl; ends = rw q refl }
+    go (Last_probing u v q o r) = record { commit = refl; saved = refl; ends = rw q }
+    go (Last_room u v q o r) = record { commit = refl; saved = refl; ends = rw q }
+    go (Hurt_running l m u v q) = record { commit = refl; saved = refl; ends = rw q }
+    go (Hurt_waiting l m u v (inl q)) = record { commit = refl; saved = refl; ends = rw q }
+    go (Hurt_waiting l m u v (inr q)) = record { commit = refl; saved = refl; ends = rw q }
+    go (Hurt_probing l m u t v (inl q)) = record { commit = refl; saved = refl; ends = rw q }
+    go (Hurt_probing l m u t v (inr q)) = record { commit = refl; saved = refl; ends = rw q }
+    go (Hurt_alone l m u t v (inl q)) = record { commit = refl; saved = refl; ends = rw q }
+    go (Hurt_alone l m u t v (inr q)) = record { commit = refl; saved = refl; ends = rw q }
     go _ = record { commit = refl; saved = refl; ends = refl }
 
 -- A core's event leaves its checkpoint and its end, or commits an attempt that the plain machine gives over its view.
@@ -139,8 +139,8 @@ unfolding solo_commit committed_core
 exec-leaves sh p c s = each-exec sh p c s (Leaves sh p c s) go
   where
     go : (x : Did sh p c s) → Leaves sh p c s (out x)
-    go (Room_wanted r i) = Stays refl refl (rw r refl)
-    go (Ends_run l e f r i) = Stays refl refl (rw r refl)
+    go (Room_wanted r i) = Stays refl refl (rw r)
+    go (Ends_run l e f r i) = Stays refl refl (rw r)
     go (Ends_alone t l e f r i) = Closes t (after_end s l e) (record {
       phase = inr r;
       commit = refl;

@@ -1,15 +1,14 @@
 -- What each of a core's rules does to the words that are marked read, and that words which its attempt loaded are marked read or modified.
-use Rattle.base_lemmas.proofs.Lemmas.{hit-line}
 use Rattle.rules_maps.specs.CacheLook.{reads_masked}
 use Rattle.rules_program.specs.Ram.{part}
 use Rattle.theorem_serial.proofs
 use proofs.Names
-use Names.{ℕ, ◌≡◌, ◌<◌, Bool, true, false, not, ◌||◌, ◌==◌, Option, Some, None, IfSome, is_some, if◌then◌else◌, refl, sym, subst, ◌∙◌, ◌⊎◌}
-use Names.{inl, inr, Program, word_of, line_of, Shape, Cache, marked, stored, placed, evicted, evicted_line, committed, value-placed}
-use Names.{read-placed, CoreState, Phase, Running, commit, committed_core, solo_commit, core_exec, core_evict, has_tid, nats, home_of, put}
-use Names.{filled, cleaned, invalidated, OneCore, ◌≤◌, ◌&&◌, List, unwrap_or, get_or, place_of, hit, Msg, Inv, home, rolled_back}
-use Names.{read_cleared, AwaitTid, DoomedTid, Probing, Ready, Overflowing, Solo, grant, is_violated, may_be_above, words_invalidated}
-use Names.{from_dir, hit-reads, [], ◌∷◌, ◌++◌, Load, load_of, is_marked, is_running, is_solo, loads_word, LoadsMarked, tested}
+use Names.{hit-line, ℕ, ◌≡◌, ◌<◌, Bool, true, false, not, ◌||◌, ◌==◌, Option, Some, None, IfSome, is_some, if◌then◌else◌, refl, sym, subst}
+use Names.{◌∙◌, ◌⊎◌, inl, inr, Program, word_of, line_of, Shape, Cache, marked, stored, placed, evicted, evicted_line, committed}
+use Names.{value-placed, read-placed, CoreState, Phase, commit, committed_core, solo_commit, core_exec, core_evict, has_tid, nats, home_of}
+use Names.{put, filled, cleaned, invalidated, OneCore, ◌≤◌, ◌&&◌, List, unwrap_or, get_or, place_of, hit, Msg, Inv, home, rolled_back}
+use Names.{read_cleared, Probing, Ready, Overflowing, Solo, grant, is_violated, may_be_above, words_invalidated, from_dir, hit-reads, []}
+use Names.{◌∷◌, ◌++◌, Load, load_of, is_marked, is_running, is_solo, loads_word, LoadsMarked, tested}
 use proofs.OneCore.Outcomes.{Commits_now, Did, Ends_alone, Ends_run, Frames, Frames_anew, Misses_anew, Reads, Room_wanted, each-evict}
 use proofs.OneCore.Outcomes.{each-exec, out, Last_probing, Last_room, Fills, Given, Given_doomed, Given_none, Given_room, Granted}
 use proofs.OneCore.Outcomes.{Hands_out, Heard, Hurt_alone, Hurt_probing, Hurt_running, Hurt_waiting, Hurt_none, each-back, each-grant}
@@ -69,7 +68,7 @@ reads-marked w x v c e = go (w == v) refl
   where
     go : (b : Bool) → (w == v) ≡ b → (if b then c.read v || not (c.modified v) else c.read v) ≡ true
         → (is_some (c.value v) ≡ true) ⊎ ((c.read v ≡ true) × (c.value v ≡ c.value v))
-    go true q h = let i : w ≡ v = grind nats in inl (subst (λ y. is_some (c.value y) ≡ true) i (rw e refl))
+    go true q h = let i : w ≡ v = grind nats in inl (subst (λ y. is_some (c.value y) ≡ true) i (rw e))
     go false q h = inr (h, refl)
 
 reads-stored : (w x v : ℕ) (also : Bool) (c : Cache) → StillRead c (stored w x also c) v
@@ -301,7 +300,7 @@ did-loading : {sh : Shape} {p : Program} {c : ℕ} {s : CoreState} → OneCore s
 unfolding commit solo_commit committed_core
 did-loading {sh} h (Finds a x z l g (inl f)) = Alone_now (spilled-solo (word_of sh.base a) h f)
 did-loading {s} h (Finds a x z l g (inr f)) = Alone_now (acts-alone s.phase g.acts f)
-did-loading {sh} {s} h (Reads a x z l g r f) = one-more (load_of a z (part x a z)) (rw r refl) refl
+did-loading {sh} {s} h (Reads a x z l g r f) = one-more (load_of a z (part x a z)) (rw r) refl
     (marked-now (word_of sh.base a) s.cache) (λ v t. marked-touched (word_of sh.base a) v s.cache t)
 did-loading h (Buffers a y v n k g i q f) = Alone_now (spilled-solo v h f)
 did-loading {sh} {s} h (Frames a y also n k g i f) = storing k refl refl (stored-now (word_of sh.base a) y also s.cache)
@@ -310,20 +309,20 @@ did-loading {sh} {s} h (Frames_anew a y n k g i q f o) =
     storing k refl refl (stored-now (word_of sh.base a) y false (placed sh (line_of (word_of sh.base a)) s.cache))
     (λ v t. stored-touched (word_of sh.base a) y v false (placed sh (line_of (word_of sh.base a)) s.cache)
     (placed-touched sh (line_of (word_of sh.base a)) s.cache v t))
-did-loading {sh} {s} h (Misses_anew a n g i q f) = either-way refl refl (λ v t. placed-touched sh (line_of (word_of sh.base a)) s.cache v t)
-did-loading {sh} {s} h (Room_wanted r i) = kept sh s _ (rw r refl) refl (λ v t. t)
-did-loading {sh} {s} h (Ends_run l e f r i) = kept sh s _ (rw r refl) refl (λ v t. t)
+did-loading {sh} {s} h (Misses_anew a n g i q f) = either-way refl refl (placed-touched sh (line_of (word_of sh.base a)) s.cache)
+did-loading {sh} {s} h (Room_wanted r i) = kept sh s _ (rw r) refl (λ v t. t)
+did-loading {sh} {s} h (Ends_run l e f r i) = kept sh s _ (rw r) refl (λ v t. t)
 did-loading h (Ends_alone t l e f r i) = Empty refl
 did-loading h (Commits_now t r) = Empty refl
 did-loading h _ = either-way refl refl (λ v t. t)
 
-pub loads-exec : {sh : Shape} (p : Program) (c : ℕ) {s : CoreState} → OneCore sh s → LoadsMarked sh s
+pub loaded-exec : {sh : Shape} (p : Program) (c : ℕ) {s : CoreState} → OneCore sh s → LoadsMarked sh s
     → IfSome (core_exec sh p c s) (λ o. LoadsMarked sh o.core)
-loads-exec {sh} p c {s} h k = each-exec sh p c s (λ o. LoadsMarked sh o.core) (λ x. loads-marked k (did-loading h x))
+loaded-exec {sh} p c {s} h k = each-exec sh p c s (λ o. LoadsMarked sh o.core) (λ x. loads-marked k (did-loading h x))
 
 -- an unmarked line is evicted, unless the core is alone
-pub loads-evict : (sh : Shape) (x y : ℕ) (s : CoreState) → LoadsMarked sh s → IfSome (core_evict sh x y s) (λ o. LoadsMarked sh o.core)
-loads-evict sh x y s k = each-evict sh x y s (λ o. LoadsMarked sh o.core) (λ l e a m. loads-marked k (go l e m))
+pub loaded-evict : (sh : Shape) (x y : ℕ) (s : CoreState) → LoadsMarked sh s → IfSome (core_evict sh x y s) (λ o. LoadsMarked sh o.core)
+loaded-evict sh x y s k = each-evict sh x y s (λ o. LoadsMarked sh o.core) (λ l e a m. loads-marked k (go l e m))
   where
     go : (l : ℕ) → s.cache.at x y ≡ Some l → (is_marked s.cache l ≡ false) ⊎ (is_solo s.phase ≡ true)
         → Loading sh s (emptied sh x y l s).core
@@ -332,21 +331,22 @@ loads-evict sh x y s k = each-evict sh x y s (λ o. LoadsMarked sh o.core) (λ l
 
 -- Each message keeps that the words which a core's attempt loaded are marked read or modified, unless it is alone.
 
-pub loads-grant : (sh : Shape) (u : ℕ) (s : CoreState) → LoadsMarked sh s → LoadsMarked sh (grant sh u s).core
-loads-grant sh u s k = each-grant sh u s (λ o. LoadsMarked sh o.core) (λ x. loads-marked k (go x))
+pub loaded-grant : (sh : Shape) (u : ℕ) (s : CoreState) → LoadsMarked sh s → LoadsMarked sh (grant sh u s).core
+loaded-grant sh u s k = each-grant sh u s (λ o. LoadsMarked sh o.core) (λ x. loads-marked k (go x))
   where
     go : (x : Granted sh u s) → Loading sh s (granted x).core
-    go (Given e) = kept sh s _ (rw e refl) refl (λ w t. t)
-    go (Given_doomed e) = kept sh s _ (rw e refl) refl (λ w t. t)
-    go (Given_room e) = kept sh s _ (rw e refl) refl (λ w t. t)
+    go (Given e) = kept sh s _ (rw e) refl (λ w t. t)
+    go (Given_doomed e) = kept sh s _ (rw e) refl (λ w t. t)
+    go (Given_room e) = kept sh s _ (rw e) refl (λ w t. t)
     go (Given_none e) = either-way refl refl (λ w t. t)
 
-pub loads-back : (sh : Shape) (e : ℕ) (s : CoreState) (m : Msg) → LoadsMarked sh s → IfSome (from_dir sh e s m) (λ o. LoadsMarked sh o.core)
+pub loaded-back : (sh : Shape) (e : ℕ) (s : CoreState) (m : Msg) → LoadsMarked sh s → IfSome (from_dir sh e s m)
+    (λ o. LoadsMarked sh o.core)
 unfolding filled cleaned invalidated
-loads-back sh e s m k = each-back sh e s (λ m o. LoadsMarked sh o.core) (λ x. loads-marked k (go x)) m
+loaded-back sh e s m k = each-back sh e s (λ m o. LoadsMarked sh o.core) (λ x. loads-marked k (go x)) m
   where
     go : (x : Heard sh e s) → Loading sh s (heard x).core
-    go (Last_probing u v q o r) = kept sh s _ (rw q refl) refl (λ w t. t)
+    go (Last_probing u v q o r) = kept sh s _ (rw q) refl (λ w t. t)
     go (Last_room u v q o r) = Alone_now refl
     go (Hurt_running l m u v q) = Empty refl
     go (Hurt_waiting l m u v q) = Empty refl

@@ -82,8 +82,8 @@ unmarked-word c l v h e = go (c.modified v) (c.read v) refl refl
 
     go : (a b : Bool) → c.modified v ≡ a → c.read v ≡ b → (c.modified v ≡ false) × (c.read v ≡ false)
     go false false q q' = (q, q')
-    go a true q q' = absurd (marked (rw q' refl))
-    go true false q q' = absurd (marked (rw (q', q) refl))
+    go a true q q' = absurd (marked (rw q'))
+    go true false q q' = absurd (marked (rw (q', q)))
 
 pub evicted-modified : (x y l : ℕ) (c : Cache) → c.at x y ≡ Some l → is_marked c l ≡ false → (v : ℕ)
     → ((evicted x y c).modified v ≡ c.modified v) × ((evicted x y c).read v ≡ c.read v)
@@ -211,7 +211,7 @@ invalidated-acked {sh} {l} {s} r q v h = record {
   kept = keeps r.cache l;
   hurt = h;
   dirs = λ d. refl;
-  vendor = rw v refl;
+  vendor = rw v;
   commit = refl;
 }
 
@@ -219,9 +219,9 @@ back-case : {sh : Shape} {e : ℕ} {s : CoreState} (x : Heard sh e s) → Back s
 unfolding read_cleared invalidated skip_all abort_written
 back-case (Ignores_reply u v n) = Ignored refl n
 back-case (Reply_probing u v q o r) = Probed q o (rw r q) refl refl refl refl
-back-case (Last_probing u v q o r) = Probed q o (rw r refl) refl refl refl refl
+back-case (Last_probing u v q o r) = Probed q o (rw r) refl refl refl refl
 back-case (Reply_room u v q o r) = Left_alone q o (rw r q) refl (λ v. refl) refl refl
-back-case (Last_room u v q o r) = Left_alone q o (rw r refl) refl (λ v. refl) refl refl
+back-case (Last_room u v q o r) = Left_alone q o (rw r) refl (λ v. refl) refl refl
 back-case (Hurt_none l m u n) = invalidated-acked _ Silent refl (Unhurt refl refl (λ v. refl) (λ v. refl) (λ n. refl))
 back-case (Hurt_running l m u v q) = invalidated-acked _ Silent refl (Rolled q refl refl (λ n. refl))
 back-case (Hurt_waiting l m u v q) = invalidated-acked _ Silent refl (Doomed q refl refl (λ n. refl))

@@ -3,14 +3,13 @@ use Rattle.rules_program.specs.Ram.{part}
 use Rattle.theorem_serial.proofs
 use proofs.Names
 use Names.{awaits_replies, load_of, ◌⊎◌, put, stored, marked, IsCache, ℕ, ◌+◌, ◌≡◌, Bool, true, false, Option, Some, None, IfSome, is_some}
-use Names.{refl, sym, ap, subst, ◌∙◌, Program, Need, Loads, word_of, line_of, Shape, set_of, Cache, free_way, placed, placed_at, committed}
-use Names.{words_dropped, none_spilled, words_dropped-keeps, CoreState, Awaited, Phase, Running, AwaitTid, Ready, Overflowing, Solo}
-use Names.{is_running, is_solo, commit, committed_core, phase_after_commit, solo_commit, core_exec, Words, OneCore, Empty, executes, rests}
-use Names.{nats, inl, inr, Spilled, cleaned, ◌<◌, ◌≤◌, ◌==◌, [], nat_lt, cases_lt, any_below, Msg, is_marked, evicted, evicted_line, filled}
-use Names.{invalidated, rolled_back, DoomedTid, Probing, core_evict, is_awaited, grant, is_probed, probing_or_ready, all_replied}
-use Names.{words_invalidated, staled, from_dir, List, ◌∷◌, if◌then◌else◌, Local, Dir, Event, empty_cache, empty-keeps, World, start}
-use Names.{core_start, Out, Answer, Waits, dir_deliver, core_moves, core_takes, dir_takes, dir_asks, vendor_gives, Stepped, step, History}
-use Names.{and_noted, recorded, next_history, and_then, run_from, run, KeptCores, Always, first_state}
+use Names.{refl, sym, ap, subst, ◌∙◌, Program, Need, word_of, line_of, Shape, set_of, Cache, free_way, placed, placed_at, committed}
+use Names.{none_spilled, words_dropped-keeps, CoreState, Awaited, Phase, Running, AwaitTid, Ready, Overflowing, Solo, is_running, is_solo}
+use Names.{commit, committed_core, phase_after_commit, solo_commit, core_exec, Words, OneCore, Empty, executes, rests, nats, inl, inr}
+use Names.{Spilled, cleaned, ◌≤◌, ◌==◌, [], nat_lt, cases_lt, any_below, Msg, is_marked, evicted, evicted_line, invalidated, rolled_back}
+use Names.{DoomedTid, Probing, core_evict, is_awaited, grant, is_probed, probing_or_ready, all_replied, words_invalidated, staled, from_dir}
+use Names.{if◌then◌else◌, Local, Dir, Event, empty_cache, empty-keeps, World, start, core_start, Out, Answer, Waits, dir_deliver}
+use Names.{core_moves, core_takes, dir_takes, dir_asks, vendor_gives, step, KeptCores}
 use proofs.OneCore.Outcomes.{Acts, awaiting, Acting, Buffers, Commits_now, Did, Ends_alone, Ends_run, Finds, Frames, Frames_anew, Idles}
 use proofs.OneCore.Outcomes.{Misses, Misses_anew, Reads, Room_wanted, after_end, after_load, after_store, each-exec, out, Reply_probing}
 use proofs.OneCore.Outcomes.{Last_probing, Given_doomed, Hurt_probing, Hurt_running, Hurt_waiting, Granted, Fills_none, Given_none}
@@ -19,7 +18,7 @@ use proofs.OneCore.Outcomes.{each-back, rolled, Fills, Given, Heard, heard}
 use proofs.OneCore.WordsKept.{words-marked, words-placed, words-stored, words-buffered, words-committed, words-evicted}
 use proofs.OneCore.WordsKept.{words-evicted_unmarked, words-filled, words-invalidated, words-cleaned, words-rolled, words-alone, words-none}
 use proofs.OneCore.CoreAsks.{none-below, all-replied}
-use proofs.Counts.StepCases.{OfAnswer, step_cases}
+use proofs.Counts.{OfAnswer, step_cases}
 
 -- Executing an instruction keeps what holds of a core by itself.
 
@@ -54,7 +53,7 @@ waits : {sh : Shape} (s : CoreState) (go : Phase) → s.phase ≡ Running → On
 waits {sh} s go e h n a b c = record {
   words = rw a (subst (λ q. Words sh (is_solo q) s.cache s.spilled s.stores) e h.words);
   awaited = λ x q. absurd (cc);
-  owing = λ d q. h.owing d (rw e refl);
+  owing = λ d q. h.owing d (rw e);
   owers = h.owers;
   rested = λ q. absurd (cc);
 }
@@ -86,13 +85,13 @@ committed_one s {r} e o n w m = record {
 
 commit_one : {sh : Shape} (id t : ℕ) (s : CoreState) → s.phase ≡ Ready t → OneCore sh s → OneCore sh (commit sh id t s).core
 unfolding commit committed_core committed
-commit_one id t s e h = committed_one s refl (λ d. h.owing d (rw e refl)) (idle s.awaited refl)
-    (λ b. words-committed b t s.spilled h.words.cache (h.words.spilled_alone (rw e refl)))
+commit_one id t s e h = committed_one s refl (λ d. h.owing d (rw e)) (idle s.awaited refl)
+    (λ b. words-committed b t s.spilled h.words.cache (h.words.spilled_alone (rw e)))
     (record { n = refl; loads = refl; stores = refl; console = refl; unread = λ w. refl; unmodified = λ w. refl })
   where
     idle : (a : Option Awaited) → s.awaited ≡ a → a ≡ None
     idle None q = refl
-    idle (Some a) q = let x = h.awaited a q in let y : executes s.phase ≡ false = rw e refl in absurd (let z = x.0 in cc)
+    idle (Some a) q = let x = h.awaited a q in let y : executes s.phase ≡ false = rw e in absurd (let z = x.0 in cc)
 
 pub exec_one : (sh : Shape) (p : Program) (id : ℕ) (s : CoreState) → OneCore sh s → IfSome (core_exec sh p id s) (λ o. OneCore sh o.core)
 unfolding solo_commit committed_core committed none_spilled
@@ -104,13 +103,13 @@ exec_one sh p id s h = each-exec sh p id s (λ o. OneCore sh o.core) go
     k : Words sh (is_solo s.phase) s.cache s.spilled s.stores
     k = h.words
 
-    done : (need : Need) (r : CoreState) → Acting p s need → r.phase ≡ s.phase → r.owing ≡ s.owing → r.awaited ≡ s.awaited
+    done : {need : Need} (r : CoreState) → Acting p s need → r.phase ≡ s.phase → r.owing ≡ s.owing → r.awaited ≡ s.awaited
         → Words sh (is_solo s.phase) r.cache r.spilled r.stores → OneCore sh r
-    done need r g e f a y = executing g.acts e f h y (λ b q. let z : None ≡ Some b = sym (a ∙ g.idle) ∙ q in absurd (cc))
+    done r g e f a y = executing g.acts e f h y (λ b q. let z : None ≡ Some b = sym (a ∙ g.idle) ∙ q in absurd (cc))
 
-    asked : (need : Need) (l : ℕ) (r : CoreState) → Acting p s need → r.phase ≡ s.phase → r.owing ≡ s.owing → r.awaited ≡ awaiting l
+    asked : {need : Need} (l : ℕ) (r : CoreState) → Acting p s need → r.phase ≡ s.phase → r.owing ≡ s.owing → r.awaited ≡ awaiting l
         → Words sh (is_solo s.phase) r.cache r.spilled r.stores → r.cache.held l ≡ true → OneCore sh r
-    asked need l r g e f a y d = executing g.acts e f h y (λ b q. let i : b.line ≡ l = sym (ap line_or_none (sym a ∙ q)) in rw i d)
+    asked l r g e f a y d = executing g.acts e f h y (λ b q. let i : b.line ≡ l = sym (ap line_or_none (sym a ∙ q)) in rw i d)
       where
         line_or_none : Option Awaited → ℕ
         line_or_none None = l
@@ -120,21 +119,21 @@ exec_one sh p id s h = each-exec sh p id s (λ o. OneCore sh o.core) go
     anew l e = words-placed l e k
 
     go : (x : Did sh p id s) → OneCore sh (out x).core
-    go (Idles n l b g) = done n (record s { n = s.n + 1; local = l; console = b }) g refl refl refl k
-    go (Finds a x z l g f) = done (Loads a z) (after_load s l (load_of a z (part x a z)) s.cache) g refl refl refl k
-    go (Reads a x z l g r v) = done (Loads a z) (after_load s l (load_of a z (part x a z)) (marked (w a) s.cache)) g refl refl refl
+    go (Idles n l b g) = done (record s { n = s.n + 1; local = l; console = b }) g refl refl refl k
+    go (Finds a x z l g f) = done (after_load s l (load_of a z (part x a z)) s.cache) g refl refl refl k
+    go (Reads a x z l g r v) = done (after_load s l (load_of a z (part x a z)) (marked (w a) s.cache)) g refl refl refl
         (marked_words sh (w a) x s v r k)
-    go (Buffers a y v n q g i e f) = done n (after_store s a q s.cache (put s.spilled (w a) (Some y))) g refl refl refl
+    go (Buffers a y v n q g i e f) = done (after_store s a q s.cache (put s.spilled (w a) (Some y))) g refl refl refl
         (words-buffered (w a) y q.store v e f (ap (word_of sh.base) q.addr) k)
-    go (Frames a y also n q g i f) = done n (after_store s a q (stored (w a) y also s.cache) s.spilled) g refl refl refl
+    go (Frames a y also n q g i f) = done (after_store s a q (stored (w a) y also s.cache) s.spilled) g refl refl refl
         (words-stored (w a) y also q.store (framed-held s (w a) k.cache f.held) f.unspilled f.alone (ap (word_of sh.base) q.addr) k)
     go (Frames_anew a y n q g i e f u) =
-        done n (after_store s a q (stored (w a) y false (placed sh (line_of (w a)) s.cache)) s.spilled) g refl refl refl
+        done (after_store s a q (stored (w a) y false (placed sh (line_of (w a)) s.cache)) s.spilled) g refl refl refl
         (words-stored (w a) y false q.store
         (placed-held sh (line_of (w a)) s.cache f) u (λ z. refl) (ap (word_of sh.base) q.addr) (anew (line_of (w a)) e))
-    go (Misses a n g i e) = asked n (line_of (w a)) (record s { awaited = awaiting (line_of (w a)) }) g refl refl refl k e
+    go (Misses a n g i e) = asked (line_of (w a)) (record s { awaited = awaiting (line_of (w a)) }) g refl refl refl k e
     go (Misses_anew a n g i e f) =
-        asked n (line_of (w a)) (record s { awaited = awaiting (line_of (w a)); cache = placed sh (line_of (w a)) s.cache }) g refl refl
+        asked (line_of (w a)) (record s { awaited = awaiting (line_of (w a)); cache = placed sh (line_of (w a)) s.cache }) g refl refl
         refl (anew (line_of (w a)) e) (placed-held sh (line_of (w a)) s.cache f)
     go (Room_wanted r i) = waits s (Overflowing None) r h i refl refl refl
     go (Ends_run l e f r i) = waits (after_end s l e) AwaitTid r
@@ -143,9 +142,9 @@ exec_one sh p id s h = each-exec sh p id s (λ o. OneCore sh o.core) go
           awaited = h.awaited;
           owing = h.owing;
           owers = h.owers;
-          rested = λ q. absurd (let z : rests s.phase ≡ false = rw r refl in cc);
+          rested = λ q. absurd (let z : rests s.phase ≡ false = rw r in cc);
         }) i refl refl refl
-    go (Ends_alone t l e f r i) = committed_one (after_end s l e) refl (λ d. h.owing d (rw r refl)) i
+    go (Ends_alone t l e f r i) = committed_one (after_end s l e) refl (λ d. h.owing d (rw r)) i
         (λ b. words-committed b t none_spilled (words_dropped-keeps sh s.spilled s.cache k.cache) (λ w. refl))
         (record { n = refl; loads = refl; stores = refl; console = refl; unread = λ w. refl; unmodified = λ w. refl })
     go (Commits_now t r) = commit_one id t s r h
@@ -168,7 +167,7 @@ evicted-unmodified c s y v h = grind nats
 pub evict_one : (sh : Shape) (x y : ℕ) (s : CoreState) → OneCore sh s → IfSome (core_evict sh x y s) (λ o. OneCore sh o.core)
 evict_one sh x y s h = each-evict sh x y s (λ o. OneCore sh o.core) (λ l e q m. record {
   words = words-evicted x y l e (λ z v i. words-evicted_unmarked sh s.cache l v (unmarked l z m) i) h.words;
-  awaited = λ b r. let z = h.awaited b r in (z.0, evicted-held s.cache x y l b.line e (another l s.awaited q b r) z.1);
+  awaited = λ b r. let z = h.awaited b r in (z.0, evicted-held s.cache x y l b.line e (another l q r) z.1);
   owing = h.owing;
   owers = h.owers;
   rested = λ r. let z = h.rested r in
@@ -182,8 +181,8 @@ evict_one sh x y s h = each-evict sh x y s (λ o. OneCore sh o.core) (λ l e q m
       };
 })
   where
-    another : (l : ℕ) (a : Option Awaited) → is_awaited a l ≡ false → (b : Awaited) → a ≡ Some b → (b.line == l) ≡ false
-    another l a q b e = grind nats
+    another : (l : ℕ) {a : Option Awaited} → is_awaited a l ≡ false → {b : Awaited} → a ≡ Some b → (b.line == l) ≡ false
+    another l q e = grind nats
 
     unmarked : (l : ℕ) → is_solo s.phase ≡ false → (is_marked s.cache l ≡ false) ⊎ (is_solo s.phase ≡ true) → is_marked s.cache l ≡ false
     unmarked l z a = grind nats
@@ -206,7 +205,7 @@ rephased {sh} {s} {r} {q} go e x f y z c p t w o b h = record {
 
 far_probed : (sh : Shape) (c : Cache) (d : ℕ) → sh.dirs ≤ d → is_probed sh c d ≡ false
 unfolding is_probed
-far_probed sh c d l = let b : nat_lt d sh.dirs ≡ false = grind nats in rw b refl
+far_probed sh c d l = let b : nat_lt d sh.dirs ≡ false = grind nats in rw b
 
 none_probed : (sh : Shape) (c : Cache) (d : ℕ) → any_below (is_probed sh c) sh.dirs ≡ false → is_probed sh c d ≡ false
 none_probed sh c d q = elim (cases_lt d sh.dirs) [ inl l ↦ none-below (is_probed sh c) sh.dirs d l q | inr l ↦ far_probed sh c d l ]
@@ -225,13 +224,13 @@ grant_one sh u s h = each-grant sh u s (λ o. OneCore sh o.core) go
     probed : s.phase ≡ AwaitTid → (b : Bool) → any_below (is_probed sh s.cache) sh.dirs ≡ b
         → OneCore sh (record s { owing = is_probed sh s.cache; phase = probing_or_ready b u })
     probed e true q = rephased (Probing u) e refl refl refl refl refl refl refl refl (λ d k. absurd (cc))
-        (λ d k. far_probed sh s.cache d k) h
+        (far_probed sh s.cache) h
     probed e false q = rephased (Ready u) e refl refl refl refl refl refl refl refl (λ d k. none_probed sh s.cache d q)
-        (λ d k. far_probed sh s.cache d k) h
+        (far_probed sh s.cache) h
 
     go : (x : Granted sh u s) → OneCore sh (granted x).core
     go (Given e) = probed e (any_below (is_probed sh s.cache) sh.dirs) refl
-    go (Given_doomed e) = rephased Running e refl refl refl refl refl refl refl refl (λ d k. h.owing d (rw e refl)) h.owers h
+    go (Given_doomed e) = rephased Running e refl refl refl refl refl refl refl refl (λ d k. h.owing d (rw e)) h.owers h
     go (Given_room e) = rephased (Overflowing (Some u)) e refl refl refl refl refl refl refl refl (λ d k. absurd (cc)) (λ d k. grind nats) h
     go (Given_none e) = h
 
@@ -279,9 +278,9 @@ unfolding rolled_back
 rolled_one {s} {r} q h e a c p n l t o w z x = record {
   words = rw (e, c, t) (words-rolled (is_solo q) r.spilled h.words.cache p);
   awaited = λ b k. let y = h.awaited b (sym z ∙ k) in (rw e (active x y.0), rw c y.1);
-  owing = λ d k. rw w refl;
-  owers = λ d k. rw w refl;
-  rested = λ k. record { n = n; loads = l; stores = t; console = o; unread = λ v. rw c refl; unmodified = λ v. rw c refl };
+  owing = λ d k. rw w;
+  owers = λ d k. rw w;
+  rested = λ k. record { n = n; loads = l; stores = t; console = o; unread = λ v. rw c; unmodified = λ v. rw c };
 }
   where
     active : (executes q ≡ true) ⊎ (executes s.phase ≡ false) → executes s.phase ≡ true → executes q ≡ true
@@ -297,9 +296,9 @@ back_one sh e s m h = each-back sh e s (λ m o. OneCore sh o.core) go m
     none : all_replied sh (put s.owing e false) ≡ true → (d : ℕ) → put s.owing e false d ≡ false
     none r d = replied_none sh s e d r h
 
-    filled_one : (a : Awaited) (c : Cache) → s.awaited ≡ Some a → Words sh (is_solo s.phase) c s.spilled s.stores
+    filled_one : {a : Awaited} {c : Cache} → s.awaited ≡ Some a → Words sh (is_solo s.phase) c s.spilled s.stores
         → OneCore sh (record s { cache = c; awaited = None })
-    filled_one a c q w =
+    filled_one {a} q w =
         record {
           words = w;
           awaited = λ b k. absurd (cc);
@@ -313,12 +312,12 @@ back_one sh e s m h = each-back sh e s (λ m o. OneCore sh o.core) go m
     hurt l m q sp a p x = rolled_one q (without_one l m h) refl a refl p refl refl refl refl refl refl x
 
     waiting : (l m : ℕ) → (s.phase ≡ AwaitTid) ⊎ (s.phase ≡ Overflowing None) → OneCore sh (rolled l m s DoomedTid s.spilled)
-    waiting l m (inl q) = hurt l m DoomedTid s.spilled refl (h.words.spilled_alone (rw q refl)) (inr (rw q refl))
-    waiting l m (inr q) = hurt l m DoomedTid s.spilled refl (h.words.spilled_alone (rw q refl)) (inr (rw q refl))
+    waiting l m (inl q) = hurt l m DoomedTid s.spilled refl (h.words.spilled_alone (rw q)) (inr (rw q))
+    waiting l m (inr q) = hurt l m DoomedTid s.spilled refl (h.words.spilled_alone (rw q)) (inr (rw q))
 
     probing_one : (l m t : ℕ) → (s.phase ≡ Probing t) ⊎ (s.phase ≡ Ready t) → OneCore sh (rolled l m s Running s.spilled)
-    probing_one l m t (inl q) = hurt l m Running s.spilled refl (h.words.spilled_alone (rw q refl)) (inl refl)
-    probing_one l m t (inr q) = hurt l m Running s.spilled refl (h.words.spilled_alone (rw q refl)) (inl refl)
+    probing_one l m t (inl q) = hurt l m Running s.spilled refl (h.words.spilled_alone (rw q)) (inl refl)
+    probing_one l m t (inr q) = hurt l m Running s.spilled refl (h.words.spilled_alone (rw q)) (inl refl)
 
     go : (x : Heard sh e s) → OneCore sh (heard x).core
     go (Reply_probing u v q o r) = rephased (Probing u) q refl q refl refl refl refl refl refl (λ d k. absurd (cc)) far h
@@ -331,11 +330,11 @@ back_one sh e s m h = each-back sh e s (λ m o. OneCore sh o.core) go m
       owers = far;
       rested = λ k. absurd (cc);
     }
-    go (Fills l ws a q i f) = filled_one a (filled l ws s.cache) q (words-filled l ws (rw i at (h.awaited a q).1) h.words)
-    go (Fills_none l ws a q i f) = filled_one a s.cache q h.words
+    go (Fills l ws a q i f) = filled_one q (words-filled l ws (rw i at (h.awaited a q).1) h.words)
+    go (Fills_none l ws a q i f) = filled_one q h.words
     go (Hands_out l) = data_one l h
     go (Hurt_none l m u n) = without_one l m h
-    go (Hurt_running l m u v q) = hurt l m Running s.spilled refl (h.words.spilled_alone (rw q refl)) (inl refl)
+    go (Hurt_running l m u v q) = hurt l m Running s.spilled refl (h.words.spilled_alone (rw q)) (inl refl)
     go (Hurt_waiting l m u v q) = waiting l m q
     go (Hurt_probing l m u t v q) = probing_one l m t q
     go (Hurt_alone l m u t v q) = hurt l m Running none_spilled refl (λ w. refl) (inl refl)
@@ -378,19 +377,3 @@ start-cores sh entries ram c = record {
   owers = λ d q. refl;
   rested = λ q. absurd (cc);
 }
-
-run_from-cores : (sh : Shape) (p : Program) (es : List Event) (h : History) → KeptCores sh h.world
-    → IfSome (run_from sh p es h) (λ r. KeptCores sh r.world)
-unfolding run_from next_history
-run_from-cores sh p [] h k = k
-run_from-cores sh p (e ∷ es) h k = go (step sh p h.world e) (step-cores p h.world e k) (λ g q. run_from-cores sh p es g q)
-  where
-    go : (x : Option Stepped) → IfSome x (λ o. KeptCores sh o.world)
-        → ((g : History) → KeptCores sh g.world → IfSome (run_from sh p es g) (λ r. KeptCores sh r.world))
-        → IfSome (and_then (run_from sh p es) (recorded h x)) (λ r. KeptCores sh r.world)
-    go None q f = tt
-    go (Some o) q f = f (record { world = o.world; commits = and_noted o.noted h.commits }) q
-
-pub one_core : Always KeptCores
-unfolding run
-one_core sh p entries ram es = run_from-cores sh p es (first_state entries ram) (start-cores sh entries ram)

@@ -200,8 +200,8 @@ each-exec sh p c s P k = go s.phase refl
     full n (Solo t) e a b = tt
     full n _ e a b = absurd a
 
-    fetched : (a : ℕ) (need : Need) → Acting p s need → AccessAt a need → IfSome (miss sh (line_of (w a)) s) P
-    fetched a need g at = go (s.cache.held (line_of (w a))) refl (is_some (free_way sh s.cache (set_of sh (line_of (w a))))) refl
+    fetched : (a : ℕ) {need : Need} → Acting p s need → AccessAt a need → IfSome (miss sh (line_of (w a)) s) P
+    fetched a {need} g at = go (s.cache.held (line_of (w a))) refl (is_some (free_way sh s.cache (set_of sh (line_of (w a))))) refl
       where
         go : (x : Bool) → s.cache.held (line_of (w a)) ≡ x → (y : Bool) → is_some (free_way sh s.cache (set_of sh (line_of (w a)))) ≡ y
             → IfSome (if x then Some (request_line sh (line_of (w a)) s)
@@ -216,42 +216,42 @@ each-exec sh p c s P k = go s.phase refl
         → P (moves (finished p need x (record s { cache = c; spilled = sp })) sends)
     stores need x a at c sp sends h = subst (λ r. P (moves r sends)) (sym ((storing p need x a s at).1 c sp)) h
 
-    buffers : (need : Need) (x a y v : ℕ) → Acting p s need → (at : StoresAt a need) → line_of v ≡ line_of (w a)
+    buffers : {need : Need} (x a y v : ℕ) → Acting p s need → (at : StoresAt a need) → line_of v ≡ line_of (w a)
         → is_some (s.spilled v) ≡ true → P (moves (finished p need x (stored_in_buffer (w a) y s)) nothing)
-    buffers need x a y v g at e f = stores need x a at s.cache (put s.spilled (w a) (Some y)) nothing
+    buffers {need} x a y v g at e f = stores need x a at s.cache (put s.spilled (w a) (Some y)) nothing
         (k (Buffers a y v need (storing p need x a s at).0 g at e f))
 
-    buffers_held : (need : Need) (x a y : ℕ) → Acting p s need → (at : StoresAt a need) → holds s.spilled (line_of (w a)) ≡ true
+    buffers_held : {need : Need} (x a y : ℕ) → Acting p s need → (at : StoresAt a need) → holds s.spilled (line_of (w a)) ≡ true
         → P (moves (finished p need x (stored_in_buffer (w a) y s)) nothing)
-    buffers_held need x a y g at h = let f = holds-word s.spilled (line_of (w a)) h in buffers need x a y f.0 g at f.1 f.2
+    buffers_held {need} x a y g at h = let f = holds-word s.spilled (line_of (w a)) h in buffers x a y f.0 g at f.1 f.2
 
-    frames : (need : Need) (x a y : ℕ) (also : Bool) → Acting p s need → (at : StoresAt a need) → Framing sh s a also
+    frames : {need : Need} (x a y : ℕ) (also : Bool) → Acting p s need → (at : StoresAt a need) → Framing sh s a also
         → P (moves (finished p need x (stored_in_frame (w a) y also s)) (flush_line sh s.cache (line_of (w a))))
-    frames need x a y also g at f = stores need x a at (stored (w a) y also s.cache) s.spilled (flush_line sh s.cache (line_of (w a)))
+    frames {need} x a y also g at f = stores need x a at (stored (w a) y also s.cache) s.spilled (flush_line sh s.cache (line_of (w a)))
         (k (Frames a y also need (storing p need x a s at).0 g at f))
 
-    partly : (need : Need) (a : ℕ) → Acting p s need → StoresAt a need → AccessAt a need → IfSome (partial_store sh p need (w a) s) P
-    partly need a g at acc = spilled (s.spilled (w a)) refl
+    partly : {need : Need} (a : ℕ) → Acting p s need → StoresAt a need → AccessAt a need → IfSome (partial_store sh p need (w a) s) P
+    partly {need} a g at acc = spilled (s.spilled (w a)) refl
       where
         held : (x : ℕ) → s.cache.value (w a) ≡ Some x → (b : Bool) → holds s.spilled (line_of (w a)) ≡ b
             → IfSome (if b then Some (moves (finished p need x (stored_in_buffer (w a) (new_word need x) s)) nothing)
             else Some (moves (finished p need x (stored_in_frame (w a) (new_word need x) (marks_read (w a) s) s))
             (flush_line sh s.cache (line_of (w a))))) P
-        held x e true h = buffers_held need x a (new_word need x) g at h
-        held x e false h = frames need x a (new_word need x) (marks_read (w a) s) g
+        held x e true h = buffers_held x a (new_word need x) g at h
+        held x e false h = frames x a (new_word need x) (marks_read (w a) s) g
             at (record {
-              held = inr (rw e refl);
+              held = inr (rw e);
               unspilled = h;
               alone = also-alone s.phase (not (s.cache.modified (w a)));
-              read = λ q. (rw e refl, unmodified (is_running s.phase) (s.cache.modified (w a)) q);
+              read = λ q. (rw e, unmodified (is_running s.phase) (s.cache.modified (w a)) q);
             })
 
         valid : (b : Option ℕ) → s.cache.value (w a) ≡ b → IfSome (change_valid sh p need (w a) s b) P
         valid (Some x) e = held x e (holds s.spilled (line_of (w a))) refl
-        valid None e = fetched a need g acc
+        valid None e = fetched a g acc
 
         spilled : (b : Option ℕ) → s.spilled (w a) ≡ b → IfSome (change_spilled sh p need (w a) s b) P
-        spilled (Some x) e = buffers need x a (new_word need x) (w a) g at refl (rw e refl)
+        spilled (Some x) e = buffers x a (new_word need x) (w a) g at refl (rw e)
         spilled None e = valid (s.cache.value (w a)) refl
 
     wholly : (a v : ℕ) → Acting p s (Stores a Word v) → IfSome (word_store sh p (Stores a Word v) (w a) v s) P
@@ -267,9 +267,9 @@ each-exec sh p c s P k = go s.phase refl
             else (if j then Some (moves (finished p need v (stored_in_frame (w a) v false s)) (flush_line sh s.cache (line_of (w a))))
             else (if f then Some (moves (finished p need v (stored_in_frame (w a) v false (place sh (line_of (w a)) s))) nothing)
             else full_set sh (line_of (w a)) s))) P
-        go true h j e f i = buffers_held need v a v g refl h
+        go true h j e f i = buffers_held v a v g refl h
         go false h true e f i =
-            frames need v a v false g refl (record { held = inl e; unspilled = h; alone = λ q. refl; read = λ q. absurd (cc) })
+            frames v a v false g refl (record { held = inl e; unspilled = h; alone = λ q. refl; read = λ q. absurd (cc) })
         go false h false e true i = k (Frames_anew a v need (storing p need v a s refl).0 g refl e i h)
         go false h false e false i = full g.idle s.phase refl g.acts (all_marked sh s.cache (set_of sh (line_of (w a))))
 
@@ -279,14 +279,14 @@ each-exec sh p c s P k = go s.phase refl
         uses : (x : ℕ) → s.cache.value (w a) ≡ Some x → (q : Phase) → s.phase ≡ q
             → P (moves (finished p (Loads a z) x (if is_running q then record s { cache = marked (w a) s.cache } else s)) nothing)
         uses x e Running i = k (Reads a x z (p.after s.local (Some (part x a z))) g i e)
-        uses x e _ i = k (Finds a x z (p.after s.local (Some (part x a z))) g (inr (rw i refl)))
+        uses x e _ i = k (Finds a x z (p.after s.local (Some (part x a z))) g (inr (rw i)))
 
         valid : (b : Option ℕ) → s.cache.value (w a) ≡ b → IfSome (load_valid sh p (Loads a z) (w a) s b) P
         valid (Some x) e = uses x e s.phase refl
-        valid None e = fetched a (Loads a z) g refl
+        valid None e = fetched a g refl
 
         spilled : (b : Option ℕ) → s.spilled (w a) ≡ b → IfSome (load_spilled sh p (Loads a z) (w a) s b) P
-        spilled (Some x) e = k (Finds a x z (p.after s.local (Some (part x a z))) g (inl (rw e refl)))
+        spilled (Some x) e = k (Finds a x z (p.after s.local (Some (part x a z))) g (inl (rw e)))
         spilled None e = valid (s.cache.value (w a)) refl
 
     closes : (l : Local) (e : Outcome) → Ending p s l e → s.awaited ≡ None → (q : Phase) → s.phase ≡ q → Acts q
@@ -300,9 +300,9 @@ each-exec sh p c s P k = go s.phase refl
     needs (Prints b) g = k (Idles (Prints b) (p.after s.local None) (s.console ++ b ∷ []) g)
     needs (Loads a z) g = loads a z g
     needs (Stores a Word v) g = wholly a v g
-    needs (Stores a Half v) g = partly (Stores a Half v) a g refl refl
-    needs (Stores a Byte v) g = partly (Stores a Byte v) a g refl refl
-    needs (Changes a f) g = partly (Changes a f) a g refl refl
+    needs (Stores a Half v) g = partly a g refl refl
+    needs (Stores a Byte v) g = partly a g refl refl
+    needs (Changes a f) g = partly a g refl refl
     needs Ends g = closes (unreserved (p.after s.local None)) Ended (record { need = Ends; at = g.need; end = tt; is = refl }) g.idle
         s.phase refl g.acts
     needs (Halts x) g = closes (unreserved s.local) (HaltedWith x) (record { need = Halts x; at = g.need; end = tt; is = refl }) g.idle
@@ -371,8 +371,8 @@ each-grant sh t s P k = go s.phase refl
     go AwaitTid e = k (Given e)
     go DoomedTid e = k (Given_doomed e)
     go (Overflowing None) e = k (Given_room e)
-    go (Overflowing (Some u)) e = k (Given_none (rw e refl))
-    go _ e = k (Given_none (rw e refl))
+    go (Overflowing (Some u)) e = k (Given_none (rw e))
+    go _ e = k (Given_none (rw e))
 
 -- a message of directory e: the core ignores a reply or a Fill, or counts the reply, or takes the Fill; it hands out words; or it
 -- invalidates words, and where it is violated rolls back
@@ -551,7 +551,7 @@ each-back sh e s P k m = go m
     reply u v _ g = k (Ignores_reply u v (λ x. absurd (unexpected u g refl x)))
 
     fills : (l : ℕ) (ws : List ℕ) (a : Option Awaited) → s.awaited ≡ a → P (Fill l ws) (fill_awaited l ws s a)
-    fills l ws None q = k (Ignores_fill l ws (rw q refl))
+    fills l ws None q = k (Ignores_fill l ws (rw q))
     fills l ws (Some a) q = one (a.line == l) refl a.stale refl
       where
         one : (b : Bool) → (a.line == l) ≡ b → (f : Bool) → a.stale ≡ f
@@ -575,7 +575,7 @@ each-back sh e s P k m = go m
         (sym (aborts-same sh l m t s.cache)) (k (Hurt_probing l m u t v (inr e)))
     hurt l m u true v (Overflowing (Some t)) e = k (Hurt_alone l m u t v (inl e))
     hurt l m u true v (Solo t) e = k (Hurt_alone l m u t v (inr e))
-    hurt l m u true v _ e = k (Hurt_none l m u (inr (rw e refl)))
+    hurt l m u true v _ e = k (Hurt_none l m u (inr (rw e)))
 
     go : (m : Msg) → IfSome (from_dir sh e s m) (P m)
     go (ProbeReply u v) = reply u v s.phase refl

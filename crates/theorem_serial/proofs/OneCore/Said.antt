@@ -1,15 +1,14 @@
 -- What a core sends with one event, and that nothing of a kind is among it where no message of its forms is of that kind.
-use Rattle.base_lemmas.proofs.Lemmas.{neither}
 use Rattle.rules_tcc.specs.Sends.{write_back_of}
 use Rattle.theorem_serial.proofs
 use proofs.Names
-use Names.{ℕ, ◌≡◌, Bool, true, false, not, List, [], ◌∷◌, ◌++◌, ◌==◌, ◌&&◌, ◌||◌, Option, Some, None, nat_lt, if◌then◌else◌, flat_map}
-use Names.{arith, refl, those, count_below, Dir, Vendor, Tagged, Msg, TidReq, LoadReq, Skip, Probe, Mark, Commit, Abort, WriteBack, Flush}
-use Names.{InvAck, Shape, home, lines, is_modified, modified_mask, written_lines, writes_at, reads_at, dirty_copy, holds, spilled_mask}
-use Names.{spilled_words, CoreState, Sends, nothing, to, flush_of, flush_line, write_back_line, skip_all, probe_all, abort_written}
-use Names.{marks_for, commit_sends, solo_sends, solo_marks_or_skip, solo_write_backs, solo_writes_at, is_written, written_mask, grant_sends}
-use Names.{Kind, among, passes, nats}
-use proofs.Counts.Links.{among-append, among-flat_map_none}
+use Names.{neither, ℕ, ◌≡◌, Bool, true, false, not, List, [], ◌∷◌, ◌++◌, ◌==◌, ◌&&◌, ◌||◌, Option, Some, None, nat_lt, if◌then◌else◌}
+use Names.{flat_map, arith, refl, those, count_below, Dir, Vendor, Tagged, Msg, TidReq, LoadReq, Skip, Probe, Mark, Commit, Abort}
+use Names.{WriteBack, Flush, InvAck, Shape, home, lines, is_modified, modified_mask, written_lines, writes_at, reads_at, dirty_copy, holds}
+use Names.{spilled_mask, spilled_words, CoreState, Sends, nothing, to, flush_of, flush_line, write_back_line, skip_all, probe_all}
+use Names.{abort_written, marks_for, commit_sends, solo_sends, solo_marks_or_skip, solo_write_backs, solo_writes_at, is_written}
+use Names.{written_mask, grant_sends, Kind, among, passes, nats}
+use proofs.Counts.{among-append, among-flat_map_none}
 
 -- what a core sends with one event
 pub data Said : Type 0 where
@@ -75,7 +74,7 @@ marks-quiet : (k : Kind) (f : ℕ → ℕ) (t : ℕ) (ls : List ℕ) → ((x : P
     → among k (flat_map (λ l. Mark l (f l) t ∷ []) ls) ≡ 0
 unfolding among
 marks-quiet k f t ls h = among-flat_map_none k (λ l. Mark l (f l) t ∷ [])
-    (λ l. rw (h (record { line = l; mask = f l; words = []; tag = t; count = 0 })) refl) ls
+    (λ l. rw (h (record { line = l; mask = f l; words = []; tag = t; count = 0 }))) ls
 
 -- nothing of the kind is among what is said
 pub quiet : (sh : Shape) (s : CoreState) (k : Kind) (q : Said) → Unheard k q → (d : ℕ) → among k (say sh s q (Dir d)) ≡ 0
@@ -84,13 +83,13 @@ unfolding flush_line write_back_line commit_sends solo_sends solo_marks_or_skip 
 quiet sh s k (Flushes l) h d = go (d == home sh l) (dirty_copy s.cache l)
   where
     go : (b : Bool) (t : Option Tagged) → among k (if b then flush_of t else []) ≡ 0
-    go true (Some t) = rw (h (record { line = t.line; mask = t.mask; words = t.words; tag = t.tag; count = 0 })) refl
+    go true (Some t) = rw (h (record { line = t.line; mask = t.mask; words = t.words; tag = t.tag; count = 0 }))
     go true None = refl
     go false t = refl
 quiet sh s k (Empties l) h d = go (d == home sh l) (dirty_copy s.cache l)
   where
     go : (b : Bool) (t : Option Tagged) → among k (if b then write_back_of t else []) ≡ 0
-    go true (Some t) = rw (h (record { line = t.line; mask = t.mask; words = t.words; tag = t.tag; count = 0 })) refl
+    go true (Some t) = rw (h (record { line = t.line; mask = t.mask; words = t.words; tag = t.tag; count = 0 }))
     go true None = refl
     go false t = refl
 quiet sh s k (Requests l) h d =
@@ -125,8 +124,8 @@ quiet sh s k (Tells_alone t) h d = go (nat_lt d sh.dirs) (solo_writes_at sh s.ca
 
     back : among k backs ≡ 0
     back = among-flat_map_none k (λ l. WriteBack l (spilled_mask s.spilled l) (spilled_words s.spilled l) t ∷ [])
-        (λ l. rw (each (record { line = l; mask = spilled_mask s.spilled l; words = spilled_words s.spilled l; tag = t; count = 0 })).1.1
-        refl) (those (λ l. d == home sh l && holds s.spilled l) (lines sh))
+        (λ l. rw (each (record { line = l; mask = spilled_mask s.spilled l; words = spilled_words s.spilled l; tag = t; count = 0 })).1.1)
+        (those (λ l. d == home sh l && holds s.spilled l) (lines sh))
 
     mark : among k marks ≡ 0
     mark = marks-quiet k (written_mask s.cache s.spilled) t _ (λ x. (each x).0.0)

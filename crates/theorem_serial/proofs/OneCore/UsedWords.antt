@@ -92,9 +92,9 @@ apart-stored base here there a ram addr size value ap e = record {
 
     after : (w : ℕ) (b : Bool) → (word_of base addr == w) ≡ b → (stores_word base a.stores w || (b || false)) ≡ true
         → stored base ram addr size value w ≡ stored base a.ram addr size value w
-    after w true q h = stored-put base ram addr size value w ∙ rw (q, e) (sym (stored-put base a.ram addr size value w ∙ rw q refl))
+    after w true q h = stored-put base ram addr size value w ∙ rw (q, e) (sym (stored-put base a.ram addr size value w ∙ rw q))
     after w false q h = stored-put base ram addr size value w
-        ∙ rw q (ap.stored w (old w (stores_word base a.stores w) h) ∙ sym (stored-put base a.ram addr size value w ∙ rw q refl))
+        ∙ rw q (ap.stored w (old w (stores_word base a.stores w) h) ∙ sym (stored-put base a.ram addr size value w ∙ rw q))
 
     kept : (x b : Bool) → (x || (b || false)) ≡ false → (x ≡ false) × (b ≡ false)
     kept true b h = absurd (cc)
@@ -117,7 +117,7 @@ same_from ram ap e = record { ram = ram; same = e; stored = ap.stored; kept_here
 same_loaded : (base : ℕ) (ram other : ℕ → ℕ) (addr : ℕ) (size : Size) → ram (word_of base addr) ≡ other (word_of base addr)
     → loaded base ram addr size ≡ loaded base other addr size
 unfolding loaded
-same_loaded base ram other addr size e = rw e refl
+same_loaded base ram other addr size e = rw e
 
 same_step : {base : ℕ} (p : Program) {here there : ℕ → ℕ} {a : Attempt} (ram : ℕ → ℕ) (need : Need) → Apart base here there a ram
     → IsMemory here → IsMemory there → AlignedNeed need → ((w : ℕ) → reads_word base need w ≡ true → ram w ≡ a.ram w)
@@ -126,16 +126,16 @@ same_step p ram Nothing ap mh mt al reads = same_from ram
     (record { stored = ap.stored; kept_here = ap.kept_here; kept_there = ap.kept_there }) refl
 same_step {base} p {a} ram (Loads addr size) ap mh mt al reads = same_from ram
     (record { stored = ap.stored; kept_here = ap.kept_here; kept_there = ap.kept_there })
-    (rw (same_loaded base ram a.ram addr size (reads (word_of base addr) (grind nats))) refl)
+    (rw (same_loaded base ram a.ram addr size (reads (word_of base addr) (grind nats))))
 same_step {base} p {here} {there} {a} ram (Stores addr size value) ap mh mt al reads =
     let q = apart-stored base here there a ram addr size value ap (same_patched base here there a ram addr size value ap mh mt al reads) in
     same_from (stored base ram addr size value) (record { stored = q.stored; kept_here = q.kept_here; kept_there = q.kept_there }) refl
 same_step {base} p {here} {there} {a} ram (Changes addr changed) ap mh mt al reads =
     let e : ram (word_of base addr) ≡ a.ram (word_of base addr) = reads (word_of base addr) (grind nats) in
     let v : loaded base ram addr Word ≡ loaded base a.ram addr Word = same_loaded base ram a.ram addr Word e in
-    let q = apart-stored base here there a ram addr Word (changed (loaded base a.ram addr Word)) ap (rw e refl) in
+    let q = apart-stored base here there a ram addr Word (changed (loaded base a.ram addr Word)) ap (rw e) in
     same_from (stored base ram addr Word (changed (loaded base a.ram addr Word)))
-    (record { stored = q.stored; kept_here = q.kept_here; kept_there = q.kept_there }) (rw v refl)
+    (record { stored = q.stored; kept_here = q.kept_here; kept_there = q.kept_there }) (rw v)
 same_step p ram Ends ap mh mt al reads = same_from ram
     (record { stored = ap.stored; kept_here = ap.kept_here; kept_there = ap.kept_there }) refl
 same_step p ram x ap mh mt al reads = same_from ram
@@ -162,7 +162,7 @@ SameOrNone base here there one other = MatchOption one (other ≡ None) (λ a. S
 then_same : (base : ℕ) (p : Program) (here there : ℕ → ℕ) (one other : Option Attempt) → Aligned p → IsMemory here → IsMemory there
     → SameOrNone base here there one other → ((w : ℕ) → uses_next base p one w ≡ true → here w ≡ there w)
     → SameOrNone base here there (then_step base p one) (then_step base p other)
-then_same base p here there None other al mh mt f agree = rw f refl
+then_same base p here there None other al mh mt f agree = rw f
 then_same base p here there (Some a) other al mh mt f agree = same_then p a al mh mt f agree
 
 pub steps_same : (base : ℕ) (p : Program) (n : ℕ) (l : Local) (here there : ℕ → ℕ) → Aligned p → IsMemory here → IsMemory there
@@ -174,7 +174,7 @@ steps_same base p zero l here there al mh mt agree =
     record { ram = there; same = refl; stored = λ w e. absurd (cc); kept_here = λ w e. refl; kept_there = λ w e. refl }
 steps_same base p (suc n) l here there al mh mt agree =
     then_same base p here there (steps base p n (begun l here)) (steps base p n (begun l there)) al mh mt
-    (steps_same base p n l here there al mh mt (λ w u. agree w (rw u refl)))
+    (steps_same base p n l here there al mh mt (λ w u. agree w (rw u)))
     (λ w u. agree w (rw u ((elim (uses base p n (begun l here) w) as (λ b. (b || true) ≡ true) [ true ↦ refl | false ↦ refl ]))))
 
 -- Instructions whose accesses are aligned leave words of 32 bits, and each word that they use is named by their loads or stores.

@@ -1,13 +1,12 @@
 -- What each change of a cache or of the overflow buffer does to the words of an attempt.
-use Rattle.base_lemmas.proofs.Lemmas.{held_valued, or-left}
 use Rattle.theorem_serial.proofs
 use proofs.Names
-use Names.{ℕ, ◌+◌, ◌*◌, ◌%◌, ◌≡◌, Bool, true, false, not, ◌&&◌, ◌||◌, ◌==◌, List, [], ◌∷◌, ◌++◌, Option, Some, None, is_some, unwrap_or}
-use Names.{if◌then◌else◌, arith, refl, sym, ap, ◌∙◌, put, Stored, word_of, line_of, any_word, any_below, Shape, set_of, Cache, IsCache}
-use Names.{free_way, is_marked, marked, stored, placed, placed_at, filled, invalidated, cleaned, evicted, evicted_line, rolled_back}
-use Names.{read_cleared, committed, Spilled, spill_line, holds, any_below-at, marked-keeps, stored-keeps, placed-keeps, filled-keeps}
-use Names.{invalidated-keeps, cleaned-keeps, evicted-keeps, rolled_back-keeps, read_cleared-keeps, committed-keeps, stores_word, Words, hit}
-use Names.{nats}
+use Names.{held_valued, or-left, ℕ, ◌+◌, ◌*◌, ◌%◌, ◌≡◌, Bool, true, false, not, ◌&&◌, ◌||◌, ◌==◌, List, [], ◌∷◌, ◌++◌, Option, Some, None}
+use Names.{is_some, unwrap_or, if◌then◌else◌, arith, refl, sym, ap, ◌∙◌, put, Stored, word_of, line_of, any_word, any_below, Shape, set_of}
+use Names.{Cache, IsCache, free_way, is_marked, marked, stored, placed, placed_at, filled, invalidated, cleaned, evicted, evicted_line}
+use Names.{rolled_back, read_cleared, committed, Spilled, spill_line, holds, any_below-at, marked-keeps, stored-keeps, placed-keeps}
+use Names.{filled-keeps, invalidated-keeps, cleaned-keeps, evicted-keeps, rolled_back-keeps, read_cleared-keeps, committed-keeps}
+use Names.{stores_word, Words, hit, nats}
 use proofs.OneCore.UsedWords.{stores_word-append}
 use proofs.OneCore.CoreSteps.{unmarked-word}
 
@@ -82,7 +81,7 @@ words-stored {sh} {solo} {c} w x also {sp} {ss} s h u a e k = record {
 }
   where
     unread : solo ≡ true → (v : ℕ) (b : Bool) → (if b then also || c.read v else c.read v) ≡ false
-    unread q v true = rw (a q, k.unread_alone q v) refl
+    unread q v true = rw (a q, k.unread_alone q v)
     unread q v false = k.unread_alone q v
 
     named : (v : ℕ) (b : Bool) → (v == w) ≡ b
@@ -100,7 +99,7 @@ pub words-buffered : {sh : Shape} {solo : Bool} {c : Cache} (w x : ℕ) {sp : Sp
     → Words sh solo c (put sp w (Some x)) (ss ++ s ∷ [])
 words-buffered {sh} {c} w x {sp} {ss} s v l q e k = record {
   cache = k.cache;
-  spilled_alone = λ a y. let n : sp v ≡ None = k.spilled_alone a v in let m : is_some (sp v) ≡ false = rw n refl in absurd (cc);
+  spilled_alone = λ a y. let n : sp v ≡ None = k.spilled_alone a v in let m : is_some (sp v) ≡ false = rw n in absurd (cc);
   unread_alone = k.unread_alone;
   named = λ y. named y (y == w) refl ∙ sym (names-more sh.base ss s w y e);
   clean = λ u y m p. clean u y m (u == w) refl p;
@@ -116,7 +115,7 @@ words-buffered {sh} {c} w x {sp} {ss} s v l q e k = record {
     clean u y m false p r = k.clean u y m (rw p at r)
 
 or_other : {a : Bool} (b : Bool) → a ≡ false → (a || b) ≡ b
-or_other b e = rw e refl
+or_other b e = rw e
 
 -- a frame is emptied: what was modified in it is spilled
 evicted-fields : (c : Cache) (s y l v : ℕ) → c.at s y ≡ Some l → ((evicted s y c).read v ≡ (if l == line_of v then false else c.read v))
@@ -153,7 +152,7 @@ words-evicted {sh} {solo} {c} s y l {sp} {ss} e m k = record {
 
     clean : (v w : ℕ) → line_of v ≡ line_of w → is_some (if (l == line_of v) && c.modified v then Some (unwrap_or (c.value v) 0) else sp v)
         ≡ true → (b : Bool) → (l == line_of w) ≡ b → ((evicted s y c).modified w ≡ false) × ((evicted s y c).dirty w ≡ None)
-    clean v w q r true p = ((evicted-fields c s y l w e).1 ∙ rw p refl, (evicted-fields c s y l w e).2 ∙ rw p refl)
+    clean v w q r true p = ((evicted-fields c s y l w e).1 ∙ rw p, (evicted-fields c s y l w e).2 ∙ rw p)
     clean v w q r false p =
         let z : (l == line_of v) ≡ false = rw q p in
         let x = k.clean v w q (rw z at r) in
@@ -191,8 +190,8 @@ words-none solo sp i r m z = record {
   cache = i;
   spilled_alone = λ a w. z w;
   unread_alone = λ a w. r w;
-  named = λ w. rw (m w, z w) refl;
-  clean = λ v w e q. let n : is_some (sp v) ≡ false = rw (z v) refl in absurd (cc);
+  named = λ w. rw (m w, z w);
+  clean = λ v w e q. let n : is_some (sp v) ≡ false = rw (z v) in absurd (cc);
 }
 
 pub words-rolled : {sh : Shape} (solo : Bool) {c : Cache} (sp : Spilled) → IsCache sh c → ((w : ℕ) → sp w ≡ None)

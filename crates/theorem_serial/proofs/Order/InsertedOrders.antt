@@ -1,16 +1,15 @@
 -- A serial execution in two parts, and one more transaction between them.
 use Rattle.tcc_base.specs.declared.access.Commit.{Commit}
-use Rattle.base_lemmas.proofs.Lemmas.{neither, or-left}
 use Rattle.rules_program.proofs.Lemmas.{serial-append}
 use Rattle.rules_program.specs.Plain.{Halted, close}
 use Rattle.theorem_serial.proofs
 use proofs.Names
-use Names.{ℕ, ◌≡◌, ◌≢◌, Bool, true, false, ◌||◌, ◌==◌, List, [], ◌∷◌, Option, Some, None, MatchOption, IfSome, nat_lt, if◌then◌else◌, refl}
-use Names.{sym, subst, ◌∙◌, put, CoreEnd, Run, Halt, Trap, Local, Program, Attempt, Outcome, Goes, Ended, Trapped, steps, begun, Plain}
-use Names.{closed, end_of, close_if, if_runs, transaction, Order, commit_of, and_commit, after_order, serial, loads_word, stores_word, uses}
-use Names.{Aligned, IsMemory, SameAttempt, AgreeOnUsed, commits_store, commits_touch, orders_core, Again, ◌<◌, ◌++◌, ap, last_tid, IsBelow}
-use Names.{Inserted, CanInsert, nats}
-use proofs.OneCore.UsedWords.{steps_same, steps-memory, uses-named}
+use Names.{neither, or-left, ℕ, ◌≡◌, ◌≢◌, Bool, true, false, ◌||◌, ◌==◌, List, [], ◌∷◌, Option, Some, None, MatchOption, IfSome, nat_lt}
+use Names.{if◌then◌else◌, refl, sym, subst, ◌∙◌, put, CoreEnd, Run, Halt, Trap, Local, Program, Attempt, Outcome, Goes, Ended, Trapped}
+use Names.{steps, begun, Plain, closed, end_of, close_if, if_runs, transaction, Order, commit_of, and_commit, after_order, serial}
+use Names.{loads_word, stores_word, uses, Aligned, IsMemory, SameAttempt, AgreeOnUsed, commits_store, commits_touch, orders_core, Again}
+use Names.{◌<◌, ◌++◌, ap, last_tid, IsBelow, Inserted, CanInsert, nats}
+use proofs.OneCore.{steps_same, steps-memory, uses-named}
 
 -- The same orders from another machine that agrees on the cores and words that they touch.
 
@@ -30,10 +29,10 @@ pub record Twice (base : ℕ) (p : Program) (here there : Plain) (core : ℕ) (d
   pub kept_there : (w : ℕ) → stores_word base done.1.stores w ≡ false → plain.ram w ≡ there.ram w
 
 pub put-same : {A : Type 0} → (f : ℕ → A) (i : ℕ) (v : A) → put f i v i ≡ v
-put-same f i v = let e : (i == i) ≡ true = grind nats in rw e refl
+put-same f i v = let e : (i == i) ≡ true = grind nats in rw e
 
 pub put-other : {A : Type 0} → (f : ℕ → A) (i j : ℕ) (v : A) → j ≢ i → put f i v j ≡ f j
-put-other f i j v h = let e : (j == i) ≡ false = grind nats in rw e refl
+put-other f i j v h = let e : (j == i) ≡ false = grind nats in rw e
 
 -- both attempts are closed alike
 close_twice : (base : ℕ) (p : Program) (here there : Plain) (core : ℕ) (a : Attempt) (ended : CoreEnd) (ram : ℕ → ℕ)
@@ -153,9 +152,9 @@ again_then {base} o os {done} rest more t again cores words =
       same = refl;
       ran = λ c h. ran r c (orders_core os c) refl h;
       idle_here = λ c h. let k = neither (o.core == c) (orders_core os c) h in
-          r.idle_here c k.1 ∙ t.others_here c (λ e. differ c e k.0);
+          r.idle_here c k.1 ∙ t.others_here c (λ e. differ e k.0);
       idle_there = λ c h. let k = neither (o.core == c) (orders_core os c) h in
-          r.idle_there c k.1 ∙ t.others_there c (λ e. differ c e k.0);
+          r.idle_there c k.1 ∙ t.others_there c (λ e. differ e k.0);
       stored = λ w h. stored r w (commits_store base rest.1 w) refl h;
       kept_here = λ w h. let k = neither (stores_word base done.1.stores w) (commits_store base rest.1 w) h in
           r.kept_here w k.1 ∙ t.kept_here w k.0;
@@ -163,8 +162,8 @@ again_then {base} o os {done} rest more t again cores words =
           r.kept_there w k.1 ∙ t.kept_there w k.0;
     }))
   where
-    differ : (c : ℕ) → c ≡ o.core → (o.core == c) ≡ false → ⊥
-    differ c e q = grind nats
+    differ : {c : ℕ} → c ≡ o.core → (o.core == c) ≡ false → ⊥
+    differ e q = grind nats
 
     middle_cores : (c : ℕ) → orders_core os c ≡ true → (b : Bool) → (o.core == c) ≡ b → t.plain.cores c ≡ done.0.cores c
     middle_cores c h a q = grind nats
@@ -204,7 +203,7 @@ when_again base p o os here there false one other more t again = tt
 when_again base p o os here there true None other more t again = tt
 when_again base p o os here there true (Some done) other more t again = swap (and_commit (commit_of o done.1) (more done.0))
     (λ cores. rest_again base p o os here there done (more done.0) other more cores
-    (t (cores o.core (or-left (o.core == o.core) (orders_core os o.core) (grind nats)))) (λ k m mk. again done.0 k m mk))
+    (t (cores o.core (or-left (o.core == o.core) (orders_core os o.core) (grind nats)))) (again done.0))
   where
     swap : (x : Option (Plain × List Commit))
         → (((c : ℕ) → orders_core (o ∷ os) c ≡ true → there.cores c ≡ here.cores c)
@@ -232,13 +231,13 @@ serial_again base p last [] here there al mh mt = λ cores words. record {
 serial_again base p last (o ∷ os) here there al mh mt =
     when_again base p o os here there (nat_lt last o.tid) (transaction base p here o.core o.n) (transaction base p there o.core o.n)
     (serial base p o.tid os)
-    (λ e. transaction_twice base p here there o.core o.n al mh mt e) (λ k m mk mm. serial_again base p o.tid os k m al mk mm)
+    (transaction_twice base p here there o.core o.n al mh mt) (λ k m mk mm. serial_again base p o.tid os k m al mk mm)
 
 pub orders_joined : (base : ℕ) (p : Program) (last : ℕ) (early late : List Order) (o : Order) (m start done end : Plain) (a : Attempt)
     (before after : List Commit) → CanInsert base p last early late o m start done end a before after
     → serial base p last (early ++ late) m ≡ Some (end, before ++ after)
 orders_joined base p last early late o m start done end a before after c = serial-append base p last early late m
-    ∙ rw (c.first, c.then_late) refl
+    ∙ rw (c.first, c.then_late)
 
 -- what a transaction leaves alone
 transaction_once : (base : ℕ) (p : Program) (m : Plain) (core n : ℕ) → Aligned p → IsMemory m.ram

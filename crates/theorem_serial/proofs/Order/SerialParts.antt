@@ -10,8 +10,8 @@ use Names.{store_of, begun, steps, then_step, when_going, plain_step, transactio
 use Names.{after_order, serial, Local, Program, Need, Stores, Changes, word_of, patched, loaded, after_stores, ◌⊎◌, inl, inr, line_of, Msg}
 use Names.{Shape, home, DirState, World, Uses, Agrees, InvBelow, InvsNot, live, passes, pair, is_applied, counts, after_commits, value_at}
 use Names.{IsDoomed, EachUse, nats, home_of, tid_at}
-use proofs.Counts.Links.{live-fewer}
-use proofs.OneCore.UsedWords.{stored-put}
+use proofs.Counts.{live-fewer}
+use proofs.OneCore.{stored-put}
 
 -- The commits cut at a TID: those before it and those behind it, and a commit of this TID between them.
 unfoldable pub before : (tid : ℕ) → List Noted → List Noted
@@ -157,10 +157,10 @@ serial-cut base p last (n ∷ early) late m end h = go (nat_lt last n.tid.0) ref
         let j : r.1 ≡ early ++ late = cc in
         (cc, e ∙ ap₂ (λ x y. Some (x, y)) i j)
 
-    made : (b : Bool) → nat_lt last n.tid.0 ≡ b → (d : Plain × Attempt) → transaction base p m n.core.0 n.n ≡ Some d
+    made : {b : Bool} → nat_lt last n.tid.0 ≡ b → {d : Plain × Attempt} → transaction base p m n.core.0 n.n ≡ Some d
         → (commit_of (order_of_commit n) d.1 ≡ n) → b ≡ true → SerialCut base p n.tid.0 early late d.0 end
         → SerialCut base p last (n ∷ early) late m end
-    made b q d e f t c = record { start = c.start; first = rw (q, t, e, c.first, f) refl; then_late = c.then_late }
+    made q e f t c = record { start = c.start; first = rw (q, t, e, c.first, f); then_late = c.then_late }
 
     go : (b : Bool) → nat_lt last n.tid.0 ≡ b → (x : Option (Plain × Attempt)) → transaction base p m n.core.0 n.n ≡ x
         → (if b then after_order (serial base p n.tid.0 os) (order_of_commit n) x else None) ≡ Some (end, n ∷ early ++ late)
@@ -169,7 +169,7 @@ serial-cut base p last (n ∷ early) late m end h = go (nat_lt last n.tid.0) ref
     go false q x e g f = absurd (cc)
     go true q None e g f = absurd (cc)
     go true q (Some d) e g f = let r = found d.0 (commit_of (order_of_commit n) d.1) (serial base p n.tid.0 os d.0) refl g in
-        made true q d e r.0 refl (f d.0 r.1)
+        made q e r.0 refl (f d.0 r.1)
 
 -- what it makes of a word
 after_stores-last : (base : ℕ) (ss : List Stored) (s : Stored) (x y : ℕ)
@@ -283,7 +283,7 @@ counts-before s c t n l h = grind nats
 
 counts-behind : (s : DirState) (c : Option ℕ) (t : ℕ) (n : Noted) → t < n.tid.0 → counts s c (Some t) n ≡ false
 unfolding counts
-counts-behind s c t n h = let e : nat_lt n.tid.0 t ≡ false = grind nats in rw e refl
+counts-behind s c t n h = let e : nat_lt n.tid.0 t ≡ false = grind nats in rw e
 
 -- a word at a home that has reached the TID
 pub value-before : (base : ℕ) (ram : ℕ → ℕ) (cs : List Noted) (s : DirState) (c : Option ℕ) (t x : ℕ) → IsRising 0 cs → times t cs ≡ 0

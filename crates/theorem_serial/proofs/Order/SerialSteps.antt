@@ -12,14 +12,14 @@ use Names.{Untold, IfSome, Vendor, TidReq, Answer, false, subst, Noted, Plain, O
 use Names.{arith, Loads, Shape, Phase, Ready, World, Suits, Grant, grant, Waits, Drops, Takes, true, List, ◌++◌, Some, None, refl, Halt}
 use Names.{Trap, Goes, Bool, ◌==◌, ◌||◌, Need, home, Solo, Uses, Fits, pair, Ways, Core, Asks, step, ◌≡◌, ◌≤◌, ◌≢◌, ◌∷◌, map, sym, ◌∙◌, Run}
 use Names.{◌<◌, ◌⊎◌, inl, inr, num, Out, Dir, Msg, ap, [], ℕ, nats, home_of, tid_at, FromCore, FromDir, IfSome_then, grant_to}
-use proofs.Counts.StepCases.{given, OfAnswer, step_cases}
+use proofs.Counts.{given, OfAnswer, step_cases}
 use proofs.Memory.CoreInMemory.{accesses_at_homes, marks_at_homes}
-use proofs.OneCore.CoreCloses.{Gives, Closing, Leaves, Stays, Closes, exec-leaves, CheckpointStays, evict-stays, grant-stays, back-stays}
+use proofs.OneCore.{Gives, Closing, Leaves, Stays, Closes, exec-leaves, CheckpointStays, evict-stays, grant-stays, back-stays}
 use proofs.Order.InsertedOrders.{order_inserted, put-same, serial_again, serial-memory}
 use proofs.Order.SerialParts.{before, behind, cut-inserted, behind-below, before-smaller, last-below, SerialCut, home-below, agrees-before}
 use proofs.Order.SerialParts.{cut-joined, Each, each-listed, each-behind, each-both, each-then, behind-larger, orders-another, touch-none}
 use proofs.Order.SerialParts.{serial-cut, serial-holds, all_stores}
-use proofs.Tids.Commits.{numbered-least, granted-at}
+use proofs.Tids.{numbered-least, granted-at}
 
 -- The transaction of a core that commits, inserted into the serial execution at its TID.
 
@@ -49,12 +49,12 @@ transaction-closed : (base : ℕ) (p : Program) (m : Plain) (core n : ℕ) (l : 
     → (m.cores core).ended ≡ Run → steps base p n (begun l m.ram) ≡ Some a → end_of a.outcome ≡ Some e
     → transaction base p m core n ≡ Some (closed m core a e, a)
 unfolding transaction
-transaction-closed base p m core n l e k run s o = rw (run, k, s, o) refl
+transaction-closed base p m core n l e k run s o = rw (run, k, s, o)
 
 -- the commit that is noted
 noted-commit : (t c : ℕ) {r : CoreState} {a : Attempt} → Gives r a → commit_of (record { tid = t; core = c; n = r.n }) a ≡ noted t c r
 unfolding commit_of noted
-noted-commit t c g = rw (g.loads, g.stores, g.console) refl
+noted-commit t c g = rw (g.loads, g.stores, g.console)
 
 -- a core that no later order names stands as before them
 idle-core : (base : ℕ) (p : Program) (last : ℕ) (os : List Order) (m end : Plain) (cs : List Noted) (c : ℕ) → Aligned p → IsMemory m.ram
@@ -253,7 +253,7 @@ uses-reached sh h ys c t g (u ∷ us) s a = (s.reached u.0 (λ q. (a q).0.marked
 pub view-stands : (t : ℕ) (s : CoreState) (us : Uses) → May t s.phase → UsesStand s.cache us s.phase → is_solo s.phase ≡ false
     → AllStand true s.cache us
 view-stands t s us (inl e) h q = subst (UsesStand s.cache us) e h
-view-stands t s us (inr e) h q = absurd (let z : is_solo s.phase ≡ true = rw e refl in cc)
+view-stands t s us (inr e) h q = absurd (let z : is_solo s.phase ≡ true = rw e in cc)
 
 -- a later commit is of another core, and touches no word that this one stores
 later-apart : {sh : Shape} {p : Program} {entries : ℕ → Local} {ram : ℕ → ℕ} {gs : List Grant} {ys : Ways} {views : ℕ
@@ -268,14 +268,14 @@ later-apart {sh} {ys} t x n u k s e i l = go (loads_word sh.base n.loads x) (sto
     given : worked_at sh n (home_of sh x) ≡ true → ⊥
     given w = let g : is_given_up (ys (home_of sh x) t) ≡ true = k.carried.smaller_tid_is_given_up_where_a_larger_one_worked.0 n
         (home_of sh x) t i (home-below sh x u.dirs) w s.positive l s.fresh in
-        let f : is_given_up (ys (home_of sh x) t) ≡ false = rw (s.untold x e) refl in cc
+        let f : is_given_up (ys (home_of sh x) t) ≡ false = rw (s.untold x e) in cc
 
     either : (a b : Bool) → b ≡ true → (a || b) ≡ true
     either true b e = refl
     either false b e = e
 
     go : (a b : Bool) → loads_word sh.base n.loads x ≡ a → stores_word sh.base n.stores x ≡ b → (a || b) ≡ false
-    go true b f g = absurd (given (rw (at.loaded x f) refl))
+    go true b f g = absurd (given (rw (at.loaded x f)))
     go false true f g = absurd (given (either _ _ (at.stored x g)))
     go false false f g = refl
 
@@ -303,7 +303,7 @@ closed-core {sh} p {entries} {ram} {ys} {views} m h c t r u k l f = closed-seria
 
     agrees : Agrees (views c) cut.start.ram
     agrees = agrees-before sh ram cut.start.ram h.world h.commits c t (views c) u.dirs k.carried.commits_are_of_granted_tids.0 s.fresh words
-        (λ d. k.carried.owed_counts_invs_and_acks.served c d) (uses-reached sh h ys c t true (views c) s
+        (k.carried.owed_counts_invs_and_acks.served c) (uses-reached sh h ys c t true (views c) s
         (view-stands t (h.world.cores c) (views c) s.may (k.carried_views.read_marks_are_the_view c).stand))
         (λ d i. k.viewed_word_is_current_or_doomed c d (Some t) l i (may-bound h.world c d t s.may))
 
@@ -394,9 +394,9 @@ events_serial sh p entries ram gs ys views m h e u k =
               cores = λ j y. closed-cores h.world c j o g f (k.committed_cores_are_serial j y);
             }
 
-    rested : (c : ℕ) (o : Out) (w : World) → w.cores ≡ (λ j. if j == c then o.core else h.world.cores j)
+    rested : (c : ℕ) {o : Out} (w : World) → w.cores ≡ (λ j. if j == c then o.core else h.world.cores j)
         → CheckpointStays (h.world.cores c) o → After sh p entries ram h (record { world = w; noted = o.commit })
-    rested c o w q r = kept-serial h m (record { world = w; noted = o.commit }) r.commit k.commits_are_serial
+    rested c {o} w q r = kept-serial h m (record { world = w; noted = o.commit }) r.commit k.commits_are_serial
         (λ j y. subst (λ f. CoreSerial (f j) (m.cores j)) (sym q) (rested-core sh h.world c j o m r (k.committed_cores_are_serial j y)))
 
     same : (w : World) → w.cores ≡ h.world.cores → After sh p entries ram h (record { world = w; noted = None })
@@ -411,13 +411,12 @@ events_serial sh p entries ram gs ys views m h e u k =
         go : (a : Option Out) → IfSome a (CheckpointStays (h.world.cores c))
             → IfSome a (λ o. After sh p entries ram h (record { world = core_moves h.world c o; noted = o.commit }))
         go None q = tt
-        go (Some o) q = rested c o (core_moves h.world c o) refl q
+        go (Some o) q = rested c (core_moves h.world c o) refl q
 
     grants : (c n t : ℕ) → in_flight h.world.net Vendor (Core c) n ≡ Some (TidGrant t)
         → After sh p entries ram h
         (record { world = core_takes h.world Vendor c n (grant sh t (h.world.cores c)); noted = (grant sh t (h.world.cores c)).commit })
-    grants c n t i = rested c (grant sh t (h.world.cores c)) (core_takes h.world Vendor c n (grant sh t (h.world.cores c))) refl
-        (grant-stays sh t (h.world.cores c))
+    grants c n t i = rested c (core_takes h.world Vendor c n (grant sh t (h.world.cores c))) refl (grant-stays sh t (h.world.cores c))
 
     backs : (c d n : ℕ) (a : Msg) → FromDir h.world d c n a
         → IfSome (from_dir sh d (h.world.cores c) a)
@@ -427,7 +426,7 @@ events_serial sh p entries ram gs ys views m h e u k =
         go : (x : Option Out) → IfSome x (CheckpointStays (h.world.cores c))
             → IfSome x (λ o. After sh p entries ram h (record { world = core_takes h.world (Dir d) c n o; noted = o.commit }))
         go None q = tt
-        go (Some o) q = rested c o (core_takes h.world (Dir d) c n o) refl q
+        go (Some o) q = rested c (core_takes h.world (Dir d) c n o) refl q
 
     answers : (c d n : ℕ) (a : Msg) → FromCore h.world c d n a
         → OfAnswer h.world c d n (λ v. After sh p entries ram h (record { world = v; noted = None })) (dir_deliver sh (h.world.dirs d) c a)

@@ -7,8 +7,8 @@ use Names.{History, next_history, and_then, run_from, Views, views_after, views_
 use Names.{ways_from, ℕ, flat_map, inl, serial, Local, is_skipped, first_serving, empty_cache, no_lines, Copy, seen, home_copy, copies}
 use Names.{copies_of, copies_on, newest, numbers, core_start, dir_start, vendor_start, start, ReadFits, CoresSerial, SeenSerial}
 use Names.{plain_start, live, Carried, StartHasAll, first_state, marks_of, pair, first_ways, run, HomeWords, CopiesAbove, UnmodifiedWords}
-use Names.{FilledWords, CopiesHave, value_at, after_commits, start-follows, IfSome, Plain, no_views, Suits, AllHold, IsSerialExecution}
-use Names.{RunsAreSerial, CarriedInMemory, CarriedViews, Invariants, Grant, IsSerial, ViewedWords, HaltedUsesNone, IfSome_then}
+use Names.{FilledWords, CopiesHave, value_at, after_commits, start-follows, IfSome, Plain, no_views, Suits, AllHold, RunsAreSerial}
+use Names.{CarriedInMemory, CarriedViews, Invariants, Grant, IsSerial, ViewedWords, HaltedUsesNone, IfSome_then}
 use proofs.Memory.InMemoryKept.{start-memory}
 use proofs.Order.SerialSteps.{events_serial}
 use proofs.Run.FactsOfRuns.{runs_carry, carried-memory, runs_stay_in_memory, runs_carry_views}
@@ -30,10 +30,10 @@ only-one : (sh : Shape) (p : Program) (e : Event) (ys : Ways) (vs : Views) (firs
     → OneMore sh p [] e ys vs first first g
 unfolding run_from grants_from ways_from views_from
 only-one sh p e ys vs first g n = record {
-  state = rw n refl;
+  state = rw n;
   grants = rw n (append-nil (granted_by first.world e));
-  ways = rw n refl;
-  views = rw n refl;
+  ways = rw n;
+  views = rw n;
 }
 
 abbrev or_else : History → Option History → History
@@ -105,7 +105,7 @@ no-copies sh entries ram x c = refl
 
 flat_map-none : (f : ℕ → List Copy) → ((c : ℕ) → f c ≡ []) → (cs : List ℕ) → flat_map f cs ≡ []
 flat_map-none f h [] = refl
-flat_map-none f h (c ∷ cs) = rw (h c, flat_map-none f h cs) refl
+flat_map-none f h (c ∷ cs) = rw (h c, flat_map-none f h cs)
 
 seen-alone : (sh : Shape) (entries : ℕ → Local) (ram : ℕ → ℕ) (x : ℕ) → (newest (home_copy sh (start entries ram) x) []).value ≡ ram x
 unfolding newest home_copy start dir_start
@@ -228,7 +228,7 @@ step-all {sh} p {entries} {ram} o h e s a = go (next_history sh p h e) (homes_ke
 memo-more : {sh : Shape} {p : Program} (entries : ℕ → Local) (ram : ℕ → ℕ) {es : List Event} {e : Event} {h g : History}
     → OneMore sh p es e first_ways no_views (first_state entries ram) h g
     → memo sh p entries ram (es ++ e ∷ []) ≡ memo_after sh p h e (memo sh p entries ram es)
-memo-more entries ram k = rw (k.grants, k.ways, k.views) refl
+memo-more entries ram k = rw (k.grants, k.ways, k.views)
 
 -- the events es behind the events past
 from-there : (sh : Shape) (p : Program) (entries : ℕ → Local) (ram : ℕ → ℕ) (past es : List Event) (h : History) → Suits sh p ram

@@ -8,30 +8,154 @@ use proofs.Names
 use Names.{ℕ, ◌≡◌, ◌<◌, ◌≤◌, ◌==◌, ◌&&◌, ◌||◌, Bool, true, false, Option, Some, None, IfSome, nat_lt, arith, refl, num, Shape, writes_at}
 use Names.{reads_at, World, start, Phase, Probing, Ready, Overflowing, Solo, History, run, pair, share, opens, part, handled, ResolvedAt}
 use Names.{Kept, Always, OneWay, OneRequest, Passed, NeverPasses, OwedInFlight, Served, tid_of, asks_dir, KeptOwed, nats, tid_at}
-use Names.{IfSome_then, List, [], ◌∷◌, if◌then◌else◌, Noted, Program, Event, TidGrant, CoreState, Out, core_exec, core_evict, from_dir}
-use Names.{grant, Answer, Waits, Drops, Asks, Takes, dir_deliver, Stepped, step, insert_commit, and_noted, recorded, next_history, and_then}
-use Names.{run_from, first_state, SparesItsCommitter, SparesCommitter, KeptCommitting, MarksAreStored, append_assoc, KeptCounted}
-use Names.{then_grants, grants_from, LastGranted, append-nil, core_start, KeptStored, granted_by, KeptOwners, KeptWhole, KeptNamed}
-use Names.{KeptMarks, KeptMasks, KeptCores, HoldsLast, KeptTold, has_tid, KeptAll, Local, Grant, ◌++◌, live, sym}
-use proofs.Counts.Links.{total-le}
-use proofs.Serving.KeptSteps.{run-kept, core_of_grant, core_of_back, step-kept, start-all}
-use proofs.Tids.CoreTids.{KeepsHolder, holder-exec, holder-evict, holder-grant, holder-back}
-use proofs.Counts.StepCases.{OfAnswer, step_cases}
+use Names.{IfSome_then, List, [], ◌∷◌, if◌then◌else◌, Noted, Program, Event, CoreState, Out, core_exec, core_evict, from_dir, grant, Answer}
+use Names.{Waits, Drops, Asks, Takes, dir_deliver, Stepped, step, insert_commit, and_noted, recorded, next_history, and_then, run_from}
+use Names.{first_state, SparesItsCommitter, SparesCommitter, KeptCommitting, MarksAreStored, append_assoc, KeptCounted, then_grants}
+use Names.{grants_from, LastGranted, append-nil, core_start, KeptStored, granted_by, KeptOwners, KeptWhole, KeptNamed, KeptMarks, KeptMasks}
+use Names.{KeptCores, HoldsLast, KeptTold, has_tid, KeptAll, Local, Grant, ◌++◌, live, sym, CommitsAreServed}
+use proofs.Counts.{total-le, OfAnswer, step_cases}
+use proofs.Serving.{core_of_grant, core_of_back, step-kept, start-all, step-committing, start-committing, step-spared, commits_served}
+use proofs.Serving.{step-owners, start-owners, step-last, step-probing}
+use proofs.Tids.{KeepsHolder, holder-exec, holder-evict, holder-grant, holder-back}
 use proofs.Lines.LineOwners.{step-asked, start-asked, step-whole, start-whole}
 use proofs.Marks.CountsKept.{step-counted, start-counted}
 use proofs.Marks.MarksKept.{step-marks, start-marks}
 use proofs.Marks.ModifiedMasksKept.{step-masks, start-masks}
 use proofs.Marks.NamedKept.{step-named, start-named}
 use proofs.Marks.StoredKept.{step-stored, start-stored}
-use proofs.OneCore.OneCoreKept.{step-cores, start-cores}
-use proofs.Serving.CommitSteps.{step-committing, start-committing, step-spared}
-use proofs.Serving.OwnerSteps.{step-owners, start-owners, step-last}
-use proofs.Serving.ProbingSteps.{step-probing}
+use proofs.OneCore.{step-cores, start-cores}
+
+-- All invariants together, through every event and along every run.
+
+start-probing : (entries : ℕ → Local) (ram : ℕ → ℕ) → KeptProbing (start entries ram)
+unfolding start core_start pair live has_tid
+start-probing entries ram c d t = record { fresh = λ l. refl; held = λ k. absurd (cc) }
+
+start-spared : (sh : Shape) (entries : ℕ → Local) (ram : ℕ → ℕ) → SparesCommitter sh [] (start entries ram)
+unfolding start pair live
+start-spared sh entries ram c d = record { owner = λ t l. absurd (omega arith); own = λ l g. refl }
+
+pub step-all : {sh : Shape} (p : Program) {gs : List Grant} {h : History} (e : Event) → KeptAll sh gs h
+    → IfSome (recorded h (step sh p h.world e)) (λ g. KeptAll sh (gs ++ granted_by h.world e) g)
+step-all {sh} p {gs} {h} e k = go (step sh p h.world e) (step-kept p e k.kept)
+    (step-owners p e k.kept.told.tids k.owners) (step-cores p h.world e k.cores) (step-committing p e k.kept k.committing)
+    (step-probing p e k.kept k.owners k.cores k.probing) (step-last p e k.kept.told.tids k.owners k.last)
+    (step-spared p e k.kept k.owners k.spared) (step-marks p e k.kept k.owners k.marks)
+    (step-counted p e k.kept k.owners k.cores k.marks k.counted) (step-whole sh p h.world e k.whole)
+    (step-named p e k.kept k.counted k.named) (step-asked sh p h.world e k.asked) (step-masks p e k.kept k.owners k.marks k.masks)
+    (step-stored p e k.kept k.owners k.cores k.marks k.counted k.masks k.stored)
+  where
+    go : (x : Option Stepped) → IfSome x (λ o. Kept sh o.world)
+        → IfSome x (λ o. KeptOwners sh (gs ++ granted_by h.world e) o.world (and_noted o.noted h.commits))
+        → IfSome x (λ o. KeptCores sh o.world) → IfSome x (λ o. KeptCommitting o.world) → IfSome x (λ o. KeptProbing o.world)
+        → IfSome x (λ o. LastGranted (gs ++ granted_by h.world e) o.world)
+        → IfSome x (λ o. KeptTold sh o.world → SparesCommitter sh (gs ++ granted_by h.world e) o.world)
+        → IfSome x (λ o. KeptTold sh o.world → KeptMarks sh (gs ++ granted_by h.world e) o.world)
+        → IfSome x (λ o. KeptTold sh o.world → KeptCounted sh o.world) → IfSome x (λ o. KeptWhole sh o.world)
+        → IfSome x (λ o. KeptTold sh o.world → KeptNamed sh o.world) → IfSome x (λ o. KeptAsked sh o.world)
+        → IfSome x (λ o. KeptMasks sh o.world) → IfSome x (λ o. KeptTold sh o.world → KeptStored sh (and_noted o.noted h.commits) o.world)
+        → IfSome (recorded h x) (λ g. KeptAll sh (gs ++ granted_by h.world e) g)
+    go None a b c d f l q m n r y z u v = tt
+    go (Some o) a b c d f l q m n r y z u v =
+        record {
+          kept = a;
+          owners = b;
+          cores = c;
+          committing = d;
+          probing = f;
+          last = l;
+          spared = q a.told;
+          marks = m a.told;
+          counted = n a.told;
+          whole = r;
+          named = y a.told;
+          asked = z;
+          masks = u;
+          stored = v a.told;
+        }
+
+run_from-all : (sh : Shape) (p : Program) (es : List Event) (gs : List Grant) (h : History) → KeptAll sh gs h
+    → IfSome (run_from sh p es h) (λ r. KeptAll sh (gs ++ grants_from sh p es h) r)
+unfolding run_from grants_from next_history
+run_from-all sh p [] gs h k = rw append-nil k
+run_from-all sh p (e ∷ es) gs h k = go (recorded h (step sh p h.world e)) (step-all p e k)
+    (run_from-all sh p es (gs ++ granted_by h.world e))
+  where
+    go : (x : Option History) → IfSome x (λ g. KeptAll sh (gs ++ granted_by h.world e) g)
+        → ((g : History) → KeptAll sh (gs ++ granted_by h.world e) g
+        → IfSome (run_from sh p es g) (λ r. KeptAll sh ((gs ++ granted_by h.world e) ++ grants_from sh p es g) r))
+        → IfSome (and_then (run_from sh p es) x) (λ r. KeptAll sh (gs ++ then_grants (granted_by h.world e) (grants_from sh p es) x) r)
+    go None a f = tt
+    go (Some g) a f = rw (sym (append_assoc gs (granted_by h.world e) (grants_from sh p es g))) (f g a)
+
+pub all-at-start : (sh : Shape) (entries : ℕ → Local) (ram : ℕ → ℕ) → KeptAll sh [] (first_state entries ram)
+all-at-start sh entries ram = record {
+  kept = start-all sh entries ram;
+  owners = start-owners sh entries ram;
+  cores = start-cores sh entries ram;
+  committing = start-committing entries ram;
+  probing = start-probing entries ram;
+  last = λ c d t u l q. absurd (omega (arith, q.1));
+  spared = start-spared sh entries ram;
+  marks = start-marks sh entries ram;
+  counted = start-counted entries ram;
+  whole = start-whole sh entries ram;
+  named = start-named sh entries ram;
+  asked = start-asked sh entries ram;
+  masks = start-masks sh entries ram;
+  stored = start-stored sh entries ram;
+}
+
+pub run-all : (sh : Shape) (p : Program) (entries : ℕ → Local) (ram : ℕ → ℕ) (es : List Event)
+    → IfSome (run sh p (start entries ram) es) (λ r. KeptAll sh (grants_from sh p es (first_state entries ram)) r)
+unfolding run
+run-all sh p entries ram es = run_from-all sh p es [] (first_state entries ram) (all-at-start sh entries ram)
+
+pub one_probe_from : (sh : Shape) (w : World) → KeptProbing w → OneProbe sh w
+unfolding pair
+one_probe_from sh w k c d t h = (k c d t).held h
+
+pub one_probe : Always OneProbe
+one_probe sh p entries ram es = IfSome_then (run sh p (start entries ram) es) (run-all sh p entries ram es)
+    (λ r h. one_probe_from sh r.world h.probing)
+
+pub last_granted : HoldsLast
+last_granted sh p entries ram es = IfSome_then (run sh p (start entries ram) es) (run-all sh p entries ram es) (λ r h. h.last)
+
+pub spares_committer : SparesItsCommitter
+spares_committer sh p entries ram es = IfSome_then (run sh p (start entries ram) es) (run-all sh p entries ram es) (λ r h. h.spared)
+
+pub marks_stored : MarksAreStored
+marks_stored sh p entries ram es = IfSome_then (run sh p (start entries ram) es) (run-all sh p entries ram es) (λ r h. h.marks)
+
+pub counts_marks : Always KeptCounted
+counts_marks sh p entries ram es = IfSome_then (run sh p (start entries ram) es) (run-all sh p entries ram es) (λ r h. h.counted)
+
+pub wholly_marked : Always KeptWhole
+wholly_marked sh p entries ram es = IfSome_then (run sh p (start entries ram) es) (run-all sh p entries ram es) (λ r h. h.whole)
+
+pub named_lines : Always KeptNamed
+named_lines sh p entries ram es = IfSome_then (run sh p (start entries ram) es) (run-all sh p entries ram es) (λ r h. h.named)
+
+pub asked_owned : Always KeptAsked
+asked_owned sh p entries ram es = IfSome_then (run sh p (start entries ram) es) (run-all sh p entries ram es) (λ r h. h.asked)
+
+pub one_core : Always KeptCores
+one_core sh p entries ram es = IfSome_then (run sh p (start entries ram) es) (run-all sh p entries ram es) (λ r h. h.cores)
+
+pub commits_are_served : Always CommitsAreServed
+commits_are_served sh p entries ram es = IfSome_then (run sh p (start entries ram) es) (run-all sh p entries ram es)
+    (λ r h. commits_served h.kept h.committing)
+
+pub run-owners : (sh : Shape) (p : Program) (entries : ℕ → Local) (ram : ℕ → ℕ) (es : List Event)
+    → IfSome (run sh p (start entries ram) es)
+    (λ r. KeptOwners sh (grants_from sh p es (record { world = start entries ram; commits = [] })) r.world r.commits)
+run-owners sh p entries ram es = IfSome_then (run sh p (start entries ram) es) (run-all sh p entries ram es) (λ r h. h.owners)
 
 -- The laws of every run, from the invariants.
 
 from_kept : (P : Shape → World → Type 0) → ((sh : Shape) (w : World) → Kept sh w → P sh w) → Always P
-from_kept P f sh p entries ram es = IfSome_then (run sh p (start entries ram) es) (run-kept sh p entries ram es) (λ r h. f sh r.world h)
+from_kept P f sh p entries ram es = IfSome_then (run sh p (start entries ram) es) (run-all sh p entries ram es) (λ r h. f sh r.world h.kept)
 
 pub one_way : Always OneWay
 one_way = from_kept OneWay (λ sh w k. k.told.tids.resolved)
@@ -93,7 +217,7 @@ unfolding handled share part pair
 serves sh w c d t k l x o r =
     let p = k.told.tids.resolved d t x in
     let q = total-le (share (part sh d t) w d) sh.cores c l in
-    let n : num (opens (w.cores c).phase (writes_at sh (w.cores c).cache d) t) ≡ 1 = rw o refl in
+    let n : num (opens (w.cores c).phase (writes_at sh (w.cores c).cache d) t) ≡ 1 = rw o in
     let a = opens-asks (w.cores c).phase (writes_at sh (w.cores c).cache d) (reads_at sh (w.cores c).cache d) t o in
     let low = (k.probes c d).core.reached x a.0 r in
     let z : num (nat_lt t (tid_at w d)) ≡ 0 = omega (arith, p, q, n) in
@@ -161,7 +285,7 @@ run_from-by : (sh : Shape) (p : Program) (es : List Event) (h : History) → Kep
     → IfSome (run_from sh p es h) (λ r. AreByCores sh r.commits)
 unfolding run_from next_history
 run_from-by sh p [] h k b = b
-run_from-by sh p (e ∷ es) h k b = go (step sh p h.world e) (step-kept p e k) (step-by p e k) (λ g q r. run_from-by sh p es g q r)
+run_from-by sh p (e ∷ es) h k b = go (step sh p h.world e) (step-kept p e k) (step-by p e k) (run_from-by sh p es)
   where
     go : (x : Option Stepped) → IfSome x (λ o. Kept sh o.world) → IfSome x (λ o. NotedByCore sh o.noted)
         → ((g : History) → Kept sh g.world → AreByCores sh g.commits → IfSome (run_from sh p es g) (λ r. AreByCores sh r.commits))
@@ -172,118 +296,3 @@ run_from-by sh p (e ∷ es) h k b = go (step sh p h.world e) (step-kept p e k) (
 pub commits_are_by_cores : CommitsAreByCores
 unfolding run AreBy
 commits_are_by_cores sh p entries ram es = run_from-by sh p es (first_state entries ram) (start-all sh entries ram) tt
-
--- All invariants together, through every event and along every run.
-
-start-probing : (entries : ℕ → Local) (ram : ℕ → ℕ) → KeptProbing (start entries ram)
-unfolding start core_start pair live has_tid
-start-probing entries ram c d t = record { fresh = λ l. refl; held = λ k. absurd (cc) }
-
-start-spared : (sh : Shape) (entries : ℕ → Local) (ram : ℕ → ℕ) → SparesCommitter sh [] (start entries ram)
-unfolding start pair live
-start-spared sh entries ram c d = record { owner = λ t l. absurd (omega arith); own = λ l g. refl }
-
-pub step-all : {sh : Shape} (p : Program) {gs : List Grant} {h : History} (e : Event) → KeptAll sh gs h
-    → IfSome (recorded h (step sh p h.world e)) (λ g. KeptAll sh (gs ++ granted_by h.world e) g)
-step-all {sh} p {gs} {h} e k = go (step sh p h.world e) (step-kept p e k.kept)
-    (step-owners p e k.kept.told.tids k.owners) (step-cores p h.world e k.cores) (step-committing p e k.kept k.committing)
-    (step-probing p e k.kept k.owners k.cores k.probing) (step-last p e k.kept.told.tids k.owners k.last)
-    (step-spared p e k.kept k.owners k.spared) (step-marks p e k.kept k.owners k.marks)
-    (step-counted p e k.kept k.owners k.cores k.marks k.counted) (step-whole sh p h.world e k.whole)
-    (step-named p e k.kept k.counted k.named) (step-asked sh p h.world e k.asked) (step-masks p e k.kept k.owners k.marks k.masks)
-    (step-stored p e k.kept k.owners k.cores k.marks k.counted k.masks k.stored)
-  where
-    go : (x : Option Stepped) → IfSome x (λ o. Kept sh o.world)
-        → IfSome x (λ o. KeptOwners sh (gs ++ granted_by h.world e) o.world (and_noted o.noted h.commits))
-        → IfSome x (λ o. KeptCores sh o.world) → IfSome x (λ o. KeptCommitting o.world) → IfSome x (λ o. KeptProbing o.world)
-        → IfSome x (λ o. LastGranted (gs ++ granted_by h.world e) o.world)
-        → IfSome x (λ o. KeptTold sh o.world → SparesCommitter sh (gs ++ granted_by h.world e) o.world)
-        → IfSome x (λ o. KeptTold sh o.world → KeptMarks sh (gs ++ granted_by h.world e) o.world)
-        → IfSome x (λ o. KeptTold sh o.world → KeptCounted sh o.world) → IfSome x (λ o. KeptWhole sh o.world)
-        → IfSome x (λ o. KeptTold sh o.world → KeptNamed sh o.world) → IfSome x (λ o. KeptAsked sh o.world)
-        → IfSome x (λ o. KeptMasks sh o.world) → IfSome x (λ o. KeptTold sh o.world → KeptStored sh (and_noted o.noted h.commits) o.world)
-        → IfSome (recorded h x) (λ g. KeptAll sh (gs ++ granted_by h.world e) g)
-    go None a b c d f l q m n r y z u v = tt
-    go (Some o) a b c d f l q m n r y z u v =
-        record {
-          kept = a;
-          owners = b;
-          cores = c;
-          committing = d;
-          probing = f;
-          last = l;
-          spared = q a.told;
-          marks = m a.told;
-          counted = n a.told;
-          whole = r;
-          named = y a.told;
-          asked = z;
-          masks = u;
-          stored = v a.told;
-        }
-
-run_from-all : (sh : Shape) (p : Program) (es : List Event) (gs : List Grant) (h : History) → KeptAll sh gs h
-    → IfSome (run_from sh p es h) (λ r. KeptAll sh (gs ++ grants_from sh p es h) r)
-unfolding run_from grants_from next_history
-run_from-all sh p [] gs h k = rw append-nil k
-run_from-all sh p (e ∷ es) gs h k = go (recorded h (step sh p h.world e)) (step-all p e k)
-    (λ g q. run_from-all sh p es (gs ++ granted_by h.world e) g q)
-  where
-    go : (x : Option History) → IfSome x (λ g. KeptAll sh (gs ++ granted_by h.world e) g)
-        → ((g : History) → KeptAll sh (gs ++ granted_by h.world e) g
-        → IfSome (run_from sh p es g) (λ r. KeptAll sh ((gs ++ granted_by h.world e) ++ grants_from sh p es g) r))
-        → IfSome (and_then (run_from sh p es) x) (λ r. KeptAll sh (gs ++ then_grants (granted_by h.world e) (grants_from sh p es) x) r)
-    go None a f = tt
-    go (Some g) a f = rw (sym (append_assoc gs (granted_by h.world e) (grants_from sh p es g))) (f g a)
-
-pub all-at-start : (sh : Shape) (entries : ℕ → Local) (ram : ℕ → ℕ) → KeptAll sh [] (first_state entries ram)
-all-at-start sh entries ram = record {
-  kept = start-all sh entries ram;
-  owners = start-owners sh entries ram;
-  cores = start-cores sh entries ram;
-  committing = start-committing entries ram;
-  probing = start-probing entries ram;
-  last = λ c d t u l q. absurd (omega (arith, q.1));
-  spared = start-spared sh entries ram;
-  marks = start-marks sh entries ram;
-  counted = start-counted entries ram;
-  whole = start-whole sh entries ram;
-  named = start-named sh entries ram;
-  asked = start-asked sh entries ram;
-  masks = start-masks sh entries ram;
-  stored = start-stored sh entries ram;
-}
-
-pub run-all : (sh : Shape) (p : Program) (entries : ℕ → Local) (ram : ℕ → ℕ) (es : List Event)
-    → IfSome (run sh p (start entries ram) es) (λ r. KeptAll sh (grants_from sh p es (first_state entries ram)) r)
-unfolding run
-run-all sh p entries ram es = run_from-all sh p es [] (first_state entries ram) (all-at-start sh entries ram)
-
-pub one_probe_from : (sh : Shape) (w : World) → KeptProbing w → OneProbe sh w
-unfolding pair
-one_probe_from sh w k c d t h = (k c d t).held h
-
-pub one_probe : Always OneProbe
-one_probe sh p entries ram es = IfSome_then (run sh p (start entries ram) es) (run-all sh p entries ram es)
-    (λ r h. one_probe_from sh r.world h.probing)
-
-pub last_granted : HoldsLast
-last_granted sh p entries ram es = IfSome_then (run sh p (start entries ram) es) (run-all sh p entries ram es) (λ r h. h.last)
-
-pub spares_committer : SparesItsCommitter
-spares_committer sh p entries ram es = IfSome_then (run sh p (start entries ram) es) (run-all sh p entries ram es) (λ r h. h.spared)
-
-pub marks_stored : MarksAreStored
-marks_stored sh p entries ram es = IfSome_then (run sh p (start entries ram) es) (run-all sh p entries ram es) (λ r h. h.marks)
-
-pub counts_marks : Always KeptCounted
-counts_marks sh p entries ram es = IfSome_then (run sh p (start entries ram) es) (run-all sh p entries ram es) (λ r h. h.counted)
-
-pub wholly_marked : Always KeptWhole
-wholly_marked sh p entries ram es = IfSome_then (run sh p (start entries ram) es) (run-all sh p entries ram es) (λ r h. h.whole)
-
-pub named_lines : Always KeptNamed
-named_lines sh p entries ram es = IfSome_then (run sh p (start entries ram) es) (run-all sh p entries ram es) (λ r h. h.named)
-
-pub asked_owned : Always KeptAsked
-asked_owned sh p entries ram es = IfSome_then (run sh p (start entries ram) es) (run-all sh p entries ram es) (λ r h. h.asked)

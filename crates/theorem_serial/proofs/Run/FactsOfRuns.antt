@@ -9,9 +9,9 @@ use Names.{◌+◌, ◌≤◌, ◌==◌, ◌&&◌, Bool, not, Contains, nat_le, 
 use Names.{IsApart, PhaseFits, Grants, Marks, MarkOf, Probes, Replies, live, Carried, RunsCarry, marks_of, marked_by, has_marked}
 use Names.{stores_line, OneCore, Empty, times, holder, pair, share, CommitsStand, MarksWait, MarkedByServed, MarksOfCommits}
 use Names.{UntoldWhereOpen, UntoldIsLive, AllWaysFit, GivenUpOnce, LiveIsOpen, CommittedWhereStored, SmallerAreGivenUp, WorkIsReached, ◌||◌}
-use Names.{is_some, ◌∙◌, inl, inr, cases_lt, lines, Awaited, is_awaited, AttemptInMemory, LoadsInMemory, CopiesInMemory, CarriedInMemory}
-use Names.{RunsStayInMemory, Uses, MarksFit, AttemptFits, Views, no_views, views_from, attempts-fit, ReadFits, CarriedViews, RunsCarryViews}
-use Names.{nats, tid_at, IfSome_then, grant_to}
+use Names.{◌∙◌, inl, inr, cases_lt, lines, Awaited, is_awaited, AttemptInMemory, LoadsInMemory, CopiesInMemory, CarriedInMemory}
+use Names.{RunsStayInMemory, Uses, MarksFit, Views, no_views, views_from, attempts-fit, ReadFits, RunsCarryViews, nats, tid_at, IfSome_then}
+use Names.{grant_to}
 use proofs.Copies.LinesKept.{start-lines, KeptLines, above-from, owned-from}
 use proofs.Copies.LinesStep.{step-lines}
 use proofs.Copies.TagsKept.{TagStep, tag-step, tags-out, start-tags}
@@ -25,15 +25,13 @@ use proofs.Marks.NamedKept.{KeptUnacked, step-unacked, start-unacked}
 use proofs.Marks.ReadsKept.{KeptReads, step-reads, start-reads, read-words}
 use proofs.Memory.HomesKept.{step-homes, start-homes}
 use proofs.Run.AllInvariants.{step-all, run-all, one_probe_from, passed, owed_from, served_from}
-use proofs.Serving.OwingKept.{KeptOwing, step-owing, start-owing}
-use proofs.Serving.ProbingSteps.{KeptProbed, step-probed, start-probed}
+use proofs.Serving.{KeptOwing, step-owing, start-owing, KeptProbed, step-probed, start-probed, commits_served}
 use proofs.Ways.ToldSteps.{ByCore, Speaks, step-speaks}
 use proofs.Ways.WayFacts.{step-run, start-run, told_from, smaller_are_given_up, work_is_reached, untold_where_open, untold_is_live}
 use proofs.Ways.WayFacts.{all_ways_fit, given_up_once, live_is_open, committed_where_stored}
-use proofs.Counts.Links.{total-le}
+use proofs.Counts.{total-le}
 use proofs.Marks.MaskLaws.{marked_by_served, marks_of_commits}
 use proofs.Memory.InMemoryKept.{KeptInMemory, run-memory}
-use proofs.Serving.CommitSteps.{commits_served}
 
 -- What is carried along every run together with all else.
 
@@ -146,7 +144,7 @@ run_from-copies : (sh : Shape) (p : Program) (es : List Event) (gs : List Grant)
 unfolding run_from grants_from ways_from next_history
 run_from-copies sh p [] gs ys h k = rw append-nil k
 run_from-copies sh p (e ∷ es) gs ys h k = go (recorded h (step sh p h.world e)) (step-copies sh p gs ys h e k)
-    (λ g q. run_from-copies sh p es (gs ++ granted_by h.world e) x g q)
+    (run_from-copies sh p es (gs ++ granted_by h.world e) x)
   where
     x : Ways
     x = ways_after (sent_by sh p h.world e) ys
@@ -183,7 +181,7 @@ phase-fits : {sh : Shape} {s : CoreState} → OneCore sh s → PhaseFits s
 phase-fits k = record { spilled = k.words.spilled_alone; unread = k.words.unread_alone; rested = k.rested }
 
 halted : {sh : Shape} {s : CoreState} → OneCore sh s → s.phase ≡ Halted → Empty s × ((x : ℕ) → s.spilled x ≡ None)
-halted k e = (k.rested (rw e refl), k.words.spilled_alone (rw e refl))
+halted k e = (k.rested (rw e), k.words.spilled_alone (rw e))
 
 -- TIDs
 holder-same : (w : World) (c d e t : ℕ) → holder t (pair w c d) ≡ holder t (pair w c e)
@@ -371,13 +369,12 @@ attempt-memory : (sh : Shape) (gs : List Grant) (ys : Ways) (h : History) → Ca
     → AttemptInMemory sh (h.world.cores c)
 attempt-memory sh gs ys h k m c = record {
   accesses = (m.cores c).accesses;
-  spilled = λ x e. (m.cores c).accesses.stored x
-      (sym (k.stored_words_are_those_named c x) ∙ either ((h.world.cores c).cache.modified x) (is_some ((h.world.cores c).spilled x)) e);
+  spilled = λ x e. (m.cores c).accesses.stored x (sym (k.stored_words_are_those_named c x) ∙ either ((h.world.cores c).cache.modified x) e);
   awaited = λ a e. (m.cores c).frames a.line (k.awaited_line_has_a_frame c a e).1;
 }
   where
-    either : (a b : Bool) → b ≡ true → (a || b) ≡ true
-    either a b e = grind nats
+    either : (a : Bool) {b : Bool} → b ≡ true → (a || b) ≡ true
+    either a e = grind nats
 
 loads-memory : {sh : Shape} {gs : List Grant} {ys : Ways} (h : History) → Carried sh gs ys h → KeptInMemory sh h → LoadsInMemory sh h.world
 unfolding pair

@@ -1,16 +1,15 @@
 -- The runs on which the list was tried, computed by the definitions alone.
-use Rattle.base_lemmas.proofs.Lemmas.{never}
 use Rattle.rules_tcc.proofs.Lemmas.{computed}
 use Rattle.rules_program.specs.Registers.{zeroed, register, written}
 use Rattle.rules_tcc.specs.Rows.{padded, both_words, both_code}
 use Rattle.rules_tcc.specs.Small.{at_pc, address, call_need, small, image_entry}
 use Rattle.theorem_serial.specs.Tried.{tag_test, after_test, loading_test, above_test, owned_test, sharer_test, line_test, home_test}
-use Rattle.theorem_serial.specs.Tried.{copy_test, frame_test, word_test, tests, along, tried, tried_ram, tried_end, with_word, TriedFill}
-use Rattle.theorem_serial.specs.Tried.{TriedRead, TriedOwner, TriedAlone, TriedFails}
+use Rattle.theorem_serial.specs.Tried.{copy_test, frame_test, word_test, tests, along, tried_end, TriedFill, TriedRead, TriedOwner}
+use Rattle.theorem_serial.specs.Tried.{TriedAlone, TriedFails}
 use Rattle.theorem_serial.proofs
 use proofs.Names
-use Names.{line_of, World, arith, refl, inl, inr, passes, live, pair, stores_word, stores_in, stored_mask, stores_at, names_line, wrote}
-use Names.{wrote_line, wrote_mask, last_of, is_settled, is_applied, settled_in_line, stored_there, copies_with, keeps_unmodified}
+use Names.{never, line_of, World, arith, refl, inl, inr, passes, live, pair, stores_word, stores_in, stored_mask, stores_at, names_line}
+use Names.{wrote, wrote_line, wrote_mask, last_of, is_settled, is_applied, settled_in_line, stored_there, copies_with, keeps_unmodified}
 use Names.{holds_line, HomeWords, after_stores, counts, after_commits, value_at, word_copies, Noted, Shape, ℕ, zero, suc, ◌≡◌, ◌<◌, ◌≤◌}
 use Names.{◌⊎◌, ◌==◌, false, List, None, nats, home_of}
 

@@ -1,25 +1,22 @@
 -- Every event keeps that a Commit in flight is of the served TID, and that no invalidation goes to the core that committed.
-use Rattle.base_lemmas.proofs.Lemmas.{eq-self}
 use Rattle.theorem_serial.proofs
 use proofs.Names
-use Names.{Contains-append_cases, Contains-append_left, CommitsAreServed, SparesCommitter, slice_index_or, Program, KeptCommitting}
-use Names.{grant_in_phase, next_history, CommitsAbove, after_answer, CommittingOf, vendor_gives, ℕ, cases_order, dir_deliver, grant_taken}
-use Names.{Overflowing, core_evict, core_moves, core_takes, after_move, ◌≡◌, back_taken, append-nil, granted_by, IsNumbered, KeptOwners}
-use Names.{core_exec, dir_takes, and_noted, out_taken, CoreState, DoomedTid, DirState, from_dir, recorded, and_then, run_from, Resolves}
-use Names.{Contains, cases_lt, AwaitTid, sent_all, dir_asks, KeptTold, SparedOf, cases_eq, Stepped, History, arith, Commits, handled}
-use Names.{Running, Probing, InvsNot, Option, IfSome, nat_lt, Answer, passes, Always, Halted, [], holder, Local, Event, Shape, World, start}
-use Names.{Sends, grant, Waits, Drops, Takes, share, Noted, Phase, List, Ready, among, Grant, Some, None, refl, Core, Link, Asks, step}
-use Names.{live, Pair, pair, part, Kept, true, ◌++◌, Solo, Invs, Acks, ◌<◌, ◌≤◌, ◌∷◌, ◌⊎◌, inl, inr, num, Dir, Msg, Out, run, sym, ◌∙◌, due}
-use Names.{ap, nats, tid_at, to_dir, to_core, FromCore, FromDir, IfSome_then, grant_to, first_state, ◌≢◌}
-use proofs.Counts.Links.{live-sends, live-takes, total-le, live-fewer}
-use proofs.Counts.StepCases.{pairs_move, pairs_grant, pairs_back, pairs_dir, pairs_asks, pairs_vendor, OfAnswer, step_cases, given}
+use Names.{eq-self, Contains-append_cases, Contains-append_left, CommitsAreServed, SparesCommitter, slice_index_or, Program, KeptCommitting}
+use Names.{grant_in_phase, CommitsAbove, after_answer, CommittingOf, vendor_gives, ℕ, cases_order, dir_deliver, grant_taken, Overflowing}
+use Names.{core_evict, core_moves, core_takes, after_move, ◌≡◌, back_taken, append-nil, granted_by, IsNumbered, KeptOwners, core_exec}
+use Names.{dir_takes, out_taken, CoreState, DoomedTid, DirState, from_dir, Resolves, Contains, cases_lt, AwaitTid, sent_all, dir_asks}
+use Names.{KeptTold, SparedOf, cases_eq, arith, Commits, handled, Running, Probing, Option, IfSome, nat_lt, Answer, passes, Halted, []}
+use Names.{holder, Local, Event, Shape, World, start, Sends, grant, Waits, Drops, Takes, share, Noted, Phase, List, Ready, among, Grant}
+use Names.{Some, None, refl, Core, Link, Asks, step, live, Pair, pair, part, Kept, true, ◌++◌, Solo, Invs, Acks, ◌<◌, ◌≤◌, ◌∷◌, ◌⊎◌, inl}
+use Names.{inr, num, Dir, Msg, Out, sym, ◌∙◌, due, ap, nats, tid_at, to_dir, to_core, FromCore, FromDir, grant_to}
+use proofs.Counts.{live-sends, live-takes, total-le, live-fewer, pairs_move, pairs_grant, pairs_back, pairs_dir, pairs_asks, pairs_vendor}
+use proofs.Counts.{OfAnswer, step_cases, given}
 use proofs.Serving.CoreDue.{CommitsNoted, noted-exec, noted-evict, noted-grant, noted-back, Served, served-exec, served-evict, served-grant}
-use proofs.Serving.CoreDue.{served-back, fewer-above}
+use proofs.Serving.CoreDue.{served-back, fewer-commits}
 use proofs.Serving.DirDue.{Due, DueBy, dir-due, still-due, none-quiet, SparesOwn, SparesBy, dir-spares, Rises, RisesBy, dir-rises}
 use proofs.Serving.DirDue.{rises-still}
-use proofs.Serving.KeptSteps.{step-kept, start-all, marks_home, acks_owed, invs-few, core_of_out, once_at}
-use proofs.Tids.Commits.{granted-once, only-one}
-use proofs.Tids.CoreTids.{KeepsHolder, noted_tid, none, holder-exec, holder-evict, holder-back}
+use proofs.Serving.KeptSteps.{marks_home, acks_owed, invs-few, core_of_out, once_at}
+use proofs.Tids.{granted-once, only-one, KeepsHolder, noted_tid, none, holder-exec, holder-evict, holder-back}
 
 -- Every event keeps that a Commit in flight is of the served TID, and so does every run.
 committing-moved : (v : Pair) (o : Out) (d : ℕ) → Served d v.dir.serving.serving o → CommittingOf v → CommittingOf (after_move v o d)
@@ -27,14 +24,14 @@ committing-moved v o d y h = omega (arith, live-sends (CommitsAbove v.dir.servin
 
 committing-answered : (v : Pair) {s : DirState} {sends : Sends} (ms : List Msg) → Rises v.dir s sends → CommittingOf v
     → CommittingOf (after_answer v s ms)
-committing-answered v {s} ms u h = omega (arith, fewer-above v.dir.serving.serving s.serving.serving v.out u.rises)
+committing-answered v {s} ms u h = omega (arith, fewer-commits v.dir.serving.serving s.serving.serving v.out u.rises)
 
 committing-taken : (v : Pair) (k : ℕ) (m : Msg) (s : DirState) {sends : Sends} (ms : List Msg) → slice_index_or v.out k None ≡ Some m
     → Rises v.dir s sends → CommittingOf v → CommittingOf (after_answer (out_taken v k) s ms)
 committing-taken v k m s ms i u h =
     omega (
       arith,
-      fewer-above v.dir.serving.serving s.serving.serving v.out u.rises,
+      fewer-commits v.dir.serving.serving s.serving.serving v.out u.rises,
       live-takes (CommitsAbove s.serving.serving) v.out k m i,
     )
 
@@ -48,7 +45,7 @@ step-committing {sh} p {w} e z h = step_cases sh p w e (λ g o. KeptCommitting o
     (served-grant sh t d (tid_at w d) (w.cores c)) (h c d)) h)
     (λ c d k m i. taken c d k (from_dir sh d (w.cores c) m) (λ e. served-back sh d e (tid_at w e) (w.cores c) m))
     (λ c d k m i. answered c d k m i (dir_deliver sh (w.dirs d) c m) (dir-rises sh (w.dirs d) c m))
-    (λ c k i. pairs_vendor P w c k (λ d. h c d) (λ j d n. h j d))
+    (λ c k i. pairs_vendor P w c k (h c) (λ j d n. h j d))
   where
     P : ℕ → ℕ → Pair → Type 0
     P c d v = CommittingOf v
@@ -64,34 +61,20 @@ step-committing {sh} p {w} e z h = step_cases sh p w e (λ g o. KeptCommitting o
     taken c e k (Some o) y = pairs_back P w e c k o (committing-moved (back_taken (pair w c e) k) o e (y e) (h c e))
         (λ d n. committing-moved (pair w c d) o d (y d) (h c d)) h
 
-    dir : (c d k : ℕ) (m : Msg) (s : DirState) (sends : Sends) → FromCore w c d k m → Rises (w.dirs d) s sends
+    dir : (c d k : ℕ) {m : Msg} {s : DirState} {sends : Sends} → FromCore w c d k m → Rises (w.dirs d) s sends
         → KeptCommitting (dir_takes w c d k s sends)
-    dir c d k m s sends i u = pairs_dir P w c d k s sends (committing-taken (pair w c d) k m s (sends (Core c)) i u (h c d))
+    dir c d k {m} {s} {sends} i u = pairs_dir P w c d k s sends (committing-taken (pair w c d) k m s (sends (Core c)) i u (h c d))
         (λ j n. committing-answered (pair w j d) (sends (Core j)) u (h j d)) h
 
     answered : (c d k : ℕ) (m : Msg) → FromCore w c d k m → (a : Answer) → RisesBy (w.dirs d) a → OfAnswer w c d k (λ v. KeptCommitting v) a
     answered c d k m i Waits u = tt
-    answered c d k m i Drops u = dir c d k m (w.dirs d) (λ dst. []) i (rises-still (w.dirs d))
+    answered c d k m i Drops u = dir c d k i (rises-still (w.dirs d))
     answered c d k m i (Asks s sends) u = pairs_asks P w d s sends (λ j. committing-answered (pair w j d) (sends (Core j)) u (h j d)) h
-    answered c d k m i (Takes s sends) u = dir c d k m s sends i u
+    answered c d k m i (Takes s sends) u = dir c d k i u
 
 pub start-committing : (entries : ℕ → Local) (ram : ℕ → ℕ) → KeptCommitting (start entries ram)
 unfolding start pair live
 start-committing entries ram c d = refl
-
-run_from-committing : (sh : Shape) (p : Program) (es : List Event) (h : History) → Kept sh h.world → KeptCommitting h.world
-    → IfSome (run_from sh p es h) (λ r. Kept sh r.world × KeptCommitting r.world)
-unfolding run_from next_history
-run_from-committing sh p [] h z k = (z, k)
-run_from-committing sh p (e ∷ es) h z k = go (step sh p h.world e) (step-kept p e z) (step-committing p e z k)
-    (λ g a b. run_from-committing sh p es g a b)
-  where
-    go : (x : Option Stepped) → IfSome x (λ o. Kept sh o.world) → IfSome x (λ o. KeptCommitting o.world)
-        → ((g : History) → Kept sh g.world → KeptCommitting g.world
-        → IfSome (run_from sh p es g) (λ r. Kept sh r.world × KeptCommitting r.world))
-        → IfSome (and_then (run_from sh p es) (recorded h x)) (λ r. Kept sh r.world × KeptCommitting r.world)
-    go None a b f = tt
-    go (Some o) a b f = f (record { world = o.world; commits = and_noted o.noted h.commits }) a b
 
 -- a Commit of a larger TID would be above the served one
 pub of-above : (s t : ℕ) (m : Msg) → s < t → num (passes (Commits t) m) ≤ num (passes (CommitsAbove s) m)
@@ -125,13 +108,6 @@ commits_served {sh} {w} z k c d t l x o = go (cases_order (tid_at w d) t)
           ofs-resolve t (to_dir w c d),
           o,
         ))
-
-pub commits_are_served : Always CommitsAreServed
-unfolding run
-commits_are_served sh p entries ram es =
-    let first : History = first_state entries ram in
-    IfSome_then (run_from sh p es first) (run_from-committing sh p es first (start-all sh entries ram) (start-committing entries ram))
-    (λ r h. commits_served h.0 h.1)
 
 -- Every event keeps that no invalidation goes to the core that committed.
 
@@ -271,7 +247,7 @@ step-spared {sh} p {gs} {w} e z y h = step_cases sh p w e (λ g o. KeptTold sh o
     (λ d. spared-moved sh gs c d (grant_taken (pair w c d) k) (grant sh u (w.cores c)) (noted-grant sh u (w.cores c))
     (λ t l. absurd (no-commit sh u t (w.cores c) l)) (record { owner = (h c d).owner; own = (h c d).own })) h))
     (λ c d k m i. taken c d k m i (from_dir sh d (w.cores c) m) (holder-back sh d c (w.cores c) m) (noted-back sh d (w.cores c) m))
-    (λ c d k m i. answered c d k m i (dir_deliver sh (w.dirs d) c m)
+    (λ c d k m i. answered c d k i (dir_deliver sh (w.dirs d) c m)
     (dir-due sh d (w.dirs d) c m (once_at c d k z.told i) (z.told.owed.at_home c d).marked (marks_home c d k z.told.owed i)
     (acks_owed c d k z.told.owed (core_of_out c d k z.told.tids i) i)) (dir-spares sh (w.dirs d) c m))
     (λ c k i n. vendor-spared sh gs w c k h z.told)
@@ -297,10 +273,10 @@ step-spared {sh} p {gs} {w} e z y h = step_cases sh p w e (λ g o. KeptTold sh o
         }))
         (λ e q. spared-moved sh gs c e (pair w c e) o b (λ t l. noted c t o a l) (h c e)) h)
 
-    answered : (c d k : ℕ) (m : Msg) → FromCore w c d k m → (a : Answer) → DueBy sh d (w.dirs d) (num (passes Acks m)) a
+    answered : (c d k : ℕ) {m : Msg} → FromCore w c d k m → (a : Answer) → DueBy sh d (w.dirs d) (num (passes Acks m)) a
         → SparesBy (w.dirs d) c m a → OfAnswer w c d k (λ v. KeptTold sh v → SparesCommitter sh (gs ++ []) v) a
-    answered c d k m i Waits u p = tt
-    answered c d k m i Drops u p = λ n. rw append-nil (dir-spared w c d k (w.dirs d) (λ dst. []) y.numbered h n i
+    answered c d k i Waits u p = tt
+    answered c d k i Drops u p = λ n. rw append-nil (dir-spared w c d k (w.dirs d) (λ dst. []) y.numbered h n i
         (rw u (still-due sh d (w.dirs d) (z.told.owed.at_home c d).marked)) (inl none-quiet))
-    answered c d k m i (Asks s sends) u p = λ n. rw append-nil (asks-spared w d s h n u p)
-    answered c d k m i (Takes s sends) u p = λ n. rw append-nil (dir-spared w c d k s sends y.numbered h n i u p)
+    answered c d k i (Asks s sends) u p = λ n. rw append-nil (asks-spared w d s h n u p)
+    answered c d k i (Takes s sends) u p = λ n. rw append-nil (dir-spared w c d k s sends y.numbered h n i u p)

@@ -3,19 +3,17 @@ use Rattle.theorem_serial.proofs
 use proofs.Names
 use Names.{ℕ, ◌≡◌, ◌<◌, ◌≤◌, true, false, List, IfSome, nat_lt, arith, refl, Program, num, Dir, Msg, Shape, Cache, writes_at, CoreState}
 use Names.{Ready, Link, Out, commit, commit_sends, solo_sends, core_exec, core_evict, grant, from_dir, CommitsAbove, AnyCommit, among, live}
-use Names.{passes, Reached, cases_lt, inl, inr, solo_commit, ◌⊎◌, nats, ◌==◌, Spilled, noted, solo_marks_or_skip, solo_write_backs, Commits}
+use Names.{passes, Reached, cases_lt, inl, inr, solo_commit, nats, ◌==◌, Spilled, noted, solo_marks_or_skip, solo_write_backs, Commits}
 use Names.{zero, suc, ◌%◌, Bool, [], ◌∷◌, ◌++◌, ◌&&◌, None, cond, if◌then◌else◌, flat_map, flat_map-append, those, count_below, Fill, Skip}
 use Names.{ProbeReply, Mark, Commit, WriteBack, DataReq, Inv, InvAck, home, lines, is_modified, modified_mask, written_lines, holds}
 use Names.{spilled_mask, spilled_words, Phase, AwaitTid, DoomedTid, Overflowing, Sends, to, marks_for, skip_all, probe_all, abort_written}
-use Names.{solo_writes_at, is_written, written_mask, grant_in_phase, grant_sends, probe_reply, ignored, fill, data_request, invalidate}
-use Names.{Kind, Acks, MarksAway, AnyResolve, Protocol}
-use proofs.Counts.Links.{among-fewer, live-fewer, among-append, among-flat_map_none}
-use proofs.OneCore.Said.{quiet, Empties, Flushes, Silent, Tells_alone, say}
-use proofs.OneCore.Outcomes.{Commits_now, Did, each-exec, out, each-evict, emptied, Ends_alone, Given_none, Granted, Hands_out, Heard}
-use proofs.OneCore.Outcomes.{each-back, each-grant, granted, granted_said, heard, heard-quiet, said, Ends_run, Room_wanted}
-use proofs.Tids.CoreTids.{noted_tid}
-use proofs.OneCore.CoreSteps.{Steady, did-steady, ignored-steady, fill-steady, data-steady, Hurt, Unhurt, Rolled, Doomed, Aborted, Gave_up}
-use proofs.OneCore.CoreSteps.{Invalidated, invalidate-cases, Replied, Ignored, Probed, Left_alone, reply-cases, steady-emptied}
+use Names.{solo_writes_at, is_written, written_mask, grant_in_phase, grant_sends, ignored, Kind, Acks, MarksAway, AnyResolve, Protocol}
+use proofs.Counts.{among-fewer, live-fewer, among-append, among-flat_map_none}
+use proofs.OneCore.{quiet, Empties, Flushes, Silent, Tells_alone, say, Commits_now, Did, each-exec, out, each-evict, emptied, Ends_alone}
+use proofs.OneCore.{Given_none, Granted, Hands_out, Heard, each-back, each-grant, granted, granted_said, heard, heard-quiet, said, Ends_run}
+use proofs.OneCore.{Room_wanted, Steady, did-steady, ignored-steady, fill-steady, data-steady, Hurt, Unhurt, Rolled, Doomed, Aborted}
+use proofs.OneCore.{Gave_up, Invalidated, invalidate-cases, Replied, Ignored, Probed, Left_alone, reply-cases, steady-emptied}
+use proofs.Tids.{noted_tid}
 
 -- What a core sends as a commit: only to directories that have reached its TID, and of what it notes the commit of.
 
@@ -45,8 +43,8 @@ served-solo : (sh : Shape) (s : CoreState) (t d x : ℕ) → (d < sh.dirs → t 
 unfolding passes solo_sends among
 served-solo sh s t d x h = elim (cases_lt d sh.dirs) [
   | inl l ↦ quiet sh s (CommitsAbove x) (Tells_alone t) (λ y. let i = h l in let z : nat_lt x t ≡ false = grind nats in
-      rw z refl) d
-  | inr l ↦ let z : nat_lt d sh.dirs ≡ false = grind nats in rw z refl
+      rw z) d
+  | inr l ↦ let z : nat_lt d sh.dirs ≡ false = grind nats in rw z
 ]
 
 pub served-exec : {sh : Shape} (p : Program) (c : ℕ) {d x : ℕ} {s : CoreState} → Reached sh d x s
@@ -55,10 +53,10 @@ unfolding commit solo_commit passes
 served-exec {sh} p c {d} {x} {s} r = each-exec sh p c s (λ o. Served d x o) go
   where
     ready : (u : ℕ) → s.phase ≡ Ready u → d < sh.dirs → writes_at sh s.cache d ≡ true → u ≤ x
-    ready u e l w = rw e at (r.reached l (rw e (rw w refl)) (r.replied l (rw e refl)))
+    ready u e l w = rw e at (r.reached l (rw e (rw w)) (r.replied l (rw e)))
 
     go : (y : Did sh p c s) → Served d x (out y)
-    go (Ends_alone t l o f q i) = served-solo sh s t d x (λ l. rw q at (r.reached l (rw q refl) (r.replied l (rw q refl))))
+    go (Ends_alone t l o f q i) = served-solo sh s t d x (λ l. rw q at (r.reached l (rw q) (r.replied l (rw q))))
     go (Commits_now u e) = served-commit sh s.cache u d x (ready u e)
     go y = served-free d x (out y) (quiet sh s AnyCommit (said y) (λ z. refl) d)
 
@@ -92,8 +90,8 @@ above-fewer : (a b : ℕ) (m : Msg) → a ≤ b → num (passes (CommitsAbove b)
 unfolding passes
 above-fewer a b m l = grind nats
 
-pub fewer-above : (a b : ℕ) (l : Link) → a ≤ b → live (CommitsAbove b) l ≤ live (CommitsAbove a) l
-fewer-above a b l h = live-fewer (CommitsAbove b) (CommitsAbove a) (λ m. above-fewer a b m h) l
+pub fewer-commits : (a b : ℕ) (l : Link) → a ≤ b → live (CommitsAbove b) l ≤ live (CommitsAbove a) l
+fewer-commits a b l h = live-fewer (CommitsAbove b) (CommitsAbove a) (λ m. above-fewer a b m h) l
 
 -- What a core sends a Commit of is what it notes the commit of.
 
@@ -126,18 +124,18 @@ noted-exec sh p c s = each-exec sh p c s (λ o. CommitsNoted o) go
     go : (x : Did sh p c s) → CommitsNoted (out x)
     go (Ends_alone t l o f q i) = λ d u. of-solo sh s.cache s.spilled t d u
     go (Commits_now u e) = λ d t. of-commit sh s.cache u d t
-    go x = noted-free (out x) (λ d. quiet sh s AnyCommit (said x) (λ y. refl) d)
+    go x = noted-free (out x) (quiet sh s AnyCommit (said x) (λ y. refl))
 
 pub noted-evict : (sh : Shape) (x y : ℕ) (s : CoreState) → IfSome (core_evict sh x y s) (λ o. CommitsNoted o)
 unfolding passes
 noted-evict sh x y s = each-evict sh x y s (λ o. CommitsNoted o)
-    (λ k q u z. noted-free (emptied sh x y k s) (λ d. quiet sh s AnyCommit (Empties k) (λ y. refl) d))
+    (λ k q u z. noted-free (emptied sh x y k s) (quiet sh s AnyCommit (Empties k) (λ y. refl)))
 
 pub noted-grant : (sh : Shape) (u : ℕ) (s : CoreState) → CommitsNoted (grant sh u s)
 noted-grant sh u s = noted-free (grant sh u s) (λ d. granted-free sh u d s)
 
 pub noted-back : (sh : Shape) (e : ℕ) (s : CoreState) (m : Msg) → IfSome (from_dir sh e s m) (λ o. CommitsNoted o)
-noted-back sh e s m = each-back sh e s (λ m o. CommitsNoted o) (λ y. noted-free (heard y) (λ d. heard-free y d)) m
+noted-back sh e s m = each-back sh e s (λ m o. CommitsNoted o) (λ y. noted-free (heard y) (heard-free y)) m
 
 -- A core acknowledges nothing but an invalidation, and marks lines at their homes alone.
 
@@ -196,7 +194,7 @@ unfolding among passes
 clean-marks sh d t mask p n h = record {
   acks = among-flat_map_none Acks (λ l. Mark l (mask l) t ∷ []) (λ l. refl) (those p n);
   marks = among-those_none (MarksAway sh.dirs d) (λ l. Mark l (mask l) t ∷ []) p n
-      (λ l q. let e : l % sh.dirs ≡ d = h l q in let b : ((l % sh.dirs) == d) ≡ true = grind nats in rw b refl);
+      (λ l q. let e : l % sh.dirs ≡ d = h l q in let b : ((l % sh.dirs) == d) ≡ true = grind nats in rw b);
   far = λ x. among-flat_map_none AnyResolve (λ l. Mark l (mask l) t ∷ []) (λ l. refl) (those p n);
 }
 
@@ -298,7 +296,7 @@ clean-replied sh {e} {u} {s} (Probed g f ph ow ca se cm) = rw se (λ d. go d (d 
     go : (d : ℕ) (b : Bool) → (d == e) ≡ b → Clean sh d (if b then marks_for sh s.cache u e else [])
     go d true q = let i : d ≡ e = grind nats in rw i (clean-marks_for sh s.cache u e)
     go d false q = clean-none sh d
-clean-replied sh (Left_alone g f ph ow mo se cm) = rw se (λ d. clean-none sh d)
+clean-replied sh (Left_alone g f ph ow mo se cm) = rw se (clean-none sh)
 
 -- an invalidation is acknowledged to the line's home, and nothing else is
 pub record AcksHome (sh : Shape) (l d : ℕ) (ms : List Msg) : Type 0 where

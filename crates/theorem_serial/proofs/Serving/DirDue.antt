@@ -1,20 +1,17 @@
 -- What a directory's rules do to what it serves, replies, invalidates and is owed.
-use Rattle.base_lemmas.proofs.Lemmas.{eq-self, those-empty}
 use Rattle.theorem_serial.proofs
 use proofs.Names
-use Names.{ℕ, ◌≡◌, Bool, true, false, not, ◌==◌, ◌&&◌, nat_lt, arith, refl, ◌⊎◌, inl, inr, Lines, has_mark, Core, Msg, Fill, ProbeReply}
-use Names.{DataReq, Shape, lines, DirState, Sends, Answer, Asks, Takes, dir_deliver, invalidations, invs_to, is_invalidated, home_words}
-use Names.{Invs, Commits, among, passes, nats, ◌≤◌, [], if◌then◌else◌, num, advance, kept, advance-rises, Link, nothing, RepliesAbove, live}
-use Names.{Serving, LoadReq, Waits, Drops, Probes, Replies, zero, suc, ◌+◌, ◌-◌, ◌%◌, List, ◌∷◌, cond, flat_map, flat_map-append}
-use Names.{count_below, those, Skip, Commit, Abort, Inv, home, sum_below, invalidation_count, InvsNot, InvsAway, Acks, MarksAway, Resolves}
-use Names.{◌≢◌}
-use proofs.Counts.DirOutcome.{Outcome, Waiting, Spent, AsksOwner, TakesProbe, TakesLoad, TakesCommit, outcome, among-none, none-to}
-use proofs.Counts.DirOutcome.{TakesSkip, TakesAbort, TakesMark, TakesAck, TakesCopy, none-invalidations, IsSpent, CopyPassed, among-to}
-use proofs.Counts.DirOutcome.{NoneOwed}
-use proofs.Counts.Links.{live-fewer, among-append, total-zero, total-same, among-fewer, among-flat_map_none}
-use proofs.Counts.StepCases.{differ}
+use Names.{eq-self, those-empty, ℕ, ◌≡◌, Bool, true, false, not, ◌==◌, ◌&&◌, nat_lt, arith, refl, ◌⊎◌, inl, inr, Lines, has_mark, Core, Msg}
+use Names.{Fill, ProbeReply, DataReq, Shape, lines, DirState, Sends, Answer, Asks, Takes, dir_deliver, invalidations, invs_to}
+use Names.{is_invalidated, home_words, Invs, Commits, among, passes, nats, ◌≤◌, [], if◌then◌else◌, num, advance, kept, advance-rises, Link}
+use Names.{nothing, RepliesAbove, live, Serving, LoadReq, Waits, Drops, Probes, Replies, zero, suc, ◌+◌, ◌-◌, ◌%◌, List, ◌∷◌, cond}
+use Names.{flat_map, flat_map-append, count_below, those, Skip, Commit, Abort, Inv, home, sum_below, invalidation_count, InvsNot, InvsAway}
+use Names.{Acks, MarksAway, Resolves, ◌≢◌}
+use proofs.Counts.{Outcome, Waiting, Spent, AsksOwner, TakesProbe, TakesLoad, TakesCommit, outcome, among-none, none-to, TakesSkip}
+use proofs.Counts.{TakesAbort, TakesMark, TakesAck, TakesCopy, none-invalidations, IsSpent, CopyPassed, among-to, NoneOwed, live-fewer}
+use proofs.Counts.{among-append, total-zero, total-same, among-fewer, among-flat_map_none, differ}
 use proofs.Serving.CoreDue.{among-those_none}
-use proofs.Tids.TidSteps.{OnceAt, unserved}
+use proofs.Tids.{OnceAt, unserved}
 
 -- A directory sends invalidations only where it takes the Commit of the served TID, and none to the core that commits.
 
@@ -38,7 +35,7 @@ own-spared sh ls c k =
 
 spares-invalidations : (sh : Shape) (ls : Lines) (c u : ℕ) → among Invs (invalidations sh ls c u (Core c)) ≡ 0
 unfolding invalidations invs_to among
-spares-invalidations sh ls c u = rw (those-empty (is_invalidated sh ls c c) (lines sh) (own-spared sh ls c)) refl
+spares-invalidations sh ls c u = rw (those-empty (is_invalidated sh ls c c) (lines sh) (own-spared sh ls c))
 
 pub dir-spares : (sh : Shape) (s : DirState) (c : ℕ) (m : Msg) → SparesBy s c m (dir_deliver sh s c m)
 unfolding passes
@@ -135,7 +132,7 @@ dir-replies sh s c m = go (outcome sh s c m)
     quiet m sends n h = record { own = λ t. rw (n t) (h c t); others = λ j t x. h j t }
 
     spent : {m : Msg} → IsSpent s c m → (t : ℕ) → num (passes (Probes t) m) ≡ 0
-    spent (CopyPassed m l k ws g y h e) t = rw (y.alike (Probes t)) refl
+    spent (CopyPassed m l k ws g y h e) t = rw (y.alike (Probes t))
     spent _ t = refl
 
     go : {m : Msg} {a : Answer} → Outcome sh s c m a → RepliesBy m c a
@@ -143,8 +140,8 @@ dir-replies sh s c m = go (outcome sh s c m)
     go (Spent q h) = spent h
     go (AsksOwner q l o w e) = λ j t. none-to (Replies t) o j (DataReq l) refl
     go (TakesProbe u h) = record {
-      own = λ t. rw (among-to (Replies t) c c (ProbeReply u s.serving.serving), eq-self c) refl;
-      others = λ j t n. rw (among-to (Replies t) c j (ProbeReply u s.serving.serving), differ j c n) refl;
+      own = λ t. rw (among-to (Replies t) c c (ProbeReply u s.serving.serving), eq-self c);
+      others = λ j t n. rw (among-to (Replies t) c j (ProbeReply u s.serving.serving), differ j c n);
     }
     go (TakesLoad l k h e o) = quiet (LoadReq l k) _ (λ t. refl) (λ j t. none-to (Replies t) c j (Fill l (home_words s l)) refl)
     go (TakesCommit b e) = quiet _ _ (λ t. refl) (λ j t. none-invalidations (Replies t) (λ x y z. refl) sh s.lines c s.serving.serving j)
@@ -229,14 +226,14 @@ is_invalidated-marked sh ls c j l h = grind arith
 nots-sent : (sh : Shape) (ls : Lines) (c u j : ℕ) → among (InvsNot u) (invalidations sh ls c u (Core j)) ≡ 0
 unfolding invalidations invs_to among passes
 nots-sent sh ls c u j = among-flat_map_none (InvsNot u) (λ l. Inv l (ls.mark l) u ∷ [])
-    (λ l. let b : (u == u) ≡ true = grind nats in rw b refl) (those (is_invalidated sh ls c j) (lines sh))
+    (λ l. let b : (u == u) ≡ true = grind nats in rw b) (those (is_invalidated sh ls c j) (lines sh))
 
 aways-sent : (sh : Shape) (d : ℕ) (ls : Lines) (c u j : ℕ) → ((l : ℕ) → has_mark ls l ≡ true → home sh l ≡ d)
     → among (InvsAway sh.dirs d) (invalidations sh ls c u (Core j)) ≡ 0
 unfolding invalidations invs_to among passes
 aways-sent sh d ls c u j m = among-those_none (InvsAway sh.dirs d) (λ l. Inv l (ls.mark l) u ∷ []) (is_invalidated sh ls c j) (lines sh)
     (λ l q. let e : l % sh.dirs ≡ d = m l (is_invalidated-marked sh ls c j l q) in
-    let b : ((l % sh.dirs) == d) ≡ true = grind nats in rw b refl)
+    let b : ((l % sh.dirs) == d) ≡ true = grind nats in rw b)
 
 pub at-home : (h d : ℕ) → not (h == d) ≡ false → h ≡ d
 at-home h d e = grind nats
@@ -264,7 +261,7 @@ dir-due sh d s c m h k = go (outcome sh s c m) h
 
     spent : {m : Msg} → IsSpent s c m → num (passes Acks m) ≤ s.owed → num (passes Acks m) ≡ 0
     spent (NoneOwed l b i) o = omega (arith, o, i)
-    spent (CopyPassed m l n ws g y i e) o = rw (y.alike Acks) refl
+    spent (CopyPassed m l n ws g y i e) o = rw (y.alike Acks)
     spent _ o = refl
 
     go : {m : Msg} {a : Answer} → Outcome sh s c m a → OnceAt s m → passes (MarksAway sh.dirs d) m ≡ false → num (passes Acks m) ≤ s.owed
@@ -282,7 +279,7 @@ dir-due sh d s c m h k = go (outcome sh s c m) h
         (eq-self s.serving.serving) in record {
           owed = omega (arith, z, invs-invalidations sh s.lines c s.serving.serving);
           served = settled b (invalidation_count sh s.lines c) (invalidations sh s.lines c s.serving.serving) e
-              (λ j. nots-sent sh s.lines c s.serving.serving j);
+              (nots-sent sh s.lines c s.serving.serving);
           invs = λ j. aways-sent sh d s.lines c s.serving.serving j k;
           marked = λ x q. grind (nats, k x);
         }

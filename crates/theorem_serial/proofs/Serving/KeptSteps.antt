@@ -1,26 +1,23 @@
 -- Every event keeps the invariants on TIDs, probes and what is owed, and so does every run.
-use Rattle.base_lemmas.proofs.Lemmas.{eq-self}
 use Rattle.theorem_serial.proofs
 use proofs.Names
-use Names.{ℕ, ◌+◌, ◌≡◌, ◌<◌, ◌≤◌, ◌%◌, true, false, List, ◌++◌, ◌==◌, Option, Some, None, IfSome, slice_index_or, arith, refl, sym, ◌∙◌}
-use Names.{◌⊎◌, inl, inr, cases_lt, cases_eq, Local, num, no_lines, Core, Dir, Vendor, Msg, TidReq, TidGrant, Fill, ProbeReply, DataReq}
-use Names.{Inv, Shape, home, CoreState, DirState, World, Link, start, dir_start, in_flight, sent_all, Sends, Out, from_dir, core_moves}
-use Names.{core_takes, dir_takes, dir_asks, vendor_gives, Invs, InvsNot, InvsAway, Acks, MarksAway, AnyResolve, Any, live, among, passes}
-use Names.{Pair, pair, after_move, grant_taken, back_taken, after_answer, out_taken, after_grant, after_other_grant, share, KeptTids, due}
-use Names.{OwedAt, AtHomeOf, KeptOwed, Running, core_start, RepliesAbove, Reached, ReachedOf, KeptProbes, [], ◌∷◌, Program, Serving, Event}
-use Names.{core_exec, core_evict, grant, Answer, Waits, Drops, Asks, Takes, dir_deliver, Stepped, step, History, and_noted, recorded}
-use Names.{next_history, and_then, run_from, run, Resolves, handled, KeptTold, Kept, nats, tid_at, to_dir, to_core, FromCore, FromDir}
-use Names.{IfSome_then, first_state, ◌≢◌}
-use proofs.Counts.DirOutcome.{AnswersInside, dir-inside}
-use proofs.Counts.Links.{live-sends, live-takes, total-le, total-zero, live-fewer, none-taken}
-use proofs.Counts.StepCases.{differ, given, pairs_move, pairs_grant, pairs_back, pairs_dir, pairs_asks, pairs_vendor, sum_move, sum_grant}
-use proofs.Counts.StepCases.{sum_back, sum_back_away, sum_dir, sum_dir_away, sum_asks_here, sum_asks_away, sum_vendor, OfAnswer, step_cases}
-use proofs.OneCore.CoreAsks.{StaysReached, none-asked, asked-back, asked-exec, asked-evict, asked-grant}
+use Names.{eq-self, ℕ, ◌+◌, ◌≡◌, ◌<◌, ◌≤◌, ◌%◌, true, false, List, ◌++◌, ◌==◌, Option, Some, None, IfSome, slice_index_or, arith, refl, sym}
+use Names.{◌∙◌, ◌⊎◌, inl, inr, cases_lt, cases_eq, Local, num, no_lines, Core, Dir, Vendor, Msg, Fill, ProbeReply, DataReq, Inv, Shape}
+use Names.{home, CoreState, DirState, World, Link, start, dir_start, in_flight, sent_all, Sends, Out, from_dir, core_moves, core_takes}
+use Names.{dir_takes, dir_asks, vendor_gives, Invs, InvsNot, InvsAway, Acks, MarksAway, AnyResolve, Any, live, among, passes, Pair, pair}
+use Names.{after_move, grant_taken, back_taken, after_answer, out_taken, after_grant, after_other_grant, share, KeptTids, due, OwedAt}
+use Names.{AtHomeOf, KeptOwed, Running, core_start, RepliesAbove, Reached, ReachedOf, KeptProbes, [], Program, Serving, Event, core_exec}
+use Names.{core_evict, grant, Answer, Waits, Drops, Asks, Takes, dir_deliver, Stepped, step, Resolves, handled, KeptTold, Kept, nats}
+use Names.{tid_at, to_dir, to_core, FromCore, FromDir, IfSome_then, ◌≢◌}
+use proofs.Counts.{AnswersInside, dir-inside, live-sends, live-takes, total-le, total-zero, live-fewer, none-taken, differ, given}
+use proofs.Counts.{pairs_move, pairs_grant, pairs_back, pairs_dir, pairs_asks, pairs_vendor, sum_move, sum_grant, sum_back, sum_back_away}
+use proofs.Counts.{sum_dir, sum_dir_away, sum_asks_here, sum_asks_away, sum_vendor, OfAnswer, step_cases}
+use proofs.OneCore.{StaysReached, none-asked, asked-back, asked-exec, asked-evict, asked-grant}
 use proofs.Serving.CoreDue.{Clean, CleanOut, AcksHome, acks-back, clean-exec, clean-evict, clean-grant}
 use proofs.Serving.DirDue.{Due, nots-invs, at-home, DueBy, dir-due, still-due, Rises, fewer-above, RisesBy, dir-rises, rises-still}
-use proofs.Tids.CoreTids.{KeepsRequests, requests-exec, requests-evict, requests-back, KeepsPart, part-exec, part-evict, part-back}
-use proofs.Tids.TidSteps.{HandledBy, OnceAt, dir-handled, skipped-above, move-kept, grant-kept, back-kept, dir-kept, asks-kept, vendor-kept}
-use proofs.Tids.TidSteps.{start-kept, inside_from, any-one, live-some, once-there, no_sends}
+use proofs.Tids.{KeepsRequests, requests-exec, requests-evict, requests-back, KeepsPart, part-exec, part-evict, part-back, HandledBy}
+use proofs.Tids.{OnceAt, dir-handled, skipped-above, move-kept, grant-kept, back-kept, dir-kept, asks-kept, vendor-kept, start-kept}
+use proofs.Tids.{inside_from, any-one, live-some, once-there, no_sends}
 
 -- Each kind of event keeps what is owed equal to what is in flight.
 due-moved : {sh : Shape} (v : Pair) (o : Out) {d : ℕ} → Clean sh d (o.sends (Dir d)) → due (after_move v o d) + 0 ≡ due v + 0
@@ -49,7 +46,7 @@ pub grant-owed : (sh : Shape) (w : World) (c k : ℕ) (o : Out) → KeptOwed sh 
 unfolding core_takes due
 grant-owed sh w c k o h l y = record {
   owed = λ d. let e = sum_grant due sh.cores w c k o d 0 0 l (due-moved (pair w c d) o (y d)) in omega (arith, h.owed d);
-  at_home = pairs_grant (λ c d v. AtHomeOf sh d v) w c k o (λ d. granted d) h.at_home;
+  at_home = pairs_grant (λ c d v. AtHomeOf sh d v) w c k o granted h.at_home;
 }
   where
     granted : (d : ℕ) → AtHomeOf sh d (after_move (grant_taken (pair w c d) k) o d)
@@ -71,8 +68,8 @@ back-clean {e} q y = record { here = rw q (y e).acks; away = λ d n. (y d).acks;
 back-inv : (sh : Shape) (e l k u : ℕ) (o : Out) → home sh l ≡ e → ((d : ℕ) → AcksHome sh l d (o.sends (Dir d))) → BackDue sh e (Inv l k u) o
 unfolding passes
 back-inv sh e l k u o q y = record {
-  here = let b : (e == l % sh.dirs) ≡ true = grind nats in (y e).acks ∙ rw b refl;
-  away = λ d n. let b : (d == l % sh.dirs) ≡ false = grind nats in (y d).acks ∙ rw b refl;
+  here = let b : (e == l % sh.dirs) ≡ true = grind nats in (y e).acks ∙ rw b;
+  away = λ d n. let b : (d == l % sh.dirs) ≡ false = grind nats in (y d).acks ∙ rw b;
   marks = λ d. (y d).marks;
   far = λ d. (y d).far;
 }
@@ -254,13 +251,12 @@ pub vendor-owed : (sh : Shape) (w : World) (c k : ℕ) → KeptOwed sh w → c <
 unfolding vendor_gives due
 vendor-owed sh w c k h l = record {
   owed = λ d. let p = sum_vendor due sh.cores w c k d 0 0 l refl (λ j n. refl) in omega (arith, h.owed d);
-  at_home = pairs_vendor (λ c d v. AtHomeOf sh d v) w c k
-      (λ d. next (pair w c d) d (after_grant (pair w c d) k) refl refl refl (h.at_home c d))
-      (λ j d n. next (pair w j d) d (after_other_grant (pair w j d)) refl refl refl (h.at_home j d));
+  at_home = pairs_vendor (λ c d v. AtHomeOf sh d v) w c k (λ d. next (after_grant (pair w c d) k) refl refl refl (h.at_home c d))
+      (λ j d n. next (after_other_grant (pair w j d)) refl refl refl (h.at_home j d));
 }
   where
-    next : (v : Pair) (d : ℕ) (x : Pair) → x.dir ≡ v.dir → x.out ≡ v.out → x.back ≡ v.back → AtHomeOf sh d v → AtHomeOf sh d x
-    next v d x e f g a = record {
+    next : {v : Pair} {d : ℕ} (x : Pair) → x.dir ≡ v.dir → x.out ≡ v.out → x.back ≡ v.back → AtHomeOf sh d v → AtHomeOf sh d x
+    next x e f g a = record {
       served = rw (e, g) a.served;
       invs = rw g a.invs;
       marks = rw f a.marks;
@@ -500,24 +496,6 @@ step-kept {sh} p {w} e h = go (step sh p w e) (step-told sh p w e h.told) (step-
     go None a b = tt
     go (Some o) a b = record { told = a; probes = b }
 
--- and so does every run
-run_from-kept : (sh : Shape) (p : Program) (es : List Event) (h : History) → Kept sh h.world
-    → IfSome (run_from sh p es h) (λ r. Kept sh r.world)
-unfolding run_from next_history
-run_from-kept sh p [] h k = k
-run_from-kept sh p (e ∷ es) h k = go (step sh p h.world e) (step-kept p e k) (λ g q. run_from-kept sh p es g q)
-  where
-    go : (x : Option Stepped) → IfSome x (λ o. Kept sh o.world)
-        → ((g : History) → Kept sh g.world → IfSome (run_from sh p es g) (λ r. Kept sh r.world))
-        → IfSome (and_then (run_from sh p es) (recorded h x)) (λ r. Kept sh r.world)
-    go None q f = tt
-    go (Some o) q f = f (record { world = o.world; commits = and_noted o.noted h.commits }) q
-
 pub start-all : (sh : Shape) (entries : ℕ → Local) (ram : ℕ → ℕ) → Kept sh (start entries ram)
 start-all sh entries ram =
     record { told = record { tids = start-kept sh entries ram; owed = start-owed sh entries ram }; probes = start-probes sh entries ram }
-
-pub run-kept : (sh : Shape) (p : Program) (entries : ℕ → Local) (ram : ℕ → ℕ) (es : List Event)
-    → IfSome (run sh p (start entries ram) es) (λ r. Kept sh r.world)
-unfolding run
-run-kept sh p entries ram es = run_from-kept sh p es (first_state entries ram) (start-all sh entries ram)

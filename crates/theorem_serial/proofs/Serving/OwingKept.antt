@@ -5,14 +5,13 @@ use proofs.Names
 use Names.{ℕ, ◌≡◌, ◌<◌, ◌==◌, ◌&&◌, ◌||◌, Bool, true, false, Option, Some, None, IfSome, nat_lt, if◌then◌else◌, refl, ap₂, Program, Local}
 use Names.{Outcome, any_below, Dir, Event, Msg, Fill, ProbeReply, DataReq, Inv, Shape, writes_at, reads_at, any_below-at, CoreState, World}
 use Names.{Phase, Running, AwaitTid, DoomedTid, Probing, Ready, Overflowing, Solo, start, core_start, Out, commit, committed_core}
-use Names.{phase_after_commit, core_exec, core_evict, from_dir, grant, grant_in_phase, is_probed, probing_or_ready, all_replied, fill}
-use Names.{data_request, invalidate, probe_reply, Answer, Waits, dir_deliver, core_moves, core_takes, dir_takes, dir_asks, vendor_gives}
-use Names.{step, OwingFits, awaits_replies, asks_dir, solo_commit, nats, tested, inl, inr}
-use proofs.OneCore.CoreAsks.{none-below, all-replied}
-use proofs.OneCore.CoreSteps.{reads_at-same, fill-steady, data-steady, Hurt, Unhurt, Rolled, Doomed, Aborted, Gave_up, Invalidated}
-use proofs.OneCore.CoreSteps.{invalidate-cases, Replied, Ignored, Probed, Left_alone, reply-cases, steady-emptied, Steady, did-steady}
-use proofs.Counts.StepCases.{OfAnswer, step_cases}
-use proofs.OneCore.Outcomes.{Acts, Commits_now, Did, each-exec, out, each-evict, emptied, writes_at-same, Ends_alone, Ends_run, Room_wanted}
+use Names.{phase_after_commit, core_exec, core_evict, from_dir, grant, grant_in_phase, is_probed, probing_or_ready, all_replied, Answer}
+use Names.{Waits, dir_deliver, core_moves, core_takes, dir_takes, dir_asks, vendor_gives, step, OwingFits, awaits_replies, asks_dir}
+use Names.{solo_commit, nats, tested, inl, inr}
+use proofs.OneCore.{none-below, all-replied, reads_at-same, fill-steady, data-steady, Hurt, Unhurt, Rolled, Doomed, Aborted, Gave_up}
+use proofs.OneCore.{Invalidated, invalidate-cases, Replied, Ignored, Probed, Left_alone, reply-cases, steady-emptied, Steady, did-steady}
+use proofs.OneCore.{Acts, Commits_now, Did, each-exec, out, each-evict, writes_at-same, Ends_alone, Ends_run, Room_wanted}
+use proofs.Counts.{OfAnswer, step_cases}
 
 abbrev pub KeptOwing : Shape → World → Type 0
 KeptOwing sh w = (c : ℕ) → OwingFits sh (w.cores c)
@@ -147,10 +146,10 @@ hurt-owing {sh} s {o} i h = go i.hurt
     go : Hurt sh s o.core i.sends → OwingFits sh o.core
     go (Unhurt ph ow mo re se) = same-owing ph ow
         (λ a d. ap₂ (λ x z. x || z) (writes_at-same sh o.core.cache s.cache d mo) (reads_at-same sh o.core.cache s.cache d re)) h
-    go (Rolled ph ph' ow se) = none-owing ph' refl (λ d. rw ow refl)
-    go (Doomed ph ph' ow se) = none-owing ph' refl (λ d. rw ow refl)
-    go (Aborted u ph ph' ow se) = none-owing ph' refl (λ d. rw ow refl)
-    go (Gave_up u ph ph' ow se) = none-owing ph' refl (λ d. rw ow refl)
+    go (Rolled ph ph' ow se) = none-owing ph' refl (λ d. rw ow)
+    go (Doomed ph ph' ow se) = none-owing ph' refl (λ d. rw ow)
+    go (Aborted u ph ph' ow se) = none-owing ph' refl (λ d. rw ow)
+    go (Gave_up u ph ph' ow se) = none-owing ph' refl (λ d. rw ow)
 
 owing-back : {sh : Shape} (e : ℕ) {s : CoreState} (m : Msg) → OwingFits sh s → IfSome (from_dir sh e s m) (λ o. OwingFits sh o.core)
 owing-back {sh} e {s} (ProbeReply u v) h = replied-owing e u (reply-cases sh e u s) h

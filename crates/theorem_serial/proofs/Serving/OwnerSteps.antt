@@ -2,20 +2,18 @@
 use Rattle.theorem_serial.proofs
 use proofs.Names
 use Names.{Contains-append_right, Contains-append_cases, Contains-append_left, after_other_grant, slice_index_or, length-append}
-use Names.{waits_for_tid, append_assoc, vendor_start, vendor_gives, next_history, dir_deliver, grant_taken, after_grant, then_grants}
-use Names.{grants_from, LastGranted, append-nil, core_start, core_evict, core_moves, core_takes, after_move, granted_by, IsNumbered}
-use Names.{AreGranted, KeptOwners, in_flight, core_exec, dir_takes, and_noted, RequestOf, Contains, cases_eq, TidGrant, DirState, from_dir}
-use Names.{dir_asks, recorded, and_then, run_from, KeptTids, IsRising, AnyGrant, Program, Stepped, History, has_tid, AsksTid, Option}
-use Names.{IfSome, nat_le, Vendor, TidReq, Answer, Grants, passes, sum_of, holder, false, arith, subst, Noted, Local, Event, Shape, World}
-use Names.{start, Sends, grant, Waits, Drops, Takes, among, share, Grant, times, Phase, ◌==◌, List, ◌++◌, Some, None, refl, Core, Asks}
-use Names.{step, live, Pair, pair, Kept, Bool, true, Link, ◌+◌, ◌≡◌, ◌<◌, ◌≤◌, ◌∷◌, sym, ◌∙◌, ◌⊎◌, inl, inr, num, Dir, Out, run, Msg, []}
-use Names.{ap, ℕ, nats, grant_to, first_state, ◌≢◌, tested}
-use proofs.Counts.Links.{live-sends, live-takes, total-le, total-zero, total-same, live-fewer}
-use proofs.Counts.StepCases.{OfAnswer, step_cases, given, pairs_move, pairs_grant, pairs_back, pairs_vendor, sum_move, sum_grant, sum_back}
-use proofs.Counts.StepCases.{sum_back_away, sum_vendor, pairs_dir, pairs_asks}
-use proofs.Serving.KeptSteps.{core_of_grant, core_of_back, core_of_ask, step-kept, start-all}
-use proofs.Tids.Commits.{times-insert, insert-rising, insert-granted, granted-more, numbered-more, numbered-least, numbered-most, only-one}
-use proofs.Tids.CoreTids.{KeepsHolder, noted_tid, none, holder-exec, holder-evict, holder-grant, holder-back}
+use Names.{waits_for_tid, vendor_start, vendor_gives, dir_deliver, grant_taken, after_grant, LastGranted, append-nil, core_start}
+use Names.{core_evict, core_moves, core_takes, after_move, granted_by, IsNumbered, AreGranted, KeptOwners, in_flight, core_exec, dir_takes}
+use Names.{and_noted, RequestOf, Contains, cases_eq, TidGrant, DirState, from_dir, dir_asks, KeptTids, IsRising, AnyGrant, Program, has_tid}
+use Names.{AsksTid, Option, IfSome, nat_le, Vendor, TidReq, Answer, Grants, passes, sum_of, holder, false, arith, subst, Noted, Local}
+use Names.{Event, Shape, World, start, Sends, grant, Waits, Drops, Takes, among, share, Grant, times, Phase, ◌==◌, List, ◌++◌, Some, None}
+use Names.{refl, Core, Asks, step, live, Pair, pair, true, Link, ◌+◌, ◌≡◌, ◌<◌, ◌≤◌, ◌∷◌, sym, ◌∙◌, ◌⊎◌, inl, inr, num, Dir, Out, Msg, []}
+use Names.{ap, ℕ, nats, grant_to, ◌≢◌, tested}
+use proofs.Counts.{live-sends, live-takes, total-le, total-zero, total-same, live-fewer, OfAnswer, step_cases, given, pairs_move}
+use proofs.Counts.{pairs_grant, pairs_back, pairs_vendor, sum_move, sum_grant, sum_back, sum_back_away, sum_vendor, pairs_dir, pairs_asks}
+use proofs.Serving.KeptSteps.{core_of_grant, core_of_back, core_of_ask}
+use proofs.Tids.{times-insert, insert-rising, insert-granted, granted-more, numbered-more, numbered-least, numbered-most, only-one}
+use proofs.Tids.{KeepsHolder, noted_tid, none, holder-exec, holder-evict, holder-grant, holder-back}
 
 -- a core's part after its step
 pub holder-moved : (v : Pair) {o : Out} (d t : ℕ) {c : ℕ} → KeepsHolder c none v.core o
@@ -159,7 +157,7 @@ vendor-owners sh gs w cs c k h l = record {
 
     own : (d t : ℕ) → 1 ≤ holder t (after_grant (pair w c d) k) → (w.next ≡ t) ⊎ (w.next ≢ t) → Contains (gs ++ g ∷ []) (grant_to t c)
     own d t x (inl q) = rw (sym q) (Contains-append_right gs (g ∷ []) g (0, omega arith, refl))
-    own d t x (inr q) = let z : num (w.next == t) ≡ 0 = let b : (w.next == t) ≡ false = grind nats in rw b refl in
+    own d t x (inr q) = let z : num (w.next == t) ≡ 0 = let b : (w.next == t) ≡ false = grind nats in rw b in
         Contains-append_left gs (g ∷ []) (grant_to t c) (h.held c d t (omega (arith, holder-given (pair w c d) k t, x, z)))
 
 share-start : (entries : ℕ → Local) (ram : ℕ → ℕ) (t j : ℕ) → share (holder t) (start entries ram) 0 j ≡ 0
@@ -203,30 +201,6 @@ step-owners {sh} p {gs} {w} {cs} e z h = step_cases sh p w e (λ g o. KeptOwners
     answered c d k Drops = rw append-nil (dir-owners c d k (w.dirs d) (λ dst. []) h)
     answered c d k (Asks s sends) = rw append-nil (asks-owners d s sends h)
     answered c d k (Takes s sends) = rw append-nil (dir-owners c d k s sends h)
-
--- and so does every run
-run_from-owners : (sh : Shape) (p : Program) (es : List Event) (gs : List Grant) (h : History) → Kept sh h.world
-    → KeptOwners sh gs h.world h.commits → IfSome (run_from sh p es h) (λ r. KeptOwners sh (gs ++ grants_from sh p es h) r.world r.commits)
-unfolding run_from grants_from next_history
-run_from-owners sh p [] gs h k o = rw append-nil o
-run_from-owners sh p (e ∷ es) gs h k o = go (step sh p h.world e) (step-kept p e k) (step-owners p e k.told.tids o)
-    (λ g q x. run_from-owners sh p es (gs ++ granted_by h.world e) g q x)
-  where
-    go : (x : Option Stepped) → IfSome x (λ y. Kept sh y.world)
-        → IfSome x (λ y. KeptOwners sh (gs ++ granted_by h.world e) y.world (and_noted y.noted h.commits))
-        → ((g : History) → Kept sh g.world → KeptOwners sh (gs ++ granted_by h.world e) g.world g.commits
-        → IfSome (run_from sh p es g) (λ r. KeptOwners sh ((gs ++ granted_by h.world e) ++ grants_from sh p es g) r.world r.commits))
-        → IfSome (and_then (run_from sh p es) (recorded h x))
-        (λ r. KeptOwners sh (gs ++ then_grants (granted_by h.world e) (grants_from sh p es) (recorded h x)) r.world r.commits)
-    go None a b f = tt
-    go (Some y) a b f = let g : History = record { world = y.world; commits = and_noted y.noted h.commits } in
-        rw (sym (append_assoc gs (granted_by h.world e) (grants_from sh p es g))) (f g a b)
-
-pub run-owners : (sh : Shape) (p : Program) (entries : ℕ → Local) (ram : ℕ → ℕ) (es : List Event)
-    → IfSome (run sh p (start entries ram) es) (λ r. KeptOwners sh (grants_from sh p es (first_state entries ram)) r.world r.commits)
-unfolding run
-run-owners sh p entries ram es = run_from-owners sh p es [] (first_state entries ram) (start-all sh entries ram)
-    (start-owners sh entries ram)
 
 -- a grant in flight is the only one of its TID
 pub grant-alone : {sh : Shape} {gs : List Grant} {w : World} {cs : List Noted} (c t : ℕ) → KeptOwners sh gs w cs → c < sh.cores

@@ -2,22 +2,21 @@
 use Rattle.theorem_serial.specs.Probing.{ProbingOf, KeptProbing}
 use Rattle.theorem_serial.proofs
 use proofs.Names
-use Names.{Contains-append_left, after_other_grant, slice_index_or, if◌then◌else◌, data_request, after_answer, probe_reply, dir_deliver}
-use Names.{Overflowing, all_replied, grant_taken, after_grant, append-nil, ProbeReply, core_evict, invalidate, core_moves, core_takes}
-use Names.{granted_by, KeptOwners, after_move, back_taken, CoreState, in_flight, core_exec, marks_for, dir_takes, out_taken, KeptCores}
-use Names.{Contains, cases_eq, TidGrant, sent_all, from_dir, DirState, Program, DataReq, ignored, Replies, Probing, has_tid, OneCore}
-use Names.{Option, IfSome, Vendor, Answer, Grants, Probes, passes, holder, nat_le, arith, Noted, Local, Event, Shape, World, start, grant}
-use Names.{Waits, Drops, Takes, among, Grant, false, subst, Phase, Ready, Sends, ◌==◌, List, ◌++◌, Some, None, refl, Core, Fill, fill, Asks}
-use Names.{step, live, Kept, Pair, pair, Bool, true, Solo, ◌+◌, ◌≡◌, ◌≤◌, ◌∷◌, sym, ◌⊎◌, inl, inr, num, Dir, Msg, Inv, Out, ◌∙◌, put, []}
-use Names.{ap, ℕ, nats, to_dir, to_core, FromCore, FromDir, grant_to, ◌≢◌}
-use proofs.Counts.Links.{live-sends, live-takes}
-use proofs.Counts.StepCases.{pairs_move, pairs_grant, pairs_back, pairs_dir, pairs_asks, pairs_vendor, OfAnswer, step_cases}
-use proofs.OneCore.CoreSteps.{fill-steady, data-steady, invalidate-cases, Replied, Ignored, Probed, Left_alone, reply-cases}
+use Names.{Contains-append_left, after_other_grant, slice_index_or, if◌then◌else◌, after_answer, probe_reply, dir_deliver, Overflowing}
+use Names.{all_replied, grant_taken, after_grant, append-nil, ProbeReply, core_evict, core_moves, core_takes, granted_by, KeptOwners}
+use Names.{after_move, back_taken, CoreState, in_flight, core_exec, marks_for, dir_takes, out_taken, KeptCores, Contains, cases_eq}
+use Names.{TidGrant, sent_all, from_dir, DirState, Program, DataReq, ignored, Replies, Probing, has_tid, OneCore, Option, IfSome, Vendor}
+use Names.{Answer, Grants, Probes, passes, holder, nat_le, arith, Noted, Local, Event, Shape, World, start, grant, Waits, Drops, Takes}
+use Names.{among, Grant, false, subst, Phase, Ready, Sends, ◌==◌, List, ◌++◌, Some, None, refl, Core, Fill, Asks, step, live, Kept, Pair}
+use Names.{pair, Bool, true, Solo, ◌+◌, ◌≡◌, ◌≤◌, ◌∷◌, sym, ◌⊎◌, inl, inr, num, Dir, Msg, Inv, Out, ◌∙◌, put, [], ap, ℕ, nats, to_dir}
+use Names.{to_core, FromCore, FromDir, grant_to, ◌≢◌}
+use proofs.Counts.{live-sends, live-takes, pairs_move, pairs_grant, pairs_back, pairs_dir, pairs_asks, pairs_vendor, OfAnswer, step_cases}
+use proofs.OneCore.{fill-steady, data-steady, invalidate-cases, Replied, Ignored, Probed, Left_alone, reply-cases}
 use proofs.Serving.DirDue.{RepliesBy, dir-replies, none-replied, Replying}
 use proofs.Serving.KeptSteps.{core_of_grant}
 use proofs.Serving.OwnerSteps.{grant-alone}
-use proofs.Tids.CoreTids.{Unprobed, unprobed-steady, unprobed-exec, unprobed-evict, unprobed-hurt, granted, none-marks, none-to, Granted}
-use proofs.Tids.TidSteps.{granted_waits, live-some, is_mine, not_mine}
+use proofs.Tids.{Unprobed, unprobed-steady, unprobed-exec, unprobed-evict, unprobed-hurt, granted, none-marks, none-to, Granted}
+use proofs.Tids.{granted_waits, live-some, is_mine, not_mine}
 
 -- Every event keeps that a probe or reply in flight is of a TID that was granted to its core.
 
@@ -34,7 +33,7 @@ Quiet o = (d t : ℕ) → among (Probes t) (o.sends (Dir d)) ≡ 0
 
 nothing-probed : (s : CoreState) (o : Out) → o ≡ ignored s → Quiet o
 unfolding among
-nothing-probed s o e d t = rw e refl
+nothing-probed s o e d t = rw e
 
 nothing-sent : (t : ℕ) → among (Probes t) [] ≡ 0
 unfolding among
@@ -223,10 +222,10 @@ record Counts (e u : ℕ) (s : CoreState) (o : Out) : Type 0 where
   away : (d t : ℕ) → d ≢ e → has_tid o.core.phase t ≡ true → (has_tid s.phase t ≡ true) × (o.core.owing d ≡ s.owing d)
 
 put-here : (f : ℕ → Bool) (e : ℕ) → num (put f e false e) ≡ 0
-put-here f e = let b : (e == e) ≡ true = grind nats in rw b refl
+put-here f e = let b : (e == e) ≡ true = grind nats in rw b
 
 put-away : (f : ℕ → Bool) (e d : ℕ) → d ≢ e → put f e false d ≡ f d
-put-away f e d n = let b : (d == e) ≡ false = grind nats in rw b refl
+put-away f e d n = let b : (d == e) ≡ false = grind nats in rw b
 
 one-less : {s : CoreState} {o : Out} {e u : ℕ} (x y : Phase) (b : Bool) → o.core.phase ≡ (if b then x else y)
     → o.core.owing ≡ put s.owing e false → s.owing e ≡ true → ((t : ℕ) → has_tid x t ≡ (u == t)) → ((t : ℕ) → has_tid y t ≡ (u == t))
@@ -253,10 +252,10 @@ counts sh e u s o idle (Ignored q n) = rw q (record {
     still t k (inl i) (inr z) = inr (i, z)
     still t k (inl i) (inl z) = inr (i, n (subst (λ y. (s.phase ≡ Probing y) ⊎ (s.phase ≡ Overflowing (Some y))) (sym i) z))
 counts sh e u s o idle (Probed g f ph ow ca se cm) = one-less (Ready u) (Probing u) (all_replied sh (put s.owing e false)) ph ow f
-    (λ t. refl) (λ t. refl) (λ t. rw g refl) (λ d t. rw se (none-to t e d (marks_for sh s.cache u e) (none-marks sh s.cache u e t)))
+    (λ t. refl) (λ t. refl) (λ t. rw g) (λ d t. rw se (none-to t e d (marks_for sh s.cache u e) (none-marks sh s.cache u e t)))
 counts sh e u s o idle (Left_alone g f ph ow mo se cm) =
-    one-less (Solo u) (Overflowing (Some u)) (all_replied sh (put s.owing e false)) ph ow f (λ t. refl) (λ t. refl) (λ t. rw g refl)
-    (λ d t. rw se refl)
+    one-less (Solo u) (Overflowing (Some u)) (all_replied sh (put s.owing e false)) ph ow f (λ t. refl) (λ t. refl) (λ t. rw g)
+    (λ d t. rw se)
 
 probing-replied : {v : Pair} {o : Out} (e k u x t : ℕ) → slice_index_or v.back k None ≡ Some (ProbeReply u x) → Counts e u v.core o
     → ProbingOf e t v → ProbingOf e t (after_move (back_taken v k) o e)
@@ -264,7 +263,7 @@ unfolding passes
 probing-replied {v} {o} e k u x t i y h = probing-taken v o e k u x t i y.sent (λ z. let w = y.here t z in (w.0, here w.0 w.1)) h
   where
     some : (u ≡ t) → 1 ≤ live (Replies t) v.back
-    some q = let r : num (u == t) ≡ 1 = let b : (u == t) ≡ true = grind nats in rw b refl in
+    some q = let r : num (u == t) ≡ 1 = let b : (u == t) ≡ true = grind nats in rw b in
         omega (arith, live-takes (Replies t) v.back k (ProbeReply u x) i)
 
     here : has_tid v.core.phase t ≡ true → (num (v.core.owing e) ≡ num (o.core.owing e) + num (u == t))
@@ -283,8 +282,8 @@ idle_of {s} e t h k = go s.phase refl k
     go : (q : Phase) → s.phase ≡ q → has_tid q t ≡ true → ((s.phase ≡ Probing t) ⊎ (s.phase ≡ Overflowing (Some t))) ⊎ (s.owing e ≡ false)
     go (Probing u) g x = inl (inl (g ∙ ap Probing (same u x)))
     go (Overflowing (Some u)) g x = inl (inr (g ∙ ap (λ y. Overflowing (Some y)) (same u x)))
-    go (Ready u) g x = inr (h.owing e (rw g refl))
-    go (Solo u) g x = inr (h.owing e (rw g refl))
+    go (Ready u) g x = inr (h.owing e (rw g))
+    go (Solo u) g x = inr (h.owing e (rw g))
     go _ g x = absurd (cc)
 
 -- a directory answers
@@ -346,7 +345,7 @@ step-probing {sh} p {w} e z y x h = step_cases sh p w e (λ g o. KeptProbing o.w
     (λ c k u i. pairs_grant P w c k (grant sh u (w.cores c)) (λ d t. probing-granted d t k u i
     (grant-alone c u y (core_of_grant c k z.told.tids i))
     (granted sh u (w.cores c) (granted_waits (pair w c d) k i (z.told.tids.requests c d))) (h c d u) (h c d t)) h)
-    (λ c d k m i. taken c d k m i) (λ c d k m i. answered c d k m i (dir_deliver sh (w.dirs d) c m) (dir-replies sh (w.dirs d) c m))
+    taken (λ c d k m i. answered c d k m i (dir_deliver sh (w.dirs d) c m) (dir-replies sh (w.dirs d) c m))
     (λ c k i. pairs_vendor P w c k (λ d t. probing-given (pair w c d) k d t (h c d t)) (λ j d n t. probing-next t (h j d t)))
   where
     P : ℕ → ℕ → Pair → Type 0
@@ -356,22 +355,22 @@ step-probing {sh} p {w} e z y x h = step_cases sh p w e (λ g o. KeptProbing o.w
     moved c None u = tt
     moved c (Some o) u = pairs_move P w c o (λ d t. probing-moved u (h c d t)) h
 
-    quiet : (c e k : ℕ) (m : Msg) (o : Out) → FromDir w e c k m → ((t : ℕ) → passes (Replies t) m ≡ false)
-        → Unprobed (w.cores c) o → KeptProbing (core_takes w (Dir e) c k o)
-    quiet c e k m o i f u = pairs_back P w e c k o (λ t. probing-moved u (dropped k m t i (f t) (h c e t)))
+    quiet : (c e k : ℕ) {m : Msg} {o : Out} → FromDir w e c k m → ((t : ℕ) → passes (Replies t) m ≡ false) → Unprobed (w.cores c) o
+        → KeptProbing (core_takes w (Dir e) c k o)
+    quiet c e k {m} {o} i f u = pairs_back P w e c k o (λ t. probing-moved u (dropped k m t i (f t) (h c e t)))
         (λ d n t. probing-moved u (h c d t)) h
 
     reply : (c e k u v : ℕ) → FromDir w e c k (ProbeReply u v) → KeptProbing (core_takes w (Dir e) c k (probe_reply sh e u (w.cores c)))
     reply c e k u v i =
         let a = counts sh e u (w.cores c) (probe_reply sh e u (w.cores c)) (λ t. idle_of e t (x c)) (reply-cases sh e u (w.cores c)) in
         pairs_back P w e c k (probe_reply sh e u (w.cores c)) (λ t. probing-replied e k u v t i a (h c e t))
-        (λ d n t. probing-away (probe_reply sh e u (w.cores c)) d t a.sent (λ q. a.away d t n q) (h c d t)) h
+        (λ d n t. probing-away (probe_reply sh e u (w.cores c)) d t a.sent (a.away d t n) (h c d t)) h
 
     taken : (c d k : ℕ) (m : Msg) → FromDir w d c k m → IfSome (from_dir sh d (w.cores c) m) (λ o. KeptProbing (core_takes w (Dir d) c k o))
     taken c d k (ProbeReply u v) i = reply c d k u v i
-    taken c d k (Fill l ws) i = quiet c d k (Fill l ws) _ i (no-reply_fill l ws) (unprobed-steady (fill-steady l ws (w.cores c)))
-    taken c d k (DataReq l) i = quiet c d k (DataReq l) _ i (no-reply_data l) (unprobed-steady (data-steady sh l (w.cores c)))
-    taken c d k (Inv l m u) i = quiet c d k (Inv l m u) _ i (no-reply_inv l m u) (unprobed-hurt (invalidate-cases sh l m u (w.cores c)))
+    taken c d k (Fill l ws) i = quiet c d k i (no-reply_fill l ws) (unprobed-steady (fill-steady l ws (w.cores c)))
+    taken c d k (DataReq l) i = quiet c d k i (no-reply_data l) (unprobed-steady (data-steady sh l (w.cores c)))
+    taken c d k (Inv l m u) i = quiet c d k i (no-reply_inv l m u) (unprobed-hurt (invalidate-cases sh l m u (w.cores c)))
     taken c d k _ i = tt
 
     dir : (c d k : ℕ) (m : Msg) (s : DirState) (sends : Sends) → FromCore w c d k m → Replying m c sends

@@ -86,7 +86,8 @@ unique-at n (suc i) zero (x ∷ gs) g h o t a p b q = let r : x.tid ≡ h.tid = 
 unique-at n (suc i) (suc j) (x ∷ gs) g h o t a p b q = unique-at (n + 1) i j gs g h o.1 t (omega arith) p (omega arith) q
 
 -- a TID was granted to one core
-pub granted-once : (n : ℕ) (gs : List Grant) (t c d : ℕ) → IsNumbered n gs → Contains gs (grant_to t c) → Contains gs (grant_to t d) → c ≡ d
+pub granted-once : (n : ℕ) (gs : List Grant) (t c d : ℕ) → IsNumbered n gs → Contains gs (record { tid = t; core = c })
+    → Contains gs (record { tid = t; core = d }) → c ≡ d
 granted-once n gs t c d o a b = ap (λ g. g.core) (unique-at n a.0 b.0 gs (grant_to t c) (grant_to t d) o refl a.1 a.2 b.1 b.2)
 
 -- Which commits are listed after a further one, and that TIDs count from 1.
@@ -98,10 +99,10 @@ contains-cases x n xs c = go c.0 c.1 c.2
     go (suc k) l e = inr (k, omega (arith, l), e)
 
 pub granted-at : (gs : List Grant) (cs : List Noted) (n : Noted) → AreGranted gs cs → Contains cs n
-    → Contains gs (grant_to n.tid.0 n.core.0)
+    → Contains gs (record { tid = n.tid.0; core = n.core.0 })
 unfolding AreGranted
 granted-at gs [] n a c = absurd (omega (arith, c.1))
-granted-at gs (x ∷ cs) n a c = go (contains-cases x n cs c) (λ k. granted-at gs cs n a.1 k)
+granted-at gs (x ∷ cs) n a c = go (contains-cases x n cs c) (granted-at gs cs n a.1)
   where
     go : (x ≡ n) ⊎ Contains cs n → (Contains cs n → Contains gs (grant_to n.tid.0 n.core.0)) → Contains gs (grant_to n.tid.0 n.core.0)
     go (inl e) f = rw e at a.0
@@ -110,7 +111,7 @@ granted-at gs (x ∷ cs) n a c = go (contains-cases x n cs c) (λ k. granted-at 
 pub inserted : (x n : Noted) (cs : List Noted) → Contains (insert_commit x cs) n → (x ≡ n) ⊎ Contains cs n
 unfolding insert_commit
 inserted x n [] k = contains-cases x n [] k
-inserted x n (c ∷ cs) k = go (nat_lt x.tid.0 c.tid.0) k (λ q. inserted x n cs q)
+inserted x n (c ∷ cs) k = go (nat_lt x.tid.0 c.tid.0) k (inserted x n cs)
   where
     later : Contains cs n → Contains (c ∷ cs) n
     later q = (suc q.0, omega (arith, q.1), q.2)
@@ -148,12 +149,12 @@ later m cs x k = (suc k.0, omega (arith, k.1), k.2)
 pub last-same : (p q : Noted → Bool) (cs : List Noted) → ((x : Noted) → Contains cs x → p x ≡ q x) → last_of p cs ≡ last_of q cs
 unfolding last_of
 last-same p q [] h = refl
-last-same p q (m ∷ cs) h = rw (h m (0, omega arith, refl), last-same p q cs (λ x k. h x (later m cs x k))) refl
+last-same p q (m ∷ cs) h = rw (h m (0, omega arith, refl), last-same p q cs (λ x k. h x (later m cs x k)))
 
 pub last-most : (p : Noted → Bool) (cs : List Noted) (b : ℕ) → ((x : Noted) → Contains cs x → p x ≡ true → x.tid.0 ≤ b) → last_of p cs ≤ b
 unfolding last_of
 last-most p [] b h = omega arith
-last-most p (m ∷ cs) b h = go (p m) (λ e. h m (0, omega arith, refl) e) (last-most p cs b (λ x k. h x (later m cs x k)))
+last-most p (m ∷ cs) b h = go (p m) (h m (0, omega arith, refl)) (last-most p cs b (λ x k. h x (later m cs x k)))
   where
     go : (y : Bool) → (y ≡ true → m.tid.0 ≤ b) → last_of p cs ≤ b → max (cond y m.tid.0 0) (last_of p cs) ≤ b
     go a f l = grind nats

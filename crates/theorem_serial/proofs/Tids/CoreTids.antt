@@ -2,21 +2,20 @@
 use Rattle.theorem_serial.specs.Count.{Asks}
 use Rattle.theorem_serial.proofs
 use proofs.Names
-use Names.{phase_after_commit, probing_or_ready, committed_core, grant_in_phase, if◌then◌else◌, waits_for_tid, ◌+◌, data_request}
-use Names.{Overflowing, probe_reply, all_replied, solo_commit, ProbeReply, core_evict, invalidate, ℕ, any_below, writes_at, CoreState}
-use Names.{DoomedTid, marks_for, core_exec, is_probed, AwaitTid, false, from_dir, Resolves, Program, Outcome, DataReq, Running, Probing}
-use Names.{ignored, IfSome, InvAck, commit, arith, passes, Shape, Phase, Ready, Sends, grant, among, opens, Bool, true, List, ◌==◌, ◌&&◌}
-use Names.{Some, None, refl, Fill, home, Solo, fill, ◌≡◌, ◌<◌, ◌∷◌, ◌⊎◌, inl, inr, num, Dir, Msg, Inv, Out, put, [], to, nats, Vendor}
-use Names.{skip_all, probe_all, commit_sends, solo_sends, grant_sends, abort_written, flush_line, ◌≤◌, nat_lt, sym, ap, ◌∙◌, Mark, Cache}
-use Names.{modified_mask, written_lines, Probes, Protocol, has_tid, moves, Option, Noted, noted, ◌≢◌}
-use proofs.Counts.Links.{among-append, resolves-commit_sends, resolves-abort_written, resolves-skip_all, resolves-probe_all}
-use proofs.Counts.Links.{resolves-grant_sends, resolves-marks_for, resolves-solo_sends, among-quiet, among-fewer, among-flat_map_none}
-use proofs.OneCore.CoreSteps.{Steady, did-steady, ignored-steady, fill-steady, data-steady, Hurt, Invalidated, invalidate-cases}
-use proofs.OneCore.CoreSteps.{steady-emptied, Ignored, Left_alone, Probed, Replied, reply-cases, Unhurt, Rolled, Doomed, Aborted, Gave_up}
-use proofs.OneCore.Outcomes.{Acts, Commits_now, Did, each-exec, out, each-evict, emptied, writes_at-same, Ends_alone, Ends_run, Room_wanted}
-use proofs.OneCore.Outcomes.{Heard, Hurt_alone, Hurt_probing, Hurt_running, Hurt_waiting, Last_probing, Last_room, each-back, heard}
-use proofs.OneCore.Outcomes.{after_end, said}
-use proofs.OneCore.Said.{quiet, Aborts_all, Skips_all, Tells_alone, Tells_commit, Wants, say}
+use Names.{phase_after_commit, probing_or_ready, committed_core, grant_in_phase, if◌then◌else◌, waits_for_tid, ◌+◌, Overflowing}
+use Names.{all_replied, solo_commit, ProbeReply, core_evict, ℕ, any_below, writes_at, CoreState, DoomedTid, marks_for, core_exec, is_probed}
+use Names.{AwaitTid, false, from_dir, Resolves, Program, Outcome, DataReq, Running, Probing, ignored, IfSome, InvAck, commit, arith, passes}
+use Names.{Shape, Phase, Ready, Sends, grant, among, opens, Bool, true, List, ◌==◌, ◌&&◌, Some, None, refl, Fill, home, Solo, ◌≡◌, ◌<◌, ◌∷◌}
+use Names.{◌⊎◌, inl, inr, num, Dir, Msg, Inv, Out, put, [], to, nats, Vendor, skip_all, probe_all, commit_sends, solo_sends, grant_sends}
+use Names.{abort_written, flush_line, ◌≤◌, nat_lt, sym, ap, ◌∙◌, Mark, Cache, modified_mask, written_lines, Probes, Protocol, has_tid}
+use Names.{Option, Noted, noted, ◌≢◌}
+use proofs.Counts.{among-append, resolves-commit_sends, resolves-abort_written, resolves-skip_all, resolves-probe_all, resolves-grant_sends}
+use proofs.Counts.{resolves-marks_for, resolves-solo_sends, among-quiet, among-fewer, among-flat_map_none}
+use proofs.OneCore.{Steady, did-steady, ignored-steady, fill-steady, data-steady, Hurt, Invalidated, invalidate-cases, steady-emptied}
+use proofs.OneCore.{Ignored, Left_alone, Probed, Replied, reply-cases, Unhurt, Rolled, Doomed, Aborted, Gave_up, Acts, Commits_now, Did}
+use proofs.OneCore.{each-exec, out, each-evict, writes_at-same, Ends_alone, Ends_run, Room_wanted, Heard, Hurt_alone, Hurt_probing}
+use proofs.OneCore.{Hurt_running, Hurt_waiting, Last_probing, Last_room, each-back, heard, after_end, said, quiet, Aborts_all, Skips_all}
+use proofs.OneCore.{Tells_alone, Tells_commit, Wants}
 
 -- What a core's rules do to its part of a TID, and to its requests for one.
 
@@ -60,8 +59,8 @@ part-exec sh p c d t s l = each-exec sh p c s (λ o. KeepsPart sh d t 0 s o) go
   where
     go : (x : Did sh p c s) → KeepsPart sh d t 0 s (out x)
     go (Commits_now u e) = part-committed sh c u d t s l e
-    go (Room_wanted r i) = rw r refl
-    go (Ends_run n e f r i) = rw r refl
+    go (Room_wanted r i) = rw r
+    go (Ends_run n e f r i) = rw r
     go (Ends_alone u n e f r i) = rw r (rw (opens-after e _ t) (omega (arith, resolves-solo_sends sh s.cache s.spilled u d t l)))
     go x = part-steady sh d t (did-steady x)
 
@@ -143,17 +142,17 @@ waits-after a = grind nats
 
 requests-steady : {s : CoreState} {o : Out} → Steady s o → KeepsRequests 0 s o
 unfolding among
-requests-steady y = rw (y.phase, y.vendor) refl
+requests-steady y = rw (y.phase, y.vendor)
 
 pub requests-exec : (sh : Shape) (p : Program) (c : ℕ) (s : CoreState) → IfSome (core_exec sh p c s) (λ o. KeepsRequests 0 s o)
 unfolding waits_for_tid commit solo_commit committed_core commit_sends solo_sends flush_line among passes
 requests-exec sh p c s = each-exec sh p c s (λ o. KeepsRequests 0 s o) go
   where
     go : (x : Did sh p c s) → KeepsRequests 0 s (out x)
-    go (Room_wanted r i) = rw r refl
-    go (Ends_run l e f r i) = rw r refl
-    go (Ends_alone u l e f r i) = rw (r, waits-after e) refl
-    go (Commits_now u e) = rw (e, waits-after s.ended) refl
+    go (Room_wanted r i) = rw r
+    go (Ends_run l e f r i) = rw r
+    go (Ends_alone u l e f r i) = rw (r, waits-after e)
+    go (Commits_now u e) = rw (e, waits-after s.ended)
     go x = refl
 
 pub requests-evict : (sh : Shape) (x y : ℕ) (s : CoreState) → IfSome (core_evict sh x y s) (λ o. KeepsRequests 0 s o)
@@ -168,9 +167,9 @@ unfolding grant waits_for_tid among grant_sends skip_all probe_all
 requests-grant sh u s w = go s.phase refl w
   where
     go : (q : Phase) → s.phase ≡ q → waits_for_tid q ≡ true → KeepsRequests 1 s (grant_in_phase sh u s q)
-    go AwaitTid e h = rw (e, waits-probing (any_below (is_probed sh s.cache) sh.dirs) u) refl
-    go DoomedTid e h = rw e refl
-    go (Overflowing None) e h = rw e refl
+    go AwaitTid e h = rw (e, waits-probing (any_below (is_probed sh s.cache) sh.dirs) u)
+    go DoomedTid e h = rw e
+    go (Overflowing None) e h = rw e
     go _ e h = absurd (cc)
 
 pub requests-back : (sh : Shape) (e : ℕ) (s : CoreState) (m : Msg) → IfSome (from_dir sh e s m) (λ o. KeepsRequests 0 s o)
@@ -178,15 +177,15 @@ unfolding waits_for_tid among flush_line skip_all abort_written
 requests-back sh e s m = each-back sh e s (λ m o. KeepsRequests 0 s o) go m
   where
     go : (x : Heard sh e s) → KeepsRequests 0 s (heard x)
-    go (Last_probing u v q o r) = rw q refl
-    go (Last_room u v q o r) = rw q refl
-    go (Hurt_running l m u v q) = rw q refl
-    go (Hurt_waiting l m u v (inl q)) = rw q refl
-    go (Hurt_waiting l m u v (inr q)) = rw q refl
-    go (Hurt_probing l m u t v (inl q)) = rw q refl
-    go (Hurt_probing l m u t v (inr q)) = rw q refl
-    go (Hurt_alone l m u t v (inl q)) = rw q refl
-    go (Hurt_alone l m u t v (inr q)) = rw q refl
+    go (Last_probing u v q o r) = rw q
+    go (Last_room u v q o r) = rw q
+    go (Hurt_running l m u v q) = rw q
+    go (Hurt_waiting l m u v (inl q)) = rw q
+    go (Hurt_waiting l m u v (inr q)) = rw q
+    go (Hurt_probing l m u t v (inl q)) = rw q
+    go (Hurt_probing l m u t v (inr q)) = rw q
+    go (Hurt_alone l m u t v (inl q)) = rw q
+    go (Hurt_alone l m u t v (inr q)) = rw q
     go x = refl
 
 -- A core's TID: it has none but one that it was granted, and probes with it where it takes the grant.
@@ -258,9 +257,9 @@ unprobed-hurt {sh} {l} {s} {o} i = go i.hurt
         ))
 
     go : Hurt sh s o.core i.sends → Unprobed s o
-    go (Unhurt ph ow mo re se) = record { sent = sent (λ d t. rw (se (Dir d)) refl); kept = λ d t h. (rw ph at h, ap (λ f. f d) ow) }
-    go (Rolled ph ph' ow se) = unprobed-none Running ph' (λ t. refl) (sent (λ d t. rw (se (Dir d)) refl))
-    go (Doomed ph ph' ow se) = unprobed-none DoomedTid ph' (λ t. refl) (sent (λ d t. rw (se (Dir d)) refl))
+    go (Unhurt ph ow mo re se) = record { sent = sent (λ d t. rw (se (Dir d))); kept = λ d t h. (rw ph at h, ap (λ f. f d) ow) }
+    go (Rolled ph ph' ow se) = unprobed-none Running ph' (λ t. refl) (sent (λ d t. rw (se (Dir d))))
+    go (Doomed ph ph' ow se) = unprobed-none DoomedTid ph' (λ t. refl) (sent (λ d t. rw (se (Dir d))))
     go (Aborted u ph ph' ow se) =
         unprobed-none Running ph' (λ t. refl) (sent (λ d t. rw se (quiet sh s (Probes t) (Aborts_all u) (λ y. refl) d)))
     go (Gave_up u ph ph' ow se) =
@@ -288,7 +287,7 @@ unfolding grant waits_for_tid has_tid passes
 granted sh u s w = go s.phase refl w
   where
     other : (t : ℕ) (b : Bool) → u ≢ t → num ((u == t) && b) ≡ 0
-    other t b n = let e : (u == t) ≡ false = grind nats in rw e refl
+    other t b n = let e : (u == t) ≡ false = grind nats in rw e
 
     same : (t : ℕ) → (u == t) ≡ true → u ≡ t
     same t e = grind nats
@@ -297,12 +296,12 @@ granted sh u s w = go s.phase refl w
     go AwaitTid e h = record {
       sent = λ d t n. probes-grant sh s.cache u d t ∙ other t (is_probed sh s.cache d) n;
       kept = λ d t k. let x : (u == t) ≡ true = sym (tid-probing (any_below (is_probed sh s.cache) sh.dirs) u t) ∙ k in
-          (same t x, probes-grant sh s.cache u d t ∙ rw x refl);
+          (same t x, probes-grant sh s.cache u d t ∙ rw x);
     }
     go DoomedTid e h = record { sent = λ d t n. quiet sh s (Probes t) (Skips_all u) (λ y. refl) d; kept = λ d t k. absurd (cc) }
     go (Overflowing None) e h = record {
       sent = λ d t n. probes-all sh u d t ∙ other t (nat_lt d sh.dirs) n;
-      kept = λ d t k. (same t k, probes-all sh u d t ∙ rw k refl);
+      kept = λ d t k. (same t k, probes-all sh u d t ∙ rw k);
     }
     go (Overflowing (Some v)) e h = absurd (cc)
     go _ e h = absurd (cc)
@@ -326,15 +325,15 @@ holder-noted : {c : ℕ} (u : ℕ) {s : CoreState} (r : CoreState) {o : Out} →
     → ((t : ℕ) → has_tid s.phase t ≡ (u == t)) → o.core.phase ≡ phase_after_commit r.ended → o.commit ≡ Some (noted u c r)
     → KeepsHolder c none s o
 unfolding noted
-holder-noted u r h k e n = record { holds = λ t. rw (e, n, tid-after r.ended t, k t) (omega arith); own = rw n refl }
+holder-noted u r h k e n = record { holds = λ t. rw (e, n, tid-after r.ended t, k t) (omega arith); own = rw n }
 
 pub holder-exec : (sh : Shape) (p : Program) (c : ℕ) (s : CoreState) → IfSome (core_exec sh p c s) (λ o. KeepsHolder c none s o)
 unfolding commit solo_commit committed_core has_tid
 holder-exec sh p c s = each-exec sh p c s (λ o. KeepsHolder c none s o) go
   where
     go : (x : Did sh p c s) → KeepsHolder c none s (out x)
-    go (Ends_alone u l e f r i) = holder-noted u (after_end s l e) (rw r (grind nats)) (λ t. rw r refl) refl refl
-    go (Commits_now u e) = holder-noted u s (rw e (grind nats)) (λ t. rw e refl) refl refl
+    go (Ends_alone u l e f r i) = holder-noted u (after_end s l e) (rw r (grind nats)) (λ t. rw r) refl refl
+    go (Commits_now u e) = holder-noted u s (rw e (grind nats)) (λ t. rw e) refl refl
     go _ = record { holds = λ t. omega arith; own = tt }
 
 pub holder-evict : (sh : Shape) (x y c : ℕ) (s : CoreState) → IfSome (core_evict sh x y s) (λ o. KeepsHolder c none s o)

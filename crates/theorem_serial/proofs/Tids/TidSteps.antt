@@ -1,20 +1,19 @@
 -- Every event keeps what is known of TIDs in flight, at cores and at directories.
-use Rattle.base_lemmas.proofs.Lemmas.{eq-self}
 use Rattle.theorem_serial.proofs
 use proofs.Names
-use Names.{ℕ, ◌+◌, ◌-◌, ◌≡◌, ◌<◌, ◌≤◌, Bool, true, false, ◌==◌, nat_lt, if◌then◌else◌, arith, refl, num, count_below, has_mark, Serving}
-use Names.{advance, kept, is_skipped, Msg, Skip, Commit, Abort, Shape, lines, advance-rises, advance-past, advance-stops, advance-keeps}
-use Names.{kept-skips, DirState, Answer, Waits, Drops, Asks, Takes, dir_deliver, invalidation_count, Resolves, passes, handled, nats}
-use Names.{after_other_grant, slice_index_or, first_serving, waits_for_tid, vendor_start, vendor_gives, after_answer, first-skips}
-use Names.{grant_taken, after_grant, core_start, core_moves, core_takes, after_move, back_taken, ResolvedAt, dir_start, in_flight}
-use Names.{sum_below, dir_takes, out_taken, RequestOf, cases_lt, cases_eq, no_lines, TidGrant, dir_asks, AnyGrant, InsideOf, KeptTids}
-use Names.{AsksTid, nat_le, Vendor, TidReq, Grants, subst, Local, World, start, Sends, grant, among, share, opens, List, Some, None, Core}
-use Names.{Link, Kind, live, Pair, pair, part, ◌∷◌, sym, ◌⊎◌, inl, inr, Dir, Out, Any, [], to_dir, to_core, FromCore, FromDir, ◌≢◌}
-use proofs.Counts.DirOutcome.{Outcome, Waiting, Spent, TakesSkip, TakesAbort, TakesCommit, TakesAck, TakesCopy, IsSpent, SkipPassed}
-use proofs.Counts.DirOutcome.{AbortPassed, CopyPassed, outcome}
-use proofs.Counts.Links.{live-sends, live-takes, total-le, total-zero}
-use proofs.Counts.StepCases.{sum_back_away, pairs_vendor, sum_dir_away, pairs_grant, pairs_move, pairs_back, pairs_asks, sum_vendor}
-use proofs.Counts.StepCases.{pairs_dir, sum_grant, sum_move, sum_back, sum_asks, sum_dir, differ, given}
+use Names.{eq-self, ℕ, ◌+◌, ◌-◌, ◌≡◌, ◌<◌, ◌≤◌, Bool, true, false, ◌==◌, nat_lt, if◌then◌else◌, arith, refl, num, count_below, has_mark}
+use Names.{Serving, advance, kept, is_skipped, Msg, Skip, Commit, Abort, Shape, lines, advance-rises, advance-past, advance-stops}
+use Names.{advance-keeps, kept-skips, DirState, Answer, Waits, Drops, Asks, Takes, dir_deliver, invalidation_count, Resolves, passes}
+use Names.{handled, nats, after_other_grant, slice_index_or, first_serving, waits_for_tid, vendor_start, vendor_gives, after_answer}
+use Names.{first-skips, grant_taken, after_grant, core_start, core_moves, core_takes, after_move, back_taken, ResolvedAt, dir_start}
+use Names.{in_flight, sum_below, dir_takes, out_taken, RequestOf, cases_lt, cases_eq, no_lines, TidGrant, dir_asks, AnyGrant, InsideOf}
+use Names.{KeptTids, AsksTid, nat_le, Vendor, TidReq, Grants, subst, Local, World, start, Sends, grant, among, share, opens, List, Some}
+use Names.{None, Core, Link, Kind, live, Pair, pair, part, ◌∷◌, sym, ◌⊎◌, inl, inr, Dir, Out, Any, [], to_dir, to_core, FromCore, FromDir}
+use Names.{◌≢◌}
+use proofs.Counts.{Outcome, Waiting, Spent, TakesSkip, TakesAbort, TakesCommit, TakesAck, TakesCopy, IsSpent, SkipPassed, AbortPassed}
+use proofs.Counts.{CopyPassed, outcome, live-sends, live-takes, total-le, total-zero, sum_back_away, pairs_vendor, sum_dir_away}
+use proofs.Counts.{pairs_grant, pairs_move, pairs_back, pairs_asks, sum_vendor, pairs_dir, sum_grant, sum_move, sum_back, sum_asks, sum_dir}
+use proofs.Counts.{differ, given}
 use proofs.Tids.CoreTids.{KeepsRequests, requests-grant, KeepsPart, part-grant}
 
 -- What a directory's rules do to the TIDs that it has handled.
@@ -73,7 +72,7 @@ resolved_served : (s : DirState) (m : Msg) (u t : ℕ) → OnceAt s m → s.serv
     → handled (advance s.serving) s.owed t ≡ handled s.serving s.owed t + num (passes (Resolves t) m)
 resolved_served s m u t h e f g =
     let o : s.owed ≡ 0 = unserved s m h (rw e f) in
-    rw (o, g, moved_on-handled s.serving t, e) refl
+    rw (o, g, moved_on-handled s.serving t, e)
 
 -- a larger TID is resolved: it is kept
 resolved_ahead : (s : DirState) (m : Msg) (u t : ℕ) → OnceAt s m → s.serving.serving < u → passes (Resolves u) m ≡ true
@@ -98,7 +97,7 @@ dir-handled sh s c m t = go (outcome sh s c m)
     spent : {m : Msg} → IsSpent s c m → OnceAt s m → num (passes (Resolves t) m) ≡ 0
     spent (SkipPassed u l) h = absurd (passed_twice s (Skip u) u h (eq-self u) l)
     spent (AbortPassed u l) h = absurd (passed_twice s (Abort u) u h (eq-self u) l)
-    spent (CopyPassed m l k ws g y i e) h = rw (y.alike (Resolves t)) refl
+    spent (CopyPassed m l k ws g y i e) h = rw (y.alike (Resolves t))
     spent _ h = refl
 
     resolved : (m : Msg) (u : ℕ) (b : Bool) → (s.serving.serving == u) ≡ b → s.serving.serving ≤ u → passes (Resolves u) m ≡ true
@@ -135,7 +134,7 @@ is_mine u = grind nats
 
 pub not_mine : (u t : ℕ) → u ≢ t → num (passes (Grants t) (TidGrant u)) ≡ 0
 unfolding passes
-not_mine u t n = let b : (u == t) ≡ false = grind nats in rw b refl
+not_mine u t n = let b : (u == t) ≡ false = grind nats in rw b
 
 -- a core that a message comes from or goes to is one of the machine
 pub inside_from : (sh : Shape) (c n : ℕ) → (sh.cores ≤ c → n ≡ 0) → 1 ≤ n → c < sh.cores

@@ -1,25 +1,22 @@
 -- What nodes' rules do to a word's copies: a directory to its home word, a core by what it executes, takes and commits.
-use Rattle.base_lemmas.proofs.Lemmas.{hit-line, unheld-clean, eight-at, word_at-own}
 use Rattle.rules_maps.proofs.Lemmas.{dirty-placed, value-placed}
 use Rattle.theorem_serial.proofs
 use proofs.Names
-use Names.{ℕ, ◌≡◌, Bool, true, false, not, List, ◌==◌, get_or, if◌then◌else◌, refl, ◌∙◌, line_of, place_of, hit, Msg, Shape, DirState}
-use Names.{Answer, Asks, Takes, dir_deliver, CopyWord, CopyNot, passes, nats, word_of, stored, solo_commit, marked, Some, None, IfSome}
-use Names.{is_some, ap, Program, Dir, home, IsCache, placed, dirty-evicted, value-evicted, CoreState, nothing, flush_line, Out, moves}
-use Names.{commit, core_exec, core_evict, CopyOf, among, Cache, invalidated, ◌⊎◌, ◌&&◌, Option, unwrap_or, sym, inl, inr, cases_eq, Inv}
-use Names.{filled, cleaned, rolled_back, read_cleared, grant, from_dir, home_of, ◌||◌, arith, Noted, word_at, has, Skip, Mark, Commit}
-use Names.{WriteBack, committed, words_dropped, Spilled, spilled_mask, spilled_words, has-mask_of, is_solo, noted, committed_core}
-use Names.{solo_sends, solo_marks_or_skip, solo_write_backs, Kind, mark, skip, ◌≢◌}
-use proofs.Counts.DirOutcome.{Outcome, Waiting, Spent, AsksOwner, TakesCopy, IsCopy, outcome}
+use Names.{hit-line, unheld-clean, eight-at, word_at-own, ℕ, ◌≡◌, Bool, true, false, not, List, ◌==◌, get_or, if◌then◌else◌, refl, ◌∙◌}
+use Names.{line_of, place_of, hit, Msg, Shape, DirState, Answer, Asks, Takes, dir_deliver, CopyWord, CopyNot, passes, nats, word_of, stored}
+use Names.{solo_commit, marked, Some, None, IfSome, is_some, ap, Program, Dir, home, IsCache, placed, dirty-evicted, value-evicted}
+use Names.{CoreState, nothing, flush_line, Out, moves, commit, core_exec, core_evict, CopyOf, among, Cache, invalidated, ◌&&◌, Option}
+use Names.{unwrap_or, sym, inl, inr, cases_eq, Inv, filled, cleaned, rolled_back, read_cleared, grant, from_dir, home_of, ◌||◌, arith}
+use Names.{Noted, word_at, has, Skip, Mark, Commit, WriteBack, committed, words_dropped, Spilled, spilled_mask, spilled_words, has-mask_of}
+use Names.{is_solo, noted, committed_core, solo_sends, solo_marks_or_skip, solo_write_backs, Kind, mark, skip, ◌≢◌}
+use proofs.Counts.{Outcome, Waiting, Spent, AsksOwner, TakesCopy, IsCopy, outcome, among-append, among-flat_map_none}
 use proofs.Copies.CopySends.{framed-dirty, commit-copies}
 use proofs.Values.WordCopies.{Carries, word-still, word-sent, flushed-words, back-home-words, WordCarried, among-words, among-others}
-use proofs.OneCore.Said.{Requests, Silent, quiet, say, Flushes, Unheard}
-use proofs.OneCore.Outcomes.{Commits_now, Did, Ends_alone, Frames, Frames_anew, Misses_anew, after_store, awaiting, each-evict, each-exec}
-use proofs.OneCore.Outcomes.{emptied, out, said, Fills, Given_none, Granted, Hands_out, Heard, Hurt_alone, Hurt_probing, Hurt_running}
-use proofs.OneCore.Outcomes.{Hurt_waiting, Hurt_none, each-back, each-grant, granted, granted_said, heard, heard-quiet, heard_said}
-use proofs.OneCore.Outcomes.{hears_ack, message, after_end}
+use proofs.OneCore.{Requests, Silent, quiet, say, Flushes, Unheard, Commits_now, Did, Ends_alone, Frames, Frames_anew, Misses_anew}
+use proofs.OneCore.{after_store, each-evict, each-exec, emptied, out, said, Fills, Given_none, Granted, Hands_out, Heard, Hurt_alone}
+use proofs.OneCore.{Hurt_probing, Hurt_running, Hurt_waiting, Hurt_none, each-back, each-grant, granted, granted_said, heard, heard-quiet}
+use proofs.OneCore.{heard_said, hears_ack, message, after_end}
 use proofs.Copies.CopyRules.{missed}
-use proofs.Counts.Links.{among-append, among-flat_map_none}
 
 -- What a directory's rules do to a home word: it stays, and no copy of it is consumed; or a copy with its line's tag comes home.
 
@@ -38,21 +35,21 @@ unfolding passes
 dir-words sh x s c m = go (outcome sh s c m)
   where
     -- of the line's last commit
-    home : {m : Msg} (l k : ℕ) (ws : List ℕ) (g : ℕ) → IsCopy m l k ws g → s.lines.tag l ≡ g → (b : Bool) → hit l k x ≡ b → (new : DirState)
+    home : {m : Msg} {l k : ℕ} {ws : List ℕ} {g : ℕ} → IsCopy m l k ws g → s.lines.tag l ≡ g → (b : Bool) → hit l k x ≡ b → (new : DirState)
         → new.words x ≡ (if hit l k x then get_or ws (place_of x) 0 else s.words x) → HomeBy s m x new
-    home l k ws g y e false h new n = Left (n ∙ rw h refl) (λ t. y.alike (CopyWord x t) ∙ rw h refl)
-    home l k ws g y e true h new n =
+    home y e false h new n = Left (n ∙ rw h) (λ t. y.alike (CopyWord x t) ∙ rw h)
+    home {l} {k} {ws} {g} y e true h new n =
         let z : l ≡ line_of x = hit-line l k x h in
         let r : (g == s.lines.tag (line_of x)) ≡ true = rw z at (let i : (g == s.lines.tag l) ≡ true = grind nats in i) in
-        let w : new.words x ≡ get_or ws (place_of x) 0 = n ∙ rw h refl in
-        Home (y.alike (CopyWord x (s.lines.tag (line_of x))) ∙ rw (h, r) refl)
-        (λ v. y.alike (CopyNot x (s.lines.tag (line_of x)) v) ∙ rw (h, r, w) refl)
+        let w : new.words x ≡ get_or ws (place_of x) 0 = n ∙ rw h in
+        Home (y.alike (CopyWord x (s.lines.tag (line_of x))) ∙ rw (h, r))
+        (λ v. y.alike (CopyNot x (s.lines.tag (line_of x)) v) ∙ rw (h, r, w))
 
     go : {m : Msg} {a : Answer} → Outcome sh s c m a → WordsBy s m x a
     go (Waiting m) = tt
     go (Spent m h) = tt
     go (AsksOwner m l o w e) = refl
-    go (TakesCopy m l k ws g y e o) = home l k ws g y e (hit l k x) refl _ refl
+    go (TakesCopy m l k ws g y e o) = home y e (hit l k x) refl _ refl
     go _ = Left refl (λ t. refl)
 
 -- What a core's instructions and evictions do to a word's copies: where nothing is committed they are as many as before, with their values.
@@ -61,7 +58,7 @@ dir-words sh x s c m = go (outcome sh s c m)
 pub carries-still : {sh : Shape} {s : CoreState} {o : Out} → ((v : ℕ) → o.core.cache.dirty v ≡ s.cache.dirty v)
     → ((v : ℕ) → is_some (s.cache.dirty v) ≡ true → o.core.cache.value v ≡ s.cache.value v)
     → ((l t : ℕ) → among (CopyOf l t) (o.sends (Dir (home sh l))) ≡ 0) → Carries sh s o
-carries-still {sh} {s} {o} e f z x = word-still sh x s o (e x) (f x) (λ t. z (line_of x) t)
+carries-still {sh} {s} {o} e f z x = word-still sh x s o (e x) (f x) (z (line_of x))
 
 -- and nothing is committed
 abbrev pub Quietly : Shape → CoreState → Out → Type 0
@@ -212,7 +209,7 @@ pub record CommitsWord (sh : Shape) (x t : ℕ) (c : Cache) (sp : Spilled) (o : 
 ready-word : (sh : Shape) (x id t : ℕ) (s : CoreState) → s.spilled x ≡ None → CommitsWord sh x t s.cache s.spilled (commit sh id t s)
 unfolding commit committed_core committed
 ready-word sh x id t s z = record {
-  left = λ m e. (rw m refl, (refl, λ u d. none u d));
+  left = λ m e. (rw m, (refl, λ u d. none u d));
   framed = λ u m e. framed u (s.cache.modified x) (s.spilled x) z m e;
   sent = λ u d n. none u d;
   right = λ y d e. omega (arith, none t d, among-others x t y ((commit sh id t s).sends (Dir d)));
@@ -257,16 +254,16 @@ unhit sp x l z = grind (nats, spilled-at)
 
 unhit-line : (sp : Spilled) (x l : ℕ) → (l == line_of x) ≡ false → hit l (spilled_mask sp l) x ≡ false
 unfolding hit
-unhit-line sp x l q = rw q refl
+unhit-line sp x l q = rw q
 
 solo-word : (sh : Shape) (x id t : ℕ) (s : CoreState) → CommitsWord sh x t s.cache s.spilled (solo_commit sh id t s)
 unfolding solo_commit committed_core committed words_dropped passes
 solo-word sh x id t s = record {
   left =
       λ m z. (
-        rw (m, z) refl,
+        rw (m, z),
         (
-          rw z refl,
+          rw z,
           λ u d. solo-none sh (CopyWord x u) s.cache s.spilled t d
               (λ l. off-and (t == u) (unhit s.spilled x l z)) (λ l m. refl) (λ n. refl) refl,
         ),
@@ -294,7 +291,7 @@ solo-word sh x id t s = record {
         let v : w ≡ y = rw z at e in
         let g : get_or (spilled_words s.spilled l) (place_of x) 0 ≡ y = rw i ((spilled-at s.spilled x).1 ∙ rw z v) in
         let n : (y == y) ≡ true = grind nats in
-        and-off (hit l (spilled_mask s.spilled l) x && (t == t)) _ (rw (g, n) refl)
+        and-off (hit l (spilled_mask s.spilled l) x && (t == t)) _ (rw (g, n))
 
 -- what an instruction commits
 abbrev pub CommitsWords : Shape → CoreState → Out → Type 0
@@ -316,5 +313,5 @@ commits-exec sh p id s h f = each-exec sh p id s (CommitsWords sh s) go
     go : (x : Did sh p id s) → CommitsWords sh s (out x)
     go (Ends_alone t l e g r i) = λ n q x. let z = solo-word sh x id t (after_end s l e) in
         rw (sym (noted-tid t id (after_end s l e) n q)) (record { left = z.left; framed = z.framed; sent = z.sent; right = z.right })
-    go (Commits_now t e) = λ n q x. rw (sym (noted-tid t id s n q)) (ready-word sh x id t s (f (rw e refl) x))
+    go (Commits_now t e) = λ n q x. rw (sym (noted-tid t id s n q)) (ready-word sh x id t s (f (rw e) x))
     go x = none-noted s refl

@@ -1,19 +1,18 @@
 -- What a core's events do to the words in its frames: a commit or a Fill alone gives an unmodified word another value, what fades keeps
 -- its value, and an invalidation takes its words.
-use Rattle.base_lemmas.proofs.Lemmas.{hit-line}
 use Rattle.theorem_serial.proofs
 use proofs.Names
-use Names.{ℕ, ◌≡◌, ◌⊎◌, Bool, true, false, ◌==◌, Option, Some, None, IfSome, is_some, if◌then◌else◌, refl, sym, ◌∙◌, inl, inr, true≢false}
-use Names.{Program, word_of, line_of, Shape, set_of, Cache, free_way, marked, stored, placed, placed_at, evicted, evicted_line, committed}
-use Names.{words_dropped, CoreState, Ready, Solo, Out, is_solo, noted, commit, committed_core, solo_commit, core_exec, core_evict, is_stale}
-use Names.{not, ◌&&◌, List, unwrap_or, get_or, subst, place_of, hit, Msg, Fill, Inv, filled, cleaned, invalidated, rolled_back}
-use Names.{read_cleared, Awaited, grant, staled, from_dir, InvWord, passes, nats, ◌≤◌, set, arith, num, home, is_awaited, LoadingOf, FillOf}
-use Names.{FillNot, live, Pair, after_move, back_taken, tested}
-use proofs.OneCore.Outcomes.{Commits_now, Did, Ends_alone, Frames, Frames_anew, Misses, Misses_anew, Reads, after_end, each-evict}
-use proofs.OneCore.Outcomes.{each-exec, out, Last_room, Fills, Fills_none, Given_none, Granted, Hands_out, Heard, Hurt_alone, Hurt_probing}
-use proofs.OneCore.Outcomes.{Hurt_running, Hurt_waiting, Ignores_fill, Hurt_none, each-back, each-grant, granted, heard, message}
-use proofs.Counts.Links.{live-takes}
-use proofs.Tids.TidSteps.{live-some}
+use Names.{hit-line, ℕ, ◌≡◌, ◌⊎◌, Bool, true, false, ◌==◌, Option, Some, None, IfSome, is_some, if◌then◌else◌, refl, sym, ◌∙◌, inl, inr}
+use Names.{true≢false, Program, word_of, line_of, Shape, set_of, Cache, free_way, marked, stored, placed, placed_at, evicted, evicted_line}
+use Names.{committed, words_dropped, CoreState, Ready, Solo, Out, is_solo, noted, commit, committed_core, solo_commit, core_exec}
+use Names.{core_evict, is_stale, not, ◌&&◌, List, unwrap_or, get_or, subst, place_of, hit, Msg, Fill, Inv, filled, cleaned, invalidated}
+use Names.{rolled_back, read_cleared, Awaited, grant, staled, from_dir, InvWord, passes, nats, ◌≤◌, set, arith, num, home, is_awaited}
+use Names.{LoadingOf, FillOf, FillNot, live, Pair, after_move, back_taken, tested}
+use proofs.OneCore.{Commits_now, Did, Ends_alone, Frames, Frames_anew, Misses, Misses_anew, Reads, after_end, each-evict, each-exec, out}
+use proofs.OneCore.{Last_room, Fills, Fills_none, Given_none, Granted, Hands_out, Heard, Hurt_alone, Hurt_probing, Hurt_running}
+use proofs.OneCore.{Hurt_waiting, Ignores_fill, Hurt_none, each-back, each-grant, granted, heard, message}
+use proofs.Counts.{live-takes}
+use proofs.Tids.{live-some}
 use proofs.Values.FramedWords.{HeldOf, few-not}
 
 -- What each of a core's rules does to the words in its frames: no valid word that isn't modified gets another value, but where the core
@@ -88,10 +87,10 @@ framing-exec sh p c s = each-exec sh p c s (Framing c s) go
     w a = word_of sh.base a
 
     asked : (k : ℕ) (r : CoreState) → s.awaited ≡ None → ((x : ℕ) → Fades s.cache r.cache x) → Fading s r
-    asked k r i f = record { words = f; fresh = λ q. rw i refl }
+    asked k r i f = record { words = f; fresh = λ q. rw i }
 
-    ready : (t : ℕ) → s.phase ≡ Ready t → is_solo s.phase ≡ true → ⊥
-    ready t e q = true≢false (let z : is_solo s.phase ≡ false = rw e refl in sym q ∙ z)
+    ready : {t : ℕ} → s.phase ≡ Ready t → is_solo s.phase ≡ true → ⊥
+    ready e q = true≢false (let z : is_solo s.phase ≡ false = rw e in sym q ∙ z)
 
     go : (x : Did sh p c s) → Framing c s (out x)
     go (Reads a x z l g r f) = Stays refl (fading s _ refl (λ v. fades-marked (w a) v s.cache))
@@ -118,8 +117,8 @@ framing-exec sh p c s = each-exec sh p c s (Framing c s) go
           last = s;
           commit = refl;
           stores = refl;
-          rests = (λ q. absurd (ready t e q), refl);
-          words = λ x y v. (v, λ q. absurd (ready t e q));
+          rests = (λ q. absurd (ready e q), refl);
+          words = λ x y v. (v, λ q. absurd (ready e q));
         })
     go _ = Stays refl (fading s _ refl (fades-same s.cache))
 
@@ -185,7 +184,7 @@ pub record Invalidates (l m : ℕ) (s : CoreState) (o : Out) : Type 0 where
 gone-without : (l m x y : ℕ) (c : Cache) → hit l m x ≡ true → (invalidated l m c).value x ≡ Some y → (invalidated l m c).modified x ≡ false
     → ⊥
 unfolding invalidated
-gone-without l m x y c h e f = go (hit l m x && not (c.modified x)) (rw (h, f) refl) e
+gone-without l m x y c h e f = go (hit l m x && not (c.modified x)) (rw (h, f)) e
   where
     go : (b : Bool) → b ≡ true → (if b then None else c.value x) ≡ Some y → ⊥
     go true q e = absurd (cc)
@@ -264,27 +263,26 @@ comes-back sh e s m = each-back sh e s (Coming s) go m
       staled = f;
     })
 
-    new : (l : ℕ) (ws : List ℕ) (a : Awaited) → s.awaited ≡ Some a → a.stale ≡ false → (x y : ℕ)
+    new : (l : ℕ) (ws : List ℕ) {a : Awaited} → s.awaited ≡ Some a → a.stale ≡ false → (x y : ℕ)
         → ((s.cache.value x ≡ Some y) × (s.cache.modified x ≡ false)) ⊎ ((l == line_of x ≡ true) × (get_or ws (place_of x) 0 ≡ y))
-        → ((s.cache.value x ≡ Some y) × (s.cache.modified x ≡ false))
-        ⊎ ((l == line_of x ≡ true) × (get_or ws (place_of x) 0 ≡ y) × (is_stale s.awaited ≡ false))
-    new l ws a e q x y (inl k) = inl k
-    new l ws a e q x y (inr k) = inr (k.0, k.1, rw e q)
+        → ((s.cache.value x ≡ Some y) × (s.cache.modified x ≡ false)) ⊎
+        ((l == line_of x ≡ true) × (get_or ws (place_of x) 0 ≡ y) × (is_stale s.awaited ≡ false))
+    new l ws e q x y (inl k) = inl k
+    new l ws e q x y (inr k) = inr (k.0, k.1, rw e q)
 
-    awaited : (l : ℕ) (a : Awaited) → s.awaited ≡ Some a → a.line ≡ l → (a : Awaited) × (s.awaited ≡ Some a) × ((a.line == l) ≡ true)
-    awaited l a q i = (a, q, grind nats)
+    awaited : {l : ℕ} {a : Awaited} → s.awaited ≡ Some a → a.line ≡ l → (a : Awaited) × (s.awaited ≡ Some a) × ((a.line == l) ≡ true)
+    awaited {a} q i = (a, q, grind nats)
 
     go : (x : Heard sh e s) → Coming s (message x) (heard x)
-    go (Last_room u v q o r) = Quiet (λ x. refl) (refl, fading s _ refl (λ x. fades-cleared s.cache x))
+    go (Last_room u v q o r) = Quiet (λ x. refl) (refl, fading s _ refl (fades-cleared s.cache))
     go (Ignores_fill l ws n) = Brings l ws refl (record { commit = refl; words = λ x y e f. inl (e, f); rested = inr refl })
     go (Fills l ws a q i f) =
         Brings l ws refl (record {
           commit = refl;
-          words = λ x y v g. new l ws a q f x y (filled-fades l x y ws s.cache v g);
-          rested = inl (awaited l a q i);
+          words = λ x y v g. new l ws q f x y (filled-fades l x y ws s.cache v g);
+          rested = inl (awaited q i);
         })
-    go (Fills_none l ws a q i f) =
-        Brings l ws refl (record { commit = refl; words = λ x y v g. inl (v, g); rested = inl (awaited l a q i) })
+    go (Fills_none l ws a q i f) = Brings l ws refl (record { commit = refl; words = λ x y v g. inl (v, g); rested = inl (awaited q i) })
     go (Hands_out l) = Quiet (λ x. refl) (refl, fading s _ refl (λ x. fades-cleaned l x s.cache))
     go (Hurt_none l m u n) = plain l m u _ refl refl refl
     go (Hurt_running l m u v q) = rolls l m u _ refl refl refl
@@ -307,7 +305,7 @@ pub held-quietly : {x y : ℕ} (k : ℕ) {v : Pair} (w : Pair) {m : Msg} → get
 held-quietly {x} {y} k {v} w {m} i b n f h = rebuilt
   where
     invs : live (InvWord x) w.back ≡ live (InvWord x) v.back
-    invs = let z : num (passes (InvWord x) m) ≡ 0 = rw n refl in rw b (omega (arith, z, live-takes (InvWord x) v.back k m i))
+    invs = let z : num (passes (InvWord x) m) ≡ 0 = rw n in rw b (omega (arith, z, live-takes (InvWord x) v.back k m i))
 
     nots : live (FillNot x y) w.back ≤ live (FillNot x y) v.back
     nots = rw b (omega (arith, live-takes (FillNot x y) v.back k m i))
@@ -327,7 +325,7 @@ held-quietly {x} {y} k {v} w {m} i b n f h = rebuilt
 
 -- no Fill of a line is in flight to a core that awaits none, or another
 pub no-fill : (sh : Shape) (d l : ℕ) (v : Pair) → is_awaited v.core.awaited l ≡ false → LoadingOf sh d l v → live (FillOf l) v.back ≡ 0
-no-fill sh d l v a h = let z : num (is_awaited v.core.awaited l && home sh l == d) ≡ 0 = rw a refl in omega (arith, h, z)
+no-fill sh d l v a h = let z : num (is_awaited v.core.awaited l && home sh l == d) ≡ 0 = rw a in omega (arith, h, z)
 
 stale-other : (l : ℕ) (a : Option Awaited) → is_stale (staled l a) ≡ false → is_awaited a l ≡ false
 stale-other l a h = grind nats
@@ -396,13 +394,13 @@ held-filled sh d x y k l {ws} {v} o i f loading h = record { framed = λ z p q. 
     one true = omega arith
     one false = omega arith
 
-    none : (a : Awaited) → v.core.awaited ≡ Some a → (a.line == l) ≡ true → (b : Bool) → (l == line_of x) ≡ b
+    none : {a : Awaited} → v.core.awaited ≡ Some a → (a.line == l) ≡ true → (b : Bool) → (l == line_of x) ≡ b
         → live (FillOf (line_of x)) (set v.back k None) ≡ 0
-    none a e g b q = grind (nats, live-takes, no-fill, awaits-other)
+    none e g b q = grind (nats, live-takes, no-fill, awaits-other)
 
     filled : is_stale o.core.awaited ≡ false → ((a : Awaited) × (v.core.awaited ≡ Some a) × ((a.line == l) ≡ true))
         ⊎ (o.core.awaited ≡ v.core.awaited) → (live (FillNot x y) (set v.back k None) ≡ 0) ⊎ (1 ≤ live (InvWord x) (set v.back k None))
-    filled p (inl a) = inl (omega (arith, none a.0 a.1 a.2 (l == line_of x) refl, few-not x y (set v.back k None)))
+    filled p (inl a) = inl (omega (arith, none a.1 a.2 (l == line_of x) refl, few-not x y (set v.back k None)))
     filled p (inr e) = less (h.filled (rw e at p))
 
 -- a Fill of another directory is taken

@@ -1,25 +1,23 @@
 -- Each event keeps that words in frames and Fills have their values, or are invalidated.
-use Rattle.base_lemmas.proofs.Lemmas.{eq-self as same}
 use Rattle.theorem_serial.specs.KeepsWords.{EventsKeepWords}
 use Rattle.theorem_attempt.proofs.Lemmas.{sees-modified}
 use Rattle.theorem_serial.proofs
 use proofs.Names
-use Names.{ℕ, ◌+◌, ◌≡◌, ◌<◌, ◌≤◌, Bool, true, false, not, ◌==◌, ◌&&◌, List, [], Contains, Option, Some, None, arith, refl, ap, subst, ◌∙◌}
-use Names.{inl, inr, Noted, num, line_of, IsCache, Msg, Core, LoadReq, Shape, lines, DirState, World, Sends, Answer, Waits, Drops, Asks}
-use Names.{Takes, dir_takes, dir_asks, KeptAfter, KeptOwned, stored_there, FillOf, FillNot, LoadOf, LoadNot, Commits, live, among, passes}
-use Names.{CommitsInMemory, LoadsInMemory, pair, is_this, is_applied, CommitsStand, stores_at, stores_word, counts, value_at, word_copies}
-use Names.{HomeWords, last_of, nats, home_of, tid_at, to_dir, to_core, FromCore, ◌≢◌, tested, ◌⊎◌, ◌||◌, ◌++◌, IfSome, is_some, nat_lt}
-use Names.{get_or, sym, Plain, Local, Program, Dir, Vendor, Fill, Commit, Event, home, Awaited, CoreState, Phase, Ready, Solo, Out, is_solo}
-use Names.{noted, from_dir, grant, core_evict, is_awaited, core_exec, dir_deliver, History, Stepped, step, next_history, recorded}
+use Names.{eq-self as same, ℕ, ◌+◌, ◌≡◌, ◌<◌, ◌≤◌, Bool, true, false, not, ◌==◌, ◌&&◌, List, [], Contains, Option, Some, None, arith, refl}
+use Names.{ap, subst, ◌∙◌, inl, inr, Noted, num, line_of, IsCache, Msg, Core, LoadReq, Shape, lines, DirState, World, Sends, Answer, Waits}
+use Names.{Drops, Asks, Takes, dir_takes, dir_asks, KeptAfter, KeptOwned, stored_there, FillOf, FillNot, LoadOf, LoadNot, Commits, live}
+use Names.{among, passes, CommitsInMemory, LoadsInMemory, pair, is_this, is_applied, CommitsStand, stores_at, stores_word, counts, value_at}
+use Names.{word_copies, HomeWords, last_of, nats, home_of, tid_at, to_dir, to_core, FromCore, ◌≢◌, tested, ◌⊎◌, ◌||◌, ◌++◌, IfSome, is_some}
+use Names.{nat_lt, get_or, sym, Plain, Local, Program, Dir, Vendor, Fill, Commit, Event, home, Awaited, CoreState, Phase, Ready, Solo, Out}
+use Names.{is_solo, noted, from_dir, grant, core_evict, is_awaited, core_exec, dir_deliver, History, Stepped, step, next_history, recorded}
 use Names.{and_noted, insert_commit, core_moves, core_takes, Uses, Suits, LoadingOf, LinesAway, InvWord, Carried, Invariants, executes}
 use Names.{Grant, granted_by, Pair, after_move, back_taken, grant_taken, after_grant, after_other_grant, after_stores, UnmodifiedWords}
 use Names.{FilledWords, Ways, ways_after, sent_by, FromDir}
-use proofs.Counts.StepCases.{differ, either, asks-own, OfAnswer, moves-own, moves-other, pairs_move, pairs_grant, pairs_back, pairs_vendor}
-use proofs.Counts.StepCases.{node_cases}
+use proofs.Counts.{differ, either, asks-own, OfAnswer, moves-own, moves-other, pairs_move, pairs_grant, pairs_back, pairs_vendor}
+use proofs.Counts.{node_cases}
 use proofs.Lines.LineOwners.{FillsBy, dir-fills}
 use proofs.Memory.CoreInMemory.{accesses_at_homes}
-use proofs.Tids.Commits.{last-least}
-use proofs.Tids.TidSteps.{live-some}
+use proofs.Tids.{last-least, live-some}
 use proofs.Values.FramedWords.{KeptHeld, few-sent, held-answered, value-stays, FillsHome, value-taken, steady-taken, held-taken, held-asked}
 use proofs.Values.FramedWords.{HeldOf, HeldAt, few-not, load-home, answered-commit, commit-invalidates}
 use proofs.Values.ValueAt.{IsAlike, value-alike, IsSilent, with_commit, value-skip, value-insert}
@@ -68,12 +66,11 @@ answered-quietly {sh} ram w cs c d k inside before h i p l (Asks s sends) f =
     (λ j x y. omega (arith, few-sent x y (sends (Core j)), f (line_of x) j)) h
 answered-quietly ram w cs c d k {m} inside before h i p l (Takes s sends) f =
     λ after. taken-quietly ram w cs c d k s sends inside before h i p
-    (λ j x y. omega (arith, few-sent x y (sends (Core j)), f (line_of x) j, none (j == c) (passes (LoadOf (line_of x)) m) (l (line_of x))))
-    after
+    (λ j x y. omega (arith, few-sent x y (sends (Core j)), f (line_of x) j, none (j == c) (l (line_of x)))) after
   where
-    none : (a b : Bool) → b ≡ false → num (a && b) ≡ 0
-    none true b e = rw e refl
-    none false b e = refl
+    none : (a : Bool) {b : Bool} → b ≡ false → num (a && b) ≡ 0
+    none true e = rw e
+    none false e = refl
 
 -- a load request
 
@@ -88,7 +85,7 @@ commit-passed : (sh : Shape) (cs : List Noted) (c d : ℕ) {a : ℕ} (b : ℕ) (
 unfolding stored_there
 commit-passed sh cs c d b n k s e l q =
     let i : (n.core.0 == c) ≡ true = grind nats in
-    omega (arith, l, e, last-least (stored_there sh c d) cs n k (rw (i, s) refl))
+    omega (arith, l, e, last-least (stored_there sh c d) cs n k (rw (i, s)))
 
 -- The word at home is as the core sees it, where its line has no owner and the core's last commit there is passed.
 home-word : (sh : Shape) (ram : ℕ → ℕ) (w : World) (cs : List Noted) (c d x : ℕ) → CommitsInMemory sh cs → KeptOwned sh w
@@ -100,7 +97,7 @@ home-word sh ram w cs c d x inside owned words after caches cl dl il e o p = wor
     ∙ value-alike sh.base ram cs (w.dirs d) None None (w.dirs d) (Some c) None x (λ n k. alike n k (stores_word sh.base n.stores x) refl)
   where
     unowned : (j : ℕ) → num (is_this ((w.dirs d).lines.owner (line_of x)) j) ≡ 0
-    unowned j = rw o refl
+    unowned j = rw o
 
     none : (j : ℕ) → j < sh.cores → word_copies x ((w.dirs d).lines.tag (line_of x)) (pair w j d) ≡ 0
     none j jl = omega (
@@ -122,7 +119,7 @@ carried-after : {sh : Shape} (w : World) {cs : List Noted} (c d k l a : ℕ) →
 unfolding pair passes
 carried-after w c d k l a h cl dl i = elim (tested (a == (w.cores c).last_commit d)) [
   | inl q ↦ grind nats
-  | inr q ↦ let z : num (not (a == (w.cores c).last_commit d)) ≡ 1 = rw q refl in
+  | inr q ↦ let z : num (not (a == (w.cores c).last_commit d)) ≡ 1 = rw q in
       absurd (omega (
         arith,
         z,
@@ -149,7 +146,7 @@ answered-load {sh} {ram} w {cs} c d k {l} {a} inside before h owned words last c
     (λ n q r. steady-taken w c d k s sends (Some j) n i (λ t. refl))) (sent j x e) (h j d x jl dl e)) h
   where
     loading : 1 ≤ live (LoadOf l) (to_dir w c d) + live (FillOf l) (to_core w d c)
-    loading = let y : (l == l) ≡ true = same l in let z : num (l == l) ≡ 1 = rw y refl in
+    loading = let y : (l == l) ≡ true = same l in let z : num (l == l) ≡ 1 = rw y in
         omega (arith, z, live-some (LoadOf l) (to_dir w c d) k (LoadReq l a) i)
 
     current : (x : ℕ) → home_of sh x ≡ d → l ≡ line_of x → (w.dirs d).words x ≡ value_at sh.base ram cs (w.dirs d) (Some c) None x
@@ -157,7 +154,7 @@ answered-load {sh} {ram} w {cs} c d k {l} {a} inside before h owned words last c
         (omega (arith, g.passed, carried-after w c d k l a last cl dl i))
 
     other : (j b : ℕ) → j ≢ c → num (j == c && l == b) ≡ 0
-    other j b n = rw (differ j c n) refl
+    other j b n = rw (differ j c n)
 
     sent : (j x : ℕ) → home_of sh x ≡ d → among (FillNot x (value_at sh.base ram cs (w.dirs d) (Some j) None x)) (sends (Core j)) ≡ 0
     sent j x e = either j c (λ q. rw q (g.words x (value_at sh.base ram cs (w.dirs d) (Some c) None x) (current x e)))
@@ -175,7 +172,7 @@ answered-load {sh} {ram} w {cs} c d k {l} {a} inside before h owned words last c
 -- the commit counts for its own core
 counts-own : (s : DirState) (c t : ℕ) (r : CoreState) → counts s (Some c) None (noted t c r) ≡ true
 unfolding counts noted
-counts-own s c t r = let e : (c == c) ≡ true = grind nats in rw e refl
+counts-own s c t r = let e : (c == c) ≡ true = grind nats in rw e
 
 -- and for no other, where it isn't applied
 counts-else : (s : DirState) (j c t : ℕ) (r : CoreState) → j ≢ c → s.serving.serving ≡ t → s.owed ≡ 0
@@ -188,10 +185,10 @@ counts-else s j c t r n e z =
 own-value : (base : ℕ) (s : DirState) (c t x y : ℕ) (r : CoreState)
     → with_commit base s (Some c) None x (noted t c r) y ≡ after_stores base r.stores x y
 unfolding noted
-own-value base s c t x y r = rw (counts-own s c t r) refl
+own-value base s c t x y r = rw (counts-own s c t r)
 
 stores-not : {m : Bool} {o : Option ℕ} {b : Bool} → (m || is_some o) ≡ b → m ≡ false → o ≡ None → b ≡ false
-stores-not e f g = sym e ∙ rw (f, g) refl
+stores-not e f g = sym e ∙ rw (f, g)
 
 -- nothing is awaited in the phases in which a core commits
 rests-none : (t : ℕ) (q : Phase) (a : Option Awaited) → (q ≡ Ready t) ⊎ (q ≡ Solo t) → (is_solo q ≡ true → a ≡ None)
@@ -205,7 +202,7 @@ counts-later s c t n e l own =
     let a : (c == n.core.0) ≡ false = grind nats in
     let b : nat_lt n.tid.0 t ≡ false = grind nats in
     let d : (n.tid.0 == t) ≡ false = grind nats in
-    rw (a, e, b, d) refl
+    rw (a, e, b, d)
 
 -- the value of a word that the commit stored, for its core: its stores over what the core saw
 pub value-own : {sh : Shape} {p : Program} {entries : ℕ → Local} {ram : ℕ → ℕ} {gs : List Grant} {ys : Ways} {views : ℕ
@@ -277,7 +274,7 @@ committed {sh} {ram} h c o u k held l g = subst (λ q. KeptHeld sh ram (core_mov
         → (z ≡ value_at sh.base ram cs (h.world.dirs (home-of x)) (Some c) None x)
         ⊎ (1 ≤ live (InvWord x) (pair h.world c (home-of x)).back)
     framed x z v n true q f =
-        let e : stores_word sh.base s.stores x ≡ true = sym (k.carried.stored_words_are_those_named c x) ∙ rw q refl in
+        let e : stores_word sh.base s.stores x ≡ true = sym (k.carried.stored_words_are_those_named c x) ∙ rw q in
         let r = stored-seen c g.tid x u k l g.phase e in
         inl (sym (sees-modified s r.0 x z n q v) ∙ (r.1 ∙ sym (value-own x u k l g e)))
     framed x z v n false q f =
@@ -300,7 +297,7 @@ committed {sh} {ram} h c o u k held l g = subst (λ q. KeptHeld sh ram (core_mov
     }
       where
         none : is_awaited s.awaited (line_of x) ≡ false
-        none = rw (rests-none g.tid s.phase s.awaited g.phase g.rests.0 (λ w q. (k.carried.awaited_line_has_a_frame c w q).0)) refl
+        none = rw (rests-none g.tid s.phase s.awaited g.phase g.rests.0 (λ w q. (k.carried.awaited_line_has_a_frame c w q).0))
 
     own' : (d x : ℕ) → d < sh.dirs → home_of sh x ≡ d
         → HeldOf x (value_at sh.base ram cs (h.world.dirs d) (Some c) None x) (after_move (pair h.world c d) o d)
@@ -341,9 +338,9 @@ step-held {sh} p {ram} m h e u k held = node_cases sh p w e (λ s g o. R o)
     (λ c x y l. emptied c (core_evict sh x y (w.cores c)) (fading-evict sh x y (w.cores c)))
     (λ c n t i after. granted c n (grant sh t (w.cores c)) (fading-grant sh t (w.cores c)))
     (λ c d n a i. taken c d n a i (from_dir sh d (w.cores c) a) (comes-back sh d (w.cores c) a))
-    (λ c d n a cl dl i. answered c d n a cl dl i)
-    (λ c n i after. pairs_vendor P w c n (λ d x cl dl q. same x (pair w c d) (after_grant (pair w c d) n) refl refl (held c d x cl dl q))
-    (λ j d r x cl dl q. same x (pair w j d) (after_other_grant (pair w j d)) refl refl (held j d x cl dl q)))
+    answered
+    (λ c n i after. pairs_vendor P w c n (λ d x cl dl q. same (after_grant (pair w c d) n) refl refl (held c d x cl dl q))
+    (λ j d r x cl dl q. same (after_other_grant (pair w j d)) refl refl (held j d x cl dl q)))
   where
     w : World
     w = h.world
@@ -354,8 +351,8 @@ step-held {sh} p {ram} m h e u k held = node_cases sh p w e (λ s g o. R o)
     R : Stepped → Type 0
     R o = CommitsStand sh o.world (and_noted o.noted h.commits) → KeptHeld sh ram o.world (and_noted o.noted h.commits)
 
-    same : {y : ℕ} (x : ℕ) (v r : Pair) → r.back ≡ v.back → r.core ≡ v.core → HeldOf x y v → HeldOf x y r
-    same x v r b c f = held-fades r b (fading v.core r.core (ap (λ s. s.awaited) c) (rw c (fades-same v.core.cache))) f
+    same : {y : ℕ} {x : ℕ} {v : Pair} (r : Pair) → r.back ≡ v.back → r.core ≡ v.core → HeldOf x y v → HeldOf x y r
+    same {v} r b c f = held-fades r b (fading v.core r.core (ap (λ s. s.awaited) c) (rw c (fades-same v.core.cache))) f
 
     -- a core that commits nothing
     quietly : (c : ℕ) (o : Out) (v : World) → o.commit ≡ None → KeptHeld sh ram v h.commits → R (record { world = v; noted = o.commit })
@@ -381,15 +378,15 @@ step-held {sh} p {ram} m h e u k held = node_cases sh p w e (λ s g o. R o)
     loading : (c d x : ℕ) → LoadingOf sh d (line_of x) (pair w c d)
     loading c d x = k.carried.one_load_request_or_fill c d (line_of x)
 
-    come : (c d n : ℕ) (a : Msg) → FromDir w d c n a → (o : Out) → Coming (w.cores c) a o
+    come : (c d n : ℕ) {a : Msg} → FromDir w d c n a → (o : Out) → Coming (w.cores c) a o
         → R (record { world = core_takes w (Dir d) c n o; noted = o.commit })
-    come c d n a i o (Quiet z f) = quietly c o (core_takes w (Dir d) c n o) f.0 (pairs_back P w d c n o
+    come c d n i o (Quiet z f) = quietly c o (core_takes w (Dir d) c n o) f.0 (pairs_back P w d c n o
         (λ x cl dl q. held-quietly n (after_move (back_taken (pair w c d) n) o d) i refl (z x) f.1 (held c d x cl dl q))
         (λ b r x cl dl q. held-fades (after_move (pair w c b) o b) refl f.1 (held c b x cl dl q)) held)
-    come c d n a i o (TakesWords l t v e f) = quietly c o (core_takes w (Dir d) c n o) f.rests.0 (pairs_back P w d c n o
+    come c d n i o (TakesWords l t v e f) = quietly c o (core_takes w (Dir d) c n o) f.rests.0 (pairs_back P w d c n o
         (λ x cl dl q. held-invalid sh d x _ n l t v o (i ∙ ap (λ y. Some y) e) f (loading c d x) (held c d x cl dl q))
         (λ b r x cl dl q. held-fades (after_move (pair w c b) o b) refl f.rests.1 (held c b x cl dl q)) held)
-    come c d n a i o (Brings l ws e f) = quietly c o (core_takes w (Dir d) c n o) f.commit (pairs_back P w d c n o
+    come c d n i o (Brings l ws e f) = quietly c o (core_takes w (Dir d) c n o) f.commit (pairs_back P w d c n o
         (λ x cl dl q. held-filled sh d x _ n l o (i ∙ ap (λ y. Some y) e) f (loading c d x) (held c d x cl dl q))
         (λ b r x cl dl q. held-elsewhere sh b x _ l o
         (fill-home sh b d n l x ws (pair w c d) (i ∙ ap (λ y. Some y) e) (k.carried.records_and_messages_are_at_home c d 0).back q
@@ -398,7 +395,7 @@ step-held {sh} p {ram} m h e u k held = node_cases sh p w e (λ s g o. R o)
     taken : (c d n : ℕ) (a : Msg) → FromDir w d c n a → (x : Option Out) → IfSome x (Coming (w.cores c) a)
         → IfSome x (λ o. R (record { world = core_takes w (Dir d) c n o; noted = o.commit }))
     taken c d n a i None f = tt
-    taken c d n a i (Some o) f = come c d n a i o f
+    taken c d n a i (Some o) f = come c d n i o f
 
     quiet : (c d n : ℕ) (a : Msg) → FromCore w c d n a → ((t : ℕ) → passes (Commits t) a ≡ false) → ((l : ℕ) → passes (LoadOf l) a ≡ false)
         → OfAnswer w c d n (λ v. R (record { world = v; noted = None })) (dir_deliver sh (w.dirs d) c a)

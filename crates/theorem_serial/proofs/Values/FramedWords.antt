@@ -1,27 +1,26 @@
 -- A word in a core's frames and in the Fills on their way to the core: it has its value, or an invalidation of it is on its way too.
-use Rattle.base_lemmas.proofs.Lemmas.{eight-at, eq-self as same}
 use Rattle.rules_tcc.specs.DirDeliver.{dir_commit}
 use Rattle.theorem_serial.proofs
 use proofs.Names
-use Names.{moved_on_if_settled, owned_by_committer, invalidation_count, load_unless_owned, keeps_unmodified, false, CommitsAreServed}
-use Names.{CommitsInMemory, flat_map-append, is_invalidated, if◌then◌else◌, invalidations, arith, SettledCommit, any_below-at, after_answer}
-use Names.{CommitsStand, load_request, stores_word, count_below, Option, has-mask_of, KeptLoading, KeptSharers, CommitsLine, KeptCounted}
-use Names.{stored_mask, is_applied, with_asked, ℕ, home_words, holds_line, KeptStored, stores_at, ask_owner, dir_takes, stores_in, Contains}
-use Names.{place_of, any_word, DirState, value_at, is_stale, has_mark, dir_asks, flat_map, cases_eq, ◌≡◌, SharerOf, is_fresh, IsRising}
-use Names.{is_some, line_of, word_at, FillNot, InvWord, Commits, is_this, DataReq, mask_of, Awaited, invs_to, FillOf, passes, counts}
-use Names.{get_or, nat_le, Answer, nat_lt, Commit, LoadOf, Bool, Noted, Shape, World, among, subst, Sends, Waits, Drops, Takes, those}
-use Names.{Lines, lines, true, ◌&&◌, ◌||◌, List, Some, None, refl, Core, Link, live, Pair, pair, zero, ◌==◌, Fill, Asks, cond, Kind, ◌<◌}
-use Names.{◌≤◌, ◌⊎◌, not, inl, inr, num, Msg, Dir, suc, ◌∷◌, set, ◌∙◌, ◌+◌, sym, has, hit, Inv, [], ap, to, nats, home_of, tid_at, to_dir}
-use Names.{to_core, FromCore, ◌≢◌}
-use proofs.Counts.Links.{live-sends, live-fewer, among-fewer, num-same, live-takes, among-append}
-use proofs.Counts.StepCases.{either, dir-own, dir-other, pairs_dir, pairs_asks, differ, OfAnswer}
+use Names.{eight-at, eq-self as same, moved_on_if_settled, owned_by_committer, invalidation_count, load_unless_owned, keeps_unmodified}
+use Names.{false, CommitsAreServed, CommitsInMemory, flat_map-append, is_invalidated, if◌then◌else◌, invalidations, arith, SettledCommit}
+use Names.{any_below-at, after_answer, CommitsStand, load_request, stores_word, count_below, Option, has-mask_of, KeptLoading, KeptSharers}
+use Names.{CommitsLine, KeptCounted, stored_mask, is_applied, with_asked, ℕ, home_words, holds_line, KeptStored, stores_at, ask_owner}
+use Names.{dir_takes, stores_in, Contains, place_of, any_word, DirState, value_at, is_stale, has_mark, dir_asks, flat_map, cases_eq, ◌≡◌}
+use Names.{SharerOf, is_fresh, IsRising, is_some, line_of, word_at, FillNot, InvWord, Commits, is_this, DataReq, mask_of, Awaited, invs_to}
+use Names.{FillOf, passes, counts, get_or, nat_le, Answer, nat_lt, Commit, LoadOf, Bool, Noted, Shape, World, among, subst, Sends, Waits}
+use Names.{Drops, Takes, those, Lines, lines, true, ◌&&◌, ◌||◌, List, Some, None, refl, Core, Link, live, Pair, pair, zero, ◌==◌, Fill}
+use Names.{Asks, cond, Kind, ◌<◌, ◌≤◌, ◌⊎◌, not, inl, inr, num, Msg, Dir, suc, ◌∷◌, set, ◌∙◌, ◌+◌, sym, has, hit, Inv, [], ap, to, nats}
+use Names.{home_of, tid_at, to_dir, to_core, FromCore, ◌≢◌}
+use proofs.Counts.{live-sends, live-fewer, among-fewer, num-same, live-takes, among-append, either, dir-own, dir-other, pairs_dir}
+use proofs.Counts.{pairs_asks, differ, OfAnswer}
 use proofs.Lines.LineOwners.{FillsBy}
 use proofs.Marks.CoreMarks.{some-mask}
 use proofs.Marks.MaskLaws.{same-commit}
 use proofs.Marks.DirRecords.{CountsMarked}
 use proofs.Marks.StoredKept.{taken-stored}
 use proofs.Memory.CoreInMemory.{accesses_at_homes}
-use proofs.Tids.TidSteps.{live-some}
+use proofs.Tids.{live-some}
 use proofs.Values.ValueAt.{IsAlike, value-alike}
 
 -- the word x has the value y, or an invalidation of it is on its way
@@ -87,7 +86,7 @@ held-idle x z v k f = record { framed = λ a p q. absurd (kept a p q); filled = 
         let i : word_at (line_of x) (place_of x) ≡ x = omega arith in
         let t : keeps_unmodified v.core.cache (line_of x) ≡ true = any_below-at (λ n. is_some (v.core.cache.value (word_at (line_of x) n))
         && (not (v.core.cache.modified (word_at (line_of x) n)) || v.core.cache.read (word_at (line_of x) n))) 8 (place_of x)
-        (omega arith) (rw (i, p, q) refl) in
+        (omega arith) (rw (i, p, q)) in
         cc
 
 -- values at home
@@ -99,12 +98,12 @@ IsSteady w v d c n = (is_this c n.core.0 ≡ true)
 
 counts-own : (s r : DirState) (c : Option ℕ) (n : Noted) → is_this c n.core.0 ≡ true → counts r c None n ≡ counts s c None n
 unfolding counts
-counts-own s r c n t = rw t refl
+counts-own s r c n t = rw t
 
 counts-applied : (s r : DirState) (c : Option ℕ) (n : Noted) → is_applied r n.tid.0 ≡ is_applied s n.tid.0
     → counts r c None n ≡ counts s c None n
 unfolding counts
-counts-applied s r c n q = rw q refl
+counts-applied s r c n q = rw q
 
 -- A word's value at its home stays where the commits that stored it are on their way as before.
 pub value-stays : {sh : Shape} (ram : ℕ → ℕ) (w v : World) (cs : List Noted) {d : ℕ} (c : Option ℕ) (x : ℕ) → CommitsInMemory sh cs
@@ -157,7 +156,7 @@ unfolding load_request among passes
 load-home c l a s = go (nat_le s.serving.serving a) (has_mark s.lines l) (s.lines.owner l) refl refl
   where
     words : (x y : ℕ) → (l ≡ line_of x → s.words x ≡ y) → among (FillNot x y) (if c == c then Fill l (home_words s l) ∷ [] else []) ≡ 0
-    words x y e = rw (same c) (rw (filled-word s l x y e) refl)
+    words x y e = rw (same c) (rw (filled-word s l x y e))
 
     go : (b m : Bool) (o : Option ℕ) → nat_le s.serving.serving a ≡ b → s.lines.owner l ≡ o
         → FillsHome c l a s (if b || m then Waits else load_unless_owned c l s o)
@@ -180,7 +179,7 @@ pub commits-own : (w : World) (c d k : ℕ) {m : Msg} (s : DirState) (sends : Se
     → passes (Commits t) m ≡ false → live (Commits t) ((dir_takes w c d k s sends).net (Core c) (Dir d)) ≡ live (Commits t) (to_dir w c d)
 unfolding pair
 commits-own w c d k {m} s sends t i p = ap (λ v. live (Commits t) v.out) (dir-own w c d k s sends)
-    ∙ (let z : num (passes (Commits t) m) ≡ 0 = rw p refl in omega (arith, z, live-takes (Commits t) (to_dir w c d) k m i))
+    ∙ (let z : num (passes (Commits t) m) ≡ 0 = rw p in omega (arith, z, live-takes (Commits t) (to_dir w c d) k m i))
 
 -- the value stays where the commits that stored the word are steady
 pub value-taken : (sh : Shape) (ram : ℕ → ℕ) (w : World) (cs : List Noted) (c d k : ℕ) (s : DirState) (sends : Sends) (j : Option ℕ) (x : ℕ)
@@ -195,7 +194,7 @@ value-taken sh ram w cs c d k s sends j x inside before after dl e f =
 pub steady-taken : (w : World) (c d k : ℕ) {m : Msg} (s : DirState) (sends : Sends) (j : Option ℕ) (n : Noted) → FromCore w c d k m
     → ((t : ℕ) → passes (Commits t) m ≡ false) → IsSteady w (dir_takes w c d k s sends) d j n
 steady-taken w c d k s sends j n i p = inr (either n.core.0 c (λ q. rw q (commits-own w c d k s sends n.tid.0 i (p n.tid.0)))
-    (λ h. commits-other w c d k s sends n.core.0 n.tid.0 h))
+    (commits-other w c d k s sends n.core.0 n.tid.0))
 
 -- what is to be shown of each core's words where a directory takes a message
 pub held-taken : (sh : Shape) (ram : ℕ → ℕ) (w : World) (cs : List Noted) (c d k : ℕ) (s : DirState) (sends : Sends)
@@ -235,7 +234,7 @@ commit-invalidates sh c u n s = go (s.serving.serving == u) (count_below (has_ma
     go false b q r = tt
     go true false q r = tt
     go true true q r = let e : u ≡ s.serving.serving = grind nats in let f : n ≡ count_below (has_mark s.lines) (lines sh) =
-        grind nats in (rw (e, f) refl, λ j. rw e refl)
+        grind nats in (rw (e, f), λ j. rw e)
 
 -- a message that is sent for one of the lines
 sent-one : (k : Kind) (f : ℕ → List Msg) (p : ℕ → Bool) (n l : ℕ) → l < n → p l ≡ true → 1 ≤ among k (f l)
@@ -267,14 +266,13 @@ stored-hit sh d x ls n il e m s =
     p k = stores_word sh.base n.stores (word_at (line_of x) k)
 
     mark : ls.mark (line_of x) ≡ mask_of p
-    mark = let a : nat_lt (line_of x) (lines sh) ≡ true = grind nats in let b : (d == home_of sh x) ≡ true =
-        grind nats in m ∙ rw (a, b) refl
+    mark = let a : nat_lt (line_of x) (lines sh) ≡ true = grind nats in let b : (d == home_of sh x) ≡ true = grind nats in m ∙ rw (a, b)
 
 sharer-told : (sh : Shape) (ls : Lines) (c t j x : ℕ) → line_of x < lines sh → j < sh.cores → j ≢ c → has_mark ls (line_of x) ≡ true
     → hit (line_of x) (ls.mark (line_of x)) x ≡ true → ls.sharers (line_of x) j ≡ true → 1 ≤ among (InvWord x) (invs_to sh ls c t j)
 unfolding invs_to is_invalidated among passes
 sharer-told sh ls c t j x il jl n m h s = sent-one (InvWord x) (λ l. Inv l (ls.mark l) t ∷ []) (is_invalidated sh ls c j) (lines sh)
-    (line_of x) il (let a : nat_lt j sh.cores ≡ true = grind nats in rw (a, m, s, differ j c n) refl) (rw h (omega arith))
+    (line_of x) il (let a : nat_lt j sh.cores ≡ true = grind nats in rw (a, m, s, differ j c n)) (rw h (omega arith))
 
 -- a core that isn't a sharer, and has no Commit on its way, holds no word of the line
 idle : (sh : Shape) (w : World) {cs : List Noted} (j d : ℕ) {l : ℕ} → KeptLoading sh w → SharerOf sh.base cs j l (pair w j d)
@@ -297,8 +295,8 @@ idle sh w j d {l} loading shares s n =
     split : (a b : Bool) → keeps_unmodified (w.cores j).cache l ≡ a
         → (is_fresh (w.cores j).awaited && nat_lt 0 (live (FillOf l) (to_core w d j))) ≡ b
         → (keeps_unmodified (w.cores j).cache l ≡ false) × (is_stale (w.cores j).awaited ≡ false → live (FillOf l) (to_core w d j) ≡ 0)
-    split true b p q = absurd (told (rw p refl))
-    split false true p q = absurd (told (rw (p, q) refl))
+    split true b p q = absurd (told (rw p))
+    split false true p q = absurd (told (rw (p, q)))
     split false false p q = (p, none (w.cores j).awaited refl q)
 
 -- two Commits in flight to a directory are of one core
@@ -335,15 +333,14 @@ answered-commit {sh} ram w {cs} {c} d k {m} inside before h rising served counte
     j' = i ∙ ap (λ x. Some x) g.0
 
     one : num (passes (Commits t) (Commit t (count_below (has_mark (w.dirs d).lines) (lines sh)))) ≡ 1
-    one = rw (same t) refl
+    one = rw (same t)
 
-    none : (a b : Bool) → b ≡ false → num (a && b) ≡ 0
-    none true b e = rw e refl
-    none false b e = refl
+    none : (a : Bool) {b : Bool} → b ≡ false → num (a && b) ≡ 0
+    none true e = rw e
+    none false e = refl
 
     no-fill : (j x y : ℕ) → among (FillNot x y) (sends (Core j)) ≡ 0
-    no-fill j x y =
-        omega (arith, few-sent x y (sends (Core j)), f (line_of x) j, none (j == c) (passes (LoadOf (line_of x)) m) (lm (line_of x)))
+    no-fill j x y = omega (arith, few-sent x y (sends (Core j)), f (line_of x) j, none (j == c) (lm (line_of x)))
 
     own : (n : Noted) → IsSteady w (dir_takes w c d k s sends) d (Some c) n
     own n = either n.core.0 c (λ q. inl (rw q (same c))) (λ r. inr (commits-other w c d k s sends n.core.0 n.tid.0 r))
@@ -357,7 +354,7 @@ answered-commit {sh} ram w {cs} {c} d k {m} inside before h rising served counte
     -- a commit of another TID
     apart : (n : Noted) → n.tid.0 ≢ t → (b : Option ℕ) → IsSteady w (dir_takes w c d k s sends) d b n
     apart n r b = inr (either n.core.0 c (λ q. rw q (commits-own w c d k s sends n.tid.0 j'
-        (let z : (t == n.tid.0) ≡ false = grind nats in z))) (λ y. commits-other w c d k s sends n.core.0 n.tid.0 y))
+        (let z : (t == n.tid.0) ≡ false = grind nats in z))) (commits-other w c d k s sends n.core.0 n.tid.0))
 
     other : (j x : ℕ) (out : Link) → j < sh.cores → j ≢ c → home_of sh x ≡ d → CommitsStand sh (dir_takes w c d k s sends) cs
         → (b : Bool) → stores_word sh.base was.commit.stores x ≡ b
@@ -383,7 +380,7 @@ answered-commit {sh} ram w {cs} {c} d k {m} inside before h rising served counte
               z.1 p,
               live-sends (FillOf (line_of x)) (to_core w d j) (sends (Core j)),
               f (line_of x) j,
-              none (j == c) (passes (LoadOf (line_of x)) m) (lm (line_of x)),
+              none (j == c) (lm (line_of x)),
             ))
           where
             z : (keeps_unmodified (w.cores j).cache (line_of x) ≡ false)

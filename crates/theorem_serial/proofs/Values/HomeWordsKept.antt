@@ -5,14 +5,13 @@ use proofs.Names
 use Names.{ℕ, ◌≡◌, Noted, ◌<◌, ◌++◌, List, Option, Some, None, IfSome, refl, inl, inr, Plain, Local, Program, Dir, Event, Shape, CoreState}
 use Names.{World, Out, core_exec, core_evict, from_dir, dir_deliver, History, Stepped, step, next_history, recorded, and_noted, core_moves}
 use Names.{core_takes, Uses, Suits, Carried, Invariants, Grant, granted_by, Ways, ways_after, sent_by, zero, suc, ◌||◌, Bool, true, false}
-use Names.{cond, is_some, unwrap_or, arith, ap, sym, subst, ◌∙◌, num, line_of, home, lines, DirState, noted, insert_commit, sees}
-use Names.{copies_with, AboveOf, CopyWord, CopyNot, Commits, live, among, Pair, pair, after_move, is_this, is_applied, stores_word}
-use Names.{after_stores, counts, word_copies, CopiesHave, wrote_line, Vendor, Msg, grant, CommitsStand, nats, home_of, to_dir, FromDir, ◌≢◌}
+use Names.{cond, is_some, unwrap_or, arith, ap, sym, subst, ◌∙◌, num, line_of, lines, DirState, noted, insert_commit, sees, copies_with}
+use Names.{AboveOf, CopyWord, CopyNot, Commits, live, among, Pair, pair, after_move, is_this, is_applied, stores_word, after_stores, counts}
+use Names.{word_copies, CopiesHave, wrote_line, Vendor, Msg, grant, CommitsStand, nats, home_of, to_dir, FromDir, ◌≢◌}
 use proofs.Copies.TagsKept.{untagged}
-use proofs.Counts.Links.{live-sends}
-use proofs.Counts.StepCases.{either, moves-own, moves-other, node_cases}
+use proofs.Counts.{live-sends, either, moves-own, moves-other, node_cases}
 use proofs.Marks.DirRecords.{dir-records}
-use proofs.OneCore.CoreCloses.{CheckpointStays, grant-stays, back-stays}
+use proofs.OneCore.{CheckpointStays, grant-stays, back-stays}
 use proofs.Order.SerialParts.{each-listed}
 use proofs.Order.SerialSteps.{Stand, stand}
 use proofs.Values.CoreWords.{CommitsWord, CommitsWords, commits-exec, Uncommitted, Quietly, words-exec, words-evict, WordBack, words-grant}
@@ -160,13 +159,13 @@ commit-keeps {sh} {ram} {ys} h c o u k l g f =
         d : ℕ
         d = home_of sh x
 
-        none : (i : Bool) (j : Option ℕ) (b : Bool) → (i || is_some j) ≡ b → b ≡ false → (i ≡ false) × (j ≡ None)
-        none false None b e z = (refl, refl)
-        none false (Some y) b e z = absurd (cc)
-        none true j b e z = absurd (cc)
+        none : (i : Bool) (j : Option ℕ) {b : Bool} → (i || is_some j) ≡ b → b ≡ false → (i ≡ false) × (j ≡ None)
+        none false None e z = (refl, refl)
+        none false (Some y) e z = absurd (cc)
+        none true j e z = absurd (cc)
 
         a : Alike x (tag_of w d x) (pair w c d) (after_move (pair w c d) o d)
-        a = let y = none (s.cache.modified x) (s.spilled x) (stores_word sh.base s.stores x) (k.carried.stored_words_are_those_named c x) q
+        a = let y = none (s.cache.modified x) (s.spilled x) (k.carried.stored_words_are_those_named c x) q
             in unstored-alike x d o (word x) y.0 y.1
     own x dl true q = record {
       copies = (others (tag_of w d x) untag).copies;
@@ -258,9 +257,9 @@ step-values {sh} p {entries} {ram} {gs} {ys} {views} m h e u k = node_cases sh p
     (λ c l. executed c l (core_exec sh p c (w.cores c)) (framing-exec sh p c (w.cores c))
     (commits-exec sh p c (w.cores c) (b.caches c) (k.carried.marks_fit_the_phase c).spilled) (words-exec sh p c (w.cores c) (b.caches c)))
     (λ c x y l. evicted c (core_evict sh x y (w.cores c)) (words-evict sh x y (w.cores c) (b.caches c)))
-    (λ c n t i. let o = grant sh t (w.cores c) in quietly o.commit (core_takes w Vendor c n o) (grant-stays sh t (w.cores c)).commit
+    (λ c n t i. let o = grant sh t (w.cores c) in quietly (grant-stays sh t (w.cores c)).commit
     (alike-keeps (core_takes w Vendor c n o) refl (granted-alike sh w c n o (words-grant sh t (w.cores c))) b.values))
-    (λ c d n a i. taken c d n a i (from_dir sh d (w.cores c) a) (back-stays sh d (w.cores c) a)
+    (λ c d n a i. taken c d n i (from_dir sh d (w.cores c) a) (back-stays sh d (w.cores c) a)
     (λ y. words-back sh y d (w.cores c) a (b.caches c)))
     (λ c d n a cl dl i. answered h c d n (dir_deliver sh (w.dirs d) c a) b cl dl i (dir-records sh (w.dirs d) c a)
     (λ x. dir-words sh x (w.dirs d) c a)) (λ c n i s. granted h c n b)
@@ -271,29 +270,27 @@ step-values {sh} p {entries} {ram} {gs} {ys} {views} m h e u k = node_cases sh p
     b : Known sh ram h
     b = known sh p entries ram gs ys views m h k
 
-    quietly : (n : Option Noted) (v : World) → n ≡ None → KeptValues sh ram v h.commits
+    quietly : {n : Option Noted} {v : World} → n ≡ None → KeptValues sh ram v h.commits
         → KeepsValues sh ram h (record { world = v; noted = n })
-    quietly n v e f = rw e (λ s. f)
+    quietly e f = rw e (λ s. f)
 
     executed : (c : ℕ) → c < sh.cores → (x : Option Out) → IfSome x (Framing c (w.cores c)) → IfSome x (CommitsWords sh (w.cores c))
         → IfSome x (Uncommitted sh (w.cores c))
         → IfSome x (λ o. KeepsValues sh ram h (record { world = core_moves w c o; noted = o.commit }))
     executed c l None f g a = tt
-    executed c l (Some o) (Stays n f) g a =
-        quietly o.commit (core_moves w c o) n (alike-keeps (core_moves w c o) refl (moved-alike w c (a n)) b.values)
+    executed c l (Some o) (Stays n f) g a = quietly n (alike-keeps (core_moves w c o) refl (moved-alike w c (a n)) b.values)
     executed c l (Some o) (Closes f) g a = λ s. commit-keeps h c o u k l f g
 
     evicted : (c : ℕ) (x : Option Out) → IfSome x (Quietly sh (w.cores c))
         → IfSome x (λ o. KeepsValues sh ram h (record { world = core_moves w c o; noted = o.commit }))
     evicted c None a = tt
-    evicted c (Some o) a = quietly o.commit (core_moves w c o) a.0 (alike-keeps (core_moves w c o) refl (moved-alike w c a.1) b.values)
+    evicted c (Some o) a = quietly a.0 (alike-keeps (core_moves w c o) refl (moved-alike w c a.1) b.values)
 
-    taken : (c d n : ℕ) (a : Msg) → FromDir w d c n a → (x : Option Out) → IfSome x (CheckpointStays (w.cores c))
+    taken : (c d n : ℕ) {a : Msg} → FromDir w d c n a → (x : Option Out) → IfSome x (CheckpointStays (w.cores c))
         → ((y : ℕ) → IfSome x (WordBack sh y (w.cores c) a))
         → IfSome x (λ o. KeepsValues sh ram h (record { world = core_takes w (Dir d) c n o; noted = o.commit }))
-    taken c d n a i None r f = tt
-    taken c d n a i (Some o) r f = quietly o.commit (core_takes w (Dir d) c n o) r.commit
-        (alike-keeps (core_takes w (Dir d) c n o) refl (taken-alike h c d n o b i f) b.values)
+    taken c d n i None r f = tt
+    taken c d n i (Some o) r f = quietly r.commit (alike-keeps (core_takes w (Dir d) c n o) refl (taken-alike h c d n o b i f) b.values)
 
 pub homes_kept : EventsKeepHomes
 unfolding next_history

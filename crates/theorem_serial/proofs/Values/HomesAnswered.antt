@@ -1,24 +1,22 @@
 -- What a directory or the vendor does keeps the values of home words and of copies on their way home.
-use Rattle.base_lemmas.proofs.Lemmas.{and-false}
 use Rattle.theorem_serial.proofs
 use proofs.Names
-use Names.{ℕ, ◌+◌, ◌≡◌, ◌<◌, ◌≤◌, ◌⊎◌, ◌==◌, ◌&&◌, ◌||◌, Bool, true, false, cond, nat_lt, List, Contains, Option, Some, None, if◌then◌else◌}
-use Names.{arith, refl, ap, sym, ◌∙◌, inl, inr, cases_eq, cases_lt, Noted, Stored, num, count_below, line_of, place_of, word_at, has_mark}
-use Names.{has, full, mask_of, Msg, Shape, lines, has-mask_of, World, History, copies_with, AboveOf, Commits, CommitOf, CopyOf, CopyWord}
-use Names.{CopyNot, live, passes, pair, is_applied, MarkedCommit, stores_at, stores_in, is_this, stored_mask, stores_word, counts}
-use Names.{word_copies, CopiesHave, names_line, wrote, wrote_line, wrote_mask, [], subst, Plain, Program, Local, DirState, Sends, Answer}
-use Names.{Waits, Drops, Asks, Takes, dir_takes, dir_asks, vendor_gives, Uses, Invariants, Grant, CommitsStand, Ways, nats, home_of, tid_at}
-use Names.{to_dir, FromCore, ◌≢◌, tested}
+use Names.{and-false, ℕ, ◌+◌, ◌≡◌, ◌<◌, ◌≤◌, ◌⊎◌, ◌==◌, ◌&&◌, ◌||◌, Bool, true, false, cond, nat_lt, List, Contains, Option, Some, None}
+use Names.{if◌then◌else◌, arith, refl, ap, sym, ◌∙◌, inl, inr, cases_eq, cases_lt, Noted, Stored, num, count_below, line_of, place_of}
+use Names.{word_at, has_mark, has, full, mask_of, Msg, Shape, lines, has-mask_of, World, History, copies_with, AboveOf, Commits, CommitOf}
+use Names.{CopyOf, CopyWord, CopyNot, live, passes, pair, is_applied, MarkedCommit, stores_at, stores_in, is_this, stored_mask, stores_word}
+use Names.{counts, word_copies, CopiesHave, names_line, wrote, wrote_line, wrote_mask, [], subst, Plain, Program, Local, DirState, Sends}
+use Names.{Answer, Waits, Drops, Asks, Takes, dir_takes, dir_asks, vendor_gives, Uses, Invariants, Grant, CommitsStand, Ways, nats, home_of}
+use Names.{tid_at, to_dir, FromCore, ◌≢◌, tested}
 use proofs.Copies.LinesStep.{marked-line, writer-line, other-writer, commit-passes}
 use proofs.Copies.TagsKept.{tag-below, applied-owed, TakenCommit, takes-consumes}
 use proofs.Copies.WroteLines.{wrote-at}
-use proofs.Counts.Links.{num-same}
-use proofs.Counts.StepCases.{given, OfAnswer}
+use proofs.Counts.{num-same, given, OfAnswer}
 use proofs.Marks.DirRecords.{NoCopy, RecordStays, Records, Still, Came, Settles, Dropped, RecordsBy, CountsMarked}
 use proofs.Marks.MaskLaws.{same-commit}
 use proofs.Marks.CoreMarks.{stored-line, stored-cases}
 use proofs.Memory.CoreInMemory.{line-has}
-use proofs.Tids.TidSteps.{live-some}
+use proofs.Tids.{live-some}
 use proofs.Values.CoreWords.{HomeBy, Left, Home, WordsBy}
 use proofs.Values.ValueAt.{value-alike, rising-above}
 use proofs.Values.WordCopies.{none-copied, copy-has, word-line, few-copies}
@@ -109,7 +107,7 @@ applied-after h c d m v s y i t = go (c == y.core.0) refl
         num-same (is_applied (v.dirs d) y.tid.0) true (omega (arith, then-one, gone e (u == y.tid.0) refl))
     go false q =
         let z : (y.core.0 == c) ≡ false = grind nats in
-        let o : num ((y.core.0 == c && d == d) && passes (Commits y.tid.0) m) ≡ 0 = rw z refl in
+        let o : num ((y.core.0 == c && d == d) && passes (Commits y.tid.0) m) ≡ 0 = rw z in
         num-same (is_applied (v.dirs d) y.tid.0) (is_applied (h.world.dirs d) y.tid.0) (omega (arith, o, net, one, then-one))
 
 -- so a word is for all as it was for the core
@@ -160,7 +158,7 @@ unmarked-values : (sh : Shape) (ram : ℕ → ℕ) (h : History) (c d k x : ℕ)
 unfolding names_line
 unmarked-values sh ram h c d k x m v s e t r = quiet-keep v (record {
   cores = s.answers.cores;
-  tag = s.tags (line_of x) ∙ rw r refl;
+  tag = s.tags (line_of x) ∙ rw r;
   words = s.words x;
   copies =
       λ j. omega (
@@ -231,7 +229,7 @@ none-old {sh} h d j x b jl dl e t i r q = elim (b.whole d (line_of x) (unowed b 
   | inl f ↦ absurd (let y = stored (sym (t.settled.marks (line_of x)) ∙ f) (stored-cases sh d n.stores (line_of x)) in cc)
   | inr f ↦ let o : copies_with (line_of x) (tag_of h.world d x) (pair h.world j d) ≡ num
       (is_this ((h.world.dirs d).lines.owner (line_of x)) j) = b.owned j d (line_of x) jl dl i e in
-      let z : num (is_this ((h.world.dirs d).lines.owner (line_of x)) j) ≡ 0 = rw f refl in
+      let z : num (is_this ((h.world.dirs d).lines.owner (line_of x)) j) ≡ 0 = rw f in
       omega (arith, o, z, few-copies x (tag_of h.world d x) (pair h.world j d) (b.caches j))
 ]
   where
@@ -275,7 +273,7 @@ marked-values sh ram h c d k x m v s e t r = record {
         (λ y o z. ap (λ n. n.core.0) (t.only y o (sym z)) ∙ t.core) t.sent
 
     tag : tag_of v d x ≡ u
-    tag = s.tags (line_of x) ∙ rw r refl
+    tag = s.tags (line_of x) ∙ rw r
 
     new : ℕ
     new = value_of sh ram v h.commits d None x
@@ -302,7 +300,7 @@ marked-values sh ram h c d k x m v s e t r = record {
     copied j jl (inl q) = have-still (pair v j d) (same-core j)
         (omega (arith, s.answers.net (CopyNot x u (value_of sh ram h.world h.commits d (Some j) x)) j d))
         (rw q (value-after sh ram h c d k x m v s e)) ((b.values d x s.dir e).above j u jl old)
-    copied j jl (inr q) = none j u new jl old (rw (other-writer sh h c j d (line_of x) q t) refl)
+    copied j jl (inr q) = none j u new jl old (rw (other-writer sh h c j d (line_of x) q t))
 
     at-home : (y : Bool) → stores_word sh.base t.settled.commit.stores x ≡ y → ((j : ℕ) → j < sh.cores → word_copies x u (pair v j d) ≡ 0)
         → (v.dirs d).words x ≡ new
@@ -358,10 +356,10 @@ known sh p entries ram gs ys views m h k = record {
 
 -- a directory's answer
 here : (d : ℕ) (s : DirState) (f : ℕ → DirState) → (if d == d then s else f d) ≡ s
-here d s f = let y : (d == d) ≡ true = grind nats in rw y refl
+here d s f = let y : (d == d) ≡ true = grind nats in rw y
 
 away : (e d : ℕ) (s : DirState) (f : ℕ → DirState) → e ≢ d → (if e == d then s else f e) ≡ f e
-away e d s f n = let y : (e == d) ≡ false = grind nats in rw y refl
+away e d s f n = let y : (e == d) ≡ false = grind nats in rw y
 
 taken : {sh : Shape} {ram : ℕ → ℕ} {h : History} (c d k : ℕ) {m : Msg} (s : DirState) (sends : Sends) → Known sh ram h → c < sh.cores
     → d < sh.dirs → FromCore h.world c d k m → CommitsStand sh (dir_takes h.world c d k s sends) h.commits
@@ -418,8 +416,8 @@ unfolding dir_asks
 asks {ram} h d s sends b t f y e x el q = elim (cases_eq e d) [
   | inl r ↦ quiet-keep v (record {
     cores = refl;
-    tag = ap (λ z. z.lines.tag (line_of x)) (asked r) ∙ y.tags (line_of x) ∙ rw r refl;
-    words = ap (λ z. z.words x) (asked r) ∙ f x ∙ rw r refl;
+    tag = ap (λ z. z.lines.tag (line_of x)) (asked r) ∙ y.tags (line_of x) ∙ rw r;
+    words = ap (λ z. z.words x) (asked r) ∙ f x ∙ rw r;
     copies = λ j. refl;
     others = λ j u z. omega arith;
     value = same-value ram h.world v h.commits x b.stand t b.inside el q (λ n o z. refl);
@@ -446,4 +444,4 @@ pub granted : {sh : Shape} {ram : ℕ → ℕ} (h : History) (c k : ℕ) → Kno
     → KeptValues sh ram (vendor_gives h.world c k (given h.world c)) h.commits
 unfolding vendor_gives
 granted h c k b e x el q = same-values (vendor_gives h.world c k (given h.world c)) refl refl
-    (λ l j. rw (and-false (j == c)) refl) (b.values e x el q)
+    (λ l j. rw (and-false (j == c))) (b.values e x el q)

@@ -5,9 +5,9 @@ use Names.{ℕ, suc, ◌+◌, ◌≡◌, ◌<◌, ◌≤◌, ◌⊎◌, Bool, tr
 use Names.{Some, None, IfSome, IsSomeAnd, is_some, arith, sym, subst, ◌∙◌, inl, inr, cases_eq, cases_lt, Noted, order_of_commit, Attempt}
 use Names.{Plain, serial, begun, steps, Local, Program, num, writes_at, Shape, CoreState, DirState, Phase, Ready, Solo, Halted, is_solo}
 use Names.{History, Uses, Agrees, Reaches, sees, Suits, MarkedAtHomes, plain_start, Invariants, Grant, times, pair, is_applied, opens}
-use Names.{stores_word, IsMemory, after_stores, counts, value_at, Settled, Ways, ap, nats, home_of, tid_at, ◌≢◌}
+use Names.{stores_word, IsMemory, after_stores, counts, value_at, Settled, Ways, ap, nats, home_of, tid_at}
 use proofs.Memory.CoreInMemory.{marks_at_homes}
-use proofs.OneCore.UsedWords.{follows-in}
+use proofs.OneCore.{follows-in}
 use proofs.Order.InsertedOrders.{serial-memory}
 use proofs.Order.SerialParts.{home-below, agrees-before, value-before, before, behind, cut-joined, SerialCut, Holds, serial-cut}
 use proofs.Order.SerialParts.{serial-holds, steps-hold, all_stores}
@@ -114,7 +114,7 @@ stored-seen {sh} {p} {entries} {ram} {ys} {views} {m} {h} c t x u k l y e =
 
     agrees : Agrees (views c) cut.start.ram
     agrees = agrees-before sh ram cut.start.ram h.world h.commits c t (views c) u.dirs k.carried.commits_are_of_granted_tids.0 st.fresh
-        words (λ d. k.carried.owed_counts_invs_and_acks.served c d) (uses-reached sh h ys c t true (views c) st
+        words (k.carried.owed_counts_invs_and_acks.served c) (uses-reached sh h ys c t true (views c) st
         (view-stands t (h.world.cores c) (views c) st.may (k.carried_views.read_marks_are_the_view c).stand))
         (λ d i. k.viewed_word_is_current_or_doomed c d (Some t) l i (may-bound h.world c d t st.may))
 

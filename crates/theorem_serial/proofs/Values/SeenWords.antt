@@ -1,19 +1,19 @@
 -- What is seen of a word is its value after all commits: its copy with the greatest tag is of the commit whose Commit is in flight, if any.
-use Rattle.base_lemmas.proofs.Lemmas.{word_at-own}
 use Rattle.theorem_serial.proofs
 use proofs.Names
-use Names.{ℕ, zero, suc, ◌≡◌, ◌<◌, ◌≤◌, Bool, true, false, cond, max, ◌==◌, ◌&&◌, ◌||◌, List, [], ◌∷◌, length, Contains, Option, Some, None}
-use Names.{slice_index_or, is_some, if◌then◌else◌, arith, refl, sym, ap, ◌∙◌, ◌⊎◌, inl, inr, Noted, num, line_of, place_of, word_at, has}
-use Names.{hit, Msg, Shape, IsCache, is_dirty, dirty_tag, dirty_mask, has-mask_of, DirState, AboveOf, CopyMask, CopyWord, passes, IsRising}
-use Names.{Pair, is_this, stores_word, after_stores, counts, after_commits, word_copies, wrote, wrote_mask, last_of, ◌+◌, map, nat_lt}
-use Names.{nat_le, subst, order_of_commit, lines, seen, World, History, plain_start, copies_with, settled_in_line, Commits, CopyOf, live}
-use Names.{Carried, CarriedInMemory, Grant, pair, SeenFollows, is_settled, is_applied, MarkedCommit, stores_at, value_at, CopiesHave}
-use Names.{HomeWords, CopiesAbove, Ways, Committed, names_line, wrote_line, nats, home_of, to_dir, grant_to, tested}
+use Names.{word_at-own, ℕ, zero, suc, ◌≡◌, ◌<◌, ◌≤◌, Bool, true, false, cond, max, ◌==◌, ◌&&◌, ◌||◌, List, [], ◌∷◌, length, Contains}
+use Names.{Option, Some, None, slice_index_or, is_some, if◌then◌else◌, arith, refl, sym, ap, ◌∙◌, ◌⊎◌, inl, inr, Noted, num, line_of}
+use Names.{place_of, word_at, has, hit, Msg, Shape, IsCache, is_dirty, dirty_tag, dirty_mask, has-mask_of, DirState, AboveOf, CopyMask}
+use Names.{CopyWord, passes, IsRising, Pair, is_this, stores_word, after_stores, counts, after_commits, word_copies, wrote, wrote_mask}
+use Names.{last_of, ◌+◌, map, nat_lt, nat_le, subst, order_of_commit, lines, seen, World, History, plain_start, copies_with}
+use Names.{settled_in_line, Commits, CopyOf, live, Carried, CarriedInMemory, Grant, pair, SeenFollows, is_settled, is_applied, MarkedCommit}
+use Names.{stores_at, value_at, CopiesHave, HomeWords, CopiesAbove, Ways, Committed, names_line, wrote_line, nats, home_of, to_dir}
+use Names.{grant_to, tested}
 use proofs.Copies.CopySends.{some-dirty, tag-of}
-use proofs.Counts.Links.{live-fewer}
+use proofs.Counts.{live-fewer}
 use proofs.Memory.CoreInMemory.{accesses_at_homes, line-has}
 use proofs.Order.SerialParts.{Each, all_stores, home-below, each-listed, serial-holds}
-use proofs.Tids.Commits.{numbered-least, granted-once, granted-at}
+use proofs.Tids.{numbered-least, granted-once, granted-at}
 use proofs.Values.ValueAt.{Greatest, seen-greatest, after_stores-other}
 use proofs.Values.WordCopies.{few-words, none-copied, few-copies, copy-has}
 
@@ -36,7 +36,7 @@ after-all base s c b x (n ∷ ns) y h = ap (after_commits base s c b x ns) (one 
 
     one : (counts s c b n ≡ true) ⊎ (stores_word base n.stores x ≡ false)
         → (if counts s c b n then after_stores base n.stores x y else y) ≡ after_stores base n.stores x y
-    one (inl e) = rw e refl
+    one (inl e) = rw e
     one (inr e) = silent e (counts s c b n)
 
 -- commits
@@ -85,7 +85,7 @@ wrote-word base (m ∷ ns) n x i s = go i.0 i.1 i.2 (λ k. wrote-word base ns n 
 
     here : (m : Noted) → m ≡ n
         → (((m.core.0 == n.core.0) && ((m.tid.0 == n.tid.0) && stores_word base m.stores x)) || wrote base ns n.core.0 n.tid.0 x) ≡ true
-    here m e = rw (e, c, t, s) refl
+    here m e = rw (e, c, t, s)
 
     go : (k : ℕ) → k < suc (length ns) → slice_index_or (m ∷ ns) k n ≡ n → (Contains ns n → wrote base ns n.core.0 n.tid.0 x ≡ true)
         → (((m.core.0 == n.core.0) && ((m.tid.0 == n.tid.0) && stores_word base m.stores x)) || wrote base ns n.core.0 n.tid.0 x) ≡ true
@@ -131,7 +131,7 @@ unwritten-none {sh} {ns} {c} x {t} {v} h a w =
         let m : has (dirty_mask v.core.cache (line_of x)) (place_of x) ≡ false = ap (λ n. has n (place_of x)) (a.framed d f)
         ∙ (mask-wrote sh.base ns c t x ∙ w) in
         let s : has (dirty_mask v.core.cache (line_of x)) (place_of x) ≡ true =
-        has-mask_of (λ k. is_some (v.core.cache.dirty (word_at (line_of x) k))) (place_of x) (omega arith) ∙ rw y refl in
+        has-mask_of (λ k. is_some (v.core.cache.dirty (word_at (line_of x) k))) (place_of x) (omega arith) ∙ rw y in
         cc
 
     framed : (o : Option ℕ) → v.core.cache.dirty x ≡ o → num (is_this o t) ≡ 0
@@ -201,7 +201,7 @@ applied-or-flying {sh} {gs} {ys} {h} x n k i s = elim (search (λ c. live (Commi
         (granted-at gs h.commits n k.carried.commits_are_of_granted_tids.1 i)
 
     committed : ys d n.tid.0 ≡ Committed
-    committed = k.carried.committed_tid_is_given_up_where_it_stored_nothing.stored n d i (home-below sh x k.dirs) ∙ rw stored refl
+    committed = k.carried.committed_tid_is_given_up_where_it_stored_nothing.stored n d i (home-below sh x k.dirs) ∙ rw stored
 
 -- its value, where all that stored it count
 all-value : {sh : Shape} {ram : ℕ → ℕ} {gs : List Grant} {ys : Ways} {ends : ℕ → ℕ} {h : History} (x : ℕ) (c : Option ℕ)
@@ -377,7 +377,7 @@ coming-below {sh} {gs} h x c n k i f = subst (λ q. q < (at sh h.world x).servin
             → (b : Bool) → (m.tid.0 == (at sh h.world x).serving.serving) ≡ b → m.tid.0 < (at sh h.world x).serving.serving
         last z o true p b q = grind nats
         last z o false p true q = absurd (served m j (grind nats) z)
-        last z o false p false q = absurd (let y : is_applied (at sh h.world x) m.tid.0 ≡ false = rw (p, q) refl in
+        last z o false p false q = absurd (let y : is_applied (at sh h.world x) m.tid.0 ≡ false = rw (p, q) in
             let w : num (is_applied (at sh h.world x) m.tid.0) ≡ 0 = ap num y in omega (arith, o, w))
 
         go : (a : Bool) → (live (Commits m.tid.0) (to_dir h.world m.core.0 (home_of sh x)) == 0) ≡ a → (b : Bool)
@@ -416,7 +416,7 @@ stored-word {sh} {ram} {ends} h x {c} {n} k i f s = record {
         → (is_this (Some c) m.core.0 || is_applied (at sh h.world x) m.tid.0) ≡ true
     counted m j (inl e) = rw e ((elim (is_this (Some c) m.core.0) as (λ b. (b || true) ≡ true) [ true ↦ refl | false ↦ refl ]))
     counted m j (inr y) = let o : m.core.0 ≡ c = ap (λ z. z.core.0) (only-coming y.0 m k f j y.1 y.2)
-        ∙ f.core in let q : (c == m.core.0) ≡ true = grind nats in rw q refl
+        ∙ f.core in let q : (c == m.core.0) ≡ true = grind nats in rw q
 
     value : value_at sh.base ram h.commits (at sh h.world x) (Some c) None x ≡ ends x
     value = all-value x (Some c) k (λ m j u. counted m j (applied-or-flying x m k j u))
@@ -445,7 +445,7 @@ stored-word {sh} {ram} {ends} h x {c} {n} k i f s = record {
 
     one : copies_with (line_of x) (at sh h.world x).serving.serving (pair h.world c (home_of sh x)) ≡ live
         (Commits (at sh h.world x).serving.serving) (to_dir h.world c (home_of sh x))
-    one = kept.one ∙ rw line refl
+    one = kept.one ∙ rw line
 
     copied : 1 ≤ word_copies x (at sh h.world x).serving.serving (pair h.world c (home_of sh x))
     copied = omega (

@@ -14,7 +14,7 @@ use Names.{CopiesHave, home_of, to_dir}
 pub after_stores-other : (base : ℕ) (ss : List Stored) (x y : ℕ) → stores_word base ss x ≡ false → after_stores base ss x y ≡ y
 unfolding after_stores stores_word
 after_stores-other base [] x y h = refl
-after_stores-other base (s ∷ ss) x y h = go (word_of base s.addr == x) h (λ k. after_stores-other base ss x y k)
+after_stores-other base (s ∷ ss) x y h = go (word_of base s.addr == x) h (after_stores-other base ss x y)
   where
     go : (b : Bool) → (b || stores_word base ss x) ≡ false → (stores_word base ss x ≡ false → after_stores base ss x y ≡ y)
         → after_stores base ss x (if b then patched y s.addr s.size s.value else y) ≡ y
@@ -87,7 +87,7 @@ value-skip base ram n cs s c b x h = after-skip base s c b x n cs (ram x) h
 pub rising-above : (last : ℕ) (cs : List Noted) (n : Noted) → IsRising last cs → Contains cs n → last < n.tid.0
 unfolding IsRising
 rising-above last [] n r k = absurd (omega (arith, k.1))
-rising-above last (m ∷ cs) n r k = go k.0 k.1 k.2 (λ j. rising-above m.tid.0 cs n r.1 j)
+rising-above last (m ∷ cs) n r k = go k.0 k.1 k.2 (rising-above m.tid.0 cs n r.1)
   where
     go : (i : ℕ) → i < suc (length cs) → slice_index_or (m ∷ cs) i n ≡ n → (Contains cs n → m.tid.0 < n.tid.0) → last < n.tid.0
     go a l e f = grind nats
@@ -210,7 +210,7 @@ in-frame : (t y : ℕ) (value dirty : Option ℕ) → ((g : ℕ) → t < g → n
 unfolding Top tagged
 in-frame t y value None f h = (tt, refl)
 in-frame t y value (Some g) f h =
-    let has : g ≡ t → unwrap_or value 0 ≡ y = λ i. rw (h (ap Some i)) refl in
+    let has : g ≡ t → unwrap_or value 0 ≡ y = λ i. rw (h (ap Some i)) in
     ((low (nat_le g t) refl, has, tt), omega arith)
   where
     low : (c : Bool) → nat_le g t ≡ c → g ≤ t
@@ -245,7 +245,7 @@ all-top t y f (suc n) h =
 all-tagged : (t : ℕ) (f : ℕ → List Copy) (n c : ℕ) → c < n → tagged t (f c) ≤ tagged t (flat_map f (numbers n))
 unfolding those tagged
 all-tagged t f zero c l = absurd (omega (arith, l))
-all-tagged t f (suc n) c l = rw flat_map-append (go (c == n) refl (λ m. all-tagged t f n c m))
+all-tagged t f (suc n) c l = rw flat_map-append (go (c == n) refl (all-tagged t f n c))
   where
     go : (b : Bool) → (c == n) ≡ b → (c < n → tagged t (f c) ≤ tagged t (flat_map f (numbers n)))
         → tagged t (f c) ≤ tagged t (flat_map f (numbers n) ++ (f n ++ []))

@@ -1,15 +1,14 @@
 -- The copies of a word: no more than those of its line, and those that leave a frame go home as they are.
-use Rattle.base_lemmas.proofs.Lemmas.{eight-at, word_at-own}
 use Rattle.rules_tcc.specs.Sends.{write_back_of}
 use Rattle.theorem_serial.proofs
 use proofs.Names
-use Names.{ℕ, ◌+◌, ◌≡◌, ◌≤◌, ◌==◌, ◌&&◌, Bool, true, false, not, List, [], ◌∷◌, Option, Some, None, is_some, arith, refl, sym, ◌∙◌, num}
-use Names.{line_of, place_of, word_at, has, hit, Msg, WriteBack, Flush, Shape, Cache, IsCache, is_dirty, dirty_tag, dirty_mask, has-mask_of}
-use Names.{Link, copies_with, CopyOf, CopyMask, CopyWord, CopyNot, live, among, passes, Pair, is_this, word_copies, CopiesHave, ◌⊎◌, cond}
-use Names.{unwrap_or, get_or, if◌then◌else◌, inl, inr, cases_eq, eight, Dir, home, dirty_words, dirty_copy, CoreState, Out, to, flush_of}
-use Names.{flush_line, write_back_line, nats, home_of, ◌≢◌, tested}
+use Names.{eight-at, word_at-own, ℕ, ◌+◌, ◌≡◌, ◌≤◌, ◌==◌, ◌&&◌, Bool, true, false, not, List, [], ◌∷◌, Option, Some, None, is_some, arith}
+use Names.{refl, sym, ◌∙◌, num, line_of, place_of, word_at, has, hit, Msg, WriteBack, Flush, Shape, Cache, IsCache, is_dirty, dirty_tag}
+use Names.{dirty_mask, has-mask_of, Link, copies_with, CopyOf, CopyMask, CopyWord, CopyNot, live, among, passes, Pair, is_this, word_copies}
+use Names.{CopiesHave, ◌⊎◌, cond, unwrap_or, get_or, if◌then◌else◌, inl, inr, cases_eq, eight, Dir, home, dirty_words, dirty_copy}
+use Names.{CoreState, Out, to, flush_of, flush_line, write_back_line, nats, home_of, ◌≢◌, tested}
 use proofs.Copies.CopySends.{some-dirty, tag-of}
-use proofs.Counts.Links.{live-fewer, among-fewer}
+use proofs.Counts.{live-fewer, among-fewer}
 
 -- The copies of a word: no more than those of its line, and all of them where the copies have the word in their mask.
 
@@ -66,7 +65,7 @@ unfolding copies_with
 none-copied {sh} x t y v h z = record {
   framed = λ e. absurd (let d = dirty-line sh v.core.cache x t h e in
       let q : (dirty_tag v.core.cache (line_of x) == t) ≡ true = (let f = d.1 in grind nats) in
-      let o : num (is_dirty v.core.cache (line_of x) && dirty_tag v.core.cache (line_of x) == t) ≡ 1 = rw (d.0, q) refl in
+      let o : num (is_dirty v.core.cache (line_of x) && dirty_tag v.core.cache (line_of x) == t) ≡ 1 = rw (d.0, q) in
       omega (arith, z, o));
   sent = omega (arith, z, few-others x t y v.out, few-words x t v.out);
 }
@@ -132,7 +131,7 @@ pub word-still : (sh : Shape) (x : ℕ) (s : CoreState) (o : Out) → o.core.cac
     → ((t : ℕ) → among (CopyOf (line_of x) t) (o.sends (Dir (home_of sh x))) ≡ 0) → WordCarried sh x s o
 word-still sh x s o e f z = record {
   copies = λ t. rw e (omega (arith, z t, among-words x t (o.sends (Dir (home_of sh x)))));
-  framed = λ t q. (sym e ∙ q, f (rw (sym e ∙ q) refl));
+  framed = λ t q. (sym e ∙ q, f (rw (sym e ∙ q)));
   sent =
       λ t y q. omega (
         arith,
@@ -156,7 +155,7 @@ word-clean sh k x c h q e = go (c.dirty x) refl
 
 leaves-none : {sh : Shape} (k x : ℕ) {c : Cache} → IsCache sh c → is_dirty c k ≡ false → WordLeaves k x c []
 unfolding among
-leaves-none {sh} k x {c} h q = record { same = λ e t. rw (word-clean sh k x c h q e) refl; other = λ e t. refl; right = λ t y f. refl }
+leaves-none {sh} k x {c} h q = record { same = λ e t. rw (word-clean sh k x c h q e); other = λ e t. refl; right = λ t y f. refl }
 
 -- the mask and the words of the line's copy, at the word's place
 mask-at : (c : Cache) (x : ℕ) → has (dirty_mask c (line_of x)) (place_of x) ≡ is_some (c.dirty x)
@@ -170,7 +169,7 @@ value-at c x t y d v =
     (place_of x) 0 ≡ (if is_some (c.dirty x) then unwrap_or (c.value x) 0 else 0) =
     rw (word_at-own x) at (eight-at (λ k. if is_some (c.dirty (word_at (line_of x) k)) then unwrap_or (c.value (word_at (line_of x) k)) 0
     else 0) (place_of x) (omega arith)) in
-    e ∙ rw (d, v) refl
+    e ∙ rw (d, v)
 
 -- one message of the frame's words
 leaves-one : {sh : Shape} {k x : ℕ} {c : Cache} (m : Msg) → IsCache sh c
@@ -182,7 +181,7 @@ unfolding among hit
 leaves-one {k} {x} {c} m h f g =
     record {
       same = λ e t. here e t (c.dirty x) refl;
-      other = λ n t. (let y : (k == line_of x) ≡ false = grind nats in rw (f t, y) refl);
+      other = λ n t. (let y : (k == line_of x) ≡ false = grind nats in rw (f t, y));
       right = λ t y q. right t y q (cases_eq k (line_of x));
     }
   where
@@ -195,7 +194,7 @@ leaves-one {k} {x} {c} m h f g =
 
     right : (t y : ℕ) → (c.dirty x ≡ Some t → c.value x ≡ Some y) → (k ≡ line_of x) ⊎ (k ≢ line_of x)
         → num (passes (CopyNot x t y) m) + 0 ≡ 0
-    right t y q (inr n) = let z : (k == line_of x) ≡ false = grind nats in rw (g t y, z) refl
+    right t y q (inr n) = let z : (k == line_of x) ≡ false = grind nats in rw (g t y, z)
     right t y q (inl e) = let z : (line_of x == line_of x) ≡ true = grind nats in
         rw (g t y, e, z, mask-at c x) (omega (arith, wrong t y (c.dirty x) refl q))
 
@@ -246,9 +245,9 @@ pub word-sent : (sh : Shape) {k x : ℕ} (s : CoreState) (o : Out) → o.core.ca
     → ((k ≢ line_of x) → o.core.cache.value x ≡ s.cache.value x) → WordLeaves k x s.cache (o.sends (Dir (home_of sh x)))
     → WordCarried sh x s o
 word-sent sh {k} {x} s o e f h = elim (tested (k == line_of x)) [
-  | inl q ↦ let d : o.core.cache.dirty x ≡ None = e ∙ rw q refl in let l : k ≡ line_of x = grind nats in
+  | inl q ↦ let d : o.core.cache.dirty x ≡ None = e ∙ rw q in let l : k ≡ line_of x = grind nats in
       record { copies = λ t. rw d (omega (arith, h.same l t)); framed = λ t r. absurd (let z = sym d ∙ r in cc); sent = h.right }
-  | inr q ↦ let d : o.core.cache.dirty x ≡ s.cache.dirty x = e ∙ rw q refl in let n : (k ≢ line_of x) =
+  | inr q ↦ let d : o.core.cache.dirty x ≡ s.cache.dirty x = e ∙ rw q in let n : (k ≢ line_of x) =
       λ l. (let z : (k == line_of x) ≡ true = grind nats in cc) in
       record { copies = λ t. rw d (omega (arith, h.other n t)); framed = λ t r. (sym d ∙ r, f n); sent = h.right }
 ]

@@ -7,10 +7,10 @@ use Names.{value_at, word_copies, CopiesHave, HomeWords, CopiesAbove, names_line
 use Names.{copies_with, KeptTags, KeptAbove, KeptOwned, Invs, CopyOf, passes, CopiesInMemory, OwedInFlight, KeptNamed, MarksOfCommits}
 use Names.{IsRising, KeptWhole, is_this, KeptStored, ◌⊎◌, inl, inr, is_applied, nats, home_of, tid_at, to_dir, FromCore, ◌≢◌}
 use proofs.Copies.TagsKept.{stored-home, Consumes}
-use proofs.Counts.Links.{num-same}
+use proofs.Counts.{num-same}
 use proofs.Marks.DirRecords.{NoCommit, Dropped}
 use proofs.Memory.CoreInMemory.{line-has}
-use proofs.Tids.TidSteps.{live-some}
+use proofs.Tids.{live-some}
 use proofs.Values.CoreWords.{HomeBy, Left, Home}
 use proofs.Values.ValueAt.{value-alike}
 use proofs.Values.WordCopies.{word-line}
@@ -84,7 +84,7 @@ pub record Quiet (sh : Shape) (ram : ℕ → ℕ) (w v : World) (cs : List Noted
 pub same-copies : (x t : ℕ) (a b : Pair) → b.core ≡ a.core → live (CopyWord x t) b.out ≡ live (CopyWord x t) a.out
     → word_copies x t a ≡ word_copies x t b
 unfolding word_copies
-same-copies x t a b e f = rw (e, f) refl
+same-copies x t a b e f = rw (e, f)
 
 pub quiet-keep : {sh : Shape} {ram : ℕ → ℕ} {w : World} (v : World) {cs : List Noted} {d x : ℕ} → Quiet sh ram w v cs d x
     → ValuesAt sh ram w cs d x → ValuesAt sh ram v cs d x
@@ -138,7 +138,7 @@ same-value {sh} ram w v cs {d} x a b k dl e f c = value-alike sh.base ram cs (v.
         let s = stored-at-home cs n x k i e q in
         let y : is_applied (v.dirs d) n.tid.0 ≡ is_applied (w.dirs d) n.tid.0 =
         num-same (is_applied (v.dirs d) n.tid.0) (is_applied (w.dirs d) n.tid.0) (omega (arith, a n d i dl s, b n d i dl s, f n i q)) in
-        inl (rw y refl)
+        inl (rw y)
 
 -- The answers of a directory that leave the tag of a word's line keep the word's values: no copy with this tag is consumed, or it comes
 -- home.
@@ -213,7 +213,7 @@ taken-values {sh} {ram} h c d k x m {v} b cl dl e i a n t (Home f g) = stands-ke
     -- the copy that came had the word's value
     came : (z : Bool) → ((v.dirs d).words x == y) ≡ z → (v.dirs d).words x ≡ y
     came true q = grind nats
-    came false q = absurd (let o : num (passes (CopyNot x (tag_of h.world d x) y) m) ≡ 1 = rw (g y, q) refl in
+    came false q = absurd (let o : num (passes (CopyNot x (tag_of h.world d x) y) m) ≡ 1 = rw (g y, q) in
         omega (
           arith,
           o,

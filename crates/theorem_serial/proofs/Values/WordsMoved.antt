@@ -7,9 +7,8 @@ use Names.{CopyOf, CopyWord, CopyNot, Invs, InvOf, InvsAway, live, among, passes
 use Names.{back_taken, is_this, SettledCommit, value_at, word_copies, CopiesHave, copies_with, nats, home_of, to_core, FromDir, tested, inl}
 use Names.{inr}
 use proofs.Copies.TagsKept.{inv-tag-of, Invalidating}
-use proofs.Counts.Links.{live-sends, total-le}
-use proofs.Counts.StepCases.{AllPairs, pairs_move, pairs_grant, pairs_back}
-use proofs.Tids.TidSteps.{live-some}
+use proofs.Counts.{live-sends, total-le, AllPairs, pairs_move, pairs_grant, pairs_back}
+use proofs.Tids.{live-some}
 use proofs.Values.CoreWords.{WordBack, Carried, Lost}
 use proofs.Values.HomesAnswered.{mask-inside}
 use proofs.Values.WordCopies.{few-copies, among-words, among-others, WordCarried, Carries}
@@ -110,7 +109,7 @@ inv-home : (sh : Shape) (ram : ℕ → ℕ) (h : History) (c e k l m u : ℕ) �
 unfolding passes
 inv-home sh ram h c e k l m u b i = elim (tested (home sh l == e)) [
   | inl q ↦ grind nats
-  | inr q ↦ absurd (let n : num (not ((l % sh.dirs) == e)) ≡ 1 = rw q refl in
+  | inr q ↦ absurd (let n : num (not ((l % sh.dirs) == e)) ≡ 1 = rw q in
       omega (arith, n, live-some (InvsAway sh.dirs e) (to_core h.world e c) k (Inv l m u) i, b.invs.at_home c e))
 ]
 
@@ -128,7 +127,7 @@ inv-inside {sh} h c d k l m u b cl dl i =
 
     marked : (y : Bool) → has_mark (h.world.dirs d).lines l ≡ y → y ≡ true
     marked true q = refl
-    marked false q = absurd (let y : (l == l) ≡ true = grind nats in let z : num (l == l) ≡ 1 = rw y refl in
+    marked false q = absurd (let y : (l == l) ≡ true = grind nats in let z : num (l == l) ≡ 1 = rw y in
         let w : num (has_mark (h.world.dirs d).lines l) ≡ 0 = ap num q in
         omega (arith, z, w, live-some (InvOf l) (to_core h.world d c) k (Inv l m u) i, (b.named c d l cl dl).one))
 

@@ -1,22 +1,19 @@
 -- What a directory takes leaves every core's view near: each used word has its value, or it is doomed.
-use Rattle.base_lemmas.proofs.Lemmas.{eq-self}
 use Rattle.rules_tcc.specs.DirDeliver.{dir_commit}
 use Rattle.theorem_serial.proofs
 use proofs.Names
-use Names.{ℕ, zero, suc, ◌+◌, ◌≡◌, ◌<◌, ◌≤◌, ◌⊎◌, Bool, true, cond, [], ◌∷◌, Option, Some, None, flat_map, arith, refl, inl, inr, cases_eq}
-use Names.{flat_map-append, num, line_of, those, hit, Msg, Inv, Kind, passes, among, is_below, dooms, ◌==◌, ◌&&◌, ◌||◌, not, false, List}
-use Names.{Contains, is_some, nat_lt, set, ap, sym, subst, ◌∙◌, true≢false, Noted, place_of, word_at, any_word, count_below, has_mark, Core}
-use Names.{Dir, Shape, lines, any_below-at, DirState, World, is_invalidated, invs_to, invalidations, Sends, History, dir_takes}
-use Names.{keeps_unmodified, holds_line, Commits, CommitOf, live, CommitsInMemory, Carried, Grant, Pair, pair, is_applied, is_this}
-use Names.{CommitsStand, stored_mask, stores_in, MarkedCommit, stores_word, counts, value_at, Ways, if◌then◌else◌, TidReq, TidGrant, Fill}
-use Names.{ProbeReply, Commit, DataReq, Answer, Waits, Drops, Asks, Takes, moved_on_if_settled, owned_by_committer, invalidation_count}
-use Names.{dir_deliver, dir_asks, Uses, out_taken, EachUse, has-mask_of, CommitsLine, IsPassed, nats, home_of, tid_at, to_dir, FromCore}
-use Names.{grant_to, ◌≢◌}
-use proofs.Counts.Links.{among-append, live-takes}
-use proofs.Counts.StepCases.{dir-own, dir-other, either, AllPairs, pairs_dir, pairs_asks, asks-own, OfAnswer, differ}
+use Names.{eq-self, ℕ, zero, suc, ◌+◌, ◌≡◌, ◌<◌, ◌≤◌, ◌⊎◌, Bool, true, cond, [], ◌∷◌, Option, Some, None, flat_map, arith, refl, inl, inr}
+use Names.{cases_eq, flat_map-append, num, line_of, those, hit, Msg, Inv, Kind, passes, among, is_below, dooms, ◌==◌, ◌&&◌, ◌||◌, not}
+use Names.{false, List, Contains, is_some, nat_lt, set, ap, sym, subst, ◌∙◌, true≢false, Noted, place_of, word_at, any_word, count_below}
+use Names.{has_mark, Core, Dir, Shape, lines, any_below-at, DirState, World, is_invalidated, invs_to, invalidations, Sends, History}
+use Names.{dir_takes, keeps_unmodified, holds_line, Commits, CommitOf, live, CommitsInMemory, Carried, Grant, Pair, pair, is_applied}
+use Names.{is_this, CommitsStand, stored_mask, stores_in, MarkedCommit, stores_word, counts, value_at, Ways, if◌then◌else◌, TidReq}
+use Names.{TidGrant, Fill, ProbeReply, Commit, DataReq, Answer, Waits, Drops, Asks, Takes, moved_on_if_settled, owned_by_committer}
+use Names.{invalidation_count, dir_deliver, dir_asks, Uses, out_taken, EachUse, has-mask_of, CommitsLine, IsPassed, nats, home_of, tid_at}
+use Names.{to_dir, FromCore, grant_to, ◌≢◌}
+use proofs.Counts.{among-append, live-takes, dir-own, dir-other, either, AllPairs, pairs_dir, pairs_asks, asks-own, OfAnswer, differ}
 use proofs.Marks.MaskLaws.{same-commit}
-use proofs.Tids.Commits.{granted-once, granted-at}
-use proofs.Tids.TidSteps.{live-some}
+use proofs.Tids.{granted-once, granted-at, live-some}
 use proofs.Values.FramedWords.{dirs-taken}
 use proofs.Values.ValueAt.{value-alike, IsAlike}
 use proofs.Values.WordValues.{stored-at-home}
@@ -71,7 +68,7 @@ commits-after w c d k t {m} s sends j i f = either j c own other
 -- commits that are applied alike count alike
 counts-alike : (s r : DirState) (c b : Option ℕ) (n : Noted) → is_applied s n.tid.0 ≡ is_applied r n.tid.0 → counts s c b n ≡ counts r c b n
 unfolding counts
-counts-alike s r c b n e = rw e refl
+counts-alike s r c b n e = rw e
 
 -- no Commit is taken: the values stay
 pub stays-value : (sh : Shape) (ram : ℕ → ℕ) (cs : List Noted) (w v : World) (j d x : ℕ) (b : Option ℕ) → CommitsInMemory sh cs
@@ -121,7 +118,7 @@ holds-word v x r e =
     && (not (v.core.cache.modified (word_at (line_of x) k)) || v.core.cache.read (word_at (line_of x) k))) 8 (place_of x)
     (omega arith) (subst (λ y. (is_some (v.core.cache.value y) && (not (v.core.cache.modified y) || v.core.cache.read y)) ≡ true)
     (sym i) one) in
-    rw a refl
+    rw a
 
 -- each core sees the values that it saw, or the invalidation that it is sent dooms the use
 pub commit-value : {sh : Shape} {gs : List Grant} {ys : Ways} (ram : ℕ → ℕ) (h : History) → Carried sh gs ys h
@@ -156,7 +153,7 @@ commit-value {sh} {gs} ram h k mem v stand c d u t f j b jl dl bound x y e seen 
 
     -- the core's bound isn't above the commit
     unbounded : (o : Noted) → o.tid.0 ≡ u → is_below b u ≡ false → counts (w.dirs d) (Some j) b o ≡ counts (v.dirs d) (Some j) b o
-    unbounded o z q = let r : is_below b o.tid.0 ≡ false = rw z q in rw r refl
+    unbounded o z q = let r : is_below b o.tid.0 ≡ false = rw z q in rw r
 
     -- the commit is the core's own
     granted : Contains gs (grant_to u c)
@@ -167,7 +164,7 @@ commit-value {sh} {gs} ram h k mem v stand c d u t f j b jl dl bound x y e seen 
         let g : Contains gs (grant_to u o.core.0) = rw z at (granted-at gs h.commits o k.commits_are_of_granted_tids.1 i) in
         let r : o.core.0 ≡ c = granted-once 1 gs u o.core.0 c k.granted_tids_are_those_below_next.0 g granted in
         let a : is_this (Some j) o.core.0 ≡ true = rw (q, r) (eq-self c) in
-        rw a refl
+        rw a
 
     -- the commit doesn't store the word
     unstored : stores_word sh.base n.stores x ≡ false → (o : Noted) → Contains h.commits o → o.tid.0 ≡ u
@@ -196,7 +193,7 @@ commit-value {sh} {gs} ram h k mem v stand c d u t f j b jl dl bound x y e seen 
         here = inside-home (line_of x) (lines sh) inside e
 
         mask : stored_mask sh d n.stores (line_of x) ≡ stores_in sh.base n.stores (line_of x)
-        mask = rw here refl
+        mask = rw here
 
         hit-mark : hit (line_of x) ((w.dirs d).lines.mark (line_of x)) x ≡ true
         hit-mark = rw (mark, mask, eq-self (line_of x))
@@ -244,7 +241,7 @@ commit-value {sh} {gs} ram h k mem v stand c d u t f j b jl dl bound x y e seen 
           marked,
           sharer ((k.holder_is_a_sharer j d (line_of x) jl dl inside e).shares holds),
           differ j c ne,
-        ) refl
+        )
 
     below : (a : Bool) → is_below b u ≡ a
         → (value_at sh.base ram h.commits (w.dirs d) (Some j) b x ≡ value_at sh.base ram h.commits (v.dirs d) (Some j) b x)

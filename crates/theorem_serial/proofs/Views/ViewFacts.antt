@@ -7,8 +7,8 @@ use Names.{History, Uses, AllStand, UsesStand, Invs, InvsNot, InvWord, InvBelow,
 use Names.{share, IsBound, is_applied, has_tid, opens, dooms, EachUse, IsPassed, IsDoomed, Ways, Settled, suc, ◌+◌, ◌||◌, length}
 use Names.{slice_index_or, Noted, DirState, Commits, is_this, CommitsStand, stores_at, counts, value_at, nats, home_of, tid_at, to_dir}
 use Names.{to_core, grant_to, tested}
-use proofs.Counts.Links.{live-fewer, total-le}
-use proofs.Tids.Commits.{numbered-least, numbered-most, granted-at}
+use proofs.Counts.{live-fewer, total-le}
+use proofs.Tids.{numbered-least, numbered-most, granted-at}
 use proofs.Values.ValueAt.{value-alike}
 
 -- What the proof on views asks of a state: the bound of a core, directories that serve an open TID, and what dooms a viewed word.
@@ -80,7 +80,7 @@ pub solo-served : {sh : Shape} {gs : List Grant} {ys : Ways} {h : History} → C
 unfolding has_tid opens
 solo-served k c d {t} cl dl e =
     let s : (t == t) ≡ true = grind nats in
-    open-served k c d t cl dl (rw e s) (rw e s) (k.directory_that_replied_serves_the_tid.replied c d cl dl (rw e refl))
+    open-served k c d t cl dl (rw e s) (rw e s) (k.directory_that_replied_serves_the_tid.replied c d cl dl (rw e))
 
 -- invalidations of a word
 few-word : (x : ℕ) (m : Msg) → num (passes (InvWord x) m) ≤ num (passes Invs m)
@@ -175,7 +175,7 @@ doomed-again h k c d x y b cl dl e i s l = go s
 listed-once : (cs : List Noted) (n : Noted) → Contains cs n → 1 ≤ times n.tid.0 cs
 unfolding times
 listed-once [] n k = absurd (omega (arith, k.1))
-listed-once (m ∷ cs) n k = go k.0 k.1 k.2 (λ j. listed-once cs n j)
+listed-once (m ∷ cs) n k = go k.0 k.1 k.2 (listed-once cs n)
   where
     go : (i : ℕ) → i < suc (length cs) → slice_index_or (m ∷ cs) i n ≡ n → (Contains cs n → 1 ≤ times n.tid.0 cs)
         → 1 ≤ num (m.tid.0 == n.tid.0) + times n.tid.0 cs

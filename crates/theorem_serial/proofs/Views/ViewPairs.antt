@@ -8,13 +8,13 @@ use Names.{grant, grant_in_phase, probing_or_ready, is_probed, from_dir, is_viol
 use Names.{rolls_back, has_tid, waits_for_tid, EachUse, cond, rests, ◌&&◌, after_other_grant, slice_index_or, after_answer, grant_taken}
 use Names.{after_grant, after_move, back_taken, out_taken, TidGrant, DirState, sent_all, value_at, IsBound, Grants, passes, holder, among}
 use Names.{dooms, List, live, Pair, ◌<◌, ◌≤◌, nats, home_of, ◌≢◌}
-use proofs.Tids.CoreTids.{tid-probing}
-use proofs.OneCore.Outcomes.{Acts, Buffers, Commits_now, Did, Ends_alone, Ends_run, Finds, Frames, Frames_anew, Idles, Misses, Misses_anew}
-use proofs.OneCore.Outcomes.{Reads, Room_wanted, after_end, each-exec, out, Heard, Hurt_alone, Hurt_none, Hurt_probing, Hurt_running}
-use proofs.OneCore.Outcomes.{Hurt_waiting, Last_probing, Last_room, each-back, each-evict, heard, message}
-use proofs.OneCore.Said.{Flushes, Requests, Said, Silent, say}
-use proofs.Counts.Links.{live-sends, live-takes}
-use proofs.Serving.OwnerSteps.{holder-given}
+use proofs.Tids.{tid-probing}
+use proofs.OneCore.{Acts, Buffers, Commits_now, Did, Ends_alone, Ends_run, Finds, Frames, Frames_anew, Idles, Misses, Misses_anew, Reads}
+use proofs.OneCore.{Room_wanted, after_end, each-exec, out, Heard, Hurt_alone, Hurt_none, Hurt_probing, Hurt_running, Hurt_waiting}
+use proofs.OneCore.{Last_probing, Last_room, each-back, each-evict, heard, message, Flushes, Requests, Silent, say}
+use proofs.OneCore.Said.{Said}
+use proofs.Counts.{live-sends, live-takes}
+use proofs.Serving.{holder-given}
 use proofs.Views.ViewFacts.{IsNear, IsSeen, each-one, each-two}
 
 -- What each of a core's rules does to its TID, its halt and its view.
@@ -75,7 +75,7 @@ pub used-each : (P : ℕ → ℕ → Type 0) (base : ℕ) (s : CoreState) (need 
 used-each P base s need f = go need
   where
     at : (w : ℕ) → EachUse P (used_at s w)
-    at w = used-one P w (s.spilled w) (s.cache.modified w) (s.cache.value w) (λ y a b. f w y a b)
+    at w = used-one P w (s.spilled w) (s.cache.modified w) (s.cache.value w) (f w)
 
     go : (need : Need) → EachUse P (used_by base s need)
     go (Loads a z) = at (word_of base a)
@@ -142,24 +142,24 @@ back-view sh e s m us dm ha = each-back sh e s (λ m o. Back s m us o) go m
     none _ g r = absurd (cc)
 
     emptied : (l m u : ℕ) (o : Out) → o.commit ≡ None → is_violated l m u s ≡ true → rolls_back s.phase ≡ true → Back s (Inv l m u) us o
-    emptied l m u o n v r = Empties n (rw (v, r) refl)
+    emptied l m u o n v r = Empties n (rw (v, r))
 
     go : (x : Heard sh e s) → Back s (message x) us (heard x)
-    go (Last_probing u v q o r) = Stays refl refl (record { tids = λ t. rw q refl; halted = λ z. absurd (cc) }) tt
-    go (Last_room u v q o r) = Stays refl refl (record { tids = λ t. rw q refl; halted = λ z. absurd (cc) }) tt
-    go (Hurt_none l m u (inl v)) = Stays refl (rw v refl) (keeps-phase s _ refl) v
+    go (Last_probing u v q o r) = Stays refl refl (record { tids = λ t. rw q; halted = λ z. absurd (cc) }) tt
+    go (Last_room u v q o r) = Stays refl refl (record { tids = λ t. rw q; halted = λ z. absurd (cc) }) tt
+    go (Hurt_none l m u (inl v)) = Stays refl (rw v) (keeps-phase s _ refl) v
     go (Hurt_none l m u (inr r)) = Empties refl (rw (none s.phase refl r) (nothing (is_violated l m u s && rolls_back s.phase)))
       where
         nothing : (b : Bool) → cond {A = Uses} b [] [] ≡ []
         nothing true = refl
         nothing false = refl
-    go (Hurt_running l m u v q) = emptied l m u _ refl v (rw q refl)
-    go (Hurt_waiting l m u v (inl q)) = emptied l m u _ refl v (rw q refl)
-    go (Hurt_waiting l m u v (inr q)) = emptied l m u _ refl v (rw q refl)
-    go (Hurt_probing l m u t v (inl q)) = emptied l m u _ refl v (rw q refl)
-    go (Hurt_probing l m u t v (inr q)) = emptied l m u _ refl v (rw q refl)
-    go (Hurt_alone l m u t v (inl q)) = emptied l m u _ refl v (rw q refl)
-    go (Hurt_alone l m u t v (inr q)) = emptied l m u _ refl v (rw q refl)
+    go (Hurt_running l m u v q) = emptied l m u _ refl v (rw q)
+    go (Hurt_waiting l m u v (inl q)) = emptied l m u _ refl v (rw q)
+    go (Hurt_waiting l m u v (inr q)) = emptied l m u _ refl v (rw q)
+    go (Hurt_probing l m u t v (inl q)) = emptied l m u _ refl v (rw q)
+    go (Hurt_probing l m u t v (inr q)) = emptied l m u _ refl v (rw q)
+    go (Hurt_alone l m u t v (inl q)) = emptied l m u _ refl v (rw q)
+    go (Hurt_alone l m u t v (inr q)) = emptied l m u _ refl v (rw q)
     go _ = Stays refl refl (keeps-phase s _ refl) tt
 
 -- What each kind of event does to a core's view, as a pair of the core and a directory sees it.

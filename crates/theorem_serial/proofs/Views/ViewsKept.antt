@@ -1,23 +1,21 @@
 -- Every event keeps what is known of each core's view.
-use Rattle.base_lemmas.proofs.Lemmas.{eq-self, hit-line}
 use Rattle.rules_maps.specs.CacheLook.{reads_masked}
 use Rattle.theorem_serial.specs.KeepsViews.{KeepsViews}
 use Rattle.theorem_serial.proofs
 use proofs.Names
-use Names.{ℕ, ◌≡◌, ◌<◌, ◌≤◌, ◌⊎◌, ◌==◌, ◌&&◌, Bool, true, false, List, [], ◌++◌, Option, Some, None, IfSome, arith, refl, sym, subst, ◌∙◌}
-use Names.{inl, inr, put, Noted, Program, writes_at, Shape, CoreState, Phase, Running, AwaitTid, DoomedTid, Probing, Ready, Overflowing}
-use Names.{Solo, Halted, World, Out, core_exec, core_evict, History, core_moves, and_noted, insert_commit, Uses, Views, uses_executed}
-use Names.{InvWord, live, Carried, CarriedInMemory, Grant, holder, Pair, pair, after_move, may_commit, IsBound, is_applied, has_tid, opens}
-use Names.{waits_for_tid, RequestOf, stores_word, is_below, counts, value_at, dooms, UnmodifiedWords, Ways, nats, home_of, IfSome_then}
-use Names.{nat_lt, ap, num, hit, Core, Dir, Vendor, Msg, TidReq, TidGrant, Inv, in_flight, from_dir, grant, is_violated, may_be_above}
-use Names.{core_takes, vendor_gives, uses_delivered, Invs, passes, grant_taken, back_taken, hit-reads, line_of, home, Answer, Waits, Drops}
-use Names.{Asks, Takes, dir_deliver, Stepped, dir_takes, dir_asks, step, next_history, recorded, UsesStand, views_after, CarriedViews}
-use Names.{granted_by, IsDoomed, ViewedWords, HaltedUsesNone, sent_by, ways_after, to_core, FromDir, ◌≢◌, tested}
-use proofs.OneCore.Outcomes.{Acts}
-use proofs.Serving.OwnerSteps.{grant-any, asking-none}
+use Names.{eq-self, hit-line, ℕ, ◌≡◌, ◌<◌, ◌≤◌, ◌⊎◌, ◌==◌, ◌&&◌, Bool, true, false, List, [], ◌++◌, Option, Some, None, IfSome, arith, refl}
+use Names.{sym, subst, ◌∙◌, inl, inr, put, Noted, Program, writes_at, Shape, CoreState, Phase, Running, AwaitTid, DoomedTid, Probing, Ready}
+use Names.{Overflowing, Solo, Halted, World, Out, core_exec, core_evict, History, core_moves, and_noted, insert_commit, Uses, Views}
+use Names.{uses_executed, InvWord, live, Carried, CarriedInMemory, Grant, holder, Pair, pair, after_move, may_commit, IsBound, is_applied}
+use Names.{has_tid, opens, waits_for_tid, RequestOf, stores_word, is_below, counts, value_at, dooms, UnmodifiedWords, Ways, nats, home_of}
+use Names.{IfSome_then, nat_lt, ap, num, hit, Core, Dir, Vendor, Msg, TidReq, TidGrant, Inv, in_flight, from_dir, grant, is_violated}
+use Names.{may_be_above, core_takes, vendor_gives, uses_delivered, Invs, passes, grant_taken, back_taken, hit-reads, line_of, home, Answer}
+use Names.{Waits, Drops, Asks, Takes, dir_deliver, Stepped, step, next_history, recorded, UsesStand, views_after, CarriedViews, granted_by}
+use Names.{IsDoomed, ViewedWords, HaltedUsesNone, sent_by, ways_after, to_core, FromDir, ◌≢◌, tested}
+use proofs.OneCore.{Acts, tid-ahead}
+use proofs.Serving.{grant-any, asking-none}
 use proofs.Memory.CoreInMemory.{marks_at_homes}
-use proofs.Counts.StepCases.{differ, either, pairs_move, new_uses, AllPairs, given, OfAnswer, event_cases, pairs_grant, pairs_back}
-use proofs.Counts.StepCases.{pairs_vendor}
+use proofs.Counts.{differ, either, pairs_move, new_uses, AllPairs, given, OfAnswer, event_cases, pairs_grant, pairs_back, pairs_vendor}
 use proofs.Values.ValueAt.{IsSilent, value-skip}
 use proofs.Views.ViewPairs.{Keeps, Exec, Goes, Commits, exec-view, used-each, each-append, evict-view, NearAt, ViewOf, view-empty}
 use proofs.Views.ViewPairs.{view-moves, Gets, grant-view, Spares, Back, Empties, Stays, back-view, view-takes, view-grants, view-other}
@@ -25,17 +23,16 @@ use proofs.Views.ViewPairs.{view-given}
 use proofs.Views.ViewDirs.{AllNear, AllSeen, NearAfter, answered-views}
 use proofs.Views.ViewFacts.{bound-own, open-served, served-unapplied, solo-holds, solo-undoomed, each-one, solo-value, IsSeen, doomed-again}
 use proofs.Views.ViewFacts.{uses-seen, each-two, few-doom, value-bounded, listed-below, word-next}
-use proofs.OneCore.CoreReads.{tid-ahead}
-use proofs.Tids.TidSteps.{live-some, granted_waits}
+use proofs.Tids.{live-some, granted_waits}
 
 -- What a core does, and what the vendor grants, leaves every core's view near: each used word has its value, or it is doomed.
 
 -- the views where one core's has changed
 pub put-own : (vs : Views) (c : ℕ) (us : Uses) → put vs c us c ≡ us
-put-own vs c us = rw (eq-self c) refl
+put-own vs c us = rw (eq-self c)
 
 put-other : (vs : Views) (c j : ℕ) (us : Uses) → j ≢ c → put vs c us j ≡ vs j
-put-other vs c j us n = rw (differ j c n) refl
+put-other vs c j us n = rw (differ j c n)
 
 -- a view that is near, and the others as they were
 pub near-put : (sh : Shape) (ram : ℕ → ℕ) (cs : List Noted) (vs : Views) (w : World) (c : ℕ) (us : Uses)
@@ -69,7 +66,7 @@ used-near {sh} ram h k um c d b cl dl a i x y mo va e = go (h.world.cores c).pha
     go Running q a r = let z : b ≡ None = running-bound (pair h.world c d) b (k.one_tid_request_or_grant c d) q i in rw z r
     go (Solo t) q a (inl r) = let z : b ≡ Some t = bound-own k c d t b cl (solo-holds q) i in
         rw z (inl (r ∙ solo-value ram h k c d t x cl dl q))
-    go (Solo t) q a (inr r) = absurd (omega (arith, r, solo-undoomed k c d x None cl dl (rw q refl)))
+    go (Solo t) q a (inr r) = absurd (omega (arith, r, solo-undoomed k c d x None cl dl (rw q)))
     go AwaitTid q a r = absurd a
     go DoomedTid q a r = absurd a
     go (Probing t) q a r = absurd a
@@ -103,7 +100,7 @@ unapplied {sh} h k m c d t x cl dl ph e s = served-unapplied
         let a : writes_at sh (h.world.cores c).cache (home_of sh x) ≡ true =
         (marks_at_homes sh (h.world.cores c).cache (k.frames_stand_in_their_sets c) (m.frames_are_of_lines_in_memory c)).modified x
         (modified q) in
-        rw (q, rw e at a) (rw eq refl)
+        rw (q, rw e at a) (rw eq)
     opened (inr q) = rw q eq
 
 silent-other : {sh : Shape} {gs : List Grant} {ys : Ways} (h : History) → Carried sh gs ys h → CarriedInMemory sh h

@@ -9,16 +9,12 @@ use Names.{tid_at, ◌<◌, count_below, Dir, Skip, Mark, Commit, WriteBack, hom
 use Names.{solo_marks_or_skip, solo_write_backs, solo_writes_at, is_written, not, IfSome, sym, ◌⊎◌, inl, inr, Noted, Program, Outcome}
 use Names.{any_below, Fill, ProbeReply, DataReq, Inv, CoreState, Phase, Running, AwaitTid, DoomedTid, Probing, Ready, Overflowing, Solo}
 use Names.{Out, commit, committed_core, noted, phase_after_commit, core_exec, core_evict, grant, grant_in_phase, grant_sends, from_dir}
-use Names.{probing_or_ready, is_probed, probe_reply, ignored, all_replied, fill, data_request, invalidate, put, Words, OneCore, has_tid}
-use Names.{live_way, commit_way, Local, moves, solo_commit}
-use proofs.Counts.Links.{among-append, among-flat_map_none}
-use proofs.OneCore.CoreSteps.{Steady, did-steady, ignored-steady, fill-steady, data-steady, Hurt, Unhurt, Rolled, Doomed}
-use proofs.OneCore.CoreSteps.{Aborted as AbortsAll, Gave_up, Invalidated, invalidate-cases, Replied, Ignored, Probed, Left_alone}
-use proofs.OneCore.CoreSteps.{reply-cases, steady-emptied}
+use Names.{probing_or_ready, is_probed, ignored, all_replied, put, Words, OneCore, has_tid, live_way, commit_way, Local, solo_commit}
+use proofs.Counts.{among-append, among-flat_map_none}
+use proofs.OneCore.{Steady, did-steady, ignored-steady, fill-steady, data-steady, Hurt, Unhurt, Rolled, Doomed, Aborted as AbortsAll}
+use proofs.OneCore.{Gave_up, Invalidated, invalidate-cases, Replied, Ignored, Probed, Left_alone, reply-cases, steady-emptied, Acts}
+use proofs.OneCore.{Commits_now, Did, each-exec, out, each-evict, writes_at-same, Ends_alone, Ends_run, Room_wanted, after_end}
 use proofs.Marks.CoreMarks.{stored-solo, stored-written}
-use proofs.OneCore.Said.{Wants, say}
-use proofs.OneCore.Outcomes.{Acts, Commits_now, Did, each-exec, out, each-evict, emptied, writes_at-same, Ends_alone, Ends_run, Room_wanted}
-use proofs.OneCore.Outcomes.{after_end}
 
 -- Where a TID is, split by the ways, and what its core's messages make of it.
 
@@ -83,7 +79,7 @@ told-moved sh w v d t ms y e n h r k = go (nat_lt 0 (among (Skips t) ms)) refl (
     (nat_lt 0 (among (Commits t) ms)) refl
   where
     here : (z : Way) → kept_in z v.next (v.dirs d) t ≡ kept_in z w.next (w.dirs d) t
-    here z = rw (e, n) refl
+    here z = rw (e, n)
 
     none : (k : Kind) → nat_lt 0 (among k ms) ≡ false → among k ms ≡ 0
     none k q = grind nats
@@ -118,7 +114,7 @@ told-none ms t y h =
     let a : among (Skips t) ms ≡ 0 = omega (arith, h, among-said t ms) in
     let b : among (Aborts t) ms ≡ 0 = omega (arith, h, among-said t ms) in
     let c : among (Commits t) ms ≡ 0 = omega (arith, h, among-said t ms) in
-    rw (a, b, c) refl
+    rw (a, b, c)
 
 pub told-nothing : (t : ℕ) (y : Way) → told_by [] t y ≡ y
 unfolding told_by among
@@ -126,12 +122,12 @@ told-nothing t y = refl
 
 pub told-skip : (ms : List Msg) (t : ℕ) (y : Way) → 1 ≤ among (Skips t) ms → told_by ms t y ≡ Skipped
 unfolding told_by
-told-skip ms t y h = let a : nat_lt 0 (among (Skips t) ms) ≡ true = grind nats in rw a refl
+told-skip ms t y h = let a : nat_lt 0 (among (Skips t) ms) ≡ true = grind nats in rw a
 
 pub told-commit : (ms : List Msg) (t : ℕ) (y : Way) → among (Skips t) ms ≡ 0 → among (Aborts t) ms ≡ 0 → 1 ≤ among (Commits t) ms
     → told_by ms t y ≡ Committed
 unfolding told_by
-told-commit ms t y a b h = let c : nat_lt 0 (among (Commits t) ms) ≡ true = grind nats in rw (a, b, c) refl
+told-commit ms t y a b h = let c : nat_lt 0 (among (Commits t) ms) ≡ true = grind nats in rw (a, b, c)
 
 -- the way is the one in which the TID has a place
 pub in-way : (sh : Shape) (w : World) (d t : ℕ) {y z : Way} → ResolvedAt sh w d t → WayAt sh w d t y → 1 ≤ parts_in z sh w d t → y ≡ z

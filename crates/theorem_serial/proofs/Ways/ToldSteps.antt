@@ -10,21 +10,16 @@ use Names.{Skipped, Aborted, Committed, Ways, told_by, ways_after, part_in, WayA
 use Names.{KeptCommitted, ap, num, nats, ◌&&◌, ◌||◌, any_below, any_word, word_at, home, lines, reads_at, is_modified, any_below-at}
 use Names.{any_below-found, CoreState, DirState, commit, noted, Drops, Asks, Takes, Kept, OneCore, Reached, loads_word, LoadsMarked}
 use Names.{KeptLoads, loads_at, worked_at, KeptWorked, solo_commit, tid_at, ◌≢◌}
-use proofs.Counts.StepCases.{OfAnswer, sent_cases, step_cases}
-use proofs.Serving.KeptSteps.{core_of_grant, core_of_back}
-use proofs.Counts.Links.{total-le}
-use proofs.Serving.CoreDue.{CommitsNoted, noted-exec, noted-evict, noted-grant, noted-back}
-use proofs.Tids.Commits.{inserted, positive-held, positive-committed}
-use proofs.Tids.CoreTids.{KeepsPart, part-exec, part-evict, part-grant, part-back}
-use proofs.Tids.TidSteps.{granted_waits, live-some}
+use proofs.Counts.{OfAnswer, sent_cases, step_cases, total-le}
+use proofs.Serving.{core_of_grant, core_of_back, CommitsNoted, noted-exec, noted-evict, noted-grant, noted-back, times-noted, RisesBy}
+use proofs.Serving.{dir-rises}
+use proofs.Tids.{inserted, positive-held, positive-committed, KeepsPart, part-exec, part-evict, part-grant, part-back, granted_waits}
+use proofs.Tids.{live-some}
 use proofs.Ways.CoreSkips.{skips_here, Tells, TellsCommit, tells-exec, tells-evict, tells-grant, tells-back, in-way, told-none, told-skip}
 use proofs.Ways.CoreSkips.{told-nothing}
-use proofs.Serving.OwnerSteps.{times-noted}
-use proofs.OneCore.CoreReads.{loads-exec, loads-evict, loads-grant, loads-back}
+use proofs.OneCore.{loaded-exec, loaded-evict, loaded-grant, loaded-back, Commits_now, Did, each-exec, out, each-evict, Ends_alone}
+use proofs.OneCore.{Given_none, Granted, Hands_out, Heard, each-back, each-grant, granted, heard}
 use proofs.Marks.CoreMarks.{stored-written}
-use proofs.Serving.DirDue.{RisesBy, dir-rises}
-use proofs.OneCore.Outcomes.{Commits_now, Did, each-exec, out, each-evict, Ends_alone, Given_none, Granted, Hands_out, Heard, each-back}
-use proofs.OneCore.Outcomes.{each-grant, granted, heard}
 
 -- Every event keeps what the ways say of a core's TID, and of a committed one.
 
@@ -256,10 +251,10 @@ loaded-touches sh s d h e =
         here : (p : ℕ → Bool) → p (word_at l k) ≡ true → any_below (λ l. d == home sh l && any_below (λ k. p (word_at l k)) 8) (lines sh)
             ≡ true
         here p t = any_below-at (λ l. d == home sh l && any_below (λ k. p (word_at l k)) 8) (lines sh) l i
-            (let a : any_below (λ k. p (word_at l k)) 8 ≡ true = any_below-at (λ k. p (word_at l k)) 8 k j t in rw (q, a) refl)
+            (let a : any_below (λ k. p (word_at l k)) 8 ≡ true = any_below-at (λ k. p (word_at l k)) 8 k j t in rw (q, a))
 
         go : (a : Bool) → s.cache.read (word_at l k) ≡ a → (b : Bool) → s.cache.modified (word_at l k) ≡ b → (a || b) ≡ true → goal
-        go a p true t m = rw (here s.cache.modified t) refl
+        go a p true t m = rw (here s.cache.modified t)
         go true p false t m = rw (here s.cache.read p) (grind arith)
         go false p false t m = absurd (cc)
 
@@ -279,7 +274,7 @@ AllReached sh dirs s = (d : ℕ) → Reached sh d (dirs d).serving.serving s
 ready-works : (sh : Shape) (dirs : ℕ → DirState) (id u : ℕ) (s : CoreState) → s.phase ≡ Ready u → OneCore sh s → LoadsMarked sh s
     → AllReached sh dirs s → Works sh dirs (commit sh id u s)
 unfolding commit noted
-ready-works sh dirs id u s e h k r = λ d l w. rw e at ((r d).reached l (rw e (touches d w)) ((r d).replied l (rw e refl)))
+ready-works sh dirs id u s e h k r = λ d l w. rw e at ((r d).reached l (rw e (touches d w)) ((r d).replied l (rw e)))
   where
     stored : (d : ℕ) → writes_at sh s.cache d ≡ stores_at sh d s.stores
     stored d = stored-written sh s.cache s.spilled s.stores d (rw e at h.words)
@@ -289,8 +284,8 @@ ready-works sh dirs id u s e h k r = λ d l w. rw e at ((r d).reached l (rw e (t
       where
         go : (a : Bool) → loads_at sh d s.loads ≡ a → (b : Bool) → stores_at sh d s.stores ≡ b → (a || b) ≡ true
             → (writes_at sh s.cache d || reads_at sh s.cache d) ≡ true
-        go true p b q w = loaded-touches sh s d (λ v x. k v (rw e refl) x) p
-        go false p true q w = rw (stored d ∙ q) refl
+        go true p b q w = loaded-touches sh s d (λ v x. k v (rw e) x) p
+        go false p true q w = rw (stored d ∙ q)
         go false p false q w = absurd (cc)
 
 exec-works : {sh : Shape} (p : Program) (dirs : ℕ → DirState) (c : ℕ) {s : CoreState} → OneCore sh s → LoadsMarked sh s
@@ -299,7 +294,7 @@ unfolding solo_commit noted
 exec-works {sh} p dirs c {s} h k r = each-exec sh p c s (λ o. Works sh dirs o) go
   where
     go : (x : Did sh p c s) → Works sh dirs (out x)
-    go (Ends_alone u o e f q i) = λ d l w. rw q at ((r d).reached l (rw q refl) ((r d).replied l (rw q refl)))
+    go (Ends_alone u o e f q i) = λ d l w. rw q at ((r d).reached l (rw q) ((r d).replied l (rw q)))
     go (Commits_now u e) = ready-works sh dirs c u s e h k r
     go _ = tt
 
@@ -360,11 +355,11 @@ pub step-loads : {sh : Shape} (p : Program) {w : World} (e : Event) → Kept sh 
     → IfSome (step sh p w e) (ByCore sh w (Loads sh w) (sent_by sh p w e))
 unfolding pair
 step-loads {sh} p {w} e z k h = by_core p e (Loads sh w) z.told.tids
-    (λ c l. both c (core_exec sh p c (w.cores c)) (loads-exec p c (k c) (h c))
+    (λ c l. both c (core_exec sh p c (w.cores c)) (loaded-exec p c (k c) (h c))
     (exec-works p w.dirs c (k c) (h c) (λ d. (z.probes c d).core)))
-    (λ c x y l. quiet c (core_evict sh x y (w.cores c)) (loads-evict sh x y (w.cores c) (h c)) (none-evict sh x y (w.cores c)))
-    (λ c i t l q. record { loads = loads-grant sh t (w.cores c) (h c); works = rw (none-grant sh t (w.cores c)) tt })
-    (λ c d m l. quiet c (from_dir sh d (w.cores c) m) (loads-back sh d (w.cores c) m (h c)) (none-back sh d (w.cores c) m))
+    (λ c x y l. quiet c (core_evict sh x y (w.cores c)) (loaded-evict sh x y (w.cores c) (h c)) (none-evict sh x y (w.cores c)))
+    (λ c i t l q. record { loads = loaded-grant sh t (w.cores c) (h c); works = rw (none-grant sh t (w.cores c)) tt })
+    (λ c d m l. quiet c (from_dir sh d (w.cores c) m) (loaded-back sh d (w.cores c) m (h c)) (none-back sh d (w.cores c) m))
   where
     both : (c : ℕ) (a : Option Out) → IfSome a (λ o. LoadsMarked sh o.core) → IfSome a (λ o. Works sh w.dirs o) → IfSome a (Loads sh w c)
     both c None x y = tt

@@ -2,18 +2,17 @@
 use Rattle.theorem_serial.proofs
 use proofs.Names
 use Names.{ℕ, List, [], ◌∷◌, ◌++◌, Option, Some, None, IfSome, arith, sym, append_assoc, append-nil, Program, Local, Event, Shape, start}
-use Names.{core_start, Stepped, step, History, and_noted, recorded, next_history, and_then, run_from, run, KeptTold, KeptAll, KeptRun}
-use Names.{Grant, granted_by, then_grants, grants_from, has_tid, loads_word, Ways, ways_after, sent_by, then_ways, ways_from, first_ways}
-use Names.{KeptWays, AlwaysTold, zero, suc, ◌+◌, ◌≡◌, ◌<◌, ◌≤◌, Bool, true, false, ◌==◌, ◌&&◌, nat_lt, nat_le, refl, ap, ◌⊎◌, inl, inr, num}
+use Names.{core_start, Stepped, step, History, recorded, next_history, and_then, run_from, run, KeptTold, KeptAll, KeptRun, Grant}
+use Names.{granted_by, then_grants, grants_from, has_tid, loads_word, Ways, ways_after, sent_by, then_ways, ways_from, first_ways, KeptWays}
+use Names.{AlwaysTold, zero, suc, ◌+◌, ◌≡◌, ◌<◌, ◌≤◌, Bool, true, false, ◌==◌, ◌&&◌, nat_lt, nat_le, refl, ap, ◌⊎◌, inl, inr, num}
 use Names.{is_skipped, writes_at, sum_below, Phase, World, Commits, live, holder, pair, share, sum_of, opens, ResolvedAt, Way, Untold}
 use Names.{Skipped, Aborted, Committed, part_in, kept_in, WayAt, is_untold, is_given_up, UntoldWhereOpen, UntoldIsLive, Settled, WaysFit}
 use Names.{AllWaysFit, given_up_by, GivenUpOnce, LiveIsOpen, CommittedWhereStored, Contains, Noted, CommitsAreServed, times}
 use Names.{SmallerAreResolved, SmallerAreGivenUp, WorkIsReached, worked_at, nats, tid_at, to_dir, IfSome_then, first_state}
-use proofs.Counts.Links.{total-le, total-zero, num-one}
+use proofs.Counts.{total-le, total-zero, num-one}
 use proofs.Run.AllInvariants.{step-all, all-at-start}
-use proofs.Serving.CommitSteps.{commits_served}
-use proofs.Tids.Commits.{positive-granted}
-use proofs.Tids.TidSteps.{skipped-above}
+use proofs.Serving.{commits_served}
+use proofs.Tids.{positive-granted, skipped-above}
 use proofs.Ways.ToldSteps.{ByCore, Speaks, step-speaks, step-live-out, step-committed-out, Loads, Later, step-loads, step-later, loads-out}
 use proofs.Ways.ToldSteps.{worked-out}
 use proofs.Ways.CoreSkips.{parts_in, resolved-split, in-way}
@@ -50,7 +49,7 @@ run_from-ways : (sh : Shape) (p : Program) (es : List Event) (gs : List Grant) (
 unfolding run_from grants_from ways_from next_history
 run_from-ways sh p [] gs ys h k = rw append-nil k
 run_from-ways sh p (e ∷ es) gs ys h k = go (recorded h (step sh p h.world e)) (step-run p e k)
-    (λ g q. run_from-ways sh p es (gs ++ granted_by h.world e) x g q)
+    (run_from-ways sh p es (gs ++ granted_by h.world e) x)
   where
     x : Ways
     x = ways_after (sent_by sh p h.world e) ys
@@ -105,7 +104,7 @@ untold_where_open = told_from UntoldWhereOpen
 pub some-part : (f : ℕ → ℕ) (n : ℕ) → 1 ≤ sum_below f n → (c : ℕ) × (c < n) × (1 ≤ f c)
 unfolding sum_below
 some-part f zero l = absurd (omega arith)
-some-part f (suc n) l = go (f n) refl (λ m. some-part f n m)
+some-part f (suc n) l = go (f n) refl (some-part f n)
   where
     go : (x : ℕ) → f n ≡ x → (1 ≤ sum_below f n → (c : ℕ) × (c < n) × (1 ≤ f c)) → (c : ℕ) × (c < suc n) × (1 ≤ f c)
     go (suc x) e g = (n, omega arith, omega (arith, e))

@@ -1,22 +1,19 @@
 -- Every event keeps that each TID is where its way puts it.
-use Rattle.base_lemmas.proofs.Lemmas.{eq-self}
 use Rattle.theorem_serial.proofs
 use proofs.Names
-use Names.{invalidation_count, if◌then◌else◌, advance-rises, dir_deliver, is_skipped, kept-skips, false, DirState, Resolves, Serving}
-use Names.{advance, Commits, nat_lt, InvAck, Answer, Aborts, passes, arith, Abort, ℕ, Shape, Takes, Skips, Bool, true, ◌==◌, ◌&&◌, refl}
-use Names.{kept, Skip, Asks, ◌+◌, ◌-◌, ◌≡◌, ◌<◌, ◌≤◌, num, Msg, nats, List, [], Option, Some, None, IfSome, nat_le, slice_index_or, sym}
-use Names.{subst, ◌⊎◌, inl, inr, cases_eq, Program, Local, Core, Dir, Vendor, TidReq, TidGrant, Event, World, start, core_start}
-use Names.{vendor_start, in_flight, Sends, nothing, Out, core_exec, core_evict, from_dir, grant, Waits, Drops, sum_below, core_moves}
-use Names.{core_takes, dir_takes, dir_asks, vendor_gives, step, live, among, Pair, pair, after_move, grant_taken, back_taken, after_answer}
-use Names.{out_taken, after_grant, after_other_grant, share, opens, ResolvedAt, Kept, KeptTold, Way, Untold, Skipped, Aborted, Committed}
-use Names.{Ways, told_by, ways_after, sent_by, first_ways, part_in, kept_in, WayAt, KeptWays, FromCore, ◌≢◌}
-use proofs.Counts.DirOutcome.{Outcome, Waiting, Spent, AsksOwner, TakesSkip, TakesAbort, TakesCommit, TakesAck, outcome}
-use proofs.Tids.TidSteps.{OnceAt, unserved, advance-count, granted_waits}
-use proofs.Counts.Links.{live-sends, live-takes, total-zero}
-use proofs.Counts.StepCases.{differ, given, sum_move, sum_grant, sum_back, sum_back_away, sum_dir, sum_dir_away, sum_asks, sum_vendor}
-use proofs.Counts.StepCases.{OfAnswer, sent_cases}
-use proofs.Serving.KeptSteps.{core_of_grant, core_of_back, core_of_out, core_of_ask, once_at}
-use proofs.Tids.CoreTids.{KeepsPart, part-exec, part-evict, part-grant, part-back}
+use Names.{eq-self, invalidation_count, if◌then◌else◌, advance-rises, dir_deliver, is_skipped, kept-skips, false, DirState, Resolves}
+use Names.{Serving, advance, Commits, nat_lt, InvAck, Answer, Aborts, passes, arith, Abort, ℕ, Shape, Takes, Skips, Bool, true, ◌==◌, ◌&&◌}
+use Names.{refl, kept, Skip, Asks, ◌+◌, ◌-◌, ◌≡◌, ◌<◌, ◌≤◌, num, Msg, nats, List, [], Option, Some, None, IfSome, nat_le, slice_index_or}
+use Names.{sym, subst, ◌⊎◌, inl, inr, cases_eq, Program, Local, Core, Dir, Vendor, TidGrant, Event, World, start, core_start, vendor_start}
+use Names.{in_flight, Sends, nothing, Out, core_exec, core_evict, from_dir, grant, Waits, Drops, sum_below, core_moves, core_takes}
+use Names.{dir_takes, dir_asks, vendor_gives, step, live, among, Pair, pair, after_move, grant_taken, back_taken, after_answer, out_taken}
+use Names.{after_grant, after_other_grant, share, opens, ResolvedAt, Kept, KeptTold, Way, Untold, Skipped, Aborted, Committed, Ways}
+use Names.{told_by, ways_after, sent_by, first_ways, part_in, kept_in, WayAt, KeptWays, FromCore, ◌≢◌}
+use proofs.Counts.{Outcome, Waiting, Spent, AsksOwner, TakesSkip, TakesAbort, TakesCommit, TakesAck, outcome, live-sends, live-takes}
+use proofs.Counts.{total-zero, differ, given, sum_move, sum_grant, sum_back, sum_back_away, sum_dir, sum_dir_away, sum_asks, sum_vendor}
+use proofs.Counts.{OfAnswer, sent_cases}
+use proofs.Tids.{OnceAt, unserved, advance-count, granted_waits, KeepsPart, part-exec, part-evict, part-grant, part-back}
+use proofs.Serving.{core_of_grant, core_of_back, core_of_out, core_of_ask, once_at}
 use proofs.Ways.CoreSkips.{parts_in, resolved-split, gained, lost, told-moved, told-nothing}
 
 -- What a directory keeps as skipped is a TID of which a Skip or an Abort came, and it is owed acknowledgements only for one whose
@@ -157,7 +154,7 @@ unfolding kept_in
 way-heard sh w v d t m y n q u r z h = go y h
   where
     e : num (nat_le v.next t) ≡ num (nat_le w.next t)
-    e = rw n refl
+    e = rw n
 
     go : (y : Way) → WayAt sh w d t y → WayAt sh v d t y
     go Untold h = omega (arith, h, q Untold, e)
@@ -277,7 +274,7 @@ step-ways {sh} p ys {w} e z h = sent_cases sh p w e (λ x g o. KeptTold sh o.wor
     answered : (c d k : ℕ) (m : Msg) → FromCore w c d k m → (a : Answer) → ((t : ℕ) → HeardBy (w.dirs d) m t a)
         → OfAnswer w c d k (λ v. KeptTold sh v → KeptWays sh (ways_after nothing ys) v) a
     answered c d k m i Waits u = tt
-    answered c d k m i Drops u = dir c d k m (w.dirs d) (λ dst. []) i (λ t. heard-still (w.dirs d) m t)
+    answered c d k m i Drops u = dir c d k m (w.dirs d) (λ dst. []) i (heard-still (w.dirs d) m)
     answered c e k m i (Asks s sends) u =
         λ n d t x y. rw (told-nothing t (ys d t)) (way-asks sh w e s sends d t (ys d t) (u t).0 (u t).1 (h d t x y))
     answered c d k m i (Takes s sends) u = dir c d k m s sends i u

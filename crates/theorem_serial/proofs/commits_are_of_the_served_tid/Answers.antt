@@ -1,4 +1,4 @@
-use Rattle.theorem_serial.proofs.Serving.CommitSteps.{commits_are_served}
+use Rattle.theorem_serial.proofs.Run.AllInvariants.{commits_are_served}
 use Rattle.theorem_serial.proofs.Run.AllInvariants.{spares_committer}
 use Rattle.theorem_serial.proofs.commits_are_of_the_served_tid.Goals as goal
 
