@@ -4,6 +4,7 @@ pub mod Finding
 pub mod Numbers
 pub mod Pieces
 pub mod Passing
+pub mod Full
 pub mod Changing
 pub mod Placing
 pub mod Lanes

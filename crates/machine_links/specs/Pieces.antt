@@ -19,6 +19,15 @@ pub record AreRising (ws : List Waiting) : Type 0 where
   pub high : ℕ
   pub rises : Rises 0 high ws
 
+-- none of them is empty
+abbrev pub AreFull : List (List Waiting) → Type 0
+AreFull xs = (k : ℕ) → k < length xs → 0 < length (slice_index_or xs k [])
+
+-- how many messages they have is counted
+pub record IsRest (xs : List (List Waiting)) (n : ℕ) : Type 0 where
+  pub counted : n ≡ length (flat xs)
+  pub full : AreFull xs
+
 -- the message of that number was taken out
 pub record Taken (old new : List Waiting) (k : ℕ) (h : Held) : Type 0 where
   pub at : ℕ

@@ -22,11 +22,12 @@ use tcc_msg::{Msg, Name};
 /// each directory and to the vendor, and from each of these to each core. In a clause `net_of` makes of it the links of the rules, and
 /// `is_ready` the marks; only a message in flight is ever marked.
 ///
-/// Messages are not copied. On a link they stand in stretches of at most 256. A call that names one, or asks for the i-th of a link,
-/// passes over the stretches before it, and searches one; `take` also moves those behind it in its stretch. So with n messages in
-/// flight on a link it takes time in n / 256, and more only where most messages of its stretches were taken and not the last ones. A
-/// change of a mark takes constant time beside that, and `ready_at` goes with the number of links divided by 256, and through one
-/// link. Only `new` and `push` take memory.
+/// Messages are not copied. On a link they stand in stretches of at most 256, none of them empty but the first. A call that names one
+/// finds its stretch by halves, and it in there, so with n messages in flight on a link it takes time in log n; `take` also moves
+/// those behind it in its stretch, and where that is empty then, the stretches behind that. A call that asks for the i-th of a link
+/// passes over the stretches before it: that takes time in n / 256, and more only where most messages of its stretches were taken and
+/// not the last ones. A change of a mark takes constant time once it is found, and `ready_at` goes with the number of links divided by
+/// 256, and through one link. Only `new` and `push` take memory.
 #[derive(Debug, Drop)]
 pub struct InFlight {
     grid: Grid,

@@ -29,8 +29,8 @@ pub struct Waiting {
 }
 
 /// One link. In a clause it is the list of all messages that were sent on it, by number, each `None` once it is consumed.
-/// Its messages in flight stand in stretches of at most 256: most links have one stretch, and where thousands wait, a call passes over
-/// whole stretches.
+/// Its messages in flight stand in stretches of at most 256: most links have one stretch, and where thousands wait, a number is found
+/// by halves, first its stretch and then its message.
 #[derive(Debug, Drop)]
 pub struct Lane {
     sent: u64,
@@ -92,8 +92,8 @@ impl Lane {
         }
     }
 
-    /// The message of that number with its mark; `None` exactly where it isn't in flight. It passes over the stretches before it, and
-    /// searches one.
+    /// The message of that number with its mark; `None` exactly where it isn't in flight. It takes time in the logarithm of
+    /// how many are in flight.
     pub fn get(&self, seq: u64) -> Option<&Held>
         ensures { option_copied result ≡ slice_index_or self.now seq None }
     {
@@ -101,7 +101,7 @@ impl Lane {
     }
 
     /// Takes the message of that number out; `None` exactly where it isn't in flight, and then nothing is changed. It
-    /// passes over the stretches before it, and moves the messages behind it in its own.
+    /// is found as by `get`; the messages behind it in its stretch are moved, and where none is left there, the stretches behind that.
     pub fn take(&mut self, seq: u64) -> Option<Held>
         ensures given { result ≡ slice_index_or self.old seq None }
         ensures taken { self.new ≡ slice_set self.old seq None }
@@ -109,8 +109,7 @@ impl Lane {
         take(&mut self.front, &mut self.rest, seq)
     }
 
-    /// Marks the message of that number, or takes its mark, and says whether it was marked. It passes over the stretches before it, and
-    /// searches one.
+    /// Marks the message of that number, or takes its mark, and says whether it was marked. It is found as by `get`.
     pub fn set_ready(&mut self, seq: u64, ready: bool) -> bool
         requires { IsSome (slice_index_or self.old seq None) }
         ensures was { result ≡ is_marked (slice_index_or self.old seq None) }

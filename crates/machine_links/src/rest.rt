@@ -1,9 +1,9 @@
 // The messages of a link that stand behind its first stretch.
-ghost use Rattle.std.specs.Prelude.{◌≡◌, ◌<◌, [], ◌∷◌, ◌++◌, length, map, slice_index_or, slice_get, Option, Some, None, OnOk, OnErr};
-ghost use Rattle.std.specs.Prelude.{IfSome, IfNone, option_copied};
+ghost use Rattle.std.specs.Prelude.{◌≡◌, ◌≢◌, ℕ, ◌<◌, [], ◌∷◌, ◌++◌, length, map, slice_index_or, slice_get, Option, Some, None, OnOk};
+ghost use Rattle.std.specs.Prelude.{OnErr, IfSome, IfNone, option_copied};
 ghost use Rattle.std.specs.List.{filter};
 ghost use Rattle.machine_links.specs.Laid.{held_at};
-ghost use Rattle.machine_links.specs.Pieces.{AreRising, Marked, Taken, flat};
+ghost use Rattle.machine_links.specs.Pieces.{AreFull, AreRising, Marked, Taken, flat};
 
 use crate::lane::{Held, Waiting};
 use crate::stretch::{ROOM, Stretch};
@@ -11,8 +11,8 @@ use std::alloc::Global;
 use std::marker::Model;
 use tcc_base::NoMemory;
 
-/// Stretches by rising number, none of them empty. In a clause it is the list of their messages. A call passes over whole stretches,
-/// and then goes into one.
+/// Stretches by rising number, none of them empty. In a clause it is the list of their messages. A number is found by halves, first
+/// its stretch and then its message; an i-th one by passing over the stretches before it.
 #[derive(Debug, Drop)]
 pub(crate) struct Rest {
     pieces: Vec<Stretch>,
@@ -20,15 +20,15 @@ pub(crate) struct Rest {
 }
 
 impl Model for Rest {
-    ghost use Rattle.std.specs.Prelude.{◌≡◌, List, length};
-    ghost use Rattle.machine_links.specs.Pieces.{flat};
+    ghost use Rattle.std.specs.Prelude.{List};
+    ghost use Rattle.machine_links.specs.Pieces.{IsRest, flat};
     ghost use Rattle.machine_links.specs.declared.lane.Waiting.{Waiting as Message};
 
     ghost Value = { List Message };
 
     ghost view = { λ r. flat r.pieces.items };
 
-    ghost invariant = { λ r. r.count ≡ length (flat r.pieces.items) };
+    ghost invariant = { λ r. IsRest r.pieces.items r.count };
 }
 
 impl Rest {
@@ -130,6 +130,7 @@ impl Rest {
 fn push_last(pieces: &mut Vec<Stretch>, waiting: Waiting) -> Result<(), NoMemory>
     ensures ok { OnOk result (flat pieces.new.items ≡ flat pieces.old.items ++ waiting ∷ []) }
     ensures err { OnErr result (flat pieces.new.items ≡ flat pieces.old.items) }
+    ensures full { AreFull pieces.old.items → AreFull pieces.new.items }
 {
     let len = pieces.len();
     if len != 0 && pieces[len - 1].len() < ROOM {
@@ -141,6 +142,7 @@ fn push_last(pieces: &mut Vec<Stretch>, waiting: Waiting) -> Result<(), NoMemory
 fn push_new(pieces: &mut Vec<Stretch>, waiting: Waiting) -> Result<(), NoMemory>
     ensures ok { OnOk result (flat pieces.new.items ≡ flat pieces.old.items ++ waiting ∷ []) }
     ensures err { OnErr result (flat pieces.new.items ≡ flat pieces.old.items) }
+    ensures full { AreFull pieces.old.items → AreFull pieces.new.items }
 {
     let next = Stretch::of_one(*pieces.allocator(), waiting)?;
     if pieces.push(next).is_err() {
@@ -149,21 +151,28 @@ fn push_new(pieces: &mut Vec<Stretch>, waiting: Waiting) -> Result<(), NoMemory>
     Ok(())
 }
 
-// The place of the stretch that has the message of that number, where there is one.
+// The place of the stretch that has the message of that number, where there is one: the first that doesn't end below it, found by halves.
 fn piece_of(pieces: &[Stretch], seq: u64) -> usize
-    requires { AreRising (flat pieces.now) }
+    requires rising { AreRising (flat pieces.now) }
+    requires full { AreFull pieces.now }
     ensures { held_at (flat pieces.now) seq ≡ held_at (slice_index_or pieces.now result []) seq }
 {
-    for i in 0..pieces.len() {
-        if !pieces[i].ends_below(seq) {
-            return i;
+    let mut low = 0;
+    let mut high = pieces.len();
+    while low < high {
+        let mid = low + (high - low) / 2;
+        if pieces[mid].ends_below(seq) {
+            low = mid + 1;
+        } else {
+            high = mid;
         }
     }
-    pieces.len()
+    low
 }
 
 fn get_in(pieces: &[Stretch], seq: u64) -> Option<&Held>
-    requires { AreRising (flat pieces.now) }
+    requires rising { AreRising (flat pieces.now) }
+    requires full { AreFull pieces.now }
     ensures { option_copied result ≡ held_at (flat pieces.now) seq }
 {
     let at = piece_of(pieces, seq);
@@ -175,10 +184,12 @@ fn get_in(pieces: &[Stretch], seq: u64) -> Option<&Held>
 }
 
 fn take_from(pieces: &mut Vec<Stretch>, seq: u64) -> Option<Held>
-    requires { AreRising (flat pieces.old.items) }
+    requires rising { AreRising (flat pieces.old.items) }
+    requires full { AreFull pieces.old.items }
     ensures some { IfSome result (λ h. Taken (flat pieces.old.items) (flat pieces.new.items) seq h) }
     ensures none { IfNone result (held_at (flat pieces.old.items) seq ≡ None) }
     ensures unchanged { IfNone result (flat pieces.new.items ≡ flat pieces.old.items) }
+    ensures full { AreFull pieces.new.items }
 {
     let at = piece_of(pieces, seq);
     if at >= pieces.len() {
@@ -191,8 +202,10 @@ fn take_from(pieces: &mut Vec<Stretch>, seq: u64) -> Option<Held>
 
 // Drops this stretch, where it is empty.
 fn drop_empty(pieces: &mut Vec<Stretch>, at: usize)
-    requires { at < length pieces.old.items }
-    ensures { flat pieces.new.items ≡ flat pieces.old.items }
+    requires within { at < length pieces.old.items }
+    requires others { (k : ℕ) → k < length pieces.old.items → k ≢ at → 0 < length (slice_index_or pieces.old.items k []) }
+    ensures same { flat pieces.new.items ≡ flat pieces.old.items }
+    ensures full { AreFull pieces.new.items }
 {
     if pieces[at].len() == 0 {
         pieces.remove(at);
@@ -200,10 +213,12 @@ fn drop_empty(pieces: &mut Vec<Stretch>, at: usize)
 }
 
 fn mark_in(pieces: &mut Vec<Stretch>, seq: u64, ready: bool) -> Option<bool>
-    requires { AreRising (flat pieces.old.items) }
+    requires rising { AreRising (flat pieces.old.items) }
+    requires full { AreFull pieces.old.items }
     ensures some { IfSome result (λ was. Marked (flat pieces.old.items) (flat pieces.new.items) seq ready was) }
     ensures none { IfNone result (held_at (flat pieces.old.items) seq ≡ None) }
     ensures unchanged { IfNone result (flat pieces.new.items ≡ flat pieces.old.items) }
+    ensures full { AreFull pieces.new.items }
 {
     let at = piece_of(pieces, seq);
     if at >= pieces.len() {

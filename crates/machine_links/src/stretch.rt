@@ -136,15 +136,13 @@ impl Stretch {
         nth_ready(&self.waiting, k)
     }
 
-    /// Whether all its numbers are below this one.
+    /// Whether its last number is below this one.
     pub(crate) fn ends_below(&self, seq: u64) -> bool
-        requires { AreRising self.now }
-        ensures below { IsTrue result → held_at self.now seq ≡ None }
-        ensures filled { result ≡ false → 0 < length self.now }
+        requires { 0 < length self.now }
+        ensures below { IsTrue result → (d : Waiting) → (slice_index_or self.now (length self.now - 1) d).seq < seq }
         ensures reaches { result ≡ false → (d : Waiting) → seq ≤ (slice_index_or self.now (length self.now - 1) d).seq }
     {
-        let len = self.waiting.len();
-        len == 0 || self.waiting[len - 1].seq < seq
+        self.waiting[self.waiting.len() - 1].seq < seq
     }
 }
 

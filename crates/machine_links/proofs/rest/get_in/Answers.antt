@@ -10,7 +10,7 @@ pub get-requires : goal.get-requires
 get-requires c =
     subst AreRising
     (sym (get_or_read c.args.pieces.now c.piece_of-at.result c.index-pieces-at.result c.if-at-pieces.true c.index-pieces-at.is []))
-    (rising-at c.args.pieces.now c.piece_of-at.result c.requires)
+    (rising-at c.args.pieces.now c.piece_of-at.result c.requires.rising)
 
 pub returns-else-at-pieces : goal.returns-else-at-pieces
 unfolding held_at

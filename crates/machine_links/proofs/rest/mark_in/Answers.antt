@@ -4,6 +4,7 @@ use Rattle.std.proofs.lemmas.List.{get_or_read, get_or_past}
 use Rattle.machine_links.specs.Laid.{held_at}
 use Rattle.machine_links.specs.Pieces.{AreRising}
 use Rattle.machine_links.proofs.Pieces.{rising-at, marked-read}
+use Rattle.machine_links.proofs.Full.{full-marked}
 use Rattle.machine_links.proofs.rest.mark_in.Goals as goal
 
 pub returns-then-at-len-clause-none : goal.returns-then-at-len-clause-none
@@ -18,7 +19,7 @@ set_ready-requires c =
     let xs = c.args.pieces.now.items in
     let lt : c.piece_of-at.result < length xs = omega (arith, c.if-at-len.false, c.len.ensures, c.args.pieces.now.ok) in
     subst AreRising (sym (get_or_read xs c.piece_of-at.result c.index_mut.result.now lt c.index_mut.ensures.value []))
-    (rising-at xs c.piece_of-at.result c.requires)
+    (rising-at xs c.piece_of-at.result c.requires.rising)
 
 pub returns-clause-some : goal.returns-clause-some
 returns-clause-some c =
@@ -26,3 +27,10 @@ returns-clause-some c =
     let lt : c.piece_of-at.result < length xs = omega (arith, c.if-at-len.false, c.len.ensures, c.args.pieces.now.ok) in
     marked-read xs c.piece_of-at.result c.index_mut.result.now c.set_ready.new.self c.args.seq c.args.ready c.set_ready.result lt
     c.index_mut.ensures.value c.set_ready.ensures.some
+
+pub returns-clause-full : goal.returns-clause-full
+returns-clause-full c =
+    let xs = c.args.pieces.now.items in
+    let lt : c.piece_of-at.result < length xs = omega (arith, c.if-at-len.false, c.len.ensures, c.args.pieces.now.ok) in
+    full-marked xs c.piece_of-at.result c.index_mut.result.now c.set_ready.new.self c.args.seq c.args.ready c.set_ready.result lt
+    c.index_mut.ensures.value c.set_ready.ensures.some c.set_ready.ensures.unchanged c.requires.full

@@ -1,8 +1,10 @@
--- The pieces from here on have the message of that number, where any has.
-use Rattle.std.proofs.Common.{◌≡◌, drop}
-use Rattle.machine_links.specs.Laid.{held_at}
-use Rattle.machine_links.specs.Pieces.{flat}
+-- What has the message of that number stands from low on, and the piece at high reaches the number.
+use Rattle.std.proofs.Common.{◌-◌}
+use Rattle.machine_links.proofs.Passing.{Between}
 use Rattle.machine_links.proofs.rest.piece_of.Given as goal
 
-abbrev pub invariant-loop-i : goal.invariant-loop-i
-invariant-loop-i l = held_at (flat (drop l.i l.pieces)) l.seq ≡ held_at (flat l.pieces) l.seq
+abbrev pub invariant-loop-low : goal.invariant-loop-low
+invariant-loop-low l = Between l.pieces l.seq l.low l.high
+
+abbrev pub decreases-loop-low : goal.decreases-loop-low
+decreases-loop-low l = l.high - l.low

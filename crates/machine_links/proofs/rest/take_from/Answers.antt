@@ -1,9 +1,10 @@
 -- What is taken from a piece is taken from all.
-use Rattle.std.proofs.Common.{◌<◌, ◌≤◌, [], length, sym, subst, ap, ◌∙◌, arith}
+use Rattle.std.proofs.Common.{◌≡◌, ◌<◌, ◌≤◌, [], length, get_or, sym, subst, ap, ◌∙◌, arith}
 use Rattle.std.proofs.lemmas.List.{get_or_read, get_or_past}
 use Rattle.machine_links.specs.Laid.{held_at}
 use Rattle.machine_links.specs.Pieces.{AreRising, Taken, flat}
 use Rattle.machine_links.proofs.Pieces.{rising-at, taken-read}
+use Rattle.machine_links.proofs.Full.{full-but, full-set}
 use Rattle.machine_links.proofs.rest.take_from.Goals as goal
 
 pub returns-then-at-len-clause-none : goal.returns-then-at-len-clause-none
@@ -18,12 +19,25 @@ take-requires c =
     let xs = c.args.pieces.now.items in
     let lt : c.piece_of-at.result < length xs = omega (arith, c.if-at-len.false, c.len.ensures, c.args.pieces.now.ok) in
     subst AreRising (sym (get_or_read xs c.piece_of-at.result c.index_mut.result.now lt c.index_mut.ensures.value []))
-    (rising-at xs c.piece_of-at.result c.requires)
+    (rising-at xs c.piece_of-at.result c.requires.rising)
 
 pub returns-clause-some : goal.returns-clause-some
 returns-clause-some c =
     let xs = c.args.pieces.now.items in
     let lt : c.piece_of-at.result < length xs = omega (arith, c.if-at-len.false, c.len.ensures, c.args.pieces.now.ok) in
-    subst (λ ws. Taken (flat xs) ws c.args.seq c.in_ok-held.held) (sym c.drop_empty.ensures)
+    subst (λ ws. Taken (flat xs) ws c.args.seq c.in_ok-held.held) (sym c.drop_empty.ensures.same)
     (taken-read xs c.piece_of-at.result c.index_mut.result.now c.take.new.self c.args.seq c.in_ok-held.held lt c.index_mut.ensures.value
     c.in_ok-held.ensures.some)
+
+pub drop_empty-requires-clause-others : goal.drop_empty-requires-clause-others
+drop_empty-requires-clause-others c =
+    full-but c.args.pieces.now.items c.piece_of-at.result c.take.new.self c.requires.full
+
+pub returns-in_err-held-clause-full : goal.returns-in_err-held-clause-full
+returns-in_err-held-clause-full c =
+    let xs = c.args.pieces.now.items in
+    let lt : c.piece_of-at.result < length xs = omega (arith, c.if-at-len.false, c.len.ensures, c.args.pieces.now.ok) in
+    let same : length c.take.new.self ≡ length (get_or xs c.piece_of-at.result []) =
+    ap length (c.in_err-held.ensures.unchanged
+    ∙ get_or_read xs c.piece_of-at.result c.index_mut.result.now lt c.index_mut.ensures.value []) in
+    full-set xs c.piece_of-at.result c.take.new.self lt c.requires.full (omega (arith, c.requires.full c.piece_of-at.result lt))
