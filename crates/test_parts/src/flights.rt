@@ -34,6 +34,81 @@ fn a_lane_gives_by_number(rt: HostRuntime) -> Result<(), NoMemory> {
     Ok(())
 }
 
+// Skips 0 to 599, those of an even TID marked.
+fn many_sent(alloc: Global) -> Result<Lane, NoMemory> {
+    let mut lane = Lane::new(alloc);
+    for tid in 0..600u64 {
+        lane.send(Held {
+            msg: Msg::Skip { tid: Tid(tid) },
+            ready: tid % 2 == 0,
+        })?;
+    }
+    Ok(lane)
+}
+
+// Whether the message of that number was marked, before it is; nothing where there is none.
+fn mark(lane: &mut Lane, seq: u64) -> Option<bool> {
+    if lane.get(seq).is_none() {
+        return None;
+    }
+    Some(lane.set_ready(seq, true))
+}
+
+// The number of the i-th message in flight.
+fn number_at(lane: &Lane, i: usize) -> Option<u64> {
+    lane.waiting_at(i).map(|found| found.0)
+}
+
+// Takes Skips 0 to 599 out, and counts those that were there.
+fn drained(lane: &mut Lane) -> u64 {
+    let mut count: u64 = 0;
+    for seq in 0..600u64 {
+        if lane.take(seq).map(|held| held.msg) == Some(Msg::Skip { tid: Tid(seq) }) {
+            count = count.wrapping_add(1);
+        }
+    }
+    count
+}
+
+#[test]
+fn a_long_lane_gives_from_its_middle_front_and_end(rt: HostRuntime) -> Result<(), NoMemory> {
+    let mut lane = many_sent(rt.alloc())?;
+    for seq in [300, 0, 599] {
+        assert_eq!(rt;
+            lane.take(seq).map(|held| held.msg),
+            Some(Msg::Skip { tid: Tid(seq) })
+        );
+        assert!(rt; lane.take(seq).is_none());
+    }
+    assert_eq!(rt; lane.sent(), 600);
+    assert_eq!(rt; lane.waiting(), 597);
+    assert_eq!(rt; number_at(&lane, 0), Some(1));
+    assert_eq!(rt; number_at(&lane, 298), Some(299));
+    assert_eq!(rt; number_at(&lane, 299), Some(301));
+    assert_eq!(rt; number_at(&lane, 596), Some(598));
+    assert_eq!(rt; number_at(&lane, 597), None);
+    Ok(())
+}
+
+#[test]
+fn a_long_lane_lists_its_marked_messages(rt: HostRuntime) -> Result<(), NoMemory> {
+    let mut lane = many_sent(rt.alloc())?;
+    assert_eq!(rt; lane.ready_at(299), Some(598));
+    assert_eq!(rt; lane.ready_at(300), None);
+    assert_eq!(rt; mark(&mut lane, 301), Some(false));
+    assert_eq!(rt; mark(&mut lane, 302), Some(true));
+    assert_eq!(rt; lane.ready_at(150), Some(300));
+    assert_eq!(rt; lane.ready_at(151), Some(301));
+    assert_eq!(rt; lane.ready_at(300), Some(598));
+    assert_eq!(rt; drained(&mut lane), 600);
+    assert_eq!(rt; lane.waiting(), 0);
+    assert_eq!(rt; lane.ready_at(0), None);
+    lane.send(skip(7))?;
+    assert!(rt; lane.get(600).is_some());
+    assert_eq!(rt; number_at(&lane, 0), Some(600));
+    Ok(())
+}
+
 const CORE: NodeId = NodeId::Core(CoreId(1));
 
 const DIR: NodeId = NodeId::Dir(DirId(0));
