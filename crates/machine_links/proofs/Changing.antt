@@ -1,9 +1,9 @@
 -- A link over its fields: what its readers give, and what each change of the fields does to the list of what was sent.
-use Rattle.std.proofs.Common.{◌≡◌, ℕ, suc, zero, ◌+◌, ◌-◌, ◌<◌, ◌≤◌, Bool, ⊎_elim, List, [], ◌∷◌, ◌++◌, length, get_or, set, take, map}
-use Rattle.std.proofs.Common.{Some, None, IsSome, refl, ap, sym, subst, ◌∙◌, add-one, arith}
+use Rattle.std.proofs.Common.{◌≡◌, ℕ, suc, ◌+◌, ◌-◌, ◌<◌, Bool, ⊎_elim, List, [], ◌∷◌, ◌++◌, length, get_or, set, map}
+use Rattle.std.proofs.Common.{Some, None, refl, ap, sym, subst, ◌∙◌, add-one, arith}
 use Rattle.std.specs.Prelude.{Option, option_map, slice_get, IfSome, IfNone}
 use Rattle.std.specs.List.{remove, count_by}
-use Rattle.std.proofs.lemmas.Bool.{cases_lt, false≢true}
+use Rattle.std.proofs.lemmas.Bool.{cases_lt}
 use Rattle.std.proofs.lemmas.List.{get_or_past, set-get_or, length-set}
 use Rattle.std.proofs.lemmas.Option.{slice_get-map, slice_get_within, get_or_from_slice_get}
 use Rattle.std.proofs.lemmas.List.Edits.{length-remove}
@@ -13,9 +13,9 @@ use Rattle.machine_links.specs.Lane.{Lane, is_marked, is_waiting, numbers_of, ma
 use Rattle.machine_links.specs.Laid.{laid, held_at, Rises}
 use Rattle.machine_links.specs.Pieces.{Marked, Taken}
 use Rattle.machine_links.proofs.Pieces.{blank}
-use Rattle.machine_links.proofs.Laid.{length-laid, get-laid, laid-push, laid-front, laid-set}
-use Rattle.machine_links.proofs.Finding.{rises-get, rises-remove, rises-set, rises-push, rises-front, held-high, held-get, held-remove_own}
-use Rattle.machine_links.proofs.Finding.{held-remove_other, held-set_own, held-set_other, held-push_own, held-push_other, last-seq}
+use Rattle.machine_links.proofs.Laid.{length-laid, get-laid, laid-push, laid-set}
+use Rattle.machine_links.proofs.Finding.{rises-get, rises-remove, rises-set, rises-push, held-high, held-get, held-remove_own}
+use Rattle.machine_links.proofs.Finding.{held-remove_other, held-set_own, held-set_other, held-push_own, held-push_other}
 use Rattle.machine_links.proofs.Numbers.{few-marked, waiting-laid}
 
 -- the link's fields with the list of what was sent on it

@@ -1,7 +1,7 @@
 -- The definitions computed: one core and one directory, three messages on two links, of which two are marked.
 use Rattle.std.proofs.Common.{◌≡◌, true, false, [], ◌∷◌, Some, None, refl}
 use Rattle.rules_maps.specs.Words.{those}
-use Rattle.rules_maps.specs.Nodes.{Core, Dir, Vendor, Event, Deliver}
+use Rattle.rules_maps.specs.Nodes.{Core, Dir, Vendor, Deliver}
 use Rattle.rules_maps.specs.Nodes as plain
 use Rattle.tcc_msg.specs.declared.msg.Msg.TheVariants.{TidReq, Skip}
 use Rattle.machine_links.specs.Lane.{Lane, message, is_marked}
