@@ -1,7 +1,7 @@
 -- What other crates may cite: the laws that they stand on, and lemmas on counts, grants and commits.
 pub use Rattle.theorem_serial.proofs.Counts.Links.{total-le, total-same, num-one}
 pub use Rattle.theorem_serial.proofs.Marks.CommitMasks.{total-num}
-pub use Rattle.theorem_serial.proofs.Marks.DirRecords.{Marked, MarkedBy, RecordStays as Stays, Clears, Skipped, Marks, dir-marked}
+pub use Rattle.theorem_serial.proofs.Marks.DirRecords.{Marked, MarkedBy, Stays, Clears, Skipped, Marks, dir-marked}
 pub use Rattle.theorem_serial.proofs.Memory.CoreHomes.{HomelyOut, homes-exec, homes-evict, homes-grant, homes-back}
 pub use Rattle.theorem_serial.proofs.Memory.CoreInMemory.{CoreInMemory, OutInMemory, exec-memory}
 pub use Rattle.theorem_serial.proofs.Memory.InMemoryKept.{start-memory, evict-memory, grant-memory, back-memory}
