@@ -76,7 +76,7 @@ impl MarkSet {
         }
     }
 
-    // MarkSet a place that isn't marked.
+    // Marks a place that isn't marked.
     fn note(&mut self, place: u32)
         requires marks { (p : ℕ → Bool) × (p place ≡ false) × IsMarked self.old.few.items self.old.many p }
         requires within { place < 16 * length self.old.many }
