@@ -143,7 +143,7 @@ impl Bus {
         }
     }
 
-    /// How many of the cores below a number are still to take the packet that is on it. Takes time in this number.
+    /// How many of the cores below a number are still to take the packet that is on it. It takes constant time.
     pub fn left_count(&self, count: u8) -> u8
         requires { count ≤ 64 }
         ensures { result ≡ length (filter (is_left (bus_of self.now)) (numbers count)) }

@@ -105,7 +105,7 @@ impl Engine {
         Some(BusEvent::Take(core))
     }
 
-    /// How many events are useful. Takes constant time, and where a packet is on the bus time in the number of cores.
+    /// How many events are useful. It takes constant time.
     pub(crate) fn useful_total(&self, counts: &Counts) -> u64
         requires { CountedIn self.now counts.now }
         ensures { result ≡ length (bus_useful_of self.now) }

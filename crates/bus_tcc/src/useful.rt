@@ -17,7 +17,7 @@ impl BusSystem {
         self.engine.allows(&self.counts, event)
     }
 
-    /// How many events are useful. Takes constant time, and where a packet is on the bus time in the number of cores.
+    /// How many events are useful. It takes constant time.
     pub fn useful_count(&self) -> u64
         ensures { result ≡ length (bus_useful_of self.now) }
     {

@@ -22,7 +22,7 @@ impl System {
     }
 
     /// The i-th message in flight on a link by rising number, with its number, where all that was sent stands on its links. `None`
-    /// exactly where there are no more than i. It takes constant time.
+    /// exactly where there are no more than i. It passes over the stretches before it, of 256 at most.
     pub fn flying_at(&self, src: NodeId, dst: NodeId, i: usize) -> Option<(u64, &Msg)>
         requires { self.now.unsent ≡ [] }
         ensures number { let net = (world_of self.now).net in option_map (λ p. p.0) result
