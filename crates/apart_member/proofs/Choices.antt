@@ -17,7 +17,8 @@ use Rattle.core_node.specs.Useful.{useful_evicts}
 use Rattle.core_node.specs.View.{core_of}
 use Rattle.core_node.specs.declared.state.Core.{Core as CoreData}
 use Rattle.image_load.specs.Contents.{started}
-use Rattle.rv_code.specs.Machine.{first_ram, program}
+use Rattle.rv_code.specs.Machine.{program}
+use Rattle.image_load.specs.Start.{first_ram}
 use Rattle.tcc_base.specs.declared.names.CoreId.{CoreId}
 use Rattle.tcc_base.specs.declared.names.DirId.{DirId}
 use Rattle.directory.specs.Data.{DirData}

@@ -2,8 +2,9 @@
 use Rattle.std.proofs.Common.{◌≡◌, ℕ, ◌<◌, ◌^◌, true, refl, ap, sym, ◌∙◌, subst}
 use Rattle.std.proofs.lemmas.Bool.{lt-ltb}
 use Rattle.image_load.specs.Contents.{Contents, started}
-use Rattle.rv_code.specs.Machine.{first_ram, start_local}
-use Rattle.theorem_riscv.specs.Suiting.{world_at_start}
+use Rattle.rv_code.specs.Machine.{start_local}
+use Rattle.image_load.specs.Start.{first_ram}
+use Rattle.rules_riscv.specs.Starting.{world_at_start}
 use Rattle.tcc_base.specs.Settings.{Settings, IsAllowed}
 use Rattle.rules_maps.specs.Bridge.{node_of}
 use Rattle.rules_maps.specs.Nodes.{Core, Dir, Vendor}

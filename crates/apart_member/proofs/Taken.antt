@@ -4,8 +4,7 @@ use Rattle.std.proofs.Common.{◌⊎◌, inl, inr}
 use Rattle.std.specs.Prelude.{nat_lt, IfSome}
 use Rattle.dir_lines.specs.Home.{Home}
 use Rattle.tcc_base.specs.Settings.{Settings}
-use Rattle.theorem_bounds.specs.Messages.{line_named, tid_named}
-use Rattle.theorem_live.specs.Fits.{fits, goes_to_core, goes_to_dir, is_grant}
+use Rattle.rules_maps.specs.Messages.{line_named, tid_named, fits, goes_to_core, goes_to_dir, is_grant}
 use Rattle.rules_maps.specs.Nodes.{Node, Core, Dir, Vendor, Msg, TidReq, TidGrant, LoadReq, Fill, Skip, Probe, ProbeReply, Mark, Commit}
 use Rattle.rules_maps.specs.Nodes.{Abort, Deliver, WriteBack, Flush, DataReq, Inv, InvAck}
 use Rattle.rules_maps.specs.Shape.{lines, home}
@@ -26,7 +25,7 @@ use Rattle.core_node.specs.View.{core_of}
 use Rattle.core_node.specs.declared.state.Core.{Core as CoreData}
 use Rattle.directory.specs.Data.{DirData, dir_of}
 use Rattle.image_load.specs.Contents.{started}
-use Rattle.rv_code.specs.Machine.{first_ram}
+use Rattle.image_load.specs.Start.{first_ram}
 use Rattle.tcc_base.specs.declared.names.CoreId.{CoreId}
 use Rattle.tcc_base.specs.declared.names.DirId.{DirId}
 use Rattle.tcc_base.specs.declared.names.NodeId.{NodeId}

@@ -9,7 +9,7 @@ use Rattle.rules_tcc.specs.State.{DirState}
 use Rattle.directory.specs.Gives.{is_taken}
 use Rattle.directory.proofs.Lemmas.{skip-taken, abort-taken, acknowledgement-taken}
 use Rattle.image_load.specs.Contents.{started}
-use Rattle.rv_code.specs.Machine.{first_ram}
+use Rattle.image_load.specs.Start.{first_ram}
 use Rattle.theorem_apart.proofs.Lemmas.{to_dir_from_core}
 use Rattle.rules_apart.specs.Carried.{IsCarried}
 use Rattle.apart_member.specs.Always.{IsOfKind, never_waits}

@@ -2,7 +2,8 @@
 use Rattle.std.specs.Prelude.{ℕ, ◌≡◌, ◌<◌, ◌≤◌, true, false, Bool, List, Option, Some, is_some}
 use Rattle.std.specs.List.{All}
 use Rattle.image_load.specs.Contents.{Contents, started}
-use Rattle.rv_code.specs.Machine.{program, first_ram}
+use Rattle.rv_code.specs.Machine.{program}
+use Rattle.image_load.specs.Start.{first_ram}
 use Rattle.tcc_base.specs.declared.names.NodeId.{NodeId}
 use Rattle.rules_maps.specs.Bridge.{node_of}
 use Rattle.rules_maps.specs.Nodes.{Core, Event, Exec, Evict, Deliver, Msg}

@@ -1,7 +1,7 @@
 -- One node by itself as plain data, and the state of the rules that it stands for.
 use Rattle.std.specs.Prelude.{ℕ}
 use Rattle.image_load.specs.Contents.{Contents, started}
-use Rattle.rv_code.specs.Machine.{first_ram}
+use Rattle.image_load.specs.Start.{first_ram}
 use Rattle.tcc_base.specs.declared.names.NodeId.{NodeId}
 use Rattle.tcc_base.specs.declared.names.NodeId.TheVariants as code_node
 use Rattle.rules_tcc.specs.Local.{NodeState, AtCore, AtDir, AtVendor}

@@ -1,8 +1,8 @@
 -- Where a part of the code belongs, and how it begins.
 use Rattle.std.specs.Prelude.{◌≡◌}
 use Rattle.image_load.specs.Contents.{Contents, started}
-use Rattle.rv_code.specs.Machine.{first_ram}
-use Rattle.theorem_riscv.specs.Suiting.{world_at_start}
+use Rattle.image_load.specs.Start.{first_ram}
+use Rattle.rules_riscv.specs.Starting.{world_at_start}
 use Rattle.tcc_base.specs.Settings.{Settings}
 use Rattle.rules_maps.specs.Bridge.{node_of}
 use Rattle.rules_tcc.specs.Local.{state_at}

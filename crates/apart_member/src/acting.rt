@@ -2,7 +2,8 @@
 ghost use Rattle.std.specs.Prelude.{◌≡◌, ◌+◌, ◌<◌, ◌≤◌, ℕ, [], ◌∷◌, Some, is_some, true, IfOk, OnOk, OnErr};
 ghost use Rattle.std.specs.Option.{option_map};
 ghost use Rattle.image_load.specs.Contents.{started};
-ghost use Rattle.rv_code.specs.Machine.{program, first_ram};
+ghost use Rattle.rv_code.specs.Machine.{program};
+ghost use Rattle.image_load.specs.Start.{first_ram};
 ghost use Rattle.rules_maps.specs.Bridge.{node_of};
 ghost use Rattle.rules_maps.specs.Nodes.{Core, TidGrant};
 ghost use Rattle.tcc_msg.specs.Plain.{event_of, msg_of, sends_of};

@@ -2,7 +2,7 @@
 ghost use Rattle.std.specs.Prelude.{◌≡◌, ◌<◌, IfOk, true};
 ghost use Rattle.std.specs.Arc.{arc_value};
 ghost use Rattle.image_load.specs.Contents.{started};
-ghost use Rattle.theorem_riscv.specs.Suiting.{world_at_start};
+ghost use Rattle.rules_riscv.specs.Starting.{world_at_start};
 ghost use Rattle.rules_maps.specs.Bridge.{node_of};
 ghost use Rattle.rules_maps.specs.Nodes.{Core, Dir, Vendor as TheVendor};
 ghost use Rattle.rules_tcc.specs.Local.{state_at};

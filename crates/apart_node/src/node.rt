@@ -1,7 +1,7 @@
 // A node with its links, its log and what waits for it.
 ghost use Rattle.std.specs.Prelude.{◌≡◌, ◌==◌, ◌++◌, [], List as Seq, length, All, IfOk};
 ghost use Rattle.image_load.specs.Contents.{started};
-ghost use Rattle.theorem_riscv.specs.Suiting.{world_at_start};
+ghost use Rattle.rules_riscv.specs.Starting.{world_at_start};
 ghost use Rattle.rules_maps.specs.Bridge.{node_of};
 ghost use Rattle.rules_tcc.specs.Local.{state_at, Mail as Sent};
 ghost use Rattle.apart_member.specs.Data.{state_of};

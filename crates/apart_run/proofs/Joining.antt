@@ -6,7 +6,7 @@ use Rattle.std.proofs.lemmas.List.{length-append, length-map, length-replicate}
 use Rattle.image_load.specs.Start.{Start}
 use Rattle.rv_code.specs.Machine.{program}
 use Rattle.theorem_riscv.specs.Going.{RiscvNeverStuck}
-use Rattle.theorem_riscv.specs.Suiting.{world_at_start}
+use Rattle.rules_riscv.specs.Starting.{world_at_start}
 use Rattle.tcc_base.specs.Settings.{Settings}
 use Rattle.theorem_live.specs.Progress.{DoneWhereNoneUseful}
 use Rattle.rules_maps.specs.Nodes.{Event as RuleEvent}

@@ -4,7 +4,7 @@ use Rattle.image_load.specs.Start.{Start}
 use Rattle.rules_apart.specs.Fitting.{FitLogs, IsMergeOf}
 use Rattle.rules_apart.specs.declared.logs.Logged.{Logged}
 use Rattle.rv_code.specs.Machine.{program}
-use Rattle.theorem_riscv.specs.Suiting.{world_at_start}
+use Rattle.rules_riscv.specs.Starting.{world_at_start}
 use Rattle.rules_maps.specs.Nodes as rules
 use Rattle.tcc_msg.specs.Plain.{event_of}
 use Rattle.tcc_msg.specs.declared.event.Event.{Event}

@@ -1,6 +1,6 @@
 -- Words of memory that are compared, and kept.
 use Rattle.std.specs.Prelude.{ℕ, ◌≡◌, ◌<◌, ◌*◌, ◌^◌, ◌==◌, ◌||◌, ◌++◌, Bool, false, List, [], ◌∷◌, get_or, length, if◌then◌else◌}
-use Rattle.rv_code.specs.Machine.{first_ram}
+use Rattle.image_load.specs.Start.{first_ram}
 use Rattle.tcc_base.specs.declared.access.Tagged.{Tagged}
 use Rattle.rules_maps.specs.Shape.{Shape, lines}
 use Rattle.rules_maps.specs.Words.{those}

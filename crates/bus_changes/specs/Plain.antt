@@ -1,6 +1,6 @@
 -- What the code keeps, in the words of the definitions.
 use Rattle.std.specs.Prelude.{ℕ, ◌≡◌, ◌<◌, ◌*◌, List, [], ◌++◌, get_or, length, map}
-use Rattle.rv_code.specs.Machine.{first_ram}
+use Rattle.image_load.specs.Start.{first_ram}
 use Rattle.rules_maps.specs.Shape.{Shape, lines}
 use Rattle.rules_bus.specs.State.{BusWorld}
 use Rattle.bus_tcc.specs.Left.{packet_words}

@@ -2,8 +2,8 @@
 -- changed, and then those of the bus and of memory.
 -- It is one definition with that of a trace without records: what is shown besides the facts is said apart.
 use Rattle.std.specs.Prelude.{ℕ, zero, suc, Bool, true, false, List, [], ◌∷◌, ◌++◌, Option, Some, None, length, map}
-use Rattle.image_load.specs.Start.{Start}
-use Rattle.rv_code.specs.Machine.{first_ram, program}
+use Rattle.image_load.specs.Start.{Start, first_ram}
+use Rattle.rv_code.specs.Machine.{program}
 use Rattle.rules_program.specs.Program.{Program}
 use Rattle.rules_maps.specs.Shape.{Shape}
 use Rattle.rules_bus.specs.State.{BusEvent, BusWorld}

@@ -1,6 +1,6 @@
 // What is kept of a machine for its next event.
 ghost use Rattle.std.specs.Prelude.{◌≡◌, ◌<◌, ◌++◌, IfOk, OnOk, map, string_bytes};
-ghost use Rattle.rv_code.specs.Machine.{first_ram};
+ghost use Rattle.image_load.specs.Start.{first_ram};
 ghost use Rattle.rules_bus.specs.State.{BusWorld};
 ghost use Rattle.bus_tcc.specs.Machine.{bus_settings_of, bus_start_of, bus_world_of};
 ghost use Rattle.bus_state.specs.Parts.{bus_records};

@@ -1,7 +1,7 @@
 // Memory, compared with what it was.
 ghost use Rattle.std.specs.Prelude.{◌≡◌, ◌<◌, ◌*◌, ◌/◌, ◌^◌, ◌==◌, ◌++◌, ◌∷◌, [], IfOk, OnOk, length, map, string_bytes};
 ghost use Rattle.std.specs.List.{flat_map};
-ghost use Rattle.rv_code.specs.Machine.{first_ram};
+ghost use Rattle.image_load.specs.Start.{first_ram};
 ghost use Rattle.rules_maps.specs.Shape.{lines};
 ghost use Rattle.rules_maps.specs.Words.{line_of};
 ghost use Rattle.rules_tcc.specs.Seen.{numbers};

@@ -5,8 +5,8 @@ use Rattle.std.proofs.Math.Seq.{take-append-add}
 use Rattle.std.proofs.lemmas.List.{length-append}
 use Rattle.std.specs.Io.KnownBytes.{Appends}
 use Rattle.image_load.specs.Contents.{Contents, started}
-use Rattle.image_load.specs.Start.{Start}
-use Rattle.rv_code.specs.Machine.{first_ram, program}
+use Rattle.image_load.specs.Start.{Start, first_ram}
+use Rattle.rv_code.specs.Machine.{program}
 use Rattle.schedule_text.specs.Grammar.{joined}
 use Rattle.tcc_base.specs.Settings.{Settings}
 use Rattle.base_lemmas.proofs.Lemmas.{appends-more, appends-none}

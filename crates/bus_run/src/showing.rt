@@ -1,6 +1,6 @@
 // What each event did as a text, with the records that changed below it.
 ghost use Rattle.std.specs.Prelude.{◌≡◌, ◌<◌, ◌≤◌, ◌+◌, ◌++◌, [], IfOk, IsTrue, OnOk, if◌then◌else◌, map, string_bytes, true};
-ghost use Rattle.rv_code.specs.Machine.{first_ram};
+ghost use Rattle.image_load.specs.Start.{first_ram};
 ghost use Rattle.rules_bus.specs.State.{BusWorld};
 ghost use Rattle.bus_tcc.specs.Machine.{bus_event_of, bus_settings_of, bus_start_of, bus_world_of};
 ghost use Rattle.bus_tcc.specs.Refined.{IsBusRefined};

@@ -1,8 +1,8 @@
 -- The text of a state: its records, and the events that are enabled.
 use Rattle.std.specs.Prelude.{ℕ, Bool, List, [], ◌++◌, codes, is_some, map, if◌then◌else◌}
 use Rattle.std.specs.List.{flat_map}
-use Rattle.image_load.specs.Start.{Start}
-use Rattle.rv_code.specs.Machine.{first_ram, program}
+use Rattle.image_load.specs.Start.{Start, first_ram}
+use Rattle.rv_code.specs.Machine.{program}
 use Rattle.rules_program.specs.Program.{Program}
 use Rattle.rules_maps.specs.Shape.{Shape}
 use Rattle.rules_tcc.specs.Seen.{numbers}

@@ -1,6 +1,6 @@
 // The bus and memory, each record appended to a list. Where memory runs out, the list holds a part of them.
 ghost use Rattle.std.specs.Prelude.{◌≡◌, ◌≤◌, ◌++◌, ◌∷◌, [], OnOk, map};
-ghost use Rattle.rv_code.specs.Machine.{first_ram};
+ghost use Rattle.image_load.specs.Start.{first_ram};
 ghost use Rattle.bus_tcc.specs.Left.{packet_words};
 ghost use Rattle.bus_tcc.specs.Machine.{bus_of, bus_settings_of, bus_start_of, bus_world_of};
 ghost use Rattle.bus_tcc.specs.Packets.{packet_line_of};

@@ -2,7 +2,7 @@
 // them.
 ghost use Rattle.std.specs.Prelude.{◌≡◌, ◌+◌, ◌*◌, ◌/◌, ◌^◌, ◌<◌, ◌++◌, ◌==◌, ◌∷◌, [], OnOk, map, if◌then◌else◌};
 ghost use Rattle.std.specs.List.{flat_map};
-ghost use Rattle.rv_code.specs.Machine.{first_ram};
+ghost use Rattle.image_load.specs.Start.{first_ram};
 ghost use Rattle.rules_maps.specs.Shape.{lines};
 ghost use Rattle.rules_tcc.specs.Seen.{numbers};
 ghost use Rattle.bus_tcc.specs.Machine.{bus_settings_of, bus_start_of, bus_world_of};

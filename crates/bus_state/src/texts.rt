@@ -1,6 +1,6 @@
 // The whole text.
 ghost use Rattle.std.specs.Prelude.{◌≡◌, ◌++◌, IfOk, OnOk, string_bytes};
-ghost use Rattle.rv_code.specs.Machine.{first_ram};
+ghost use Rattle.image_load.specs.Start.{first_ram};
 ghost use Rattle.bus_tcc.specs.Machine.{bus_history_of, bus_settings_of, bus_start_of, bus_world_of};
 ghost use Rattle.bus_state.specs.Lines.{bus_record_lines};
 ghost use Rattle.bus_state.specs.Parts.{bus_records};

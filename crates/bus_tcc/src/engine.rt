@@ -1,7 +1,7 @@
 // The machine by itself, and its start.
 ghost use Rattle.std.specs.Prelude.{◌≡◌, ◌<◌, ℕ, IfOk, length, get_or, ◌/◌};
 ghost use Rattle.image_load.specs.Contents.{started};
-ghost use Rattle.rv_code.specs.Machine.{first_ram};
+ghost use Rattle.image_load.specs.Start.{first_ram};
 ghost use Rattle.tcc_base.specs.Settings.{IsAllowed};
 ghost use Rattle.theorem_bus.specs.Given.{bus_at_start};
 ghost use Rattle.bus_tcc.specs.Whole.{BusReached};

@@ -3,7 +3,7 @@ ghost use Rattle.std.specs.Prelude.{◌≡◌, ◌<◌, ◌/◌, ◌*◌, ◌↔
 ghost use Rattle.rules_bus.specs.Exec.{line_words};
 ghost use Rattle.rules_bus.specs.Useful.{BusIsDone};
 ghost use Rattle.core_node.specs.View.{core_of};
-ghost use Rattle.rv_plain.specs.Attempts.{outcome_of};
+ghost use Rattle.rv_exec.specs.Outcomes.{outcome_of};
 ghost use Rattle.rules_tcc.specs.State.{Halted};
 ghost use Rattle.bus_tcc.specs.Left.{packet_words};
 ghost use Rattle.bus_tcc.specs.Machine.{bus_of, bus_settings_of, bus_world_of, word_in};
@@ -18,7 +18,7 @@ use commit_engine::Phase;
 use core_node::CoreNode;
 use reg_checkpoint::Check;
 use rv_code::Code;
-use rv_plain::Outcome;
+use rv_exec::Outcome;
 use std::alloc::Global;
 use tcc_base::{Commit, Config, CoreEnd, CoreId, LineAddr, List, NoMemory, Tid, WordAddr};
 

@@ -10,8 +10,7 @@ use Rattle.rv_code.specs.Instructions.{Runs, FailsToFetch}
 use Rattle.rv_code.specs.Machine.{program, in_ram}
 use Rattle.rv_decode.specs.declared.instruction.Inst.{Inst}
 use Rattle.rv_exec.specs.Effects.{planned}
-use Rattle.rv_exec.specs.Running.{bounded}
-use Rattle.rv_plain.specs.Attempts.{alone}
+use Rattle.rv_exec.specs.Running.{bounded, alone}
 use Rattle.core_node.specs.Executing.{concluded}
 use Rattle.core_node.proofs.Finished.{finished_traps}
 use Rattle.core_node.proofs.Programs.{execute_same}

@@ -10,11 +10,10 @@ use Rattle.rv_code.specs.Machine.{program, in_ram}
 use Rattle.rv_code.specs.Served.{IsServed}
 use Rattle.rv_decode.specs.declared.instruction.Inst.{Inst}
 use Rattle.rv_exec.specs.Effects.{planned}
-use Rattle.rv_exec.specs.Running.{bounded}
+use Rattle.rv_exec.specs.Running.{bounded, alone}
 use Rattle.rv_exec.specs.Needs.{need_of}
 use Rattle.rv_exec.specs.declared.need.Need.{Need as CodeNeed}
 use Rattle.rv_exec.specs.declared.need.Need.TheVariants as code_need
-use Rattle.rv_plain.specs.Attempts.{alone}
 use Rattle.rules_program.specs.Program.{Need, Nothing, Loads, Stores, Changes, Prints, Ends, Halts, Traps, Program}
 use Rattle.rules_program.specs.Ram.{word_of}
 use Rattle.rules_maps.specs.Cache.{Cache, free_way, all_marked}

@@ -10,7 +10,7 @@ use Rattle.rules_tcc.specs.State as rules
 use Rattle.rules_tcc.specs.Attempt.{Out}
 use Rattle.spec_cache.specs.Held.{maps}
 use Rattle.overflow_buf.specs.Kept.{spilled}
-use Rattle.rv_plain.specs.Attempts.{outcome_of}
+use Rattle.rv_exec.specs.Outcomes.{outcome_of}
 use Rattle.commit_engine.specs.Engine.{phase_of, after_of}
 use Rattle.commit_engine.specs.Sent.{Sent}
 use Rattle.core_node.specs.declared.state.Core.{Core}

@@ -5,7 +5,7 @@ ghost use Rattle.image_load.specs.Contents.{started};
 ghost use Rattle.rv_code.specs.Machine.{program};
 ghost use Rattle.rv_code.specs.Served.{IsServed};
 ghost use Rattle.rv_exec.specs.Needs.{need_of};
-ghost use Rattle.rv_plain.specs.Attempts.{alone};
+ghost use Rattle.rv_exec.specs.Running.{alone};
 ghost use Rattle.spec_cache.specs.Held.{maps};
 ghost use Rattle.spec_cache.specs.Look.{look_of};
 ghost use Rattle.rules_maps.specs.CacheChange.{filled};

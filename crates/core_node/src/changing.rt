@@ -9,7 +9,7 @@ ghost use Rattle.rules_tcc.specs.Execute.{marks_read, place as placed_in, stored
 ghost use Rattle.rules_tcc.specs.Execute.{partial_store as partial_rule, word_store as word_rule};
 ghost use Rattle.rules_tcc.specs.Sends.{flush_line};
 ghost use Rattle.rv_exec.specs.Needs.{need_of};
-ghost use Rattle.rv_plain.specs.Attempts.{alone};
+ghost use Rattle.rv_exec.specs.Running.{alone};
 ghost use Rattle.spec_cache.specs.Held.{maps};
 ghost use Rattle.overflow_buf.specs.Kept.{spilled};
 ghost use Rattle.commit_engine.specs.Sent.{HasRoom};
@@ -23,8 +23,7 @@ use crate::missing::{fetch, place};
 use crate::state::Core;
 use crate::storing::{line_of_word, runs, store_buffered, store_framed};
 use rv_decode::Inst;
-use rv_exec::{Need, amo_value};
-use rv_plain::{read_part, replace_part};
+use rv_exec::{Need, amo_value, read_part, replace_part};
 use spec_cache::Look;
 use tcc_base::{Size, WordAddr};
 use tcc_msg::Outgoing;

@@ -18,7 +18,7 @@ use crate::quick::exec_quickly;
 use crate::state::Core;
 use commit_engine::Phase;
 use rv_code::Code;
-use rv_plain::Outcome;
+use rv_exec::Outcome;
 use tcc_base::{Commit, Tid};
 use tcc_msg::Outgoing;
 

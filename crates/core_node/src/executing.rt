@@ -8,7 +8,7 @@ ghost use Rattle.rules_tcc.specs.Execute.{store_by_size, execute_need as need_ru
 ghost use Rattle.rules_tcc.specs.Useful.{room_for_need};
 ghost use Rattle.rv_code.specs.Served.{Lies, IsServed};
 ghost use Rattle.rv_exec.specs.Needs.{need_of};
-ghost use Rattle.rv_plain.specs.Attempts.{alone};
+ghost use Rattle.rv_exec.specs.Running.{alone};
 ghost use Rattle.commit_engine.specs.Sent.{HasRoom};
 ghost use Rattle.core_node.specs.Answers.{Happened, IsBlocked, IsMemory};
 ghost use Rattle.core_node.specs.Executing.{DidSome, GoesOn, Notes};
@@ -22,8 +22,7 @@ use crate::loading::load;
 use crate::state::Core;
 use crate::waiting::room_at_need;
 use rv_decode::Inst;
-use rv_exec::Need;
-use rv_plain::Outcome;
+use rv_exec::{Need, Outcome};
 use tcc_base::{Commit, Size, WordAddr};
 use tcc_msg::Outgoing;
 

@@ -5,14 +5,13 @@ ghost use Rattle.tcc_base.specs.declared.access.Size.TheVariants.{Word};
 ghost use Rattle.rules_tcc.specs.State.{CoreState};
 ghost use Rattle.rules_tcc.specs.Attempt.{one_more_instruction, finished};
 ghost use Rattle.rv_exec.specs.Needs.{need_of};
-ghost use Rattle.rv_plain.specs.Attempts.{alone};
+ghost use Rattle.rv_exec.specs.Running.{alone};
 ghost use Rattle.core_node.specs.Executing.{noted, given as given_by, GoesOn};
 ghost use Rattle.core_node.specs.View.{core_of, IsCore, Stays};
 
 use crate::state::Core;
 use rv_decode::Inst;
-use rv_exec::{Need, amo_value, finish as finish_inst};
-use rv_plain::{read_part, replace_part};
+use rv_exec::{Need, amo_value, finish as finish_inst, read_part, replace_part};
 use tcc_base::{Load, NoMemory, Size, Stored};
 
 /// The bytes that an instruction loads from the word that it found, with zeros above.

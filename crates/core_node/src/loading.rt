@@ -4,7 +4,7 @@ ghost use Rattle.rules_maps.specs.Shape.{lines};
 ghost use Rattle.rules_maps.specs.Words.{line_of};
 ghost use Rattle.rules_tcc.specs.Execute.{load as load_rule};
 ghost use Rattle.rv_exec.specs.Needs.{need_of};
-ghost use Rattle.rv_plain.specs.Attempts.{alone};
+ghost use Rattle.rv_exec.specs.Running.{alone};
 ghost use Rattle.commit_engine.specs.Sent.{HasRoom};
 ghost use Rattle.core_node.specs.Answers.{IsBlocked};
 ghost use Rattle.core_node.specs.Executing.{DidSome, GoesOn};

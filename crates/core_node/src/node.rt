@@ -31,7 +31,7 @@ use commit_engine::{DirSet, Phase};
 use overflow_buf::OverflowBuf;
 use reg_checkpoint::Check;
 use rv_code::{Code, start_state};
-use rv_plain::Outcome;
+use rv_exec::Outcome;
 use spec_cache::{FrameView, SpecCache};
 use std::alloc::Global;
 use std::marker::Model;

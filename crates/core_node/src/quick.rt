@@ -13,7 +13,7 @@ ghost use Rattle.rv_exec.specs.Needs.{need_of};
 ghost use Rattle.rules_program.specs.Program.{Local, Nothing};
 ghost use Rattle.rv_exec.specs.declared.need.Need.TheVariants.{Load as Loads, Store as Stores};
 ghost use Rattle.tcc_base.specs.declared.access.Size.TheVariants.{Word};
-ghost use Rattle.rv_plain.specs.Attempts.{alone};
+ghost use Rattle.rv_exec.specs.Running.{alone};
 ghost use Rattle.rules_tcc.specs.Attempt.{is_running};
 ghost use Rattle.commit_engine.specs.Engine.{phase_of};
 ghost use Rattle.spec_cache.specs.Held.{maps};
@@ -28,8 +28,7 @@ use crate::storing::{line_of_word, runs};
 use commit_engine::Phase;
 use rv_code::Code;
 use rv_decode::Inst;
-use rv_exec::Need;
-use rv_plain::read_part;
+use rv_exec::{Need, read_part};
 use spec_cache::{Look, SpecCache};
 use tcc_base::{Load, Size, Stored, WordAddr};
 

@@ -12,7 +12,7 @@ ghost use Rattle.core_node.specs.View.{core_of, IsCore, Did, Stays};
 
 use crate::state::Core;
 use commit_engine::{DirSet, Phase, send_aborts, send_skips, written_homes};
-use rv_plain::Outcome;
+use rv_exec::Outcome;
 use tcc_base::Tid;
 use tcc_msg::Outgoing;
 

@@ -2,7 +2,7 @@
 use commit_engine::{DirSet, Phase};
 use overflow_buf::OverflowBuf;
 use reg_checkpoint::{Check, State};
-use rv_plain::Outcome;
+use rv_exec::Outcome;
 use spec_cache::SpecCache;
 use tcc_base::{Config, CoreId, LineAddr, List, Load, Stored, Tid};
 

@@ -2,15 +2,15 @@
 use Rattle.std.proofs.Common.{◌≡◌, ◌<◌, ◌+◌, ℕ, List, [], ◌∷◌, Option, Some, None, IfSome, get_or, length, sum_by}
 use Rattle.std.proofs.Common.{refl, sym, subst, arith}
 use Rattle.std.proofs.lemmas.List.{get_or-replicate, length-replicate}
-use Rattle.rv_code.specs.Machine.{first_ram, program}
-use Rattle.theorem_riscv.specs.Suiting.{local_at_start, world_at_start}
+use Rattle.rv_code.specs.Machine.{program}
+use Rattle.image_load.specs.Start.{first_ram}
+use Rattle.rules_riscv.specs.Starting.{local_at_start, world_at_start, at_start}
 use Rattle.rules_maps.specs.Nodes.{Event}
 use Rattle.rules_maps.specs.Shape.{Shape}
 use Rattle.rules_program.specs.Program.{Local, Program}
 use Rattle.rules_tcc.specs.State.{start}
 use Rattle.rules_tcc.specs.Step.{History, Stepped, and_noted, and_then, next_history, recorded, run, run_from, step}
 use Rattle.rules_tcc.specs.Useful.{nodes}
-use Rattle.net_core.specs.Reached.{first_history}
 use Rattle.watch.specs.Happened.{actor, facts_of, happened}
 use Rattle.watch_count.specs.Counts.{Counts, event_counted, nothing_counted, run_counted}
 use Rattle.watch_count.specs.Messages.{no_messages}
@@ -78,10 +78,10 @@ messages-add-up s es = go (run s.settings (program s) (world_at_start s) es) eac
     c : Counts
     c = nothing_counted s.settings.cores
 
-    each : (k : ℕ) → k < 15 → BalancedAfter s.settings (program s) k es (first_history s) c
+    each : (k : ℕ) → k < 15 → BalancedAfter s.settings (program s) k es (at_start s) c
     each k lt =
-        runs-balanced s.settings (program s) k es (first_history s) c (subst (λ n. k < n) (sym (fifteen s.settings.cores)) lt)
-        (first-balanced (get_or c.messages k no_messages) (flying s.settings k (first_history s).world.net)
+        runs-balanced s.settings (program s) k es (at_start s) c (subst (λ n. k < n) (sym (fifteen s.settings.cores)) lt)
+        (first-balanced (get_or c.messages k no_messages) (flying s.settings k (at_start s).world.net)
         (first-row s.settings.cores k lt) (first-flying s.settings k (local_at_start s) (first_ram s)))
 
     go : (x : Option History) → ((k : ℕ) → k < 15 → IfSome x (λ h. SentAddUp (messages_of s es k) (flying s.settings k h.world.net)))

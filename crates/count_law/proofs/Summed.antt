@@ -2,14 +2,14 @@
 use Rattle.std.proofs.Common.{◌≡◌, ◌<◌, ℕ, List, [], ◌∷◌, Option, Some, None, IfSome, get_or, length}
 use Rattle.std.proofs.Common.{refl, sym, ap, subst, ◌∙◌}
 use Rattle.std.proofs.lemmas.List.{get_or-replicate, length-replicate}
-use Rattle.rv_code.specs.Machine.{first_ram, program}
-use Rattle.theorem_riscv.specs.Suiting.{local_at_start, world_at_start}
+use Rattle.rv_code.specs.Machine.{program}
+use Rattle.image_load.specs.Start.{first_ram}
+use Rattle.rules_riscv.specs.Starting.{local_at_start, world_at_start, at_start}
 use Rattle.rules_maps.specs.Nodes.{Event}
 use Rattle.rules_maps.specs.Shape.{Shape}
 use Rattle.rules_program.specs.Program.{Local, Program}
 use Rattle.rules_tcc.specs.State.{start, core_start}
 use Rattle.rules_tcc.specs.Step.{History, Stepped, and_noted, and_then, next_history, recorded, run, run_from, step}
-use Rattle.net_core.specs.Reached.{first_history}
 use Rattle.watch.specs.Happened.{actor, facts_of, happened}
 use Rattle.watch_count.specs.Counts.{Counts, event_counted, nothing_counted, run_counted}
 use Rattle.watch_count.specs.Tables.{nothing, event_came}
@@ -96,7 +96,7 @@ pub counts-add-up : CountsAddUp
 unfolding run counts_of_run nothing_counted
 counts-add-up s es =
     go (run s.settings (program s) (world_at_start s) es)
-    (λ j lt. runs-hold s.settings (program s) es (first_history s) (nothing_counted s.settings.cores) (λ i. nothing)
+    (λ j lt. runs-hold s.settings (program s) es (at_start s) (nothing_counted s.settings.cores) (λ i. nothing)
     (first-holds (local_at_start s) (first_ram s)) (first-rows s.settings.cores) j
     (subst (λ n. j < n) (sym (length-replicate s.settings.cores nothing)) lt))
   where

@@ -1,7 +1,7 @@
 -- How the counts of messages add up.
 use Rattle.std.specs.Prelude.{ℕ, ◌+◌, ◌<◌, ◌≡◌, ◌==◌, Bool, false, List, Option, Some, None, get_or, count_by, sum_by}
 use Rattle.image_load.specs.Start.{Start}
-use Rattle.theorem_riscv.specs.Suiting.{AfterRun}
+use Rattle.rules_riscv.specs.Starting.{AfterRun}
 use Rattle.rules_maps.specs.Nodes.{Event, Msg, Node}
 use Rattle.rules_maps.specs.Shape.{Shape}
 use Rattle.rules_tcc.specs.State.{Link}

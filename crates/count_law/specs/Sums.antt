@@ -1,7 +1,7 @@
 -- How the counts of a core add up.
 use Rattle.std.specs.Prelude.{ℕ, ◌+◌, ◌<◌, ◌≡◌, ◌==◌, Bool, List, get_or, count_by, sum_by, filter, if◌then◌else◌}
 use Rattle.image_load.specs.Start.{Start}
-use Rattle.theorem_riscv.specs.Suiting.{AfterRun}
+use Rattle.rules_riscv.specs.Starting.{AfterRun}
 use Rattle.tcc_base.specs.declared.access.Commit.{Commit}
 use Rattle.rules_maps.specs.Nodes.{Event}
 use Rattle.rules_tcc.specs.Step.{History}

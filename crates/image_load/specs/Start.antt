@@ -1,5 +1,5 @@
 -- The start of every machine: memory, code and entries as a Config and its images give them.
-use Rattle.std.specs.Prelude.{ℕ, ◌+◌, ◌*◌, ◌%◌, Bool, if◌then◌else◌, List, length, map, slice_index, Option, Some, None}
+use Rattle.std.specs.Prelude.{ℕ, ◌+◌, ◌*◌, ◌/◌, ◌%◌, ◌^◌, nat_lt, Bool, if◌then◌else◌, List, length, map, slice_index, Option, Some, None}
 use Rattle.std.specs.List.{flat_map}
 use Rattle.tcc_base.specs.Settings.{Settings}
 use Rattle.image_elf.specs.declared.image.Image.{Image}
@@ -13,6 +13,10 @@ pub record Start : Type 0 where
   pub word : ℕ → ℕ
   pub fetch : ℕ → Option ℕ
   pub entry : ℕ → ℕ
+
+-- RAM's words at the start, 32 bits of each, with zeros past its end
+unfoldable pub first_ram : Start → ℕ → ℕ
+first_ram s w = if nat_lt w (s.settings.ram / 4) then s.word w % 2 ^ 32 else 0
 
 abbrev pub segments_of : List Image → List Segment
 segments_of images = flat_map (λ image. image.segments) images

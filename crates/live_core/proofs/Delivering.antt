@@ -4,9 +4,9 @@ use Rattle.std.specs.Prelude.{is_some, nat_lt, not}
 use Rattle.std.specs.Option.{option_map}
 use Rattle.std.proofs.lemmas.Bool.Decides.{nat_tests}
 use Rattle.base_lemmas.proofs.Lemmas.{and-right}
-use Rattle.theorem_bounds.specs.Messages.{InBounds, MessagesInBounds, line_named}
+use Rattle.theorem_bounds.specs.Messages.{MessagesInBounds}
+use Rattle.rules_maps.specs.Messages.{InBounds, line_named, fits, goes_to_core, is_grant, is_request}
 use Rattle.theorem_bounds.proofs.Lemmas.{fits_out, fits_back}
-use Rattle.theorem_live.specs.Fits.{fits, goes_to_core, is_grant, is_request}
 use Rattle.rules_maps.specs.Nodes.{Node, Core, Dir, Vendor, Deliver, Msg, TidGrant, Fill, ProbeReply, DataReq, Inv}
 use Rattle.rules_maps.specs.Shape.{Shape, home, lines}
 use Rattle.rules_program.specs.Program.{Program}

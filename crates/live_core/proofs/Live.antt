@@ -1,9 +1,10 @@
 -- What the laws of the rules say of a machine that they have led to.
 use Rattle.std.proofs.Common.{◌≡◌, ℕ, List, Some}
 use Rattle.image_load.specs.Contents.{Contents, started}
-use Rattle.rv_code.specs.Machine.{first_ram, program}
+use Rattle.rv_code.specs.Machine.{program}
+use Rattle.image_load.specs.Start.{first_ram}
 use Rattle.theorem_riscv.specs.Going.{RiscvNeverStuck, RiscvCoresGoOn}
-use Rattle.theorem_riscv.specs.Suiting.{local_at_start, world_at_start}
+use Rattle.rules_riscv.specs.Starting.{local_at_start, world_at_start}
 use Rattle.tcc_base.specs.Settings.{IsAllowed}
 use Rattle.theorem_bounds.specs.Bounds.{IsBounded}
 use Rattle.theorem_bounds.proofs.Lemmas.{riscv_bounded_after}

@@ -1,7 +1,7 @@
 -- Which messages of a machine wait, and why.
 use Rattle.std.specs.Prelude.{ℕ, ◌≡◌, true, not, Option, Some, None, is_some}
 use Rattle.directory.specs.Gives.{is_taken}
-use Rattle.theorem_live.specs.Fits.{goes_to_dir}
+use Rattle.rules_maps.specs.Messages.{goes_to_dir}
 use Rattle.rules_maps.specs.Nodes.{Node, Dir, Msg}
 use Rattle.rules_maps.specs.Shape.{Shape}
 use Rattle.rules_tcc.specs.DirDeliver.{dir_deliver}

@@ -1,7 +1,7 @@
 // Why a message waits.
 ghost use Rattle.std.specs.Prelude.{◌≡◌, ◌<◌, ◌&&◌, IfSome, is_some, not};
 ghost use Rattle.std.specs.Option.{option_map};
-ghost use Rattle.theorem_bounds.specs.Messages.{line_named};
+ghost use Rattle.rules_maps.specs.Messages.{line_named};
 ghost use Rattle.rules_maps.specs.Bridge.{node_of};
 ghost use Rattle.rules_maps.specs.Nodes.{Deliver};
 ghost use Rattle.rules_maps.specs.Shape.{home, lines};

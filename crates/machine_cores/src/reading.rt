@@ -4,7 +4,7 @@ ghost use Rattle.rules_tcc.specs.State.{Halted};
 ghost use Rattle.theorem_serial.specs.Commits.{end_after};
 ghost use Rattle.spec_cache.specs.Look.{Views};
 ghost use Rattle.core_node.specs.View.{core_of};
-ghost use Rattle.rv_plain.specs.Attempts.{outcome_of};
+ghost use Rattle.rv_exec.specs.Outcomes.{outcome_of};
 ghost use Rattle.machine_cores.specs.Bank.{cores_of};
 ghost use Rattle.machine_cores.specs.Rest.{IsAtRest};
 
@@ -13,7 +13,7 @@ use commit_engine::Phase;
 use core_node::CoreNode;
 use reg_checkpoint::Check;
 use rv_code::Code;
-use rv_plain::Outcome;
+use rv_exec::Outcome;
 use spec_cache::FrameView;
 use tcc_base::{CoreEnd, CoreId, LineAddr};
 

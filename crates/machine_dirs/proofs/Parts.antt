@@ -4,8 +4,7 @@ use Rattle.std.proofs.Common.{inl, inr, if◌then◌else◌}
 use Rattle.std.specs.Prelude.{slice_get, slice_set, get_or, nat_lt, ◌==◌}
 use Rattle.std.proofs.lemmas.Bool.{cases_eq, ne_eqb, cases_Bool}
 use Rattle.std.proofs.lemmas.Bool.Decides.{nat_tests}
-use Rattle.image_load.specs.Start.{Start}
-use Rattle.rv_code.specs.Machine.{first_ram}
+use Rattle.image_load.specs.Start.{Start, first_ram}
 use Rattle.tcc_base.specs.Put.{put}
 use Rattle.rules_tcc.specs.State.{dir_start}
 use Rattle.rules_maps.specs.Shape.{lines}

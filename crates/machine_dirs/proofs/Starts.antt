@@ -2,8 +2,7 @@
 use Rattle.std.proofs.Common.{◌≡◌, ℕ, zero, suc, ◌+◌, List, [], ◌∷◌, ◌++◌, length, length-append, Option, Some, None, refl, ap, sym, ◌∙◌}
 use Rattle.std.proofs.Common.{subst, ⊎_elim, inl, inr}
 use Rattle.std.specs.Prelude.{slice_get, ◌⊎◌}
-use Rattle.image_load.specs.Start.{Start}
-use Rattle.rv_code.specs.Machine.{first_ram}
+use Rattle.image_load.specs.Start.{Start, first_ram}
 use Rattle.tcc_base.specs.Settings.{Settings}
 use Rattle.rules_tcc.specs.State.{dir_start}
 use Rattle.directory.specs.Data.{DirData, dir_of}

@@ -1,7 +1,7 @@
 // The directories of a machine.
 ghost use Rattle.std.specs.Prelude.{◌≡◌, ◌<◌, ℕ, IfOk};
 ghost use Rattle.image_load.specs.Contents.{started};
-ghost use Rattle.rv_code.specs.Machine.{first_ram};
+ghost use Rattle.image_load.specs.Start.{first_ram};
 ghost use Rattle.tcc_base.specs.Settings.{IsAllowed};
 ghost use Rattle.rules_tcc.specs.State.{dir_start};
 ghost use Rattle.machine_dirs.specs.Bank.{dirs_of};

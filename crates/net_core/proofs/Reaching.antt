@@ -4,10 +4,10 @@ use Rattle.std.proofs.Common.{Some, None, refl, ap, sym, ◌∙◌, subst, arith
 use Rattle.std.specs.Prelude.{nat_lt, IfSome, drop}
 use Rattle.image_load.specs.Contents.{Contents, started}
 use Rattle.rv_code.specs.Machine.{program}
-use Rattle.theorem_riscv.specs.Suiting.{world_at_start}
+use Rattle.rules_riscv.specs.Starting.{world_at_start}
 use Rattle.tcc_base.specs.Settings.{Settings, IsAllowed}
 use Rattle.base_lemmas.proofs.Lemmas.{and-left, at_home, one-longer}
-use Rattle.theorem_live.specs.Fits.{fits, goes_to_dir, goes_to_core}
+use Rattle.rules_maps.specs.Messages.{fits, goes_to_dir, goes_to_core, InBounds, IsLine, WasGranted, line_named, tid_named}
 use Rattle.rules_maps.specs.Bridge.{node_of}
 use Rattle.rules_maps.specs.Nodes.{Node, Core, Dir, Vendor, Event, Msg, TidReq, TidGrant, LoadReq, Fill, Skip, Probe, ProbeReply, Mark}
 use Rattle.rules_maps.specs.Nodes.{Commit, Abort, WriteBack, Flush, DataReq, Inv, InvAck}
@@ -17,7 +17,6 @@ use Rattle.rules_tcc.specs.Links.{in_flight, sending}
 use Rattle.rules_tcc.specs.State.{World}
 use Rattle.rules_tcc.specs.Step.{History, and_then, next_history, run, run_from}
 use Rattle.theorem_bounds.specs.Bounds.{IsBounded}
-use Rattle.theorem_bounds.specs.Messages.{InBounds, IsLine, WasGranted, line_named, tid_named}
 use Rattle.theorem_bounds.proofs.Lemmas.{riscv_bounded_after}
 use Rattle.directory.specs.Foreign.{is_foreign, HasSmallTids}
 use Rattle.machine_links.specs.Flights.{net_of}

@@ -1,7 +1,7 @@
 -- The first machine is that of the rules' start.
 use Rattle.std.proofs.Common.{arith, ◌≡◌, [], get_or, Some, None, ap, sym, ◌∙◌, subst}
 use Rattle.image_load.specs.Contents.{Contents, started}
-use Rattle.rv_code.specs.Machine.{first_ram}
+use Rattle.image_load.specs.Start.{first_ram}
 use Rattle.tcc_base.specs.Settings.{IsAllowed}
 use Rattle.rules_maps.specs.Bridge.{node_of}
 use Rattle.tcc_msg.specs.Plain.{sends_of}
@@ -13,7 +13,8 @@ use Rattle.machine_dirs.specs.Bank.{dirs_of}
 use Rattle.machine_links.specs.Flights.{net_of}
 use Rattle.net_core.specs.Delivery.{AreMarked}
 use Rattle.net_core.specs.Machine.{Machine, history_of, settings_of, start_of, world_of}
-use Rattle.net_core.specs.Reached.{Reached, first_history}
+use Rattle.net_core.specs.Reached.{Reached}
+use Rattle.rules_riscv.specs.Starting.{at_start}
 use Rattle.net_core.specs.Whole.{IsWhole}
 use Rattle.net_core.proofs.Links.Placing.{sending-none}
 
@@ -32,7 +33,7 @@ pub record IsFirst (c : Contents) (m : Machine) : Type 0 where
   pub commits : m.commits ≡ []
   pub events : m.events ≡ 0
 
-pub first-history : (c : Contents) (m : Machine) → IsFirst c m → history_of m ≡ first_history (started c)
+pub first-history : (c : Contents) (m : Machine) → IsFirst c m → history_of m ≡ at_start (started c)
 unfolding history_of world_of start vendor_start
 first-history c m f =
     let dirs : dirs_of (first_ram (start_of m)) m.dirs ≡ (λ d. dir_start (first_ram (started c))) =
@@ -49,7 +50,7 @@ none-marked : (m : Machine) → net_of m.flights ≡ (λ src dst. [])
 unfolding AreMarked
 none-marked m net src dst k x fly = let gone : None ≡ Some x = subst (λ f. get_or (f src dst) k None ≡ Some x) net fly in absurd (cc)
 
-reached-first : (m : Machine) → history_of m ≡ first_history (start_of m) → m.events ≡ 0 → Reached m
+reached-first : (m : Machine) → history_of m ≡ at_start (start_of m) → m.events ≡ 0 → Reached m
 unfolding run run_from
 reached-first m history events = record { taken = []; count = sym events; reaches = ap (λ h. Some h) (sym history) }
 
@@ -59,7 +60,7 @@ first-whole c m f = record {
   dirs = f.settings ∙ ap (λ k. k.settings) (sym f.code);
   flight_cores = f.flight_cores ∙ ap (λ k. k.settings.cores) (sym f.code);
   flight_dirs = f.flight_dirs ∙ ap (λ k. k.settings.dirs) (sym f.code);
-  reached = reached-first m (first-history c m f ∙ ap (λ k. first_history (started k)) (sym f.code)) f.events;
+  reached = reached-first m (first-history c m f ∙ ap (λ k. at_start (started k)) (sym f.code)) f.events;
   few = let none = f.events in omega (arith, none);
   marked = none-marked m f.net;
 }

@@ -1,8 +1,8 @@
 -- The whole machine as plain data, and the state of the protocol's rules that it stands for.
 use Rattle.std.specs.Prelude.{ℕ, List}
 use Rattle.image_load.specs.Contents.{started}
-use Rattle.image_load.specs.Start.{Start}
-use Rattle.rv_code.specs.Machine.{first_ram, program}
+use Rattle.image_load.specs.Start.{Start, first_ram}
+use Rattle.rv_code.specs.Machine.{program}
 use Rattle.tcc_base.specs.Settings.{Settings}
 use Rattle.tcc_base.specs.declared.access.Commit.{Commit}
 use Rattle.tcc_base.specs.declared.names.NodeId.{NodeId}

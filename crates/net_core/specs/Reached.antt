@@ -1,14 +1,9 @@
 -- What a machine has come to is what the protocol's rules lead to from its start.
-use Rattle.std.specs.Prelude.{◌≡◌, List, [], length, Some}
-use Rattle.image_load.specs.Start.{Start}
+use Rattle.std.specs.Prelude.{◌≡◌, List, length, Some}
 use Rattle.rules_maps.specs.Nodes.{Event}
-use Rattle.rules_tcc.specs.Step.{History, run}
-use Rattle.theorem_riscv.specs.Suiting.{world_at_start}
+use Rattle.rules_tcc.specs.Step.{run}
+use Rattle.rules_riscv.specs.Starting.{world_at_start}
 use Rattle.net_core.specs.Machine.{Machine, start_of, settings_of, program_of, history_of}
-
--- all cores at their entries, and no commit
-abbrev pub first_history : Start → History
-first_history s = record { world = world_at_start s; commits = [] }
 
 -- some list of events, as many as were taken, leads there from the start
 pub record Reached (m : Machine) : Type 0 where

@@ -1,6 +1,6 @@
 -- What always holds of a machine.
 use Rattle.std.specs.Prelude.{◌≡◌, ◌≤◌}
-use Rattle.rv_code.specs.Machine.{first_ram}
+use Rattle.image_load.specs.Start.{first_ram}
 use Rattle.tcc_base.specs.Settings.{IsAllowed}
 use Rattle.machine_dirs.specs.Bank.{dirs_of}
 use Rattle.net_core.specs.Machine.{Machine, start_of, settings_of}

@@ -1,6 +1,6 @@
 // The directories and the vendor, to be looked at.
 ghost use Rattle.std.specs.Prelude.{◌≡◌, ◌<◌};
-ghost use Rattle.rv_code.specs.Machine.{first_ram};
+ghost use Rattle.image_load.specs.Start.{first_ram};
 ghost use Rattle.directory.specs.Data.{dir_of};
 ghost use Rattle.net_core.specs.Machine.{settings_of, start_of, world_of};
 

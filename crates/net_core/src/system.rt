@@ -2,7 +2,8 @@
 ghost use Rattle.std.specs.Prelude.{◌≡◌, ◌↔◌, [], IfOk, IsTrue, OnOk};
 ghost use Rattle.image_load.specs.Contents.{started};
 ghost use Rattle.net_core.specs.Machine.{history_of};
-ghost use Rattle.net_core.specs.Reached.{Reached, first_history};
+ghost use Rattle.net_core.specs.Reached.{Reached};
+ghost use Rattle.rules_riscv.specs.Starting.{at_start};
 
 use crate::placing::place_all;
 use image_load::Loaded;
@@ -55,7 +56,7 @@ impl System {
     /// flight. Takes time and memory in RAM's bytes and in the caches' frames; the loaded memory is copied.
     pub fn start(alloc: Global, loaded: &Loaded) -> Result<System, NoMemory>
         ensures code { IfOk result (λ s. s.cores.code ≡ loaded.now) }
-        ensures start { IfOk result (λ s. history_of s ≡ first_history (started loaded.now)) }
+        ensures start { IfOk result (λ s. history_of s ≡ at_start (started loaded.now)) }
         ensures events { IfOk result (λ s. s.events ≡ 0) }
         ensures settled { IfOk result (λ s. s.unsent ≡ []) }
     {

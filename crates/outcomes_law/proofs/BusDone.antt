@@ -6,12 +6,12 @@ use Rattle.rules_bus.specs.Useful.{BusIsDone}
 use Rattle.theorem_bus.proofs.Lemmas.{bus_runs_give_the_plain_machine}
 use Rattle.theorem_bus.specs.Given.{BusSerial, bus_at_start, bus_committed}
 use Rattle.image_load.specs.Contents.{started}
-use Rattle.image_load.specs.Start.{Start}
+use Rattle.image_load.specs.Start.{Start, first_ram}
 use Rattle.text_outcomes.specs.Laws.{HasOutcome}
 use Rattle.text_outcomes.specs.Table.{table_of}
 use Rattle.run_outcomes.specs.Outcomes.{HaveEnded}
-use Rattle.rv_code.specs.Machine.{first_ram, program}
-use Rattle.theorem_riscv.specs.Suiting.{local_at_start}
+use Rattle.rv_code.specs.Machine.{program}
+use Rattle.rules_riscv.specs.Starting.{local_at_start}
 use Rattle.outcomes_law.specs.Laws.{DoneBusRunsAreOutcomes, shown}
 use Rattle.outcomes_law.proofs.BusHalts.{BusFit, bus-run-fits}
 use Rattle.outcomes_law.proofs.Done.{core-ended}

@@ -2,14 +2,14 @@
 use Rattle.std.proofs.Common.{◌≡◌, ◌<◌, ℕ, true, Option, Some, None, IfSome, List, nat_lt, subst, arith}
 use Rattle.std.proofs.lemmas.Bool.Decides.{nat_tests}
 use Rattle.image_load.specs.Contents.{started}
-use Rattle.image_load.specs.Start.{Start}
+use Rattle.image_load.specs.Start.{Start, first_ram}
 use Rattle.text_outcomes.specs.Laws.{HasOutcome}
 use Rattle.text_outcomes.specs.Table.{table_of}
 use Rattle.run_outcomes.specs.Outcomes.{HaveEnded}
-use Rattle.rv_code.specs.Machine.{first_ram, program}
+use Rattle.rv_code.specs.Machine.{program}
 use Rattle.theorem_riscv.proofs.Lemmas.{runs_give_the_plain_machine}
 use Rattle.theorem_riscv.specs.Given.{IsSerial, committed}
-use Rattle.theorem_riscv.specs.Suiting.{AfterRun, local_at_start, world_at_start}
+use Rattle.rules_riscv.specs.Starting.{AfterRun, local_at_start, world_at_start}
 use Rattle.tcc_base.specs.declared.access.CoreEnd.TheVariants.{Run}
 use Rattle.rules_maps.specs.Nodes.{Event}
 use Rattle.rules_program.specs.Plain.{Outcome, Goes, Ended, Halted as HaltedWith, Trapped as TrappedWith}

@@ -23,7 +23,7 @@ use Rattle.run_outcomes.specs.declared.outcomes.Tell.TheVariants.{Everything}
 use Rattle.rv_code.specs.Machine.{program}
 use Rattle.rv_plain.specs.Machine.{plain_start}
 use Rattle.theorem_riscv.specs.Given.{IsSerial, committed}
-use Rattle.theorem_riscv.specs.Suiting.{AfterRun}
+use Rattle.rules_riscv.specs.Starting.{AfterRun}
 use Rattle.tcc_base.specs.Settings.{IsAllowed}
 use Rattle.tcc_base.specs.declared.access.Commit.{Commit}
 use Rattle.rules_maps.specs.Nodes.{Event}

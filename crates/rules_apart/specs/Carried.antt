@@ -1,8 +1,8 @@
 -- What a link carries.
-use Rattle.std.specs.Prelude.{ℕ, ◌^◌}
+use Rattle.std.specs.Prelude.{◌^◌}
 use Rattle.rules_maps.specs.Nodes.{Node, Msg}
 use Rattle.rules_maps.specs.Shape.{Shape}
-use Rattle.theorem_bounds.specs.Messages.{InBounds}
+use Rattle.rules_maps.specs.Messages.{InBounds}
 
 -- A message that its source says to its destination, where the machine has both; a line that it names is one of memory, at home at the
 -- link's directory, and a TID of which it speaks is one that can be given: from 1 on, below 2^62.

@@ -2,6 +2,7 @@ pub mod Words
 pub mod Masks
 pub mod Nodes
 pub mod Shape
+pub mod Messages
 pub mod Bridge
 pub mod Cache
 pub mod CacheChange

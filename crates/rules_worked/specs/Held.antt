@@ -1,14 +1,14 @@
 -- A schedule that shows whose phases hold a request back: of each other core, not of the first one alone.
 use Rattle.std.specs.Prelude.{ℕ, ◌≡◌, List, [], ◌∷◌, ◌++◌, Bool, true, false, is_some}
 use Rattle.image_load.specs.Raw.{raw_images}
-use Rattle.image_load.specs.Start.{Start, start}
-use Rattle.rv_code.specs.Machine.{program, first_ram, start_local}
+use Rattle.image_load.specs.Start.{Start, start, first_ram}
+use Rattle.rv_code.specs.Machine.{program, start_local}
 use Rattle.tcc_base.specs.Settings.{Settings}
 use Rattle.rules_maps.specs.Nodes.{Event}
 use Rattle.rules_tcc.specs.Rows.{e, d, c0, v}
 use Rattle.rules_tcc.specs.State.{World, start as protocol_start}
 use Rattle.rules_tcc.specs.Step.{run}
-use Rattle.theorem_phases.specs.Phased.{phased_from}
+use Rattle.rules_phases.specs.Phased.{phased_from}
 
 -- two cores, one directory and four lines
 abbrev pub settings : Settings

@@ -1,4 +1,4 @@
-//! Worked schedules of the protocol's rules and of runs by phases, beside those of rules_tcc and theorem_phases: each tells a rule from one
+//! Worked schedules of the protocol's rules and of runs by phases, beside those of rules_tcc and rules_phases: each tells a rule from one
 //! that is nearly the same. The functions here have no body: the contract of each is that its schedules end as they must, computed by the
 //! definitions.
 #![tactic(auto)]

@@ -3,10 +3,10 @@ use Rattle.std.proofs.Common.{◌≡◌, ℕ, zero, suc, ◌+◌, Bool, true, fa
 use Rattle.std.proofs.Common.{◌∙◌, sym, subst, arith}
 use Rattle.std.specs.Prelude.{cond}
 use Rattle.std.specs.List.{find}
-use Rattle.image_load.specs.Start.{Start}
+use Rattle.image_load.specs.Start.{Start, first_ram}
 use Rattle.net_core.proofs.Lemmas.{run-on}
-use Rattle.rv_code.specs.Machine.{first_ram, program}
-use Rattle.theorem_riscv.specs.Suiting.{local_at_start, world_at_start}
+use Rattle.rv_code.specs.Machine.{program}
+use Rattle.rules_riscv.specs.Starting.{local_at_start, world_at_start, at_start}
 use Rattle.tcc_base.specs.declared.access.Commit.{Commit as Noted}
 use Rattle.rules_maps.specs.Nodes.{Event}
 use Rattle.rules_maps.specs.Shape.{Shape}
@@ -21,7 +21,7 @@ use Rattle.theorem_serial.specs.Pairs.{pair}
 use Rattle.theorem_serial.specs.Tids.{has_tid}
 use Rattle.theorem_serial.specs.Ways.{Ways}
 use Rattle.theorem_serial.proofs.Lemmas.{numbered-most, runs_carry}
-use Rattle.run_follow.specs.Following.{after_event, at_start, comes, followed_by, followed_from, may_come, next_in, next_of, turn_of}
+use Rattle.run_follow.specs.Following.{after_event, comes, followed_by, followed_from, may_come, next_in, next_of, turn_of}
 use Rattle.run_follow.proofs.InTurn.{AreBelow, AreFirst, InTurn, Sound, after, in-turn-on}
 use Rattle.run_follow.proofs.Turning.{Turning, step-turns}
 

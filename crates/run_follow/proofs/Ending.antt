@@ -12,7 +12,7 @@ use Rattle.outcomes_law.proofs.Lemmas.{HaltsEnd, halted-cores-have-ended}
 use Rattle.rv_code.specs.Machine.{program}
 use Rattle.theorem_riscv.proofs.Lemmas.{riscv_cores_go_on, runs_give_the_plain_machine}
 use Rattle.theorem_riscv.specs.Given.{IsSerial, committed}
-use Rattle.theorem_riscv.specs.Suiting.{world_at_start}
+use Rattle.rules_riscv.specs.Starting.{world_at_start}
 use Rattle.tcc_base.specs.declared.access.CoreEnd.TheVariants.{Run}
 use Rattle.base_lemmas.proofs.Lemmas.{none-past}
 use Rattle.theorem_live.specs.Progress.{EachGoesOn, IsPlaced}

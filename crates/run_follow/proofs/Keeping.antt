@@ -9,7 +9,7 @@ use Rattle.rv_code.specs.Machine.{program}
 use Rattle.rv_plain.specs.Machine.{no_core, plain_start}
 use Rattle.theorem_riscv.proofs.Lemmas.{runs_give_the_plain_machine}
 use Rattle.theorem_riscv.specs.Given.{IsSerial, committed}
-use Rattle.theorem_riscv.specs.Suiting.{world_at_start}
+use Rattle.rules_riscv.specs.Starting.{world_at_start}
 use Rattle.tcc_base.specs.declared.access.CoreEnd.TheVariants.{Run}
 use Rattle.rules_program.specs.Plain.{Order, PlainCore, serial}
 use Rattle.rules_tcc.specs.Seen.{IsDone}

@@ -16,7 +16,8 @@ use Rattle.rules_tcc.specs.State.{World}
 use Rattle.rules_tcc.specs.Step.{History, Stepped, and_then, is_enabled, next_history, recorded, run, run_from, step}
 use Rattle.rules_tcc.specs.Useful.{is_of_use, is_useful, useful}
 use Rattle.rules_tcc.proofs.Lemmas.{useful-holds}
-use Rattle.run_follow.specs.Following.{after_event, at_start, comes, followed_by, followed_from, may_come, next_in, next_of, turn_of}
+use Rattle.run_follow.specs.Following.{after_event, comes, followed_by, followed_from, may_come, next_in, next_of, turn_of}
+use Rattle.rules_riscv.specs.Starting.{at_start}
 
 -- what is found is in the list
 found-is_in : (turn : Option ℕ) (es : List Event) (e : Event) → next_of turn es ≡ Some e → IsIn e es

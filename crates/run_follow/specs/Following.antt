@@ -5,7 +5,7 @@ use Rattle.std.specs.Prelude.{map}
 use Rattle.std.specs.List.{find}
 use Rattle.image_load.specs.Start.{Start}
 use Rattle.rv_code.specs.Machine.{program}
-use Rattle.theorem_riscv.specs.Suiting.{world_at_start}
+use Rattle.rules_riscv.specs.Starting.{at_start}
 use Rattle.tcc_base.specs.declared.access.Commit.{Commit}
 use Rattle.rules_maps.specs.Nodes.{Event, Exec, Evict, Deliver}
 use Rattle.rules_program.specs.Plain.{Order}
@@ -46,10 +46,6 @@ comes s h rest (Some e) = e ∷ after_event rest (next_history s.settings (progr
 unfoldable pub followed_from : Start → List Order → (most : ℕ) → History → List Event
 followed_from s orders zero h = []
 followed_from s orders (suc n) h = comes s h (followed_from s orders n) (next_in s orders h)
-
--- all cores at their entries, and no commit
-abbrev pub at_start : Start → History
-at_start s = record { world = world_at_start s; commits = [] }
 
 -- the schedule that follows a list from the start
 abbrev pub followed_by : Start → List Order → (most : ℕ) → List Event

@@ -3,7 +3,7 @@ use Rattle.std.specs.Prelude.{ℕ, ◌≡◌, ◌<◌, ◌≤◌, List, length, 
 use Rattle.image_load.specs.Start.{Start}
 use Rattle.rv_code.specs.Machine.{program}
 use Rattle.rv_plain.specs.Machine.{plain_start}
-use Rattle.theorem_riscv.specs.Suiting.{AfterRun, world_at_start}
+use Rattle.rules_riscv.specs.Starting.{AfterRun, world_at_start}
 use Rattle.tcc_base.specs.Settings.{IsAllowed}
 use Rattle.rules_program.specs.Plain.{Order, serial}
 use Rattle.rules_tcc.specs.Seen.{IsDone}

@@ -4,7 +4,7 @@ ghost use Rattle.image_load.specs.Contents.{started};
 ghost use Rattle.net_core.specs.Machine.{history_of, program_of, settings_of, start_of, world_of};
 ghost use Rattle.rv_code.specs.Machine.{program};
 ghost use Rattle.rv_plain.specs.PlainState.{order_of};
-ghost use Rattle.theorem_riscv.specs.Suiting.{world_at_start};
+ghost use Rattle.rules_riscv.specs.Starting.{world_at_start};
 ghost use Rattle.tcc_msg.specs.Plain.{event_of};
 ghost use Rattle.tcc_pick.specs.Picking.{TookAll};
 ghost use Rattle.rules_tcc.specs.Step.{run};

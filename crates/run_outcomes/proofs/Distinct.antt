@@ -13,7 +13,7 @@ use Rattle.run_outcomes.specs.Digests.{state_digest}
 use Rattle.run_outcomes.specs.Explored.{AreFound, AreOnce, state_at, no_snapshot}
 use Rattle.run_outcomes.specs.States.{machine_of, core_in, IsNumbered}
 use Rattle.run_outcomes.specs.declared.states.Snapshot.{Snapshot}
-use Rattle.rv_code.specs.Machine.{first_ram}
+use Rattle.image_load.specs.Start.{first_ram}
 use Rattle.rv_plain.specs.Cores.{no_state}
 use Rattle.rv_plain.specs.declared.plain.CoreState.{CoreState}
 use Rattle.rules_program.specs.Plain.{PlainCore}

@@ -5,13 +5,14 @@ use Rattle.std.proofs.lemmas.Bool.{ne_eqb}
 use Rattle.std.proofs.lemmas.List.{drop_more}
 use Rattle.std.proofs.lemmas.List.Elements.{All-head, All-tail}
 use Rattle.image_load.specs.Contents.{Contents, started}
-use Rattle.rv_code.specs.Machine.{first_ram, program}
+use Rattle.rv_code.specs.Machine.{program}
+use Rattle.image_load.specs.Start.{first_ram}
 use Rattle.rv_plain.specs.Attempts.{attempt_of}
 use Rattle.rv_plain.specs.Buffered.{seen, plain_view, or_else}
 use Rattle.rv_plain.specs.Store.{Store, buffer_of}
 use Rattle.rv_plain.specs.declared.attempt.Attempt.{Attempt as CodeAttempt}
-use Rattle.rv_plain.specs.declared.attempt.Outcome.{Outcome as CodeOutcome}
-use Rattle.rv_plain.specs.declared.attempt.Outcome.TheVariants as code
+use Rattle.rv_exec.specs.declared.outcome.Outcome.{Outcome as CodeOutcome}
+use Rattle.rv_exec.specs.declared.outcome.Outcome.TheVariants as code
 use Rattle.rv_plain.specs.declared.plain.CoreState.{CoreState}
 use Rattle.run_outcomes.proofs.Elsewhere.{Keeps, steps-keeps}
 use Rattle.run_outcomes.specs.Changes.{value_in, changed_ram, AreInside, AreNormal}

@@ -1,7 +1,7 @@
 -- Memory told by the words that differ from the start.
 use Rattle.std.specs.Prelude.{ℕ, ◌≡◌, ◌+◌, ◌<◌, ◌≤◌, List, [], ◌∷◌, Option, Some, None, All}
 use Rattle.image_load.specs.Contents.{Contents, started}
-use Rattle.rv_code.specs.Machine.{first_ram}
+use Rattle.image_load.specs.Start.{first_ram}
 use Rattle.rv_plain.specs.Buffered.{seen}
 use Rattle.tcc_base.specs.Put.{put}
 

@@ -12,7 +12,8 @@ use Rattle.run_outcomes.specs.declared.search.Way.{Way}
 use Rattle.run_outcomes.specs.declared.states.Place.{Place}
 use Rattle.run_outcomes.specs.declared.states.Place.TheVariants.{Known, New, Full}
 use Rattle.run_outcomes.specs.declared.states.Snapshot.{Snapshot}
-use Rattle.rv_code.specs.Machine.{program, first_ram}
+use Rattle.rv_code.specs.Machine.{program}
+use Rattle.image_load.specs.Start.{first_ram}
 use Rattle.rv_plain.specs.Machine.{plain_start}
 use Rattle.rules_program.specs.Plain.{Plain, transaction}
 

@@ -4,11 +4,11 @@ use Rattle.run_outcomes.specs.Changes.{value_in, AreInside, AreNormal}
 use Rattle.run_outcomes.specs.declared.next.Next.{Next}
 use Rattle.run_outcomes.specs.declared.next.Next.TheVariants.{Stopped, Endless, Leads}
 use Rattle.rv_code.specs.Machine.{in_ram}
-use Rattle.rv_plain.specs.Attempts.{outcome_of}
+use Rattle.rv_exec.specs.Outcomes.{outcome_of}
 use Rattle.rv_plain.specs.Buffered.{seen}
 use Rattle.rv_plain.specs.Store.{Store, buffer_of}
 use Rattle.rv_plain.specs.declared.attempt.Attempt.{Attempt}
-use Rattle.rv_plain.specs.declared.attempt.Outcome.{Outcome}
+use Rattle.rv_exec.specs.declared.outcome.Outcome.{Outcome}
 use Rattle.rv_plain.specs.declared.plain.CoreState.{CoreState}
 use Rattle.tcc_base.specs.Settings.{Settings}
 use Rattle.tcc_base.specs.declared.access.Stored.{Stored}

@@ -4,7 +4,8 @@ use Rattle.image_load.specs.Contents.{Contents, started}
 use Rattle.run_outcomes.specs.Changes.{changed_ram, AreInside, AreNormal}
 use Rattle.run_outcomes.specs.declared.next.Next.{Next}
 use Rattle.run_outcomes.specs.declared.next.Next.TheVariants.{Stopped, Endless, Leads}
-use Rattle.rv_code.specs.Machine.{program, first_ram}
+use Rattle.rv_code.specs.Machine.{program}
+use Rattle.image_load.specs.Start.{first_ram}
 use Rattle.rv_plain.specs.declared.plain.CoreState.{CoreState}
 use Rattle.tcc_base.specs.declared.access.CoreEnd.TheVariants.{Run}
 use Rattle.rules_program.specs.Plain.{Attempt, Goes, steps, begun, end_of}

@@ -1,10 +1,11 @@
 // The next transaction of a core, to its end, over RAM told by what differs from the start.
 ghost use Rattle.std.specs.Prelude.{◌≡◌, ℕ, ◌++◌, ◌*◌, ◌<◌, ◌≤◌, ◌/◌, IfOk, [], length, MatchOption, Some};
 ghost use Rattle.image_load.specs.Contents.{started};
-ghost use Rattle.rv_code.specs.Machine.{program, first_ram};
-ghost use Rattle.rv_plain.specs.Attempts.{attempt_of, outcome_of};
+ghost use Rattle.rv_code.specs.Machine.{program};
+ghost use Rattle.image_load.specs.Start.{first_ram};
+ghost use Rattle.rv_plain.specs.Attempts.{attempt_of};
+ghost use Rattle.rv_exec.specs.Outcomes.{outcome_of, HasEnded};
 ghost use Rattle.rv_plain.specs.Buffered.{plain_view};
-ghost use Rattle.rv_plain.specs.Endings.{HasEnded};
 ghost use Rattle.rules_program.specs.Plain.{steps};
 ghost use Rattle.rules_program.specs.Ram.{flat};
 ghost use Rattle.run_outcomes.specs.Changes.{AreInside};
@@ -14,7 +15,8 @@ ghost use Rattle.run_outcomes.specs.Next.{IsNext};
 use crate::changes::{left_words, write_all};
 use image_load::Loaded;
 use rv_code::Code;
-use rv_plain::{Attempt, BufferedRam, CoreState, Outcome};
+use rv_exec::Outcome;
+use rv_plain::{Attempt, BufferedRam, CoreState};
 use std::alloc::Global;
 use std::marker::Model;
 use tcc_base::{CoreEnd, List, NoMemory};
@@ -45,7 +47,7 @@ pub struct Executor {
 impl Model for Executor {
     ghost use Rattle.std.specs.Prelude.{◌≡◌, ◌*◌, [], length};
     ghost use Rattle.image_load.specs.Contents.{Contents, started};
-    ghost use Rattle.rv_code.specs.Machine.{first_ram};
+    ghost use Rattle.image_load.specs.Start.{first_ram};
     ghost use Rattle.rules_program.specs.Ram.{flat};
 
     ghost Value = { Contents };

@@ -1,5 +1,5 @@
 -- The program that a machine runs from a start, and what it begins with: RAM's words, and each core's registers and pc.
-use Rattle.std.specs.Prelude.{ℕ, Bool, List, ◌+◌, ◌/◌, ◌%◌, ◌^◌, nat_le, nat_lt, if◌then◌else◌, ◌&&◌, None}
+use Rattle.std.specs.Prelude.{ℕ, Bool, List, ◌+◌, nat_le, ◌&&◌, None}
 use Rattle.image_load.specs.Start.{Start}
 use Rattle.rv_exec.specs.Running as rv32ima
 use Rattle.tcc_base.specs.Bytes.{bytes_of}
@@ -14,10 +14,6 @@ in_ram s addr size = nat_le s.base addr && nat_le (addr + bytes_of size) (s.base
 
 unfoldable pub program : Start → Program
 program s = rv32ima.program s.fetch (in_ram s.settings)
-
--- RAM's words at the start, 32 bits of each, with zeros past its end
-unfoldable pub first_ram : Start → ℕ → ℕ
-first_ram s w = if nat_lt w (s.settings.ram / 4) then s.word w % 2 ^ 32 else 0
 
 -- a core's registers and pc at the start: x10 is its number, x11 the number of cores
 unfoldable pub start_regs : (cores core : ℕ) → List ℕ

@@ -1,2 +1,3 @@
 pub mod Divisions
 pub mod Products
+pub mod Splice

@@ -41,3 +41,7 @@ program fetch in_ram = record {
   need = λ l. need_of_word in_ram l (fetch l.pc);
   after = λ l loaded. after_word l loaded (fetch l.pc);
 }
+
+-- the program that is this one instruction, whatever the pc
+abbrev pub alone : Inst → Program
+alone inst = record { need = λ l. Nothing; after = finished inst }

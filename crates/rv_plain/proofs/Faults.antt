@@ -3,7 +3,8 @@ use Rattle.image_load.specs.Contents.{started}
 use Rattle.std.proofs.Common.{ℕ, zero, suc, ◌≡◌, ◌+◌, ◌-◌, ◌<◌, Option, Some, None, Result, Ok, Err, IfErr, IsSomeAnd, refl, add-one}
 use Rattle.std.proofs.Common.{add-zero, inl, inr, arith, subst}
 use Rattle.std.proofs.Math.Nat.{add-suc}
-use Rattle.rv_plain.specs.Endings.{HasEnded, IsFault, IsCoreFault}
+use Rattle.rv_plain.specs.Endings.{IsFault, IsCoreFault}
+use Rattle.rv_exec.specs.Outcomes.{HasEnded}
 use Rattle.rv_code.specs.Machine.{program}
 use Rattle.rv_plain.specs.PlainState.{PlainState, plain_of, IsPlainFault, HasNoTransaction}
 use Rattle.rv_plain.specs.declared.plain.PlainFault.{PlainFault}

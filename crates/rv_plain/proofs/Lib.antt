@@ -1,4 +1,3 @@
-pub mod Splice
 pub mod Stepping
 pub mod Views
 pub mod Faults

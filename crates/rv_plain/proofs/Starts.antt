@@ -3,9 +3,8 @@ use Rattle.std.proofs.Common.{ℕ, ◌≡◌, ◌<◌, ◌+◌, [], ◌∷◌, �
 use Rattle.std.proofs.lemmas.Bool.{cases_lt}
 use Rattle.std.proofs.lemmas.Grind.{common_steps}
 use Rattle.image_load.specs.Contents.{Contents}
-use Rattle.image_load.specs.Start.{Start}
+use Rattle.image_load.specs.Start.{Start, first_ram}
 use Rattle.rv_plain.specs.Cores.{core_of, no_state}
-use Rattle.rv_code.specs.Machine.{first_ram}
 use Rattle.rv_plain.specs.Machine.{plain_start, start_core, core_at_start}
 use Rattle.rv_plain.specs.PlainState.{plain_of}
 use Rattle.rv_plain.specs.declared.plain.CoreState.{CoreState}

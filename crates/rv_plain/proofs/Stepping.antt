@@ -5,8 +5,7 @@ use Rattle.rv_code.specs.Instructions.{Runs, FailsToFetch}
 use Rattle.rv_code.specs.Machine.{program, in_ram}
 use Rattle.rv_decode.specs.declared.instruction.Inst.{Inst}
 use Rattle.rv_exec.specs.Effects.{planned}
-use Rattle.rv_exec.specs.Running.{bounded}
-use Rattle.rv_plain.specs.Attempts.{alone}
+use Rattle.rv_exec.specs.Running.{bounded, alone}
 use Rattle.rv_plain.specs.Buffered.{Buffered, buffered, buffered_step, seen}
 use Rattle.tcc_base.specs.declared.access.Size.TheVariants.{Word}
 use Rattle.rules_program.specs.Plain.{Trapped}

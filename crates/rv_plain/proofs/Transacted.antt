@@ -2,7 +2,8 @@
 use Rattle.std.proofs.Common.{ℕ, ◌≡◌, ◌<◌, List, [], ◌++◌, Some, Result, Ok, Err, IfOk, IfErr, OnOk, refl, length, slice_index_or}
 use Rattle.std.proofs.Common.{slice_set, arith, ap, sym, ◌∙◌, subst}
 use Rattle.std.proofs.lemmas.Grind.{common_steps}
-use Rattle.rv_plain.specs.Attempts.{attempt_of, outcome_of}
+use Rattle.rv_plain.specs.Attempts.{attempt_of}
+use Rattle.rv_exec.specs.Outcomes.{outcome_of}
 use Rattle.rv_plain.specs.Buffered.{plain_view, seen}
 use Rattle.rv_plain.specs.Cores.{core_of, no_state}
 use Rattle.rv_plain.specs.Endings.{IsCoreFault}
@@ -11,8 +12,8 @@ use Rattle.rv_plain.specs.PlainState.{PlainState, plain_of, Did, IsPlainFault}
 use Rattle.rv_plain.specs.Store.{Store, buffer_of}
 use Rattle.rv_plain.specs.Transacts.{Transacts, steps_at}
 use Rattle.rv_plain.specs.declared.attempt.Attempt.{Attempt}
-use Rattle.rv_plain.specs.declared.attempt.Outcome.{Outcome}
-use Rattle.rv_plain.specs.declared.attempt.Outcome.TheVariants.{Goes}
+use Rattle.rv_exec.specs.declared.outcome.Outcome.{Outcome}
+use Rattle.rv_exec.specs.declared.outcome.Outcome.TheVariants.{Goes}
 use Rattle.rv_plain.specs.declared.plain.CoreState.{CoreState}
 use Rattle.rv_plain.specs.declared.plain.Done.{Done}
 use Rattle.rv_plain.specs.declared.plain.PlainFault.{PlainFault}

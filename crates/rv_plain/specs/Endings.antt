@@ -4,13 +4,8 @@ use Rattle.rv_plain.specs.declared.plain.PlainFault.{PlainFault}
 use Rattle.rv_plain.specs.declared.plain.PlainFault.TheVariants.{NotEnding, Memory}
 use Rattle.tcc_base.specs.declared.access.CoreEnd.{CoreEnd}
 use Rattle.tcc_base.specs.declared.access.CoreEnd.TheVariants.{Run, Halt, Trap}
-use Rattle.rules_program.specs.Plain.{Attempt, Outcome, Goes, Ended, Halted, Trapped}
-
-abbrev pub HasEnded : Outcome → Type 0
-HasEnded Goes = ⊥
-HasEnded Ended = Unit {0}
-HasEnded (Halted code) = Unit {0}
-HasEnded (Trapped code) = Unit {0}
+use Rattle.rules_program.specs.Plain.{Attempt, Goes}
+use Rattle.rv_exec.specs.Outcomes.{HasEnded}
 
 -- instruction k, from 1, ends the transaction of these instructions too early, or the last one doesn't end it
 abbrev pub EndsEarly : (steps : ℕ → Option Attempt) → (n k : ℕ) → Type 0

@@ -1,7 +1,7 @@
 -- The state from which the plain machine begins a program.
 use Rattle.std.specs.Prelude.{ℕ, [], nat_lt, if◌then◌else◌, None}
-use Rattle.image_load.specs.Start.{Start}
-use Rattle.rv_code.specs.Machine.{first_ram, start_local}
+use Rattle.image_load.specs.Start.{Start, first_ram}
+use Rattle.rv_code.specs.Machine.{start_local}
 use Rattle.tcc_base.specs.declared.access.CoreEnd.TheVariants.{Run, Halt}
 use Rattle.rules_program.specs.Plain.{Plain, PlainCore}
 

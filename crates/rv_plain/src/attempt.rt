@@ -12,52 +12,14 @@ ghost use Rattle.tcc_base.specs.declared.access.Size.TheVariants.{Word};
 ghost use Rattle.rules_program.specs.Plain.{steps, end_of, load_of, store_of};
 ghost use Rattle.rules_program.specs.Program.{unreserved};
 
-use crate::bytes;
 use crate::memory::BufferedRam;
 use crate::plain::PlainFault;
 use reg_checkpoint::State;
 use rv_code::Code;
 use rv_decode::{AmoOp, Inst};
-use rv_exec::{Need, amo_value, finish};
+use rv_exec::{Need, Outcome, amo_value, finish, read_part, replace_part};
 use std::alloc::Global;
-use tcc_base::{CoreEnd, List, Load, NoMemory, Size, Stored};
-
-/// How an instruction leaves its transaction: it goes on, ends, halts its core with a code, or traps.
-#[derive(Clone, Copy, Debug, PartialEq, Eq)]
-pub enum Outcome {
-    Goes,
-    Ended,
-    Halted(u32),
-    Trapped(u8),
-}
-
-impl Outcome {
-    ghost use Rattle.rv_plain.specs.Attempts.{outcome_of};
-    ghost use Rattle.rv_plain.specs.Endings.{HasEnded};
-
-    /// Whether the transaction doesn't go on.
-    pub fn has_ended(self) -> bool
-        ensures ended { IsTrue result ↔ HasEnded (outcome_of self) }
-        ensures goes { IsFalse result → self ≡ Outcome.Goes }
-    {
-        match self {
-            Outcome::Goes => false,
-            Outcome::Ended | Outcome::Halted(_) | Outcome::Trapped(_) => true,
-        }
-    }
-
-    /// How a core stands once the transaction that ended so is committed.
-    pub fn end(self) -> CoreEnd
-        requires { HasEnded (outcome_of self) }
-        ensures { end_of (outcome_of self) ≡ Some result }
-    {
-        match self {
-            Outcome::Goes | Outcome::Ended => CoreEnd::Run,
-            Outcome::Halted(code) => CoreEnd::Halt(code),
-            Outcome::Trapped(code) => CoreEnd::Trap(code),
-        }
-    }
-}
+use tcc_base::{List, Load, NoMemory, Size, Stored};
 
 /// A transaction on its way, of which `n` instructions are done.
 #[derive(Debug, Drop)]
@@ -70,8 +32,10 @@ pub struct Attempt {
 }
 
 impl Attempt {
-    ghost use Rattle.rv_plain.specs.Attempts.{attempt_of, outcome_of, alone};
-    ghost use Rattle.rv_plain.specs.Endings.{HasEnded, IsFault};
+    ghost use Rattle.rv_plain.specs.Attempts.{attempt_of};
+    ghost use Rattle.rv_exec.specs.Running.{alone};
+    ghost use Rattle.rv_exec.specs.Outcomes.{outcome_of, HasEnded};
+    ghost use Rattle.rv_plain.specs.Endings.{IsFault};
 
     /// An attempt of a core at this state that has done nothing. Takes no memory.
     pub fn begin(alloc: Global, state: &State) -> Attempt
@@ -107,7 +71,7 @@ impl Attempt {
         ensures n { self.new.n ≡ self.old.n }
         ensures unchanged { OnErr result (self.new ≡ self.old) }
     {
-        let value = bytes::read(memory.read((addr - base) / 4), addr, size);
+        let value = read_part(memory.read((addr - base) / 4), addr, size);
         self.loads.push(Load { addr, size, value })?;
         finish(inst, &mut self.state, Some(value));
         Ok(Outcome::Goes)
@@ -132,7 +96,7 @@ impl Attempt {
         ensures memory_unchanged { OnErr result (memory.new ≡ memory.old) }
     {
         let w = (addr - base) / 4;
-        let word = bytes::replace(memory.read(w), addr, size, value);
+        let word = replace_part(memory.read(w), addr, size, value);
         self.stores.push(Stored { addr, size, value })?;
         match memory.write(w, word) {
             Ok(()) => {
@@ -166,10 +130,10 @@ impl Attempt {
     {
         let w = (addr - base) / 4;
         let word = memory.read(w);
-        let old = bytes::read(word, addr, Size::Word);
+        let old = read_part(word, addr, Size::Word);
         let value = amo_value(op, old, operand);
         self.note_change(addr, old, value)?;
-        match memory.write(w, bytes::replace(word, addr, Size::Word, value)) {
+        match memory.write(w, replace_part(word, addr, Size::Word, value)) {
             Ok(()) => {
                 finish(inst, &mut self.state, Some(old));
                 Ok(Outcome::Goes)

@@ -3,12 +3,10 @@
 #![tactic(auto)]
 
 mod attempt;
-mod bytes;
 mod memory;
 mod plain;
 mod serial;
 
-pub use attempt::{Attempt, Outcome};
-pub use bytes::{read as read_part, replace as replace_part};
+pub use attempt::Attempt;
 pub use memory::BufferedRam;
 pub use plain::{CoreState, Done, Order, Plain, PlainFault, SerialFault};

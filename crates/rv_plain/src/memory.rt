@@ -2,7 +2,7 @@
 ghost use Rattle.std.specs.Prelude.{◌≡◌, ℕ, ◌<◌, ◌≤◌, ◌*◌, ◌/◌, IfOk, OnOk, OnErr, Some, [], length};
 ghost use Rattle.image_load.specs.Contents.{started};
 ghost use Rattle.rv_plain.specs.Buffered.{seen};
-ghost use Rattle.rv_code.specs.Machine.{first_ram};
+ghost use Rattle.image_load.specs.Start.{first_ram};
 ghost use Rattle.rv_plain.specs.Store.{buffer_of, IsInside};
 ghost use Rattle.tcc_base.specs.Put.{put};
 ghost use Rattle.rules_program.specs.Ram.{flat};

@@ -10,11 +10,12 @@ ghost use Rattle.rv_plain.specs.Store.{buffer_of};
 ghost use Rattle.rv_plain.specs.Transacts.{Transacts, steps_at};
 ghost use Rattle.rules_program.specs.Ram.{flat};
 
-use crate::attempt::{Attempt, Outcome};
+use crate::attempt::Attempt;
 use crate::memory::BufferedRam;
 use image_load::Loaded;
 use reg_checkpoint::{Regs, State};
 use rv_code::{Code, start_state};
+use rv_exec::Outcome;
 use std::alloc::Global;
 use std::marker::Model;
 use tcc_base::{Commit, Config, CoreEnd, CoreId, List, Load, NoMemory, Stored, Tid, WordAddr};

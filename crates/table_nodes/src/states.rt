@@ -8,7 +8,7 @@ use crate::tested_vendor::TestedVendor;
 use commit_engine::Phase;
 use directory::LineState;
 use reg_checkpoint::Check;
-use rv_plain::Outcome;
+use rv_exec::Outcome;
 use spec_cache::FrameView;
 use std::alloc::AllocError;
 use tcc_base::{LineAddr, Mask, Reg, Tid, WordAddr};

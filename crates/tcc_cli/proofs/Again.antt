@@ -4,7 +4,7 @@ use Rattle.std.proofs.Common.{Bool, true, false, Option, Some, None, Ok, Err, Is
 use Rattle.std.proofs.Common.{◌⊎◌, ap, subst, inl, inr, length, if◌then◌else◌}
 use Rattle.std.specs.Prelude.{Contains}
 use Rattle.image_load.specs.Start.{Start}
-use Rattle.theorem_phases.specs.Phases.{phases_of}
+use Rattle.rules_phases.specs.Phases.{phases_of}
 use Rattle.schedule_text.specs.Grammar.{text_of}
 use Rattle.tcc_base.specs.Settings.{Settings}
 use Rattle.tcc_cli.proofs.Complete.{answers_complete, given-told, of-command}

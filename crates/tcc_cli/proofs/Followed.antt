@@ -10,7 +10,7 @@ use Rattle.rv_code.specs.Machine.{program}
 use Rattle.rv_plain.specs.Machine.{plain_start}
 use Rattle.rv_plain.specs.PlainState.{order_of}
 use Rattle.rv_plain.specs.declared.plain.Order.{Order as CodeOrder}
-use Rattle.theorem_riscv.specs.Suiting.{AfterRun}
+use Rattle.rules_riscv.specs.Starting.{AfterRun}
 use Rattle.serial_tool.specs.Lists.{IsList}
 use Rattle.serial_tool.specs.Runs.{serial_by}
 use Rattle.serial_tool.specs.declared.reading.Listed.{Listed}

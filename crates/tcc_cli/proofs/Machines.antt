@@ -5,13 +5,12 @@ use Rattle.image_load.specs.Contents.{Contents, started}
 use Rattle.rand_pcg.specs.Lcg.{Lcg}
 use Rattle.rv_code.specs.Machine.{program}
 use Rattle.theorem_riscv.specs.Given.{IsSerial}
-use Rattle.theorem_riscv.specs.Suiting.{world_at_start}
+use Rattle.rules_riscv.specs.Starting.{world_at_start, at_start}
 use Rattle.tcc_msg.specs.Plain.{event_of}
 use Rattle.rules_tcc.specs.Picked.{picked}
 use Rattle.rules_tcc.specs.Seen.{IsDone}
 use Rattle.rules_tcc.specs.Step.{run}
 use Rattle.net_core.specs.Machine.{Machine, history_of, settings_of, world_of}
-use Rattle.net_core.specs.Reached.{first_history}
 use Rattle.tcc_refine.specs.Refined.{IsRefined, Refined}
 use Rattle.tcc_pick.specs.Picking.{picks}
 use Rattle.tcc_pick.specs.Words.{seeded, words}
@@ -32,14 +31,14 @@ runs-to r l done k code is = record {
 }
 
 -- a machine at its start took what a seed picks
-picks-there : (l : Contents) (m : Machine) (g : Lcg) (seed steps : ℕ) → m.cores.code ≡ l → history_of m ≡ first_history (started l)
+picks-there : (l : Contents) (m : Machine) (g : Lcg) (seed steps : ℕ) → m.cores.code ≡ l → history_of m ≡ at_start (started l)
     → g ≡ seeded seed → picks steps g m ≡ picked_by (started l) seed steps
 unfolding started history_of
 picks-there l m g seed steps code history e =
     λ i. picked (code i).settings (program (started (code i))) (words steps (e i)) ((ap (λ h. h.world) history) i)
 
 pub took-picked : (l : Contents) (old new : Refined) (g : Lcg) (seed steps : ℕ) → old.machine.cores.code ≡ l
-    → history_of old.machine ≡ first_history (started l) → old.taken ≡ [] → g ≡ seeded seed
+    → history_of old.machine ≡ at_start (started l) → old.taken ≡ [] → g ≡ seeded seed
     → map event_of new.taken ≡ map event_of old.taken ++ picks steps g old.machine
     → map event_of new.taken ≡ picked_by (started l) seed steps
 took-picked l old new g seed steps code history none e took =

@@ -1,14 +1,14 @@
 -- A run at whose end the machine isn't done has taken one event for each that it was asked for.
 use Rattle.std.proofs.Common.{ℕ, zero, suc, ◌≡◌, ◌<◌, ◌≤◌, List, [], ◌∷◌, length, map, Option, None, Some, refl, sym, ap, subst, ◌∙◌, arith}
 use Rattle.std.specs.Prelude.{IfSome, IsSome}
-use Rattle.theorem_phases.specs.Laws.{PhasedPickedEndsDone, PhasedPickedRuns, PhasedRunsAreRuns, at_start}
-use Rattle.theorem_phases.specs.Phased.{after_event, phased_from, phased_next, phased_picked, phased_useful, pick}
+use Rattle.theorem_phases.specs.Laws.{PhasedPickedEndsDone, PhasedPickedRuns, PhasedRunsAreRuns}
+use Rattle.rules_riscv.specs.Starting.{at_start, world_at_start}
+use Rattle.rules_phases.specs.Phased.{after_event, phased_from, phased_next, phased_picked, phased_useful, pick}
 use Rattle.rand_core.specs.Steps.{first_words}
 use Rattle.rand_pcg.specs.Lcg.{Lcg}
 use Rattle.rand_pcg.specs.Pcg.{pcg32}
 use Rattle.rv_code.specs.Machine.{program}
 use Rattle.theorem_riscv.specs.Going.{RiscvPickedEndsDone}
-use Rattle.theorem_riscv.specs.Suiting.{world_at_start}
 use Rattle.rules_tcc.specs.Laws.{PickedEnds}
 use Rattle.rules_tcc.specs.Picked.{chosen}
 use Rattle.tcc_cli.specs.Laws.{OpenPhasedRunsTakeAllEvents, OpenRunsTakeAllEvents}

@@ -6,7 +6,7 @@ use Rattle.image_load.specs.Start.{Start}
 use Rattle.rand_pcg.specs.Lcg.{Lcg}
 use Rattle.rv_code.specs.Machine.{program}
 use Rattle.theorem_riscv.specs.Going.{picked_from}
-use Rattle.theorem_riscv.specs.Suiting.{world_at_start}
+use Rattle.rules_riscv.specs.Starting.{world_at_start}
 use Rattle.tcc_base.specs.Settings.{Settings}
 use Rattle.tcc_cli.specs.Lines.{Written}
 use Rattle.std.proofs.lemmas.List.{length-map}

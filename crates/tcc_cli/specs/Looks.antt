@@ -1,7 +1,7 @@
 -- Runs that are looked at: which events they take, and what is told of them.
 use Rattle.std.specs.Prelude.{ℕ, Bool, true, false, List, length, map, min, take, ◌≡◌, ◌⊎◌, Option, Some, None}
 use Rattle.image_load.specs.Start.{Start}
-use Rattle.theorem_riscv.specs.Suiting.{world_at_start}
+use Rattle.rules_riscv.specs.Starting.{world_at_start}
 use Rattle.tcc_base.specs.Settings.{Settings}
 use Rattle.tcc_cli.specs.Lines.{Written, IsWhole, IsCut}
 use Rattle.tcc_cli.specs.Runs.{RunsBy, picked_by}

@@ -2,9 +2,10 @@
 use Rattle.std.specs.Prelude.{ℕ, Bool, List, [], ◌∷◌, ◌++◌, map, ◌≡◌, codes}
 use Rattle.std.specs.Fmt.{decimal}
 use Rattle.image_load.specs.Start.{Start}
-use Rattle.theorem_phases.specs.Laws.{InPhases, at_start}
-use Rattle.theorem_phases.specs.Phased.{phased_picked}
-use Rattle.theorem_phases.specs.Phases.{phases_of}
+use Rattle.theorem_phases.specs.Laws.{InPhases}
+use Rattle.rules_riscv.specs.Starting.{at_start}
+use Rattle.rules_phases.specs.Phased.{phased_picked}
+use Rattle.rules_phases.specs.Phases.{phases_of}
 use Rattle.report_text.specs.Lines.{newline}
 use Rattle.tcc_base.specs.declared.access.Commit.{Commit}
 use Rattle.tcc_cli.specs.Runs.{run_text}

@@ -8,7 +8,7 @@ use Rattle.report_text.specs.Trial.{trial_text}
 use Rattle.rv_code.specs.Machine.{program}
 use Rattle.theorem_riscv.specs.Given.{IsSerial, committed}
 use Rattle.theorem_riscv.specs.Going.{picked_from}
-use Rattle.theorem_riscv.specs.Suiting.{world_at_start}
+use Rattle.rules_riscv.specs.Starting.{world_at_start}
 use Rattle.rules_maps.specs.Nodes as rules
 use Rattle.tcc_msg.specs.Plain.{event_of}
 use Rattle.tcc_msg.specs.declared.event.Event.{Event}

@@ -4,7 +4,7 @@ use Rattle.std.specs.Prelude.{◌↔◌, Err, IsErrOf, get_or, is_some, nat_lt, 
 use Rattle.image_load.specs.Contents.{started}
 use Rattle.rules_maps.specs.Nodes.{Core, Deliver, Dir, Event, Evict, Exec, Vendor}
 use Rattle.rules_tcc.specs.Step.{History, Stepped, names_nodes, next_history, recorded, step}
-use Rattle.theorem_phases.specs.Phased.{is_held, phased_next}
+use Rattle.rules_phases.specs.Phased.{is_held, phased_next}
 use Rattle.net_core.specs.Answers.{step_of}
 use Rattle.net_core.specs.Machine.{Machine, history_of, program_of, settings_of, start_of}
 use Rattle.net_core.specs.declared.taking.Step.{Step}

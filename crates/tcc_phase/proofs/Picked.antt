@@ -13,8 +13,8 @@ use Rattle.tcc_msg.specs.Plain.{event_of}
 use Rattle.tcc_msg.specs.declared.event.Event.{Event as CodeEvent}
 use Rattle.rules_tcc.specs.Picked.{chosen}
 use Rattle.rules_tcc.specs.Step.{History}
-use Rattle.theorem_phases.specs.Laws.{at_start}
-use Rattle.theorem_phases.specs.Phased.{after_event, phased_next, phased_picked, phased_useful, pick}
+use Rattle.rules_riscv.specs.Starting.{at_start}
+use Rattle.rules_phases.specs.Phased.{after_event, phased_next, phased_picked, phased_useful, pick}
 use Rattle.net_core.specs.Machine.{history_of}
 use Rattle.tcc_pick.specs.Words.{words}
 use Rattle.tcc_phase.specs.Answers.{next_of}

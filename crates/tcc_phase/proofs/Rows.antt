@@ -12,7 +12,7 @@ use Rattle.tcc_msg.specs.Plain.{event_of}
 use Rattle.tcc_msg.specs.declared.event.Event.{Event as CodeEvent}
 use Rattle.rules_tcc.specs.Laws.{IsOrdered, UsefulHolds, UsefulOrdered}
 use Rattle.rules_tcc.specs.Useful.{event_before, useful}
-use Rattle.theorem_phases.specs.Phased.{is_held, phased_useful}
+use Rattle.rules_phases.specs.Phased.{is_held, phased_useful}
 use Rattle.net_core.specs.Machine.{Machine, history_of, program_of, settings_of, start_of, world_of}
 use Rattle.tcc_phase.specs.Choosing.{IsPassed, all_in, held_in, passed_by}
 use Rattle.tcc_phase.specs.Kept.{IsKept}

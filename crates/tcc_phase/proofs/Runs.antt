@@ -8,7 +8,7 @@ use Rattle.image_load.specs.Contents.{started}
 use Rattle.rules_maps.specs.Nodes.{Event}
 use Rattle.tcc_msg.specs.Plain.{event_of}
 use Rattle.tcc_msg.specs.declared.event.Event.{Event as CodeEvent}
-use Rattle.theorem_phases.specs.Phased.{phased_from, phased_next}
+use Rattle.rules_phases.specs.Phased.{phased_from, phased_next}
 use Rattle.net_core.specs.Machine.{Machine, history_of, start_of}
 use Rattle.net_core.specs.declared.taking.Step.{Step}
 use Rattle.net_core.specs.declared.taking.StepError.{StepError}

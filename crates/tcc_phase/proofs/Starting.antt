@@ -9,11 +9,10 @@ use Rattle.tcc_msg.specs.Plain.{event_of}
 use Rattle.tcc_msg.specs.declared.event.Event.{Event as CodeEvent}
 use Rattle.rules_program.specs.Registers.{register, written, zeroed}
 use Rattle.rules_tcc.specs.State.{core_start, start}
-use Rattle.theorem_phases.specs.Laws.{at_start}
-use Rattle.theorem_phases.specs.Phased.{phased_from}
-use Rattle.theorem_phases.specs.Phases.{phase_of, phases_along, phases_in, phases_of}
+use Rattle.rules_riscv.specs.Starting.{at_start}
+use Rattle.rules_phases.specs.Phased.{phased_from}
+use Rattle.rules_phases.specs.Phases.{phase_of, phases_along, phases_in, phases_of}
 use Rattle.net_core.specs.Machine.{Machine, history_of, start_of}
-use Rattle.net_core.specs.Reached.{first_history}
 use Rattle.tcc_phase.specs.Kept.{HasRows, IsKept}
 use Rattle.tcc_phase.specs.Requests.{IsAsked, Limits, is_below}
 use Rattle.tcc_phase.specs.declared.ledger.Ledger.{Ledger}
@@ -69,14 +68,14 @@ kept-at s events l f = record {
     even : Limits s.settings (at_start s).world l.own.items None
     even c h = even-none s.settings.cores (at_start s).world l.own.items c (λ j k. own-zero j ∙ sym (own-zero c))
 
-pub kept-first : (c : Contents) (m : Machine) (l : Ledger) → m.cores.code ≡ c → history_of m ≡ first_history (started c)
+pub kept-first : (c : Contents) (m : Machine) (l : Ledger) → m.cores.code ≡ c → history_of m ≡ at_start (started c)
     → IsFirst c.settings.cores l → IsKept (start_of m) (history_of m) m.events l
 unfolding started
 kept-first c m l code first f =
     subst (λ k. IsKept (started k) (history_of m) m.events l) (sym code)
     (subst (λ h. IsKept (started c) h m.events l) (sym first) (kept-at (started c) m.events l f))
 
-pub phased-first : (c : Contents) (m : Machine) (es : List CodeEvent) → m.cores.code ≡ c → history_of m ≡ first_history (started c)
+pub phased-first : (c : Contents) (m : Machine) (es : List CodeEvent) → m.cores.code ≡ c → history_of m ≡ at_start (started c)
     → es ≡ []
     → phased_from (start_of m) (map event_of es) (at_start (start_of m)) ≡ Some (history_of m)
 unfolding phased_from

@@ -4,7 +4,7 @@ use Rattle.rules_maps.specs.Nodes.{Event}
 use Rattle.tcc_msg.specs.Plain.{event_of}
 use Rattle.tcc_msg.specs.declared.event.Event.{Event as CodeEvent}
 use Rattle.rules_tcc.specs.Step.{History}
-use Rattle.theorem_phases.specs.Phased.{phased_from, phased_next}
+use Rattle.rules_phases.specs.Phased.{phased_from, phased_next}
 use Rattle.net_core.specs.Machine.{Machine, history_of, start_of}
 use Rattle.net_core.specs.declared.taking.StepError.{StepError}
 use Rattle.net_core.specs.declared.taking.StepError.TheVariants.{Refused, Memory}

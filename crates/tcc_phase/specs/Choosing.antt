@@ -2,7 +2,7 @@
 use Rattle.std.specs.Prelude.{ℕ, ◌≡◌, ◌+◌, List, filter, length, take}
 use Rattle.rv_code.specs.Machine.{program}
 use Rattle.rules_tcc.specs.Useful.{useful}
-use Rattle.theorem_phases.specs.Phased.{is_held}
+use Rattle.rules_phases.specs.Phased.{is_held}
 use Rattle.net_core.specs.Machine.{Machine, history_of, start_of}
 use Rattle.rules_maps.specs.Nodes.{Event}
 

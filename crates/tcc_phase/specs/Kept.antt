@@ -5,7 +5,7 @@ use Rattle.rv_code.specs.Machine.{program}
 use Rattle.rules_maps.specs.Nodes.{Core, Vendor}
 use Rattle.rules_maps.specs.Words.{those}
 use Rattle.rules_tcc.specs.Step.{History}
-use Rattle.theorem_phases.specs.Phases.{phase_of, phases_of}
+use Rattle.rules_phases.specs.Phases.{phase_of, phases_of}
 use Rattle.tcc_phase.specs.Requests.{IsAsked, Limits, is_waiting}
 use Rattle.tcc_phase.specs.declared.ledger.Ledger.{Ledger}
 

@@ -3,7 +3,7 @@ use Rattle.std.specs.Prelude.{ℕ, ◌≡◌, ◌<◌, ◌≤◌, List, length, 
 use Rattle.tcc_base.specs.declared.access.Commit.{Commit}
 use Rattle.theorem_phases.specs.Laws.{place_of, put_in}
 use Rattle.rules_maps.specs.Nodes.{Event}
-use Rattle.theorem_phases.specs.Phases.{x27}
+use Rattle.rules_phases.specs.Phases.{x27}
 use Rattle.net_core.specs.Machine.{Machine, program_of, settings_of, world_of}
 use Rattle.net_core.specs.declared.taking.Step.{Step}
 use Rattle.net_core.specs.declared.taking.Step.TheVariants.{Moved, Committed}

@@ -2,8 +2,9 @@
 use Rattle.std.specs.Prelude.{◌≡◌, List, map, Some}
 use Rattle.rules_maps.specs.Nodes.{Event}
 use Rattle.tcc_msg.specs.Plain.{event_of}
-use Rattle.theorem_phases.specs.Laws.{InPhases, at_start}
-use Rattle.theorem_phases.specs.Phased.{phased_from, phased_useful}
+use Rattle.theorem_phases.specs.Laws.{InPhases}
+use Rattle.rules_riscv.specs.Starting.{at_start}
+use Rattle.rules_phases.specs.Phased.{phased_from, phased_useful}
 use Rattle.net_core.specs.Machine.{Machine, history_of, start_of}
 use Rattle.tcc_refine.specs.Refined.{Refined}
 

@@ -8,7 +8,7 @@ use Rattle.rules_program.specs.Program.{Program}
 use Rattle.rules_tcc.specs.State.{Link, World}
 use Rattle.rules_tcc.specs.Step.{step}
 use Rattle.theorem_phases.specs.Laws.{asks, executes}
-use Rattle.theorem_phases.specs.Phased.{has_halted}
+use Rattle.rules_phases.specs.Phased.{has_halted}
 
 -- the delivery of a core's next request
 abbrev pub request : (asked : List ℕ) → (core : ℕ) → Event

@@ -5,7 +5,7 @@ ghost use Rattle.rules_maps.specs.Words.{those};
 ghost use Rattle.tcc_msg.specs.Plain.{event_of};
 ghost use Rattle.theorem_serial.specs.Owners.{IsRising};
 ghost use Rattle.theorem_phases.specs.Laws.{place_of};
-ghost use Rattle.theorem_phases.specs.Phases.{x27};
+ghost use Rattle.rules_phases.specs.Phases.{x27};
 ghost use Rattle.net_core.specs.Machine.{program_of, settings_of, world_of};
 ghost use Rattle.tcc_phase.specs.Kept.{HasRows};
 ghost use Rattle.tcc_phase.specs.Ledger.{IsListed, Notes, StillHolds};

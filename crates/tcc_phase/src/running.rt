@@ -1,8 +1,8 @@
 // A machine that runs by phases, with its events chosen by a seed.
 ghost use Rattle.std.specs.Prelude.{◌≡◌, ◌≤◌, [], IfOk, is_some, length, map, option_map, if◌then◌else◌};
 ghost use Rattle.image_load.specs.Contents.{started};
-ghost use Rattle.theorem_phases.specs.Laws.{at_start};
-ghost use Rattle.theorem_phases.specs.Phased.{phased_picked};
+ghost use Rattle.rules_riscv.specs.Starting.{at_start};
+ghost use Rattle.rules_phases.specs.Phased.{phased_picked};
 ghost use Rattle.rand_pcg.specs.Pcg.{pcg32};
 ghost use Rattle.tcc_msg.specs.Plain.{event_of};
 ghost use Rattle.rules_tcc.specs.Picked.{chosen};

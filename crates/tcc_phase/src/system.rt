@@ -1,9 +1,9 @@
 // The machine and what is read of it.
 ghost use Rattle.std.specs.Prelude.{◌≡◌, ◌<◌, [], IfOk};
 ghost use Rattle.image_load.specs.Contents.{started};
-ghost use Rattle.theorem_phases.specs.Phases.{phase_of, phases_of};
+ghost use Rattle.rules_phases.specs.Phases.{phase_of, phases_of};
 ghost use Rattle.net_core.specs.Machine.{history_of, settings_of, start_of};
-ghost use Rattle.net_core.specs.Reached.{first_history};
+ghost use Rattle.rules_riscv.specs.Starting.{at_start};
 ghost use Rattle.tcc_phase.specs.Phased.{IsPhased};
 
 use crate::ledger::Ledger;
@@ -38,7 +38,7 @@ impl PhaseSystem {
     /// The machine before its first event: `Refined::start`. All cores are in phase 0.
     pub fn start(alloc: Global, loaded: &Loaded) -> Result<PhaseSystem, NoMemory>
         ensures code { IfOk result (λ p. p.refined.machine.cores.code ≡ loaded.now) }
-        ensures start { IfOk result (λ p. history_of p.refined.machine ≡ first_history (started loaded.now)) }
+        ensures start { IfOk result (λ p. history_of p.refined.machine ≡ at_start (started loaded.now)) }
         ensures taken { IfOk result (λ p. p.refined.taken ≡ []) }
         ensures events { IfOk result (λ p. p.refined.machine.events ≡ 0) }
         ensures settled { IfOk result (λ p. p.refined.machine.unsent ≡ []) }

@@ -4,7 +4,7 @@ use Rattle.std.proofs.lemmas.List.{map-append}
 use Rattle.image_load.specs.Contents.{Contents, started}
 use Rattle.rv_code.specs.Machine.{program}
 use Rattle.theorem_riscv.specs.Given.{IsSerial}
-use Rattle.theorem_riscv.specs.Suiting.{world_at_start}
+use Rattle.rules_riscv.specs.Starting.{world_at_start, at_start}
 use Rattle.theorem_riscv.proofs.Lemmas.{runs_give_the_plain_machine}
 use Rattle.tcc_base.specs.Settings.{IsAllowed}
 use Rattle.rules_maps.specs.Nodes.{Event}
@@ -12,7 +12,6 @@ use Rattle.tcc_msg.specs.Plain.{event_of}
 use Rattle.tcc_msg.specs.declared.event.Event.{Event as CodeEvent}
 use Rattle.rules_tcc.specs.Step.{History, next_history, run, run_from}
 use Rattle.net_core.specs.Machine.{Machine, history_of, program_of, settings_of, start_of}
-use Rattle.net_core.specs.Reached.{first_history}
 use Rattle.net_core.proofs.Lemmas.{run-on}
 use Rattle.tcc_refine.specs.Refined.{IsRefined, IsRunOf}
 
@@ -32,10 +31,10 @@ refined-by m taken allowed r count = record {
 }
 
 -- at the start
-pub run-first : (c : Contents) (m : Machine) → m.cores.code ≡ c → history_of m ≡ first_history (started c) → IsRunOf m []
+pub run-first : (c : Contents) (m : Machine) → m.cores.code ≡ c → history_of m ≡ at_start (started c) → IsRunOf m []
 unfolding run run_from
 run-first c m code e =
-    ap (λ k. Some (first_history (started k))) code ∙ ap (λ h. Some h) (sym e)
+    ap (λ k. Some (at_start (started k))) code ∙ ap (λ h. Some h) (sym e)
 
 one-longer : (xs : List CodeEvent) (e : CodeEvent) → length (xs ++ e ∷ []) ≡ length xs + 1
 one-longer [] e = refl

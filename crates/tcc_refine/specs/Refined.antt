@@ -1,7 +1,7 @@
 -- A machine with the events that it took, and what it has come to by them.
 use Rattle.std.specs.Prelude.{◌≡◌, List, map, length, Some}
 use Rattle.theorem_riscv.specs.Given.{IsSerial}
-use Rattle.theorem_riscv.specs.Suiting.{world_at_start}
+use Rattle.rules_riscv.specs.Starting.{world_at_start}
 use Rattle.tcc_base.specs.Settings.{IsAllowed}
 use Rattle.tcc_msg.specs.Plain.{event_of}
 use Rattle.tcc_msg.specs.declared.event.Event.{Event}

@@ -7,7 +7,7 @@ ghost use Rattle.tcc_msg.specs.Plain.{event_of};
 ghost use Rattle.rules_tcc.specs.Step.{next_history};
 ghost use Rattle.net_core.specs.Answers.{step_of, tid_noted, tid_told};
 ghost use Rattle.net_core.specs.Machine.{history_of, program_of, settings_of};
-ghost use Rattle.net_core.specs.Reached.{first_history};
+ghost use Rattle.rules_riscv.specs.Starting.{at_start};
 ghost use Rattle.tcc_refine.specs.Refined.{IsRefined};
 
 use image_load::Loaded;
@@ -46,7 +46,7 @@ impl Refined {
     /// The machine before its first event: `System::start`.
     pub fn start(alloc: Global, loaded: &Loaded) -> Result<Refined, NoMemory>
         ensures code { IfOk result (λ r. r.machine.cores.code ≡ loaded.now) }
-        ensures start { IfOk result (λ r. history_of r.machine ≡ first_history (started loaded.now)) }
+        ensures start { IfOk result (λ r. history_of r.machine ≡ at_start (started loaded.now)) }
         ensures taken { IfOk result (λ r. r.taken ≡ []) }
         ensures settled { IfOk result (λ r. r.machine.unsent ≡ []) }
     {

@@ -5,7 +5,7 @@ use Rattle.std.specs.Prelude.{All, nat_lt, slice_index_or, if◌then◌else◌}
 use Rattle.std.proofs.lemmas.List.Elements.{All-cons, All-nil}
 use Rattle.image_load.specs.Contents.{Contents, started}
 use Rattle.rv_code.specs.Machine.{program}
-use Rattle.theorem_riscv.specs.Suiting.{world_at_start}
+use Rattle.rules_riscv.specs.Starting.{world_at_start}
 use Rattle.schedule_text.specs.WellFormed.{IsNode, Names, one_is_core}
 use Rattle.tcc_base.specs.Settings.{Settings, IsAllowed}
 use Rattle.tcc_base.specs.declared.names.NodeId.{NodeId}
@@ -13,7 +13,7 @@ use Rattle.tcc_base.specs.declared.names.NodeId.TheVariants.{Core, Dir, Vendor}
 use Rattle.base_lemmas.proofs.Lemmas.{and-left, and-right, lt-from}
 use Rattle.theorem_bounds.specs.Bounds.{IsBounded}
 use Rattle.theorem_bounds.proofs.Lemmas.{link_short, riscv_bounded_after}
-use Rattle.theorem_live.specs.Fits.{fits}
+use Rattle.rules_maps.specs.Messages.{fits}
 use Rattle.rules_maps.specs.Bridge.{node_of}
 use Rattle.rules_maps.specs.Nodes.{Event as RuleEvent, Msg, Node}
 use Rattle.tcc_msg.specs.Plain.{event_of}

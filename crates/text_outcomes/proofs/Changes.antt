@@ -10,7 +10,7 @@ use Rattle.image_load.specs.Contents.{Contents, started}
 use Rattle.report_text.specs.Lines.{mem_line}
 use Rattle.report_text.specs.Text.{ram_text, word_text}
 use Rattle.run_outcomes.specs.Changes.{AreInside, AreNormal, AreNormalFrom, changed_ram, value_in}
-use Rattle.rv_code.specs.Machine.{first_ram}
+use Rattle.image_load.specs.Start.{first_ram}
 use Rattle.rv_plain.specs.Buffered.{or_else, seen}
 use Rattle.text_outcomes.specs.Changes.{AreWords, change_line}
 

@@ -9,7 +9,7 @@ use Rattle.run_outcomes.specs.Ways.{Explored, orders_to}
 use Rattle.run_outcomes.specs.declared.outcomes.Results.{Results}
 use Rattle.run_outcomes.specs.declared.outcomes.Tell.{Tell}
 use Rattle.run_outcomes.specs.declared.states.Snapshot.{Snapshot}
-use Rattle.rv_code.specs.Machine.{first_ram}
+use Rattle.image_load.specs.Start.{first_ram}
 use Rattle.text_outcomes.specs.Lines.{outcome_line}
 use Rattle.text_outcomes.specs.Table.{outcome_of, outcome_text, way_text}
 use Rattle.text_outcomes.specs.Told.{IsNormal, state_shown, told_text}

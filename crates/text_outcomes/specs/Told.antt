@@ -10,7 +10,7 @@ use Rattle.run_outcomes.specs.States.{machine_of}
 use Rattle.run_outcomes.specs.declared.outcomes.Tell.{Tell}
 use Rattle.run_outcomes.specs.declared.outcomes.Tell.TheVariants.{Consoles, Memory, Everything}
 use Rattle.run_outcomes.specs.declared.states.Snapshot.{Snapshot}
-use Rattle.rv_code.specs.Machine.{first_ram}
+use Rattle.image_load.specs.Start.{first_ram}
 use Rattle.rv_plain.specs.Cores.{core_of}
 use Rattle.rv_plain.specs.declared.plain.CoreState.{CoreState}
 use Rattle.rules_program.specs.Plain.{Plain}

@@ -4,7 +4,7 @@ ghost use Rattle.std.specs.List.{flat_map};
 ghost use Rattle.image_load.specs.Contents.{started};
 ghost use Rattle.report_text.specs.Text.{cores_text, core_text, ram_text};
 ghost use Rattle.run_outcomes.specs.Changes.{AreInside, AreNormal, changed_ram};
-ghost use Rattle.rv_code.specs.Machine.{first_ram};
+ghost use Rattle.image_load.specs.Start.{first_ram};
 ghost use Rattle.tcc_base.specs.Settings.{IsAllowed};
 ghost use Rattle.text_outcomes.specs.Told.{IsNormal, core_shown, end_text, ends_text, told_text, state_shown};
 ghost use Rattle.text_outcomes.specs.Changes.{AreWords, change_line};

@@ -23,7 +23,7 @@ use Rattle.theorem_serial.proofs.Lemmas.{exec_one}
 use Rattle.theorem_serial.proofs.Lemmas.{evict_one, grant_one, back_one}
 use Rattle.theorem_live.proofs.Lemmas.{Fit, fit-exec, fit-evict, fit-grant, fit-back}
 use Rattle.theorem_bounds.specs.Bounds.{AttemptCounted, most_sent}
-use Rattle.theorem_bounds.specs.Messages.{IsLine, line_named}
+use Rattle.rules_maps.specs.Messages.{IsLine, line_named}
 use Rattle.theorem_bounds.proofs.Lemmas.{CoreKeeps, exec-keeps, evict-keeps, grant-keeps, back-keeps}
 use Rattle.theorem_bounds.proofs.Lemmas.{fits_back, kept_in_frames as frames}
 use Rattle.theorem_bounds.proofs.Lemmas.{is_inside, below}

@@ -17,9 +17,8 @@ use Rattle.rules_tcc.specs.DirDeliver.{judged, write_back, dir_deliver}
 use Rattle.rules_tcc.specs.Sends.{Sends, nothing, to}
 use Rattle.rules_tcc.specs.State.{DirState}
 use Rattle.theorem_serial.proofs.Lemmas.{Marked, MarkedBy, Stays, Clears, Skipped, Marks, dir-marked}
-use Rattle.theorem_live.specs.Fits.{fits}
+use Rattle.rules_maps.specs.Messages.{fits, line_named}
 use Rattle.theorem_live.proofs.Lemmas.{FitAnswer, fit-answer, AllFit}
-use Rattle.theorem_bounds.specs.Messages.{line_named}
 use Rattle.theorem_bounds.proofs.Lemmas.{fits_out}
 use Rattle.rules_apart.specs.Carried.{IsCarried}
 use Rattle.theorem_apart.specs.Apart.{DirApart, EachCarried}

@@ -11,8 +11,7 @@ use Rattle.rules_tcc.specs.Local.{NodeState, AtCore, AtVendor, Acted, at_node, a
 use Rattle.rules_tcc.specs.Sends.{Sends}
 use Rattle.rules_tcc.specs.State.{CoreState}
 use Rattle.rules_tcc.specs.Step.{names_nodes}
-use Rattle.theorem_live.specs.Fits.{fits}
-use Rattle.theorem_bounds.specs.Messages.{WasGranted, tid_named}
+use Rattle.rules_maps.specs.Messages.{fits, WasGranted, tid_named}
 use Rattle.theorem_bounds.proofs.Lemmas.{fits_out, fits_back}
 use Rattle.rules_apart.specs.Carried.{IsCarried}
 use Rattle.theorem_apart.specs.Apart.{NodeInBounds, EachCarried, ActsInBounds}

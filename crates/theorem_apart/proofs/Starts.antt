@@ -2,8 +2,8 @@
 use Rattle.std.specs.Prelude.{ℕ, ◌+◌, ◌≡◌, ◌<◌}
 use Rattle.std.proofs.Common.{arith, refl}
 use Rattle.std.proofs.lemmas.Bool.Decides.{nat_tests}
-use Rattle.rv_code.specs.Machine.{first_ram}
-use Rattle.theorem_riscv.specs.Suiting.{local_at_start}
+use Rattle.image_load.specs.Start.{first_ram}
+use Rattle.rules_riscv.specs.Starting.{local_at_start}
 use Rattle.rules_program.specs.Program.{Local}
 use Rattle.rules_maps.specs.Lines.{no_lines}
 use Rattle.rules_maps.specs.Nodes.{Core, Dir, Vendor}

@@ -17,7 +17,7 @@ use Rattle.rules_tcc.specs.Sends.{to}
 use Rattle.rules_tcc.specs.State.{DirState}
 use Rattle.rules_tcc.specs.VendorDeliver.{vendor_deliver}
 use Rattle.theorem_serial.specs.InMemory.{StaysInMemory}
-use Rattle.theorem_live.specs.Fits.{fits}
+use Rattle.rules_maps.specs.Messages.{fits}
 use Rattle.rules_apart.specs.Carried.{IsCarried}
 use Rattle.theorem_apart.specs.Apart.{DirApart, NodeInBounds, EachCarried, ActsInBounds}
 use Rattle.theorem_apart.specs.Laws.{BringsCarried, NodesStayInBounds, RiscvNodesStayInBounds}

@@ -3,8 +3,7 @@ use Rattle.std.specs.Prelude.{ℕ, ◌^◌, ◌≡◌, ◌<◌, true, IfSome}
 use Rattle.rules_maps.specs.Nodes.{Node, Msg}
 use Rattle.rules_maps.specs.Shape.{Shape, home, lines}
 use Rattle.rules_tcc.specs.Step.{is_node}
-use Rattle.theorem_live.specs.Fits.{goes_to_dir}
-use Rattle.theorem_bounds.specs.Messages.{line_named, tid_named}
+use Rattle.rules_maps.specs.Messages.{goes_to_dir, line_named, tid_named}
 
 -- The machine has both ends of the link.
 pub record JoinsNodes (sh : Shape) (src dst : Node) : Type 0 where

@@ -11,9 +11,9 @@ use Rattle.rules_maps.specs.Shape.{Shape}
 use Rattle.rules_tcc.specs.State.{start}
 use Rattle.rules_tcc.specs.Step.{History, run}
 use Rattle.theorem_serial.specs.InMemory.{StaysInMemory}
-use Rattle.theorem_riscv.specs.Suiting.{world_at_start}
+use Rattle.rules_riscv.specs.Starting.{world_at_start}
 use Rattle.theorem_bounds.specs.Bounds.{IsBounded, most_sent}
-use Rattle.theorem_bounds.specs.Messages.{WasGranted}
+use Rattle.rules_maps.specs.Messages.{WasGranted}
 use Rattle.theorem_bounds.proofs.Bounded.{runs_are_bounded}
 use Rattle.theorem_bounds.proofs.Riscv.{riscv_runs_are_bounded}
 

@@ -12,8 +12,7 @@ use Rattle.theorem_serial.specs.Count.{CopyOf, LinesAway, passes}
 use Rattle.theorem_serial.specs.InMemory.{CopiesInMemory}
 use Rattle.theorem_serial.specs.Pairs.{pair}
 use Rattle.theorem_serial.proofs.Lemmas.{live-some}
-use Rattle.theorem_live.specs.Fits.{goes_to_core}
-use Rattle.theorem_bounds.specs.Messages.{line_named}
+use Rattle.rules_maps.specs.Messages.{goes_to_core, line_named}
 use Rattle.theorem_bounds.proofs.Granted.{Reached}
 use Rattle.theorem_bounds.proofs.Outside.{is_inside}
 

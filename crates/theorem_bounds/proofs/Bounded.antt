@@ -14,10 +14,10 @@ use Rattle.theorem_serial.specs.Invariants.{Carried, CarriedInMemory, first_stat
 use Rattle.theorem_serial.specs.Owners.{Grant, KeptOwners, grants_from}
 use Rattle.theorem_serial.specs.Ways.{Ways, first_ways, ways_from}
 use Rattle.theorem_serial.proofs.Lemmas.{runs_carry, runs_stay_in_memory, run-owners}
-use Rattle.theorem_live.specs.Fits.{KeptFits, fits}
+use Rattle.theorem_live.specs.Fits.{KeptFits}
+use Rattle.rules_maps.specs.Messages.{fits, InBounds}
 use Rattle.theorem_live.proofs.Lemmas.{links_fit}
 use Rattle.theorem_bounds.specs.Bounds.{CacheInMemory, CoreInBounds, IsBounded, RunsAreBounded}
-use Rattle.theorem_bounds.specs.Messages.{InBounds}
 use Rattle.theorem_bounds.proofs.AtHome.{out-line, back-line}
 use Rattle.theorem_bounds.proofs.Ends.{fits_out, fits_back}
 use Rattle.theorem_bounds.proofs.Granted.{Reached, commit_granted, core_granted, serves-bounded, out_granted, back_granted, grant_granted}

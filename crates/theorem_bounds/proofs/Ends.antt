@@ -4,7 +4,7 @@ use Rattle.std.proofs.Common.{arith, refl}
 use Rattle.std.proofs.lemmas.Bool.Decides.{nat_tests}
 use Rattle.rules_maps.specs.Nodes.{Core, Dir, Msg}
 use Rattle.rules_maps.specs.Shape.{Shape}
-use Rattle.theorem_live.specs.Fits.{fits, goes_to_core, goes_to_dir}
+use Rattle.rules_maps.specs.Messages.{fits, goes_to_core, goes_to_dir}
 
 -- both nodes exist, and the message is of a kind that goes there
 pub record Between (sh : Shape) (c d : ℕ) (kind : Bool) : Type 0 where

@@ -20,8 +20,8 @@ use Rattle.theorem_serial.specs.Pairs.{pair, share}
 use Rattle.theorem_serial.specs.Tids.{has_tid, part, handled}
 use Rattle.theorem_serial.specs.Ways.{Ways}
 use Rattle.theorem_serial.proofs.Lemmas.{granted-at, live-some, numbered-least, numbered-most, total-le}
-use Rattle.theorem_live.specs.Fits.{KeptFits, goes_to_core, goes_to_dir}
-use Rattle.theorem_bounds.specs.Messages.{WasGranted, tid_named}
+use Rattle.theorem_live.specs.Fits.{KeptFits}
+use Rattle.rules_maps.specs.Messages.{goes_to_core, goes_to_dir, WasGranted, tid_named}
 use Rattle.theorem_bounds.specs.Bounds.{ServesInBounds}
 
 -- what is proved of every run, of the grants and the ways along it

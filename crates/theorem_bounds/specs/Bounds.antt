@@ -12,7 +12,8 @@ use Rattle.rules_tcc.specs.State.{CoreState, DirState, start}
 use Rattle.rules_tcc.specs.Step.{History, run}
 use Rattle.theorem_serial.specs.InMemory.{StaysInMemory, WordInMemory}
 use Rattle.theorem_serial.specs.Tids.{has_tid}
-use Rattle.theorem_bounds.specs.Messages.{WasGranted, MessagesInBounds}
+use Rattle.theorem_bounds.specs.Messages.{MessagesInBounds}
+use Rattle.rules_maps.specs.Messages.{WasGranted}
 
 -- at most so many instructions, and of loads, stores and printed bytes at most one each for an instruction
 pub record IsCounted (most n : ℕ) (ls : List Load) (ss : List Stored) (bytes : List ℕ) : Type 0 where

@@ -3,7 +3,7 @@ use Rattle.std.specs.Prelude.{List}
 use Rattle.image_load.specs.Start.{Start}
 use Rattle.tcc_base.specs.Settings.{IsAllowed}
 use Rattle.rules_maps.specs.Nodes.{Event}
-use Rattle.theorem_riscv.specs.Suiting.{AfterRun}
+use Rattle.rules_riscv.specs.Starting.{AfterRun}
 use Rattle.theorem_bounds.specs.Bounds.{IsBounded}
 
 abbrev pub RiscvRunsAreBounded : Type 0

@@ -1,9 +1,9 @@
 -- The same of the RISC-V programs that the machine runs, from each start with allowed settings, as one equation.
 use Rattle.std.specs.Prelude.{ℕ, ◌≡◌, ◌<◌, List, [], map, length, Some, IfSome, nat_lt, if◌then◌else◌}
-use Rattle.image_load.specs.Start.{Start}
-use Rattle.rv_code.specs.Machine.{program, first_ram}
+use Rattle.image_load.specs.Start.{Start, first_ram}
+use Rattle.rv_code.specs.Machine.{program}
 use Rattle.rv_plain.specs.Machine.{plain_start, no_core}
-use Rattle.theorem_riscv.specs.Suiting.{local_at_start}
+use Rattle.rules_riscv.specs.Starting.{local_at_start}
 use Rattle.tcc_base.specs.Settings.{IsAllowed}
 use Rattle.rules_program.specs.Orders.{order_of_commit}
 use Rattle.rules_program.specs.Plain.{Plain, serial}

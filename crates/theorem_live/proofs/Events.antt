@@ -18,7 +18,7 @@ use Rattle.rules_tcc.specs.Step.{if_core_moves, if_core_takes, answered, if_vend
 use Rattle.rules_tcc.specs.Step.{is_enabled}
 use Rattle.rules_tcc.specs.Useful.{is_of_use, is_useful, holds_written, is_this_set, room}
 use Rattle.theorem_serial.specs.Count.{Kind, Asks as Requests, live, passes}
-use Rattle.theorem_live.specs.Fits.{goes_to_core, is_grant, is_request}
+use Rattle.rules_maps.specs.Messages.{goes_to_core, is_grant, is_request}
 use Rattle.theorem_live.specs.Progress.{spares, GoesOn, IsPlaced}
 use Rattle.theorem_live.proofs.Found.{back, out, found}
 use Rattle.theorem_serial.proofs.Lemmas.{is-lt}

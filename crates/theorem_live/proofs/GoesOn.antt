@@ -13,7 +13,7 @@ use Rattle.rules_tcc.specs.Step.{History}
 use Rattle.theorem_serial.specs.Count.{Asks, AnyGrant, live, passes}
 use Rattle.theorem_serial.specs.Pairs.{pair}
 use Rattle.theorem_serial.specs.Tids.{waits_for_tid, has_tid}
-use Rattle.theorem_live.specs.Fits.{is_grant}
+use Rattle.rules_maps.specs.Messages.{is_grant}
 use Rattle.theorem_live.specs.Progress.{GoesOn, EachGoesOn}
 use Rattle.theorem_live.proofs.Events.{Moves, goes_on, exec_goes_on, grant_counted, ask_goes_on}
 use Rattle.theorem_live.proofs.Holder.{NoneHeld, none_or_moves, after_next, awaited_moves}

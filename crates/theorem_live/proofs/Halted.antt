@@ -22,7 +22,7 @@ use Rattle.theorem_serial.specs.Count.{LoadOf, CopyOf, Commits, Marks, Probes, L
 use Rattle.theorem_serial.specs.OneCore.{executes, Empty}
 use Rattle.theorem_serial.specs.Pairs.{pair}
 use Rattle.theorem_serial.specs.Wrote.{wrote_line}
-use Rattle.theorem_live.specs.Fits.{goes_to_dir, fits}
+use Rattle.rules_maps.specs.Messages.{goes_to_dir, fits}
 use Rattle.theorem_live.proofs.Committing.{commit_moves}
 use Rattle.theorem_live.proofs.Events.{Moves, is_answer, evict_moves, back_moves, grant_moves, out_moves, ask_useful}
 use Rattle.theorem_live.proofs.Found.{out, serving_at, counted}

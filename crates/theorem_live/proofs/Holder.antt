@@ -23,7 +23,7 @@ use Rattle.theorem_serial.specs.Owners.{times}
 use Rattle.theorem_serial.specs.Pairs.{pair}
 use Rattle.theorem_serial.specs.Tids.{has_tid, opens}
 use Rattle.theorem_serial.proofs.Lemmas.{total-le, some-part, num-one, numbered-least, last-most, granted-at, times-listed, own-holder}
-use Rattle.theorem_live.specs.Fits.{goes_to_core}
+use Rattle.rules_maps.specs.Messages.{goes_to_core}
 use Rattle.theorem_live.proofs.Events.{Moves, is_answer, exec_moves, back_counted, out_counted}
 use Rattle.theorem_live.proofs.Least.{IsLeast, least}
 use Rattle.theorem_live.proofs.Owner.{load_moves}

@@ -12,7 +12,7 @@ use Rattle.rules_tcc.specs.Step.{History}
 use Rattle.rules_tcc.specs.DirDeliver.{dir_deliver}
 use Rattle.theorem_serial.specs.Count.{DataOf, CopyOf, LoadOf, LoadNot, live, passes}
 use Rattle.theorem_serial.specs.Pairs.{pair}
-use Rattle.theorem_live.specs.Fits.{goes_to_core}
+use Rattle.rules_maps.specs.Messages.{goes_to_core}
 use Rattle.theorem_live.proofs.Events.{Moves, is_answer, back_counted, out_counted, out_moves}
 use Rattle.theorem_live.proofs.Found.{back, out, serving_at, Found, found, counted}
 use Rattle.theorem_live.proofs.State.{Reached}

@@ -19,7 +19,7 @@ use Rattle.theorem_serial.specs.Tids.{has_tid}
 use Rattle.theorem_serial.specs.Ways.{Way, Untold, Skipped, Aborted, Committed}
 use Rattle.theorem_serial.specs.WayLaws.{Settled, is_given_up, given_up_by}
 use Rattle.theorem_serial.proofs.Lemmas.{total-le, some-part, num-one}
-use Rattle.theorem_live.specs.Fits.{goes_to_core, is_grant}
+use Rattle.rules_maps.specs.Messages.{goes_to_core, is_grant}
 use Rattle.theorem_live.proofs.Committing.{commit_moves}
 use Rattle.theorem_live.proofs.Events.{Moves, is_answer, back_counted, grant_counted, out_counted}
 use Rattle.theorem_live.proofs.State.{Reached}

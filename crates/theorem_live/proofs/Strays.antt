@@ -11,7 +11,7 @@ use Rattle.rules_tcc.specs.State.{Link}
 use Rattle.rules_tcc.specs.Links.{sent_all, sending, taking}
 use Rattle.rules_tcc.specs.Sends.{Sends, nothing, to, then_send, to_dirs, when}
 use Rattle.rules_tcc.proofs.Lemmas.{node_eq-eq}
-use Rattle.theorem_live.specs.Fits.{goes_to_core, goes_to_dir, fits}
+use Rattle.rules_maps.specs.Messages.{goes_to_core, goes_to_dir, fits}
 use Rattle.theorem_serial.proofs.Lemmas.{is-lt}
 
 -- among messages that are sent, and on a link

@@ -3,4 +3,3 @@ pub mod Lemmas
 mod Serial
 mod Events
 mod Running
-mod Worked

@@ -13,13 +13,9 @@ use Rattle.rules_tcc.specs.Links.{in_flight}
 use Rattle.rules_tcc.specs.Seen.{IsDone}
 use Rattle.rules_tcc.specs.State.{World}
 use Rattle.rules_tcc.specs.Step.{History, Stepped, step, next_history, run}
-use Rattle.theorem_riscv.specs.Suiting.{world_at_start, AfterRun}
-use Rattle.theorem_phases.specs.Phased.{has_halted, phased_from, phased_picked, phased_useful}
-use Rattle.theorem_phases.specs.Phases.{x27, phase_of, phases_of}
-
--- all cores at their entries, and no commit
-abbrev pub at_start : Start → History
-at_start s = record { world = world_at_start s; commits = [] }
+use Rattle.rules_riscv.specs.Starting.{world_at_start, at_start, AfterRun}
+use Rattle.rules_phases.specs.Phased.{has_halted, phased_from, phased_picked, phased_useful}
+use Rattle.rules_phases.specs.Phases.{x27, phase_of, phases_of}
 
 -- P of the state that a run by phases leads to
 abbrev pub AfterPhased : Start → List Event → (History → Type 0) → Type 0

@@ -1,10 +1,8 @@
-// Phases of ordered transactions, as definitions over the protocol's rules, and what runs by phases give. Each law is the contract of an
-// empty function; nothing here depends on code.
+// What runs by phases give. Each law is the contract of an empty function; nothing here depends on code.
 #![tactic(auto)]
 
 ghost use Rattle.theorem_phases.specs.Laws.{PhasedRunsAreRuns, PhasesNeverFall, PhasedNeverStuck, PhasedPickedEndsDone, PhasedPickedRuns};
 ghost use Rattle.theorem_phases.specs.Laws.{PhasesGrow, OneRequestEach, HaltsStay, RequestsStay};
-ghost use Rattle.theorem_phases.specs.Worked.{GoesOn, StaysInPhase, InPhaseOne, HeldBack, BothHalt};
 
 /// A run by phases is a run of the protocol's rules, to the same state and commits.
 pub fn phased_runs_are_runs()
@@ -46,14 +44,4 @@ pub fn phases_grow()
 /// each commit.
 pub fn phases_never_fall()
     ensures fall { PhasesNeverFall }
-{}
-
-/// What these laws ask is met, by two images that set x27: the phases of a few transactions, the request of a core that is held back as
-/// another one is in an earlier phase, and the phases of a whole run of two cores are computed.
-pub fn worked_runs_by_phases()
-    ensures goes_on { GoesOn }
-    ensures stays { StaysInPhase }
-    ensures asks { InPhaseOne }
-    ensures held { HeldBack }
-    ensures whole { BothHalt }
 {}

@@ -3,8 +3,8 @@
 use Rattle.std.specs.Prelude.{ℕ, ◌≡◌, ◌<◌, Bool, true, false, map, Option, Some, None, IfSome, nat_lt, if◌then◌else◌}
 use Rattle.std.proofs.Common.{arith, refl, ap, sym, ◌∙◌}
 use Rattle.std.proofs.lemmas.Bool.Decides.{nat_tests}
-use Rattle.image_load.specs.Start.{Start}
-use Rattle.rv_code.specs.Machine.{program, first_ram}
+use Rattle.image_load.specs.Start.{Start, first_ram}
+use Rattle.rv_code.specs.Machine.{program}
 use Rattle.rv_plain.specs.Machine.{plain_start, start_core, core_at_start, no_core}
 use Rattle.rules_program.specs.Cores.{printed, AgreeOn, with_others, and_others}
 use Rattle.rules_program.specs.Orders.{order_of_commit}
@@ -18,7 +18,7 @@ use Rattle.theorem_serial.specs.Shown.{shown_core}
 use Rattle.theorem_serial.specs.Owners.{KeptOwners}
 use Rattle.theorem_serial.proofs.Lemmas.{commits_are_by_cores, granted-once, run-owners}
 use Rattle.theorem_riscv.specs.Given.{committed, IsSerial, RunsGiveThePlainMachine, grants_of, TidsOf, CommittedTidsWereGrantedOnce}
-use Rattle.theorem_riscv.specs.Suiting.{local_at_start, world_at_start}
+use Rattle.rules_riscv.specs.Starting.{local_at_start, world_at_start}
 use Rattle.theorem_riscv.proofs.MachineRuns.{riscv_runs_are_serial}
 
 -- the machine of the theorem, where all numbers are cores

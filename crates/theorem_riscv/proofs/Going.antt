@@ -1,12 +1,12 @@
 -- The RISC-V machines are equipped for their programs, and so no state of them is stuck.
-use Rattle.image_load.specs.Start.{Start}
-use Rattle.rv_code.specs.Machine.{program, first_ram}
+use Rattle.image_load.specs.Start.{Start, first_ram}
+use Rattle.rv_code.specs.Machine.{program}
 use Rattle.tcc_base.specs.Settings.{IsAllowed}
 use Rattle.base_lemmas.proofs.Lemmas.{power-positive}
 use Rattle.theorem_live.specs.Progress.{IsEquipped}
 use Rattle.theorem_live.proofs.Lemmas.{no_state_is_stuck, each_core_goes_on, picked_ends_done}
 use Rattle.theorem_riscv.specs.Going.{RiscvNeverStuck, RiscvCoresGoOn, RiscvPickedEndsDone}
-use Rattle.theorem_riscv.specs.Suiting.{local_at_start}
+use Rattle.rules_riscv.specs.Starting.{local_at_start}
 use Rattle.theorem_riscv.proofs.Needs.{needs-inside}
 
 pub equipped : (s : Start) → IsAllowed s.settings → IsEquipped s.settings (program s)

@@ -6,11 +6,11 @@ use Rattle.std.proofs.lemmas.Bool.Decides.{nat_tests}
 use Rattle.std.proofs.lemmas.Nat.{zero_from_ones, ones_le_self}
 use Rattle.image_load.specs.Memory.{segment_at, word_of as image_load-word_of, all_four}
 use Rattle.image_load.specs.Raw.{raw_images, raw_fault}
-use Rattle.image_load.specs.Start.{start as image_load-start}
+use Rattle.image_load.specs.Start.{start as image_load-start, first_ram}
 use Rattle.rv_decode.specs.Decoding.{inst_of, decoded}
 use Rattle.rv_exec.specs.Effects.{planned, results, finished}
 use Rattle.rv_exec.specs.Running.{program as rv_exec-program}
-use Rattle.rv_code.specs.Machine.{program, first_ram, in_ram, start_regs}
+use Rattle.rv_code.specs.Machine.{program, in_ram, start_regs}
 use Rattle.tcc_base.specs.Settings.{Keeps}
 use Rattle.tcc_base.specs.declared.config.Limit.TheVariants.{Cores, Dirs, Sets, Ways, Ram, Base}
 use Rattle.rules_program.specs.Cores.{printed}

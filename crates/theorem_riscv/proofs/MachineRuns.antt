@@ -1,11 +1,12 @@
 -- The programs suit, and so the theorem of the protocol's rules holds of their runs.
 use Rattle.std.specs.Prelude.{◌<◌, ◌/◌, ◌%◌, ◌^◌, Bool, true, false, if◌then◌else◌, nat_lt}
 use Rattle.std.proofs.Common.{arith}
-use Rattle.image_load.specs.Start.{Start}
-use Rattle.rv_code.specs.Machine.{program, first_ram}
+use Rattle.image_load.specs.Start.{Start, first_ram}
+use Rattle.rv_code.specs.Machine.{program}
 use Rattle.theorem_attempt.specs.Follows.{IsSmall}
 use Rattle.theorem_serial.proofs.Lemmas.{runs_are_serial}
-use Rattle.theorem_riscv.specs.Suiting.{local_at_start, RiscvProgramsSuit, RiscvRunsAreSerial}
+use Rattle.theorem_riscv.specs.Suiting.{RiscvProgramsSuit, RiscvRunsAreSerial}
+use Rattle.rules_riscv.specs.Starting.{local_at_start}
 use Rattle.theorem_riscv.proofs.Needs.{needs-fit, needs-inside}
 
 -- RAM begins with words of 32 bits, and past its end stand zeros

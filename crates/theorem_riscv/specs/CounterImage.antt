@@ -2,15 +2,15 @@
 -- which the first core goes on alone and the second is violated.
 use Rattle.std.specs.Prelude.{ℕ, ◌≡◌, List, [], ◌∷◌, ◌++◌, replicate, Some, None, option_map}
 use Rattle.image_load.specs.Raw.{raw_images, raw_fault}
-use Rattle.image_load.specs.Start.{Start, start}
-use Rattle.rv_code.specs.Machine.{program, first_ram}
+use Rattle.image_load.specs.Start.{Start, start, first_ram}
+use Rattle.rv_code.specs.Machine.{program}
 use Rattle.tcc_base.specs.Settings.{IsAllowed}
 use Rattle.tcc_base.specs.declared.access.CoreEnd.TheVariants.{Halt}
 use Rattle.rules_program.specs.Plain.{PlainCore}
 use Rattle.rules_tcc.specs.Step.{run}
 use Rattle.theorem_serial.specs.Counter.{two_cores, whole_schedule, three_commits}
 use Rattle.theorem_serial.specs.Shown.{shown}
-use Rattle.theorem_riscv.specs.Suiting.{world_at_start}
+use Rattle.rules_riscv.specs.Starting.{world_at_start}
 
 -- lui x6,0x80000; lw x5,64(x6); addi x5,x5,1; sw x5,64(x6); sw x5,96(x6); ecall, which ends the transaction; addi x17,x0,93; ecall,
 -- which halts

@@ -1,8 +1,8 @@
 -- What a run of the protocol shows of what is committed, and that it is the plain machine, which executes the commits one after
 -- another from the same start.
 use Rattle.std.specs.Prelude.{ℕ, ◌≡◌, ◌≤◌, List, map, Contains, Some, nat_lt, if◌then◌else◌}
-use Rattle.image_load.specs.Start.{Start}
-use Rattle.rv_code.specs.Machine.{program, first_ram}
+use Rattle.image_load.specs.Start.{Start, first_ram}
+use Rattle.rv_code.specs.Machine.{program}
 use Rattle.rv_plain.specs.Machine.{plain_start, no_core}
 use Rattle.tcc_base.specs.Settings.{IsAllowed}
 use Rattle.tcc_base.specs.declared.access.Commit.{Commit}
@@ -14,7 +14,7 @@ use Rattle.rules_tcc.specs.Step.{History}
 use Rattle.theorem_serial.specs.Invariants.{first_state}
 use Rattle.theorem_serial.specs.Owners.{Grant, grants_from, IsNumbered, IsRising, AreGranted, times}
 use Rattle.theorem_serial.specs.Shown.{shown_core}
-use Rattle.theorem_riscv.specs.Suiting.{local_at_start, AfterRun}
+use Rattle.rules_riscv.specs.Starting.{local_at_start, AfterRun}
 
 -- what is committed, as a plain machine: each word as it is seen, and of each core the checkpoint, whether and how it has halted,
 -- and what its commits printed

@@ -7,7 +7,7 @@ use Rattle.theorem_live.specs.Progress.{DoneWhereNoneUseful, EachGoesOn}
 use Rattle.rules_maps.specs.Nodes.{Event}
 use Rattle.rules_tcc.specs.Picked.{picked}
 use Rattle.rules_tcc.specs.Seen.{IsDone}
-use Rattle.theorem_riscv.specs.Suiting.{world_at_start, AfterRun}
+use Rattle.rules_riscv.specs.Starting.{world_at_start, AfterRun}
 
 -- Where no event is useful after a run the state is done.
 abbrev pub RiscvNeverStuck : Type 0

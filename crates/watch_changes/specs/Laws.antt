@@ -1,8 +1,7 @@
 -- What holds of changes.
 use Rattle.std.specs.Prelude.{ℕ, ◌≡◌, Bool, List, [], ◌++◌, Some}
 use Rattle.std.specs.List.{flat_map}
-use Rattle.image_load.specs.Start.{Start}
-use Rattle.rv_code.specs.Machine.{first_ram}
+use Rattle.image_load.specs.Start.{Start, first_ram}
 use Rattle.rules_program.specs.Program.{Program}
 use Rattle.rules_maps.specs.Nodes.{Node, Event}
 use Rattle.rules_maps.specs.Shape.{Shape}

@@ -8,7 +8,7 @@ use Rattle.rules_maps.specs.Bridge.{node_of}
 use Rattle.rules_maps.specs.Nodes.{Node, Core, Dir, Vendor}
 use Rattle.rules_maps.specs.Shape.{Shape, lines}
 use Rattle.rules_tcc.specs.Step.{is_node}
-use Rattle.rv_code.specs.Machine.{first_ram}
+use Rattle.image_load.specs.Start.{first_ram}
 use Rattle.net_core.specs.Machine.{Machine, settings_of, start_of, world_of}
 use Rattle.watch_state.specs.Plain.{record_of}
 use Rattle.watch_state.specs.Records as plain_record

@@ -1,6 +1,6 @@
 // The part of a node's records that an event may change.
 ghost use Rattle.std.specs.Prelude.{◌≡◌, ◌<◌, [], IfOk, Some, map, true};
-ghost use Rattle.rv_code.specs.Machine.{first_ram};
+ghost use Rattle.image_load.specs.Start.{first_ram};
 ghost use Rattle.rules_maps.specs.Bridge.{node_of};
 ghost use Rattle.rules_maps.specs.Nodes.{Deliver, Evict, Exec};
 ghost use Rattle.tcc_msg.specs.Plain.{event_of, msg_of};

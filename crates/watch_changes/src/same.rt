@@ -1,7 +1,7 @@
 // Whether two records say the same.
 ghost use Rattle.std.specs.Prelude.{◌≡◌, ◌↔◌, ◌==◌, ◌&&◌, IsTrue, option_map};
 ghost use Rattle.commit_engine.specs.Engine.{phase_of};
-ghost use Rattle.rv_plain.specs.Attempts.{outcome_of};
+ghost use Rattle.rv_exec.specs.Outcomes.{outcome_of};
 ghost use Rattle.rules_maps.specs.Masks.{has};
 ghost use Rattle.rules_maps.specs.Words.{those};
 ghost use Rattle.watch_state.specs.Plain.{frame_of, known_of, record_of};
@@ -9,7 +9,7 @@ ghost use Rattle.watch_state.specs.Records as plain;
 ghost use Rattle.watch_changes.specs.Same.{alike, frame_numbers, known_numbers, outcome_numbers, owner_numbers, phase_numbers, same};
 
 use commit_engine::{DirSet, Phase};
-use rv_plain::Outcome;
+use rv_exec::Outcome;
 use spec_cache::FrameView;
 use tcc_base::{CoreId, DirId, LineAddr, Tid};
 use watch_state::{Known, Record};

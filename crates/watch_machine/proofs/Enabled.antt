@@ -13,7 +13,7 @@ use Rattle.rules_tcc.specs.DirDeliver as rules
 use Rattle.rules_tcc.specs.Links.{in_flight}
 use Rattle.rules_tcc.specs.State.{World}
 use Rattle.rules_tcc.specs.Step.{Stepped, answered, happens, if_in_flight, is_node, names_nodes, next_history, recorded, step}
-use Rattle.theorem_live.specs.Fits.{fits}
+use Rattle.rules_maps.specs.Messages.{fits}
 use Rattle.live_core.specs.Reached.{IsLive}
 use Rattle.net_core.specs.Answers.{step_of}
 use Rattle.net_core.specs.Machine.{Machine, history_of, program_of, settings_of, world_of}

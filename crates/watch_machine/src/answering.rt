@@ -1,6 +1,6 @@
 // What becomes of a message that a directory takes.
 ghost use Rattle.std.specs.Prelude.{◌≡◌, ◌<◌, IfSome};
-ghost use Rattle.theorem_bounds.specs.Messages.{line_named};
+ghost use Rattle.rules_maps.specs.Messages.{line_named};
 ghost use Rattle.rules_maps.specs.Nodes.{Skip, Abort, Mark, InvAck, LoadReq, WriteBack, Flush};
 ghost use Rattle.rules_maps.specs.Shape.{home, lines};
 ghost use Rattle.tcc_msg.specs.Plain.{msg_of};

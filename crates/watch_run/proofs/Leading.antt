@@ -4,7 +4,7 @@ use Rattle.image_load.specs.Contents.{Contents, started}
 use Rattle.image_load.specs.Start.{Start}
 use Rattle.rv_code.specs.Machine.{program}
 use Rattle.theorem_riscv.specs.Given.{IsSerial}
-use Rattle.theorem_riscv.specs.Suiting.{world_at_start}
+use Rattle.rules_riscv.specs.Starting.{world_at_start, at_start}
 use Rattle.theorem_riscv.proofs.Lemmas.{runs_give_the_plain_machine}
 use Rattle.tcc_base.specs.Settings.{IsAllowed}
 use Rattle.rules_maps.specs.Nodes.{Event}
@@ -12,7 +12,6 @@ use Rattle.rules_tcc.specs.Seen.{IsDone}
 use Rattle.rules_tcc.specs.State.{World}
 use Rattle.rules_tcc.specs.Step.{History, run, run_from}
 use Rattle.net_core.specs.Machine.{Machine, history_of, program_of, settings_of, start_of, world_of}
-use Rattle.net_core.specs.Reached.{first_history}
 use Rattle.watch_count.specs.Counts.{Counts, nothing_counted, run_counted}
 use Rattle.watch_run.specs.Going.{Went}
 use Rattle.watch_run.specs.Looked.{counts_of_run, run_facts}
@@ -21,7 +20,7 @@ use Rattle.watch_run.specs.Written.{LeadsTo}
 -- the start of a machine is that of what was loaded, and its state the first one
 pub record StartsAt (c : Contents) (m : Machine) : Type 0 where
   pub code : m.cores.code ≡ c
-  pub first : history_of m ≡ first_history (started c)
+  pub first : history_of m ≡ at_start (started c)
 
 pub world-first : (c : Contents) (m : Machine) → StartsAt c m → world_of m ≡ world_at_start (started c)
 unfolding history_of

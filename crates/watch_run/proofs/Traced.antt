@@ -7,7 +7,7 @@ use Rattle.std.specs.Io.KnownBytes.{Appends}
 use Rattle.image_load.specs.Contents.{Contents, started}
 use Rattle.image_load.specs.Start.{Start}
 use Rattle.rv_code.specs.Machine.{program}
-use Rattle.theorem_riscv.specs.Suiting.{world_at_start}
+use Rattle.rules_riscv.specs.Starting.{world_at_start, at_start}
 use Rattle.tcc_base.specs.Settings.{IsAllowed}
 use Rattle.base_lemmas.proofs.Lemmas.{appends-more, appends-none}
 use Rattle.rules_maps.specs.Nodes.{Event}
@@ -15,7 +15,6 @@ use Rattle.rules_tcc.specs.Seen.{IsDone}
 use Rattle.rules_tcc.specs.State.{World}
 use Rattle.tcc_world.specs.Faults.{Rose}
 use Rattle.net_core.specs.Machine.{Machine, history_of, settings_of, world_of}
-use Rattle.net_core.specs.Reached.{first_history}
 use Rattle.watch_trace.specs.Text.{head_text, tail_text}
 use Rattle.watch_trace.proofs.Lemmas.{trace-parts}
 use Rattle.watch_changes.specs.Text.{shown_from, shows, states_text}
@@ -59,16 +58,16 @@ begun-none lines held es a = record { firsts = []; left = es; parts = refl; n = 
 
 -- the lines of a machine's events at its start are those from there
 lines-first : (c : Contents) (m : Machine) (shown : Shown) (es : List Event) → StartsAt c m
-    → lines_from shown m es ≡ shown_lines shown (started c) es (first_history (started c))
+    → lines_from shown m es ≡ shown_lines shown (started c) es (at_start (started c))
 unfolding started
 lines-first c m shown es s =
     (λ i. shown_from (shows shown.states (started (s.code i))) (s.code i).settings (program (started (s.code i))) shown.from es (s.first i))
     ∙ go shown.states
   where
     go : (b : Bool)
-        → shown_from (shows b (started c)) c.settings (program (started c)) shown.from es (first_history (started c))
-        ≡ lines_with b (started c) shown.from es (first_history (started c))
-    go false = plain-from c.settings (program (started c)) shown.from es (first_history (started c))
+        → shown_from (shows b (started c)) c.settings (program (started c)) shown.from es (at_start (started c))
+        ≡ lines_with b (started c) shown.from es (at_start (started c))
+    go false = plain-from c.settings (program (started c)) shown.from es (at_start (started c))
     go true = refl
 
 pub begun-first : (c : Contents) (m : Machine) (shown : Shown) (held : List ℕ) (es fs : List Event) (a b : Option (List ℕ))
@@ -76,7 +75,7 @@ pub begun-first : (c : Contents) (m : Machine) (shown : Shown) (held : List ℕ)
     → IsTraceBegun (started c) shown fs a b
 unfolding started
 begun-first c m shown held es fs a b s e f h =
-    subst (λ k. HasBegun (λ firsts. shown_lines shown (started c) firsts (first_history (started c))) (head_text k.settings shown.from)
+    subst (λ k. HasBegun (λ firsts. shown_lines shown (started c) firsts (at_start (started c))) (head_text k.settings shown.from)
     fs a b) s.code
     (subst (λ (lines : List Event → List ℕ). HasBegun lines (head_text (settings_of m) shown.from) fs a b)
     (λ i firsts. lines-first c m shown firsts s i)
@@ -107,8 +106,8 @@ parts-first : (c : Contents) (m : Machine) (shown : Shown) (held : List ℕ) (es
     → (held ++ lines_from shown m es) ++ tail_text done number ≡ shown_trace shown (started c) (world_at_start (started c)) fs done
 unfolding started
 parts-first c m shown held es fs done number s e f n =
-    let lines : lines_from shown m es ≡ shown_lines shown (started c) fs (first_history (started c)) =
-    lines-first c m shown es s ∙ ap (λ xs. shown_lines shown (started c) xs (first_history (started c))) f in
+    let lines : lines_from shown m es ≡ shown_lines shown (started c) fs (at_start (started c)) =
+    lines-first c m shown es s ∙ ap (λ xs. shown_lines shown (started c) xs (at_start (started c))) f in
     (λ i. ((e ∙ ap (λ k. head_text k.settings shown.from) s.code) i ++ lines i) ++ tail_text done (n i))
     ∙ sym (with-parts shown.states (started c) (world_at_start (started c)) shown.from fs done)
 

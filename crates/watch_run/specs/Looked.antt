@@ -6,7 +6,7 @@ use Rattle.rules_maps.specs.Nodes.{Node, Event}
 use Rattle.rules_maps.specs.Shape.{Shape}
 use Rattle.rules_program.specs.Program.{Program}
 use Rattle.rules_tcc.specs.Step.{History, next_history}
-use Rattle.net_core.specs.Reached.{first_history}
+use Rattle.rules_riscv.specs.Starting.{at_start}
 use Rattle.watch.specs.Facts.{Fact}
 use Rattle.watch.specs.Happened.{actor, happened}
 use Rattle.watch_count.specs.Counts.{Counts, nothing_counted, run_counted}
@@ -23,7 +23,7 @@ run_facts sh p (e ∷ es) h = and_later (actor e, happened sh p h e) (run_facts 
 
 -- what is counted of a run by these events
 unfoldable pub counts_of_run : Start → List Event → Counts
-counts_of_run s es = run_counted (run_facts s.settings (program s) es (first_history s)) (nothing_counted s.settings.cores)
+counts_of_run s es = run_counted (run_facts s.settings (program s) es (at_start s)) (nothing_counted s.settings.cores)
 
 -- the run was counted to its end
 pub record IsCounted (s : Start) (es : List Event) (done : Bool) (events : ℕ) (counts : Counts) : Type 0 where

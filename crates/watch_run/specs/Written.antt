@@ -4,13 +4,12 @@ use Rattle.std.specs.Io.KnownBytes.{Appends}
 use Rattle.image_load.specs.Start.{Start}
 use Rattle.rv_code.specs.Machine.{program}
 use Rattle.theorem_riscv.specs.Given.{IsSerial}
-use Rattle.theorem_riscv.specs.Suiting.{world_at_start}
+use Rattle.rules_riscv.specs.Starting.{world_at_start, at_start}
 use Rattle.rules_maps.specs.Nodes.{Event}
 use Rattle.rules_maps.specs.Shape.{Shape}
 use Rattle.rules_tcc.specs.Seen.{IsDone}
 use Rattle.rules_tcc.specs.Step.{History, run}
 use Rattle.tcc_world.specs.Faults.{Rose}
-use Rattle.net_core.specs.Reached.{first_history}
 use Rattle.rules_tcc.specs.State.{World}
 use Rattle.watch_trace.specs.Text.{head_text, tail_text}
 use Rattle.watch_run.specs.Shown.{shown_lines, shown_trace}
@@ -60,7 +59,7 @@ pub record IsTraced (s : Start) (shown : Shown) (es : List Event) (before after 
 -- the first lines of a trace were begun, and lines of its first events may stand behind them, but none of the last lines
 abbrev pub IsTraceBegun : Start → Shown → List Event → (before after : Option (List ℕ)) → Type 0
 IsTraceBegun s shown es before after =
-    HasBegun (λ firsts. shown_lines shown s firsts (first_history s)) (head_text s.settings shown.from) es before after
+    HasBegun (λ firsts. shown_lines shown s firsts (at_start s)) (head_text s.settings shown.from) es before after
 
 -- the whole trace was made, and a first part of it was written, but not all
 pub record IsTraceCut (s : Start) (shown : Shown) (es : List Event) (before after : Option (List ℕ)) : Type 0 where

@@ -2,7 +2,7 @@
 ghost use Rattle.std.specs.Prelude.{◌≡◌, ◌+◌, ◌<◌, ◌≤◌, [], IfOk, OnOk, length, map};
 ghost use Rattle.image_load.specs.Contents.{started};
 ghost use Rattle.net_core.specs.Machine.{history_of, program_of, settings_of, start_of, world_of};
-ghost use Rattle.theorem_riscv.specs.Suiting.{world_at_start};
+ghost use Rattle.rules_riscv.specs.Starting.{world_at_start};
 ghost use Rattle.tcc_msg.specs.Plain.{event_of};
 ghost use Rattle.watch.specs.Happened.{actor as plain_actor, happened};
 ghost use Rattle.watch.specs.Plain.{fact_of};

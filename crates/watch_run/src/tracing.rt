@@ -3,7 +3,7 @@ ghost use Rattle.std.specs.Prelude.{◌≡◌, ◌+◌, ◌<◌, ◌≤◌, ℕ,
 ghost use Rattle.std.specs.Io.KnownBytes.{Appends};
 ghost use Rattle.image_load.specs.Contents.{started};
 ghost use Rattle.net_core.specs.Machine.{settings_of, start_of, world_of};
-ghost use Rattle.theorem_riscv.specs.Suiting.{world_at_start};
+ghost use Rattle.rules_riscv.specs.Starting.{world_at_start};
 ghost use Rattle.tcc_world.specs.Faults.{Rose};
 ghost use Rattle.watch_run.specs.Going.{Went};
 ghost use Rattle.watch_run.specs.Telling.{lines_from};

@@ -4,8 +4,7 @@ use Rattle.std.proofs.Common.{List, [], ◌∷◌, Option, Some, None, is_some, 
 use Rattle.std.specs.Prelude.{option_map}
 use Rattle.std.proofs.lemmas.Bool.{ne_eqb}
 use Rattle.std.proofs.lemmas.Bool.Decides.{nat_tests}
-use Rattle.image_load.specs.Start.{Start}
-use Rattle.rv_code.specs.Machine.{first_ram}
+use Rattle.image_load.specs.Start.{Start, first_ram}
 use Rattle.rules_maps.specs.Lines.{Lines}
 use Rattle.rules_maps.specs.Masks.{has}
 use Rattle.rules_maps.specs.Shape.{Shape, home}

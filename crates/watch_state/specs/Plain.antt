@@ -3,7 +3,7 @@ use Rattle.std.specs.Prelude.{option_map}
 use Rattle.rules_maps.specs.Masks.{has}
 use Rattle.rules_maps.specs.Words.{those}
 use Rattle.commit_engine.specs.Engine.{phase_of}
-use Rattle.rv_plain.specs.Attempts.{outcome_of}
+use Rattle.rv_exec.specs.Outcomes.{outcome_of}
 use Rattle.spec_cache.specs.declared.frame.FrameView.{FrameView}
 use Rattle.watch_state.specs.Records as plain
 use Rattle.watch_state.specs.declared.records.Known.{Known}

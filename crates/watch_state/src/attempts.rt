@@ -5,7 +5,7 @@ ghost use Rattle.rules_maps.specs.Masks.{has};
 ghost use Rattle.rules_maps.specs.Words.{those};
 ghost use Rattle.rules_tcc.specs.Seen.{numbers};
 ghost use Rattle.commit_engine.specs.Engine.{after_of};
-ghost use Rattle.rv_plain.specs.Attempts.{outcome_of};
+ghost use Rattle.rv_exec.specs.Outcomes.{outcome_of};
 ghost use Rattle.core_node.specs.View.{awaited_of, core_of};
 ghost use Rattle.watch_state.specs.Cores.{attempt_records, awaited_record, committed_record, ended_record, owed_record};
 ghost use Rattle.watch_state.specs.Cores.{reserved_record};
@@ -17,7 +17,7 @@ use crate::numbers::{any_in, only_below};
 use crate::records::Record;
 use commit_engine::DirSet;
 use core_node::{Awaited, Core};
-use rv_plain::Outcome;
+use rv_exec::Outcome;
 use tcc_base::{Config, CoreId, DirId, List, NoMemory, Tid};
 
 /// One record more.

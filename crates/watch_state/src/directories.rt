@@ -2,7 +2,7 @@
 ghost use Rattle.std.specs.Prelude.{◌≡◌, ◌+◌, ◌<◌, ◌≤◌, ◌++◌, ◌==◌, ◌∷◌, [], ℕ, length, OnOk, map, if◌then◌else◌};
 ghost use Rattle.std.specs.List.{All, flat_map};
 ghost use Rattle.image_load.specs.Contents.{started};
-ghost use Rattle.rv_code.specs.Machine.{first_ram};
+ghost use Rattle.image_load.specs.Start.{first_ram};
 ghost use Rattle.rules_maps.specs.Serving.{is_skipped};
 ghost use Rattle.rules_maps.specs.Shape.{home, lines};
 ghost use Rattle.rules_tcc.specs.Seen.{numbers};

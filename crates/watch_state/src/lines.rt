@@ -5,7 +5,7 @@ ghost use Rattle.rules_maps.specs.Masks.{has};
 ghost use Rattle.rules_maps.specs.Words.{those};
 ghost use Rattle.tcc_msg.specs.Plain.{msg_of};
 ghost use Rattle.commit_engine.specs.Engine.{phase_of};
-ghost use Rattle.rv_plain.specs.Attempts.{outcome_of};
+ghost use Rattle.rv_exec.specs.Outcomes.{outcome_of};
 ghost use Rattle.watch_state.specs.Lines.{frame_words, mark_words, owner_words, record_line, record_lines};
 ghost use Rattle.watch_state.specs.Plain.{frame_of, known_of, record_of};
 ghost use Rattle.watch_state.specs.Records.{AwaitsLine, CommittedAt, CoreIs, DirectoryIs, EndedBy, Holds, HomeWord, InFlight, LineIs};
@@ -14,7 +14,7 @@ ghost use Rattle.watch_state.specs.Records.{OwedBy, Register, Reserved, SavedPc,
 use crate::numbers::{push_numbers, push_numbers_or_none};
 use crate::records::{Known, Record};
 use commit_engine::{DirSet, Phase};
-use rv_plain::Outcome;
+use rv_exec::Outcome;
 use spec_cache::FrameView;
 use std::alloc::AllocError;
 use tcc_base::{CoreId, DirId, LineAddr, Mask, Tid};

@@ -1,7 +1,7 @@
 // All nodes of a machine, the records of each appended to a text. Where memory runs out, the text holds a part of them.
 ghost use Rattle.std.specs.Prelude.{◌≡◌, ◌++◌, ◌<◌, ◌∷◌, [], OnOk, string_bytes, map};
 ghost use Rattle.std.specs.List.{All, flat_map};
-ghost use Rattle.rv_code.specs.Machine.{first_ram};
+ghost use Rattle.image_load.specs.Start.{first_ram};
 ghost use Rattle.rules_maps.specs.Shape.{lines};
 ghost use Rattle.rules_tcc.specs.Seen.{numbers};
 ghost use Rattle.net_core.specs.Machine.{settings_of, start_of, world_of};

@@ -1,7 +1,7 @@
 // A record of a node as data: what one part of it is now.
 use commit_engine::{DirSet, Phase};
 use dir_lines::CoreSet;
-use rv_plain::Outcome;
+use rv_exec::Outcome;
 use spec_cache::FrameView;
 use tcc_base::{CoreId, DirId, LineAddr, Mask, Tid};
 

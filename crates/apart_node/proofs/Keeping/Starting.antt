@@ -2,7 +2,7 @@
 use Rattle.std.proofs.Common.{◌≡◌, false, List, [], ◌++◌, map, Option, Some, None, refl, ap, sym, arith}
 use Rattle.std.specs.Prelude.{All, IfSome}
 use Rattle.image_load.specs.Contents.{started}
-use Rattle.theorem_riscv.specs.Suiting.{world_at_start}
+use Rattle.rules_riscv.specs.Starting.{world_at_start}
 use Rattle.tcc_base.specs.Settings.{Settings}
 use Rattle.rules_maps.specs.Bridge.{node_of}
 use Rattle.rules_maps.specs.Nodes.{Node}

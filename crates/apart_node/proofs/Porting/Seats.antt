@@ -6,7 +6,7 @@ use Rattle.std.proofs.lemmas.Option.{cond_some, same_Some}
 use Rattle.tcc_base.specs.Settings.{Settings}
 use Rattle.base_lemmas.proofs.Lemmas.{and-left, and-right}
 use Rattle.rules_maps.specs.Nodes.{Node, Core, Dir, Vendor, Msg}
-use Rattle.theorem_live.specs.Fits.{fits, goes_to_dir, goes_to_core, is_grant}
+use Rattle.rules_maps.specs.Messages.{fits, goes_to_dir, goes_to_core, is_grant}
 use Rattle.rules_apart.specs.Carried.{IsCarried}
 use Rattle.apart_node.specs.Peers.{if_below, seat, peer_count}
 

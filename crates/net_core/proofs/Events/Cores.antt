@@ -5,7 +5,7 @@ use Rattle.std.specs.Prelude.{nat_lt, Err, if◌then◌else◌}
 use Rattle.std.specs.Option.{option_map}
 use Rattle.std.proofs.lemmas.Bool.{lt-ltb}
 use Rattle.std.proofs.lemmas.Bool.Decides.{nat_tests}
-use Rattle.rv_code.specs.Machine.{first_ram}
+use Rattle.image_load.specs.Start.{first_ram}
 use Rattle.tcc_base.specs.Settings.{Settings}
 use Rattle.machine_commits.specs.Rising.{HasNone}
 use Rattle.tcc_base.specs.declared.access.Commit.{Commit}
@@ -16,8 +16,7 @@ use Rattle.rules_maps.specs.Bridge.{node_of}
 use Rattle.rules_maps.specs.Nodes.{Node, Core, Dir, Vendor, Event, Exec, Evict, Deliver, Msg}
 use Rattle.tcc_msg.specs.Plain.{sends_of}
 use Rattle.tcc_msg.specs.declared.outgoing.Outgoing.{Outgoing}
-use Rattle.theorem_bounds.specs.Messages.{InBounds}
-use Rattle.theorem_live.specs.Fits.{fits, goes_to_core, is_grant}
+use Rattle.rules_maps.specs.Messages.{InBounds, fits, goes_to_core, is_grant}
 use Rattle.rules_tcc.specs.Attempt.{Out}
 use Rattle.rules_tcc.specs.CoreExec.{core_exec}
 use Rattle.rules_tcc.specs.CoreEvict.{core_evict, evict_line}

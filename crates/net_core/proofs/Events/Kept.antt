@@ -4,9 +4,9 @@ use Rattle.std.proofs.Common.{ap, sym, ◌∙◌, subst, arith, length-set}
 use Rattle.std.specs.Prelude.{nat_lt, ◌==◌, ◌&&◌, slice_set, if◌then◌else◌}
 use Rattle.std.proofs.lemmas.Bool.Decides.{nat_tests}
 use Rattle.image_load.specs.Contents.{started}
-use Rattle.rv_code.specs.Machine.{first_ram}
+use Rattle.image_load.specs.Start.{first_ram}
 use Rattle.theorem_riscv.specs.Given.{TidsOf, grants_of}
-use Rattle.theorem_riscv.specs.Suiting.{world_at_start}
+use Rattle.rules_riscv.specs.Starting.{world_at_start}
 use Rattle.theorem_riscv.proofs.Lemmas.{committed_tids_were_granted_once}
 use Rattle.tcc_base.specs.declared.access.Commit.{Commit}
 use Rattle.base_lemmas.proofs.Lemmas.{node_eq-refl}

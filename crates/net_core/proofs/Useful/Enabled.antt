@@ -3,10 +3,10 @@ use Rattle.std.proofs.Common.{◌≡◌, ℕ, ◌<◌, ◌≤◌, Bool, true, fa
 use Rattle.std.specs.Prelude.{is_some, nat_lt, if◌then◌else◌}
 use Rattle.std.proofs.lemmas.Bool.{le-ltb, lt-ltb}
 use Rattle.std.proofs.lemmas.Bool.Decides.{nat_tests}
-use Rattle.rv_code.specs.Machine.{first_ram}
+use Rattle.image_load.specs.Start.{first_ram}
 use Rattle.tcc_base.specs.Settings.{Settings}
 use Rattle.base_lemmas.proofs.Lemmas.{and-right}
-use Rattle.theorem_live.specs.Fits.{fits, goes_to_core, is_grant, is_request}
+use Rattle.rules_maps.specs.Messages.{fits, goes_to_core, is_grant, is_request}
 use Rattle.rules_maps.specs.Nodes.{Node, Core, Dir, Vendor, Exec, Evict, Deliver, Msg, TidGrant, Fill, ProbeReply, DataReq, Inv}
 use Rattle.rules_program.specs.Program.{Program}
 use Rattle.rules_tcc.specs.CoreDeliver.{core_deliver, from_dir, from_vendor}

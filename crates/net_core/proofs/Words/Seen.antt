@@ -5,9 +5,9 @@ use Rattle.std.specs.List.{flat_map}
 use Rattle.std.proofs.lemmas.List.Concat.{flat_map-append}
 use Rattle.base_lemmas.proofs.Lemmas.{eight-at, line_of-word_at}
 use Rattle.image_load.specs.Contents.{Contents, started}
-use Rattle.image_load.specs.Start.{Start}
-use Rattle.rv_code.specs.Machine.{first_ram, program}
-use Rattle.theorem_riscv.specs.Suiting.{local_at_start, world_at_start}
+use Rattle.image_load.specs.Start.{Start, first_ram}
+use Rattle.rv_code.specs.Machine.{program}
+use Rattle.rules_riscv.specs.Starting.{local_at_start, world_at_start}
 use Rattle.rules_maps.specs.Cache.{Cache, IsCache}
 use Rattle.rules_maps.specs.Nodes.{Core, Dir, Event}
 use Rattle.rules_maps.specs.Shape.{Shape, home}

@@ -5,7 +5,7 @@ use Rattle.std.proofs.lemmas.List.{length-map}
 use Rattle.std.proofs.lemmas.Option.{slice_get-map, get_or_from_slice_get}
 use Rattle.image_load.specs.Contents.{Contents, started}
 use Rattle.rv_code.specs.Machine.{program}
-use Rattle.theorem_riscv.specs.Suiting.{world_at_start}
+use Rattle.rules_riscv.specs.Starting.{world_at_start}
 use Rattle.rules_maps.specs.Nodes.{Node}
 use Rattle.tcc_msg.specs.Plain.{event_of}
 use Rattle.rules_tcc.specs.Local.{Mail, local, side_start, state_at}

@@ -1,5 +1,5 @@
 -- Each event is useful where it comes.
-use Rattle.run_follow.specs.Following.{at_start}
+use Rattle.rules_riscv.specs.Starting.{at_start}
 use Rattle.run_follow.proofs.Runs.{followed-ends, followed-few, followed-is_run}
 use Rattle.run_follow.proofs.a_followed_schedule_is_a_run.Goals as goal
 

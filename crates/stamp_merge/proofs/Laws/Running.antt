@@ -4,9 +4,9 @@ use Rattle.std.proofs.Common.{◌≡◌, true, List, [], ◌∷◌, map, Option,
 use Rattle.std.specs.Prelude.{IsSomeAnd, IfSome}
 use Rattle.std.specs.List.{AllByRecursion, filter}
 use Rattle.base_lemmas.proofs.Lemmas.{filter-map}
-use Rattle.image_load.specs.Start.{Start}
-use Rattle.rv_code.specs.Machine.{program, first_ram}
-use Rattle.theorem_riscv.specs.Suiting.{world_at_start, local_at_start, AfterRun}
+use Rattle.image_load.specs.Start.{Start, first_ram}
+use Rattle.rv_code.specs.Machine.{program}
+use Rattle.rules_riscv.specs.Starting.{world_at_start, local_at_start, AfterRun}
 use Rattle.rules_maps.specs.Nodes.{Node, node_eq}
 use Rattle.rules_maps.specs.Shape.{Shape}
 use Rattle.tcc_msg.specs.Plain.{event_of}

@@ -5,7 +5,7 @@ use Rattle.std.specs.Prelude.{IfSome}
 use Rattle.image_load.specs.Start.{Start}
 use Rattle.rv_code.specs.Machine.{program}
 use Rattle.theorem_riscv.specs.Given.{TidsOf, grants_of}
-use Rattle.theorem_riscv.specs.Suiting.{world_at_start}
+use Rattle.rules_riscv.specs.Starting.{world_at_start, at_start}
 use Rattle.theorem_riscv.proofs.Lemmas.{committed_tids_were_granted_once}
 use Rattle.tcc_base.specs.Settings.{IsAllowed}
 use Rattle.rules_maps.specs.Nodes.{Core, Dir, Vendor, Event, Exec, Evict, Deliver}
@@ -13,8 +13,8 @@ use Rattle.rules_tcc.specs.Step.{History, Stepped, and_noted, and_then, next_his
 use Rattle.theorem_serial.specs.NotedBy.{AreByCores}
 use Rattle.theorem_serial.specs.Owners.{IsRising}
 use Rattle.theorem_serial.proofs.Lemmas.{commits_are_by_cores}
-use Rattle.theorem_phases.specs.Laws.{Grows, InPhases, asks, at_start, noted_by}
-use Rattle.theorem_phases.specs.Phased.{is_held, is_late, phased_from, phased_next}
+use Rattle.theorem_phases.specs.Laws.{Grows, InPhases, asks, noted_by}
+use Rattle.rules_phases.specs.Phased.{is_held, is_late, phased_from, phased_next}
 use Rattle.theorem_phases.proofs.Lemmas.{one_request_each, phased_runs_are_runs, phases_grow, phases_never_fall}
 use Rattle.tcc_phase.proofs.Requests.Asked.{AtMostOne}
 

@@ -18,11 +18,12 @@ use Rattle.tcc_msg.specs.declared.event.Event.{Event as CodeEvent}
 use Rattle.rules_tcc.specs.Laws.{ActsOnOne, StepsActOnOne}
 use Rattle.rules_tcc.specs.Links.{sent_all}
 use Rattle.rules_tcc.specs.State.{Link, World}
-use Rattle.rules_tcc.specs.Step.{History, Stepped, and_noted, insert_commit, next_history, step}
+use Rattle.rules_tcc.specs.Step.{History, Stepped, and_noted, insert_commit, step}
 use Rattle.theorem_serial.specs.Owners.{IsRising}
-use Rattle.theorem_phases.specs.Laws.{Grows, InPhases, asks, at_start, executes, noted_by, place_of, put_in}
-use Rattle.theorem_phases.specs.Phased.{has_halted, phased_from, phased_next}
-use Rattle.theorem_phases.specs.Phases.{phase_of, phases_of, x27}
+use Rattle.theorem_phases.specs.Laws.{Grows, InPhases, asks, executes, noted_by, place_of, put_in}
+use Rattle.rules_riscv.specs.Starting.{at_start}
+use Rattle.rules_phases.specs.Phased.{has_halted, phased_from, phased_next}
+use Rattle.rules_phases.specs.Phases.{phase_of, phases_of, x27}
 use Rattle.theorem_phases.proofs.Lemmas.{halts_stay, requests_stay}
 use Rattle.net_core.specs.Answers.{tid_noted, tid_told}
 use Rattle.net_core.specs.Machine.{Machine, history_of, program_of, settings_of, start_of, world_of}

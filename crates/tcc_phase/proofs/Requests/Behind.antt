@@ -7,8 +7,8 @@ use Rattle.image_load.specs.Start.{Start}
 use Rattle.rules_maps.specs.Words.{any_below}
 use Rattle.rules_tcc.specs.State.{Halted, Phase, World}
 use Rattle.rules_tcc.specs.Step.{History}
-use Rattle.theorem_phases.specs.Phased.{goes_before, has_halted, is_late}
-use Rattle.theorem_phases.specs.Phases.{phase_of}
+use Rattle.rules_phases.specs.Phased.{goes_before, has_halted, is_late}
+use Rattle.rules_phases.specs.Phases.{phase_of}
 use Rattle.tcc_phase.specs.Requests.{either_below, is_behind, is_below}
 
 pub behind-late : (s : Start) (h : History) (own : List ℕ) → ((j : ℕ) → j < s.settings.cores → get_or own j 0 ≡ phase_of s h j)

@@ -16,7 +16,7 @@ use Rattle.rules_tcc.specs.Links.{in_flight}
 use Rattle.rules_tcc.specs.State.{World}
 use Rattle.rules_tcc.specs.Step.{History, Stepped, happens, if_in_flight, is_enabled, names_nodes, step}
 use Rattle.rules_tcc.specs.Useful.{event_before, is_useful, useful}
-use Rattle.theorem_phases.specs.Phased.{is_held, is_late}
+use Rattle.rules_phases.specs.Phased.{is_held, is_late}
 use Rattle.tcc_phase.specs.Requests.{IsAsked, is_behind, is_waiting, request}
 use Rattle.tcc_phase.proofs.Requests.Asked.{asked-at}
 use Rattle.tcc_phase.proofs.Order.Ordered.{filter-in, filter-ordered, in-filter, same-events}

@@ -18,7 +18,7 @@ use Rattle.rules_tcc.specs.State.{Link, World}
 use Rattle.rules_tcc.specs.Step.{if_vendor_gives, happens, if_in_flight, names_nodes, step}
 use Rattle.rules_tcc.specs.VendorDeliver.{Granted, vendor_deliver}
 use Rattle.theorem_phases.specs.Laws.{asks, executes}
-use Rattle.theorem_phases.specs.Phased.{has_halted}
+use Rattle.rules_phases.specs.Phased.{has_halted}
 use Rattle.tcc_phase.specs.Requests.{HeldBefore, Limits, is_above, is_behind, is_waiting, request}
 use Rattle.tcc_phase.proofs.Requests.Those.{absent, between, stands, those-insert, those-rise}
 use Rattle.tcc_phase.proofs.Requests.Waiting.{waits-above}

@@ -12,10 +12,9 @@ use Rattle.rules_tcc.specs.Links.{sent_all}
 use Rattle.rules_tcc.specs.Sends.{Sends}
 use Rattle.theorem_serial.specs.Count.{Kind, CopyOf, LinesAway, among, passes}
 use Rattle.theorem_serial.proofs.Lemmas.{HomelyOut, SendsInMemory}
-use Rattle.theorem_live.specs.Fits.{fits}
+use Rattle.rules_maps.specs.Messages.{fits, IsLine, line_named}
 use Rattle.theorem_live.proofs.Lemmas.{AllFit, strays_on, strays-none, link-fits, sending-clean}
 use Rattle.theorem_bounds.specs.Bounds.{most_sent}
-use Rattle.theorem_bounds.specs.Messages.{IsLine, line_named}
 use Rattle.theorem_bounds.proofs.Lemmas.{is_inside, SendsInside, LinkInside, link-none, link-inside, sending-inside}
 use Rattle.rules_apart.specs.Carried.{IsCarried}
 use Rattle.theorem_apart.specs.Apart.{EachCarried}

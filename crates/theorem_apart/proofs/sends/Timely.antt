@@ -27,7 +27,7 @@ use Rattle.theorem_serial.proofs.Lemmas.{Invalidated}
 use Rattle.theorem_serial.proofs.Lemmas.{invalidate-cases, Replied, Ignored, Probed, Left_alone, reply-cases, Steady, did-steady}
 use Rattle.theorem_serial.proofs.Lemmas.{Did, each-exec, out}
 use Rattle.theorem_serial.proofs.Lemmas.{Room_wanted, Ends_run, Ends_alone, Commits_now}
-use Rattle.theorem_bounds.specs.Messages.{WasGranted, tid_named}
+use Rattle.rules_maps.specs.Messages.{WasGranted, tid_named}
 use Rattle.theorem_apart.proofs.sends.Each.{Each, each-none, each-one, each-append, each-when, each-flat}
 
 -- a TID that can be given

@@ -1,8 +1,9 @@
 -- Every state that a run reaches is in bounds.
 use Rattle.std.specs.Prelude.{ℕ, ◌≡◌, ◌<◌, Bool, true, List, [], length, Option, Some, None, IfSome}
 use Rattle.std.proofs.Common.{arith, refl}
-use Rattle.rv_code.specs.Machine.{program, first_ram}
-use Rattle.theorem_riscv.specs.Suiting.{local_at_start}
+use Rattle.rv_code.specs.Machine.{program}
+use Rattle.image_load.specs.Start.{first_ram}
+use Rattle.rules_riscv.specs.Starting.{local_at_start}
 use Rattle.theorem_riscv.proofs.Lemmas.{riscv_programs_suit}
 use Rattle.rules_maps.specs.Shape.{Shape, lines}
 use Rattle.rules_program.specs.Cores.{AreBy}

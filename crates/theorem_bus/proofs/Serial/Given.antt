@@ -2,10 +2,10 @@
 use Rattle.std.specs.Prelude.{ℕ, ◌≡◌, ◌<◌, Bool, true, false, length, map, Option, Some, None, IfSome, nat_lt, if◌then◌else◌}
 use Rattle.std.proofs.Common.{arith, refl, ap, sym, ◌∙◌}
 use Rattle.std.proofs.lemmas.Bool.Decides.{nat_tests}
-use Rattle.image_load.specs.Start.{Start}
-use Rattle.rv_code.specs.Machine.{program, first_ram}
+use Rattle.image_load.specs.Start.{Start, first_ram}
+use Rattle.rv_code.specs.Machine.{program}
 use Rattle.rv_plain.specs.Machine.{plain_start, start_core, core_at_start, no_core}
-use Rattle.theorem_riscv.specs.Suiting.{local_at_start}
+use Rattle.rules_riscv.specs.Starting.{local_at_start}
 use Rattle.theorem_riscv.proofs.Lemmas.{riscv_programs_suit}
 use Rattle.tcc_base.specs.Settings.{IsAllowed}
 use Rattle.base_lemmas.proofs.Lemmas.{power-positive}

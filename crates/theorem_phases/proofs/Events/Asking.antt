@@ -3,7 +3,8 @@ use Rattle.std.specs.Prelude.{ℕ, zero, suc, ◌+◌, ◌≡◌, ◌≤◌, Boo
 use Rattle.std.specs.Prelude.{IfSome, is_some, get_or, nat_lt, ◌&&◌}
 use Rattle.std.proofs.Common.{arith, refl, ap}
 use Rattle.std.proofs.lemmas.Bool.Decides.{nat_tests}
-use Rattle.rv_code.specs.Machine.{program, first_ram}
+use Rattle.rv_code.specs.Machine.{program}
+use Rattle.image_load.specs.Start.{first_ram}
 use Rattle.rules_maps.specs.Words.{num}
 use Rattle.rules_maps.specs.Nodes.{Core, Vendor, Msg}
 use Rattle.rules_maps.specs.Shape.{Shape}
@@ -17,9 +18,10 @@ use Rattle.theorem_serial.specs.Pairs.{pair}
 use Rattle.theorem_serial.specs.Tids.{waits_for_tid, RequestOf}
 use Rattle.theorem_serial.specs.Ways.{Ways, first_ways, ways_from}
 use Rattle.theorem_serial.proofs.Lemmas.{runs_carry, live-some}
-use Rattle.theorem_live.specs.Fits.{is_request, fits, LinksFit, KeptFits}
+use Rattle.theorem_live.specs.Fits.{LinksFit, KeptFits}
+use Rattle.rules_maps.specs.Messages.{is_request, fits}
 use Rattle.theorem_live.proofs.Lemmas.{links_fit}
-use Rattle.theorem_riscv.specs.Suiting.{local_at_start, world_at_start}
+use Rattle.rules_riscv.specs.Starting.{local_at_start, world_at_start}
 use Rattle.theorem_phases.specs.Laws.{AsksOnce, OneRequestEach}
 
 abbrev AllAsk : Link → Type 0

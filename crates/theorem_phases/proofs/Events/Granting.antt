@@ -13,7 +13,7 @@ use Rattle.rules_tcc.specs.Step.{History, Stepped, if_vendor_gives, if_in_flight
 use Rattle.rules_tcc.specs.Step.{run_from}
 use Rattle.rules_tcc.specs.VendorDeliver.{Granted, vendor_deliver}
 use Rattle.theorem_serial.specs.Owners.{Grant, grant_for, granted_by, then_grants, grants_from}
-use Rattle.theorem_phases.specs.Phased.{is_late, is_held}
+use Rattle.rules_phases.specs.Phased.{is_late, is_held}
 use Rattle.theorem_serial.proofs.Lemmas.{only-one}
 
 -- one more event along a run

@@ -28,7 +28,7 @@ use Rattle.rules_tcc.specs.Step.{if_vendor_gives}
 use Rattle.rules_tcc.specs.Step.{delivered, if_in_flight, names_nodes, happens, step}
 use Rattle.rules_tcc.specs.VendorDeliver.{Granted, vendor_deliver}
 use Rattle.theorem_phases.specs.Laws.{HaltsStay, RequestsStay, asks, executes}
-use Rattle.theorem_phases.specs.Phased.{has_halted}
+use Rattle.rules_phases.specs.Phased.{has_halted}
 
 -- ---- one core
 

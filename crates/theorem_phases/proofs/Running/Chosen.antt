@@ -13,7 +13,7 @@ use Rattle.rules_tcc.specs.Step.{History, Stepped, step, is_enabled, recorded, n
 use Rattle.rules_tcc.specs.Useful.{is_of_use, is_useful, useful}
 use Rattle.rules_tcc.proofs.Lemmas.{useful-holds, in-get}
 use Rattle.theorem_phases.specs.Laws.{PhasedPickedRuns}
-use Rattle.theorem_phases.specs.Phased.{is_held, phased_next, phased_from, phased_useful, pick, after_event, phased_picked}
+use Rattle.rules_phases.specs.Phased.{is_held, phased_next, phased_from, phased_useful, pick, after_event, phased_picked}
 
 -- lists
 

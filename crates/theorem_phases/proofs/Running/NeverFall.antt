@@ -18,9 +18,10 @@ use Rattle.theorem_serial.specs.Tids.{has_tid}
 use Rattle.theorem_serial.proofs.Lemmas.{numbered-most}
 use Rattle.theorem_riscv.specs.Given.{IsSerial, grants_of}
 use Rattle.theorem_riscv.proofs.Lemmas.{runs_give_the_plain_machine}
-use Rattle.theorem_phases.specs.Laws.{at_start, InPhases, PhasesNeverFall}
-use Rattle.theorem_phases.specs.Phased.{has_halted, goes_before, is_late, is_held, phased_next, phased_from}
-use Rattle.theorem_phases.specs.Phases.{phases_along, phases_in, phases_of, phase_of}
+use Rattle.theorem_phases.specs.Laws.{InPhases, PhasesNeverFall}
+use Rattle.rules_riscv.specs.Starting.{at_start}
+use Rattle.rules_phases.specs.Phased.{has_halted, goes_before, is_late, is_held, phased_next, phased_from}
+use Rattle.rules_phases.specs.Phases.{phases_along, phases_in, phases_of, phase_of}
 use Rattle.theorem_phases.proofs.Events.Granting.{Granting, none-in, grants-snoc, granting, granting-silent}
 use Rattle.theorem_phases.proofs.Serial.Growing.{State, state_after, run-snoc, holds, noted-last, added, silent, counted}
 use Rattle.theorem_phases.proofs.Events.Halting.{StayHalted, step-stays}

@@ -5,8 +5,9 @@ use Rattle.image_load.specs.Start.{Start}
 use Rattle.rv_code.specs.Machine.{program}
 use Rattle.rules_maps.specs.Nodes.{Event}
 use Rattle.rules_tcc.specs.Step.{History, next_history, and_then, run_from, run}
-use Rattle.theorem_phases.specs.Laws.{PhasedRunsAreRuns, at_start}
-use Rattle.theorem_phases.specs.Phased.{is_held, phased_next, phased_from}
+use Rattle.theorem_phases.specs.Laws.{PhasedRunsAreRuns}
+use Rattle.rules_riscv.specs.Starting.{at_start}
+use Rattle.rules_phases.specs.Phased.{is_held, phased_next, phased_from}
 
 pub phased-runs : (s : Start) (es : List Event) (h : History)
     → IfSome (phased_from s es h) (λ g. run_from s.settings (program s) es h ≡ Some g)

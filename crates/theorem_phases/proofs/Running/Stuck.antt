@@ -3,8 +3,8 @@ use Rattle.std.specs.Prelude.{ℕ, zero, suc, ◌≡◌, ◌≢◌, ◌<◌, Boo
 use Rattle.std.specs.Prelude.{nat_lt, List, [], ◌∷◌, Option, Some, None, IfSome}
 use Rattle.std.proofs.Common.{arith, refl, ◌⊎◌, inl, inr}
 use Rattle.std.proofs.lemmas.Bool.Decides.{nat_tests}
-use Rattle.image_load.specs.Start.{Start}
-use Rattle.rv_code.specs.Machine.{program, first_ram}
+use Rattle.image_load.specs.Start.{Start, first_ram}
+use Rattle.rv_code.specs.Machine.{program}
 use Rattle.base_lemmas.proofs.Lemmas.{any_below-found, any_below-none}
 use Rattle.theorem_live.specs.Progress.{DoneWhereNoneUseful, EachGoesOn, spares}
 use Rattle.theorem_live.proofs.Lemmas.{no_state_is_stuck, each_core_goes_on, halted-or}
@@ -15,11 +15,11 @@ use Rattle.rules_tcc.specs.State.{Phase, Halted}
 use Rattle.rules_tcc.specs.Step.{History, run}
 use Rattle.rules_tcc.specs.Useful.{useful}
 use Rattle.rules_tcc.proofs.Lemmas.{useful-holds}
-use Rattle.theorem_riscv.specs.Suiting.{local_at_start, world_at_start}
+use Rattle.rules_riscv.specs.Starting.{local_at_start, world_at_start, at_start}
 use Rattle.theorem_riscv.proofs.Lemmas.{equipped}
-use Rattle.theorem_phases.specs.Laws.{PhasedNeverStuck, PhasedPickedEndsDone, at_start}
-use Rattle.theorem_phases.specs.Phased.{has_halted, goes_before, is_late, is_held, phased_from, phased_useful, phased_picked}
-use Rattle.theorem_phases.specs.Phases.{phase_of}
+use Rattle.theorem_phases.specs.Laws.{PhasedNeverStuck, PhasedPickedEndsDone}
+use Rattle.rules_phases.specs.Phased.{has_halted, goes_before, is_late, is_held, phased_from, phased_useful, phased_picked}
+use Rattle.rules_phases.specs.Phases.{phase_of}
 use Rattle.theorem_phases.proofs.Running.Chosen.{fails-each, picks}
 use Rattle.theorem_phases.proofs.Running.Runs.{phased_runs_are_runs}
 

@@ -8,7 +8,7 @@ use Rattle.tcc_base.specs.declared.access.Commit.{Commit}
 use Rattle.rules_program.specs.Orders.{order_of_commit}
 use Rattle.rules_program.specs.Plain.{Attempt, Plain, commit_of, transaction}
 use Rattle.rules_program.specs.Program.{Program}
-use Rattle.theorem_phases.specs.Phases.{x27, Phases, and_phase, phases_along}
+use Rattle.rules_phases.specs.Phases.{x27, Phases, and_phase, phases_along}
 use Rattle.theorem_phases.proofs.Serial.Ran.{Ran}
 use Rattle.theorem_phases.proofs.Serial.Replayed.{Closes, Alike, transaction-closes, transactions-alike}
 

@@ -4,8 +4,8 @@ use Rattle.std.specs.Prelude.{ℕ, ◌+◌, ◌≡◌, ◌≢◌, ◌<◌, ◌�
 use Rattle.std.specs.Prelude.{max, Contains, Option, Some, None, IfSome, nat_lt}
 use Rattle.std.proofs.Common.{arith, refl, ap, sym, ◌∙◌}
 use Rattle.std.proofs.lemmas.Bool.Decides.{nat_tests}
-use Rattle.image_load.specs.Start.{Start}
-use Rattle.rv_code.specs.Machine.{program, first_ram}
+use Rattle.image_load.specs.Start.{Start, first_ram}
+use Rattle.rv_code.specs.Machine.{program}
 use Rattle.rv_plain.specs.Machine.{plain_start}
 use Rattle.tcc_base.specs.Settings.{IsAllowed}
 use Rattle.tcc_base.specs.declared.access.Commit.{Commit}
@@ -23,10 +23,10 @@ use Rattle.theorem_serial.specs.Tids.{has_tid}
 use Rattle.theorem_serial.specs.Ways.{Ways, first_ways, ways_from}
 use Rattle.theorem_serial.proofs.Lemmas.{runs_carry}
 use Rattle.theorem_riscv.specs.Given.{committed, IsSerial, grants_of}
-use Rattle.theorem_riscv.specs.Suiting.{local_at_start, world_at_start, AfterRun}
+use Rattle.rules_riscv.specs.Starting.{local_at_start, world_at_start, AfterRun}
 use Rattle.theorem_riscv.proofs.Lemmas.{runs_give_the_plain_machine}
 use Rattle.theorem_phases.specs.Laws.{Grows, PhasesGrow, noted_by}
-use Rattle.theorem_phases.specs.Phases.{x27, phases_in, phases_of, phase_of}
+use Rattle.rules_phases.specs.Phases.{x27, phases_in, phases_of, phase_of}
 use Rattle.theorem_phases.proofs.Serial.Followed.{phase_at}
 use Rattle.theorem_phases.proofs.Serial.Inserted.{IsLast, Grown, with_phase, grown, along-count, with-phase_put_in}
 use Rattle.theorem_phases.proofs.Events.Noting.{NotedIn, step-notes}

@@ -10,7 +10,7 @@ use Rattle.rules_program.specs.Program.{Program}
 use Rattle.rules_tcc.specs.Step.{insert_commit}
 use Rattle.theorem_serial.specs.Owners.{IsRising}
 use Rattle.theorem_phases.specs.Laws.{put_in, place_of}
-use Rattle.theorem_phases.specs.Phases.{x27, Phases, phases_along}
+use Rattle.rules_phases.specs.Phases.{x27, Phases, phases_along}
 use Rattle.theorem_phases.proofs.Serial.Followed.{put-same, put-other, along, phase_at, along-first, NoneBy, Apart, Followed, closes}
 use Rattle.theorem_phases.proofs.Serial.Followed.{followed}
 use Rattle.theorem_phases.proofs.Serial.Ran.{Ran}

@@ -1,6 +1,6 @@
 -- The next word is told.
 use Rattle.std.proofs.Common.{append-nil, string_bytes, sym}
-use Rattle.rv_code.specs.Machine.{first_ram}
+use Rattle.image_load.specs.Start.{first_ram}
 use Rattle.rules_maps.specs.Words.{those, word_at}
 use Rattle.bus_tcc.specs.Machine.{bus_settings_of, bus_start_of, bus_world_of, word_in}
 use Rattle.watch_state.proofs.Lemmas.{flats-more}

@@ -1,6 +1,6 @@
 -- The next line is told.
 use Rattle.std.proofs.Common.{arith, string_bytes}
-use Rattle.rv_code.specs.Machine.{first_ram}
+use Rattle.image_load.specs.Start.{first_ram}
 use Rattle.bus_tcc.specs.Machine.{bus_settings_of, bus_start_of, bus_world_of, word_in}
 use Rattle.bus_changes.specs.Changes.{words_changes}
 use Rattle.bus_changes.proofs.Words.{lines-all, lines-on}

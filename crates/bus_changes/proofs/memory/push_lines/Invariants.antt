@@ -1,7 +1,7 @@
 -- What is written and the lines to come are what was there and all lines.
 use Rattle.std.proofs.Common.{◌≡◌, ◌-◌, ◌≤◌, ◌++◌, ℕ, List, drop, length, string_bytes}
 use Rattle.std.specs.List.{flat_map}
-use Rattle.rv_code.specs.Machine.{first_ram}
+use Rattle.image_load.specs.Start.{first_ram}
 use Rattle.bus_tcc.specs.Machine.{BusMachine, bus_settings_of, bus_start_of, bus_world_of, word_in}
 use Rattle.bus_changes.specs.Changes.{bus_change_lines, words_changes}
 use Rattle.bus_changes.proofs.memory.push_lines.Given as goal

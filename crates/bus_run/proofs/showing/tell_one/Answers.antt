@@ -2,7 +2,7 @@
 use Rattle.std.proofs.Common.{arith, ap, option_map, subst, sym, true, ◌++◌, ◌∙◌, ◌<◌, [], if◌then◌else◌}
 use Rattle.std.specs.String.{string_bytes}
 use Rattle.image_load.specs.Contents.{started}
-use Rattle.rv_code.specs.Machine.{first_ram}
+use Rattle.image_load.specs.Start.{first_ram}
 use Rattle.bus_tcc.specs.Machine.{bus_event_of, bus_history_of, bus_program_of, bus_settings_of, bus_world_of}
 use Rattle.bus_trace.specs.Text.{bus_event_and_facts, bus_event_text}
 use Rattle.bus_watch.specs.Happened.{core_of}

@@ -1,5 +1,5 @@
 use Rattle.std.proofs.Common.{◌≡◌, arith, map}
-use Rattle.rv_code.specs.Machine.{first_ram}
+use Rattle.image_load.specs.Start.{first_ram}
 use Rattle.rules_maps.specs.Words.{word_at}
 use Rattle.bus_tcc.specs.Machine.{bus_settings_of, bus_start_of, bus_world_of}
 use Rattle.watch_state.proofs.Lemmas.{piece-more}

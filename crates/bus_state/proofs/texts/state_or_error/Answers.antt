@@ -1,7 +1,7 @@
 -- The lines, one after another.
 use Rattle.std.proofs.Common.{◌≡◌, ◌++◌, ap, codes, ◌∙◌, rules, string_bytes}
 use Rattle.image_load.specs.Contents.{started}
-use Rattle.rv_code.specs.Machine.{first_ram}
+use Rattle.image_load.specs.Start.{first_ram}
 use Rattle.tcc_base.specs.Settings.{Settings}
 use Rattle.schedule_text.specs.Grammar.{newline}
 use Rattle.report_text.specs.Lines.{end_line, events_line}

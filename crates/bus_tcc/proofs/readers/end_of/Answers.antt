@@ -1,6 +1,6 @@
 -- How a core halted.
 use Rattle.std.proofs.Common.{ap, ◌∙◌}
-use Rattle.rv_plain.specs.Attempts.{outcome_of}
+use Rattle.rv_exec.specs.Outcomes.{outcome_of}
 use Rattle.rules_tcc.specs.State.{Halted}
 use Rattle.theorem_serial.specs.Commits.{end_after}
 use Rattle.core_node.specs.View.{core_of}

@@ -5,7 +5,7 @@ use Rattle.rules_tcc.specs.Execute.{stored_in_buffer, stored_in_frame}
 use Rattle.rules_tcc.specs.Attempt.{finished, new_word}
 use Rattle.rules_tcc.specs.State.{CoreState}
 use Rattle.rv_exec.specs.Needs.{need_of}
-use Rattle.rv_plain.specs.Attempts.{alone}
+use Rattle.rv_exec.specs.Running.{alone}
 use Rattle.core_node.specs.AtHand.{changed, lined}
 use Rattle.core_node.specs.View.{core_of}
 use Rattle.core_node.proofs.Changed.{framed_finished}

@@ -3,7 +3,7 @@ use Rattle.image_load.specs.Contents.{started}
 use Rattle.rv_code.specs.Machine.{program}
 use Rattle.rv_code.specs.Served.{IsServed}
 use Rattle.rv_exec.specs.Needs.{need_of}
-use Rattle.rv_plain.specs.Attempts.{alone}
+use Rattle.rv_exec.specs.Running.{alone}
 use Rattle.rules_maps.specs.Words.{line_of}
 use Rattle.rules_tcc.specs.CoreExec.{core_exec}
 use Rattle.rules_tcc.specs.Execute.{execute_need}

@@ -1,4 +1,4 @@
-use Rattle.rv_plain.specs.Attempts.{alone}
+use Rattle.rv_exec.specs.Running.{alone}
 use Rattle.core_node.specs.View.{core_of}
 use Rattle.core_node.proofs.Lined.{change-leaves, filling-goes-on, filling-word, load-leaves, on-ok, served-aligned}
 use Rattle.core_node.proofs.at_hand.execute_with_line.Goals as goal

@@ -4,7 +4,7 @@ use Rattle.rules_tcc.specs.Attempt.{finished}
 use Rattle.rules_tcc.specs.Execute.{with_read_mark}
 use Rattle.rules_tcc.specs.State.{CoreState}
 use Rattle.rv_exec.specs.Needs.{need_of}
-use Rattle.rv_plain.specs.Attempts.{alone}
+use Rattle.rv_exec.specs.Running.{alone}
 use Rattle.core_node.specs.AtHand.{lined}
 use Rattle.core_node.specs.View.{core_of}
 use Rattle.core_node.proofs.Finished.{cache-finished}

@@ -3,7 +3,7 @@ use Rattle.rules_tcc.specs.State.{CoreState}
 use Rattle.rules_tcc.specs.Attempt.{one_more_instruction}
 use Rattle.rules_tcc.specs.Execute.{stored_in_buffer}
 use Rattle.rv_exec.specs.Needs.{need_of}
-use Rattle.rv_plain.specs.Attempts.{alone}
+use Rattle.rv_exec.specs.Running.{alone}
 use Rattle.core_node.specs.View.{core_of}
 use Rattle.core_node.specs.Executing.{given}
 use Rattle.core_node.proofs.Changed.{finished_buffered}

@@ -7,7 +7,7 @@ use Rattle.rules_tcc.specs.Attempt.{moves, finished}
 use Rattle.rules_tcc.specs.Execute.{stored_in_frame}
 use Rattle.rules_tcc.specs.Sends.{flush_line}
 use Rattle.rv_exec.specs.Needs.{need_of}
-use Rattle.rv_plain.specs.Attempts.{alone}
+use Rattle.rv_exec.specs.Running.{alone}
 use Rattle.spec_cache.specs.Held.{maps}
 use Rattle.core_node.specs.View.{core_of}
 use Rattle.core_node.proofs.Changed.{framed_finished}

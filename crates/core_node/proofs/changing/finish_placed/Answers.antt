@@ -5,7 +5,7 @@ use Rattle.rules_maps.specs.Words.{line_of}
 use Rattle.rules_tcc.specs.State.{CoreState}
 use Rattle.rules_tcc.specs.Execute.{stored_in_frame, place}
 use Rattle.rv_exec.specs.Needs.{need_of}
-use Rattle.rv_plain.specs.Attempts.{alone}
+use Rattle.rv_exec.specs.Running.{alone}
 use Rattle.spec_cache.specs.Held.{maps}
 use Rattle.core_node.specs.View.{core_of}
 use Rattle.core_node.proofs.Changed.{framed_placed}

@@ -3,7 +3,7 @@ use Rattle.base_lemmas.proofs.Lemmas.{held_valued}
 use Rattle.rules_maps.specs.CacheLook.{look_load}
 use Rattle.rules_maps.specs.Shape.{Shape}
 use Rattle.rv_exec.specs.Needs.{need_of}
-use Rattle.rv_plain.specs.Attempts.{alone}
+use Rattle.rv_exec.specs.Running.{alone}
 use Rattle.spec_cache.specs.Held.{maps}
 use Rattle.core_node.specs.View.{core_of}
 use Rattle.core_node.proofs.Blocked.{blocked_some, blocked_none, ok_silently, unchanged_core}

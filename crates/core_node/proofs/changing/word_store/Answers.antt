@@ -3,7 +3,7 @@ use Rattle.rules_maps.specs.CacheLook.{look_line, look_store}
 use Rattle.rules_maps.specs.Shape.{Shape}
 use Rattle.rules_maps.specs.Spilled.{holds}
 use Rattle.rv_exec.specs.Needs.{need_of}
-use Rattle.rv_plain.specs.Attempts.{alone}
+use Rattle.rv_exec.specs.Running.{alone}
 use Rattle.spec_cache.specs.Held.{maps}
 use Rattle.overflow_buf.specs.Kept.{spilled}
 use Rattle.core_node.specs.View.{core_of}

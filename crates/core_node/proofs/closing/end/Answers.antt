@@ -1,4 +1,4 @@
-use Rattle.rv_plain.specs.Attempts.{alone}
+use Rattle.rv_exec.specs.Running.{alone}
 use Rattle.core_node.specs.View.{core_of}
 use Rattle.core_node.proofs.Finished.{finished_ends}
 use Rattle.core_node.proofs.closing.end.Goals as goal

@@ -1,4 +1,4 @@
-use Rattle.rv_plain.specs.Attempts.{alone}
+use Rattle.rv_exec.specs.Running.{alone}
 use Rattle.core_node.specs.View.{core_of}
 use Rattle.core_node.proofs.Needed.{does_end, does_halt, does_trap}
 use Rattle.core_node.proofs.executing.execute_need.Goals as goal

@@ -1,5 +1,5 @@
 use Rattle.rv_exec.specs.Needs.{need_of}
-use Rattle.rv_plain.specs.Attempts.{alone}
+use Rattle.rv_exec.specs.Running.{alone}
 use Rattle.core_node.specs.View.{core_of}
 use Rattle.core_node.proofs.Blocked.{blocked_room}
 use Rattle.core_node.proofs.Enabled.{need_or_room}

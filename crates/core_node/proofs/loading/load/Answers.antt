@@ -5,7 +5,7 @@ use Rattle.rules_maps.specs.CacheLook.{look_load}
 use Rattle.rules_tcc.specs.State.{CoreState}
 use Rattle.rules_tcc.specs.Execute.{with_read_mark}
 use Rattle.rv_exec.specs.Needs.{need_of}
-use Rattle.rv_plain.specs.Attempts.{alone}
+use Rattle.rv_exec.specs.Running.{alone}
 use Rattle.core_node.specs.View.{core_of}
 use Rattle.core_node.proofs.Blocked.{some_not, blocked_none}
 use Rattle.core_node.proofs.Finished.{cache-finished}

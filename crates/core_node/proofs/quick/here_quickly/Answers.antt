@@ -3,7 +3,7 @@ use Rattle.rules_program.specs.Program.{Nothing}
 use Rattle.image_load.specs.Contents.{started}
 use Rattle.rv_exec.specs.Effects.{planned}
 use Rattle.rv_exec.specs.Needs.{need_of}
-use Rattle.rv_plain.specs.Attempts.{alone}
+use Rattle.rv_exec.specs.Running.{alone}
 use Rattle.core_node.specs.View.{core_of}
 use Rattle.core_node.proofs.AtOnce.{quick_nothing}
 use Rattle.core_node.proofs.InstAtPc.{executed_as}

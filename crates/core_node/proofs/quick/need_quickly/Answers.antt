@@ -1,4 +1,4 @@
-use Rattle.rv_plain.specs.Attempts.{alone}
+use Rattle.rv_exec.specs.Running.{alone}
 use Rattle.core_node.specs.View.{core_of}
 use Rattle.core_node.proofs.AtOnce.{quick_nothing}
 use Rattle.core_node.proofs.quick.need_quickly.Goals as goal

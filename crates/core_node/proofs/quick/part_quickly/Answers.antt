@@ -1,5 +1,5 @@
 use Rattle.std.proofs.Common.{sym, subst, refl, ◌∙◌}
-use Rattle.rv_plain.specs.Attempts.{alone}
+use Rattle.rv_exec.specs.Running.{alone}
 use Rattle.spec_cache.specs.Held.{maps}
 use Rattle.core_node.specs.View.{core_of, IsCore}
 use Rattle.core_node.specs.declared.state.Core.{Core}

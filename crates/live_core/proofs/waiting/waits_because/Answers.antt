@@ -4,7 +4,7 @@ use Rattle.std.specs.Option.{option_map}
 use Rattle.tcc_base.specs.declared.names.DirId.{DirId}
 use Rattle.tcc_base.specs.declared.names.NodeId.{NodeId}
 use Rattle.tcc_base.specs.declared.names.NodeId.TheVariants.{Core as CodeCore, Dir as CodeDir, Vendor as CodeVendor}
-use Rattle.theorem_bounds.specs.Messages.{InBounds}
+use Rattle.rules_maps.specs.Messages.{InBounds}
 use Rattle.rules_maps.specs.Bridge.{node_of}
 use Rattle.rules_maps.specs.Nodes.{Dir, Msg}
 use Rattle.rules_maps.specs.Shape.{Shape}

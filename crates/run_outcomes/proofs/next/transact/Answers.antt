@@ -3,7 +3,7 @@ use Rattle.run_outcomes.proofs.Leads.{run-steps, stores-in-ram, next-if, endless
 use Rattle.run_outcomes.specs.Changes.{changed_ram}
 use Rattle.rv_plain.specs.Attempts.{attempt_of}
 use Rattle.rv_plain.specs.Buffered.{plain_view}
-use Rattle.rv_plain.specs.declared.attempt.Outcome.TheVariants.{Goes}
+use Rattle.rv_exec.specs.declared.outcome.Outcome.TheVariants.{Goes}
 use Rattle.rules_program.specs.Ram.{flat}
 use Rattle.run_outcomes.proofs.next.transact.Goals as goal
 

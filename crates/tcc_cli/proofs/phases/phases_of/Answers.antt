@@ -2,7 +2,7 @@
 use Rattle.std.proofs.Common.{◌∙◌, ap, length, sym}
 use Rattle.image_load.specs.Contents.{started}
 use Rattle.net_core.specs.Machine.{history_of}
-use Rattle.theorem_phases.specs.Phases as theorem_phases
+use Rattle.rules_phases.specs.Phases as theorem_phases
 use Rattle.tcc_cli.specs.Phased.{phases_and, phases_text}
 use Rattle.tcc_cli.specs.Runs.{run_text}
 use Rattle.tcc_cli.proofs.phases.phases_of.Goals as goal

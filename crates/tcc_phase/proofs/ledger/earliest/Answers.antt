@@ -1,6 +1,6 @@
 -- One core after another.
 use Rattle.std.proofs.Common.{◌≡◌, sym, ◌∙◌, add-one}
-use Rattle.theorem_phases.specs.Phased.{has_halted}
+use Rattle.rules_phases.specs.Phased.{has_halted}
 use Rattle.net_core.specs.Machine.{world_of}
 use Rattle.tcc_phase.proofs.Requests.Behind.{behind-halted, behind-none, behind-running, halted-is}
 use Rattle.tcc_phase.proofs.ledger.earliest.Goals as goal

@@ -1,7 +1,7 @@
 use Rattle.std.proofs.Common.{◌≡◌, true, sym, refl, ap, subst}
 use Rattle.tcc_base.specs.Settings.{Settings}
 use Rattle.rules_maps.specs.Nodes.{Core, Vendor, TidReq}
-use Rattle.theorem_live.specs.Fits.{fits}
+use Rattle.rules_maps.specs.Messages.{fits}
 use Rattle.net_links.specs.Linked.{MayCarry}
 use Rattle.net_links.specs.declared.rule.Ends.{Ends}
 use Rattle.test_threads.proofs.links.linked.Goals as goal

@@ -1,6 +1,6 @@
 -- A link of the machine carries the request.
 use Rattle.std.proofs.Common.{refl}
-use Rattle.theorem_live.specs.Fits.{fits}
+use Rattle.rules_maps.specs.Messages.{fits}
 use Rattle.test_threads.proofs.members.ask_tid.Goals as goal
 
 pub tell-requires : goal.tell-requires

@@ -5,7 +5,7 @@ use Rattle.rules_maps.specs.Masks.{has}
 use Rattle.rules_maps.specs.Words.{those}
 use Rattle.rules_tcc.specs.Seen.{numbers}
 use Rattle.commit_engine.specs.Engine.{after_of, phase_of}
-use Rattle.rv_plain.specs.Attempts.{outcome_of}
+use Rattle.rv_exec.specs.Outcomes.{outcome_of}
 use Rattle.core_node.specs.View.{awaited_of, core_of}
 use Rattle.watch_state.specs.Cores.{attempt_records, awaited_record, committed_record, ended_record, owed_record, reserved_record}
 use Rattle.watch_state.specs.Plain.{record_of}

@@ -1,7 +1,7 @@
 -- The core, its reservation, and its end.
 use Rattle.std.proofs.Common.{[], ◌∷◌, ◌++◌, map}
 use Rattle.commit_engine.specs.Engine.{phase_of}
-use Rattle.rv_plain.specs.Attempts.{outcome_of}
+use Rattle.rv_exec.specs.Outcomes.{outcome_of}
 use Rattle.core_node.specs.View.{core_of}
 use Rattle.watch_state.specs.Cores.{ended_record, reserved_record}
 use Rattle.watch_state.specs.Plain.{record_of}

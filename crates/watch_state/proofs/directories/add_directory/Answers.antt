@@ -2,7 +2,7 @@
 use Rattle.std.proofs.Common.{◌++◌, map}
 use Rattle.std.specs.List.{flat_map}
 use Rattle.image_load.specs.Contents.{started}
-use Rattle.rv_code.specs.Machine.{first_ram}
+use Rattle.image_load.specs.Start.{first_ram}
 use Rattle.rules_maps.specs.Shape.{lines}
 use Rattle.rules_tcc.specs.Seen.{numbers}
 use Rattle.directory.specs.Data.{dir_of}

@@ -1,6 +1,6 @@
 use Rattle.std.proofs.Common.{map}
 use Rattle.image_load.specs.Contents.{started}
-use Rattle.rv_code.specs.Machine.{first_ram}
+use Rattle.image_load.specs.Start.{first_ram}
 use Rattle.directory.specs.Data.{dir_of}
 use Rattle.watch_state.specs.Directories.{at_home, word_records}
 use Rattle.watch_state.specs.Plain.{record_of}

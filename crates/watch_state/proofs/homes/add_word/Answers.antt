@@ -1,7 +1,7 @@
 -- The word as it is, and as it was loaded.
 use Rattle.std.proofs.Common.{◌+◌, ◌*◌, ◌++◌, ◌∙◌, ap, arith, map, sym}
 use Rattle.image_load.specs.Contents.{started}
-use Rattle.rv_code.specs.Machine.{first_ram}
+use Rattle.image_load.specs.Start.{first_ram}
 use Rattle.directory.specs.Data.{dir_of}
 use Rattle.watch_state.specs.Plain.{record_of}
 use Rattle.watch_state.proofs.ShownLines.{first-is, word-shown}

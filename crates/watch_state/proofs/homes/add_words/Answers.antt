@@ -1,6 +1,6 @@
 use Rattle.std.proofs.Common.{◌≡◌, arith, map}
 use Rattle.image_load.specs.Contents.{started}
-use Rattle.rv_code.specs.Machine.{first_ram}
+use Rattle.image_load.specs.Start.{first_ram}
 use Rattle.rules_maps.specs.Words.{word_at}
 use Rattle.directory.specs.Data.{dir_of}
 use Rattle.watch_state.specs.Directories.{word_record, word_records}

@@ -1,7 +1,7 @@
 -- The line is at home here, or elsewhere.
 use Rattle.std.proofs.Common.{◌++◌, ap, map, sym, ◌∙◌, rules}
 use Rattle.image_load.specs.Contents.{started}
-use Rattle.rv_code.specs.Machine.{first_ram}
+use Rattle.image_load.specs.Start.{first_ram}
 use Rattle.tcc_base.specs.Settings.{Settings}
 use Rattle.rules_maps.specs.Shape.{home}
 use Rattle.directory.specs.Data.{dir_of}

@@ -1,7 +1,7 @@
 -- The directory's state is that of the machine, which began with this code.
 use Rattle.std.proofs.Common.{◌≡◌, map}
 use Rattle.image_load.specs.Contents.{started}
-use Rattle.rv_code.specs.Machine.{first_ram}
+use Rattle.image_load.specs.Start.{first_ram}
 use Rattle.directory.specs.Data.{dir_of}
 use Rattle.net_core.specs.Machine.{settings_of, start_of, world_of}
 use Rattle.watch_state.specs.Directories.{directory_part}

@@ -1,6 +1,6 @@
 -- Each directory in turn.
 use Rattle.std.proofs.Common.{string_bytes}
-use Rattle.rv_code.specs.Machine.{first_ram}
+use Rattle.image_load.specs.Start.{first_ram}
 use Rattle.net_core.specs.Machine.{settings_of, start_of, world_of}
 use Rattle.watch_state.specs.Directories.{directory_records}
 use Rattle.watch_state.proofs.Growing.{lines-more}

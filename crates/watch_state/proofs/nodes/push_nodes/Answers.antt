@@ -1,7 +1,7 @@
 -- The cores, the directories and the vendor.
 use Rattle.std.proofs.Common.{ℕ, [], ◌∷◌, ◌++◌, ap, ◌∙◌, string_bytes}
 use Rattle.std.specs.List.{flat_map}
-use Rattle.rv_code.specs.Machine.{first_ram}
+use Rattle.image_load.specs.Start.{first_ram}
 use Rattle.rules_tcc.specs.Seen.{numbers}
 use Rattle.net_core.specs.Machine.{settings_of, start_of, world_of}
 use Rattle.watch_state.specs.Cores.{core_records}

@@ -2,7 +2,7 @@
 use Rattle.std.proofs.Common.{◌≡◌, ◌++◌, ap, codes, ◌∙◌, rules, string_bytes}
 use Rattle.std.specs.List.{flat_map}
 use Rattle.image_load.specs.Contents.{started}
-use Rattle.rv_code.specs.Machine.{first_ram}
+use Rattle.image_load.specs.Start.{first_ram}
 use Rattle.tcc_base.specs.Settings.{Settings}
 use Rattle.rules_tcc.specs.Useful.{delivers, evicts, execs, nodes}
 use Rattle.schedule_text.specs.Grammar.{config_line, newline}

@@ -1,7 +1,7 @@
 -- What there is now is kept, and all of it is told.
 use Rattle.std.proofs.Common.{◌++◌, ◌∙◌, ap, [], append_assoc, length, map, string_bytes}
 use Rattle.std.specs.Prelude.{get_or}
-use Rattle.rv_code.specs.Machine.{first_ram}
+use Rattle.image_load.specs.Start.{first_ram}
 use Rattle.rules_tcc.specs.Seen.{numbers}
 use Rattle.bus_tcc.specs.Machine.{bus_settings_of, bus_start_of, bus_world_of}
 use Rattle.watch_state.specs.Plain.{record_of}

@@ -1,7 +1,7 @@
 -- A core takes a message.
 use Rattle.std.proofs.Common.{◌≡◌, ◌∙◌, ◌<◌, ap, refl, sym, subst, Err, Some, Option, ℕ, [], false}
 use Rattle.rules_maps.specs.Bridge.{node_of}
-use Rattle.rv_code.specs.Machine.{first_ram}
+use Rattle.image_load.specs.Start.{first_ram}
 use Rattle.tcc_base.specs.declared.names.CoreId.{CoreId}
 use Rattle.tcc_base.specs.declared.names.NodeId.{NodeId}
 use Rattle.rules_maps.specs.Nodes.{Core, Deliver, Event, Node, Msg}

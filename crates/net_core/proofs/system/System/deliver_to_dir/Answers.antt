@@ -17,7 +17,7 @@ use Rattle.net_core.specs.Delivery.{is_consumed}
 use Rattle.net_core.specs.Inside.{machine_of}
 use Rattle.net_core.specs.Machine.{Machine, start_of}
 use Rattle.net_core.specs.Taking.{is_seen, look_of, looks}
-use Rattle.rv_code.specs.Machine.{first_ram}
+use Rattle.image_load.specs.Start.{first_ram}
 use Rattle.net_core.specs.declared.taking.Step.TheVariants.{Moved}
 use Rattle.net_core.proofs.Reaching.{nothing-left}
 use Rattle.net_core.proofs.Events.Kept.{StaysBut, stays-kept, stays-whole}

@@ -12,7 +12,7 @@ use Rattle.net_core.specs.Answers.{step_of}
 use Rattle.net_core.specs.Delivery.{AllMayGo, MayGo, is_deliverable}
 use Rattle.net_core.specs.Inside.{machine_of}
 use Rattle.net_core.specs.Machine.{settings_of, start_of, world_of}
-use Rattle.rv_code.specs.Machine.{first_ram}
+use Rattle.image_load.specs.Start.{first_ram}
 use Rattle.net_core.proofs.Useful.Enabled.{absent-refused, evict-enabled, evict-refused, exec-enabled, exec-refused, flying-enabled}
 use Rattle.net_core.proofs.Reaching.{reached-may-go}
 use Rattle.net_core.proofs.system.System.enabled.Goals as goal

@@ -1,6 +1,6 @@
 -- The directories of the world are those of the bank.
 use Rattle.std.proofs.Common.{◌≡◌, ◌∙◌, ap}
-use Rattle.rv_code.specs.Machine.{first_ram}
+use Rattle.image_load.specs.Start.{first_ram}
 use Rattle.tcc_base.specs.Settings.{Settings}
 use Rattle.rules_maps.specs.Shape.{home}
 use Rattle.rules_tcc.specs.State.{DirState}

@@ -1,6 +1,6 @@
 -- The directories of the world are those of the bank.
 use Rattle.std.proofs.Common.{◌∙◌, ap}
-use Rattle.rv_code.specs.Machine.{first_ram}
+use Rattle.image_load.specs.Start.{first_ram}
 use Rattle.machine_dirs.specs.Bank.{dirs_of}
 use Rattle.net_core.specs.Inside.{machine_of}
 use Rattle.net_core.specs.Machine.{Machine, start_of, world_of}

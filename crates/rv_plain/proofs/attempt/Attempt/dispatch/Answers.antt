@@ -2,7 +2,7 @@ use Rattle.std.proofs.Common.{refl}
 use Rattle.image_load.specs.Contents.{started}
 use Rattle.rv_plain.proofs.Stepping.{buffered_step-found, buffered_step-failed}
 use Rattle.rv_plain.specs.Attempts.{attempt_of}
-use Rattle.rv_plain.specs.declared.attempt.Outcome.TheVariants.{Goes}
+use Rattle.rv_exec.specs.declared.outcome.Outcome.TheVariants.{Goes}
 use Rattle.rv_plain.proofs.attempt.Attempt.dispatch.Goals as goal
 
 pub returns-in-Err-clause-does : goal.returns-in-Err-clause-does

@@ -3,7 +3,7 @@ use Rattle.image_load.specs.Contents.{started}
 use Rattle.rv_plain.specs.Attempts.{attempt_of}
 use Rattle.rv_plain.specs.Buffered.{plain_view}
 use Rattle.rv_code.specs.Machine.{program}
-use Rattle.rv_plain.specs.declared.attempt.Outcome.TheVariants.{Goes}
+use Rattle.rv_exec.specs.declared.outcome.Outcome.TheVariants.{Goes}
 use Rattle.rules_program.specs.Plain.{steps}
 use Rattle.rv_plain.proofs.attempt.Attempt.run.Given as goal
 

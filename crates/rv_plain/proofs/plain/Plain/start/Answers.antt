@@ -3,7 +3,7 @@ use Rattle.std.proofs.lemmas.Grind.{common_steps}
 use Rattle.image_load.specs.Contents.{started}
 use Rattle.rv_plain.proofs.Starts.{cores-more, plain_of-started}
 use Rattle.rv_plain.specs.Cores.{core_of, no_state}
-use Rattle.rv_code.specs.Machine.{first_ram}
+use Rattle.image_load.specs.Start.{first_ram}
 use Rattle.rv_plain.specs.Machine.{start_core}
 use Rattle.rules_program.specs.Ram.{flat}
 use Rattle.rv_plain.proofs.plain.Plain.start.Goals as goal

@@ -9,10 +9,9 @@ use Rattle.rules_maps.specs.Nodes.{Event}
 use Rattle.rules_program.specs.Plain.{Order}
 use Rattle.rules_tcc.specs.Rows.{e, d, c0, c1, d0, v}
 use Rattle.rules_tcc.specs.Step.{run}
-use Rattle.theorem_riscv.specs.Suiting.{world_at_start}
-use Rattle.theorem_phases.specs.Laws.{at_start}
-use Rattle.theorem_phases.specs.Phased.{phased_from}
-use Rattle.theorem_phases.specs.Phases.{phase_of, phases_of, phases_along}
+use Rattle.rules_riscv.specs.Starting.{world_at_start, at_start}
+use Rattle.rules_phases.specs.Phased.{phased_from}
+use Rattle.rules_phases.specs.Phases.{phase_of, phases_of, phases_along}
 
 -- two cores, one directory and four lines
 abbrev pub settings : Settings

@@ -2,9 +2,9 @@ use Rattle.std.proofs.Common.{◌<◌, ◌%◌, ◌≡◌, arith, subst}
 use Rattle.tcc_base.specs.Bytes.{bytes_of}
 use Rattle.tcc_base.specs.declared.access.Size.TheVariants.{Half, Word}
 use Rattle.rules_program.specs.Ram.{unit_of}
-use Rattle.rv_plain.proofs.Splice.{spliced-byte, spliced-half, spliced-word}
-use Rattle.rv_plain.proofs.bytes.replace.Goals as goal
-use Rattle.rv_plain.proofs.bytes.replace.Goals.{in-Byte, in-Half, in-Word}
+use Rattle.rv_exec.proofs.Splice.{spliced-byte, spliced-half, spliced-word}
+use Rattle.rv_exec.proofs.bytes.replace.Goals as goal
+use Rattle.rv_exec.proofs.bytes.replace.Goals.{in-Byte, in-Half, in-Word}
 
 pub overflow_cast-result-2 : goal.overflow_cast-result-2
 unfolding unit_of

@@ -10,7 +10,7 @@ use Rattle.rules_tcc.specs.Picked.{chosen}
 use Rattle.rules_tcc.specs.State.{Phase, Halted}
 use Rattle.rules_tcc.specs.Step.{History, next_history, and_then}
 use Rattle.rules_tcc.specs.Useful.{useful}
-use Rattle.theorem_phases.specs.Phases.{phase_of}
+use Rattle.rules_phases.specs.Phases.{phase_of}
 
 abbrev pub has_halted : Phase → Bool
 has_halted Halted = true
