@@ -5,6 +5,7 @@ use Rattle.std.specs.Prelude.{IfSome, slice_index_or}
 use Rattle.std.specs.List.{All}
 use Rattle.image_load.specs.Contents.{Contents, started}
 use Rattle.image_load.specs.Start.{first_ram}
+use Rattle.tcc_base.specs.Limits.{run_limit}
 use Rattle.tcc_base.specs.declared.names.NodeId.{NodeId}
 use Rattle.base_lemmas.proofs.Lemmas.{node_eq-refl}
 use Rattle.rules_maps.specs.Bridge.{node_of}
@@ -26,14 +27,14 @@ use Rattle.apart_member.specs.declared.kind.MemberKind.TheVariants as kind
 
 -- ---- before the event
 
-is-short : (sh : Shape) (done : ℕ) (ram : ℕ → ℕ) (k : MemberKind) → done < 4194304
+is-short : (sh : Shape) (done : ℕ) (ram : ℕ → ℕ) (k : MemberKind) → done < run_limit
     → NodeInBounds sh done (node_of (node_at k)) (kind_state ram k) → IsShort k
 is-short sh done ram (kind.Core id core) few b = attempt_short sh done id.0 (core_of core) few b
 is-short sh done ram (kind.Directory id dir) few b = tt
 is-short sh done ram (kind.Vendor next) few b = next_few sh done next few b
 
 pub may-act : (m : MemberData) (k : Contents) (e : Event) (x : Option Msg) → k ≡ m.code → IsMember m → MayDo m e x
-    → m.done < 4194304 → PartMayDo k m.kind e x
+    → m.done < run_limit → PartMayDo k m.kind e x
 unfolding state_of
 may-act m k e x same w a few = subst (λ c. PartMayDo c m.kind e x) (sym same) (record {
   at = a.at ∙ ap node_of w.named;
@@ -83,7 +84,7 @@ stays-whole m k w placed node state =
 
 -- what the rules leave of it and send from it is in bounds
 acts-bounded : (m n : MemberData) (e : Event) (x : Option Msg) (sent : List (NodeId × CodeMsg)) (consumed : Bool) → IsMember m → MayDo m e x
-    → m.done < 4194304 → ActsAs m.code (state_of m) (state_of n) e x sent consumed
+    → m.done < run_limit → ActsAs m.code (state_of m) (state_of n) e x sent consumed
     → ActsInBounds m.code.settings (m.done + 1) (node_of m.node)
     (record { state = state_of n; sends = sends_of sent; consumes = consumed })
 unfolding started
@@ -92,7 +93,7 @@ acts-bounded m n e x sent consumed w a few rule =
     (riscv_nodes_stay (started m.code) w.allowed m.done (node_of m.node) (state_of m) e x few a.at a.names w.bounded a.carried)
 
 pub acts-whole : (m : MemberData) (k : MemberKind) (e : Event) (x : Option Msg) (sent : List (NodeId × CodeMsg)) (consumed : Bool)
-    → IsMember m → MayDo m e x → m.done < 4194304 → IsPlaced m.code.settings k → node_at k ≡ node_at m.kind
+    → IsMember m → MayDo m e x → m.done < run_limit → IsPlaced m.code.settings k → node_at k ≡ node_at m.kind
     → ActsAs m.code (state_of m) (state_of (member_with m k (m.done + 1))) e x sent consumed → IsMember (member_with m k (m.done + 1))
 acts-whole m k e x sent consumed w a few placed node rule =
     let same : node_at k ≡ m.node = node ∙ sym w.named in
@@ -137,7 +138,7 @@ each-sent P (e ∷ xs) h = with-first (λ m. P (node_of m.0) (msg_of m.1)) e xs 
     others n = past n (node_eq n (node_of e.0)) (h n)
 
 pub acts-are : (m n : MemberData) (e : Event) (x : Option Msg) (sent : List (NodeId × CodeMsg)) (consumed : Bool) → IsMember m → MayDo m e x
-    → m.done < 4194304 → ActsAs m.code (state_of m) (state_of n) e x sent consumed → Acts m n e x sent consumed
+    → m.done < run_limit → ActsAs m.code (state_of m) (state_of n) e x sent consumed → Acts m n e x sent consumed
 acts-are m n e x sent consumed w a few rule = record {
   rule = rule;
   carried = each-sent (λ dst y. IsCarried m.code.settings (node_of m.node) dst y) sent

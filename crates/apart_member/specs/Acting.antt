@@ -4,6 +4,7 @@ use Rattle.std.specs.List.{All}
 use Rattle.image_load.specs.Contents.{Contents, started}
 use Rattle.rv_code.specs.Machine.{program}
 use Rattle.image_load.specs.Start.{first_ram}
+use Rattle.tcc_base.specs.Limits.{run_limit}
 use Rattle.tcc_base.specs.declared.names.NodeId.{NodeId}
 use Rattle.rules_maps.specs.Bridge.{node_of}
 use Rattle.rules_maps.specs.Nodes.{Core, Event, Exec, Evict, Deliver, Msg}
@@ -74,9 +75,9 @@ consumes Waits = false
 
 -- its counts have room for one more
 abbrev pub IsShort : MemberKind → Type 0
-IsShort (kind.Core id core) = (core_of core).n < 4194304
+IsShort (kind.Core id core) = (core_of core).n < run_limit
 IsShort (kind.Directory id dir) = Unit {0}
-IsShort (kind.Vendor next) = next ≤ 4194304
+IsShort (kind.Vendor next) = next ≤ run_limit
 
 -- so a part may do an event of the member
 pub record PartMayDo (code : Contents) (m : MemberKind) (e : Event) (x : Option Msg) : Type 0 where

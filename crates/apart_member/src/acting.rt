@@ -18,6 +18,7 @@ ghost use Rattle.theorem_apart.specs.Laws.{BringsCarried};
 ghost use Rattle.apart_member.specs.Acting.{Acts, ActsAs, IsFrom, IsFromCore, MayDo, PartMayDo, TakesAs, acted_by, consumes, happens_at};
 ghost use Rattle.apart_member.specs.Data.{node_at, kind_state, state_of};
 ghost use Rattle.apart_member.specs.Placed.{IsPlaced};
+ghost use Rattle.tcc_base.specs.Limits.{run_limit};
 
 use crate::kind::MemberKind;
 use crate::member::Member;
@@ -40,7 +41,7 @@ fn act_core(
     requires at { at_node (event_of event) ≡ Core core.old.id.0 }
     requires names { names_nodes core.old.config (event_of event) ≡ true }
     requires enabled { is_some (happens_at code.now (AtCore (core_of core.old)) (event_of event) (option_map msg_of msg)) ≡ true }
-    requires short { (core_of core.old).n < 4194304 }
+    requires short { (core_of core.old).n < run_limit }
     requires empty { out.old.list.items ≡ [] }
     ensures acts { IfOk result
         (ActsAs code.now (AtCore (core_of core.old)) (AtCore (core_of core.new)) (event_of event)
@@ -117,7 +118,7 @@ fn hand_to(
 
 /// The vendor gives its next TID to a core.
 fn grant(vendor: &mut Vendor, core: CoreId, out: &mut Outgoing) -> Result<(), NoMemory>
-    requires few { vendor.old ≤ 4194304 }
+    requires few { vendor.old ≤ run_limit }
     requires empty { out.old.list.items ≡ [] }
     ensures next { OnOk result (vendor.new ≡ vendor.old + 1) }
     ensures given { OnOk result (sends_of out.new.list.items ≡ to (Core core.0) (TidGrant vendor.old ∷ [])) }
@@ -181,7 +182,7 @@ impl Member {
         out: &mut Outgoing,
     ) -> Result<bool, NoMemory>
         requires may { MayDo self.old (event_of event) (option_map msg_of msg) }
-        requires few { self.old.done < 4194304 }
+        requires few { self.old.done < run_limit }
         requires empty { out.old.list.items ≡ [] }
         ensures acted { IfOk result (Acts self.old self.new (event_of event) (option_map msg_of msg) out.new.list.items) }
         ensures done { OnOk result (self.new.done ≡ self.old.done + 1) }

@@ -1,6 +1,7 @@
 -- What a node does in one call.
 use Rattle.std.specs.Prelude.{ℕ, ◌≡◌, ◌<◌, ◌+◌, ◌%◌, ◌⊎◌, Bool, true, false, List, [], ◌∷◌, ◌++◌, length, Option, Some}
 use Rattle.std.specs.Prelude.{slice_get, option_map, if◌then◌else◌}
+use Rattle.tcc_base.specs.Limits.{run_limit}
 use Rattle.rules_maps.specs.Nodes.{Node, Event, Exec, Evict, Deliver, node_eq}
 use Rattle.tcc_msg.specs.Plain.{event_of}
 use Rattle.rules_tcc.specs.Local as rules
@@ -67,13 +68,13 @@ pub record Performs (mid : NodeData) (e : Event) (m : Option rules.Mail) (new : 
 pub record Does (mid : NodeData) (pick : ℕ) (new : NodeData) : Type 0 where
   pub chosen : Event × Option rules.Mail
   pub picked : slice_get (useful mid) (pick % length (useful mid)) ≡ Some chosen
-  pub room : length mid.log < 4194304
+  pub room : length mid.log < run_limit
   pub performs : Performs mid chosen.0 chosen.1 new
 
 -- what each answer says
 abbrev pub AnswersAct : (old : NodeData) → (pick : ℕ) → (new : NodeData) → Act → Type 0
 AnswersAct old pick new Moved = (mid : NodeData) × (Gathers old mid × Does mid pick new)
-AnswersAct old pick new Idle = Gathers old new × ((useful new ≡ []) ⊎ (length new.log ≡ 4194304))
+AnswersAct old pick new Idle = Gathers old new × ((useful new ≡ []) ⊎ (length new.log ≡ run_limit))
 AnswersAct old pick new Memory = Gathers old new
 
 -- the same node with the same program and the same links

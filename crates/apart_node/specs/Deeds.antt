@@ -1,5 +1,6 @@
 -- The event that was chosen, and why the node can do it.
 use Rattle.std.specs.Prelude.{ℕ, ◌≡◌, ◌<◌, ◌≤◌, ◌%◌, ◌^◌, max, length, Option, Some, None, slice_get, option_map}
+use Rattle.tcc_base.specs.Limits.{run_limit}
 use Rattle.rules_maps.specs.Bridge.{node_of}
 use Rattle.rules_maps.specs.Nodes.{Node, Event, Exec, Evict, Deliver}
 use Rattle.tcc_msg.specs.Plain.{event_of, msg_of}
@@ -49,7 +50,7 @@ IsFor r own e (Some w) = IsWaiting r w × (e ≡ Deliver (node_of w.src) own w.l
 
 -- the node can do it now
 pub record IsPossible (n : NodeData) (d : Deed) : Type 0 where
-  pub few : length n.log < 4194304
+  pub few : length n.log < run_limit
   pub early : stamp_after (last_stamp n.log) (mail_in d.waiting) ≤ 2 ^ 62
   pub may : MayDo n.member (event_of d.event) (option_map (λ m. m.msg) (mail_in d.waiting))
   pub waits : IsFor n.room (here n) (event_of d.event) d.waiting

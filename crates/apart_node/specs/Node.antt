@@ -4,6 +4,7 @@ use Rattle.image_load.specs.Contents.{started}
 use Rattle.image_load.specs.Start.{Start}
 use Rattle.rv_code.specs.Machine.{program}
 use Rattle.rules_riscv.specs.Starting.{world_at_start}
+use Rattle.tcc_base.specs.Limits.{run_limit}
 use Rattle.tcc_base.specs.Settings.{Settings}
 use Rattle.rules_maps.specs.Bridge.{node_of}
 use Rattle.rules_maps.specs.Nodes.{Node, Event, Exec, Evict, Deliver}
@@ -78,7 +79,7 @@ pub record IsNode (n : NodeData) : Type 0 where
   pub stamps : last_stamp n.log ≤ 2 ^ 62
   -- It has done what its log says, and that has an end.
   pub done : n.member.done ≡ length n.log
-  pub few : length n.log ≤ 4194304
+  pub few : length n.log ≤ run_limit
   -- Its ports are its own.
   pub settings : n.room.settings ≡ n.member.code.settings
   pub own : n.room.own ≡ n.member.node

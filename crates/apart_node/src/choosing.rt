@@ -8,6 +8,7 @@ ghost use Rattle.apart_member.specs.Own.{own_events};
 ghost use Rattle.apart_node.specs.Choice.{useful, stamp_after};
 ghost use Rattle.apart_node.specs.Deeds.{IsChoice, IsPossible, mail_in};
 ghost use Rattle.apart_node.specs.Node.{last_stamp};
+ghost use Rattle.tcc_base.specs.Limits.{run_limit};
 
 use crate::drawing::Draw;
 use crate::node::Node;
@@ -70,7 +71,7 @@ fn delivery(own: NodeId, waiting: Waiting) -> Deed
 impl Node {
     // The event of its own of this number.
     fn own_deed(&self, k: usize) -> Option<Deed>
-        requires few { length self.now.log < 4194304 }
+        requires few { length self.now.log < run_limit }
         requires early { last_stamp self.now.log < 2 ^ 62 }
         requires one { k < length (own_events self.now.member) }
         ensures { IsSomeAnd result (λ d. (d.waiting ≡ None) × (Some (event_of d.event) ≡ slice_get (own_events self.now.member) k)
@@ -86,7 +87,7 @@ impl Node {
     /// The useful event that the number picks: the one of its remainder by how many there are. None where there is none, and where the log
     /// is full.
     pub(crate) fn choose(&mut self, pick: u32) -> Option<Deed>
-        ensures chosen { MatchOption result ((useful self.old ≡ []) ⊎ (length self.old.log ≡ 4194304)) (IsChoice self.old pick) }
+        ensures chosen { MatchOption result ((useful self.old ≡ []) ⊎ (length self.old.log ≡ run_limit)) (IsChoice self.old pick) }
         ensures same { self.new ≡ self.old }
     {
         if self.log.len() >= LOG_END {

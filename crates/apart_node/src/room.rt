@@ -13,6 +13,7 @@ ghost use Rattle.apart_node.specs.Linked.{IsLinkedTo};
 ghost use Rattle.apart_node.specs.Moves.{AtEach, Grows, Room, SameSent, Stands, Takes};
 ghost use Rattle.apart_node.specs.Ports.{ArePorts, IsUnused, handed_to, taken_from};
 ghost use Rattle.apart_node.specs.Tally.{IsTallied};
+ghost use Rattle.tcc_base.specs.Limits.{run_limit};
 
 use crate::bell::Bell;
 use crate::peers::seat_of;
@@ -211,7 +212,7 @@ impl Mailroom {
         requires own { self.old.own ≡ member.old.node }
         requires flushed { self.old.unsent ≡ [] }
         requires may { MayDo member.old (event_of event) (option_map msg_of msg) }
-        requires few { member.old.done < 4194304 }
+        requires few { member.old.done < run_limit }
         ensures acted { IfOk result (Acts member.old member.new (event_of event) (option_map msg_of msg) self.new.unsent) }
         ensures ports { self.new ≡ record self.old { unsent = self.new.unsent } }
         ensures done { OnOk result (member.new.done ≡ member.old.done + 1) }

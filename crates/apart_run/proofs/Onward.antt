@@ -2,6 +2,7 @@
 use Rattle.std.proofs.Common.{◌≡◌, ℕ, suc, ◌+◌, ◌-◌, ◌<◌, ◌≤◌, ◌%◌, List, [], ◌∷◌, ◌++◌, length, append-nil, append_assoc}
 use Rattle.std.proofs.Common.{Option, Some, None, refl, ap, sym, ◌∙◌, subst, arith}
 use Rattle.std.specs.Prelude.{replicate, slice_get}
+use Rattle.tcc_base.specs.Limits.{run_limit}
 use Rattle.image_load.specs.Contents.{started}
 use Rattle.net_core.specs.Machine.{Machine, history_of, program_of, settings_of, world_of}
 use Rattle.rv_code.specs.Machine.{program}
@@ -67,12 +68,12 @@ goes-end m left e = ap (λ k. goes_on k m) e
 pub record Going (m n : Refined) (all i : ℕ) : Type 0 where
   pub left : ℕ
   pub count : left + i ≡ all
-  pub few : n.machine.events + left ≤ 4194304
+  pub few : n.machine.events + left ≤ run_limit
   pub firsts : List Event
   pub took : TookAll m n firsts
   pub rest : goes_on all m.machine ≡ firsts ++ goes_on left n.machine
 
-pub going-none : (m : Refined) (all : ℕ) → m.machine.events + all ≤ 4194304 → Going m m all 0
+pub going-none : (m : Refined) (all : ℕ) → m.machine.events + all ≤ run_limit → Going m m all 0
 going-none m all h = record { left = all; count = omega arith; few = h; firsts = []; took = took-none m; rest = refl }
 
 pub going-same : {m n : Refined} {all i : ℕ} (o : Refined) → Going m n all i → Same n o → Going m o all i

@@ -5,6 +5,7 @@ ghost use Rattle.node_locks.specs.Turns.{entries_in};
 ghost use Rattle.node_locks.specs.Wiring.{links_of, logs_of};
 ghost use Rattle.rules_apart.specs.Fitting.{FitLogs, node_count};
 ghost use Rattle.apart_run.specs.Joined.{IsMergedRun};
+ghost use Rattle.tcc_base.specs.Limits.{run_limit};
 
 use image_load::Loaded;
 use node_locks::{Farm, Nodes, Setup};
@@ -40,7 +41,7 @@ fn logs_after<
     gate: &G,
 ) -> Result<Logs, NoMemory>
     requires threads { (1 ≤ plan.now.threads) × (plan.now.threads ≤ 16) }
-    requires steps { plan.now.steps ≤ 4194304 }
+    requires steps { plan.now.steps ≤ run_limit }
     requires batch { (1 ≤ plan.now.batch) × (plan.now.batch ≤ 1024) }
     requires code { nodes.code ≡ W.code }
     requires link { W.link ≡ links_of nodes }
@@ -70,7 +71,7 @@ pub(crate) fn run_apart<R: Threads + Wait + Sync, G: Gate + Sync>(
     gate: &G,
 ) -> Result<Schedule, NoMemory>
     requires threads { (1 ≤ plan.now.threads) × (plan.now.threads ≤ 16) }
-    requires steps { plan.now.steps ≤ 4194304 }
+    requires steps { plan.now.steps ≤ run_limit }
     requires batch { (1 ≤ plan.now.batch) × (plan.now.batch ≤ 1024) }
     ensures { IfOk result (λ s. IsMergedRun (started loaded.now) plan.now.steps s.events) }
 {

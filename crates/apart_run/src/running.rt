@@ -3,6 +3,7 @@ ghost use Rattle.std.specs.Prelude.{◌≡◌, ◌≤◌, [], IfOk, IsSome, leng
 ghost use Rattle.image_load.specs.Contents.{started};
 ghost use Rattle.tcc_replay.specs.Replayed.{history_by};
 ghost use Rattle.apart_run.specs.Joined.{IsJoined};
+ghost use Rattle.tcc_base.specs.Limits.{run_limit};
 
 use crate::apart::run_apart;
 use crate::going::go_on;
@@ -20,7 +21,7 @@ use tcc_world::Gate;
 
 /// The machine that starts with what was loaded and takes these events, which are a run.
 fn retrace(alloc: Global, loaded: &Loaded, events: &[Event]) -> Result<Refined, NoMemory>
-    requires few { length events.now ≤ 4194304 }
+    requires few { length events.now ≤ run_limit }
     requires runs { IsSome (history_by (started loaded.now) events.now) }
     ensures code { IfOk result (λ r. r.machine.cores.code ≡ loaded.now) }
     ensures taken { IfOk result (λ r. r.taken ≡ events.now) }
@@ -47,7 +48,7 @@ pub fn run_threads<R: Threads + Wait + Sync, G: Gate + Sync>(
     gate: &G,
 ) -> Result<Refined, NoMemory>
     requires threads { (1 ≤ plan.now.threads) × (plan.now.threads ≤ 16) }
-    requires steps { plan.now.steps ≤ 4194304 }
+    requires steps { plan.now.steps ≤ run_limit }
     requires batch { (1 ≤ plan.now.batch) × (plan.now.batch ≤ 1024) }
     ensures code { IfOk result (λ r. r.machine.cores.code ≡ loaded.now) }
     ensures joined { IfOk result (λ r. IsJoined (started loaded.now) plan.now.steps r.taken) }

@@ -1,6 +1,7 @@
 -- A run that is told with records: what is skipped before the window begins, and what is told of each event.
 use Rattle.std.specs.Prelude.{ℕ, ◌≡◌, ◌+◌, ◌≤◌, Bool, true, false, List, [], ◌++◌, Option, if◌then◌else◌}
 use Rattle.std.specs.Io.KnownBytes.{Appends}
+use Rattle.tcc_base.specs.Limits.{run_limit}
 use Rattle.image_load.specs.Contents.{Contents, started}
 use Rattle.image_load.specs.Start.{first_ram}
 use Rattle.rules_bus.specs.State.{BusWorld}
@@ -31,7 +32,7 @@ pub record IsShown (shown : Bool) (new : BusParts) (m : BusMachine) (core : ℕ)
 
 -- it can take its next event, and what is kept is of its state
 pub record CanShow (r : KeptRun) : Type 0 where
-  pub few : r.run.system.events + r.run.left ≤ 4194304
+  pub few : r.run.system.events + r.run.left ≤ run_limit
   pub kept : IsKept r.kept (bus_settings_of r.run.system) (bus_world_of r.run.system)
 
 -- all events came: of the trace without its last lines the last part is held, and the rest was written

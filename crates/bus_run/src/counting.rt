@@ -5,6 +5,7 @@ ghost use Rattle.bus_tcc.specs.Machine.{bus_event_of};
 ghost use Rattle.bus_watch.specs.Happened.{core_of as plain_core};
 ghost use Rattle.bus_run.specs.Counted.{IsBusCounted};
 ghost use Rattle.bus_run.specs.Counting.{AreCounted};
+ghost use Rattle.tcc_base.specs.Limits.{run_limit};
 
 use crate::running::BusRun;
 use bus_count::BusCounts;
@@ -32,7 +33,7 @@ pub(crate) fn core_of(e: BusEvent) -> CoreId
 
 /// Takes all events that come, and counts what they did.
 fn count_events(run: &mut BusRun, counts: &mut BusCounts) -> Result<(), NoMemory>
-    requires few { run.old.system.events + run.old.left ≤ 4194304 }
+    requires few { run.old.system.events + run.old.left ≤ run_limit }
     ensures { OnOk result (AreCounted run.old run.new counts.old counts.new) }
 {
     for _ in 0..run.left {
@@ -56,7 +57,7 @@ pub fn count_on_bus(
     steps: u64,
 ) -> Result<BusCounted, NoMemory>
     requires one_home { loaded.now.settings.dirs ≡ 1 }
-    requires few { steps ≤ 4194304 }
+    requires few { steps ≤ run_limit }
     ensures { IfOk result (λ c. IsBusCounted (started loaded.now) seed steps c.done c.events c.counts) }
 {
     let mut run = BusRun::start(alloc, loaded, seed, steps)?;

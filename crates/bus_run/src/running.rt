@@ -1,6 +1,7 @@
 // A run of the machine with one bus that goes on event by event, as the words of a seed pick them.
 ghost use Rattle.std.specs.Prelude.{◌≡◌, ◌+◌, ◌≤◌, IfOk, option_map};
 ghost use Rattle.bus_tcc.specs.Machine.{bus_event_of};
+ghost use Rattle.tcc_base.specs.Limits.{run_limit};
 
 use bus_tcc::{BusEvent, BusSystem};
 use bus_tool::pick;
@@ -45,7 +46,7 @@ impl BusRun {
     /// Takes the event that the next word picks, and leaves in `facts` what it did. None where no event is useful, or no word is left.
     /// After want of memory the run is of no use.
     pub(crate) fn take_next(&mut self) -> Result<Option<BusEvent>, NoMemory>
-        requires few { self.old.system.events + self.old.left ≤ 4194304 }
+        requires few { self.old.system.events + self.old.left ≤ run_limit }
         ensures { IfOk result (λ e. Moves self.old self.new (option_map bus_event_of e)) }
     {
         if self.left == 0 {

@@ -14,6 +14,7 @@ ghost use Rattle.bus_changes.specs.Text.{bus_all_lines};
 ghost use Rattle.bus_run.specs.Going.{Led, coming};
 ghost use Rattle.bus_run.specs.Laws.{led-more, led-none};
 ghost use Rattle.bus_run.specs.Shown.{CanShow, IsShown};
+ghost use Rattle.tcc_base.specs.Limits.{run_limit};
 
 use crate::counting::core_of;
 use crate::running::BusRun;
@@ -82,12 +83,12 @@ fn tell_one(
     shown: bool,
     text: &mut String,
 ) -> Result<bool, NoMemory>
-    requires few { run.old.system.events + run.old.left ≤ 4194304 }
+    requires few { run.old.system.events + run.old.left ≤ run_limit }
     requires kept { IsKept kept.old (bus_settings_of run.old.system) (bus_world_of run.old.system) }
     ensures tells { IfOk result (Tells (Led true run.old run.new) (coming run.new ≡ []) shown
         (string_bytes text.old) (string_bytes text.new)) }
     ensures fewer { IfOk result (λ more. IsTrue more → run.new.left < run.old.left) }
-    ensures few { OnOk result (run.new.system.events + run.new.left ≤ 4194304) }
+    ensures few { OnOk result (run.new.system.events + run.new.left ≤ run_limit) }
     ensures kept { OnOk result (IsKept kept.new (bus_settings_of run.new.system) (bus_world_of run.new.system)) }
 {
     look(run);

@@ -5,6 +5,7 @@ ghost use Rattle.bus_trace.specs.Text.{bus_event_and_facts};
 ghost use Rattle.bus_watch.specs.Plain.{bus_fact_of};
 ghost use Rattle.bus_run.specs.Going.{Led, coming};
 ghost use Rattle.bus_run.specs.Laws.{led-more, led-none};
+ghost use Rattle.tcc_base.specs.Limits.{run_limit};
 
 use crate::running::BusRun;
 use bus_tcc::BusEvent;
@@ -37,7 +38,7 @@ impl TextRun for BusRun {
 
     ghost left = { λ r. r.left };
 
-    ghost can = { λ r. r.system.events + r.left ≤ 4194304 };
+    ghost can = { λ r. r.system.events + r.left ≤ run_limit };
 
     ghost ended = { λ r. coming r ≡ [] };
 

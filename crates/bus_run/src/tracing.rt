@@ -5,6 +5,7 @@ ghost use Rattle.bus_trace.specs.Text.{bus_head_text};
 ghost use Rattle.bus_run.specs.Going.{GoneOn, Starts};
 ghost use Rattle.bus_run.specs.Shown.{IsAllTold, lines_coming};
 ghost use Rattle.bus_run.specs.Traced.{IsBusTraceBroken, IsBusTraced};
+ghost use Rattle.tcc_base.specs.Limits.{run_limit};
 
 use crate::running::BusRun;
 use crate::showing::KeptRun;
@@ -25,7 +26,7 @@ fn tell_facts<O: Sink>(
     held: &mut String,
     out: &mut O,
 ) -> Result<BusRun, Broken>
-    requires few { run.system.events + run.left ≤ 4194304 }
+    requires few { run.system.events + run.left ≤ run_limit }
     requires enough { run.left ≤ most }
     ensures told { (c : Contents) (seed steps : ℕ) → Starts c seed steps run → string_bytes held.old ≡ bus_head_text c.settings from
         → IfOk result (λ last. IsAllTold false c seed steps from last (string_bytes held.new) (O.bytes out.old) (O.bytes out.new)) }
@@ -52,7 +53,7 @@ fn tell_window<O: Sink>(
     held: &mut String,
     out: &mut O,
 ) -> Result<BusRun, Broken>
-    requires few { run.system.events + run.left ≤ 4194304 }
+    requires few { run.system.events + run.left ≤ run_limit }
     requires enough { run.left ≤ most }
     ensures told { (first : BusRun) (c : Contents) (seed steps from : ℕ) → Starts c seed steps first → GoneOn first run
         → string_bytes held.old ≡ bus_head_text c.settings from → lines_coming from first ≡ lines_coming 0 run
@@ -86,7 +87,7 @@ fn tell_states<O: Sink>(
     held: &mut String,
     out: &mut O,
 ) -> Result<BusRun, Broken>
-    requires few { run.system.events + run.left ≤ 4194304 }
+    requires few { run.system.events + run.left ≤ run_limit }
     requires enough { run.left ≤ most }
     ensures told { (c : Contents) (seed steps : ℕ) → Starts c seed steps run → string_bytes held.old ≡ bus_head_text c.settings from
         → IfOk result (λ last. IsAllTold true c seed steps from last (string_bytes held.new) (O.bytes out.old) (O.bytes out.new)) }
@@ -118,7 +119,7 @@ fn tell_run<O: Sink>(
     held: &mut String,
     out: &mut O,
 ) -> Result<BusRun, Broken>
-    requires few { run.system.events + run.left ≤ 4194304 }
+    requires few { run.system.events + run.left ≤ run_limit }
     requires enough { run.left ≤ most }
     ensures told { (c : Contents) (seed steps : ℕ) → Starts c seed steps run → string_bytes held.old ≡ bus_head_text c.settings from
         → IfOk result (λ last. IsAllTold states c seed steps from last (string_bytes held.new) (O.bytes out.old) (O.bytes out.new)) }
@@ -157,7 +158,7 @@ pub fn trace_on_bus<O: Sink>(
     out: &mut O,
 ) -> Result<bool, Broken>
     requires one_home { loaded.now.settings.dirs ≡ 1 }
-    requires few { steps ≤ 4194304 }
+    requires few { steps ≤ run_limit }
     ensures traced { IfOk result (IsBusTraced states (started loaded.now) seed steps from (O.bytes out.old) (O.bytes out.new)) }
     ensures broken { IfErr result (IsBusTraceBroken states (started loaded.now) seed steps from
         (record {

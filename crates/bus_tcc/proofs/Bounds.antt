@@ -3,6 +3,7 @@ use Rattle.std.proofs.Common.{◌≡◌, ℕ, ◌<◌, ◌≤◌, length, Some, 
 use Rattle.image_load.specs.Contents.{Contents, started}
 use Rattle.rv_code.specs.Machine.{program}
 use Rattle.std.specs.Prelude.{List}
+use Rattle.tcc_base.specs.Limits.{run_limit}
 use Rattle.tcc_base.specs.Settings.{IsAllowed}
 use Rattle.rules_bus.specs.State.{BusEvent}
 use Rattle.rules_bus.specs.Step.{BusHistory, bus_run}
@@ -29,8 +30,8 @@ unfolding bus_history_of bus_world_of
 core-bounded m w c l = (bounded m w).cores c l
 
 -- an attempt is short where few events were taken
-pub short-attempt : (m : BusMachine) → IsBusWhole m → m.events < 4194304 → (c : ℕ) → c < (bus_settings_of m).cores
-    → (cores_of (bank_in m) c).n < 4194304
+pub short-attempt : (m : BusMachine) → IsBusWhole m → m.events < run_limit → (c : ℕ) → c < (bus_settings_of m).cores
+    → (cores_of (bank_in m) c).n < run_limit
 short-attempt m w few c l =
     let most : (cores_of (bank_in m) c).n ≤ m.events = (core-bounded m w c l).attempt.instructions in
     omega (arith, most, few)

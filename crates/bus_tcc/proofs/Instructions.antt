@@ -3,6 +3,7 @@ use Rattle.std.proofs.Common.{◌≡◌, ◌≢◌, ℕ, ◌+◌, ◌<◌, Bool,
 use Rattle.std.proofs.Common.{◌∙◌, subst, arith}
 use Rattle.std.specs.Prelude.{◌==◌, ◌||◌, get_or, is_some, unwrap_or, if◌then◌else◌, Contains}
 use Rattle.std.proofs.lemmas.Bool.Decides.{nat_tests}
+use Rattle.tcc_base.specs.Limits.{run_limit}
 use Rattle.tcc_base.specs.Put.{put}
 use Rattle.tcc_base.specs.declared.access.Size.TheVariants.{Byte, Half, Word}
 use Rattle.base_lemmas.proofs.Lemmas.{has-full}
@@ -261,12 +262,12 @@ barred-where m c w l e b =
 
 -- what is asked of a machine of which a core executes
 pub record Asked (m : BusMachine) (c : ℕ) : Type 0 where
-  pub few : m.events < 4194304
+  pub few : m.events < run_limit
   pub exists : c < (bus_settings_of m).cores
   pub runs : executes (cores_of (bank_in m) c).phase ≡ true
   pub goes_on : bus_step_of m (Exec c) ≡ goes_on (bus_world_of m) c (instruction_of m c)
 
-pub asked-of : (m : BusMachine) (c : ℕ) → m.events < 4194304 → c < (bus_settings_of m).cores
+pub asked-of : (m : BusMachine) (c : ℕ) → m.events < run_limit → c < (bus_settings_of m).cores
     → executes ((bus_world_of m).cores c).phase ≡ true
     → bus_step_of m (Exec c)
     ≡ goes_on (bus_world_of m) c (instruction (bus_settings_of m) (bus_program_of m) (bus_world_of m).ram c ((bus_world_of m).cores c))

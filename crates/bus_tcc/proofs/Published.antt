@@ -5,6 +5,7 @@ use Rattle.std.specs.Prelude.{◌==◌, nat_lt, is_some, option_map, unwrap_or, 
 use Rattle.std.proofs.lemmas.Bool.{lt-ltb}
 use Rattle.std.proofs.lemmas.Bool.Decides.{nat_tests}
 use Rattle.std.proofs.lemmas.List.Elements.{Contains-push_cases}
+use Rattle.tcc_base.specs.Limits.{run_limit}
 use Rattle.tcc_base.specs.Put.{put}
 use Rattle.tcc_base.specs.declared.access.Commit.{Commit as Noted}
 use Rattle.rules_maps.specs.Shape.{Shape, lines}
@@ -111,11 +112,11 @@ commit-step m c l e f = waiting-step m c l e ∙ free-so (bus_of m.bus) _ f
 -- ---- what is asked of a machine of which a core commits
 
 pub record Waits (m : BusMachine) (c : ℕ) : Type 0 where
-  pub few : m.events < 4194304
+  pub few : m.events < run_limit
   pub exists : c < (bus_settings_of m).cores
   pub waits : (cores_of (bank_in m) c).phase ≡ AwaitTid
 
-pub waits-of : (m : BusMachine) (c : ℕ) → m.events < 4194304 → c < (bus_settings_of m).cores
+pub waits-of : (m : BusMachine) (c : ℕ) → m.events < run_limit → c < (bus_settings_of m).cores
     → ((bus_world_of m).cores c).phase ≡ AwaitTid → Waits m c
 unfolding bus_world_of
 waits-of m c f l e = record { few = f; exists = l; waits = e }
@@ -158,12 +159,12 @@ busy-answers m c a f = (record { history = refl; events = refl; code = refl }, b
 -- ---- what is asked of a machine of which a core commits now
 
 pub record Commits (m : BusMachine) (c : ℕ) : Type 0 where
-  pub few : m.events < 4194304
+  pub few : m.events < run_limit
   pub exists : c < (bus_settings_of m).cores
   pub may : CommitsBy (bus_program_of m) m.next (cores_of (bank_in m) c) (cores_of (bank_in m) c).phase
   pub step : bus_step_of m (Exec c) ≡ Some (commit_of m c (at_commit (bus_program_of m) (cores_of (bank_in m) c)))
 
-pub commits-of : (m : BusMachine) (c : ℕ) → m.events < 4194304 → c < (bus_settings_of m).cores
+pub commits-of : (m : BusMachine) (c : ℕ) → m.events < run_limit → c < (bus_settings_of m).cores
     → (let s = (bus_world_of m).cores c in CommitsBy (bus_program_of m) (bus_world_of m).next s s.phase)
     → bus_step_of m (Exec c) ≡ Some (commit_of m c (at_commit (bus_program_of m) ((bus_world_of m).cores c))) → Commits m c
 unfolding bus_world_of
@@ -254,7 +255,7 @@ pub new-tid : (m : BusMachine) (c : ℕ) (s : CoreState) (w : Written) → IsBus
     → HasNone w.commit.tid.0 m.commits
 new-tid m c s w k h = none-before m.next w.commit.tid.0 m.commits (tid-number (bus_settings_of m) c m.next s w h) k.noted
 
-pub next-fits : (m : BusMachine) → IsBusWhole m → m.events < 4194304 → m.next < 4194305
+pub next-fits : (m : BusMachine) → IsBusWhole m → m.events < run_limit → m.next < 4194305
 unfolding bus_history_of bus_world_of
 next-fits m w few =
     let b = bounded m w in let n = b.next in let most = b.number in omega (arith, n, most, few)

@@ -13,6 +13,7 @@ ghost use Rattle.bus_tcc.specs.Bank.{Acted, ExecutedAt};
 ghost use Rattle.bus_tcc.specs.Ending.{CommitsBy, at_commit};
 ghost use Rattle.bus_tcc.specs.Machine.{word_in};
 ghost use Rattle.bus_tcc.specs.Taking.{took};
+ghost use Rattle.tcc_base.specs.Limits.{run_limit};
 ghost use Rattle.tcc_base.specs.Put.{put};
 ghost use Rattle.core_node.specs.AtHand.{ends_by, executes, goes_alone};
 ghost use Rattle.rules_tcc.specs.CoreExec.{core_exec};
@@ -107,7 +108,7 @@ impl BusBank {
         out: &mut Outgoing,
     ) -> Result<bool, CoreError>
         requires exists { core.0 < self.old.code.settings.cores }
-        requires short { (cores_of self.old core.0).n < 4194304 }
+        requires short { (cores_of self.old core.0).n < run_limit }
         requires executes { executes (cores_of self.old core.0).phase ≡ true }
         requires idle { (cores_of self.old core.0).awaited ≡ None }
         ensures does { IfOk result
@@ -145,7 +146,7 @@ impl BusBank {
         out: &mut Outgoing,
     ) -> Result<Written, CoreError>
         requires exists { core.0 < self.old.code.settings.cores }
-        requires short { (cores_of self.old core.0).n < 4194304 }
+        requires short { (cores_of self.old core.0).n < run_limit }
         requires idle { (cores_of self.old core.0).awaited ≡ None }
         requires commits { CommitsBy (program (started self.old.code)) tid.0 (cores_of self.old core.0) (cores_of self.old core.0).phase }
         requires can { CanCommit self.old.code.settings (cores_of self.old core.0) }

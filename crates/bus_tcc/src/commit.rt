@@ -6,6 +6,7 @@ ghost use Rattle.rules_tcc.specs.State.{AwaitTid};
 ghost use Rattle.bus_tcc.specs.Answers.{Answers, bus_step_of};
 ghost use Rattle.bus_tcc.specs.Ending.{CommitsBy, at_commit};
 ghost use Rattle.bus_tcc.specs.Machine.{bus_program_of, bus_settings_of, bus_world_of};
+ghost use Rattle.tcc_base.specs.Limits.{run_limit};
 
 use crate::committing::{Written, tagged};
 use crate::engine::Engine;
@@ -18,7 +19,7 @@ use tcc_base::{CoreId, Tid};
 impl Engine {
     /// A core commits that the rules let commit now.
     pub(crate) fn publish(&mut self, core: CoreId) -> Result<BusStep, BusError>
-        requires few { self.old.events < 4194304 }
+        requires few { self.old.events < run_limit }
         requires exists { core.0 < (bus_settings_of self.old).cores }
         requires may { let s = (bus_world_of self.old).cores core.0 in
             CommitsBy (bus_program_of self.old) (bus_world_of self.old).next s s.phase }
@@ -48,7 +49,7 @@ impl Engine {
 
     /// A core whose transaction has ended commits, where the bus is free.
     pub(crate) fn commit(&mut self, core: CoreId) -> Result<BusStep, BusError>
-        requires few { self.old.events < 4194304 }
+        requires few { self.old.events < run_limit }
         requires exists { core.0 < (bus_settings_of self.old).cores }
         requires waits { ((bus_world_of self.old).cores core.0).phase ≡ AwaitTid }
         ensures { Answers self.old self.new (Exec core.0) result }

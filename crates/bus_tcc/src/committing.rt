@@ -8,6 +8,7 @@ ghost use Rattle.core_node.specs.View.{core_of};
 ghost use Rattle.rules_maps.specs.Shape.{lines};
 ghost use Rattle.bus_tcc.specs.Committing.{CanCommit, IsCommitOf};
 ghost use Rattle.bus_tcc.specs.Ending.{CommitsBy, at_commit};
+ghost use Rattle.tcc_base.specs.Limits.{run_limit};
 
 use crate::cleaning::clean_all;
 use crate::ending::end;
@@ -32,7 +33,7 @@ pub(crate) fn commit_one(
     out: &mut Outgoing,
 ) -> Result<Written, CoreError>
     requires small { lines core.old.config < 536870911 }
-    requires short { core.old.n < 4194304 }
+    requires short { core.old.n < run_limit }
     requires same { code.now.settings ≡ core.old.config }
     requires idle { (core_of core.old).awaited ≡ None }
     requires commits { CommitsBy (program (started code.now)) tid.0 (core_of core.old) (core_of core.old).phase }

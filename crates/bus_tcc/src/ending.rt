@@ -8,6 +8,7 @@ ghost use Rattle.core_node.specs.Answers.{IsMemory};
 ghost use Rattle.core_node.specs.View.{core_of};
 ghost use Rattle.rules_tcc.specs.Attempt.{is_solo};
 ghost use Rattle.bus_tcc.specs.Ending.{CommitsBy, at_commit};
+ghost use Rattle.tcc_base.specs.Limits.{run_limit};
 
 use commit_engine::Phase;
 use core_node::{CoreError, CoreNode, Executed};
@@ -40,7 +41,7 @@ fn execute_end(
     tid: Tid,
     out: &mut Outgoing,
 ) -> Result<Commit, CoreError>
-    requires short { core.old.n < 4194304 }
+    requires short { core.old.n < run_limit }
     requires same { code.now.settings ≡ core.old.config }
     requires idle { (core_of core.old).awaited ≡ None }
     requires alone { is_solo (core_of core.old).phase ≡ true }
@@ -72,7 +73,7 @@ pub(crate) fn end(
     tid: Tid,
     out: &mut Outgoing,
 ) -> Result<Commit, CoreError>
-    requires short { core.old.n < 4194304 }
+    requires short { core.old.n < run_limit }
     requires same { code.now.settings ≡ core.old.config }
     requires idle { (core_of core.old).awaited ≡ None }
     requires commits { CommitsBy (program (started code.now)) tid.0 (core_of core.old) (core_of core.old).phase }

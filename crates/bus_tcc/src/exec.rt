@@ -7,6 +7,7 @@ ghost use Rattle.rules_tcc.specs.CoreExec.{core_exec};
 ghost use Rattle.bus_tcc.specs.Answers.{Answers, bus_step_of};
 ghost use Rattle.bus_tcc.specs.Machine.{bus_of, bus_program_of, bus_settings_of, bus_world_of, is_free};
 ghost use Rattle.bus_tcc.specs.Packets.{lines_on};
+ghost use Rattle.tcc_base.specs.Limits.{run_limit};
 
 use crate::bus::Bus;
 use crate::engine::Engine;
@@ -44,7 +45,7 @@ impl Engine {
 
     /// An instruction of a core that runs or is alone, and doesn't end a transaction alone.
     pub(crate) fn execute(&mut self, core: CoreId) -> Result<BusStep, BusError>
-        requires few { self.old.events < 4194304 }
+        requires few { self.old.events < run_limit }
         requires exists { core.0 < (bus_settings_of self.old).cores }
         requires executes { executes ((bus_world_of self.old).cores core.0).phase ≡ true }
         requires goes_on { bus_step_of self.old (Exec core.0) ≡ goes_on (bus_world_of self.old) core.0

@@ -10,6 +10,7 @@ ghost use Rattle.core_node.specs.View.{core_of};
 ghost use Rattle.rules_bus.specs.Exec.{instruction};
 ghost use Rattle.bus_tcc.specs.Bank.{Executed, gone_if};
 ghost use Rattle.bus_tcc.specs.Machine.{word_in};
+ghost use Rattle.tcc_base.specs.Limits.{run_limit};
 
 use commit_engine::Phase;
 use core_node::{CoreError, CoreNode};
@@ -57,7 +58,7 @@ pub(crate) fn execute_one(
     tid: Tid,
     out: &mut Outgoing,
 ) -> Result<bool, CoreError>
-    requires short { core.old.n < 4194304 }
+    requires short { core.old.n < run_limit }
     requires same { code.now.settings ≡ core.old.config }
     requires executes { executes (core_of core.old).phase ≡ true }
     requires idle { (core_of core.old).awaited ≡ None }

@@ -4,6 +4,7 @@ ghost use Rattle.rules_bus.specs.State.{Evict};
 ghost use Rattle.rules_bus.specs.Step.{bus_next};
 ghost use Rattle.bus_tcc.specs.Answers.{Answers, bus_step_of, refusal_of, tid_noted, tid_told};
 ghost use Rattle.bus_tcc.specs.Machine.{bus_event_of, bus_history_of, bus_program_of, bus_settings_of};
+ghost use Rattle.tcc_base.specs.Limits.{run_limit};
 
 use crate::engine::Engine;
 use crate::event::{BusError, BusEvent, BusStep};
@@ -30,7 +31,7 @@ pub(crate) fn has_way(config: &Config, core: CoreId, set: u16, way: u8) -> bool
 impl Engine {
     /// A core empties a way.
     pub(crate) fn evict(&mut self, core: CoreId, set: u16, way: u8) -> Result<BusStep, BusError>
-        requires { self.old.events < 4194304 }
+        requires { self.old.events < run_limit }
         ensures { Answers self.old self.new (Evict core.0 set way) result }
     {
         if !has_way(self.config(), core, set, way) {

@@ -14,6 +14,7 @@ ghost use Rattle.bus_tcc.specs.Parts.{CountedBut, CountedIn, core_named};
 ghost use Rattle.bus_tcc.specs.Whole.{BusReached};
 ghost use Rattle.rules_program.specs.Cores.{printed};
 ghost use Rattle.theorem_serial.specs.Commits.{end_after};
+ghost use Rattle.tcc_base.specs.Limits.{run_limit};
 
 use crate::bus::Bus;
 use crate::counts::Counts;
@@ -88,7 +89,7 @@ impl BusSystem {
     /// Takes constant time, but for a commit, which takes time in the lines that it writes and in the cache's frames, a core that goes
     /// alone or begins anew, which takes time in the cache's frames, and a Take, which takes time in the packet's lines.
     pub fn step(&mut self, event: BusEvent) -> Result<BusStep, BusError>
-        requires { self.old.events < 4194304 }
+        requires { self.old.events < run_limit }
         ensures { Answers self.old self.new (bus_event_of event) result }
     {
         let done = self.engine.step(event);

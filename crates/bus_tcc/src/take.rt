@@ -2,6 +2,7 @@
 ghost use Rattle.std.specs.Prelude.{◌<◌};
 ghost use Rattle.rules_bus.specs.State.{Take};
 ghost use Rattle.bus_tcc.specs.Answers.{Answers};
+ghost use Rattle.tcc_base.specs.Limits.{run_limit};
 
 use crate::engine::Engine;
 use crate::event::{BusError, BusStep};
@@ -10,7 +11,7 @@ use tcc_base::CoreId;
 impl Engine {
     /// A core takes the packet.
     pub(crate) fn take(&mut self, core: CoreId) -> Result<BusStep, BusError>
-        requires { self.old.events < 4194304 }
+        requires { self.old.events < run_limit }
         ensures { Answers self.old self.new (Take core.0) result }
     {
         let cores = self.config().cores();

@@ -4,6 +4,7 @@ ghost use Rattle.rules_tcc.specs.Attempt.{is_solo};
 ghost use Rattle.rules_bus.specs.State.{Exec};
 ghost use Rattle.bus_tcc.specs.Answers.{Answers};
 ghost use Rattle.bus_tcc.specs.Machine.{bus_settings_of, bus_world_of};
+ghost use Rattle.tcc_base.specs.Limits.{run_limit};
 
 use crate::engine::Engine;
 use crate::event::{BusError, BusStep};
@@ -13,7 +14,7 @@ use tcc_base::CoreId;
 impl Engine {
     /// A core that isn't alone executes, or commits where its transaction has ended.
     pub(crate) fn exec_together(&mut self, core: CoreId) -> Result<BusStep, BusError>
-        requires few { self.old.events < 4194304 }
+        requires few { self.old.events < run_limit }
         requires exists { core.0 < (bus_settings_of self.old).cores }
         requires together { is_solo ((bus_world_of self.old).cores core.0).phase ≡ false }
         ensures { Answers self.old self.new (Exec core.0) result }

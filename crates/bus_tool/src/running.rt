@@ -7,6 +7,7 @@ ghost use Rattle.bus_tcc.specs.Chosen.{bus_useful_of};
 ghost use Rattle.bus_tcc.specs.Machine.{bus_event_of};
 ghost use Rattle.bus_tool.specs.Picking.{TookPicked};
 ghost use Rattle.bus_tool.specs.Running.{RanBySeed};
+ghost use Rattle.tcc_base.specs.Limits.{run_limit};
 
 use bus_tcc::{BusEvent, BusSystem};
 use image_load::Loaded;
@@ -32,7 +33,7 @@ pub fn pick(words: &mut Lcg64Xsh32, bus: &BusSystem) -> Option<BusEvent>
 
 /// The machine takes the events that the next words pick, so many at most, or fewer where none is useful any more.
 fn take_picked(bus: &mut BusSystem, words: &mut Lcg64Xsh32, steps: u64) -> Result<(), NoMemory>
-    requires { bus.old.events + steps ≤ 4194304 }
+    requires { bus.old.events + steps ≤ run_limit }
     ensures { OnOk result (TookPicked bus.old bus.new words.old steps) }
 {
     for _ in 0..steps {
@@ -53,7 +54,7 @@ fn take_picked(bus: &mut BusSystem, words: &mut Lcg64Xsh32, steps: u64) -> Resul
 /// The time is that of the events, each by `BusSystem::useful_count`, `BusSystem::useful_at` and `BusSystem::step`.
 pub fn bus_run(alloc: Global, loaded: &Loaded, seed: u64, steps: u64) -> Result<BusSystem, NoMemory>
     requires one_home { loaded.now.settings.dirs ≡ 1 }
-    requires few { steps ≤ 4194304 }
+    requires few { steps ≤ run_limit }
     ensures code { IfOk result (λ b. b.code ≡ loaded.now) }
     ensures ran { IfOk result (λ b. RanBySeed (started loaded.now) seed steps b) }
 {

@@ -12,6 +12,7 @@ ghost use Rattle.bus_watch.specs.Happened.{acted, core_of, holder, holder_fact, 
 ghost use Rattle.bus_watch.specs.Plain.{bus_fact_of, holder_of as plain_holder};
 ghost use Rattle.bus_watch.specs.Telling.{SawBefore, behind_told, commit_told, sent_told};
 ghost use Rattle.bus_watch.specs.Watched.{BusWatched};
+ghost use Rattle.tcc_base.specs.Limits.{run_limit};
 
 use crate::fact::{BusFact, Holder};
 use bus_tcc::{Bus, BusError, BusEvent, BusStep, BusSystem};
@@ -161,7 +162,7 @@ pub(crate) fn watch_told(
     id: CoreId,
     facts: &mut List<BusFact>,
 ) -> Result<(), BusError>
-    requires few { system.old.events < 4194304 }
+    requires few { system.old.events < run_limit }
     requires core { core_of (bus_event_of e) ≡ id.0 }
     requires exists { id.0 < (bus_settings_of system.old).cores }
     requires enabled { bus_step_of system.old (bus_event_of e) ≢ None }

@@ -7,6 +7,7 @@ ghost use Rattle.watch.specs.Instructions.{evicted as emptied};
 ghost use Rattle.bus_watch.specs.Facts.{Common};
 ghost use Rattle.bus_watch.specs.Plain.{bus_fact_of};
 ghost use Rattle.bus_watch.specs.Watched.{BusWatched};
+ghost use Rattle.tcc_base.specs.Limits.{run_limit};
 
 use crate::behind::watch_told;
 use crate::fact::BusFact;
@@ -42,7 +43,7 @@ pub(crate) fn watch_evict(
     way: u8,
     facts: &mut List<BusFact>,
 ) -> Result<(), BusError>
-    requires few { system.old.events < 4194304 }
+    requires few { system.old.events < run_limit }
     requires empty { facts.old ≡ [] }
     requires enabled { bus_step_of system.old (Evict id.0 set way) ≢ None }
     ensures { BusWatched system.old system.new (Evict id.0 set way) facts.new result }

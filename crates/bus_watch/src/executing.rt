@@ -21,6 +21,7 @@ ghost use Rattle.bus_watch.specs.Telling.{SawBefore, SawExec, behind_told, hits,
 ghost use Rattle.spec_cache.specs.Look.{look_of};
 ghost use Rattle.bus_watch.specs.Watched.{BusWatched};
 ghost use Rattle.watch_core.specs.Seen.{Saw};
+ghost use Rattle.tcc_base.specs.Limits.{run_limit};
 
 use crate::behind::{Before, look_before, tell_behind};
 use crate::fact::BusFact;
@@ -240,7 +241,7 @@ pub(crate) fn watch_exec(
     id: CoreId,
     facts: &mut List<BusFact>,
 ) -> Result<(), BusError>
-    requires few { system.old.events < 4194304 }
+    requires few { system.old.events < run_limit }
     requires empty { facts.old ≡ [] }
     requires enabled { bus_step_of system.old (Exec id.0) ≢ None }
     ensures { BusWatched system.old system.new (Exec id.0) facts.new result }

@@ -10,6 +10,7 @@ ghost use Rattle.bus_watch.specs.Happened.{first_read as first_of, taken, violat
 ghost use Rattle.bus_watch.specs.Plain.{bus_fact_of};
 ghost use Rattle.bus_watch.specs.Telling.{words_of_line};
 ghost use Rattle.bus_watch.specs.Watched.{BusWatched};
+ghost use Rattle.tcc_base.specs.Limits.{run_limit};
 
 use crate::behind::{last_tid, watch_told};
 use crate::fact::BusFact;
@@ -85,7 +86,7 @@ pub(crate) fn watch_take(
     id: CoreId,
     facts: &mut List<BusFact>,
 ) -> Result<(), BusError>
-    requires few { system.old.events < 4194304 }
+    requires few { system.old.events < run_limit }
     requires empty { facts.old ≡ [] }
     requires enabled { bus_step_of system.old (Take id.0) ≢ None }
     ensures { BusWatched system.old system.new (Take id.0) facts.new result }

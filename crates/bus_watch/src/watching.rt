@@ -2,6 +2,7 @@
 ghost use Rattle.std.specs.Prelude.{◌<◌};
 ghost use Rattle.bus_tcc.specs.Machine.{bus_event_of};
 ghost use Rattle.bus_watch.specs.Watched.{BusWatched};
+ghost use Rattle.tcc_base.specs.Limits.{run_limit};
 
 use crate::evicting::watch_evict;
 use crate::executing::watch_exec;
@@ -21,7 +22,7 @@ pub fn watch_bus(
     e: BusEvent,
     facts: &mut List<BusFact>,
 ) -> Result<(), BusError>
-    requires few { system.old.events < 4194304 }
+    requires few { system.old.events < run_limit }
     ensures { BusWatched system.old system.new (bus_event_of e) facts.new result }
 {
     facts.items.clear();

@@ -23,6 +23,7 @@ ghost use Rattle.core_node.specs.AtHand.{line_at as line_of_list, lined, need_fi
 ghost use Rattle.core_node.specs.Executing.{GoesOn, IsAligned};
 ghost use Rattle.core_node.specs.View.{core_of, IsCore, Stays};
 ghost use Rattle.core_node.specs.Waiting.{has_way as has_way_by};
+ghost use Rattle.tcc_base.specs.Limits.{attempt_limit};
 
 use crate::changing::{finish_buffered, new_word, reads_too};
 use crate::delivering::{CoreError, make_room};
@@ -185,7 +186,7 @@ fn load_with_line(
     words: &[u32; 8],
 ) -> Result<(), CoreError>
     requires whole { IsCore core.old }
-    requires counts { core.old.n < 2 ^ 32 - 1 }
+    requires counts { core.old.n < attempt_limit }
     requires goes_on { GoesOn (need_of need) }
     requires exists { line_of w.0 < lines core.old.config }
     requires fills { word_fills core.old.config w.0 (core_of core.old) ≡ true }
@@ -214,7 +215,7 @@ fn change_with_line(
     out: &mut Outgoing,
 ) -> Result<(), CoreError>
     requires whole { IsCore core.old }
-    requires counts { core.old.n < 2 ^ 32 - 1 }
+    requires counts { core.old.n < attempt_limit }
     requires goes_on { GoesOn (need_of need) }
     requires aligned { IsAligned need }
     requires exists { line_of w.0 < lines core.old.config }
@@ -253,7 +254,7 @@ fn execute_with_line(
     out: &mut Outgoing,
 ) -> Result<(), CoreError>
     requires whole { IsCore core.old }
-    requires counts { core.old.n < 2 ^ 32 - 1 }
+    requires counts { core.old.n < attempt_limit }
     requires served { IsServed core.old.config.base core.old.config.ram need }
     requires exists { line_of w.0 < lines core.old.config }
     requires fills { need_fills core.old.config (core_of core.old) (need_of need) ≡ Some w.0 }
@@ -276,7 +277,7 @@ fn execute_with_line(
 /// An execution as the rules have it.
 fn exec_plainly(core: &mut Core, code: &Code, out: &mut Outgoing) -> Result<(), CoreError>
     requires whole { IsCore core.old }
-    requires counts { core.old.n < 2 ^ 32 - 1 }
+    requires counts { core.old.n < attempt_limit }
     requires same { code.now.settings ≡ core.old.config }
     ensures does { OnOk result
         (Leaves (core_exec core.old.config (program (started code.now)) core.old.id.0 (core_of core.old)) (core_of core.new)) }
@@ -298,7 +299,7 @@ pub(crate) fn exec_from(
     out: &mut Outgoing,
 ) -> Result<(), CoreError>
     requires whole { IsCore core.old }
-    requires counts { core.old.n < 2 ^ 32 - 1 }
+    requires counts { core.old.n < attempt_limit }
     requires same { code.now.settings ≡ core.old.config }
     requires executes { executes (phase_of core.old.phase) ≡ true }
     requires idle { core.old.awaited ≡ None }

@@ -15,6 +15,7 @@ ghost use Rattle.rules_tcc.specs.State.{Running, Solo};
 ghost use Rattle.core_node.specs.Answers.{IsBlocked, IsMemory};
 ghost use Rattle.core_node.specs.AtHand.{Leaves, ends_by, executes, goes_alone, line_at, lines_told, ready};
 ghost use Rattle.core_node.specs.View.{core_of, IsCore, Stays};
+ghost use Rattle.tcc_base.specs.Limits.{run_limit};
 
 use crate::at_hand::{ends, exec_from};
 use crate::delivering::CoreError;
@@ -137,7 +138,7 @@ impl CoreNode {
         ram: &[u32],
         out: &mut Outgoing,
     ) -> Result<(), CoreError>
-        requires short { self.old.n < 4194304 }
+        requires short { self.old.n < run_limit }
         requires same { code.now.settings ≡ self.old.config }
         requires executes { executes (core_of self.old).phase ≡ true }
         requires idle { (core_of self.old).awaited ≡ None }

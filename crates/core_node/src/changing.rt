@@ -16,6 +16,7 @@ ghost use Rattle.commit_engine.specs.Sent.{HasRoom};
 ghost use Rattle.core_node.specs.Answers.{IsBlocked, IsMemory};
 ghost use Rattle.core_node.specs.Executing.{DidSome, GoesOn, IsAligned};
 ghost use Rattle.core_node.specs.View.{core_of, IsCore, Did, Stays};
+ghost use Rattle.tcc_base.specs.Limits.{attempt_limit};
 
 use crate::delivering::CoreError;
 use crate::finishing::{advance, finish, given, note, take_back};
@@ -62,7 +63,7 @@ pub(crate) fn finish_buffered(
     value: u32,
 ) -> Result<(), CoreError>
     requires whole { IsCore core.old }
-    requires counts { core.old.n < 2 ^ 32 - 1 }
+    requires counts { core.old.n < attempt_limit }
     requires goes_on { GoesOn (need_of need) }
     requires exists { line_of w.0 < lines core.old.config }
     ensures does { OnOk result
@@ -94,7 +95,7 @@ fn finish_framed(
     out: &mut Outgoing,
 ) -> Result<(), CoreError>
     requires whole { IsCore core.old }
-    requires counts { core.old.n < 2 ^ 32 - 1 }
+    requires counts { core.old.n < attempt_limit }
     requires goes_on { GoesOn (need_of need) }
     requires held { (maps core.old.cache).held (line_of w.0) ≡ true }
     requires room { HasRoom out.old 1 }
@@ -136,7 +137,7 @@ fn finish_placed(
     value: u32,
 ) -> Result<(), CoreError>
     requires whole { IsCore core.old }
-    requires counts { core.old.n < 2 ^ 32 - 1 }
+    requires counts { core.old.n < attempt_limit }
     requires goes_on { GoesOn (need_of need) }
     requires exists { line_of w.0 < lines core.old.config }
     requires absent { (maps core.old.cache).held (line_of w.0) ≡ false }
@@ -166,7 +167,7 @@ pub(crate) fn word_store(
     out: &mut Outgoing,
 ) -> Result<(), CoreError>
     requires whole { IsCore core.old }
-    requires counts { core.old.n < 2 ^ 32 - 1 }
+    requires counts { core.old.n < attempt_limit }
     requires goes_on { GoesOn (need_of need) }
     requires exists { line_of w.0 < lines core.old.config }
     requires room { HasRoom out.old 1 }
@@ -206,7 +207,7 @@ fn change_valid(
     out: &mut Outgoing,
 ) -> Result<(), CoreError>
     requires whole { IsCore core.old }
-    requires counts { core.old.n < 2 ^ 32 - 1 }
+    requires counts { core.old.n < attempt_limit }
     requires goes_on { GoesOn (need_of need) }
     requires aligned { IsAligned need }
     requires exists { line_of w.0 < lines core.old.config }
@@ -237,7 +238,7 @@ pub(crate) fn partial_store(
     out: &mut Outgoing,
 ) -> Result<(), CoreError>
     requires whole { IsCore core.old }
-    requires counts { core.old.n < 2 ^ 32 - 1 }
+    requires counts { core.old.n < attempt_limit }
     requires goes_on { GoesOn (need_of need) }
     requires aligned { IsAligned need }
     requires exists { line_of w.0 < lines core.old.config }

@@ -17,6 +17,7 @@ ghost use Rattle.commit_engine.specs.Solo.{solo_list};
 ghost use Rattle.core_node.specs.Answers.{HappenedAs, IsMemory};
 ghost use Rattle.core_node.specs.Executing.{concluded};
 ghost use Rattle.core_node.specs.View.{core_of, IsCore, Did, Stays};
+ghost use Rattle.tcc_base.specs.Limits.{attempt_limit};
 
 use crate::committing::solo_commit;
 use crate::delivering::{CoreError, make_room, marks_at};
@@ -59,7 +60,7 @@ pub(crate) fn written_marks(core: &Core) -> Result<Vec<(LineAddr, Mask)>, CoreEr
 #[tactic(auto, unfolding(crate::specs::View::core_of, crate::specs::Executing::concluded))]
 fn conclude(core: &mut Core, state: &State, ended: Outcome)
     requires whole { IsCore core.old }
-    requires room { core.old.n < 2 ^ 32 - 1 }
+    requires room { core.old.n < attempt_limit }
     ensures does { core_of core.new ≡ concluded state.now (outcome_of ended) (core_of core.old) }
     ensures others { core.new ≡ record core.old { n = core.new.n; state = core.new.state; ended = core.new.ended } }
     ensures stays { Stays core.old core.new }
@@ -90,7 +91,7 @@ fn close_alone(
     out: &mut Outgoing,
 ) -> Result<Option<Commit>, CoreError>
     requires whole { IsCore core.old }
-    requires room { core.old.n < 2 ^ 32 - 1 }
+    requires room { core.old.n < attempt_limit }
     ensures does { OnOk result
         (HappenedAs (end_transaction core.old.config core.old.id.0 (phase_of (Phase.Solo tid))
         (concluded state.now (outcome_of ended) (core_of core.old))) out.old core.new out.new) }
@@ -117,7 +118,7 @@ fn close_running(
     out: &mut Outgoing,
 ) -> Result<Option<Commit>, CoreError>
     requires whole { IsCore core.old }
-    requires room { core.old.n < 2 ^ 32 - 1 }
+    requires room { core.old.n < attempt_limit }
     ensures does { OnOk result
         (HappenedAs (end_transaction core.old.config core.old.id.0 (phase_of Phase.Running)
         (concluded state.now (outcome_of ended) (core_of core.old))) out.old core.new out.new) }
@@ -142,7 +143,7 @@ pub(crate) fn close(
     out: &mut Outgoing,
 ) -> Result<Option<Commit>, CoreError>
     requires whole { IsCore core.old }
-    requires room { core.old.n < 2 ^ 32 - 1 }
+    requires room { core.old.n < attempt_limit }
     ensures does { OnOk result
         (HappenedAs (end_transaction core.old.config core.old.id.0 (phase_of core.old.phase)
         (concluded state.now (outcome_of ended) (core_of core.old))) out.old core.new out.new) }
@@ -174,7 +175,7 @@ pub(crate) fn end(
     out: &mut Outgoing,
 ) -> Result<Option<Commit>, CoreError>
     requires whole { IsCore core.old }
-    requires room { core.old.n < 2 ^ 32 - 1 }
+    requires room { core.old.n < attempt_limit }
     ensures does { OnOk result
         (HappenedAs (end_transaction core.old.config core.old.id.0 (phase_of core.old.phase)
         (finished (alone inst.now) Ends 0 (core_of core.old))) out.old core.new out.new) }
@@ -199,7 +200,7 @@ pub(crate) fn stop(
     out: &mut Outgoing,
 ) -> Result<Option<Commit>, CoreError>
     requires whole { IsCore core.old }
-    requires room { core.old.n < 2 ^ 32 - 1 }
+    requires room { core.old.n < attempt_limit }
     ensures does { OnOk result
         (HappenedAs (end_transaction core.old.config core.old.id.0 (phase_of core.old.phase)
         (concluded (unreserved core.old.state) (outcome_of ended) (core_of core.old))) out.old core.new out.new) }

@@ -9,6 +9,7 @@ ghost use Rattle.commit_engine.specs.Engine.{phase_of};
 ghost use Rattle.core_node.specs.Answers.{Happened, IsBlocked};
 ghost use Rattle.core_node.specs.Executing.{asks, overflows, Notes, Tells, TellsOfEvent};
 ghost use Rattle.core_node.specs.View.{awaited_of, core_of, IsCore, Stays};
+ghost use Rattle.tcc_base.specs.Limits.{attempt_limit};
 
 use crate::closing::stop;
 use crate::committing::commit;
@@ -36,7 +37,7 @@ pub enum Executed {
 /// The instruction at pc, or the trap that fetching it is.
 fn exec_here(core: &mut Core, code: &Code, out: &mut Outgoing) -> Result<Option<Commit>, CoreError>
     requires whole { IsCore core.old }
-    requires counts { core.old.n < 2 ^ 32 - 1 }
+    requires counts { core.old.n < attempt_limit }
     requires same { code.now.settings ≡ core.old.config }
     ensures does { OnOk result
         (Happened (execute_rule core.old.config (program (started code.now)) core.old.id.0 (core_of core.old)) out.old core.new out.new) }
@@ -63,7 +64,7 @@ fn exec_unless_awaiting(
     out: &mut Outgoing,
 ) -> Result<Option<Commit>, CoreError>
     requires whole { IsCore core.old }
-    requires counts { core.old.n < 2 ^ 32 - 1 }
+    requires counts { core.old.n < attempt_limit }
     requires same { code.now.settings ≡ core.old.config }
     ensures does { OnOk result
         (Happened (unless_awaiting core.old.config (program (started code.now)) core.old.id.0 (core_of core.old)
@@ -106,7 +107,7 @@ pub(crate) fn commit_ready(
 #[tactic(auto, unfolding(rules_tcc::specs::CoreExec::core_exec, crate::specs::View::core_of))]
 fn exec_any(core: &mut Core, code: &Code, out: &mut Outgoing) -> Result<Option<Commit>, CoreError>
     requires whole { IsCore core.old }
-    requires counts { core.old.n < 2 ^ 32 - 1 }
+    requires counts { core.old.n < attempt_limit }
     requires same { code.now.settings ≡ core.old.config }
     ensures does { OnOk result
         (Happened (core_exec core.old.config (program (started code.now)) core.old.id.0 (core_of core.old)) out.old core.new out.new) }
@@ -173,7 +174,7 @@ fn told(core: &Core, noted: Option<Commit>) -> Executed
 #[inline(never)]
 fn exec_left(core: &mut Core, code: &Code, out: &mut Outgoing) -> Result<Executed, CoreError>
     requires whole { IsCore core.old }
-    requires counts { core.old.n < 2 ^ 32 - 1 }
+    requires counts { core.old.n < attempt_limit }
     requires same { code.now.settings ≡ core.old.config }
     ensures does { OnOk result
         (Happened (core_exec core.old.config (program (started code.now)) core.old.id.0 (core_of core.old)) out.old core.new out.new) }
@@ -192,7 +193,7 @@ fn exec_left(core: &mut Core, code: &Code, out: &mut Outgoing) -> Result<Execute
 #[inline]
 pub(crate) fn exec(core: &mut Core, code: &Code, out: &mut Outgoing) -> Result<Executed, CoreError>
     requires whole { IsCore core.old }
-    requires counts { core.old.n < 2 ^ 32 - 1 }
+    requires counts { core.old.n < attempt_limit }
     requires same { code.now.settings ≡ core.old.config }
     ensures does { OnOk result
         (Happened (core_exec core.old.config (program (started code.now)) core.old.id.0 (core_of core.old)) out.old core.new out.new) }

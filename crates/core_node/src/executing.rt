@@ -13,6 +13,7 @@ ghost use Rattle.commit_engine.specs.Sent.{HasRoom};
 ghost use Rattle.core_node.specs.Answers.{Happened, IsBlocked, IsMemory};
 ghost use Rattle.core_node.specs.Executing.{DidSome, GoesOn, Notes};
 ghost use Rattle.core_node.specs.View.{core_of, IsCore, Stays};
+ghost use Rattle.tcc_base.specs.Limits.{attempt_limit};
 
 use crate::changing::{partial_store, word_store};
 use crate::closing::{end, stop};
@@ -39,7 +40,7 @@ pub(crate) fn word_at(core: &Core, addr: u32) -> WordAddr
 /// An instruction that accesses no memory is done.
 fn finish_plain(core: &mut Core, inst: &Inst, need: Need) -> Result<(), CoreError>
     requires whole { IsCore core.old }
-    requires counts { core.old.n < 2 ^ 32 - 1 }
+    requires counts { core.old.n < attempt_limit }
     requires goes_on { GoesOn (need_of need) }
     ensures does { OnOk result (core_of core.new ≡ finished (alone inst.now) (need_of need) 0 (core_of core.old)) }
     ensures cause { OnErr result (IsMemory result) }
@@ -63,7 +64,7 @@ fn store(
     out: &mut Outgoing,
 ) -> Result<(), CoreError>
     requires whole { IsCore core.old }
-    requires counts { core.old.n < 2 ^ 32 - 1 }
+    requires counts { core.old.n < attempt_limit }
     requires stores { need ≡ Need.Store addr size value }
     requires served { IsServed core.old.config.base core.old.config.ram need }
     requires room { HasRoom out.old 1 }
@@ -85,7 +86,7 @@ fn store(
 /// An instruction after which its transaction goes on. For a load or a store there is room for a message.
 fn go_on(core: &mut Core, inst: &Inst, need: Need, out: &mut Outgoing) -> Result<(), CoreError>
     requires whole { IsCore core.old }
-    requires counts { core.old.n < 2 ^ 32 - 1 }
+    requires counts { core.old.n < attempt_limit }
     requires goes_on { GoesOn (need_of need) }
     requires served { IsServed core.old.config.base core.old.config.ram need }
     requires room { HasRoom out.old 1 }
@@ -126,7 +127,7 @@ fn proceed(
     out: &mut Outgoing,
 ) -> Result<Option<Commit>, CoreError>
     requires whole { IsCore core.old }
-    requires counts { core.old.n < 2 ^ 32 - 1 }
+    requires counts { core.old.n < attempt_limit }
     requires goes_on { GoesOn (need_of need) }
     requires served { IsServed core.old.config.base core.old.config.ram need }
     ensures does { OnOk result
@@ -156,7 +157,7 @@ pub(crate) fn execute_need(
     out: &mut Outgoing,
 ) -> Result<Option<Commit>, CoreError>
     requires whole { IsCore core.old }
-    requires counts { core.old.n < 2 ^ 32 - 1 }
+    requires counts { core.old.n < attempt_limit }
     requires served { IsServed core.old.config.base core.old.config.ram need }
     ensures does { OnOk result
         (Happened (need_rule core.old.config (alone inst.now) core.old.id.0 (core_of core.old) (need_of need)) out.old core.new out.new) }

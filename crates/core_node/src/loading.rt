@@ -9,6 +9,7 @@ ghost use Rattle.commit_engine.specs.Sent.{HasRoom};
 ghost use Rattle.core_node.specs.Answers.{IsBlocked};
 ghost use Rattle.core_node.specs.Executing.{DidSome, GoesOn};
 ghost use Rattle.core_node.specs.View.{core_of, IsCore, Stays};
+ghost use Rattle.tcc_base.specs.Limits.{attempt_limit};
 
 use crate::delivering::CoreError;
 use crate::finishing::finish;
@@ -30,7 +31,7 @@ pub(crate) fn load(
     out: &mut Outgoing,
 ) -> Result<(), CoreError>
     requires whole { IsCore core.old }
-    requires counts { core.old.n < 2 ^ 32 - 1 }
+    requires counts { core.old.n < attempt_limit }
     requires goes_on { GoesOn (need_of need) }
     requires exists { line_of w.0 < lines core.old.config }
     requires room { HasRoom out.old 1 }

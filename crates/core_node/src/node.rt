@@ -20,6 +20,7 @@ ghost use Rattle.core_node.specs.Executing.{TellsOfEvent};
 ghost use Rattle.core_node.specs.Useful.{useful_evicts as useful_pairs};
 ghost use Rattle.core_node.specs.View.{core_of, IsKnown, Stays};
 ghost use Rattle.core_node.specs.Answers.{Happened, IsBlocked};
+ghost use Rattle.tcc_base.specs.Limits.{run_limit};
 
 use crate::delivering::{CoreError, from_dir, from_vendor};
 use crate::evicting::{can_evict, evict};
@@ -118,7 +119,7 @@ impl CoreNode {
     /// but for a commit, which takes time in the cache's frames, and for one of a core that is alone also in the spilled lines.
     #[inline]
     pub fn exec(&mut self, code: &Code, out: &mut Outgoing) -> Result<Executed, CoreError>
-        requires short { self.old.n < 4194304 }
+        requires short { self.old.n < run_limit }
         requires same { code.now.settings ≡ self.old.config }
         ensures does { OnOk result
             (Happened (core_exec self.old.config (program (started code.now)) self.old.id.0 (core_of self.old)) out.old self.new

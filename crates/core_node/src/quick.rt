@@ -12,6 +12,7 @@ ghost use Rattle.rv_exec.specs.Effects.{planned};
 ghost use Rattle.rv_exec.specs.Needs.{need_of};
 ghost use Rattle.rules_program.specs.Program.{Local, Nothing};
 ghost use Rattle.rv_exec.specs.declared.need.Need.TheVariants.{Load as Loads, Store as Stores};
+ghost use Rattle.tcc_base.specs.Limits.{attempt_limit};
 ghost use Rattle.tcc_base.specs.declared.access.Size.TheVariants.{Word};
 ghost use Rattle.rv_exec.specs.Running.{alone};
 ghost use Rattle.rules_tcc.specs.Attempt.{is_running};
@@ -35,7 +36,7 @@ use tcc_base::{Load, Size, Stored, WordAddr};
 /// A load that hits, of which there is room for the note.
 fn load_quickly(core: &mut Core, inst: &Inst, addr: u32, size: Size, w: WordAddr) -> bool
     requires whole { IsCore core.old }
-    requires counts { core.old.n < 2 ^ 32 - 1 }
+    requires counts { core.old.n < attempt_limit }
     requires exists { line_of w.0 < lines core.old.config }
     ensures does { AtOnce result (load_rule core.old.config (alone inst.now) (need_of (Loads addr size)) w.0 (core_of core.old))
         (core_of core.old) (core_of core.new) }
@@ -64,7 +65,7 @@ fn load_quickly(core: &mut Core, inst: &Inst, addr: u32, size: Size, w: WordAddr
 /// A store of a word into a frame with no dirty word, of which there is room for the note.
 fn store_quickly(core: &mut Core, inst: &Inst, addr: u32, value: u32, w: WordAddr) -> bool
     requires whole { IsCore core.old }
-    requires counts { core.old.n < 2 ^ 32 - 1 }
+    requires counts { core.old.n < attempt_limit }
     ensures does { AtOnce result
         (word_rule core.old.config (alone inst.now) (need_of (Stores addr Word value)) w.0 value (core_of core.old)) (core_of core.old)
         (core_of core.new) }
@@ -108,7 +109,7 @@ fn part_quickly(
     w: WordAddr,
 ) -> bool
     requires whole { IsCore core.old }
-    requires counts { core.old.n < 2 ^ 32 - 1 }
+    requires counts { core.old.n < attempt_limit }
     requires aligned { IsAligned (Stores addr size value) }
     ensures does { AtOnce result (partial_rule core.old.config (alone inst.now) (need_of (Stores addr size value)) w.0 (core_of core.old))
         (core_of core.old) (core_of core.new) }
@@ -145,7 +146,7 @@ fn part_quickly(
 #[inline(never)]
 fn need_quickly(core: &mut Core, inst: &Inst, need: Need) -> bool
     requires whole { IsCore core.old }
-    requires counts { core.old.n < 2 ^ 32 - 1 }
+    requires counts { core.old.n < attempt_limit }
     requires served { IsServed core.old.config.base core.old.config.ram need }
     ensures does { AtOnce result (need_rule core.old.config (alone inst.now) core.old.id.0 (core_of core.old) (need_of need))
         (core_of core.old) (core_of core.new) }
@@ -190,7 +191,7 @@ fn needs_nothing(inst: &Inst) -> bool
 #[inline]
 fn here_quickly(core: &mut Core, code: &Code) -> bool
     requires whole { IsCore core.old }
-    requires counts { core.old.n < 2 ^ 32 - 1 }
+    requires counts { core.old.n < attempt_limit }
     requires same { code.now.settings ≡ core.old.config }
     ensures does { AtOnce result (execute_rule core.old.config (program (started code.now)) core.old.id.0 (core_of core.old))
         (core_of core.old) (core_of core.new) }
@@ -215,7 +216,7 @@ fn here_quickly(core: &mut Core, code: &Code) -> bool
 #[tactic(auto, unfolding(rules_tcc::specs::CoreExec::core_exec, crate::specs::View::core_of))]
 pub(crate) fn exec_quickly(core: &mut Core, code: &Code) -> bool
     requires whole { IsCore core.old }
-    requires counts { core.old.n < 2 ^ 32 - 1 }
+    requires counts { core.old.n < attempt_limit }
     requires same { code.now.settings ≡ core.old.config }
     ensures does { AtOnce result (core_exec core.old.config (program (started code.now)) core.old.id.0 (core_of core.old))
         (core_of core.old) (core_of core.new) }

@@ -5,6 +5,7 @@ use Rattle.std.specs.Prelude.{nat_lt, IfSome, drop}
 use Rattle.image_load.specs.Contents.{Contents, started}
 use Rattle.rv_code.specs.Machine.{program}
 use Rattle.rules_riscv.specs.Starting.{world_at_start}
+use Rattle.tcc_base.specs.Limits.{run_limit}
 use Rattle.tcc_base.specs.Settings.{Settings, IsAllowed}
 use Rattle.base_lemmas.proofs.Lemmas.{and-left, at_home, one-longer}
 use Rattle.rules_maps.specs.Messages.{fits, goes_to_dir, goes_to_core, InBounds, IsLine, WasGranted, line_named, tid_named}
@@ -143,14 +144,14 @@ unfolding AllMayGo
 reached-may-go m w src dst k x e = may-go (settings_of m) (world_of m).next src dst x (in-bounds m w src dst k x e)
 
 -- a TID in a message is small
-pub small-tids : (m : Machine) → IsWhole m → m.events < 4194304 → (src dst : Node) (k : ℕ) (x : Msg)
+pub small-tids : (m : Machine) → IsWhole m → m.events < run_limit → (src dst : Node) (k : ℕ) (x : Msg)
     → in_flight (world_of m).net src dst k ≡ Some x → HasSmallTids x
 unfolding history_of
 small-tids m w few src dst k x e =
     let b = whole-bounded m w in
     go x (in-bounds m w src dst k x e).tid b.next_most
   where
-    small : (t next n : ℕ) → n < 4194304 → WasGranted next t → next ≤ n + 1 → t < 2 ^ 62
+    small : (t next n : ℕ) → n < run_limit → WasGranted next t → next ≤ n + 1 → t < 2 ^ 62
     small t next n f g h = omega (arith, g.1)
 
     go : (x : Msg) → IfSome (tid_named x) (WasGranted (world_of m).next) → (world_of m).next ≤ length w.reached.taken + 1 → HasSmallTids x

@@ -1,6 +1,7 @@
 -- Events that follow a list, one after another.
 use Rattle.std.proofs.Common.{◌≡◌, ℕ, suc, ◌+◌, ◌-◌, ◌<◌, ◌≤◌, List, [], ◌∷◌, ◌++◌, length, append-nil, append_assoc}
 use Rattle.std.proofs.Common.{Option, Some, None, refl, ap, sym, ◌∙◌, subst, arith}
+use Rattle.tcc_base.specs.Limits.{run_limit}
 use Rattle.base_lemmas.proofs.Lemmas.{fewer, one-longer}
 use Rattle.image_load.specs.Contents.{started}
 use Rattle.image_load.specs.Start.{Start}
@@ -62,11 +63,11 @@ follows-one os n m o e c t code =
 pub record Going (os : List Order) (m n : Refined) (all i : ℕ) : Type 0 where
   pub firsts : List Event
   pub count : length firsts ≡ i
-  pub few : n.machine.events + (all - i) ≤ 4194304
+  pub few : n.machine.events + (all - i) ≤ run_limit
   pub took : TookAll m n firsts
   pub rest : follows os all m.machine ≡ firsts ++ follows os (all - i) n.machine
 
-pub going-none : (os : List Order) (m : Refined) (all : ℕ) → m.machine.events + all ≤ 4194304 → Going os m m all 0
+pub going-none : (os : List Order) (m : Refined) (all : ℕ) → m.machine.events + all ≤ run_limit → Going os m m all 0
 going-none os m all h = record {
   firsts = [];
   count = refl;

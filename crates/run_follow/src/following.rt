@@ -10,6 +10,7 @@ ghost use Rattle.tcc_pick.specs.Picking.{TookAll};
 ghost use Rattle.rules_tcc.specs.Step.{run};
 ghost use Rattle.rules_tcc.specs.Useful.{useful};
 ghost use Rattle.run_follow.specs.Following.{followed_by, followed_from, may_come, next_of, turn_of};
+ghost use Rattle.tcc_base.specs.Limits.{run_limit};
 
 use image_load::Loaded;
 use net_core::System;
@@ -60,7 +61,7 @@ fn next_event(system: &System, turn: Option<CoreId>) -> Option<Event>
 
 /// The machine takes the events that follow a list, so many at most, or fewer where none may come.
 fn go_on(refined: &mut Refined, orders: &[Order], most: u32) -> Result<(), NoMemory>
-    requires { refined.old.machine.events + most ≤ 4194304 }
+    requires { refined.old.machine.events + most ≤ run_limit }
     ensures took { OnOk result (TookAll refined.old refined.new
         (followed_from (start_of refined.old.machine) (map order_of orders.now) most (history_of refined.old.machine))) }
     ensures settled { OnOk result (refined.new.machine.unsent ≡ []) }
@@ -90,7 +91,7 @@ pub fn follow(
     orders: &[Order],
     most: u32,
 ) -> Result<Refined, NoMemory>
-    requires { most ≤ 4194304 }
+    requires { most ≤ run_limit }
     ensures code { IfOk result (λ r. r.machine.cores.code ≡ loaded.now) }
     ensures taken { IfOk result (λ r. map event_of r.taken ≡ followed_by (started loaded.now) (map order_of orders.now) most) }
     ensures ran { IfOk result (λ r. let s = started loaded.now in

@@ -8,6 +8,7 @@ ghost use Rattle.rv_exec.specs.Running.{bounded};
 ghost use Rattle.rv_code.specs.Machine.{program, in_ram};
 ghost use Rattle.rv_code.specs.Served.{IsServed};
 ghost use Rattle.rv_exec.specs.Needs.{need_of};
+ghost use Rattle.tcc_base.specs.Limits.{attempt_limit};
 ghost use Rattle.tcc_base.specs.declared.access.Size.TheVariants.{Word};
 ghost use Rattle.rules_program.specs.Plain.{steps, end_of, load_of, store_of};
 ghost use Rattle.rules_program.specs.Program.{unreserved};
@@ -220,7 +221,7 @@ impl Attempt {
     /// memory nothing has changed. Takes the logarithm of what waits in the buffer.
     #[tactic(auto, unfolding(crate::specs::Attempts::attempt_of))]
     pub fn step(&mut self, memory: &mut BufferedRam, code: &Code) -> Result<Outcome, NoMemory>
-        requires room { self.old.n < 2 ^ 32 - 1 }
+        requires room { self.old.n < attempt_limit }
         requires whole { 4 * length memory.old.ram ≡ code.now.settings.ram }
         ensures does { IfOk result (λ o. attempt_of self.new memory.new o
             ≡ buffered_step code.now.settings.base (program (started code.now))

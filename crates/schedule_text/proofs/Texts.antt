@@ -6,6 +6,7 @@ use Rattle.std.proofs.lemmas.Bool.{lt-ltb, ltb-true}
 use Rattle.std.proofs.lemmas.List.{append-nil, length-append, length-map, take_at, take_all, flat_map_more, length_push, nil_from_length}
 use Rattle.std.proofs.lemmas.List.Elements.{recursion_from_All, All-from_recursion, All-push}
 use Rattle.std.proofs.lemmas.Option.{none-some, some_pair_parts}
+use Rattle.tcc_base.specs.Limits.{text_limit}
 use Rattle.tcc_base.specs.Settings.{Settings, IsAllowed}
 use Rattle.tcc_msg.specs.declared.event.Event.{Event}
 use Rattle.tcc_msg.specs.declared.event.Schedule.{Schedule}
@@ -98,7 +99,7 @@ beyond c (e ∷ es) (f ∷ fs) count n (suc k) a b allowed p q len same =
 -- The bytes begin with the first two lines of these settings and the lines of these events; a follows.
 pub record Front (bytes : List ℕ) (c : Settings) (es : List Event) (a : List ℕ) : Type 0 where
   pub allowed : IsAllowed c
-  pub count : length es ≤ 4194304
+  pub count : length es ≤ text_limit
   pub named : AllByRecursion (Names c) es
   pub parts : bytes ≡ version_line (version_of c) ++ (config_line c ++ (flat_map event_line es ++ a))
 
@@ -198,7 +199,7 @@ begins_whole bytes c es a after f last =
 -- ---- no text goes on as the bytes do
 
 no_more : (c : Settings) (es : List Event) (a b : List ℕ) (s : Schedule) (n : ℕ) → IsAllowed c → IsWellFormed s
-    → cond (ltb (length es) 4194304) (event_at c a) None ≡ None → ((rest : List ℕ) → end_at a ≡ Some (length es, rest) → ⊥)
+    → cond (ltb (length es) text_limit) (event_at c a) None ≡ None → ((rest : List ℕ) → end_at a ≡ Some (length es, rest) → ⊥)
     → (more : List Event) → s.events ≡ es ++ more → AllByRecursion (Names c) more
     → a ≡ joined (take (suc n) (body more (length s.events))) ++ b → ⊥
 no_more c es a b s n allowed formed no-event no-end [] whole named after =
@@ -206,19 +207,19 @@ no_more c es a b s n allowed formed no-event no-end [] whole named after =
     let last : a ≡ end_line (length es) ++ (joined (take n []) ++ b) =
     after ∙ append_assoc (end_line (length s.events)) (joined (take n [])) b
     ∙ ap (λ (k : ℕ). end_line k ++ (joined (take n []) ++ b)) len in
-    let small : length s.events ≤ 4194304 = formed.count in
+    let small : length s.events ≤ text_limit = formed.count in
     no-end (joined (take n []) ++ b) (ap end_at last ∙ end_again (length es) (joined (take n []) ++ b) (omega arith))
 no_more c es a b s n allowed formed no-event no-end (e ∷ more) whole named after =
     let len : length s.events ≡ length es + suc (length more) = ap length whole ∙ length-append es (e ∷ more) in
-    let small : length s.events ≤ 4194304 = formed.count in
-    let room : ltb (length es) 4194304 ≡ true = lt-ltb (length es) 4194304 (omega arith) in
+    let small : length s.events ≤ text_limit = formed.count in
+    let room : ltb (length es) text_limit ≡ true = lt-ltb (length es) text_limit (omega arith) in
     let none : event_at c a ≡ None = rw room at no-event in
     let rest : List ℕ = joined (take n (body more (length s.events))) ++ b in
     let next : a ≡ event_line e ++ rest = after ∙ append_assoc (event_line e) (joined (take n (body more (length s.events)))) b in
     none-some (e, rest) (sym none ∙ ap (event_at c) next ∙ event_again c e rest allowed named.0)
 
 pub stuck : (bytes : List ℕ) (c : Settings) (es : List Event) (a : List ℕ) → Front bytes c es a
-    → cond (ltb (length es) 4194304) (event_at c a) None ≡ None → ((rest : List ℕ) → end_at a ≡ Some (length es, rest) → ⊥)
+    → cond (ltb (length es) text_limit) (event_at c a) None ≡ None → ((rest : List ℕ) → end_at a ≡ Some (length es, rest) → ⊥)
     → (s : Schedule) → IsWellFormed s → (n : ℕ) (b : List ℕ)
     → bytes ≡ joined (take (suc (suc (length es + suc n))) (lines_of s)) ++ b → ⊥
 stuck bytes c es a f no-event no-end s formed n b same =
@@ -227,7 +228,7 @@ stuck bytes c es a f no-event no-end s formed n b same =
 
 -- the line after the events is neither an event's, where there may be one, nor the last
 pub faulty_line : (bytes : List ℕ) (c : Settings) (es : List Event) (a : List ℕ) → Front bytes c es a
-    → cond (ltb (length es) 4194304) (event_at c a) None ≡ None → ((rest : List ℕ) → end_at a ≡ Some (length es, rest) → ⊥)
+    → cond (ltb (length es) text_limit) (event_at c a) None ≡ None → ((rest : List ℕ) → end_at a ≡ Some (length es, rest) → ⊥)
     → IsFirstFault (length es + 3) bytes
 faulty_line bytes c es a f no-event no-end =
     let two : suc (suc (length es)) ≡ length es + 3 - 1 = omega arith in
@@ -250,11 +251,11 @@ pub record IsRead (c : Settings) (es : List Event) (s : Schedule) (n : ℕ) (aft
   pub rest : after ≡ joined (take n []) ++ b
 
 only_end : (c : Settings) (es : List Event) (a after b : List ℕ) (s : Schedule) (n : ℕ) → IsAllowed c → IsWellFormed s
-    → length es ≤ 4194304 → c ≡ s.config
+    → length es ≤ text_limit → c ≡ s.config
     → a ≡ end_line (length es) ++ after → (more : List Event) → s.events ≡ es ++ more → AllByRecursion (Names c) more
     → a ≡ joined (take (suc n) (body more (length s.events))) ++ b → IsRead c es s n after b
 only_end c es a after b s n allowed formed few config last [] whole named next =
-    let small : length s.events ≤ 4194304 = formed.count in
+    let small : length s.events ≤ text_limit = formed.count in
     let e = same_end (length es) (length s.events) after (joined (take n []) ++ b) (omega arith) (omega arith)
     (sym last ∙ next ∙ append_assoc (end_line (length s.events)) (joined (take n [])) b) in
     record { config = config; events = sym (whole ∙ append-nil es); rest = e.1 }
@@ -340,10 +341,10 @@ text_from_parts s version count t0 t1 t2 t3 t4 v k e0 e1 e2 e3 e4 =
 
 -- one more event is read
 pub front_more : (bytes : List ℕ) (c : Settings) (es : List Event) (a : List ℕ) (e : Event) (after : List ℕ) → Front bytes c es a
-    → cond (ltb (length es) 4194304) (event_at c a) None ≡ Some (e, after) → Front bytes c (es ++ e ∷ []) after
+    → cond (ltb (length es) text_limit) (event_at c a) None ≡ Some (e, after) → Front bytes c (es ++ e ∷ []) after
 front_more bytes c es a e after f next =
-    let k = kept (ltb (length es) 4194304) (event_at c a) (e, after) next in
-    let room = ltb-true (length es) 4194304 k.0 in
+    let k = kept (ltb (length es) text_limit) (event_at c a) (e, after) next in
+    let room = ltb-true (length es) text_limit k.0 in
     let t = event_takes c a (e, after) k.1 in
     let lines : flat_map event_line es ++ a ≡ flat_map event_line (es ++ e ∷ []) ++ after =
     ap (λ (r : List ℕ). flat_map event_line es ++ r) t.0
@@ -380,12 +381,12 @@ read_only bytes c es a told after f last same none s formed text =
 
 -- there is no last line, or it has another number
 pub no_last : (bytes : List ℕ) (c : Settings) (es : List Event) (a : List ℕ) → Front bytes c es a
-    → cond (ltb (length es) 4194304) (event_at c a) None ≡ None → end_at a ≡ None → IsFirstFault (length es + 3) bytes
+    → cond (ltb (length es) text_limit) (event_at c a) None ≡ None → end_at a ≡ None → IsFirstFault (length es + 3) bytes
 no_last bytes c es a f no-event none =
     faulty_line bytes c es a f no-event (λ rest e. none-some (length es, rest) (sym none ∙ e))
 
 pub other_count : (bytes : List ℕ) (c : Settings) (es : List Event) (a : List ℕ) (told : ℕ) (after : List ℕ) → Front bytes c es a
-    → cond (ltb (length es) 4194304) (event_at c a) None ≡ None → end_at a ≡ Some (told, after) → (told ≡ length es → ⊥)
+    → cond (ltb (length es) text_limit) (event_at c a) None ≡ None → end_at a ≡ Some (told, after) → (told ≡ length es → ⊥)
     → IsFirstFault (length es + 3) bytes
 other_count bytes c es a told after f no-event last apart =
     faulty_line bytes c es a f no-event (λ rest e. apart ((some_pair_parts told (length es) after rest (sym last ∙ e)).0))

@@ -1,5 +1,6 @@
 -- Which schedules have a text: those that a machine of these settings could have run, as far as names and numbers tell.
 use Rattle.std.specs.Prelude.{length, Bool, true, false, ◌<◌, ◌≤◌, ◌^◌, IsTrue, All}
+use Rattle.tcc_base.specs.Limits.{text_limit}
 use Rattle.tcc_base.specs.Settings.{Settings, IsAllowed}
 use Rattle.tcc_base.specs.declared.names.NodeId.{NodeId}
 use Rattle.tcc_base.specs.declared.names.NodeId.TheVariants.{Core, Dir, Vendor}
@@ -30,5 +31,5 @@ Names config (Deliver name) =
 -- the schedules that have a text
 pub record IsWellFormed (s : Schedule) : Type 0 where
   pub allowed : IsAllowed s.config
-  pub count : length s.events ≤ 4194304
+  pub count : length s.events ≤ text_limit
   pub named : All (Names s.config) s.events

@@ -1,5 +1,6 @@
 // The lines of a text, each read from the front: what it says, and the bytes after it.
 ghost use Rattle.std.specs.Prelude.{◌≡◌, Some, None, IfSome, IfNone, nat_lt, if◌then◌else◌};
+ghost use Rattle.tcc_base.specs.Limits.{text_limit};
 ghost use Rattle.tcc_base.specs.Settings.{IsAllowed};
 ghost use Rattle.schedule_text.specs.WellFormed.{one_is_core};
 ghost use Rattle.schedule_text.specs.Grammar.{version_of};
@@ -159,7 +160,7 @@ fn event<'a>(config: &Config, bytes: &'a [u8]) -> Option<(Event, &'a [u8])>
 
 /// The line of an event, where there may be one more.
 pub fn next_event<'a>(config: &Config, count: usize, bytes: &'a [u8]) -> Option<(Event, &'a [u8])>
-    ensures { Reads (λ x. (x.0, x.1.now)) result (if nat_lt count 4194304 then event_at config.now bytes.now else None) }
+    ensures { Reads (λ x. (x.0, x.1.now)) result (if nat_lt count text_limit then event_at config.now bytes.now else None) }
 {
     if count < MOST_EVENTS {
         event(config, bytes)

@@ -9,6 +9,7 @@ use Rattle.std.proofs.lemmas.List.Splits.{slice_split_at, slice_split_none}
 use Rattle.std.proofs.lemmas.Str.{IsUtf8-append, IsUtf8-from_ascii}
 use Rattle.std.proofs.lemmas.Str.Ascii.{IsAscii-cons, IsAscii-nil}
 use Rattle.std.proofs.lemmas.Str.Pattern.{IsSplitOnceResult, split_after, split_parts}
+use Rattle.tcc_base.specs.Limits.{text_limit}
 use Rattle.rv_plain.specs.declared.plain.Order.{Order}
 use Rattle.serial_tool.specs.Lines.{IsNumber, IsNumbers, IsOrderLine, IsPossible, commit_word, numbers_text}
 use Rattle.serial_tool.proofs.Numbers.{decimal-no-space, one-number}
@@ -18,7 +19,7 @@ unfolding numbers_text
 grouped o = simp append_assoc
 
 -- what stands before and after a space that follows a number
-pub after-number : (n : ℕ) (text rest : List ℕ) (r : Option (Bor (List ℕ) × Bor (List ℕ))) → n ≤ 4194304
+pub after-number : (n : ℕ) (text rest : List ℕ) (r : Option (Bor (List ℕ) × Bor (List ℕ))) → n ≤ text_limit
     → IsSplitOnceResult 32 text r → text ≡ decimal n ++ 32 ∷ rest
     → MatchOption r ⊥ (λ x. (x.0.now ≡ decimal n) × (x.1.now ≡ rest))
 after-number n text rest r small cut is =
@@ -57,7 +58,7 @@ pub fields-are : (cores : ℕ) (text : List ℕ) (o : Order) (tid rest core n : 
     → AreFields text tid rest core n → IsNumbers cores text o → AreNumbers tid.now core.now n.now o.tid.0 o.core.0 o.n
 fields-are cores text o tid rest core n few cut is =
     let there = is.1.core_there in
-    let fits : o.core.0 ≤ 4194304 = omega arith in
+    let fits : o.core.0 ≤ text_limit = omega arith in
     let a = rest-of cores text o tid rest cut.first is in
     let b = after-number o.core.0 rest.now (decimal o.n) (Some (core, n)) fits cut.second a.1 in
     record { first = a.0; second = (b.0, fits); third = (b.1, is.1.n_fits) }
@@ -109,7 +110,7 @@ order-answer cores text tid rest core n t c k (Some o) few cut read h =
 space-text : IsUtf8 (32 ∷ [])
 space-text = IsUtf8-from_ascii (32 ∷ []) (IsAscii-cons 32 [] (omega arith) IsAscii-nil)
 
-number-text : (n : ℕ) → n ≤ 4194304 → IsUtf8 (decimal n)
+number-text : (n : ℕ) → n ≤ text_limit → IsUtf8 (decimal n)
 number-text n small = IsUtf8-from_ascii (decimal n) (IsAscii-decimal n (omega arith))
 
 pub numbers-text : (cores : ℕ) (text : List ℕ) (o : Order) → cores ≤ 256 → IsNumbers cores text o → IsUtf8 text
@@ -133,7 +134,7 @@ spaced : (cores : ℕ) (text : List ℕ) (o : Order) → cores ≤ 64 → IsNumb
 spaced cores text o few is =
     let test = λ (x : ℕ). eqb x 32 in
     let there = is.1.core_there in
-    let fits : o.core.0 ≤ 4194304 = omega arith in
+    let fits : o.core.0 ≤ text_limit = omega arith in
     ap (slice_split test) (is.0 ∙ grouped o)
     ∙ slice_split_at test (decimal o.tid.0) 32 (decimal o.core.0 ++ 32 ∷ decimal o.n) (decimal-no-space o.tid.0 is.1.tid_fits) refl
     ∙ ap (λ (ls : List (List ℕ)). decimal o.tid.0 ∷ ls)

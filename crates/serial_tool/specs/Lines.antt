@@ -1,6 +1,7 @@
 -- The grammar of an order's line: `commit TID CORE N`.
 use Rattle.std.specs.Prelude.{ℕ, ◌<◌, ◌≤◌, ◌≡◌, List, ◌++◌, codes}
 use Rattle.std.specs.Fmt.{decimal}
+use Rattle.tcc_base.specs.Limits.{text_limit}
 use Rattle.rv_plain.specs.declared.plain.Order.{Order}
 use Rattle.serial_tool.specs.declared.fields.LineContent.{LineContent}
 use Rattle.serial_tool.specs.declared.fields.LineContent.TheVariants.{Other, Ordered, Faulty}
@@ -20,10 +21,10 @@ order_text o = commit_word ++ numbers_text o
 -- the orders that a line may list, in a machine of so many cores
 pub record IsPossible (cores : ℕ) (o : Order) : Type 0 where
   pub tid_counts : 1 ≤ o.tid.0
-  pub tid_fits : o.tid.0 ≤ 4194304
+  pub tid_fits : o.tid.0 ≤ text_limit
   pub core_there : o.core.0 < cores
   pub n_counts : 1 ≤ o.n
-  pub n_fits : o.n ≤ 4194304
+  pub n_fits : o.n ≤ text_limit
 
 -- the line is the order's
 abbrev pub IsOrderLine : (cores : ℕ) → List ℕ → Order → Type 0
@@ -45,7 +46,7 @@ Tells cores line Faulty = IsFaulty cores line
 
 -- these digits write the number, which is at most 4,194,304
 abbrev pub IsNumber : List ℕ → ℕ → Type 0
-IsNumber digits n = (digits ≡ decimal n) × (n ≤ 4194304)
+IsNumber digits n = (digits ≡ decimal n) × (n ≤ text_limit)
 
 -- these are the numbers of the order
 abbrev pub IsNumbers : (cores : ℕ) → List ℕ → Order → Type 0

@@ -1,3 +1,4 @@
 pub mod Bytes
 pub mod Put
 pub mod Settings
+pub mod Limits

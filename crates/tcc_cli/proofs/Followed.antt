@@ -14,6 +14,7 @@ use Rattle.rules_riscv.specs.Starting.{AfterRun}
 use Rattle.serial_tool.specs.Lists.{IsList}
 use Rattle.serial_tool.specs.Runs.{serial_by}
 use Rattle.serial_tool.specs.declared.reading.Listed.{Listed}
+use Rattle.tcc_base.specs.Limits.{run_limit}
 use Rattle.tcc_base.specs.Settings.{IsAllowed}
 use Rattle.tcc_base.specs.declared.access.Commit.{Commit}
 use Rattle.tcc_cli.specs.Following.{Follows, IsFollowed, IsListed, RanFollowing}
@@ -48,16 +49,16 @@ kept-list : FollowedKeeps → (s : Start) (bytes : List ℕ) (orders : List Orde
     → IsListed s bytes orders → Follows s orders es → IsRun s (map event_of es) h → Keeps s orders h
 kept-list keeps s bytes orders es h allowed l f is =
     let some = subst (λ os. IsSome (serial s.settings.base (program s) 0 os (plain_start s))) (sym l.orders_are) l.executed in
-    after-so s (followed_by s orders 4194304) h (Keeps s orders) (subst (λ fs. IsRun s fs h) f is) (keeps s orders 4194304 allowed some)
+    after-so s (followed_by s orders run_limit) h (Keeps s orders) (subst (λ fs. IsRun s fs h) f is) (keeps s orders run_limit allowed some)
 
 -- and are all of them, where events are left
 all-kept : FollowedAll → (s : Start) (bytes : List ℕ) (orders : List Order) (es : List Event) (h : History) → IsAllowed s.settings
-    → IsListed s bytes orders → Follows s orders es → IsRun s (map event_of es) h → length es < 4194304 → Agree h.commits orders
+    → IsListed s bytes orders → Follows s orders es → IsRun s (map event_of es) h → length es < run_limit → Agree h.commits orders
 all-kept all s bytes orders es h allowed l f is few =
     let some = subst (λ os. IsSome (serial s.settings.base (program s) 0 os (plain_start s))) (sym l.orders_are) l.executed in
     let count = sym (length-map es event_of) ∙ ap length f in
-    after-so s (followed_by s orders 4194304) h (λ g. Agree g.commits orders) (subst (λ fs. IsRun s fs h) f is)
-    (all s orders 4194304 allowed some (subst (λ n. n < 4194304) count few))
+    after-so s (followed_by s orders run_limit) h (λ g. Agree g.commits orders) (subst (λ fs. IsRun s fs h) f is)
+    (all s orders run_limit allowed some (subst (λ n. n < run_limit) count few))
 
 pub followed-ran : FollowedKeeps → FollowedAll → (s : Start) (bytes : List ℕ) (IsKept : List Event → Type 0) (es : List Event)
     (h : History) (done : Bool) (text : List ℕ) → IsAllowed s.settings → IsFollowed s bytes es → IsKept es

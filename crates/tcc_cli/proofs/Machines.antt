@@ -1,6 +1,7 @@
 -- A machine that was run, and what that is to the start from which it began.
 use Rattle.std.proofs.Common.{◌≡◌, ℕ, ◌+◌, ◌≤◌, ◌↔◌, Bool, [], ◌++◌, length, map, Some, IsTrue, ap, sym, ◌∙◌, subst, arith}
 use Rattle.std.proofs.lemmas.List.{length-map}
+use Rattle.tcc_base.specs.Limits.{run_limit}
 use Rattle.image_load.specs.Contents.{Contents, started}
 use Rattle.rand_pcg.specs.Lcg.{Lcg}
 use Rattle.rv_code.specs.Machine.{program}
@@ -63,5 +64,5 @@ done-here r m l d is code h =
     (subst (λ n. IsTrue d ↔ IsDone (settings_of n) (world_of n)) is h)
 
 -- there is room for the events
-pub few : (r : Refined) (steps : ℕ) → r.taken ≡ [] → IsRefined r → steps ≤ 4194304 → r.machine.events + steps ≤ 4194304
+pub few : (r : Refined) (steps : ℕ) → r.taken ≡ [] → IsRefined r → steps ≤ run_limit → r.machine.events + steps ≤ run_limit
 few r steps none k h = omega (arith, sym k.count, ap length none, h)

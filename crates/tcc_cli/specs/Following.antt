@@ -1,5 +1,6 @@
 -- A run whose transactions commit in the order of a list.
 use Rattle.std.specs.Prelude.{ℕ, ◌≡◌, ◌<◌, Bool, List, map, length, IsSome}
+use Rattle.tcc_base.specs.Limits.{run_limit}
 use Rattle.run_follow.specs.Following.{Agree, followed_by}
 use Rattle.run_follow.specs.Laws.{Keeps}
 use Rattle.image_load.specs.Start.{Start}
@@ -22,7 +23,7 @@ pub record IsListed (s : Start) (bytes : List ℕ) (orders : List Order) : Type 
 
 -- this is the schedule of at most 4,194,304 events that follows these transactions
 abbrev pub Follows : Start → List Order → List Event → Type 0
-Follows s orders es = map event_of es ≡ followed_by s orders 4194304
+Follows s orders es = map event_of es ≡ followed_by s orders run_limit
 
 abbrev pub IsFollowed : Start → (bytes : List ℕ) → List Event → Type 0
 IsFollowed s bytes es = (orders : List Order) × IsListed s bytes orders × Follows s orders es
@@ -34,4 +35,4 @@ pub record RanFollowing (s : Start) (bytes : List ℕ) (IsKept : List Event → 
   pub listed : IsListed s bytes orders
   pub ran : Ran s (λ es. Follows s orders es × IsKept es) (run_text s) done text
   pub keeps : Keeps s orders ran.ends
-  pub all : length ran.events < 4194304 → Agree ran.ends.commits orders
+  pub all : length ran.events < run_limit → Agree ran.ends.commits orders

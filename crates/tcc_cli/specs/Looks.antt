@@ -2,6 +2,7 @@
 use Rattle.std.specs.Prelude.{ℕ, Bool, true, false, List, length, map, min, take, ◌≡◌, ◌⊎◌, Option, Some, None}
 use Rattle.image_load.specs.Start.{Start}
 use Rattle.rules_riscv.specs.Starting.{world_at_start}
+use Rattle.tcc_base.specs.Limits.{run_limit}
 use Rattle.tcc_base.specs.Settings.{Settings}
 use Rattle.tcc_cli.specs.Lines.{Written, IsWhole, IsCut}
 use Rattle.tcc_cli.specs.Runs.{RunsBy, picked_by}
@@ -30,7 +31,7 @@ use Rattle.watch_state.specs.Text.{state_text}
 -- at most so many events are taken
 abbrev pub most_of : View → ℕ
 most_of (Trace from to states) = to
-most_of (Count csv) = 4194304
+most_of (Count csv) = run_limit
 most_of (State events) = events
 
 -- the first events that a seed picks, and those of the schedule that a file holds

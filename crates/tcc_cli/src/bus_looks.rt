@@ -6,6 +6,7 @@ ghost use Rattle.bus_count.specs.Text.{bus_count_text};
 ghost use Rattle.image_load.specs.Contents.{started};
 ghost use Rattle.tcc_cli.specs.BusLooks.{IsBusTraceStopped, IsBusTraceTold, LookedAtBus, text_refusal};
 ghost use Rattle.tcc_cli.specs.Failing.{IsUntraced};
+ghost use Rattle.tcc_base.specs.Limits.{run_limit};
 
 use crate::looks::MAX_EVENTS;
 use crate::refusal::Refusal;
@@ -41,7 +42,7 @@ pub fn trace_bus<'a, O: Sink>(
     out: &mut O,
 ) -> Result<bool, Refusal<'a>>
     requires one_home { loaded.now.settings.dirs ≡ 1 }
-    requires few { steps ≤ 4194304 }
+    requires few { steps ≤ run_limit }
     ensures told { IfOk result (IsBusTraceTold (started loaded.now) seed steps (View.Trace shown.from to shown.states)
         (record {
           before = O.bytes out.old;
@@ -98,7 +99,7 @@ fn count_bus(
     csv: bool,
 ) -> Result<Finished, NoMemory>
     requires one_home { loaded.now.settings.dirs ≡ 1 }
-    requires few { steps ≤ 4194304 }
+    requires few { steps ≤ run_limit }
     ensures { IfOk result (λ f. LookedAtBus (started loaded.now) seed steps (View.Count csv) f.done (string_bytes f.text)) }
 {
     let counted = count_on_bus(alloc, loaded, seed, steps.min(MAX_EVENTS))?;
@@ -114,7 +115,7 @@ fn state_on_bus(
     events: u64,
 ) -> Result<Finished, NoMemory>
     requires one_home { loaded.now.settings.dirs ≡ 1 }
-    requires few { steps ≤ 4194304 }
+    requires few { steps ≤ run_limit }
     ensures { IfOk result (λ f. LookedAtBus (started loaded.now) seed steps (View.State events) f.done (string_bytes f.text)) }
 {
     let bus = bus_run(alloc, loaded, seed, steps.min(events))?;
@@ -132,7 +133,7 @@ pub fn look_on_bus(
     view: View,
 ) -> Result<Finished, NoMemory>
     requires one_home { loaded.now.settings.dirs ≡ 1 }
-    requires few { steps ≤ 4194304 }
+    requires few { steps ≤ run_limit }
     requires untraced { IsUntraced view }
     ensures { IfOk result (λ f. LookedAtBus (started loaded.now) seed steps view f.done (string_bytes f.text)) }
 {

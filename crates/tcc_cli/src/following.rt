@@ -6,6 +6,7 @@ ghost use Rattle.rv_plain.specs.PlainState.{order_of};
 ghost use Rattle.tcc_cli.specs.Failing.{IsFollowStopped, IsListRefused};
 ghost use Rattle.tcc_cli.specs.Following.{IsFollowed, IsListed, RanFollowing};
 ghost use Rattle.tcc_cli.specs.Schedules.{IsRecorded};
+ghost use Rattle.tcc_base.specs.Limits.{run_limit};
 
 use crate::laid::settings_are_allowed;
 use crate::records::record;
@@ -48,7 +49,7 @@ fn listed<'a>(alloc: Global, loaded: &Loaded, bytes: &[u8]) -> Result<List<Order
 fn run_list<'a>(alloc: Global, loaded: &Loaded, bytes: &[u8]) -> Result<Refined, Refusal<'a>>
     ensures code { IfOk result (λ r. r.machine.cores.code ≡ loaded.now) }
     ensures followed { IfOk result (λ r. IsFollowed (started loaded.now) bytes.now r.taken) }
-    ensures few { IfOk result (λ r. length r.taken ≤ 4194304) }
+    ensures few { IfOk result (λ r. length r.taken ≤ run_limit) }
     ensures settled { IfOk result (λ r. r.machine.unsent ≡ []) }
     ensures refused { IfErr result (IsListRefused (started loaded.now) bytes.now) }
 {

@@ -10,6 +10,7 @@ ghost use Rattle.tcc_msg.specs.Plain.{event_of};
 ghost use Rattle.watch_count.specs.Csv.{csv_text};
 ghost use Rattle.watch_count.specs.Text.{count_text};
 ghost use Rattle.watch_state.specs.Text.{state_text};
+ghost use Rattle.tcc_base.specs.Limits.{run_limit};
 
 use crate::refusal::Refusal;
 use crate::reports::Finished;
@@ -60,8 +61,8 @@ fn count_picked(
     steps: u64,
     csv: bool,
 ) -> Result<Finished, NoMemory>
-    requires few { steps ≤ 4194304 }
-    ensures { IfOk result (λ f. LookedAt (started loaded.now) (ArePicked (started loaded.now) seed steps 4194304)
+    requires few { steps ≤ run_limit }
+    ensures { IfOk result (λ f. LookedAt (started loaded.now) (ArePicked (started loaded.now) seed steps run_limit)
         (view_text (View.Count csv) (Some (seed, steps)) (started loaded.now)) f.done (string_bytes f.text)) }
 {
     a_picked_schedule_is_a_run();
@@ -78,7 +79,7 @@ fn count_listed(
     listed: &[Event],
     csv: bool,
 ) -> Result<Finished, NoMemory>
-    requires few { length listed.now ≤ 4194304 }
+    requires few { length listed.now ≤ run_limit }
     ensures { IfOk result (λ f. LookedAt (started loaded.now) (λ es. es ≡ map event_of listed.now)
         (view_text (View.Count csv) None (started loaded.now)) f.done (string_bytes f.text)) }
 {
@@ -109,7 +110,7 @@ fn look_at_taken(
     view: View,
 ) -> Result<Finished, NoMemory>
     requires code { refined.now.machine.cores.code ≡ loaded.now }
-    requires few { length refined.now.taken ≤ 4194304 }
+    requires few { length refined.now.taken ≤ run_limit }
     requires settled { refined.now.machine.unsent ≡ [] }
     requires untraced { IsUntraced view }
     ensures { IfOk result (λ f. LookedAt (started loaded.now) (λ es. es ≡ map event_of refined.now.taken)
@@ -141,7 +142,7 @@ pub fn look_by_seed(
     steps: u64,
     view: View,
 ) -> Result<Finished, NoMemory>
-    requires few { steps ≤ 4194304 }
+    requires few { steps ≤ run_limit }
     requires untraced { IsUntraced view }
     ensures { IfOk result (λ f. LookedAt (started loaded.now) (ArePicked (started loaded.now) seed steps (plain_most_of view))
         (view_text view (Some (seed, steps)) (started loaded.now)) f.done (string_bytes f.text)) }

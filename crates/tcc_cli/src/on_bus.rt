@@ -3,6 +3,7 @@ ghost use Rattle.std.specs.Prelude.{◌≡◌, ◌≤◌, IfOk};
 ghost use Rattle.std.specs.String.{string_bytes};
 ghost use Rattle.image_load.specs.Contents.{started};
 ghost use Rattle.tcc_cli.specs.OnBus.{RanOnBus};
+ghost use Rattle.tcc_base.specs.Limits.{run_limit};
 
 use crate::reports::Finished;
 use bus_tool::{bus_report, bus_run};
@@ -18,7 +19,7 @@ pub fn run_on_bus(
     steps: u64,
 ) -> Result<Finished, NoMemory>
     requires one_home { loaded.now.settings.dirs ≡ 1 }
-    requires few { steps ≤ 4194304 }
+    requires few { steps ≤ run_limit }
     ensures { IfOk result (λ f. RanOnBus (started loaded.now) seed steps f.done (string_bytes f.text)) }
 {
     let bus = bus_run(alloc, loaded, seed, steps)?;

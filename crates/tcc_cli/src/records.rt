@@ -5,6 +5,7 @@ ghost use Rattle.schedule_text.specs.WellFormed.{IsWellFormed};
 ghost use Rattle.tcc_cli.specs.Failing.{IsNotWritten};
 ghost use Rattle.net_core.specs.Machine.{settings_of};
 ghost use Rattle.tcc_cli.specs.Schedules.{IsRecorded};
+ghost use Rattle.tcc_base.specs.Limits.{text_limit};
 
 use crate::refusal::Refusal;
 use schedule_text::write;
@@ -16,7 +17,7 @@ use tcc_world::{Store, StoreError};
 
 /// The text of the schedule that a machine took.
 fn schedule_text(alloc: Global, refined: &Refined) -> Result<Vec<u8>, NoMemory>
-    requires few { length refined.now.taken ≤ 4194304 }
+    requires few { length refined.now.taken ≤ text_limit }
     ensures formed { IsWellFormed (record { config = settings_of refined.now.machine; events = refined.now.taken }) }
     ensures text { IfOk result (λ text. text.items
         ≡ text_of (record { config = settings_of refined.now.machine; events = refined.now.taken })) }
@@ -32,7 +33,7 @@ pub fn record<'a, F: Store>(
     refined: &Refined,
     files: &mut F,
 ) -> Result<(), Refusal<'a>>
-    requires few { length refined.now.taken ≤ 4194304 }
+    requires few { length refined.now.taken ≤ text_limit }
     ensures recorded { OnOk result (IsRecorded keep.now (F.tells files.old) (F.contents files.new)
         (record { config = settings_of refined.now.machine; events = refined.now.taken })) }
     ensures failed { IfErr result (IsNotWritten keep.now (record {

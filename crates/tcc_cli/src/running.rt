@@ -7,6 +7,7 @@ ghost use Rattle.tcc_cli.specs.Phased.{IsPhasePicked, RanInPhases};
 ghost use Rattle.tcc_cli.specs.Runs.{run_text, summary_text};
 ghost use Rattle.tcc_cli.specs.Schedules.{IsMade, IsPicked, IsRecorded, IsScheduleOf, Ran};
 ghost use Rattle.text_why.specs.Text.{why_text};
+ghost use Rattle.tcc_base.specs.Limits.{run_limit};
 
 use crate::phases::phases_of;
 use crate::records::record;
@@ -32,7 +33,7 @@ pub fn run_recorded<'a, R: Threads + Wait + Sync, F: Store, G: Gate + Sync>(
     files: &mut F,
     gate: &G,
 ) -> Result<Finished, Refusal<'a>>
-    requires few { plan.steps ≤ 4194304 }
+    requires few { plan.steps ≤ run_limit }
     requires threads { IfSome plan.threads (λ t. (1 ≤ t) × (t ≤ 16)) }
     requires batch { (1 ≤ plan.batch) × (plan.batch ≤ 1024) }
     ensures ran { IfOk result (λ f. Ran (started loaded.now)
@@ -118,7 +119,7 @@ pub fn run_phased<'a, F: Store>(
     keep: &'a Option<Text>,
     files: &mut F,
 ) -> Result<Finished, Refusal<'a>>
-    requires few { steps ≤ 4194304 }
+    requires few { steps ≤ run_limit }
     ensures ran { IfOk result (λ f. RanInPhases (started loaded.now)
         (λ es. IsPhasePicked (started loaded.now) seed steps es
         × IsRecorded keep.now (F.tells files.old) (F.contents files.new) (record { config = loaded.now.settings; events = es }))
@@ -158,7 +159,7 @@ pub fn run_trial(
     seed: u64,
     steps: u64,
 ) -> Result<Finished, NoMemory>
-    requires few { steps ≤ 4194304 }
+    requires few { steps ≤ run_limit }
     ensures { IfOk result (λ f. Ran (started loaded.now) (IsPicked (started loaded.now) seed steps)
         (summary_text (started loaded.now) work number) f.done (string_bytes f.text)) }
 {

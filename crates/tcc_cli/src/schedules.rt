@@ -6,6 +6,7 @@ ghost use Rattle.tcc_cli.specs.Looks.{AreFirst, IsFirstRefused};
 ghost use Rattle.tcc_cli.specs.Runs.{picked_by};
 ghost use Rattle.tcc_cli.specs.Schedules.{IsMade, IsScheduleOf};
 ghost use Rattle.tcc_msg.specs.Plain.{event_of};
+ghost use Rattle.tcc_base.specs.Limits.{run_limit};
 
 use crate::refusal::Refusal;
 use apart_run::run_threads;
@@ -41,7 +42,7 @@ pub fn run_by<R: Threads + Wait + Sync, G: Gate + Sync>(
     plan: RunPlan,
     gate: &G,
 ) -> Result<Refined, NoMemory>
-    requires few { plan.steps ≤ 4194304 }
+    requires few { plan.steps ≤ run_limit }
     requires threads { IfSome plan.threads (λ t. (1 ≤ t) × (t ≤ 16)) }
     requires batch { (1 ≤ plan.batch) × (plan.batch ≤ 1024) }
     ensures code { IfOk result (λ r. r.machine.cores.code ≡ loaded.now) }
@@ -74,7 +75,7 @@ pub fn run_by<R: Threads + Wait + Sync, G: Gate + Sync>(
 
 /// The machine after at most so many events that a seed picks.
 pub fn pick(alloc: Global, loaded: &Loaded, seed: u64, steps: u64) -> Result<Refined, NoMemory>
-    requires few { steps ≤ 4194304 }
+    requires few { steps ≤ run_limit }
     ensures code { IfOk result (λ r. r.machine.cores.code ≡ loaded.now) }
     ensures picked { IfOk result (λ r. map event_of r.taken ≡ picked_by (started loaded.now) seed steps) }
     ensures few { IfOk result (λ r. length r.taken ≤ steps) }
@@ -130,7 +131,7 @@ pub fn run_first<'a>(
     requires { loaded.now.settings ≡ config.now }
     ensures code { IfOk result (λ r. r.machine.cores.code ≡ loaded.now) }
     ensures first { IfOk result (λ r. AreFirst config.now bytes.now most (map event_of r.taken)) }
-    ensures few { IfOk result (λ r. length r.taken ≤ 4194304) }
+    ensures few { IfOk result (λ r. length r.taken ≤ run_limit) }
     ensures settled { IfOk result (λ r. r.machine.unsent ≡ []) }
     ensures refused { IfErr result (IsFirstRefused (started loaded.now) config.now bytes.now most) }
 {

@@ -3,6 +3,7 @@ ghost use Rattle.std.specs.Prelude.{◌≡◌, ◌≤◌, IfErr, IfOk, length, m
 ghost use Rattle.image_load.specs.Contents.{started};
 ghost use Rattle.tcc_cli.specs.Looks.{ArePicked, AreFirst, IsFaultOfFirst, IsTraceStopped, IsTraceTold, broken_refusal};
 ghost use Rattle.tcc_msg.specs.Plain.{event_of};
+ghost use Rattle.tcc_base.specs.Limits.{run_limit};
 
 use crate::refusal::Refusal;
 use crate::schedules::run_first;
@@ -34,7 +35,7 @@ pub fn trace_by_seed<'a, O: Sink>(
     to: u64,
     out: &mut O,
 ) -> Result<bool, Refusal<'a>>
-    requires few { steps ≤ 4194304 }
+    requires few { steps ≤ run_limit }
     ensures told { IfOk result (IsTraceTold (started loaded.now) (ArePicked (started loaded.now) seed steps to) shown
         (record {
           before = O.bytes out.old;
@@ -67,7 +68,7 @@ fn trace_listed<'a, O: Sink>(
     shown: Shown,
     out: &mut O,
 ) -> Result<bool, Refusal<'a>>
-    requires few { length listed.now ≤ 4194304 }
+    requires few { length listed.now ≤ run_limit }
     ensures told { IfOk result (IsTraceTold (started loaded.now) (λ es. es ≡ map event_of listed.now) shown
         (record {
           before = O.bytes out.old;

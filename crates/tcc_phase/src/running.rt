@@ -8,6 +8,7 @@ ghost use Rattle.tcc_msg.specs.Plain.{event_of};
 ghost use Rattle.rules_tcc.specs.Picked.{chosen};
 ghost use Rattle.tcc_pick.specs.Words.{seeded, words};
 ghost use Rattle.tcc_phase.specs.Phased.{useful_in};
+ghost use Rattle.tcc_base.specs.Limits.{run_limit};
 
 use crate::system::PhaseSystem;
 use image_load::Loaded;
@@ -43,7 +44,7 @@ pub fn phase_run(
     seed: u64,
     steps: u64,
 ) -> Result<PhaseSystem, NoMemory>
-    requires { steps ≤ 4194304 }
+    requires { steps ≤ run_limit }
     ensures code { IfOk result (λ p. p.refined.machine.cores.code ≡ loaded.now) }
     ensures picked { IfOk result (λ p. map event_of p.refined.taken
         ≡ phased_picked (started loaded.now) (words steps (seeded seed)) (at_start (started loaded.now))) }

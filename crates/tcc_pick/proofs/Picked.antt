@@ -1,6 +1,7 @@
 -- The events that random words pick, one after another.
 use Rattle.std.proofs.Common.{◌≡◌, ℕ, suc, ◌+◌, ◌-◌, ◌<◌, ◌≤◌, List, [], ◌∷◌, ◌++◌, length, append-nil, append_assoc}
 use Rattle.std.proofs.Common.{Option, Some, None, refl, ap, sym, ◌∙◌, subst, arith}
+use Rattle.tcc_base.specs.Limits.{run_limit}
 use Rattle.base_lemmas.proofs.Lemmas.{one-longer}
 use Rattle.image_load.specs.Contents.{started}
 use Rattle.rand_core.specs.Steps.{first_words}
@@ -122,10 +123,10 @@ so-all m n f g all left s e =
 pub record Going (m n : Refined) (f g : Lcg) (all i : ℕ) : Type 0 where
   pub left : ℕ
   pub count : left + i ≡ all
-  pub few : n.machine.events + left ≤ 4194304
+  pub few : n.machine.events + left ≤ run_limit
   pub so : So m n f g all left
 
-pub going-none : (m : Refined) (g : Lcg) (all : ℕ) → m.machine.events + all ≤ 4194304 → Going m m g g all 0
+pub going-none : (m : Refined) (g : Lcg) (all : ℕ) → m.machine.events + all ≤ run_limit → Going m m g g all 0
 going-none m g all h = record { left = all; count = omega arith; few = h; so = so-none m g all all refl }
 
 pub going-same : {m n : Refined} {f g : Lcg} {all i : ℕ} (o : Refined) → Going m n f g all i → Same n o → Going m o f g all i

@@ -8,6 +8,7 @@ ghost use Rattle.rules_tcc.specs.Useful.{useful};
 ghost use Rattle.net_core.specs.Machine.{program_of, settings_of, world_of};
 ghost use Rattle.tcc_pick.specs.Picking.{TookAll, TookSome, picks};
 ghost use Rattle.tcc_pick.specs.Words.{after_words, seeded};
+ghost use Rattle.tcc_base.specs.Limits.{run_limit};
 
 use net_core::System;
 use rand_core::SeedableRng;
@@ -65,7 +66,7 @@ impl Chooser {
     ///
     /// The time is that of the events, each by `next` and `Refined::step`.
     pub fn run(&mut self, refined: &mut Refined, steps: u32) -> Result<(), NoMemory>
-        requires { refined.old.machine.events + steps ≤ 4194304 }
+        requires { refined.old.machine.events + steps ≤ run_limit }
         ensures took { OnOk result (TookAll refined.old refined.new (picks steps self.old refined.old.machine)) }
         ensures settled { OnOk result (refined.new.machine.unsent ≡ []) }
         ensures drawn { OnOk result (self.new ≡ after_words (length (picks steps self.old refined.old.machine)) self.old) }

@@ -7,6 +7,7 @@ use Rattle.image_load.specs.Contents.{Contents, started}
 use Rattle.rv_code.specs.Machine.{program}
 use Rattle.rules_riscv.specs.Starting.{world_at_start}
 use Rattle.schedule_text.specs.WellFormed.{IsNode, Names, one_is_core}
+use Rattle.tcc_base.specs.Limits.{run_limit}
 use Rattle.tcc_base.specs.Settings.{Settings, IsAllowed}
 use Rattle.tcc_base.specs.declared.names.NodeId.{NodeId}
 use Rattle.tcc_base.specs.declared.names.NodeId.TheVariants.{Core, Dir, Vendor}
@@ -64,7 +65,7 @@ flying sh src dst k h g true None e P found = absurd (cc)
 flying sh src dst k h g true (Some m) e P found = found m refl
 
 named : (sh : Settings) (p : Program) (es : List RuleEvent) (h g : History) (e : Event) → IsAllowed sh → IsBounded sh es h
-    → length es ≤ 4194304 → next_history sh p h (event_of e) ≡ Some g → Names sh e
+    → length es ≤ run_limit → next_history sh p h (event_of e) ≡ Some g → Names sh e
 unfolding next_history step names_nodes happens
 named sh p es h g (Exec core) k b few n =
     lt-from core.0 sh.cores (all-there (nat_lt core.0 sh.cores) (happens sh p h.world (event_of (Exec core))) h g n)
@@ -107,7 +108,7 @@ unfolding started
 bounded c es h k e = riscv_bounded_after (started c) es h k e
 
 all-named : (c : Contents) (before : List RuleEvent) (es : List Event) (h g : History) → IsAllowed c.settings
-    → run c.settings (program (started c)) (world_at_start (started c)) before ≡ Some h → length before + length es ≤ 4194304
+    → run c.settings (program (started c)) (world_at_start (started c)) before ≡ Some h → length before + length es ≤ run_limit
     → run_from c.settings (program (started c)) (map event_of es) h ≡ Some g → All (Names c.settings) es
 unfolding run_from
 all-named c before [] h g k r few rest = All-nil (Names c.settings)

@@ -1,5 +1,6 @@
 -- What the replay of a list of events answers.
 use Rattle.std.specs.Prelude.{ℕ, ◌+◌, ◌<◌, ◌≤◌, ◌≡◌, List, length, map, take, Option, IsSome, None, Some}
+use Rattle.tcc_base.specs.Limits.{run_limit}
 use Rattle.image_load.specs.Start.{Start}
 use Rattle.rv_code.specs.Machine.{program}
 use Rattle.rules_riscv.specs.Starting.{world_at_start}
@@ -38,5 +39,5 @@ RunsAreNotRefused =
 
 -- with the machine's settings they are a well-formed schedule
 abbrev pub TakenHasText : Type 0
-TakenHasText = (r : Refined) → IsRefined r → r.machine.events ≤ 4194304
+TakenHasText = (r : Refined) → IsRefined r → r.machine.events ≤ run_limit
     → IsWellFormed (record { config = settings_of r.machine; events = r.taken })

@@ -2,6 +2,7 @@
 ghost use Rattle.std.specs.Prelude.{◌≡◌, ◌≤◌, [], IfErr, IfOk, length};
 ghost use Rattle.image_load.specs.Contents.{started};
 ghost use Rattle.tcc_replay.specs.Replayed.{EqualEventsGiveEqualMachines, IsReplayFault, RunsAreNotRefused, TakenHasText};
+ghost use Rattle.tcc_base.specs.Limits.{run_limit};
 
 use image_load::Loaded;
 use net_core::StepError;
@@ -23,7 +24,7 @@ pub enum ReplayFault {
 /// `Refused(i)` exactly where event i is the first that isn't enabled at its turn, unless memory ran out before. The time is that of
 /// the events, each by `Refined::step`.
 pub fn replay(alloc: Global, loaded: &Loaded, events: &[Event]) -> Result<Refined, ReplayFault>
-    requires { length events.now ≤ 4194304 }
+    requires { length events.now ≤ run_limit }
     ensures code { IfOk result (λ r. r.machine.cores.code ≡ loaded.now) }
     ensures taken { IfOk result (λ r. r.taken ≡ events.now) }
     ensures settled { IfOk result (λ r. r.machine.unsent ≡ []) }

@@ -6,6 +6,7 @@ use Rattle.std.specs.Prelude.{IfSome, IsSome, codes}
 use Rattle.clap.specs.Walk.{Row, Text}
 use Rattle.clap.specs.Simple.{argument_words, built, names_of}
 use Rattle.clap.specs.Words.{first_of, matches_of}
+use Rattle.tcc_base.specs.Limits.{text_limit}
 use Rattle.tcc_base.specs.Settings.{Settings, IsAllowed}
 use Rattle.tcc_words.proofs.OneCommand.{one-value}
 use Rattle.tcc_words.proofs.Unasked.{IsApart, unasked}
@@ -54,10 +55,10 @@ allowed rows s h every =
     )
 
 steps-few : (rows : List Row) (n : ℕ) → IsValue 1000000 (first_of (codes "steps") rows) n → ((field : Field) → Allows rows field)
-    → n ≤ 4194304
+    → n ≤ text_limit
 steps-few rows n h every =
     let a = every Steps in
-    subst (λ k. k ≤ 4194304) (one-value 1000000 (first_of (codes "steps") rows) a.0 n a.1 h) a.2
+    subst (λ k. k ≤ text_limit) (one-value 1000000 (first_of (codes "steps") rows) a.0 n a.1 h) a.2
 
 number-fits : (text : Option Text) (n : ℕ) → ((given : Text) × (text ≡ Some given) × IsNumber given n)
     → IfSome text (λ given. (m : ℕ) × IsNumber given m × (1 ≤ m) × (m ≤ 2047)) → (1 ≤ n) × (n ≤ 2047)
@@ -118,21 +119,21 @@ source-few : (rows : List Row) (s : Source) → AsksSource rows s → ((field : 
 source-few rows (source.Seed steps seed) a every = steps-few rows steps a.1 every
 source-few rows (source.Schedule name) a every = tt
 
-number-near : (default : ℕ) (text : Option Text) (n : ℕ) → IsValue default text n → ((m : ℕ) × IsValue default text m × (m ≤ 4194304))
-    → n ≤ 4194304
-number-near default text n h a = subst (λ k. k ≤ 4194304) (one-value default text a.0 n a.1 h) a.2
+number-near : (default : ℕ) (text : Option Text) (n : ℕ) → IsValue default text n → ((m : ℕ) × IsValue default text m × (m ≤ text_limit))
+    → n ≤ text_limit
+number-near default text n h a = subst (λ k. k ≤ text_limit) (one-value default text a.0 n a.1 h) a.2
 
 some-of : (default : ℕ) (text : Option Text) (n : ℕ) → IsValue default text n
-    → ((m : ℕ) × IsValue default text m × (1 ≤ m) × (m ≤ 4194304)) → 1 ≤ n
+    → ((m : ℕ) × IsValue default text m × (1 ≤ m) × (m ≤ text_limit)) → 1 ≤ n
 some-of default text n h a = subst (λ k. 1 ≤ k) (one-value default text a.0 n a.1 h) a.2
 
 view-near : (verb : Verb) (rows : List Row) (v : View) → AsksView verb rows v → ((field : Field) → Allows rows field) → IsNear v
 view-near Trace rows (view.Trace from to states) a every = (
   number-near 0 (first_of (codes "from") rows) from a.0 (every From),
-  number-near 4194304 (first_of (codes "to") rows) to a.1 (every To),
+  number-near text_limit (first_of (codes "to") rows) to a.1 (every To),
 )
 view-near Count rows (view.Count csv) a every = tt
-view-near State rows (view.State events) a every = number-near 4194304 (first_of (codes "events") rows) events a (every Events)
+view-near State rows (view.State events) a every = number-near text_limit (first_of (codes "events") rows) events a (every Events)
 view-near _ rows v a every = absurd a
 
 looking : (verb : Verb) (rows : List Row) (v : View) (c : Command) → (1 ≤ length (images_of rows)) × GoTogether rows

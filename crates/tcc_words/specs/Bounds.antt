@@ -1,6 +1,7 @@
 -- The numbers of a command are within their bounds.
 use Rattle.std.specs.Prelude.{◌≡◌, ◌≤◌, List, length, IfSome, IsSome}
 use Rattle.clap.specs.Words.{Text}
+use Rattle.tcc_base.specs.Limits.{text_limit}
 use Rattle.tcc_base.specs.Settings.{Settings, IsAllowed}
 use Rattle.tcc_words.specs.Asked.{IsCommand}
 use Rattle.tcc_words.specs.declared.command.Command.{Command}
@@ -26,30 +27,30 @@ config_of (Follow machine list images keep) = machine.config
 
 -- at most 4,194,304 events
 abbrev pub IsFew : Source → Type 0
-IsFew (Seed steps seed) = steps ≤ 4194304
+IsFew (Seed steps seed) = steps ≤ text_limit
 IsFew (Schedule name) = Unit {0}
 
 abbrev pub IsNear : View → Type 0
-IsNear (Trace from to states) = (from ≤ 4194304) × (to ≤ 4194304)
+IsNear (Trace from to states) = (from ≤ text_limit) × (to ≤ text_limit)
 IsNear (Count csv) = Unit {0}
-IsNear (State events) = events ≤ 4194304
+IsNear (State events) = events ≤ text_limit
 
 -- 1 to 16 images, at most 4,194,304 events, 1 to 16 threads and only with a record, 1 to 1024 acts in a turn, a workload's number from 1
 -- to 2047; where there are no directories the settings have one; at least one state, and one instruction
 abbrev pub AreNumbers : Command → Type 0
 AreNumbers (Run machine images steps seed threads batch keep) =
-    (1 ≤ length images) × (length images ≤ 16) × (steps ≤ 4194304) × IfSome threads (λ t. (1 ≤ t) × (t ≤ 16) × IsSome keep)
+    (1 ≤ length images) × (length images ≤ 16) × (steps ≤ text_limit) × IfSome threads (λ t. (1 ≤ t) × (t ≤ 16) × IsSome keep)
     × (1 ≤ batch) × (batch ≤ 1024)
 AreNumbers (Replay machine schedule images) = (1 ≤ length images) × (length images ≤ 16)
 AreNumbers (Serial machine list images) = (1 ≤ length images) × (length images ≤ 16)
-AreNumbers (Trial config work number steps seed) = (1 ≤ number) × (number ≤ 2047) × (steps ≤ 4194304)
+AreNumbers (Trial config work number steps seed) = (1 ≤ number) × (number ≤ 2047) × (steps ≤ text_limit)
 AreNumbers (Why machine schedule images) = (1 ≤ length images) × (length images ≤ 16)
-AreNumbers (Phases machine images steps seed keep) = (1 ≤ length images) × (length images ≤ 16) × (steps ≤ 4194304)
+AreNumbers (Phases machine images steps seed keep) = (1 ≤ length images) × (length images ≤ 16) × (steps ≤ text_limit)
 AreNumbers (Bus machine images steps seed) =
-    (1 ≤ length images) × (length images ≤ 16) × (steps ≤ 4194304) × (machine.config.dirs ≡ 1)
+    (1 ≤ length images) × (length images ≤ 16) × (steps ≤ text_limit) × (machine.config.dirs ≡ 1)
 AreNumbers (Look machine images source view) = (1 ≤ length images) × (length images ≤ 16) × IsFew source × IsNear view
 AreNumbers (LookOnBus machine images steps seed view) =
-    (1 ≤ length images) × (length images ≤ 16) × (steps ≤ 4194304) × (machine.config.dirs ≡ 1) × IsNear view
+    (1 ≤ length images) × (length images ≤ 16) × (steps ≤ text_limit) × (machine.config.dirs ≡ 1) × IsNear view
 AreNumbers (Outcomes machine images limits tell) =
     (1 ≤ length images) × (length images ≤ 16) × (1 ≤ limits.states) × (1 ≤ limits.longest)
 AreNumbers (Follow machine list images keep) = (1 ≤ length images) × (length images ≤ 16)

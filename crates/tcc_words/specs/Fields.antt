@@ -2,6 +2,7 @@
 use Rattle.std.specs.Prelude.{ℕ, ◌≡◌, ◌⊎◌, ◌+◌, ◌^◌, ◌%◌, ◌≤◌, List, [], ◌∷◌, ◌++◌, Option, Some, None, IfSome, IsSome, IsTrue, length}
 use Rattle.std.specs.Prelude.{codes, unwrap_or}
 use Rattle.std.specs.Int.{is_power_of_two}
+use Rattle.tcc_base.specs.Limits.{text_limit}
 use Rattle.clap.specs.Words.{Row, Text, first_of, all_of}
 use Rattle.work_gen.specs.declared.work.Work.{Work}
 use Rattle.work_gen.specs.Names.{work_word}
@@ -46,8 +47,8 @@ default_of Base = 0x80000000
 default_of Steps = 1000000
 default_of Seed = 0
 default_of From = 0
-default_of To = 4194304
-default_of Events = 4194304
+default_of To = text_limit
+default_of Events = text_limit
 default_of States = 1000000
 default_of Longest = 100000
 default_of Batch = 1
@@ -80,13 +81,13 @@ Allows rows Sets = (n : ℕ) × IsSaid rows Sets n × IsTrue (is_power_of_two n)
 Allows rows Ways = (n : ℕ) × IsSaid rows Ways n × (1 ≤ n) × (n ≤ 16)
 Allows rows Ram = (n : ℕ) × IsSaid rows Ram n × (32 ≤ n) × (n ≤ 16777216) × (n % 32 ≡ 0)
 Allows rows Base = (n ram : ℕ) × IsSaid rows Base n × IsSaid rows Ram ram × (n % 32 ≡ 0) × (n + ram ≤ 2 ^ 32)
-Allows rows Steps = (n : ℕ) × IsSaid rows Steps n × (n ≤ 4194304)
+Allows rows Steps = (n : ℕ) × IsSaid rows Steps n × (n ≤ text_limit)
 Allows rows Seed = (n : ℕ) × IsSaid rows Seed n
-Allows rows From = (n : ℕ) × IsSaid rows From n × (n ≤ 4194304)
-Allows rows To = (n : ℕ) × IsSaid rows To n × (n ≤ 4194304)
-Allows rows Events = (n : ℕ) × IsSaid rows Events n × (n ≤ 4194304)
-Allows rows States = (n : ℕ) × IsSaid rows States n × (1 ≤ n) × (n ≤ 4194304)
-Allows rows Longest = (n : ℕ) × IsSaid rows Longest n × (1 ≤ n) × (n ≤ 4194304)
+Allows rows From = (n : ℕ) × IsSaid rows From n × (n ≤ text_limit)
+Allows rows To = (n : ℕ) × IsSaid rows To n × (n ≤ text_limit)
+Allows rows Events = (n : ℕ) × IsSaid rows Events n × (n ≤ text_limit)
+Allows rows States = (n : ℕ) × IsSaid rows States n × (1 ≤ n) × (n ≤ text_limit)
+Allows rows Longest = (n : ℕ) × IsSaid rows Longest n × (1 ≤ n) × (n ≤ text_limit)
 Allows rows Tell = IfSome (first_of (codes "tell") rows) (λ text. (t : Told) × (text ≡ tell_word t))
 Allows rows Threads = IfSome (first_of (codes "threads") rows)
     (λ text. ((n : ℕ) × IsNumber text n × (1 ≤ n) × (n ≤ 16)) × IsSome (first_of (codes "record") rows))

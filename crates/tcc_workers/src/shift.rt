@@ -2,6 +2,7 @@
 ghost use Rattle.std.specs.Prelude.{◌≡◌, ◌+◌, ◌%◌, ◌^◌, ◌<◌, ◌≤◌, OnErr, is_ok, min};
 ghost use Rattle.tcc_workers.specs.Calls.{TookTurns};
 ghost use Rattle.tcc_workers.specs.Words.{words_of};
+ghost use Rattle.tcc_base.specs.Limits.{run_limit};
 
 use crate::turns::Turns;
 use apart_node::Act;
@@ -52,7 +53,7 @@ impl Shift {
     /// or at want of memory, which is its error.
     pub fn take_turns<K, P: Turns<K>>(&self, place: &P, ticket: &mut K) -> Result<(), NoMemory>
         requires counted { P.moved ticket.old ≤ self.now.until }
-        requires until { self.now.until ≤ 4194304 }
+        requires until { self.now.until ≤ run_limit }
         requires batch { 1 ≤ self.now.batch }
         requires parts { 0 < P.parts ticket.old }
         ensures took { TookTurns self.now P.count (P.moved ticket.old) (P.moved ticket.new) (P.calls ticket.old) (P.calls ticket.new)

@@ -1,6 +1,7 @@
 // Workers side by side: a slot for each, which its thread works in.
 ghost use Rattle.std.specs.Prelude.{◌≡◌, ℕ, slice_index_or, Ok, ◌+◌, ◌/◌, ◌^◌, ◌<◌, ◌≤◌, All, IfOk, length, vec_len, is_ok, if◌then◌else◌};
 ghost use Rattle.std.specs.List.{list_all, sum_by};
+ghost use Rattle.tcc_base.specs.Limits.{run_limit};
 
 use crate::plan::WorkPlan;
 use crate::turns::AtFarm;
@@ -46,7 +47,7 @@ impl<T: Ledger> Slot<T> {
         gate: &G,
     )
         requires threads { 0 < plan.now.threads }
-        requires steps { plan.now.steps ≤ 4194304 }
+        requires steps { plan.now.steps ≤ run_limit }
         requires batch { 1 ≤ plan.now.batch }
         requires fresh { self.old.ticket.moved ≡ 0 }
         ensures few { self.new.ticket.moved ≤ plan.now.steps / plan.now.threads }
@@ -88,7 +89,7 @@ pub fn do_shares<
     G: Gate + Sync,
 >(rt: &R, farm: &Farm<W, E, T>, slots: &mut [Slot<T>], plan: &WorkPlan, gate: &G)
     requires threads { 0 < plan.now.threads }
-    requires steps { plan.now.steps ≤ 4194304 }
+    requires steps { plan.now.steps ≤ run_limit }
     requires batch { 1 ≤ plan.now.batch }
     requires fresh { All (λ s. s.ticket.moved ≡ 0) slots.old }
     ensures count { length slots.new ≡ length slots.old }
@@ -99,7 +100,7 @@ pub fn do_shares<
         slots,
         usize::from(plan.threads),
         &|_, slot: &mut Slot<T>|
-            requires { (0 < plan.now.threads) × (plan.now.steps ≤ 4194304) × (1 ≤ plan.now.batch) × (slot.old.ticket.moved ≡ 0) }
+            requires { (0 < plan.now.threads) × (plan.now.steps ≤ run_limit) × (1 ≤ plan.now.batch) × (slot.old.ticket.moved ≡ 0) }
             ensures { slot.new.ticket.moved ≤ plan.entry.now.steps / plan.entry.now.threads }
         { slot.do_share(rt, farm, plan, gate) },
     );

@@ -1,6 +1,7 @@
 // All of the work: the workers side by side, and one after them.
 ghost use Rattle.std.specs.Prelude.{◌≡◌, ◌==◌, ◌≤◌, ◌<◌, ◌^◌, IfOk, IfErr, if◌then◌else◌};
 ghost use Rattle.tcc_workers.specs.declared.plan.Ended.TheVariants.{Full, Quiet};
+ghost use Rattle.tcc_base.specs.Limits.{run_limit};
 
 use crate::plan::{Ended, WorkPlan};
 use crate::slots::{do_shares, hand_out, take_back};
@@ -38,7 +39,7 @@ pub fn work<
     gate: &G,
 ) -> Result<(Ticket<T>, Ended), (Ticket<T>, NoMemory)>
     requires threads { (1 ≤ plan.now.threads) × (plan.now.threads ≤ 16) }
-    requires steps { plan.now.steps ≤ 4194304 }
+    requires steps { plan.now.steps ≤ run_limit }
     requires batch { (1 ≤ plan.now.batch) × (plan.now.batch ≤ 1024) }
     requires fresh { ticket.moved ≡ 0 }
     requires parts { (17 ≤ ticket.parts) × (ticket.parts < 2 ^ 32) }
@@ -83,7 +84,7 @@ fn work_together<
     gate: &G,
 ) -> Result<(), NoMemory>
     requires threads { (1 ≤ plan.now.threads) × (plan.now.threads ≤ 16) }
-    requires steps { plan.now.steps ≤ 4194304 }
+    requires steps { plan.now.steps ≤ run_limit }
     requires batch { (1 ≤ plan.now.batch) × (plan.now.batch ≤ 1024) }
     requires fresh { ticket.old.moved ≡ 0 }
     requires parts { (17 ≤ ticket.old.parts) × (ticket.old.parts < 2 ^ 32) }

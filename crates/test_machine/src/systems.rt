@@ -1,5 +1,6 @@
 // Whole machines: from raw images, by events, to what the commits leave.
 ghost use Rattle.std.specs.Prelude.{◌≡◌, ◌≤◌, ◌+◌, length, IfOk};
+ghost use Rattle.tcc_base.specs.Limits.{run_limit};
 
 use crate::events::{C0, C1, D0, D1, V, event, events, name};
 use crate::loading::{STORE_AND_COPY, STORES_24, STORES_SEVEN_AND_HALTS, begun};
@@ -99,7 +100,7 @@ const SECOND: Option<Listed> = Some(Listed(2, 1, 3, None));
 
 // What a machine comes to by these events, or before the one that it doesn't take.
 fn run(system: &mut System, events: &[Event]) -> Played
-    requires { system.old.events + length events.now ≤ 4194304 }
+    requires { system.old.events + length events.now ≤ run_limit }
 {
     let run = system.run(events);
     come_to(system, run)
@@ -107,7 +108,7 @@ fn run(system: &mut System, events: &[Event]) -> Played
 
 // The same of a machine of two cores that begins with these images.
 fn play(alloc: Global, dirs: u64, images: [&[u32]; 2], events: &[Event]) -> Result<Played, Fail>
-    requires { length events.now ≤ 4194304 }
+    requires { length events.now ≤ run_limit }
 {
     let mut system = begun(alloc, 2, dirs, images)?;
     Ok(run(&mut system, events))
@@ -183,7 +184,7 @@ fn useful_after(
     events: &[Event],
     asked: [Event; 3],
 ) -> Result<Useful, Fail>
-    requires { system.old.events + length events.now ≤ 4194304 }
+    requires { system.old.events + length events.now ≤ run_limit }
 {
     let _ = system.run(events);
     let told = [
@@ -201,7 +202,7 @@ fn told_after(
     events: &[Event],
     asked: [Event; 3],
 ) -> Result<Useful, Fail>
-    requires { length events.now ≤ 4194304 }
+    requires { length events.now ≤ run_limit }
 {
     let mut system = begun(alloc, 2, 2, images)?;
     useful_after(alloc, &mut system, events, asked)
@@ -225,7 +226,7 @@ fn useful_events_are_told_from_others(rt: HostRuntime) -> Result<(), Fail> {
 
 // What is known at a directory, and of a line, after these events where they are taken.
 fn run_to_known(system: &mut System, events: &[Event], dir: u8, line: u32) -> Option<Known>
-    requires { system.old.events + length events.now ≤ 4194304 }
+    requires { system.old.events + length events.now ≤ run_limit }
 {
     if system.run(events).is_err() {
         return None;
@@ -241,7 +242,7 @@ fn known_after(
     dir: u8,
     line: u32,
 ) -> Result<Option<Known>, Fail>
-    requires { length events.now ≤ 4194304 }
+    requires { length events.now ≤ run_limit }
 {
     let mut system = begun(alloc, 2, 2, images)?;
     Ok(run_to_known(&mut system, events, dir, line))
@@ -369,7 +370,7 @@ fn run_to_ram(
     events: &[Event],
     line: u32,
 ) -> Result<Option<[u32; 8]>, Fail>
-    requires { system.old.events + length events.now ≤ 4194304 }
+    requires { system.old.events + length events.now ≤ run_limit }
 {
     let _ = system.run(events);
     ram_line(alloc, system, line)
@@ -383,7 +384,7 @@ fn ram_after(
     events: &[Event],
     line: u32,
 ) -> Result<Option<[u32; 8]>, Fail>
-    requires { length events.now ≤ 4194304 }
+    requires { length events.now ≤ run_limit }
 {
     let mut system = begun(alloc, 2, dirs, images)?;
     run_to_ram(alloc, &mut system, events, line)

@@ -1,5 +1,6 @@
 // Machines of two cores on host threads, with ample memory.
 ghost use Rattle.std.specs.Prelude.{◌≤◌};
+ghost use Rattle.tcc_base.specs.Limits.{run_limit};
 
 use crate::images::loaded;
 use apart_run::run_threads;
@@ -82,7 +83,7 @@ fn observe_run<R: Threads + Wait + Sync>(
     threads: u8,
     steps: u64,
 ) -> Result<(bool, usize, usize, bool), Fail>
-    requires { (1 ≤ threads) × (threads ≤ 16) × (steps ≤ 4194304) }
+    requires { (1 ≤ threads) × (threads ≤ 16) × (steps ≤ run_limit) }
 {
     let loaded = executing(alloc, &STORES)?;
     let plan = WorkPlan {

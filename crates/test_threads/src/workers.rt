@@ -2,6 +2,7 @@
 ghost use Rattle.std.specs.Prelude.{◌≡◌, ◌<◌, ◌≤◌, [], All};
 ghost use Rattle.rules_apart.specs.Fitting.{node_count};
 ghost use Rattle.node_locks.specs.Wiring.{links_of, logs_of};
+ghost use Rattle.tcc_base.specs.Limits.{run_limit};
 
 use crate::images::{TURNS, adding};
 use crate::locks::entries;
@@ -100,7 +101,7 @@ fn farmed<
     requires entries { (entries.name ≡ E.name) × (entries.parts ≡ E.parts) × (E.parts ≡ node_count W.code.settings) }
     requires turns { (turns.name ≡ T.name) × (turns.parts ≡ T.parts) × (T.parts ≡ 64) }
     requires threads { (1 ≤ plan.now.threads) × (plan.now.threads ≤ 16) }
-    requires steps { plan.now.steps ≤ 4194304 }
+    requires steps { plan.now.steps ≤ run_limit }
     requires batch { (1 ≤ plan.now.batch) × (plan.now.batch ≤ 1024) }
 {
     let (farm, ticket) = Farm::<W, E, T>::new(alloc, nodes, entries, turns)?;
@@ -123,7 +124,7 @@ fn worked<R: Threads + Wait + Sync, G: Gate + Sync>(
     gate: &G,
 ) -> Result<Harvest, NoMemory>
     requires threads { (1 ≤ plan.now.threads) × (plan.now.threads ≤ 16) }
-    requires steps { plan.now.steps ≤ 4194304 }
+    requires steps { plan.now.steps ≤ run_limit }
     requires batch { (1 ≤ plan.now.batch) × (plan.now.batch ≤ 1024) }
 {
     let nodes = Nodes::new(alloc, loaded)?;
@@ -222,7 +223,7 @@ fn check_worker<R: Abort + Threads + Wait + Sync>(
     ended: Ended,
 ) -> Result<(), Fail>
     requires threads { (1 ≤ plan.now.threads) × (plan.now.threads ≤ 16) }
-    requires steps { plan.now.steps ≤ 4194304 }
+    requires steps { plan.now.steps ≤ run_limit }
     requires batch { (1 ≤ plan.now.batch) × (plan.now.batch ≤ 1024) }
 {
     let all = worked(rt, alloc, loaded, plan, &OpenGate)?;
@@ -254,7 +255,7 @@ fn check_run<R: Abort + Threads + Wait + Sync>(
     plan: &WorkPlan,
 ) -> Result<(), Fail>
     requires threads { (1 ≤ plan.now.threads) × (plan.now.threads ≤ 16) }
-    requires steps { plan.now.steps ≤ 4194304 }
+    requires steps { plan.now.steps ≤ run_limit }
     requires batch { (1 ≤ plan.now.batch) × (plan.now.batch ≤ 1024) }
 {
     let refined = run_threads(rt, alloc, loaded, plan, &OpenGate)?;

@@ -3,6 +3,7 @@ use Rattle.std.specs.Prelude.{ℕ, ◌+◌, ◌^◌, ◌≡◌, ◌<◌, ◌≤�
 use Rattle.std.proofs.Common.{arith, refl}
 use Rattle.image_load.specs.Start.{Start}
 use Rattle.rv_code.specs.Machine.{program}
+use Rattle.tcc_base.specs.Limits.{run_limit}
 use Rattle.tcc_base.specs.Settings.{IsAllowed}
 use Rattle.base_lemmas.proofs.Lemmas.{and-both}
 use Rattle.rules_maps.specs.Nodes.{Node, Core, Dir, Vendor, Event, Msg, TidReq}
@@ -21,11 +22,12 @@ use Rattle.theorem_apart.proofs.Stays.{riscv_nodes_stay}
 use Rattle.theorem_serial.proofs.Lemmas.{is-lt}
 
 -- a core's attempt has room for one more instruction
-pub attempt_short : (sh : Shape) (done c : ℕ) (s : CoreState) → done < 4194304 → NodeInBounds sh done (Core c) (AtCore s) → s.n < 4194304
+pub attempt_short : (sh : Shape) (done c : ℕ) (s : CoreState) → done < run_limit → NodeInBounds sh done (Core c) (AtCore s)
+    → s.n < run_limit
 attempt_short sh done c s l k = omega (arith, l, k.bounds.attempt.instructions)
 
 -- the vendor has a TID to give
-pub next_few : (sh : Shape) (done next : ℕ) → done < 4194304 → NodeInBounds sh done Vendor (AtVendor next) → next ≤ 4194304
+pub next_few : (sh : Shape) (done next : ℕ) → done < run_limit → NodeInBounds sh done Vendor (AtVendor next) → next ≤ run_limit
 next_few sh done next l k = omega (arith, l, k)
 
 -- the ends of a link that carries a message exist
@@ -74,6 +76,6 @@ carried_in sh n dst sends m h c = rw c.2 at (h dst c.0 m (c.1))
 
 -- what a node that has acted leaves and sends
 pub riscv_acted : (s : Start) (done : ℕ) (n : Node) (x : NodeState) (e : Event) (m : Option Msg) (a : Acted) → IsAllowed s.settings
-    → done < 4194304 → at_node e ≡ n → names_nodes s.settings e ≡ true → NodeInBounds s.settings done n x → BringsCarried s.settings e m
+    → done < run_limit → at_node e ≡ n → names_nodes s.settings e ≡ true → NodeInBounds s.settings done n x → BringsCarried s.settings e m
     → act s.settings (program s) x e m ≡ Some a → ActsInBounds s.settings (done + 1) n a
 riscv_acted s done n x e m a k l q g b c r = rw r at (riscv_nodes_stay s k done n x e m l q g b c)

@@ -2,6 +2,7 @@
 use Rattle.std.specs.Prelude.{ℕ, ◌+◌, ◌^◌, ◌≡◌, ◌<◌, ◌≤◌, ◌==◌, Bool, true, false, [], ◌∷◌, All, Option, Some, None, IfSome, if◌then◌else◌}
 use Rattle.std.proofs.Common.{arith, refl, subst}
 use Rattle.std.proofs.lemmas.Bool.Decides.{nat_tests}
+use Rattle.tcc_base.specs.Limits.{run_limit}
 use Rattle.rv_code.specs.Machine.{program}
 use Rattle.theorem_riscv.proofs.Lemmas.{riscv_programs_suit}
 use Rattle.rules_program.specs.Program.{Program}
@@ -59,7 +60,7 @@ grant-sends sh c t b i l (Core j) = go (j == c) refl
     go true e = each-all (IsCarried sh Vendor (Core j)) (TidGrant t ∷ [])
         (each-one (IsCarried sh Vendor (Core j)) (TidGrant t) (granted (grind (arith, nat_tests))))
 
-vendor-acted : (sh : Shape) (n c t : ℕ) (m : Msg) → n < 4194304 → IsCarried sh (Core c) Vendor m → t ≡ n + 1
+vendor-acted : (sh : Shape) (n c t : ℕ) (m : Msg) → n < run_limit → IsCarried sh (Core c) Vendor m → t ≡ n + 1
     → IfSome (grant_acted (vendor_deliver t c m)) (ActsInBounds sh (n + 1) Vendor)
 vendor-acted sh n c t TidReq l b k =
     record { state = omega (arith, k); sends = grant-sends sh c t b (omega (arith, k)) (omega (arith, k, l)) }
@@ -68,7 +69,7 @@ vendor-acted sh n c t _ l b k = tt
 -- by event
 
 stays : (sh : Shape) (p : Program) (n : ℕ) (s : NodeState) (e : Event) (m : Option Msg) → 1 ≤ sh.dirs → StaysInMemory sh p
-    → n < 4194304 → NodeInBounds sh n (at_node e) s → BringsCarried sh e m → IfSome (act sh p s e m) (ActsInBounds sh (n + 1) (at_node e))
+    → n < run_limit → NodeInBounds sh n (at_node e) s → BringsCarried sh e m → IfSome (act sh p s e m) (ActsInBounds sh (n + 1) (at_node e))
 stays sh p n (AtCore s) (Exec c) m d i l k b = core-acted sh n c false (core_exec sh p c s) (exec-acts sh p n c s d i k)
 stays sh p n (AtCore s) (Evict c x y) m d i l k b = core-acted sh n c false (core_evict sh x y s) (evict-acts sh n c x y s d k)
 stays sh p n (AtCore s) (Deliver src dst j) None d i l k b = tt

@@ -3,6 +3,7 @@ use Rattle.std.specs.Prelude.{ℕ, ◌+◌, ◌≡◌, ◌<◌, ◌≤◌, true,
 use Rattle.image_load.specs.Start.{Start}
 use Rattle.rv_code.specs.Machine.{program}
 use Rattle.rules_riscv.specs.Starting.{world_at_start}
+use Rattle.tcc_base.specs.Limits.{run_limit}
 use Rattle.tcc_base.specs.Settings.{IsAllowed}
 use Rattle.rules_program.specs.Program.{Local, Program}
 use Rattle.rules_maps.specs.Nodes.{Node, Event, Exec, Evict, Deliver, Msg}
@@ -28,7 +29,7 @@ NodesStartInBounds =
 -- An event of the node n, the one after `done` others, leaves it in bounds, and each message that it sends is one that its link
 -- carries; of a program with accesses in memory alone.
 abbrev pub StaysInBounds : Shape → Program → Type 0
-StaysInBounds sh p = (done : ℕ) (n : Node) (s : NodeState) (e : Event) (m : Option Msg) → done < 4194304 → at_node e ≡ n
+StaysInBounds sh p = (done : ℕ) (n : Node) (s : NodeState) (e : Event) (m : Option Msg) → done < run_limit → at_node e ≡ n
     → names_nodes sh e ≡ true → NodeInBounds sh done n s → BringsCarried sh e m → IfSome (act sh p s e m) (ActsInBounds sh (done + 1) n)
 
 abbrev pub NodesStayInBounds : Type 0

@@ -3,6 +3,7 @@
 #![tactic(auto)]
 
 ghost use Rattle.theorem_apart.specs.Laws.{NodesStartInBounds, NodesStayInBounds, RiscvNodesStartInBounds, RiscvNodesStayInBounds};
+ghost use Rattle.tcc_base.specs.Limits.{run_limit};
 
 /// Before its first event each node is in bounds: a core's attempt has no instruction, and what it holds is of memory; a directory
 /// serves the first TID, and no line is owned or marked; and the vendor's next TID is 1.
@@ -14,7 +15,7 @@ pub fn nodes_start_in_bounds()
 /// at most as many instructions as the core had events, its TID is from 1 on and below 2^62, and its cache, its spilled words and the
 /// line that it awaits are of memory; a directory's owners are cores of the machine, and its marked lines are at home there; and the
 /// vendor's next TID is one more than its events. Each message that the event sends is one that its link carries. There is a
-/// directory, the program's accesses lie in memory, and the node had fewer than 4194304 events.
+/// directory, the program's accesses lie in memory, and the node had fewer events than a run may have.
 pub fn nodes_stay_in_bounds()
     ensures stays { NodesStayInBounds }
 {}

@@ -4,6 +4,7 @@ use Rattle.std.proofs.Common.{arith}
 use Rattle.std.proofs.lemmas.Nat.{mul-le}
 use Rattle.image_load.specs.Start.{Start}
 use Rattle.rv_code.specs.Machine.{program}
+use Rattle.tcc_base.specs.Limits.{run_limit}
 use Rattle.tcc_base.specs.Settings.{IsAllowed}
 use Rattle.rules_program.specs.Program.{Local, Program}
 use Rattle.rules_maps.specs.Nodes.{Node, Event}
@@ -31,8 +32,8 @@ granted_most sh es h t b w = omega (arith, b.next_most, w.1)
 
 -- after as many events as a schedule may have, 2 ^ 22, in the largest memory, a link is shorter than 2 ^ 43
 pub link_short : (sh : Shape) (es : List Event) (h : History) (src dst : Node) → IsAllowed sh → IsBounded sh es h
-    → length es ≤ 4194304 → length (h.world.net src dst) < 2 ^ 43
+    → length es ≤ run_limit → length (h.world.net src dst) < 2 ^ 43
 link_short sh es h src dst k b i =
     let (cores, dirs, sets, ways, ram, base) = k in
     let r = ram.1 in
-    omega (arith, b.links src dst, mul-le (length es) (most_sent sh) 4194304 1048578 i (omega (arith, r)))
+    omega (arith, b.links src dst, mul-le (length es) (most_sent sh) run_limit 1048578 i (omega (arith, r)))

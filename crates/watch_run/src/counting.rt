@@ -9,6 +9,7 @@ ghost use Rattle.watch.specs.Plain.{fact_of};
 ghost use Rattle.watch_count.specs.Counts.{event_counted, run_counted};
 ghost use Rattle.watch_run.specs.Going.{Took, Went};
 ghost use Rattle.watch_run.specs.Looked.{IsCounted, run_facts};
+ghost use Rattle.tcc_base.specs.Limits.{run_limit};
 
 use crate::events::{Events, settings_are_allowed};
 use image_load::Loaded;
@@ -42,7 +43,7 @@ fn count_event(
     facts: &mut List<Fact>,
     counts: &mut Counts,
 ) -> Result<(), NoMemory>
-    requires few { system.old.events < 4194304 }
+    requires few { system.old.events < run_limit }
     ensures took { OnOk result (Took system.old system.new (event_of e)) }
     ensures counted { OnOk result (counts.new ≡ event_counted (plain_actor (event_of e))
         (happened (settings_of system.old) (program_of system.old) (history_of system.old) (event_of e)) counts.old) }
@@ -63,7 +64,7 @@ fn count_events<E: Events>(
     most: u32,
     counts: &mut Counts,
 ) -> Result<(), NoMemory>
-    requires few { system.old.events + most ≤ 4194304 }
+    requires few { system.old.events + most ≤ run_limit }
     requires settled { system.old.unsent ≡ [] }
     requires enough { length (E.coming events.old (start_of system.old) (world_of system.old)) ≤ most }
     ensures went { OnOk result (Went system.old system.new (E.coming events.old (start_of system.old) (world_of system.old))) }
@@ -88,7 +89,7 @@ pub fn count<E: Events>(
     events: &mut E,
     most: u32,
 ) -> Result<Counted, NoMemory>
-    requires few { most ≤ 4194304 }
+    requires few { most ≤ run_limit }
     requires enough { length (E.coming events.old (started loaded.now) (world_at_start (started loaded.now))) ≤ most }
     ensures { IfOk result (λ c. IsCounted (started loaded.now)
         (E.coming events.old (started loaded.now) (world_at_start (started loaded.now))) c.done c.events c.counts) }

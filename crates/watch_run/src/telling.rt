@@ -9,6 +9,7 @@ ghost use Rattle.watch_changes.specs.Text.{added, shows};
 ghost use Rattle.watch_changes.specs.Plain.{IsInside};
 ghost use Rattle.watch_run.specs.Going.{Took};
 ghost use Rattle.watch_run.specs.Telling.{IsLook, IsTold};
+ghost use Rattle.tcc_base.specs.Limits.{run_limit};
 
 use net_core::System;
 use std::alloc::{AllocError, Global};
@@ -30,7 +31,7 @@ pub struct Shown {
 
 /// Takes an event, and leaves in `facts` what it did.
 fn take(system: &mut System, e: Event, facts: &mut List<Fact>) -> Result<(), NoMemory>
-    requires few { system.old.events < 4194304 }
+    requires few { system.old.events < run_limit }
     ensures took { OnOk result (Took system.old system.new (event_of e)) }
     ensures facts { OnOk result (map fact_of facts.new
         ≡ happened (settings_of system.old) (program_of system.old) (history_of system.old) (event_of e)) }
@@ -139,7 +140,7 @@ fn shown_event(
     facts: &mut List<Fact>,
     text: &mut String,
 ) -> Result<(), NoMemory>
-    requires few { system.old.events < 4194304 }
+    requires few { system.old.events < run_limit }
     ensures took { OnOk result (Took system.old system.new (event_of e)) }
     ensures text { OnOk result (string_bytes text.new ≡ string_bytes text.old
         ++ (event_text (settings_of system.old) (program_of system.old) (history_of system.old) (event_of e)
@@ -161,7 +162,7 @@ pub(crate) fn event(
     facts: &mut List<Fact>,
     text: &mut String,
 ) -> Result<(), NoMemory>
-    requires few { system.old.events < 4194304 }
+    requires few { system.old.events < run_limit }
     ensures took { OnOk result (Took system.old system.new (event_of e)) }
     ensures text { OnOk result (string_bytes text.new ≡ string_bytes text.old
         ++ added (shows shown.states (start_of system.old)) (settings_of system.old) (program_of system.old)

@@ -8,6 +8,7 @@ ghost use Rattle.tcc_world.specs.Faults.{Rose};
 ghost use Rattle.watch_run.specs.Going.{Went};
 ghost use Rattle.watch_run.specs.Telling.{lines_from};
 ghost use Rattle.watch_run.specs.Written.{IsEndCut, IsEnded, IsPut, IsStopped, IsTraceBroken, IsTraced};
+ghost use Rattle.tcc_base.specs.Limits.{run_limit};
 
 use crate::events::{Events, settings_are_allowed};
 use crate::telling::{Shown, begin, event};
@@ -68,7 +69,7 @@ fn trace_events<E: Events, O: Sink>(
     held: &mut String,
     out: &mut O,
 ) -> Result<(), Broken>
-    requires few { system.old.events + most ≤ 4194304 }
+    requires few { system.old.events + most ≤ run_limit }
     requires settled { system.old.unsent ≡ [] }
     requires enough { length (E.coming events.old (start_of system.old) (world_of system.old)) ≤ most }
     ensures went { OnOk result (Went system.old system.new (E.coming events.old (start_of system.old) (world_of system.old))) }
@@ -153,7 +154,7 @@ pub fn trace<E: Events, O: Sink>(
     shown: Shown,
     out: &mut O,
 ) -> Result<bool, Broken>
-    requires few { most ≤ 4194304 }
+    requires few { most ≤ run_limit }
     requires enough { length (E.coming events.old (started loaded.now) (world_at_start (started loaded.now))) ≤ most }
     ensures traced { IfOk result (IsTraced (started loaded.now) shown
         (E.coming events.old (started loaded.now) (world_at_start (started loaded.now))) (O.bytes out.old) (O.bytes out.new)) }

@@ -5,6 +5,7 @@ use Rattle.std.specs.Prelude.{option_map, Result, Ok, Err, OnErr, is_err}
 use Rattle.std.proofs.lemmas.List.{length_push}
 use Rattle.std.proofs.lemmas.List.Elements.{All-push}
 use Rattle.image_load.specs.Contents.{started}
+use Rattle.tcc_base.specs.Limits.{run_limit}
 use Rattle.tcc_base.specs.declared.names.NodeId.{NodeId}
 use Rattle.base_lemmas.proofs.Lemmas.{node_eq-refl}
 use Rattle.rules_maps.specs.Bridge.{node_of}
@@ -33,7 +34,7 @@ use Rattle.apart_node.proofs.Running.Stamps.{last-push, rises-push}
 
 -- why the node can do the event
 pub record MayPerform (mid : NodeData) (e : Event) (m : Option Mail) : Type 0 where
-  pub few : length mid.log < 4194304
+  pub few : length mid.log < run_limit
   pub early : stamp_after (last_stamp mid.log) m ≤ 2 ^ 62
   pub at : at_node e ≡ here mid
   pub names : names_nodes mid.member.code.settings e ≡ true

@@ -4,6 +4,7 @@ use Rattle.std.proofs.Common.{map, Option, Some, None, length-append, refl, ap, 
 use Rattle.std.specs.Prelude.{nat_lt, slice_get, option_map}
 use Rattle.std.proofs.lemmas.List.{length-map}
 use Rattle.std.proofs.lemmas.Option.{slice_get-map}
+use Rattle.tcc_base.specs.Limits.{run_limit}
 use Rattle.base_lemmas.proofs.Lemmas.{get-after}
 use Rattle.image_load.specs.Contents.{started}
 use Rattle.rv_code.specs.Machine.{program}
@@ -65,7 +66,7 @@ waiting-kth n k j x e h = get-after (own_choices n.member (last_stamp n.log)) (a
     e ∙ h
 
 pub possible-waiting : (n : NodeData) (d : Deed) (w : Waiting) → d.waiting ≡ Some w
-    → event_of d.event ≡ Deliver (node_of w.src) (node_of n.member.node) w.letter.number → length n.log < 4194304
+    → event_of d.event ≡ Deliver (node_of w.src) (node_of n.member.node) w.letter.number → length n.log < run_limit
     → IsReady n.room n.member (last_stamp n.log) w → IsPossible n d
 possible-waiting n d w q e f h = record {
   few = f;

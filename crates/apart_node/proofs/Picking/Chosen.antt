@@ -5,6 +5,7 @@ use Rattle.std.specs.Prelude.{nat_lt, slice_get, MatchOption, IsSomeAnd}
 use Rattle.std.specs.List.{filter}
 use Rattle.std.proofs.lemmas.Bool.Decides.{nat_tests}
 use Rattle.std.proofs.lemmas.List.{length-map}
+use Rattle.tcc_base.specs.Limits.{run_limit}
 use Rattle.base_lemmas.proofs.Lemmas.{flat-nothing}
 use Rattle.rules_maps.specs.Bridge.{node_of}
 use Rattle.rules_maps.specs.Nodes.{Node, Deliver}
@@ -76,7 +77,7 @@ module _ (n : NodeData) (own : ℕ) (own_is : own ≡ length (own_events n.membe
   -- one of its own
   pub own-chosen : (pick k : ℕ) (r : Option Deed) → k ≡ pick % draws_from n.room n.member (last_stamp n.log) own → k < own
       → IsSomeAnd r (λ d. (d.waiting ≡ None) × (Some (event_of d.event) ≡ slice_get (own_events n.member) k) × IsPossible n d)
-      → MatchOption r ((useful n ≡ []) ⊎ (length n.log ≡ 4194304)) (IsChoice n pick)
+      → MatchOption r ((useful n ≡ []) ⊎ (length n.log ≡ run_limit)) (IsChoice n pick)
   own-chosen pick k None picked below h = absurd h
   own-chosen pick k (Some d) picked below h =
       let at = own-kth n k (event_of d.event) (own-within k below) h.1 in
@@ -87,7 +88,7 @@ module _ (n : NodeData) (own : ℕ) (own_is : own ≡ length (own_events n.membe
   pub letter-chosen : (pick : ℕ) (w : Waiting) (d : Deed)
       → IsLetterDrawn n.room n.member (last_stamp n.log) own (pick % draws_from n.room n.member (last_stamp n.log) own) w
       → d.waiting ≡ Some w → event_of d.event ≡ Deliver (node_of w.src) (node_of n.member.node) w.letter.number
-      → n.room.own ≡ n.member.node → length n.log < 4194304 → IsChoice n pick d
+      → n.room.own ≡ n.member.node → length n.log < run_limit → IsChoice n pick d
   letter-chosen pick w d drawn q e mine few =
       let o = own-length n.member (last_stamp n.log) time in
       let at = drawn.at in

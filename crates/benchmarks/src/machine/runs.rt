@@ -1,5 +1,6 @@
 // Runs of a workload by picked schedules.
 ghost use Rattle.std.specs.Prelude.{◌+◌, ◌≤◌};
+ghost use Rattle.tcc_base.specs.Limits.{run_limit};
 
 use image_load::{LoadFault, Loaded, load, raw};
 use net_core::System;
@@ -21,7 +22,7 @@ pub struct Task {
     pub times: u64,
     ghost least: { 1 ≤ number },
     ghost most: { number ≤ 2047 },
-    ghost few: { steps ≤ 4194304 },
+    ghost few: { steps ≤ run_limit },
 }
 
 /// How a run ended.
@@ -53,7 +54,7 @@ fn loaded(alloc: Global, task: &Task) -> Result<Loaded, NoMemory> {
 /// The machine takes so many events at most, or fewer where none is useful any more. It keeps no list of them, so that what is timed
 /// is the machine alone.
 fn take(chooser: &mut Chooser, system: &mut System, steps: u32) -> Result<(), NoMemory>
-    requires { system.old.events + steps ≤ 4194304 }
+    requires { system.old.events + steps ≤ run_limit }
 {
     for _ in 0..steps {
         system.settle()?;
@@ -69,7 +70,7 @@ fn take(chooser: &mut Chooser, system: &mut System, steps: u32) -> Result<(), No
 
 /// A run from the start, of so many events at most.
 fn run(alloc: Global, loaded: &Loaded, seed: u64, steps: u32) -> Result<End, NoMemory>
-    requires { steps ≤ 4194304 }
+    requires { steps ≤ run_limit }
 {
     let mut system = System::start(alloc, loaded)?;
     take(&mut Chooser::new(seed), &mut system, steps)?;

@@ -6,6 +6,7 @@ use Rattle.std.specs.Option.{option_map}
 use Rattle.std.proofs.lemmas.Bool.{lt-ltb}
 use Rattle.std.proofs.lemmas.Bool.Decides.{nat_tests}
 use Rattle.image_load.specs.Start.{first_ram}
+use Rattle.tcc_base.specs.Limits.{run_limit}
 use Rattle.tcc_base.specs.Settings.{Settings}
 use Rattle.machine_commits.specs.Rising.{HasNone}
 use Rattle.tcc_base.specs.declared.access.Commit.{Commit}
@@ -230,7 +231,7 @@ marks-stay m n w code dirs flights =
     subst (λ f. AreMarked (settings_of m) (dirs_of (first_ram (start_of n)) n.dirs) f) (sym flights)
     (subst (λ ds. AreMarked (settings_of m) ds m.flights) (sym (same-dirs m n code dirs)) w.marked)
 
-pub move-whole : (m n : Machine) (e : Event) (t : Step) (c : ℕ) (before out : Outgoing) → IsWhole m → m.events < 4194304
+pub move-whole : (m n : Machine) (e : Event) (t : Step) (c : ℕ) (before out : Outgoing) → IsWhole m → m.events < run_limit
     → ActsFrom m n c before out
     → Took m n e t → n.flights ≡ m.flights → IsWhole n
 move-whole m n e t c before out w short a k flights = took-whole m n e t w short k (ap (λ d. d.settings) a.dirs) (ap (λ f. f.cores) flights)
@@ -263,7 +264,7 @@ unnoted-as m n (Some o) c before out a u e = (e ∙ ap (λ x. and_noted x m.comm
 -- ---- executions
 
 -- an attempt is short where few events were taken
-pub short-attempt : (m : Machine) (c : ℕ) → IsWhole m → m.events < 4194304 → (cores_of m.cores c).n < 4194304
+pub short-attempt : (m : Machine) (c : ℕ) → IsWhole m → m.events < run_limit → (cores_of m.cores c).n < run_limit
 unfolding history_of world_of
 short-attempt m c w few =
     let b = (whole-bounded m w).cores c in

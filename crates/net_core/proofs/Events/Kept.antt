@@ -8,6 +8,7 @@ use Rattle.image_load.specs.Start.{first_ram}
 use Rattle.theorem_riscv.specs.Given.{TidsOf, grants_of}
 use Rattle.rules_riscv.specs.Starting.{world_at_start}
 use Rattle.theorem_riscv.proofs.Lemmas.{committed_tids_were_granted_once}
+use Rattle.tcc_base.specs.Limits.{run_limit}
 use Rattle.tcc_base.specs.declared.access.Commit.{Commit}
 use Rattle.base_lemmas.proofs.Lemmas.{node_eq-refl}
 use Rattle.rules_maps.specs.Bridge.{node_of}
@@ -101,8 +102,8 @@ took-by m n e o t s w cs told events code h = record {
 }
 
 -- and the machine is whole
-pub took-whole : (m n : Machine) (e : Event) (t : Step) → IsWhole m → m.events < 4194304 → Took m n e t → n.dirs.settings ≡ m.dirs.settings
-    → n.flights.cores ≡ m.flights.cores → n.flights.dirs ≡ m.flights.dirs
+pub took-whole : (m n : Machine) (e : Event) (t : Step) → IsWhole m → m.events < run_limit → Took m n e t
+    → n.dirs.settings ≡ m.dirs.settings → n.flights.cores ≡ m.flights.cores → n.flights.dirs ≡ m.flights.dirs
     → AreMarked (settings_of m) (dirs_of (first_ram (start_of n)) n.dirs) n.flights → IsWhole n
 took-whole m n e t w short k settings cores dirs marked = record {
   allowed = rw k.code w.allowed;
@@ -152,7 +153,7 @@ stays-whole m n w s =
       flight_cores = ap (λ f. f.cores) s.flights ∙ w.flight_cores ∙ ap (λ c. c.settings.cores) (sym s.code);
       flight_dirs = ap (λ f. f.dirs) s.flights ∙ w.flight_dirs ∙ ap (λ c. c.settings.dirs) (sym s.code);
       reached = reached-same m n w.reached k.history k.events k.code;
-      few = subst (λ x. x ≤ 4194304) (sym k.events) w.few;
+      few = subst (λ x. x ≤ run_limit) (sym k.events) w.few;
       marked = subst (λ c. AreMarked c.settings (dirs_of (first_ram (start_of n)) n.dirs) n.flights) (sym s.code)
           (subst (λ f. AreMarked (settings_of m) (dirs_of (first_ram (start_of n)) n.dirs) f) (sym s.flights)
           (subst (λ ds. AreMarked (settings_of m) ds m.flights) (sym (same-dirs_but m n s)) w.marked));

@@ -6,6 +6,7 @@ use Rattle.std.specs.List.{filter, flat_map}
 use Rattle.std.proofs.lemmas.List.Elements.{filter-append}
 use Rattle.std.proofs.lemmas.List.{length-map, map-append}
 use Rattle.std.proofs.lemmas.Nat.{mul-le}
+use Rattle.tcc_base.specs.Limits.{run_limit}
 use Rattle.base_lemmas.proofs.Lemmas.{and-true, get-front, those-most}
 use Rattle.theorem_bounds.proofs.Lemmas.{link_short}
 use Rattle.rules_maps.specs.Nodes.{Node, Core, Dir, Vendor, Event, Exec, Evict, Deliver, Msg}
@@ -137,7 +138,7 @@ nodes-many f =
 link-most : (m : Machine) → IsWhole m → m.unsent ≡ [] → (src dst : Node) → length (net_of m.flights src dst) ≤ 8796093022208
 unfolding history_of
 link-most m h e src dst =
-    let few : length h.reached.taken ≤ 4194304 = rw h.reached.count h.few in
+    let few : length h.reached.taken ≤ run_limit = rw h.reached.count h.few in
     let short = link_short (settings_of m) h.reached.taken (history_of m) src dst h.allowed (whole-bounded m h) few in
     subst (λ net. length (net src dst) ≤ 8796093022208) (settled-net m e) (weaker (length ((world_of m).net src dst)) short)
   where

@@ -4,6 +4,7 @@ use Rattle.tcc_msg.specs.declared.event.Event.{Event}
 use Rattle.schedule_text.specs.Faults.{IsFirstFault}
 use Rattle.schedule_text.specs.Reading.{event_at}
 use Rattle.std.proofs.lemmas.List.{length_push}
+use Rattle.tcc_base.specs.Limits.{text_limit}
 use Rattle.schedule_text.proofs.FirstLines.{has_event}
 use Rattle.schedule_text.proofs.Texts.{Front, front_more, read_found, read_only, no_last, other_count, more_after}
 use Rattle.schedule_text.proofs.reading.read.Goals as goal
@@ -12,7 +13,8 @@ pub loop-event-preserved : goal.loop-event-preserved
 loop-event-preserved c =
     let past : List Event = c.loop-event.events in
     let event : Event = c.in-Some.event in
-    let next : cond (ltb (length past) 4194304) (event_at c.in-Ok.found.0 c.loop-event.rest.now) None ≡ Some (event, c.in-Some.after.now) =
+    let next : cond (ltb (length past) text_limit) (event_at c.in-Ok.found.0 c.loop-event.rest.now) None
+    ≡ Some (event, c.in-Some.after.now) =
     grind (arith, common_steps) in
     let pushed : c.push.new.self ≡ past ++ event ∷ [] = grind (arith, common_steps) in
     subst (λ (es : List Event). Front c.args.bytes.now c.in-Ok.found.0 es c.in-Some.after.now) (sym pushed)
@@ -22,7 +24,8 @@ pub returns-in_err-push-clause-memory : goal.returns-in_err-push-clause-memory
 returns-in_err-push-clause-memory c =
     let past : List Event = c.loop-event.events in
     let event : Event = c.in-Some.event in
-    let next : cond (ltb (length past) 4194304) (event_at c.in-Ok.found.0 c.loop-event.rest.now) None ≡ Some (event, c.in-Some.after.now) =
+    let next : cond (ltb (length past) text_limit) (event_at c.in-Ok.found.0 c.loop-event.rest.now) None
+    ≡ Some (event, c.in-Some.after.now) =
     grind (arith, common_steps) in
     let rest : List ℕ = c.loop-event.rest.now in
     let front = front_more c.args.bytes.now c.in-Ok.found.0 past rest event c.in-Some.after.now c.loop-event.invariant next in
@@ -32,7 +35,7 @@ returns-in_err-push-clause-memory c =
 
 pub returns-in_default-end-clause-line : goal.returns-in_default-end-clause-line
 returns-in_default-end-clause-line c =
-    let no-event : cond (ltb (length c.loop-event.events) 4194304) (event_at c.in-Ok.found.0 c.loop-event.rest.now) None ≡ None =
+    let no-event : cond (ltb (length c.loop-event.events) text_limit) (event_at c.in-Ok.found.0 c.loop-event.rest.now) None ≡ None =
     grind (arith, common_steps) in
     let line : length c.loop-event.events + 3 ≡ c.len-count.result + 3 = grind (arith, common_steps) in
     subst (λ (k : ℕ). IsFirstFault k c.args.bytes.now) line
@@ -46,7 +49,7 @@ returns-in_default-end-clause-only c = (returns-in_default-end-clause-line c).re
 
 pub returns-then-told-count-clause-line : goal.returns-then-told-count-clause-line
 returns-then-told-count-clause-line c =
-    let no-event : cond (ltb (length c.loop-event.events) 4194304) (event_at c.in-Ok.found.0 c.loop-event.rest.now) None ≡ None =
+    let no-event : cond (ltb (length c.loop-event.events) text_limit) (event_at c.in-Ok.found.0 c.loop-event.rest.now) None ≡ None =
     grind (arith, common_steps) in
     let count : length c.loop-event.events ≡ c.len-count.result = grind (arith, common_steps) in
     let line : length c.loop-event.events + 3 ≡ c.len-count.result + 3 = omega arith in

@@ -2,6 +2,7 @@
 use Rattle.std.proofs.Common.{◌∙◌}
 use Rattle.std.specs.String.{string_bytes}
 use Rattle.std.specs.Prelude.{Some}
+use Rattle.tcc_base.specs.Limits.{run_limit}
 use Rattle.image_load.specs.Contents.{started}
 use Rattle.tcc_cli.proofs.Watched.{counted-so, picked-few, picked-so}
 use Rattle.tcc_cli.specs.Looks.{ArePicked}
@@ -15,7 +16,7 @@ pub returns : goal.returns
 unfolding started
 returns c =
     counted-so (started c.args.loaded.now) c.config.result.now
-    (ArePicked (started c.args.loaded.now) c.args.seed c.args.steps 4194304) _ _ _ _ c.args.csv (Some (c.args.seed, c.args.steps))
+    (ArePicked (started c.args.loaded.now) c.args.seed c.args.steps run_limit) _ _ _ _ c.args.csv (Some (c.args.seed, c.args.steps))
     (λ f. f.done) (λ f. string_bytes f.text) c.tables.result
     (picked-so (started c.args.loaded.now) _ _ c.args.seed _ (c.new-events.ensures.left ∙ c.min-steps_at_most.ensures)
     c.new-events.ensures.chooser)

@@ -1,6 +1,7 @@
 -- The part's event is the member's.
 use Rattle.std.proofs.Common.{◌≡◌, ◌∙◌, ◌+◌, ◌<◌, ap, subst, sym}
 use Rattle.std.specs.Option.{option_map}
+use Rattle.tcc_base.specs.Limits.{run_limit}
 use Rattle.base_lemmas.proofs.Lemmas.{on_err-from}
 use Rattle.tcc_msg.specs.Plain.{event_of, msg_of}
 use Rattle.apart_member.specs.Acting.{Acts, ActsAs, MayDo}
@@ -13,7 +14,7 @@ pub act_part-requires-clause-may : goal.act_part-requires-clause-may
 act_part-requires-clause-may c =
     may-act (member_of c.self.inside) c.deref.result.now (event_of c.args.event) (option_map msg_of c.args.msg) c.deref.ensures
     c.self.invariant (subst (λ m. MayDo m (event_of c.args.event) (option_map msg_of c.args.msg)) (sym c.self.view_is) c.requires.may)
-    (subst (λ m. m.done < 4194304) (sym c.self.view_is) c.requires.few)
+    (subst (λ m. m.done < run_limit) (sym c.self.view_is) c.requires.few)
 
 -- ---- want of memory
 
@@ -45,7 +46,7 @@ invariant_of-self-2 c =
     c.act_part.new.out.list.items
     c.in_ok-consumed.consumed c.self.invariant
     (subst (λ m. MayDo m (event_of c.args.event) (option_map msg_of c.args.msg)) (sym c.self.view_is) c.requires.may)
-    (subst (λ m. m.done < 4194304) (sym c.self.view_is) c.requires.few)
+    (subst (λ m. m.done < run_limit) (sym c.self.view_is) c.requires.few)
     (placed-same (member_of c.self.inside) c.deref.result.now c.act_part.new.self c.deref.ensures c.in_ok-consumed.ensures.placed)
     c.in_ok-consumed.ensures.node (did c)
 
@@ -56,4 +57,4 @@ returns-clause-acted c =
     (acts-are (member_of c.self.inside) _ (event_of c.args.event) (option_map msg_of c.args.msg) c.act_part.new.out.list.items
     c.in_ok-consumed.consumed c.self.invariant
     (subst (λ m. MayDo m (event_of c.args.event) (option_map msg_of c.args.msg)) (sym c.self.view_is) c.requires.may)
-    (subst (λ m. m.done < 4194304) (sym c.self.view_is) c.requires.few) (did c))
+    (subst (λ m. m.done < run_limit) (sym c.self.view_is) c.requires.few) (did c))

@@ -1,5 +1,6 @@
 -- A core commits.
 use Rattle.std.proofs.Common.{◌≡◌, ◌<◌, None, ap, sym, subst, arith}
+use Rattle.tcc_base.specs.Limits.{run_limit}
 use Rattle.core_node.specs.View.{core_of}
 use Rattle.rules_maps.specs.Shape.{lines}
 use Rattle.bus_tcc.proofs.Banks.{acted-unchanged, acted-whole, here, own-config, state-here}
@@ -15,7 +16,7 @@ commit_one-requires c =
     let most = h.whole.allowed.4.1 in
     record {
       small = subst (λ s. lines s < 536870911) (sym own) (omega (arith, most));
-      short = subst (λ x. x < 4194304) (sym (ap (λ x. x.n) (state-here _ _ _ _ h))) c.requires.short;
+      short = subst (λ x. x < run_limit) (sym (ap (λ x. x.n) (state-here _ _ _ _ h))) c.requires.short;
       same = sym own;
       idle = subst (λ s. s.awaited ≡ None) (sym (state-here _ _ _ _ h)) c.requires.idle;
       commits = bank-may c.args.tid.0 _ _ _ _ h c.requires.commits;

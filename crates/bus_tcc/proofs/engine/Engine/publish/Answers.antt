@@ -1,6 +1,7 @@
 -- A core commits.
 use Rattle.std.proofs.Common.{◌+◌, ◌<◌, not, ◌&&◌, refl, ap, sym, ◌∙◌, subst, Err, length, arith}
 use Rattle.std.specs.Prelude.{◌==◌, if◌then◌else◌}
+use Rattle.tcc_base.specs.Limits.{run_limit}
 use Rattle.rules_maps.specs.Words.{any_below}
 use Rattle.rules_bus.specs.Commit.{with_words}
 use Rattle.rules_bus.specs.State.{Exec, Packet, Free}
@@ -100,7 +101,7 @@ insert-requires-clause-new c =
 pub overflow_add-self : goal.overflow_add-self
 overflow_add-self c =
     let m = machine_of c.self.inside in
-    let l = next-fits m c.self.invariant (subst (λ x. x.events < 4194304) (sym c.self.view_is) c.requires.few) in
+    let l = next-fits m c.self.invariant (subst (λ x. x.events < run_limit) (sym c.self.view_is) c.requires.few) in
     omega (arith, l)
 
 abbrev after : (c : goal.After-self-in-Ok-commit-2-1) → BusMachine

@@ -1,5 +1,6 @@
 -- A core executes.
 use Rattle.std.proofs.Common.{ap, sym, subst}
+use Rattle.tcc_base.specs.Limits.{run_limit}
 use Rattle.tcc_base.specs.Settings.{IsAllowed}
 use Rattle.core_node.specs.Answers.{IsBlocked}
 use Rattle.std.specs.Prelude.{◌<◌, IfOk}
@@ -13,7 +14,7 @@ unfolding core_of
 exec-done-requires-clause-short c =
     let h = here _ c.self.inside _ c.args.core.0 _ c.self-inside.view_is c.self.invariant c.self.view_is c.requires.exists
     c.index_mut.ensures.value in
-    subst (λ x. x < 4194304) (sym (ap (λ x. x.n) (state-here _ _ _ _ h))) c.requires.short
+    subst (λ x. x < run_limit) (sym (ap (λ x. x.n) (state-here _ _ _ _ h))) c.requires.short
 
 pub exec-done-requires-clause-same : goal.exec-done-requires-clause-same
 exec-done-requires-clause-same c =

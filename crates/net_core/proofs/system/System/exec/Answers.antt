@@ -1,5 +1,6 @@
 -- A core executes.
 use Rattle.std.proofs.Common.{◌≡◌, ◌∙◌, ◌≤◌, ◌<◌, ap, refl, sym, subst, arith, Err, ℕ, Option}
+use Rattle.tcc_base.specs.Limits.{run_limit}
 use Rattle.tcc_base.specs.Settings.{Settings}
 use Rattle.rules_maps.specs.Nodes.{Exec}
 use Rattle.rules_tcc.specs.Attempt.{Out}
@@ -33,7 +34,7 @@ returns-then-core-cores c = (
 pub exec-requires-clause-short : goal.exec-requires-clause-short
 exec-requires-clause-short c =
     short-attempt (machine_of c.self.inside) c.args.core.0 c.self.invariant
-    (subst (λ m. m.events < 4194304) (sym c.self.view_is) c.requires.few)
+    (subst (λ m. m.events < run_limit) (sym c.self.view_is) c.requires.few)
 
 -- ---- a refusal
 
@@ -113,7 +114,7 @@ took-commit c =
 pub invariant_of-self-in-Committed : goal.invariant_of-self-in-Committed
 invariant_of-self-in-Committed c =
     move-whole (machine_of c.self.inside) _ (Exec c.args.core.0) (step_told.Committed c.in-Committed.commit.tid) c.args.core.0
-    c.clear.new.self c.exec.new.out c.self.invariant (subst (λ m. m.events < 4194304) (sym c.self.view_is) c.requires.few)
+    c.clear.new.self c.exec.new.out c.self.invariant (subst (λ m. m.events < run_limit) (sym c.self.view_is) c.requires.few)
     (committed c) (took-commit c) refl
 
 pub returns-in-Committed : goal.returns-in-Committed
@@ -153,7 +154,7 @@ took c =
 pub invariant_of-self-in-Stepped : goal.invariant_of-self-in-Stepped
 invariant_of-self-in-Stepped c =
     move-whole (machine_of c.self.inside) _ (Exec c.args.core.0) step_told.Moved c.args.core.0
-    c.clear.new.self c.exec.new.out c.self.invariant (subst (λ m. m.events < 4194304) (sym c.self.view_is) c.requires.few)
+    c.clear.new.self c.exec.new.out c.self.invariant (subst (λ m. m.events < run_limit) (sym c.self.view_is) c.requires.few)
     (acts c) (took c) refl
 
 pub returns-in-Stepped : goal.returns-in-Stepped
