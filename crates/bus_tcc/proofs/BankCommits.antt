@@ -15,7 +15,7 @@ use Rattle.bus_tcc.specs.Committing.{CanCommit, IsCommitOf}
 use Rattle.bus_tcc.specs.Ending.{CommitsBy, at_commit}
 use Rattle.bus_tcc.specs.BankInside.{bank_of}
 use Rattle.bus_tcc.specs.declared.bank.BusBank.TheInside.{Inside}
-use Rattle.bus_tcc.specs.declared.committing.Written.{Written}
+use Rattle.bus_tcc.specs.declared.commit.Written.{Written}
 use Rattle.bus_tcc.proofs.Banks.{IsCoreOf, config-here, cores-acted, id-here, state-here, with_core}
 
 -- the program that a bank's cores run

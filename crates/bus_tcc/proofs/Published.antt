@@ -31,7 +31,7 @@ use Rattle.bus_tcc.specs.Left.{all_but}
 use Rattle.bus_tcc.specs.Machine.{BusMachine, bus_of, bus_program_of, bus_history_of, bus_settings_of, bus_world_of, is_free, word_in}
 use Rattle.bus_tcc.specs.Packets.{lines_on}
 use Rattle.bus_tcc.specs.Whole.{AreBefore, IsBusWhole}
-use Rattle.bus_tcc.specs.declared.committing.Written.{Written}
+use Rattle.bus_tcc.specs.declared.commit.Written.{Written}
 use Rattle.bus_tcc.specs.declared.event.BusError.TheVariants.{Refused, Memory}
 use Rattle.bus_tcc.specs.declared.event.BusStep.TheVariants.{Committed}
 use Rattle.bus_tcc.proofs.Bounds.{bounded, core-bounded}

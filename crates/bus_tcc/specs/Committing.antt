@@ -7,7 +7,7 @@ use Rattle.rules_bus.specs.Commit.{commit_out, wrote_some, written_words}
 use Rattle.core_node.specs.AtHand.{words_in}
 use Rattle.bus_tcc.specs.Packets.{AreInOrder}
 use Rattle.bus_tcc.specs.Storing.{AreInside}
-use Rattle.bus_tcc.specs.declared.committing.Written.{Written}
+use Rattle.bus_tcc.specs.declared.commit.Written.{Written}
 
 -- a core whose attempt can go to memory: no word is dirty, modified words are valid, and what it wrote is of memory
 pub record CanCommit (sh : Shape) (s : CoreState) : Type 0 where

@@ -19,9 +19,9 @@ ghost use Rattle.core_node.specs.AtHand.{ends_by, executes, goes_alone};
 ghost use Rattle.rules_tcc.specs.CoreExec.{core_exec};
 ghost use Rattle.rv_code.specs.Machine.{program};
 
-use crate::committing::{Written, commit_one};
-use crate::executing::execute_one;
-use crate::taking::take_lines;
+use crate::commit::{Written, commit_one};
+use crate::exec::execute_one;
+use crate::take::take_lines;
 use commit_engine::Phase;
 use core_node::{CoreError, CoreNode};
 use machine_cores::start_cores;

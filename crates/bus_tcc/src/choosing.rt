@@ -10,8 +10,8 @@ ghost use Rattle.bus_tcc.specs.Whole.{IsBusWhole};
 use crate::counts::Counts;
 use crate::engine::Engine;
 use crate::event::BusEvent;
-use crate::stepping::has_way;
-use crate::uses::way_at;
+use crate::step::has_way;
+use crate::useful::way_at;
 use tcc_base::CoreId;
 
 impl Engine {

@@ -6,7 +6,7 @@ ghost use Rattle.machine_cores.specs.Bank.{cores_of};
 ghost use Rattle.bus_tcc.specs.Uses.{AreCounted, HavePlaces, exec_count as count_of, may_exec as may, way_count as ways_of};
 
 use crate::bank::BusBank;
-use crate::uses::uses;
+use crate::useful::uses;
 use base_sums::SumTree;
 use std::alloc::Global;
 use tcc_base::{CoreId, NoMemory};

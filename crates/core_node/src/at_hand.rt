@@ -27,8 +27,7 @@ ghost use Rattle.tcc_base.specs.Limits.{attempt_limit};
 
 use crate::changing::{finish_buffered, new_word, reads_too};
 use crate::delivering::{CoreError, make_room};
-use crate::exec::exec;
-use crate::executing::word_at as word_in_ram;
+use crate::exec::{exec, word_at as word_in_ram};
 use crate::finishing::finish;
 use crate::missing::place;
 use crate::state::Core;

@@ -9,7 +9,6 @@ mod committing;
 mod delivering;
 mod evicting;
 mod exec;
-mod executing;
 mod finishing;
 mod granting;
 mod loading;

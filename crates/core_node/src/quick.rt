@@ -22,7 +22,7 @@ ghost use Rattle.core_node.specs.Executing.{AtOnce, IsAligned, asks};
 ghost use Rattle.core_node.specs.View.{core_of, IsCore, Stays};
 
 use crate::changing::new_word;
-use crate::executing::word_at;
+use crate::exec::word_at;
 use crate::finishing::advance;
 use crate::state::Core;
 use crate::storing::{line_of_word, runs};

@@ -15,7 +15,7 @@ use Rattle.bus_tcc.specs.Ending.{at_commit}
 use Rattle.bus_tcc.specs.Inside.{machine_of}
 use Rattle.bus_tcc.specs.Left.{all_but}
 use Rattle.bus_tcc.specs.Machine.{BusMachine, bus_program_of, bus_settings_of, word_in}
-use Rattle.bus_tcc.specs.declared.committing.Written.{Written}
+use Rattle.bus_tcc.specs.declared.commit.Written.{Written}
 use Rattle.bus_tcc.specs.declared.event.BusError.TheVariants.{Memory}
 use Rattle.bus_tcc.specs.declared.event.BusStep.TheVariants.{Committed}
 use Rattle.bus_tcc.proofs.Bounds.{core-bounded, short-attempt}
