@@ -17,7 +17,7 @@ use Rattle.rules_tcc.specs.State.{CoreState, Phase, Running, AwaitTid, DoomedTid
 use Rattle.rules_tcc.specs.Useful.{room}
 use Rattle.machine_cores.specs.Bank.{cores_of}
 use Rattle.core_node.specs.AtHand.{goes_alone}
-use Rattle.core_node.specs.Executing.{overflows}
+use Rattle.commit_engine.specs.Engine.{overflows}
 use Rattle.rules_bus.specs.Commit.{BusStepped}
 use Rattle.rules_bus.specs.Exec.{bus_exec, exec_alone, executed, goes_on, when_free}
 use Rattle.rules_bus.specs.State.{Bus, BusWorld, Exec, Evict, Take, Free, Alone, Packet}

@@ -22,7 +22,7 @@ use Rattle.core_node.proofs.Lemmas.{alone-with}
 use Rattle.core_node.specs.Answers.{IsBlocked}
 use Rattle.core_node.specs.AtHand.{Leaves, executes, filling, goes_alone, is_whole, line_at, lined, need_fills, ready, with_line}
 use Rattle.core_node.specs.AtHand.{word_fills}
-use Rattle.core_node.specs.Executing.{overflows}
+use Rattle.commit_engine.specs.Engine.{overflows}
 use Rattle.rules_bus.specs.Commit.{BusStepped}
 use Rattle.rules_bus.specs.Exec.{executed, goes_on, gone_alone, instruction, line_at_hand, line_words, core_changed, when_free}
 use Rattle.rules_bus.specs.Exec.{with_line_of, word_read}

@@ -3,7 +3,7 @@ use Rattle.std.specs.Prelude.{ℕ, ◌≡◌, Bool, Option, Some, None, if◌the
 use Rattle.tcc_base.specs.Put.{put}
 use Rattle.rules_tcc.specs.Attempt.{Out}
 use Rattle.rules_tcc.specs.State.{CoreState}
-use Rattle.core_node.specs.Executing.{overflows}
+use Rattle.commit_engine.specs.Engine.{overflows}
 use Rattle.machine_cores.specs.Bank.{CoresData, cores_of}
 use Rattle.rules_bus.specs.Exec.{gone_alone}
 

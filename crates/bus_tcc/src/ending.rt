@@ -3,35 +3,16 @@ ghost use Rattle.std.specs.Prelude.{◌≡◌, ◌<◌, true, None, Some, IfOk, 
 ghost use Rattle.image_load.specs.Contents.{started};
 ghost use Rattle.rv_code.specs.Machine.{program};
 ghost use Rattle.rules_bus.specs.Commit.{commit_out};
-ghost use Rattle.commit_engine.specs.Engine.{phase_of};
 ghost use Rattle.core_node.specs.Answers.{IsMemory};
 ghost use Rattle.core_node.specs.View.{core_of};
 ghost use Rattle.rules_tcc.specs.Attempt.{is_solo};
 ghost use Rattle.bus_tcc.specs.Ending.{CommitsBy, at_commit};
 ghost use Rattle.tcc_base.specs.Limits.{run_limit};
 
-use commit_engine::Phase;
 use core_node::{CoreError, CoreNode, Executed};
 use rv_code::Code;
 use tcc_base::{Commit, Tid};
 use tcc_msg::Outgoing;
-
-/// Whether a core is alone.
-pub(crate) fn is_alone(phase: Phase) -> bool
-    ensures { result ≡ is_solo (phase_of phase) }
-{
-    match phase {
-        Phase::Solo(_) => true,
-        Phase::Running => false,
-        Phase::AwaitTid => false,
-        Phase::DoomedTid => false,
-        Phase::Probing(_) => false,
-        Phase::Ready(_) => false,
-        Phase::Overflowing(None) => false,
-        Phase::Overflowing(Some(_)) => false,
-        Phase::Halted => false,
-    }
-}
 
 /// A core that is alone executes the instruction that ends its transaction, and so commits it. After want of memory the core is as
 /// before.
@@ -88,7 +69,7 @@ pub(crate) fn end(
     ensures id { core.new.id ≡ core.old.id }
     ensures unchanged { OnErr result (core_of core.new ≡ core_of core.old) }
 {
-    if is_alone(core.phase()) {
+    if core.phase().is_alone() {
         execute_end(core, code, tid, out)
     } else {
         core.commit(tid, out)

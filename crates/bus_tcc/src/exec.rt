@@ -10,9 +10,8 @@ ghost use Rattle.bus_tcc.specs.Packets.{lines_on};
 ghost use Rattle.tcc_base.specs.Limits.{run_limit};
 ghost use Rattle.image_load.specs.Contents.{started};
 ghost use Rattle.rv_code.specs.Machine.{program};
-ghost use Rattle.commit_engine.specs.Engine.{phase_of};
+ghost use Rattle.commit_engine.specs.Engine.{overflows};
 ghost use Rattle.core_node.specs.Answers.{IsBlocked};
-ghost use Rattle.core_node.specs.Executing.{overflows};
 ghost use Rattle.core_node.specs.View.{core_of};
 ghost use Rattle.bus_tcc.specs.Bank.{Executed, gone_if};
 
@@ -21,28 +20,10 @@ use crate::engine::Engine;
 use crate::event::{BusError, BusStep};
 use crate::readers::words_of;
 use crate::step::refusal;
-use commit_engine::Phase;
 use core_node::{CoreError, CoreNode};
 use rv_code::Code;
 use tcc_base::{CoreId, Tid};
 use tcc_msg::Outgoing;
-
-/// Whether a core waits to go on alone.
-fn waits(phase: Phase) -> bool
-    ensures { result ≡ overflows (phase_of phase) }
-{
-    match phase {
-        Phase::Overflowing(None) => true,
-        Phase::Overflowing(Some(_)) => true,
-        Phase::Running => false,
-        Phase::AwaitTid => false,
-        Phase::DoomedTid => false,
-        Phase::Probing(_) => false,
-        Phase::Ready(_) => false,
-        Phase::Solo(_) => false,
-        Phase::Halted => false,
-    }
-}
 
 /// A core that waits to go on alone is alone by this TID then. Says whether it is.
 fn go_alone_if_waiting(core: &mut CoreNode, tid: Tid) -> bool
@@ -51,7 +32,7 @@ fn go_alone_if_waiting(core: &mut CoreNode, tid: Tid) -> bool
     ensures config { core.new.config ≡ core.old.config }
     ensures id { core.new.id ≡ core.old.id }
 {
-    let alone = waits(core.phase());
+    let alone = core.phase().is_overflowing();
     if alone {
         core.go_alone(tid);
     }

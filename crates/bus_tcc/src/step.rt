@@ -8,7 +8,6 @@ ghost use Rattle.bus_tcc.specs.Machine.{bus_event_of, bus_settings_of, bus_world
 ghost use Rattle.tcc_base.specs.Limits.{run_limit};
 ghost use Rattle.rules_bus.specs.Step.{bus_next};
 
-use crate::ending::is_alone;
 use crate::engine::Engine;
 use crate::event::{BusError, BusEvent, BusStep};
 use core_node::CoreError;
@@ -74,7 +73,7 @@ impl Engine {
         if core.0 >= self.config().cores() {
             return Err(BusError::Refused);
         }
-        if is_alone(self.cores.core(core).phase()) {
+        if self.cores.core(core).phase().is_alone() {
             self.exec_alone(core)
         } else {
             self.exec_together(core)

@@ -10,7 +10,7 @@ use Rattle.rules_tcc.specs.CoreExec.{core_exec}
 use Rattle.rules_tcc.specs.Execute.{execute}
 use Rattle.rules_tcc.specs.State.{CoreState, Phase, Running, AwaitTid, DoomedTid, Probing, Ready, Overflowing, Solo, Halted}
 use Rattle.core_node.specs.AtHand.{executes, goes_alone, lined, need_fills, need_overflows, ready, with_line, word_overflows}
-use Rattle.core_node.specs.Executing.{overflows}
+use Rattle.commit_engine.specs.Engine.{overflows}
 use Rattle.core_node.proofs.Lined.{exec-executes, fills-some, lined-awaited, lined-local, lined-phase, lined-value, need-fills-so, Fills}
 use Rattle.core_node.proofs.Overflows.{need-alone}
 

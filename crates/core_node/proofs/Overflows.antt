@@ -18,11 +18,10 @@ use Rattle.rules_program.specs.Plain.{Outcome, Goes, Ended, Halted as HaltedWith
 use Rattle.rules_tcc.specs.Commit.{commit, committed_core, phase_after_commit, solo_commit}
 use Rattle.rules_tcc.specs.CoreExec.{exec_in_phase, unless_awaiting}
 use Rattle.rules_tcc.specs.State.{CoreState, Awaited, Phase, Running, AwaitTid, DoomedTid, Probing, Ready, Overflowing, Solo, Halted}
-use Rattle.commit_engine.specs.Engine.{phase_of}
+use Rattle.commit_engine.specs.Engine.{phase_of, overflows}
 use Rattle.commit_engine.specs.declared.phase.Phase.{Phase as CodePhase}
 use Rattle.commit_engine.specs.declared.phase.Phase.TheVariants as code
 use Rattle.core_node.specs.AtHand.{goes_alone, line_overflows, need_overflows, store_overflows, word_overflows}
-use Rattle.core_node.specs.Executing.{overflows}
 use Rattle.core_node.specs.Waiting.{is_full}
 use Rattle.core_node.proofs.Finished.{phase-finished}
 

@@ -16,7 +16,7 @@ use Rattle.rules_tcc.specs.Attempt.{Out, finished, is_running, is_solo, new_word
 use Rattle.rules_tcc.specs.Execute.{marks_read, stored_in_buffer, stored_in_frame}
 use Rattle.rules_tcc.specs.State.{CoreState, Phase}
 use Rattle.commit_engine.specs.Solo.{solo_list}
-use Rattle.core_node.specs.Executing.{overflows}
+use Rattle.commit_engine.specs.Engine.{overflows}
 
 -- the words of a line of a memory
 abbrev pub line_at : (ram : List ℕ) → (line : ℕ) → List ℕ

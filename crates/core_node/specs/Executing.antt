@@ -9,7 +9,8 @@ use Rattle.tcc_msg.specs.declared.outgoing.Outgoing.{Outgoing}
 use Rattle.rules_program.specs.Program.{Local, Need, Loads, Stores, Changes, Prints, Ends, Halts, Traps}
 use Rattle.rules_program.specs.Plain.{Outcome, load_of, store_of}
 use Rattle.rules_program.specs.Ram.{part}
-use Rattle.rules_tcc.specs.State.{CoreState, Phase, Overflowing}
+use Rattle.commit_engine.specs.Engine.{overflows}
+use Rattle.rules_tcc.specs.State.{CoreState}
 use Rattle.rules_tcc.specs.Attempt.{Out, moves}
 use Rattle.rules_tcc.specs.Sends.{nothing}
 use Rattle.core_node.specs.View.{Did}
@@ -63,10 +64,6 @@ unfoldable pub concluded : Local → Outcome → CoreState → CoreState
 concluded l o s = record s { n = s.n + 1; local = l; ended = o }
 
 -- a line, or a TID to go on alone, is awaited
-abbrev pub overflows : Phase → Bool
-overflows (Overflowing t) = true
-overflows _ = false
-
 abbrev pub asks : CoreState → Bool
 asks s = overflows s.phase || is_some s.awaited
 

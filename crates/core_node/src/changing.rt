@@ -22,7 +22,7 @@ use crate::delivering::CoreError;
 use crate::finishing::{advance, finish, given, note, take_back};
 use crate::missing::{fetch, place};
 use crate::state::Core;
-use crate::storing::{line_of_word, runs, store_buffered, store_framed};
+use crate::storing::{line_of_word, store_buffered, store_framed};
 use rv_decode::Inst;
 use rv_exec::{Need, amo_value, read_part, replace_part};
 use spec_cache::Look;
@@ -194,7 +194,7 @@ pub(crate) fn word_store(
 pub(crate) fn reads_too(core: &Core, w: WordAddr) -> bool
     ensures { result ≡ marks_read w.0 (core_of core.now) }
 {
-    runs(core.phase) && !core.cache.is_modified(w)
+    core.phase.is_running() && !core.cache.is_modified(w)
 }
 
 /// An instruction that changes its word, of which no value is spilled and which has this one in its frame.

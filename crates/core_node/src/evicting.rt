@@ -2,19 +2,16 @@
 ghost use Rattle.std.specs.Prelude.{◌≡◌, ◌<◌, ◌||◌, ◌&&◌, ℕ, not, is_some, true, Some, IfSome, OnOk, OnErr};
 ghost use Rattle.rules_maps.specs.CacheChange.{evicted};
 ghost use Rattle.rules_maps.specs.Spilled.{spill_line};
-ghost use Rattle.rules_tcc.specs.Attempt.{is_solo};
 ghost use Rattle.rules_tcc.specs.CoreEvict.{core_evict, is_awaited};
 ghost use Rattle.rules_tcc.specs.Sends.{write_back_line};
 ghost use Rattle.spec_cache.specs.Held.{maps};
 ghost use Rattle.overflow_buf.specs.Kept.{spilled};
-ghost use Rattle.commit_engine.specs.Engine.{phase_of};
 ghost use Rattle.commit_engine.specs.Sent.{HasRoom, Sent};
 ghost use Rattle.core_node.specs.View.{core_of, awaited_of, IsCore, Stays};
 ghost use Rattle.core_node.specs.Answers.{Happened, IsBlocked, IsMemory};
 
 use crate::delivering::{CoreError, make_room};
 use crate::state::{Awaited, Core};
-use commit_engine::Phase;
 use rules_maps::maps_fit_together;
 use tcc_base::{LineAddr, NodeId, Tagged};
 use tcc_msg::{Msg, Outgoing};
@@ -26,23 +23,6 @@ fn awaits(awaited: Option<Awaited>, line: LineAddr) -> bool
     match awaited {
         None => false,
         Some(a) => a.line.0 == line.0,
-    }
-}
-
-/// Whether the core is alone.
-pub(crate) fn is_alone(phase: Phase) -> bool
-    ensures { result ≡ is_solo (phase_of phase) }
-{
-    match phase {
-        Phase::Solo(_) => true,
-        Phase::Running => false,
-        Phase::AwaitTid => false,
-        Phase::DoomedTid => false,
-        Phase::Probing(_) => false,
-        Phase::Ready(_) => false,
-        Phase::Overflowing(None) => false,
-        Phase::Overflowing(Some(_)) => false,
-        Phase::Halted => false,
     }
 }
 
@@ -63,7 +43,7 @@ pub(crate) fn can_evict(core: &Core, set: u16, way: u8) -> bool
     match core.cache.way(set, way) {
         None => false,
         Some((line, marked)) => {
-            may_leave(awaits(core.awaited, line), marked, is_alone(core.phase))
+            may_leave(awaits(core.awaited, line), marked, core.phase.is_alone())
         }
     }
 }

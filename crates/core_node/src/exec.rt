@@ -5,9 +5,8 @@ ghost use Rattle.rules_tcc.specs.CoreExec.{core_exec, unless_awaiting};
 ghost use Rattle.rules_tcc.specs.Execute.{execute as execute_rule, store_by_size, execute_need as need_rule};
 ghost use Rattle.image_load.specs.Contents.{started};
 ghost use Rattle.rv_code.specs.Machine.{program};
-ghost use Rattle.commit_engine.specs.Engine.{phase_of};
 ghost use Rattle.core_node.specs.Answers.{Happened, IsBlocked, IsMemory};
-ghost use Rattle.core_node.specs.Executing.{asks, overflows, Notes, Tells, TellsOfEvent, DidSome, GoesOn};
+ghost use Rattle.core_node.specs.Executing.{asks, Notes, Tells, TellsOfEvent, DidSome, GoesOn};
 ghost use Rattle.core_node.specs.View.{awaited_of, core_of, IsCore, Stays};
 ghost use Rattle.tcc_base.specs.Limits.{attempt_limit};
 ghost use Rattle.rules_maps.specs.Shape.{lines};
@@ -291,29 +290,12 @@ fn exec_any(core: &mut Core, code: &Code, out: &mut Outgoing) -> Result<Option<C
     }
 }
 
-/// Whether the core waits for a TID by which it goes on alone.
-fn is_overflowing(phase: Phase) -> bool
-    ensures { result ≡ overflows (phase_of phase) }
-{
-    match phase {
-        Phase::Running => false,
-        Phase::AwaitTid => false,
-        Phase::DoomedTid => false,
-        Phase::Probing(_) => false,
-        Phase::Ready(_) => false,
-        Phase::Overflowing(None) => true,
-        Phase::Overflowing(Some(_)) => true,
-        Phase::Solo(_) => false,
-        Phase::Halted => false,
-    }
-}
-
 /// Whether a line or a TID by which the core goes on alone is awaited.
 #[tactic(auto, unfolding(crate::specs::View::core_of))]
 fn waits(core: &Core) -> bool
     ensures { result ≡ asks (core_of core.now) }
 {
-    is_overflowing(core.phase) || core.awaited.is_some()
+    core.phase.is_overflowing() || core.awaited.is_some()
 }
 
 /// What an execution did that left the core like this, and noted this.

@@ -5,13 +5,11 @@ ghost use Rattle.rules_maps.specs.CacheLook.{reads_masked};
 ghost use Rattle.rules_tcc.specs.CoreDeliver.{fill as fill_rule, data_request as data_request_rule, invalidate as invalidate_rule};
 ghost use Rattle.rules_tcc.specs.CoreDeliver.{may_be_above, staled as staled_by, words_invalidated, if_violated};
 ghost use Rattle.spec_cache.specs.Held.{maps};
-ghost use Rattle.commit_engine.specs.Engine.{phase_of};
 ghost use Rattle.commit_engine.specs.Sent.{HasRoom};
 ghost use Rattle.core_node.specs.View.{core_of, awaited_of, AwaitsFrame, IsCore, Did, Stays};
 
 use crate::rolling::give_up;
 use crate::state::{Awaited, Core};
-use commit_engine::Phase;
 use tcc_base::{LineAddr, Mask, NodeId, Tagged, Tid};
 use tcc_msg::{Msg, Outgoing};
 
@@ -58,23 +56,6 @@ pub(crate) fn flush_of(back: Tagged) -> Msg
         mask: back.mask,
         words,
         tag: back.tag,
-    }
-}
-
-/// Whether the core's TID isn't known, or is above this one.
-pub(crate) fn is_above(tid: Tid, phase: Phase) -> bool
-    ensures { result ≡ may_be_above tid.0 (phase_of phase) }
-{
-    match phase {
-        Phase::Running => true,
-        Phase::AwaitTid => true,
-        Phase::DoomedTid => true,
-        Phase::Probing(own) => tid.0 < own.0,
-        Phase::Ready(own) => tid.0 < own.0,
-        Phase::Overflowing(None) => true,
-        Phase::Overflowing(Some(own)) => tid.0 < own.0,
-        Phase::Solo(own) => tid.0 < own.0,
-        Phase::Halted => true,
     }
 }
 
@@ -135,7 +116,7 @@ pub(crate) fn invalidate(core: &mut Core, line: LineAddr, mask: Mask, tid: Tid, 
     ensures stays { Stays core.old core.new }
 {
     let read = strike(core, line, mask);
-    let above = is_above(tid, core.phase);
+    let above = core.phase.may_be_above(tid);
     answer_violation(core, both(read, above), out);
     let home = NodeId::Dir(core.config.home(line));
     let keeps = core.cache.keeps(line);

@@ -12,7 +12,6 @@ ghost use Rattle.core_node.specs.Executing.{DidSome};
 ghost use Rattle.core_node.specs.View.{core_of, IsCore, Did, Stays};
 
 use crate::delivering::CoreError;
-use crate::evicting::is_alone;
 use crate::state::{Awaited, Core};
 use commit_engine::Phase;
 use spec_cache::Look;
@@ -112,7 +111,7 @@ pub(crate) fn fetch(
             Ok(())
         }
         Look::Overflow(_) => {
-            if is_alone(core.phase) {
+            if core.phase.is_alone() {
                 return Err(CoreError::Blocked);
             }
             overflow(core, out);

@@ -25,7 +25,7 @@ use crate::changing::new_word;
 use crate::exec::word_at;
 use crate::finishing::advance;
 use crate::state::Core;
-use crate::storing::{line_of_word, runs};
+use crate::storing::line_of_word;
 use commit_engine::Phase;
 use rv_code::Code;
 use rv_decode::Inst;
@@ -51,7 +51,7 @@ fn load_quickly(core: &mut Core, inst: &Inst, addr: u32, size: Size, w: WordAddr
     if let Some(_) = core.spilled.get(w) {
         return false;
     }
-    match core.cache.load(w, runs(core.phase)) {
+    match core.cache.load(w, core.phase.is_running()) {
         Look::Hit(word) => {
             let value = read_part(word, addr, size);
             core.loads.items.push_reserved(Load { addr, size, value });
@@ -95,7 +95,7 @@ fn store_quickly(core: &mut Core, inst: &Inst, addr: u32, value: u32, w: WordAdd
 fn marks_too(phase: Phase, cache: &SpecCache, w: WordAddr) -> bool
     ensures { result ≡ (is_running (phase_of phase) && not ((maps cache.now).modified w.0)) }
 {
-    runs(phase) && !cache.is_modified(w)
+    phase.is_running() && !cache.is_modified(w)
 }
 
 /// A store of a part of a word that is valid, likewise.

@@ -6,13 +6,11 @@ ghost use Rattle.rules_tcc.specs.Attempt.{moves, is_running};
 ghost use Rattle.rules_tcc.specs.Execute.{with_read_mark, stored_in_frame, stored_in_buffer};
 ghost use Rattle.rules_tcc.specs.Sends.{flush_line};
 ghost use Rattle.spec_cache.specs.Held.{maps};
-ghost use Rattle.commit_engine.specs.Engine.{phase_of};
 ghost use Rattle.commit_engine.specs.Sent.{HasRoom};
 ghost use Rattle.core_node.specs.View.{core_of, IsCore, Did, Stays};
 
 use crate::messages::flush_of;
 use crate::state::Core;
-use commit_engine::Phase;
 use tcc_base::{LineAddr, NoMemory, NodeId, WordAddr};
 use tcc_msg::Outgoing;
 
@@ -23,23 +21,6 @@ pub(crate) fn line_of_word(w: WordAddr) -> LineAddr
     LineAddr(w.0 / 8)
 }
 
-/// Whether the core executes, and isn't alone.
-pub(crate) fn runs(phase: Phase) -> bool
-    ensures { result ≡ is_running (phase_of phase) }
-{
-    match phase {
-        Phase::Running => true,
-        Phase::AwaitTid => false,
-        Phase::DoomedTid => false,
-        Phase::Probing(_) => false,
-        Phase::Ready(_) => false,
-        Phase::Overflowing(None) => false,
-        Phase::Overflowing(Some(_)) => false,
-        Phase::Solo(_) => false,
-        Phase::Halted => false,
-    }
-}
-
 /// A valid word that is used is marked read, unless it is modified or the core is alone.
 #[tactic(auto, unfolding(crate::specs::View::core_of, rules_tcc::specs::Execute::with_read_mark))]
 pub(crate) fn mark_used(core: &mut Core, w: WordAddr)
@@ -48,7 +29,7 @@ pub(crate) fn mark_used(core: &mut Core, w: WordAddr)
     ensures does { core_of core.new ≡ with_read_mark w.0 (core_of core.old) }
     ensures stays { Stays core.old core.new }
 {
-    core.cache.load(w, runs(core.phase));
+    core.cache.load(w, core.phase.is_running());
 }
 
 /// Stores a word in its line's frame, and read-marks it too where `also` is set. Dirty words of the frame go home first.

@@ -10,7 +10,6 @@ ghost use Rattle.spec_cache.specs.Useful.{line_number, wants_of};
 ghost use Rattle.core_node.specs.Useful.{line_awaited, useful_evicts as useful_pairs, wants_in};
 ghost use Rattle.core_node.specs.View.{awaited_of, core_of, IsCore};
 
-use crate::evicting::is_alone;
 use crate::state::{Awaited, Core};
 use crate::waiting::{may_exec, waits_for_room};
 use rv_code::Code;
@@ -33,7 +32,7 @@ fn wants(core: &Core, waits: Option<u16>) -> Wants
         → wants_of result ≡ wants_in core.now.config p (core_of core.now) }
 {
     Wants {
-        alone: is_alone(core.phase),
+        alone: core.phase.is_alone(),
         awaited: awaited_line(core.awaited),
         room: waits,
     }

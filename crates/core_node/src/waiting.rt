@@ -11,7 +11,6 @@ ghost use Rattle.spec_cache.specs.Look.{look_of};
 ghost use Rattle.core_node.specs.View.{awaited_of, core_of, IsCore};
 ghost use Rattle.core_node.specs.Waiting.{room_after};
 
-use crate::evicting::is_alone;
 use crate::state::Core;
 use commit_engine::Phase;
 use rv_code::Code;
@@ -38,7 +37,7 @@ fn room_at_word(core: &Core, w: WordAddr) -> Option<u16>
 {
     match core.spilled.get(w) {
         Some(_) => None,
-        None => room_of(core.cache.look_load(w), is_alone(core.phase)),
+        None => room_of(core.cache.look_load(w), core.phase.is_alone()),
     }
 }
 
@@ -50,7 +49,7 @@ fn room_at_store(core: &Core, w: WordAddr) -> Option<u16>
     if core.spilled.holds(LineAddr(w.0 / 8)) {
         None
     } else {
-        room_of(core.cache.look_store(w, true), is_alone(core.phase))
+        room_of(core.cache.look_store(w, true), core.phase.is_alone())
     }
 }
 

@@ -15,7 +15,7 @@ returns-clause-does c =
     let k = c.args.core.now in
     let same = c.answer_violation.ensures.stays.config ∙ c.strike-read.ensures.stays.config in
     let v : c.both.result ≡ (reads_masked c.args.line.0 c.args.mask.0 (maps k.cache) && may_be_above c.args.tid.0 (phase_of k.phase)) =
-    c.both.ensures ∙ rw (c.strike-read.ensures.read, c.is_above-above.ensures, c.strike-read.ensures.phase) refl in
+    c.both.ensures ∙ rw (c.strike-read.ensures.read, c.may_be_above-above.ensures, c.strike-read.ensures.phase) refl in
     let done = rw (c.strike-read.ensures.stays.config, v, c.strike-read.ensures.does) at c.answer_violation.ensures.does in
     did_acknowledged k.config c.args.line _ _ _ _ _ _ c.home.result c.keeps-keeps.result done c.hand_out.ensures.sent
     c.hand_out.ensures.room

@@ -16,7 +16,7 @@ returns-clause-does c =
     let k = c.args.core.now in
     let b = is_running (phase_of k.phase) in
     let m : maps c.load.new.self ≡ loaded c.args.w.0 b (maps k.cache) = c.load.ensures.maps
-    ∙ ap (λ (x : Bool). loaded c.args.w.0 x (maps k.cache)) c.runs.ensures in
+    ∙ ap (λ (x : Bool). loaded c.args.w.0 x (maps k.cache)) c.is_running.ensures in
     ap (λ (x : Cache). record (core_of k) { cache = x }) (m ∙ loaded_valid c.args.w.0 b (maps k.cache) c.requires.valid)
     ∙ used_by b c.args.w.0 (core_of k)
 
@@ -27,5 +27,5 @@ returns-clause-stays c =
       config = refl;
       id = refl;
       whole = whole_cache k c.load.new.self c.requires.whole c.load.ensures.config
-          (ap (λ (x : Cache). x.held) c.load.ensures.maps ∙ held-loaded c.args.w.0 c.runs.result (maps k.cache));
+          (ap (λ (x : Cache). x.held) c.load.ensures.maps ∙ held-loaded c.args.w.0 c.is_running.result (maps k.cache));
     }
