@@ -1,5 +1,6 @@
 -- What an execution answers, and what an instruction leaves in an attempt, in the words of the rules.
-use Rattle.std.specs.Prelude.{ℕ, Bool, true, false, ◌||◌, is_some, ◌≡◌, ◌+◌, ◌%◌, [], ◌∷◌, ◌++◌, Option, Some, None}
+use Rattle.std.specs.Prelude.{ℕ, Bool, true, false, ◌||◌, is_some, ◌≡◌, ◌+◌, ◌%◌, [], ◌∷◌, ◌++◌, Option, Some, None, Result}
+use Rattle.std.specs.Prelude.{IfOk, OnOk, OnErr}
 use Rattle.rv_exec.specs.declared.need.Need.{Need as CodeNeed}
 use Rattle.rv_exec.specs.declared.need.Need.TheVariants as code
 use Rattle.tcc_base.specs.Bytes.{bytes_of}
@@ -13,7 +14,9 @@ use Rattle.commit_engine.specs.Engine.{overflows}
 use Rattle.rules_tcc.specs.State.{CoreState}
 use Rattle.rules_tcc.specs.Attempt.{Out, moves}
 use Rattle.rules_tcc.specs.Sends.{nothing}
-use Rattle.core_node.specs.View.{Did}
+use Rattle.core_node.specs.Answers.{Happened, IsBlocked}
+use Rattle.core_node.specs.View.{Did, Stays, core_of}
+use Rattle.core_node.specs.declared.delivering.CoreError.{CoreError}
 use Rattle.core_node.specs.declared.exec.Executed.{Executed}
 use Rattle.core_node.specs.declared.exec.Executed.TheVariants.{Stepped, Asked, Committed}
 use Rattle.core_node.specs.declared.state.Core.{Core}
@@ -82,3 +85,13 @@ TellsOfEvent e (Some o) = Tells e o.core o.commit
 abbrev pub AtOnce : Bool → Option Out → (old new : CoreState) → Type 0
 AtOnce true o old new = o ≡ Some (moves new nothing)
 AtOnce false o old new = new ≡ old
+
+-- What a call answers that tries a rule's event: where the event happened, what the rule says of core, messages and what is noted; blocked
+-- exactly where the rule has none; and after an error the core is as before, and nothing was sent.
+pub record IsExecution (rule : Option Out) (old new : Core) (before out : Outgoing) (r : Result (Option Commit) CoreError) : Type 0 where
+  pub does : OnOk r (Happened rule before new out)
+  pub noted : IfOk r (λ c. Notes c rule)
+  pub blocked : IsBlocked r rule
+  pub stays : Stays old new
+  pub unchanged : OnErr r (core_of new ≡ core_of old)
+  pub unsent : OnErr r (out.list.items ≡ before.list.items)

@@ -14,8 +14,8 @@ ghost use Rattle.rv_exec.specs.Outcomes.{outcome_of};
 ghost use Rattle.commit_engine.specs.Engine.{phase_of};
 ghost use Rattle.commit_engine.specs.Sent.{HasRoom};
 ghost use Rattle.commit_engine.specs.Solo.{solo_list};
-ghost use Rattle.core_node.specs.Answers.{HappenedAs, IsMemory};
-ghost use Rattle.core_node.specs.Executing.{concluded};
+ghost use Rattle.core_node.specs.Answers.{IsMemory};
+ghost use Rattle.core_node.specs.Executing.{IsExecution, concluded};
 ghost use Rattle.core_node.specs.View.{core_of, IsCore, Did, Stays};
 ghost use Rattle.tcc_base.specs.Limits.{attempt_limit};
 
@@ -60,7 +60,7 @@ pub(crate) fn written_marks(core: &Core) -> Result<Vec<(LineAddr, Mask)>, CoreEr
 #[tactic(auto, unfolding(crate::specs::View::core_of, crate::specs::Executing::concluded))]
 fn conclude(core: &mut Core, state: &State, ended: Outcome)
     requires whole { IsCore core.old }
-    requires room { core.old.n < attempt_limit }
+    requires counts { core.old.n < attempt_limit }
     ensures does { core_of core.new ≡ concluded state.now (outcome_of ended) (core_of core.old) }
     ensures others { core.new ≡ record core.old { n = core.new.n; state = core.new.state; ended = core.new.ended } }
     ensures stays { Stays core.old core.new }
@@ -91,17 +91,11 @@ fn close_alone(
     out: &mut Outgoing,
 ) -> Result<Option<Commit>, CoreError>
     requires whole { IsCore core.old }
-    requires room { core.old.n < attempt_limit }
-    ensures does { OnOk result
-        (HappenedAs (end_transaction core.old.config core.old.id.0 (phase_of (Phase.Solo tid))
-        (concluded state.now (outcome_of ended) (core_of core.old))) out.old core.new out.new) }
-    ensures noted { IfOk result
-        (λ c. c ≡ (end_transaction core.old.config core.old.id.0 (phase_of (Phase.Solo tid))
-        (concluded state.now (outcome_of ended) (core_of core.old))).commit) }
-    ensures cause { OnErr result (IsMemory result) }
-    ensures stays { Stays core.old core.new }
-    ensures unchanged { OnErr result (core.new ≡ core.old) }
-    ensures unsent { OnErr result (out.new.list.items ≡ out.old.list.items) }
+    requires counts { core.old.n < attempt_limit }
+    ensures { IsExecution
+        (Some (end_transaction core.old.config core.old.id.0 (phase_of (Phase.Solo tid))
+        (concluded state.now (outcome_of ended) (core_of core.old))))
+        core.old core.new out.old out.new result }
 {
     let marks = written_marks(core)?;
     let most = solo_room(&core.config, &core.cache, &core.spilled, &marks);
@@ -118,15 +112,11 @@ fn close_running(
     out: &mut Outgoing,
 ) -> Result<Option<Commit>, CoreError>
     requires whole { IsCore core.old }
-    requires room { core.old.n < attempt_limit }
-    ensures does { OnOk result
-        (HappenedAs (end_transaction core.old.config core.old.id.0 (phase_of Phase.Running)
-        (concluded state.now (outcome_of ended) (core_of core.old))) out.old core.new out.new) }
-    ensures noted { IfOk result (λ c. c ≡ None) }
-    ensures cause { OnErr result (IsMemory result) }
-    ensures stays { Stays core.old core.new }
-    ensures unchanged { OnErr result (core.new ≡ core.old) }
-    ensures unsent { OnErr result (out.new.list.items ≡ out.old.list.items) }
+    requires counts { core.old.n < attempt_limit }
+    ensures { IsExecution
+        (Some (end_transaction core.old.config core.old.id.0 (phase_of Phase.Running)
+        (concluded state.now (outcome_of ended) (core_of core.old))))
+        core.old core.new out.old out.new result }
 {
     make_room(out, 1)?;
     conclude(core, state, ended);
@@ -143,17 +133,11 @@ pub(crate) fn close(
     out: &mut Outgoing,
 ) -> Result<Option<Commit>, CoreError>
     requires whole { IsCore core.old }
-    requires room { core.old.n < attempt_limit }
-    ensures does { OnOk result
-        (HappenedAs (end_transaction core.old.config core.old.id.0 (phase_of core.old.phase)
-        (concluded state.now (outcome_of ended) (core_of core.old))) out.old core.new out.new) }
-    ensures noted { IfOk result
-        (λ c. c ≡ (end_transaction core.old.config core.old.id.0 (phase_of core.old.phase)
-        (concluded state.now (outcome_of ended) (core_of core.old))).commit) }
-    ensures cause { OnErr result (IsMemory result) }
-    ensures stays { Stays core.old core.new }
-    ensures unchanged { OnErr result (core.new ≡ core.old) }
-    ensures unsent { OnErr result (out.new.list.items ≡ out.old.list.items) }
+    requires counts { core.old.n < attempt_limit }
+    ensures { IsExecution
+        (Some (end_transaction core.old.config core.old.id.0 (phase_of core.old.phase)
+        (concluded state.now (outcome_of ended) (core_of core.old))))
+        core.old core.new out.old out.new result }
 {
     match core.phase {
         Phase::Solo(tid) => close_alone(core, tid, state, ended, out),
@@ -175,17 +159,11 @@ pub(crate) fn end(
     out: &mut Outgoing,
 ) -> Result<Option<Commit>, CoreError>
     requires whole { IsCore core.old }
-    requires room { core.old.n < attempt_limit }
-    ensures does { OnOk result
-        (HappenedAs (end_transaction core.old.config core.old.id.0 (phase_of core.old.phase)
-        (finished (alone inst.now) Ends 0 (core_of core.old))) out.old core.new out.new) }
-    ensures noted { IfOk result
-        (λ c. c ≡ (end_transaction core.old.config core.old.id.0 (phase_of core.old.phase)
-        (finished (alone inst.now) Ends 0 (core_of core.old))).commit) }
-    ensures cause { OnErr result (IsMemory result) }
-    ensures stays { Stays core.old core.new }
-    ensures unchanged { OnErr result (core.new ≡ core.old) }
-    ensures unsent { OnErr result (out.new.list.items ≡ out.old.list.items) }
+    requires counts { core.old.n < attempt_limit }
+    ensures { IsExecution
+        (Some (end_transaction core.old.config core.old.id.0 (phase_of core.old.phase)
+        (finished (alone inst.now) Ends 0 (core_of core.old))))
+        core.old core.new out.old out.new result }
 {
     let mut state = core.state;
     finish_inst(inst, &mut state, None);
@@ -200,17 +178,11 @@ pub(crate) fn stop(
     out: &mut Outgoing,
 ) -> Result<Option<Commit>, CoreError>
     requires whole { IsCore core.old }
-    requires room { core.old.n < attempt_limit }
-    ensures does { OnOk result
-        (HappenedAs (end_transaction core.old.config core.old.id.0 (phase_of core.old.phase)
-        (concluded (unreserved core.old.state) (outcome_of ended) (core_of core.old))) out.old core.new out.new) }
-    ensures noted { IfOk result
-        (λ c. c ≡ (end_transaction core.old.config core.old.id.0 (phase_of core.old.phase)
-        (concluded (unreserved core.old.state) (outcome_of ended) (core_of core.old))).commit) }
-    ensures cause { OnErr result (IsMemory result) }
-    ensures stays { Stays core.old core.new }
-    ensures unchanged { OnErr result (core.new ≡ core.old) }
-    ensures unsent { OnErr result (out.new.list.items ≡ out.old.list.items) }
+    requires counts { core.old.n < attempt_limit }
+    ensures { IsExecution
+        (Some (end_transaction core.old.config core.old.id.0 (phase_of core.old.phase)
+        (concluded (unreserved core.old.state) (outcome_of ended) (core_of core.old))))
+        core.old core.new out.old out.new result }
 {
     let mut state = core.state;
     state.unreserve();

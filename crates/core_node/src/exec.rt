@@ -6,7 +6,7 @@ ghost use Rattle.rules_tcc.specs.Execute.{execute as execute_rule, store_by_size
 ghost use Rattle.image_load.specs.Contents.{started};
 ghost use Rattle.rv_code.specs.Machine.{program};
 ghost use Rattle.core_node.specs.Answers.{Happened, IsBlocked, IsMemory};
-ghost use Rattle.core_node.specs.Executing.{asks, Notes, Tells, TellsOfEvent, DidSome, GoesOn};
+ghost use Rattle.core_node.specs.Executing.{asks, DidSome, GoesOn, IsExecution, Tells, TellsOfEvent};
 ghost use Rattle.core_node.specs.View.{awaited_of, core_of, IsCore, Stays};
 ghost use Rattle.tcc_base.specs.Limits.{attempt_limit};
 ghost use Rattle.rules_maps.specs.Shape.{lines};
@@ -138,14 +138,9 @@ fn proceed(
     requires counts { core.old.n < attempt_limit }
     requires goes_on { GoesOn (need_of need) }
     requires served { IsServed core.old.config.base core.old.config.ram need }
-    ensures does { OnOk result
-        (Happened (need_rule core.old.config (alone inst.now) core.old.id.0 (core_of core.old) (need_of need)) out.old core.new out.new) }
-    ensures noted { IfOk result
-        (λ c. Notes c (need_rule core.old.config (alone inst.now) core.old.id.0 (core_of core.old) (need_of need))) }
-    ensures blocked { IsBlocked result (need_rule core.old.config (alone inst.now) core.old.id.0 (core_of core.old) (need_of need)) }
-    ensures stays { Stays core.old core.new }
-    ensures unchanged { OnErr result (core_of core.new ≡ core_of core.old) }
-    ensures unsent { OnErr result (out.new.list.items ≡ out.old.list.items) }
+    ensures { IsExecution
+        (need_rule core.old.config (alone inst.now) core.old.id.0 (core_of core.old) (need_of need))
+        core.old core.new out.old out.new result }
 {
     let Ok(()) = make_room(out, 1) else {
         return Err(error_of(core, need));
@@ -167,14 +162,9 @@ pub(crate) fn execute_need(
     requires whole { IsCore core.old }
     requires counts { core.old.n < attempt_limit }
     requires served { IsServed core.old.config.base core.old.config.ram need }
-    ensures does { OnOk result
-        (Happened (need_rule core.old.config (alone inst.now) core.old.id.0 (core_of core.old) (need_of need)) out.old core.new out.new) }
-    ensures noted { IfOk result
-        (λ c. Notes c (need_rule core.old.config (alone inst.now) core.old.id.0 (core_of core.old) (need_of need))) }
-    ensures blocked { IsBlocked result (need_rule core.old.config (alone inst.now) core.old.id.0 (core_of core.old) (need_of need)) }
-    ensures stays { Stays core.old core.new }
-    ensures unchanged { OnErr result (core_of core.new ≡ core_of core.old) }
-    ensures unsent { OnErr result (out.new.list.items ≡ out.old.list.items) }
+    ensures { IsExecution
+        (need_rule core.old.config (alone inst.now) core.old.id.0 (core_of core.old) (need_of need))
+        core.old core.new out.old out.new result }
 {
     match need {
         Need::End => end(core, inst, out),
@@ -200,14 +190,9 @@ fn exec_here(core: &mut Core, code: &Code, out: &mut Outgoing) -> Result<Option<
     requires whole { IsCore core.old }
     requires counts { core.old.n < attempt_limit }
     requires same { code.now.settings ≡ core.old.config }
-    ensures does { OnOk result
-        (Happened (execute_rule core.old.config (program (started code.now)) core.old.id.0 (core_of core.old)) out.old core.new out.new) }
-    ensures noted { IfOk result
-        (λ c. Notes c (execute_rule core.old.config (program (started code.now)) core.old.id.0 (core_of core.old))) }
-    ensures blocked { IsBlocked result (execute_rule core.old.config (program (started code.now)) core.old.id.0 (core_of core.old)) }
-    ensures stays { Stays core.old core.new }
-    ensures unchanged { OnErr result (core_of core.new ≡ core_of core.old) }
-    ensures unsent { OnErr result (out.new.list.items ≡ out.old.list.items) }
+    ensures { IsExecution
+        (execute_rule core.old.config (program (started code.now)) core.old.id.0 (core_of core.old))
+        core.old core.new out.old out.new result }
 {
     match code.inst(&core.state) {
         Err(trap) => stop(core, Outcome::Trapped(trap), out),
@@ -227,17 +212,9 @@ fn exec_unless_awaiting(
     requires whole { IsCore core.old }
     requires counts { core.old.n < attempt_limit }
     requires same { code.now.settings ≡ core.old.config }
-    ensures does { OnOk result
-        (Happened (unless_awaiting core.old.config (program (started code.now)) core.old.id.0 (core_of core.old)
-        (awaited_of core.old.awaited)) out.old core.new out.new) }
-    ensures noted { IfOk result
-        (λ c. Notes c (unless_awaiting core.old.config (program (started code.now)) core.old.id.0 (core_of core.old)
-        (awaited_of core.old.awaited))) }
-    ensures blocked { IsBlocked result
-        (unless_awaiting core.old.config (program (started code.now)) core.old.id.0 (core_of core.old) (awaited_of core.old.awaited)) }
-    ensures stays { Stays core.old core.new }
-    ensures unchanged { OnErr result (core_of core.new ≡ core_of core.old) }
-    ensures unsent { OnErr result (out.new.list.items ≡ out.old.list.items) }
+    ensures { IsExecution
+        (unless_awaiting core.old.config (program (started code.now)) core.old.id.0 (core_of core.old) (awaited_of core.old.awaited))
+        core.old core.new out.old out.new result }
 {
     match core.awaited {
         Some(_) => Err(CoreError::Blocked),
@@ -252,13 +229,9 @@ pub(crate) fn commit_ready(
     out: &mut Outgoing,
 ) -> Result<Option<Commit>, CoreError>
     requires whole { IsCore core.old }
-    ensures does { OnOk result
-        (Happened (Some (commit_rule core.old.config core.old.id.0 tid.0 (core_of core.old))) out.old core.new out.new) }
-    ensures noted { IfOk result (λ c. Notes c (Some (commit_rule core.old.config core.old.id.0 tid.0 (core_of core.old)))) }
-    ensures blocked { IsBlocked result (Some (commit_rule core.old.config core.old.id.0 tid.0 (core_of core.old))) }
-    ensures stays { Stays core.old core.new }
-    ensures unchanged { OnErr result (core_of core.new ≡ core_of core.old) }
-    ensures unsent { OnErr result (out.new.list.items ≡ out.old.list.items) }
+    ensures { IsExecution
+        (Some (commit_rule core.old.config core.old.id.0 tid.0 (core_of core.old)))
+        core.old core.new out.old out.new result }
 {
     make_room(out, core.config.dirs() as usize)?;
     Ok(Some(commit(core, tid, out)))
@@ -270,13 +243,9 @@ fn exec_any(core: &mut Core, code: &Code, out: &mut Outgoing) -> Result<Option<C
     requires whole { IsCore core.old }
     requires counts { core.old.n < attempt_limit }
     requires same { code.now.settings ≡ core.old.config }
-    ensures does { OnOk result
-        (Happened (core_exec core.old.config (program (started code.now)) core.old.id.0 (core_of core.old)) out.old core.new out.new) }
-    ensures noted { IfOk result (λ c. Notes c (core_exec core.old.config (program (started code.now)) core.old.id.0 (core_of core.old))) }
-    ensures blocked { IsBlocked result (core_exec core.old.config (program (started code.now)) core.old.id.0 (core_of core.old)) }
-    ensures stays { Stays core.old core.new }
-    ensures unchanged { OnErr result (core_of core.new ≡ core_of core.old) }
-    ensures unsent { OnErr result (out.new.list.items ≡ out.old.list.items) }
+    ensures { IsExecution
+        (core_exec core.old.config (program (started code.now)) core.old.id.0 (core_of core.old))
+        core.old core.new out.old out.new result }
 {
     match core.phase {
         Phase::Running => exec_unless_awaiting(core, code, out),

@@ -35,7 +35,7 @@ pub(crate) fn given(need: Need, word: u32) -> Option<u32>
 #[tactic(auto, unfolding(crate::specs::View::core_of, rules_tcc::specs::Attempt::one_more_instruction))]
 pub(crate) fn advance(core: &mut Core, inst: &Inst, loaded: Option<u32>)
     requires whole { IsCore core.old }
-    requires room { core.old.n < attempt_limit }
+    requires counts { core.old.n < attempt_limit }
     ensures does { core_of core.new ≡ one_more_instruction (alone inst.now) loaded (core_of core.old) }
     ensures phase { core.new.phase ≡ core.old.phase }
     ensures awaited { core.new.awaited ≡ core.old.awaited }
@@ -139,7 +139,7 @@ pub(crate) fn take_back(core: &mut Core, need: Need)
 /// transaction. After want of memory nothing is changed.
 pub(crate) fn finish(core: &mut Core, inst: &Inst, need: Need, word: u32) -> Result<(), NoMemory>
     requires whole { IsCore core.old }
-    requires room { core.old.n < attempt_limit }
+    requires counts { core.old.n < attempt_limit }
     requires goes_on { GoesOn (need_of need) }
     ensures does { OnOk result (core_of core.new ≡ finished (alone inst.now) (need_of need) word (core_of core.old)) }
     ensures stays { Stays core.old core.new }

@@ -3,14 +3,8 @@ use Rattle.core_node.specs.View.{core_of}
 use Rattle.core_node.proofs.Finished.{finished_ends}
 use Rattle.core_node.proofs.closing.end.Goals as goal
 
-pub returns-clause-does : goal.returns-clause-does
+pub returns : goal.returns
 unfolding core_of
-returns-clause-does c =
+returns c =
     let k = c.args.core.now in
-    rw (finished_ends (alone c.args.inst.now) 0 (core_of k), ← c.finish.ensures, ← c.unreserve.ensures) c.close.ensures.does
-
-pub returns-clause-noted : goal.returns-clause-noted
-unfolding core_of
-returns-clause-noted c =
-    let k = c.args.core.now in
-    rw (finished_ends (alone c.args.inst.now) 0 (core_of k), ← c.finish.ensures, ← c.unreserve.ensures) c.close.ensures.noted
+    rw (finished_ends (alone c.args.inst.now) 0 (core_of k), ← c.finish.ensures, ← c.unreserve.ensures) c.close.ensures

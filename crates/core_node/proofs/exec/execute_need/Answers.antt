@@ -3,38 +3,20 @@ use Rattle.core_node.specs.View.{core_of}
 use Rattle.core_node.proofs.Needed.{does_end, does_halt, does_trap}
 use Rattle.core_node.proofs.exec.execute_need.Goals as goal
 
-pub returns-in-End-clause-does : goal.returns-in-End-clause-does
+pub returns-in-End : goal.returns-in-End
 unfolding core_of
-returns-in-End-clause-does c =
+returns-in-End c =
     let k = c.args.core.now in
-    rw (does_end k.config (alone c.args.inst.now) k.id.0 (core_of k) c.args.need c.in-End.is) c.end.ensures.does
+    rw (does_end k.config (alone c.args.inst.now) k.id.0 (core_of k) c.args.need c.in-End.is) c.end.ensures
 
-pub returns-in-End-clause-noted : goal.returns-in-End-clause-noted
+pub returns-in-Halt : goal.returns-in-Halt
 unfolding core_of
-returns-in-End-clause-noted c =
+returns-in-Halt c =
     let k = c.args.core.now in
-    rw (does_end k.config (alone c.args.inst.now) k.id.0 (core_of k) c.args.need c.in-End.is) c.end.ensures.noted
+    rw (does_halt k.config (alone c.args.inst.now) k.id.0 (core_of k) c.args.need c.in-Halt.status c.in-Halt.is) c.stop.ensures
 
-pub returns-in-Halt-clause-does : goal.returns-in-Halt-clause-does
+pub returns-in-Trap : goal.returns-in-Trap
 unfolding core_of
-returns-in-Halt-clause-does c =
+returns-in-Trap c =
     let k = c.args.core.now in
-    rw (does_halt k.config (alone c.args.inst.now) k.id.0 (core_of k) c.args.need c.in-Halt.status c.in-Halt.is) c.stop.ensures.does
-
-pub returns-in-Halt-clause-noted : goal.returns-in-Halt-clause-noted
-unfolding core_of
-returns-in-Halt-clause-noted c =
-    let k = c.args.core.now in
-    rw (does_halt k.config (alone c.args.inst.now) k.id.0 (core_of k) c.args.need c.in-Halt.status c.in-Halt.is) c.stop.ensures.noted
-
-pub returns-in-Trap-clause-does : goal.returns-in-Trap-clause-does
-unfolding core_of
-returns-in-Trap-clause-does c =
-    let k = c.args.core.now in
-    rw (does_trap k.config (alone c.args.inst.now) k.id.0 (core_of k) c.args.need c.in-Trap.cause c.in-Trap.is) c.stop-in-Trap.ensures.does
-
-pub returns-in-Trap-clause-noted : goal.returns-in-Trap-clause-noted
-unfolding core_of
-returns-in-Trap-clause-noted c =
-    let k = c.args.core.now in
-    rw (does_trap k.config (alone c.args.inst.now) k.id.0 (core_of k) c.args.need c.in-Trap.cause c.in-Trap.is) c.stop-in-Trap.ensures.noted
+    rw (does_trap k.config (alone c.args.inst.now) k.id.0 (core_of k) c.args.need c.in-Trap.cause c.in-Trap.is) c.stop-in-Trap.ensures
