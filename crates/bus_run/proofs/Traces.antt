@@ -21,7 +21,8 @@ use Rattle.bus_changes.specs.Text.{bus_all_lines, bus_facts_alone, bus_shown_fro
 use Rattle.bus_changes.specs.Text.{bus_with_records}
 use Rattle.bus_changes.proofs.Lemmas.{plain-events}
 use Rattle.watch_trace.specs.Text.{tail_text}
-use Rattle.text_runs.specs.Pieces.{IsCut, IsEndCut, IsPart, IsStopped, IsTold, Written, window}
+use Rattle.text_runs.specs.Pieces.{IsCut, IsEndCut, IsPart, IsStopped, IsTold, window}
+use Rattle.tcc_world.specs.Page.{Written}
 use Rattle.text_runs.specs.declared.pieces.Broken.{Broken}
 use Rattle.text_runs.specs.declared.pieces.Broken.TheVariants.{Memory, Output}
 use Rattle.text_runs.proofs.Lemmas.{rose-later}
@@ -129,9 +130,9 @@ pub stopped-broken : {Run : Type 0} (run_of : Run → BusRun) (states : Bool) (c
     (held : List ℕ) (k : ℕ) (o : Written) (b : Broken) → Ready states c seed steps from first r held k
     → IsStopped (λ n. Led states r (run_of n)) k held o b → IsBusTraceBroken states (started c) seed steps from o b
 stopped-broken run_of states c seed steps from first r held k o Memory s h =
-    begun-part states c seed steps from first r (run_of h.at) held k h.texts o.before o.after s h.led h.part
+    begun-part states c seed steps from first r (run_of h.at) held k h.texts o.before.bytes o.after.bytes s h.led h.part
 stopped-broken run_of states c seed steps from first r held k o Output s (h, rose) =
-    (inl (begun-part states c seed steps from first r (run_of h.at) held k h.texts o.before o.after s h.led h.part), rose)
+    (inl (begun-part states c seed steps from first r (run_of h.at) held k h.texts o.before.bytes o.after.bytes s h.led h.part), rose)
 
 -- ---- all events came
 
@@ -231,16 +232,16 @@ ended-cut states c seed steps from n now x y z done t k is (j, short, p) =
     }
 
 pub ended-broken : (states : Bool) (c : Contents) (seed steps from : ℕ) (n : BusRun) (now : List ℕ) (x : Option (List ℕ)) (o : Written)
-    (f : ℕ) (done : Bool) (b : Broken) → IsAllTold states c seed steps from n now x o.before → f ≤ o.faults_before
+    (f : ℕ) (done : Bool) (b : Broken) → IsAllTold states c seed steps from n now x o.before.bytes → f ≤ o.before.faults
     → IsBusRefined n.system → IsTrue done ↔ BusIsDone (bus_settings_of n.system) (bus_world_of n.system)
     → IsEndCut now (tail_text done n.system.events) o b
     → IsBusTraceBroken states (started c) seed steps from
-    (record { before = x; after = o.after; faults_before = f; faults_after = o.faults_after }) b
+    (record { before = record { bytes = x; faults = f }; after = o.after }) b
 ended-broken states c seed steps from n now x o f done Memory t l k is h =
-    ended-part states c seed steps from n now x o.before o.after t h
+    ended-part states c seed steps from n now x o.before.bytes o.after.bytes t h
 ended-broken states c seed steps from n now x o f done Output t l k is (inl h, rose) =
-    (inl (ended-part states c seed steps from n now x o.before o.after t h), rose-later f o.faults_before o.faults_after l rose)
+    (inl (ended-part states c seed steps from n now x o.before.bytes o.after.bytes t h), rose-later f o.before.faults o.after.faults l rose)
 ended-broken states c seed steps from n now x o f done Output t l k is (inr h, rose) = (
-  inr (ended-cut states c seed steps from n now x o.before o.after done t k is h),
-  rose-later f o.faults_before o.faults_after l rose,
+  inr (ended-cut states c seed steps from n now x o.before.bytes o.after.bytes done t k is h),
+  rose-later f o.before.faults o.after.faults l rose,
 )

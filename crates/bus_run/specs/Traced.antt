@@ -10,7 +10,8 @@ use Rattle.theorem_bus.specs.Given.{bus_at_start}
 use Rattle.bus_tool.specs.Running.{bus_picked_by}
 use Rattle.bus_trace.specs.Text.{bus_head_text, bus_text_from, bus_trace_text}
 use Rattle.bus_changes.specs.Text.{bus_shown_from, bus_states_text, bus_with_records}
-use Rattle.text_runs.specs.Pieces.{IsCut, IsPart, Written}
+use Rattle.text_runs.specs.Pieces.{IsCut, IsPart}
+use Rattle.tcc_world.specs.Page.{Written}
 use Rattle.text_runs.specs.declared.pieces.Broken.{Broken}
 use Rattle.text_runs.specs.declared.pieces.Broken.TheVariants.{Memory, Output}
 use Rattle.bus_run.specs.Leading.{BusLeadsTo}
@@ -50,7 +51,8 @@ pub record IsBusTraceCut (states : Bool) (s : Start) (seed steps from : ℕ) (be
 
 -- Why a trace broke off, and what was written of it: a first part, with none of the last lines but where the output failed within them.
 abbrev pub IsBusTraceBroken : (states : Bool) → Start → (seed steps from : ℕ) → Written → Broken → Type 0
-IsBusTraceBroken states s seed steps from o Memory = IsPart (bus_lines_by states s seed steps from) o.before o.after
+IsBusTraceBroken states s seed steps from o Memory = IsPart (bus_lines_by states s seed steps from) o.before.bytes o.after.bytes
 IsBusTraceBroken states s seed steps from o Output =
-    (IsPart (bus_lines_by states s seed steps from) o.before o.after ⊎ IsBusTraceCut states s seed steps from o.before o.after)
-    × Rose o.faults_before o.faults_after
+    (IsPart (bus_lines_by states s seed steps from) o.before.bytes o.after.bytes
+    ⊎ IsBusTraceCut states s seed steps from o.before.bytes o.after.bytes)
+    × Rose o.before.faults o.after.faults

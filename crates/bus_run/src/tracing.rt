@@ -29,16 +29,12 @@ fn tell_facts<O: Sink>(
     requires few { run.system.events + run.left ≤ run_limit }
     requires enough { run.left ≤ most }
     ensures told { (c : Contents) (seed steps : ℕ) → Starts c seed steps run → string_bytes held.old ≡ bus_head_text c.settings from
-        → IfOk result (λ last. IsAllTold false c seed steps from last (string_bytes held.new) (O.bytes out.old) (O.bytes out.new)) }
-    ensures faults_stay { OnOk result (O.faults out.old ≤ O.faults out.new) }
+        → IfOk result (λ last. IsAllTold false c seed steps from last (string_bytes held.new)
+        (O.page out.old).bytes (O.page out.new).bytes) }
+    ensures faults_stay { OnOk result ((O.page out.old).faults ≤ (O.page out.new).faults) }
     ensures broken { (c : Contents) (seed steps : ℕ) → Starts c seed steps run → string_bytes held.old ≡ bus_head_text c.settings from
         → IfErr result (IsBusTraceBroken false (started c) seed steps from
-        (record {
-          before = O.bytes out.old;
-          after = O.bytes out.new;
-          faults_before = O.faults out.old;
-          faults_after = O.faults out.new;
-        })) }
+        (record { before = O.page out.old; after = O.page out.new })) }
 {
     let mut run = run;
     tell_events(alloc, &mut run, most, from, held, out)?;
@@ -57,17 +53,13 @@ fn tell_window<O: Sink>(
     requires enough { run.left ≤ most }
     ensures told { (first : BusRun) (c : Contents) (seed steps from : ℕ) → Starts c seed steps first → GoneOn first run
         → string_bytes held.old ≡ bus_head_text c.settings from → lines_coming from first ≡ lines_coming 0 run
-        → IfOk result (λ last. IsAllTold true c seed steps from last (string_bytes held.new) (O.bytes out.old) (O.bytes out.new)) }
-    ensures faults_stay { OnOk result (O.faults out.old ≤ O.faults out.new) }
+        → IfOk result (λ last. IsAllTold true c seed steps from last (string_bytes held.new)
+        (O.page out.old).bytes (O.page out.new).bytes) }
+    ensures faults_stay { OnOk result ((O.page out.old).faults ≤ (O.page out.new).faults) }
     ensures broken { (first : BusRun) (c : Contents) (seed steps from : ℕ) → Starts c seed steps first → GoneOn first run
         → string_bytes held.old ≡ bus_head_text c.settings from → lines_coming from first ≡ lines_coming 0 run
         → IfErr result (IsBusTraceBroken true (started c) seed steps from
-        (record {
-          before = O.bytes out.old;
-          after = O.bytes out.new;
-          faults_before = O.faults out.old;
-          faults_after = O.faults out.new;
-        })) }
+        (record { before = O.page out.old; after = O.page out.new })) }
 {
     let mut run = match KeptRun::begin(alloc, run, held) {
         Ok(run) => run,
@@ -90,16 +82,12 @@ fn tell_states<O: Sink>(
     requires few { run.system.events + run.left ≤ run_limit }
     requires enough { run.left ≤ most }
     ensures told { (c : Contents) (seed steps : ℕ) → Starts c seed steps run → string_bytes held.old ≡ bus_head_text c.settings from
-        → IfOk result (λ last. IsAllTold true c seed steps from last (string_bytes held.new) (O.bytes out.old) (O.bytes out.new)) }
-    ensures faults_stay { OnOk result (O.faults out.old ≤ O.faults out.new) }
+        → IfOk result (λ last. IsAllTold true c seed steps from last (string_bytes held.new)
+        (O.page out.old).bytes (O.page out.new).bytes) }
+    ensures faults_stay { OnOk result ((O.page out.old).faults ≤ (O.page out.new).faults) }
     ensures broken { (c : Contents) (seed steps : ℕ) → Starts c seed steps run → string_bytes held.old ≡ bus_head_text c.settings from
         → IfErr result (IsBusTraceBroken true (started c) seed steps from
-        (record {
-          before = O.bytes out.old;
-          after = O.bytes out.new;
-          faults_before = O.faults out.old;
-          faults_after = O.faults out.new;
-        })) }
+        (record { before = O.page out.old; after = O.page out.new })) }
 {
     let mut run = run;
     match skip(&mut run, from) {
@@ -122,16 +110,12 @@ fn tell_run<O: Sink>(
     requires few { run.system.events + run.left ≤ run_limit }
     requires enough { run.left ≤ most }
     ensures told { (c : Contents) (seed steps : ℕ) → Starts c seed steps run → string_bytes held.old ≡ bus_head_text c.settings from
-        → IfOk result (λ last. IsAllTold states c seed steps from last (string_bytes held.new) (O.bytes out.old) (O.bytes out.new)) }
-    ensures faults_stay { OnOk result (O.faults out.old ≤ O.faults out.new) }
+        → IfOk result (λ last. IsAllTold states c seed steps from last (string_bytes held.new)
+        (O.page out.old).bytes (O.page out.new).bytes) }
+    ensures faults_stay { OnOk result ((O.page out.old).faults ≤ (O.page out.new).faults) }
     ensures broken { (c : Contents) (seed steps : ℕ) → Starts c seed steps run → string_bytes held.old ≡ bus_head_text c.settings from
         → IfErr result (IsBusTraceBroken states (started c) seed steps from
-        (record {
-          before = O.bytes out.old;
-          after = O.bytes out.new;
-          faults_before = O.faults out.old;
-          faults_after = O.faults out.new;
-        })) }
+        (record { before = O.page out.old; after = O.page out.new })) }
 {
     if states {
         tell_states(alloc, run, most, from, held, out)
@@ -159,14 +143,9 @@ pub fn trace_on_bus<O: Sink>(
 ) -> Result<bool, Broken>
     requires one_home { loaded.now.settings.dirs ≡ 1 }
     requires few { steps ≤ run_limit }
-    ensures traced { IfOk result (IsBusTraced states (started loaded.now) seed steps from (O.bytes out.old) (O.bytes out.new)) }
+    ensures traced { IfOk result (IsBusTraced states (started loaded.now) seed steps from (O.page out.old).bytes (O.page out.new).bytes) }
     ensures broken { IfErr result (IsBusTraceBroken states (started loaded.now) seed steps from
-        (record {
-          before = O.bytes out.old;
-          after = O.bytes out.new;
-          faults_before = O.faults out.old;
-          faults_after = O.faults out.new;
-        })) }
+        (record { before = O.page out.old; after = O.page out.new })) }
 {
     let run = match BusRun::start(alloc, loaded, seed, steps) {
         Ok(run) => run,

@@ -16,7 +16,8 @@ use Rattle.tcc_cli.specs.Commands.{fault_from, image_names, record_of, tail_of}
 use Rattle.tcc_cli.specs.Following.{Follows}
 use Rattle.tcc_cli.specs.Images.{fault_of, start_of}
 use Rattle.tcc_cli.specs.Laws.{AreTold, HasNoFault, IsLeft, IsSameReport, ReplaysPrintTheSame, ReplaysRecord}
-use Rattle.tcc_cli.specs.Lines.{IsWhole, Written}
+use Rattle.tcc_cli.specs.Lines.{IsWhole}
+use Rattle.tcc_world.specs.Page.{Written}
 use Rattle.tcc_cli.specs.Reading.{AreGiven}
 use Rattle.tcc_cli.specs.Refusals.{End, status_of}
 use Rattle.tcc_cli.specs.Phased.{IsPhasePicked, phases_text}
@@ -117,7 +118,7 @@ record Left (v : Around) (machine : Machine) (images : List (List ℕ)) (name : 
   images_are : fault_of machine.raw machine.config files ≡ None
   runs : RunsTo (start_of machine.raw machine.config files) events done ends
   text_is : text ≡ text_of_end done (length events) ends
-  told : AreTold v.files.before (name ∷ images) (bytes ∷ files)
+  told : AreTold v.files.before.contents (name ∷ images) (bytes ∷ files)
 
 other-name : (name n : List ℕ) (images : List (List ℕ)) → Contains images n → (Contains images name → ⊥) → Some name ≢ Some n
 other-name name n images here apart e =
@@ -129,27 +130,27 @@ same-map p q (n ∷ ns) h = (let first = h n in let rest = same-map p q ns h in 
 
 -- the images are as they were
 images-told : Facts → (w v : Around) (recorded replay : List (List ℕ)) (e : Written) (status : Status) (c : Command) (name : List ℕ)
-    (r : ReplaysRecord w v recorded replay c name) → Caused recorded w e status → AreTold v.files.before (image_names c) r.files
+    (r : ReplaysRecord w v recorded replay c name) → Caused recorded w e status → AreTold v.files.before.contents (image_names c) r.files
 images-told f w v recorded replay e status c name r h =
-    let stays : (n : List ℕ) → Contains (image_names c) n → w.files.after n ≡ w.files.before n = λ n here.
+    let stays : (n : List ℕ) → Contains (image_names c) n → w.files.after.contents n ≡ w.files.before.contents n = λ n here.
     h.others n (λ d asked named. other-name name n (image_names c) here r.apart
     (sym r.named ∙ sym (ap record_of (f.one_command recorded d c asked r.first)) ∙ named)) in
-    same-map v.files.before w.files.after (image_names c) r.left
-    ∙ images-stay w.files.before w.files.after (image_names c) r.files stays r.told
+    same-map v.files.before.contents w.files.after.contents (image_names c) r.left
+    ∙ images-stay w.files.before.contents w.files.after.contents (image_names c) r.files stays r.told
 
 -- a run whose record the store told
 left-by : (w v : Around) (machine : Machine) (images : List (List ℕ)) (name : List ℕ) (read files : List (List ℕ))
     (keep : Option (List ℕ)) (IsSchedule : List Event → Type 0) (text_of_end : Bool → ℕ → History → List ℕ) (done : Bool) (text : List ℕ)
-    → read ≡ files → fault_of machine.raw machine.config read ≡ None → keep ≡ Some name → w.files.tells ≡ true
-    → v.files.before name ≡ w.files.after name → AreTold v.files.before images files
+    → read ≡ files → fault_of machine.raw machine.config read ≡ None → keep ≡ Some name → w.files.before.tells ≡ true
+    → v.files.before.contents name ≡ w.files.after.contents name → AreTold v.files.before.contents images files
     → Ran (start_of machine.raw machine.config read) (λ es. IsSchedule es
-    × IsRecorded keep w.files.tells w.files.after (record { config = machine.config; events = es })) text_of_end done text
+    × IsRecorded keep w.files.before.tells w.files.after.contents (record { config = machine.config; events = es })) text_of_end done text
     → Left v machine images name files text_of_end done text
 left-by w v machine images name read files keep IsSchedule text_of_end done text same accepted named tells left told ran =
     let schedule : Schedule = record { config = machine.config; events = ran.events } in
-    let recorded = subst (λ k. IsRecorded k w.files.tells w.files.after schedule) named ran.schedule.1 in
-    let there : w.files.after name ≡ Some (text_of schedule) =
-    told-so w.files.tells (w.files.after name) (text_of schedule) tells recorded.1 in
+    let recorded = subst (λ k. IsRecorded k w.files.before.tells w.files.after.contents schedule) named ran.schedule.1 in
+    let there : w.files.after.contents name ≡ Some (text_of schedule) =
+    told-so w.files.before.tells (w.files.after.contents name) (text_of schedule) tells recorded.1 in
     record {
       events = ran.events;
       ends = ran.ends;
@@ -190,7 +191,7 @@ run-again f v replay g other machine images name files text_of_end done text l a
     let c = Replay machine name images in
     let all = l.bytes ∷ files in
     let s = start_of machine.raw machine.config files in
-    let ran : Comes c all v.files.tells v.files.after done (run_text s done (length l.events) l.ends) = record {
+    let ran : Comes c all v.files.before.tells v.files.after.contents done (run_text s done (length l.events) l.ends) = record {
       events = l.events;
       ends = l.ends;
       schedule = l.schedule;
@@ -198,14 +199,14 @@ run-again f v replay g other machine images name files text_of_end done text l a
       text_is = refl;
     } in
     let well_again = good-again c all other l.images_are
-    (λ line faulty. excluded f c all v.files.tells v.files.after done (run_text s done (length l.events) l.ends) line
+    (λ line faulty. excluded f c all v.files.before.tells v.files.after.contents done (run_text s done (length l.events) l.ends) line
     (f.in_bounds replay c asked) ran faulty) enough
     (answers_complete f replay v g other c all again asked l.told none) in
     let x = well f replay v g other c asked again well_again in
     let (read, u, started, ran_again, whole) = x.ends in
-    let same = given-told v.files.before (name ∷ images) all read l.told started.given in
+    let same = given-told v.files.before.contents (name ∷ images) all read l.told started.given in
     let one = one-text f s machine.config l.events l.bytes done x.done l.ends u l.schedule l.runs
-    (subst (λ fs. Comes c fs v.files.tells v.files.after x.done u) same ran_again) in
+    (subst (λ fs. Comes c fs v.files.before.tells v.files.after.contents x.done u) same ran_again) in
     record { status_is = x.status_is ∙ ap (λ d. status_of (Ok d)) (sym one.0); whole = subst (λ t. IsWhole t v.out) one.1 whole }
 
 -- the files behind a list
@@ -227,7 +228,7 @@ prints-the-same f w v recorded replay e g status other (Run machine images steps
     let x = well f recorded w e status c r.first h good in
     let (read, text, started, ran, whole) = x.ends in
     let s = start_of machine.raw machine.config r.files in
-    let same = given-told w.files.before images r.files read r.told started.given in
+    let same = given-told w.files.before.contents images r.files read r.told started.given in
     let l = left-by w v machine images name read r.files keep
     (IsMade threads (start_of machine.raw machine.config read) seed steps) (run_text (start_of machine.raw machine.config read)) x.done text
     same started.images r.named r.tells (r.left name) (images-told f w v recorded replay e status c name r h) ran in
@@ -240,7 +241,7 @@ prints-the-same f w v recorded replay e g status other (Phases machine images st
     let x = well f recorded w e status c r.first h good in
     let (read, text, started, ran, whole) = x.ends in
     let s = start_of machine.raw machine.config r.files in
-    let same = given-told w.files.before images r.files read r.told started.given in
+    let same = given-told w.files.before.contents images r.files read r.told started.given in
     let l = left-by w v machine images name read r.files keep
     (IsPhasePicked (start_of machine.raw machine.config read) seed steps) (phases_text (start_of machine.raw machine.config read)) x.done
     text same started.images r.named r.tells (r.left name) (images-told f w v recorded replay e status c name r h) ran.ran in
@@ -253,7 +254,7 @@ prints-the-same f w v recorded replay e g status other (Follow machine list imag
     let x = well f recorded w e status c r.first h good in
     let (read, text, started, ran, whole) = x.ends in
     let s = start_of machine.raw machine.config r.files in
-    let same = tail-told w.files.before list images r.files read r.told started.given in
+    let same = tail-told w.files.before.contents list images r.files read r.told started.given in
     let l = left-by w v machine images name (tail_of read) r.files keep
     (λ es. Follows (start_of machine.raw machine.config (tail_of read)) ran.orders es)
     (run_text (start_of machine.raw machine.config (tail_of read))) x.done text

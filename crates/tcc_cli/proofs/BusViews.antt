@@ -20,7 +20,7 @@ use Rattle.tcc_cli.specs.Around.{FilesAround, IsUntouched}
 use Rattle.tcc_cli.specs.BusLooks.{IsBusTraceStopped, IsBusTraceTold, LookedAtBus}
 use Rattle.tcc_cli.specs.Commands.{start_from}
 use Rattle.tcc_cli.specs.Failing.{Tells}
-use Rattle.tcc_cli.specs.Lines.{Written}
+use Rattle.tcc_world.specs.Page.{Written}
 use Rattle.tcc_cli.specs.OnBus.{BusRunsTo}
 use Rattle.tcc_cli.specs.declared.refusal.Refusal.{Refusal}
 use Rattle.tcc_cli.specs.declared.refusal.Refusal.TheVariants as why

@@ -67,21 +67,21 @@ ended false status e = inr (inl e)
 -- what is left to answer after each end of the command
 left : Facts → (w : Around) (status : Status) (c : Command) (files : List (List ℕ)) (end : End) → IsInBounds c → status ≡ status_of end
     → EndsOf c w end
-    → AreTold w.files.before (files_of c) files → HasNoFault c w → IsLeft c files status
+    → AreTold w.files.before.contents (files_of c) files → HasNoFault c w → IsLeft c files status
 left f w status c files (Ok done) bounds is (read, text, started, comes, whole) told none =
-    let same = given-told w.files.before (files_of c) files read told started.given in
+    let same = given-told w.files.before.contents (files_of c) files read told started.given in
     let images : fault_from c files ≡ None = subst (λ fs. fault_from c fs ≡ None) same started.images in
-    let here : Comes c files w.files.tells w.files.after done text =
-    subst (λ fs. Comes c fs w.files.tells w.files.after done text) same comes in
+    let here : Comes c files w.files.before.tells w.files.after.contents done text =
+    subst (λ fs. Comes c fs w.files.before.tells w.files.after.contents done text) same comes in
     record {
       image = λ bad. absurd (none-some (fault_from c files) images bad);
-      schedule = λ _ line faulty. absurd (excluded f c files w.files.tells w.files.after done text line bounds here faulty);
+      schedule = λ _ line faulty. absurd (excluded f c files w.files.before.tells w.files.after.contents done text line bounds here faulty);
       neither = λ _ _. ended done status is;
     }
 left f w status c files (Err why.Words) bounds is e told none = absurd e
 left f w status c files (Err (why.Value field)) bounds is e told none = absurd e
 left f w status c files (Err (why.Image bad)) bounds is ((read, given, first), untouched, silent) told none =
-    let same = given-told w.files.before (files_of c) files read told given in
+    let same = given-told w.files.before.contents (files_of c) files read told given in
     let images : fault_from c files ≡ Some bad = subst (λ fs. fault_from c fs ≡ Some bad) same first in
     record {
       image = λ _. inl is;
@@ -89,7 +89,7 @@ left f w status c files (Err (why.Image bad)) bounds is ((read, given, first), u
       neither = λ no _. absurd (cc);
     }
 left f w status c files (Err (why.Schedule line)) bounds is ((read, started, faulty), untouched, silent) told none =
-    let same = given-told w.files.before (files_of c) files read told started.given in
+    let same = given-told w.files.before.contents (files_of c) files read told started.given in
     let images : fault_from c files ≡ None = subst (λ fs. fault_from c fs ≡ None) same started.images in
     record {
       image = λ bad. absurd (none-some (fault_from c files) images bad);
@@ -121,8 +121,8 @@ of-command f words w c end a (inl (d, asked, ends)) =
 of-command f words w c end a (inr (away, untouched, silent)) = inr away
 
 answers-left : Facts → (words : List (List ℕ)) (w : Around) (status : Status) (c : Command) (files : List (List ℕ)) (end : End)
-    → status ≡ status_of end → EndsOf c w end ⊎ IsTurnedAway words end → IsCommand words c → AreTold w.files.before (files_of c) files
-    → HasNoFault c w → IsLeft c files status
+    → status ≡ status_of end → EndsOf c w end ⊎ IsTurnedAway words end → IsCommand words c
+    → AreTold w.files.before.contents (files_of c) files → HasNoFault c w → IsLeft c files status
 answers-left f words w status c files end is (inl ends) a told none = left f w status c files end
     (f.in_bounds words c a) is ends told none
 answers-left f words w status c files end is (inr away) a told none = turned-away f words status c files end is away a

@@ -7,7 +7,8 @@ use Rattle.tcc_cli.specs.Around.{Around, FilesAround, IsUntouched}
 use Rattle.tcc_cli.specs.Comes.{Comes, HasRecorded}
 use Rattle.tcc_cli.specs.Commands.{fault_from, files_of, record_of}
 use Rattle.tcc_cli.specs.Failing.{IsStopped, Tells}
-use Rattle.tcc_cli.specs.Lines.{IsSilent, IsTold, Written}
+use Rattle.tcc_cli.specs.Lines.{IsSilent, IsTold}
+use Rattle.tcc_world.specs.Page.{Written}
 use Rattle.tcc_cli.specs.Process.{words_in}
 use Rattle.tcc_cli.specs.Reading.{AreGiven}
 use Rattle.tcc_cli.specs.Refusals.{End, line_of, refusal_status, status_of, words_refusal}
@@ -50,7 +51,7 @@ not-collected (Ok words) w err status untouched silent is told = no-memory (word
 not-collected (Err e) w err status untouched silent is told = tt
 
 pub command-ended : (words : List (List ℕ)) (w : Around) (err : Written) (status : Status) (c : Command) (end : End) → IsCommand words c
-    → EndsOf c w end → ((n : List ℕ) → record_of c ≢ Some n → w.files.after n ≡ w.files.before n)
+    → EndsOf c w end → ((n : List ℕ) → record_of c ≢ Some n → w.files.after.contents n ≡ w.files.before.contents n)
     → status ≡ status_of end → Notes err end → Caused words w err status
 command-ended words w err status c end h ends others status_is notes = record {
   end = end;
@@ -63,20 +64,22 @@ command-ended words w err status c end h ends others status_is notes = record {
 -- ---- the steps of a command
 
 -- the files and the images, where the same bytes stand in three places
-pub begun : (c : Command) (w : Around) (names read two three : List (List ℕ)) → names ≡ files_of c → AreGiven w.files.before names read
-    → two ≡ read → three ≡ read → fault_from c two ≡ None → Started c w three
+pub begun : (c : Command) (w : Around) (names read two three : List (List ℕ)) → names ≡ files_of c
+    → AreGiven w.files.before.contents names read → two ≡ read → three ≡ read → fault_from c two ≡ None → Started c w three
 begun c w names read two three are given second third images = record {
-  given = subst (AreGiven w.files.before (files_of c)) (sym third) (subst (λ ns. AreGiven w.files.before ns read) are given);
+  given =
+      subst (AreGiven w.files.before.contents (files_of c)) (sym third)
+      (subst (λ ns. AreGiven w.files.before.contents ns read) are given);
   images = subst (λ fs. fault_from c fs ≡ None) (second ∙ sym third) images;
 }
 
 -- a step that begins later, where nothing was written before it
 pub record IsLater (files later : FilesAround) : Type 0 where
-  pub contents : (n : List ℕ) → later.before n ≡ files.before n
-  pub writes : (n : List ℕ) → later.writes_before n ≡ files.writes_before n
-  pub after : files.after ≡ later.after
-  pub tells : files.tells ≡ later.tells
-  pub writes_after : (n : List ℕ) → later.writes_after n ≡ files.writes_after n
+  pub contents : (n : List ℕ) → later.before.contents n ≡ files.before.contents n
+  pub writes : (n : List ℕ) → later.before.failed_writes n ≡ files.before.failed_writes n
+  pub after : files.after.contents ≡ later.after.contents
+  pub tells : files.before.tells ≡ later.before.tells
+  pub writes_after : (n : List ℕ) → later.after.failed_writes n ≡ files.after.failed_writes n
 
 still : (w : Around) (f : FilesAround) → IsLater w.files f → IsUntouched f → IsUntouched w.files
 still w f s untouched n = ap (λ g. g n) s.after ∙ untouched n ∙ s.contents n
@@ -85,23 +88,23 @@ stopped : (c : Command) (w : Around) (f : FilesAround) (files : List (List ℕ))
     → Started c w files → IsSilent w.out → EndsOf c w (Err r)
 stopped c w f files (why.Schedule line) s h started silent = ((files, started, h.0), still w f s h.1, silent)
 stopped c w f files (why.Store name) s h started silent =
-    let rose = subst (λ k. Rose k (w.files.writes_after name.now)) (s.writes name.now)
-    (subst (λ k. Rose (f.writes_before name.now) k) (s.writes_after name.now) h.1) in
+    let rose = subst (λ k. Rose k (w.files.after.failed_writes name.now)) (s.writes name.now)
+    (subst (λ k. Rose (f.before.failed_writes name.now) k) (s.writes_after name.now) h.1) in
     (inr ((files, started), h.0, rose), silent)
 stopped c w f files why.Memory s (inl untouched) started silent = inl (inl (still w f s untouched), silent)
 stopped c w f files why.Memory s (inr recorded) started silent =
-    let told = subst (λ g. HasRecorded c files f.tells g) (sym s.after) recorded in
-    inl (inr (files, started, subst (λ b. HasRecorded c files b w.files.after) (sym s.tells) told), silent)
+    let told = subst (λ g. HasRecorded c files f.before.tells g) (sym s.after) recorded in
+    inl (inr (files, started, subst (λ b. HasRecorded c files b w.files.after.contents) (sym s.tells) told), silent)
 stopped c w f files why.Words s h started silent = h
 stopped c w f files (why.Value field) s h started silent = h
 stopped c w f files (why.Image bad) s h started silent = absurd h
 stopped c w f files why.Output s h started silent = absurd h
 
 comes-later : (c : Command) (w : Around) (f : FilesAround) (files : List (List ℕ)) (done : Bool) (text : List ℕ) → IsLater w.files f
-    → Comes c files f.tells f.after done text → Comes c files w.files.tells w.files.after done text
+    → Comes c files f.before.tells f.after.contents done text → Comes c files w.files.before.tells w.files.after.contents done text
 comes-later c w f files done text s h =
-    subst (λ b. Comes c files b w.files.after done text) (sym s.tells)
-    (subst (λ g. Comes c files f.tells g done text) (sym s.after) h)
+    subst (λ b. Comes c files b w.files.after.contents done text) (sym s.tells)
+    (subst (λ g. Comes c files f.before.tells g done text) (sym s.after) h)
 
 -- what a command tells, and its end
 pub told : (c : Command) (w : Around) (f : FilesAround) (files : List (List ℕ)) (end : End) → IsLater w.files f → Tells c files f w.out end

@@ -7,7 +7,7 @@ use Rattle.tcc_cli.specs.Around.{FilesAround, IsUntouched}
 use Rattle.tcc_cli.specs.Comes.{AreLookedAt, IsFaultyLine}
 use Rattle.tcc_cli.specs.Commands.{files_of, head_of, machine_of, start_from}
 use Rattle.tcc_cli.specs.Failing.{Tells}
-use Rattle.tcc_cli.specs.Lines.{Written}
+use Rattle.tcc_world.specs.Page.{Written}
 use Rattle.tcc_cli.specs.Looks.{IsTraceStopped, IsTraceTold}
 use Rattle.tcc_cli.specs.declared.refusal.Refusal.{Refusal}
 use Rattle.tcc_cli.specs.declared.refusal.Refusal.TheVariants as why

@@ -11,7 +11,8 @@ use Rattle.std.specs.Io.KnownBytes.{Appends}
 use Rattle.std.specs.Prelude.{codes}
 use Rattle.base_lemmas.proofs.Lemmas.{appends-more}
 use Rattle.report_text.specs.Lines.{newline}
-use Rattle.tcc_cli.specs.Lines.{Written, IsCut, IsTold}
+use Rattle.tcc_cli.specs.Lines.{IsCut, IsTold}
+use Rattle.tcc_world.specs.Page.{Written}
 use Rattle.tcc_cli.specs.Refusals.{reader_word, line_of}
 use Rattle.tcc_cli.specs.declared.refusal.ImageFault.{ImageFault}
 use Rattle.tcc_cli.specs.declared.refusal.Refusal.TheVariants.{Words, Value, Image, Schedule, Store, Output, Memory}
@@ -28,8 +29,8 @@ split_at f ps i d h =
 
 -- a piece of which a first part was written cuts the whole
 pub cut_at : {P : Type 0} (f : P → List ℕ) (ps : List P) (i n : ℕ) (d : P) (o : Written) (mid : Option (List ℕ)) → i < length ps
-    → Appends o.before mid (flat_map f (take i ps)) → n < length (f (get_or ps i d))
-    → Appends mid o.after (take n (f (get_or ps i d))) → Rose o.faults_before o.faults_after → IsCut (flat_map f ps) o
+    → Appends o.before.bytes mid (flat_map f (take i ps)) → n < length (f (get_or ps i d))
+    → Appends mid o.after.bytes (take n (f (get_or ps i d))) → Rose o.before.faults o.after.faults → IsCut (flat_map f ps) o
 cut_at f ps i n d o mid h begun short cut rose =
     let pre = flat_map f (take i ps) in
     let x = f (get_or ps i d) in
@@ -41,7 +42,7 @@ cut_at f ps i n d o mid h begun short cut rose =
     ∙ ap (λ t. pre ++ t) (take-append-le n x rest (omega (arith, short))) in (
       length pre + n,
       omega (arith, fits, short),
-      subst (Appends o.before o.after) (sym whole) (appends-more o.before mid o.after pre (take n x) begun cut),
+      subst (Appends o.before.bytes o.after.bytes) (sym whole) (appends-more o.before.bytes mid o.after.bytes pre (take n x) begun cut),
       rose,
     )
 

@@ -1,7 +1,8 @@
 -- The table of what was searched, and why it broke off.
-use Rattle.std.proofs.Common.{◌≡◌, ℕ, Bool, List, Option, refl, inr, subst, sym}
+use Rattle.std.proofs.Common.{◌≡◌, ℕ, Bool, List, refl, inr, subst, sym}
 use Rattle.image_load.specs.Contents.{started}
 use Rattle.image_load.specs.Start.{Start}
+use Rattle.tcc_world.specs.Page.{Written}
 use Rattle.text_outcomes.specs.Table.{table_of, table_text}
 use Rattle.text_outcomes.specs.Written.{IsBroken}
 use Rattle.text_outcomes.specs.declared.writing.Broken.{Broken}
@@ -31,13 +32,9 @@ one-table s limits tell e r stuck start searched told ends = record {
 }
 
 -- why it broke off
-pub table-broken : (s : Start) (limits : Limits) (tell : Tell) (done : Bool) (text : List ℕ) (a b : Option (List ℕ)) (f g : ℕ)
-    (broken : Broken) (r : Refusal) → IsTable s limits tell done text → r ≡ table_refusal broken
-    → IsBroken text (record { before = a; after = b; faults_before = f; faults_after = g }) broken
-    → IsTableStopped s limits tell (record { before = a; after = b; faults_before = f; faults_after = g }) r
-table-broken s limits tell done text a b f g Memory r table is h =
-    subst (IsTableStopped s limits tell (record { before = a; after = b; faults_before = f; faults_after = g })) (sym is)
-    (inr (done, text, table, (h.n, h.short, h.appended)))
-table-broken s limits tell done text a b f g Output r table is (h, rose) =
-    subst (IsTableStopped s limits tell (record { before = a; after = b; faults_before = f; faults_after = g })) (sym is)
-    (done, text, table, (h.n, h.short, h.appended, rose))
+pub table-broken : (s : Start) (limits : Limits) (tell : Tell) (done : Bool) (text : List ℕ) (o : Written) (broken : Broken) (r : Refusal)
+    → IsTable s limits tell done text → r ≡ table_refusal broken → IsBroken text o broken → IsTableStopped s limits tell o r
+table-broken s limits tell done text o Memory r table is h =
+    subst (IsTableStopped s limits tell o) (sym is) (inr (done, text, table, (h.n, h.short, h.appended)))
+table-broken s limits tell done text o Output r table is (h, rose) =
+    subst (IsTableStopped s limits tell o) (sym is) (done, text, table, (h.n, h.short, h.appended, rose))

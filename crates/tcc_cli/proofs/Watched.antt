@@ -8,7 +8,7 @@ use Rattle.rv_code.specs.Machine.{program}
 use Rattle.theorem_riscv.specs.Going.{picked_from}
 use Rattle.rules_riscv.specs.Starting.{world_at_start}
 use Rattle.tcc_base.specs.Settings.{Settings}
-use Rattle.tcc_cli.specs.Lines.{Written}
+use Rattle.tcc_world.specs.Page.{Written}
 use Rattle.std.proofs.lemmas.List.{length-map}
 use Rattle.tcc_cli.specs.Looks.{IsTraceStopped, IsTraceTold, LookedAt, broken_refusal, view_text}
 use Rattle.tcc_cli.specs.Runs.{RunsBy, RunsTo, picked_by}
@@ -76,18 +76,14 @@ counted-so s settings Are es d n counts csv seed done text (Ok f) are k q is tol
 counted-so s settings Are es d n counts csv seed done text (Err e) are k q is told = tt
 
 -- why a trace broke off, and what was written of it
-pub broken-so : (s : Start) (Are : List Event → Type 0) (shown : Shown) (faulty : ℕ → Type 0) (es : List Event) (a b : Option (List ℕ))
-    (f g : ℕ) (broken : Broken) (r : Refusal) → Are es → r ≡ broken_refusal broken
-    → IsTraceBroken s shown es (record { before = a; after = b; faults_before = f; faults_after = g }) broken
-    → IsTraceStopped s Are shown faulty (record { before = a; after = b; faults_before = f; faults_after = g }) r
-broken-so s Are shown faulty es a b f g Memory r are is h =
-    subst (IsTraceStopped s Are shown faulty (record { before = a; after = b; faults_before = f; faults_after = g })) (sym is)
-    (inr (es, are, h))
-broken-so s Are shown faulty es a b f g Output r are is (inl h, rose) =
-    subst (IsTraceStopped s Are shown faulty (record { before = a; after = b; faults_before = f; faults_after = g })) (sym is)
-    (inr ((es, are, h), rose))
-broken-so s Are shown faulty es a b f g Output r are is (inr h, rose) =
-    subst (IsTraceStopped s Are shown faulty (record { before = a; after = b; faults_before = f; faults_after = g })) (sym is)
+pub broken-so : (s : Start) (Are : List Event → Type 0) (shown : Shown) (faulty : ℕ → Type 0) (es : List Event) (o : Written)
+    (broken : Broken) (r : Refusal) → Are es → r ≡ broken_refusal broken
+    → IsTraceBroken s shown es o broken → IsTraceStopped s Are shown faulty o r
+broken-so s Are shown faulty es o Memory r are is h = subst (IsTraceStopped s Are shown faulty o) (sym is) (inr (es, are, h))
+broken-so s Are shown faulty es o Output r are is (inl h, rose) =
+    subst (IsTraceStopped s Are shown faulty o) (sym is) (inr ((es, are, h), rose))
+broken-so s Are shown faulty es o Output r are is (inr h, rose) =
+    subst (IsTraceStopped s Are shown faulty o) (sym is)
     (inl (
       h.done,
       _,

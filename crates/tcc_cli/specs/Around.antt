@@ -1,16 +1,11 @@
 -- The files and the output before and after a call, as far as they tell.
-use Rattle.std.specs.Prelude.{ℕ, Bool, List, Option, ◌≡◌}
-use Rattle.tcc_cli.specs.Lines.{Written}
+use Rattle.std.specs.Prelude.{ℕ, List, ◌≡◌}
+use Rattle.tcc_world.specs.Page.{Written}
+use Rattle.tcc_world.specs.Disk.{Disk}
 
--- whether a write makes contents known; contents, and counts of failed reads and writes, by name
 pub record FilesAround : Type 0 where
-  pub tells : Bool
-  pub before : List ℕ → Option (List ℕ)
-  pub after : List ℕ → Option (List ℕ)
-  pub reads_before : List ℕ → ℕ
-  pub reads_after : List ℕ → ℕ
-  pub writes_before : List ℕ → ℕ
-  pub writes_after : List ℕ → ℕ
+  pub before : Disk
+  pub after : Disk
 
 pub record Around : Type 0 where
   pub files : FilesAround
@@ -18,4 +13,4 @@ pub record Around : Type 0 where
 
 -- no contents changed
 abbrev pub IsUntouched : FilesAround → Type 0
-IsUntouched f = (name : List ℕ) → f.after name ≡ f.before name
+IsUntouched f = (name : List ℕ) → f.after.contents name ≡ f.before.contents name

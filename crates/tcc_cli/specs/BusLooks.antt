@@ -9,7 +9,8 @@ use Rattle.bus_run.specs.Counted.{counts_of_bus_run}
 use Rattle.bus_run.specs.Traced.{bus_lines_by, bus_trace_of}
 use Rattle.bus_state.specs.Text.{bus_state_text}
 use Rattle.bus_tool.specs.Running.{bus_picked_by}
-use Rattle.tcc_cli.specs.Lines.{Written, IsCut, IsWhole}
+use Rattle.tcc_cli.specs.Lines.{IsCut, IsWhole}
+use Rattle.tcc_world.specs.Page.{Written}
 use Rattle.tcc_cli.specs.Looks.{most_of}
 use Rattle.tcc_cli.specs.OnBus.{BusRunsTo}
 use Rattle.tcc_cli.specs.declared.refusal.Refusal.{Refusal}
@@ -45,7 +46,7 @@ IsBusTraceTold s seed steps view o done = (text : List ℕ) × LookedAtBus s see
 
 -- a first part of the trace was written: of its first lines and of those of its events, and none of its last lines
 abbrev pub IsBusTraceBegun : Start → (seed steps from to : ℕ) → (states : Bool) → Written → Type 0
-IsBusTraceBegun s seed steps from to states o = IsPart (bus_lines_by states s seed (min steps to) from) o.before o.after
+IsBusTraceBegun s seed steps from to states o = IsPart (bus_lines_by states s seed (min steps to) from) o.before.bytes o.after.bytes
 
 abbrev pub IsBusTraceCut : Start → (seed steps : ℕ) → View → Written → Type 0
 IsBusTraceCut s seed steps view o = (done : Bool) × (text : List ℕ) × LookedAtBus s seed steps view done text × IsCut text o
@@ -54,7 +55,7 @@ IsBusTraceCut s seed steps view o = (done : Bool) × (text : List ℕ) × Looked
 abbrev pub IsBusTraceStopped : Start → (seed steps from to : ℕ) → (states : Bool) → Written → Refusal → Type 0
 IsBusTraceStopped s seed steps from to states o why.Output =
     IsBusTraceCut s seed steps (Trace from to states) o
-    ⊎ (IsBusTraceBegun s seed steps from to states o × Rose o.faults_before o.faults_after)
+    ⊎ (IsBusTraceBegun s seed steps from to states o × Rose o.before.faults o.after.faults)
 IsBusTraceStopped s seed steps from to states o why.Memory = IsBusTraceBegun s seed steps from to states o
 IsBusTraceStopped s seed steps from to states o _ = ⊥
 

@@ -4,7 +4,7 @@ use Rattle.tcc_cli.specs.Commands.{head_of, start_from}
 use Rattle.tcc_cli.specs.Following.{IsFollowed, RanFollowing}
 use Rattle.tcc_cli.specs.Lists.{IsExecuted, IsListFault}
 use Rattle.tcc_base.specs.Settings.{Settings}
-use Rattle.tcc_cli.specs.Lines.{Written}
+use Rattle.tcc_world.specs.Page.{Written}
 use Rattle.tcc_cli.specs.Looks.{ArePicked, AreFirst, IsBegun, IsFaultOfFirst, LookedAt, most_of, seed_of, view_text}
 use Rattle.tcc_cli.specs.BusLooks.{IsBusTraceBegun, LookedAtBus}
 use Rattle.tcc_cli.specs.OnBus.{RanOnBus}

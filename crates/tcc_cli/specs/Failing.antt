@@ -9,7 +9,8 @@ use Rattle.tcc_cli.specs.Around.{FilesAround, IsUntouched}
 use Rattle.tcc_cli.specs.Comes.{Comes, HasBegun, HasRecorded, IsFaultyLine}
 use Rattle.tcc_cli.specs.Commands.{record_of}
 use Rattle.tcc_cli.specs.Following.{IsFollowed}
-use Rattle.tcc_cli.specs.Lines.{Written, IsCut, IsSilent, IsWhole}
+use Rattle.tcc_cli.specs.Lines.{IsCut, IsSilent, IsWhole}
+use Rattle.tcc_world.specs.Page.{Written}
 use Rattle.tcc_cli.specs.Lists.{IsListFault}
 use Rattle.tcc_cli.specs.Refusals.{End}
 use Rattle.tcc_cli.specs.Schedules.{HasOtherSettings, IsScheduleFault, RecordsOne}
@@ -55,13 +56,13 @@ IsListRefused s bytes _ = ⊥
 
 -- the record wasn't written: the store refused to, or memory ran out before
 abbrev pub IsNotWritten : (keep : Option (List ℕ)) → FilesAround → Refusal → Type 0
-IsNotWritten keep f (Store name) = (keep ≡ Some name.now) × Rose (f.writes_before name.now) (f.writes_after name.now)
+IsNotWritten keep f (Store name) = (keep ≡ Some name.now) × Rose (f.before.failed_writes name.now) (f.after.failed_writes name.now)
 IsNotWritten keep f Memory = IsUntouched f
 IsNotWritten keep f _ = ⊥
 
 -- a run stops before its text is made; where memory runs out no contents have changed, or the record is whole
 abbrev pub IsRunStopped : (IsSchedule : List Event → Type 0) → Settings → (keep : Option (List ℕ)) → FilesAround → Refusal → Type 0
-IsRunStopped IsSchedule settings keep f Memory = IsUntouched f ⊎ RecordsOne IsSchedule settings keep f.tells f.after
+IsRunStopped IsSchedule settings keep f Memory = IsUntouched f ⊎ RecordsOne IsSchedule settings keep f.before.tells f.after.contents
 IsRunStopped IsSchedule settings keep f other = IsNotWritten keep f other
 
 -- and so does a run that follows a list, which may be refused
@@ -83,14 +84,14 @@ IsPrinted _ = Unit {0}
 -- a command stops before its text is made
 abbrev pub IsStopped : Command → (files : List (List ℕ)) → FilesAround → Refusal → Type 0
 IsStopped c files f (Schedule line) = IsFaultyLine c files line × IsUntouched f
-IsStopped c files f Memory = IsUntouched f ⊎ HasRecorded c files f.tells f.after
+IsStopped c files f Memory = IsUntouched f ⊎ HasRecorded c files f.before.tells f.after.contents
 IsStopped c files f other = IsNotWritten (record_of c) f other
 
 -- how a command ended that had these files, and what was written
 abbrev pub Tells : Command → (files : List (List ℕ)) → FilesAround → Written → End → Type 0
-Tells c files f o (Ok done) = (text : List ℕ) × Comes c files f.tells f.after done text × IsWhole text o
+Tells c files f o (Ok done) = (text : List ℕ) × Comes c files f.before.tells f.after.contents done text × IsWhole text o
 Tells c files f o (Err Output) =
-    ((done : Bool) × (text : List ℕ) × Comes c files f.tells f.after done text × IsCut text o)
-    ⊎ (HasBegun c files o × Rose o.faults_before o.faults_after × IsUntouched f)
+    ((done : Bool) × (text : List ℕ) × Comes c files f.before.tells f.after.contents done text × IsCut text o)
+    ⊎ (HasBegun c files o × Rose o.before.faults o.after.faults × IsUntouched f)
 Tells c files f o (Err Memory) = (IsStopped c files f Memory × IsSilent o) ⊎ (HasBegun c files o × IsUntouched f)
 Tells c files f o (Err other) = IsStopped c files f other × IsSilent o

@@ -9,7 +9,8 @@ use Rattle.tcc_base.specs.declared.access.Commit.{Commit}
 use Rattle.tcc_cli.specs.Around.{Around}
 use Rattle.tcc_cli.specs.Comes.{IsFaultyLine}
 use Rattle.tcc_cli.specs.Commands.{fault_from, files_of, image_names, machine_of, record_of}
-use Rattle.tcc_cli.specs.Lines.{Written, IsWhole}
+use Rattle.tcc_cli.specs.Lines.{IsWhole}
+use Rattle.tcc_world.specs.Page.{Written}
 use Rattle.tcc_cli.specs.OnBus.{IsBusRun}
 use Rattle.tcc_cli.specs.Phased.{IsPhasePicked, phases_and}
 use Rattle.tcc_cli.specs.Runs.{IsRun}
@@ -28,9 +29,9 @@ use Rattle.tcc_world.specs.Faults.{Rose}
 
 -- none of a command's files failed to be read or written, and the output didn't fail
 pub record HasNoFault (c : Command) (w : Around) : Type 0 where
-  pub reads : (name : List ℕ) → Contains (files_of c) name → Rose (w.files.reads_before name) (w.files.reads_after name) → ⊥
-  pub writes : (name : List ℕ) → record_of c ≡ Some name → Rose (w.files.writes_before name) (w.files.writes_after name) → ⊥
-  pub out : Rose w.out.faults_before w.out.faults_after → ⊥
+  pub reads : (name : List ℕ) → Contains (files_of c) name → Rose (w.files.before.failed_reads name) (w.files.after.failed_reads name) → ⊥
+  pub writes : (name : List ℕ) → record_of c ≡ Some name → Rose (w.files.before.failed_writes name) (w.files.after.failed_writes name) → ⊥
+  pub out : Rose w.out.before.faults w.out.after.faults → ⊥
 
 -- the store tells the bytes of these files
 abbrev pub AreTold : (told : List ℕ → Option (List ℕ)) → (names files : List (List ℕ)) → Type 0
@@ -50,7 +51,7 @@ pub record IsLeft (c : Command) (files : List (List ℕ)) (status : Status) : Ty
 abbrev pub AnswersAreComplete : Type 0
 AnswersAreComplete =
     (words : List (List ℕ)) (w : Around) (err : Written) (status : Status) (c : Command) (files : List (List ℕ))
-    → Caused words w err status → IsCommand words c → AreTold w.files.before (files_of c) files → HasNoFault c w
+    → Caused words w err status → IsCommand words c → AreTold w.files.before.contents (files_of c) files → HasNoFault c w
     → IsLeft c files status
 
 -- words that are no command are refused, and no others, unless memory runs out
@@ -83,10 +84,10 @@ pub record ReplaysRecord (w v : Around) (recorded replay : List (List ℕ)) (c :
   pub first : IsCommand recorded c
   pub named : record_of c ≡ Some name
   pub second : IsCommand replay (Replay (machine_of c) name (image_names c))
-  pub left : (n : List ℕ) → v.files.before n ≡ w.files.after n
-  pub tells : w.files.tells ≡ true
+  pub left : (n : List ℕ) → v.files.before.contents n ≡ w.files.after.contents n
+  pub tells : w.files.before.tells ≡ true
   pub files : List (List ℕ)
-  pub told : AreTold w.files.before (image_names c) files
+  pub told : AreTold w.files.before.contents (image_names c) files
   pub apart : Contains (image_names c) name → ⊥
 
 -- one text was written whole to both outputs

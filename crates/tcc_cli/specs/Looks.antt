@@ -4,7 +4,8 @@ use Rattle.image_load.specs.Start.{Start}
 use Rattle.rules_riscv.specs.Starting.{world_at_start}
 use Rattle.tcc_base.specs.Limits.{run_limit}
 use Rattle.tcc_base.specs.Settings.{Settings}
-use Rattle.tcc_cli.specs.Lines.{Written, IsWhole, IsCut}
+use Rattle.tcc_cli.specs.Lines.{IsWhole, IsCut}
+use Rattle.tcc_world.specs.Page.{Written}
 use Rattle.tcc_cli.specs.Runs.{RunsBy, picked_by}
 use Rattle.tcc_cli.specs.Schedules.{IsFaultOf, IsScheduleOf}
 use Rattle.tcc_cli.specs.declared.refusal.Refusal.{Refusal}
@@ -73,7 +74,7 @@ pub record LookedAt (s : Start) (AreEvents : List Event → Type 0) (text_of_run
 
 -- a first part of a trace was written: of its first lines and of those of its first events, and none of its last lines
 abbrev pub IsBegun : Start → (AreEvents : List Event → Type 0) → Shown → Written → Type 0
-IsBegun s AreEvents shown o = (es : List Event) × AreEvents es × IsTraceBegun s shown es o.before o.after
+IsBegun s AreEvents shown o = (es : List Event) × AreEvents es × IsTraceBegun s shown es o.before.bytes o.after.bytes
 
 -- how a trace ended, and what was written: all of it, or a first part where the output failed or memory ran out
 abbrev pub IsTraceTold : Start → (AreEvents : List Event → Type 0) → Shown → Written → Bool → Type 0
@@ -85,10 +86,10 @@ IsTraceCut s AreEvents shown o =
     (done : Bool) × (text : List ℕ) × LookedAt s AreEvents (λ d es h. shown_trace shown s (world_at_start s) es d) done text × IsCut text o
 
 abbrev pub IsTraceStopped : Start → (AreEvents : List Event → Type 0) → Shown → (faulty : ℕ → Type 0) → Written → Refusal → Type 0
-IsTraceStopped s AreEvents shown faulty o (why.Schedule line) = faulty line × (o.after ≡ o.before)
+IsTraceStopped s AreEvents shown faulty o (why.Schedule line) = faulty line × (o.after.bytes ≡ o.before.bytes)
 IsTraceStopped s AreEvents shown faulty o why.Output =
-    IsTraceCut s AreEvents shown o ⊎ (IsBegun s AreEvents shown o × Rose o.faults_before o.faults_after)
-IsTraceStopped s AreEvents shown faulty o why.Memory = (o.after ≡ o.before) ⊎ IsBegun s AreEvents shown o
+    IsTraceCut s AreEvents shown o ⊎ (IsBegun s AreEvents shown o × Rose o.before.faults o.after.faults)
+IsTraceStopped s AreEvents shown faulty o why.Memory = (o.after.bytes ≡ o.before.bytes) ⊎ IsBegun s AreEvents shown o
 IsTraceStopped s AreEvents shown faulty o _ = ⊥
 
 -- what a trace that broke off is to the program

@@ -19,7 +19,8 @@ use Rattle.run_outcomes.specs.declared.outcomes.Results.{Results}
 use Rattle.run_outcomes.specs.declared.outcomes.Tell.{Tell}
 use Rattle.run_outcomes.specs.declared.search.Limits.{Limits}
 use Rattle.run_outcomes.specs.declared.stuck.Stuck.{Stuck}
-use Rattle.tcc_cli.specs.Lines.{Written, IsCut, IsWhole}
+use Rattle.tcc_cli.specs.Lines.{IsCut, IsWhole}
+use Rattle.tcc_world.specs.Page.{Written}
 use Rattle.tcc_cli.specs.declared.refusal.Refusal.{Refusal}
 use Rattle.tcc_cli.specs.declared.refusal.Refusal.TheVariants as why
 
@@ -71,12 +72,12 @@ IsTableTold s limits tell o done = (text : List ℕ) × IsTable s limits tell do
 abbrev pub IsTableBegun : Start → Limits → Tell → Written → Type 0
 IsTableBegun s limits tell o =
     (done : Bool) × (text : List ℕ) × IsTable s limits tell done text
-    × ((n : ℕ) × (n < length text) × Appends o.before o.after (take n text))
+    × ((n : ℕ) × (n < length text) × Appends o.before.bytes o.after.bytes (take n text))
 
 -- why the table broke off
 abbrev pub IsTableStopped : Start → Limits → Tell → Written → Refusal → Type 0
 IsTableStopped s limits tell o why.Output = (done : Bool) × (text : List ℕ) × IsTable s limits tell done text × IsCut text o
-IsTableStopped s limits tell o why.Memory = (o.after ≡ o.before) ⊎ IsTableBegun s limits tell o
+IsTableStopped s limits tell o why.Memory = (o.after.bytes ≡ o.before.bytes) ⊎ IsTableBegun s limits tell o
 IsTableStopped s limits tell o _ = ⊥
 
 -- what a table that broke off is to the program

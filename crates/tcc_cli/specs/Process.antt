@@ -7,7 +7,8 @@ use Rattle.std.specs.declared.io.ErrorKind.{ErrorKind}
 use Rattle.std.specs.declared.io.ErrorKind.TheVariants.{OutOfMemory}
 use Rattle.std.specs.declared.vec.IntoIter.{IntoIter}
 use Rattle.tcc_cli.specs.Around.{Around, IsUntouched}
-use Rattle.tcc_cli.specs.Lines.{IsSilent, IsTold, Written}
+use Rattle.tcc_cli.specs.Lines.{IsSilent, IsTold}
+use Rattle.tcc_world.specs.Page.{Written}
 use Rattle.tcc_cli.specs.Refusals.{line_of, refusal_status}
 use Rattle.tcc_cli.specs.declared.refusal.Refusal.{Refusal}
 use Rattle.tcc_cli.specs.declared.refusal.Refusal.TheVariants as why

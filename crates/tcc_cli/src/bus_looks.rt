@@ -44,19 +44,9 @@ pub fn trace_bus<'a, O: Sink>(
     requires one_home { loaded.now.settings.dirs ≡ 1 }
     requires few { steps ≤ run_limit }
     ensures told { IfOk result (IsBusTraceTold (started loaded.now) seed steps (View.Trace shown.from to shown.states)
-        (record {
-          before = O.bytes out.old;
-          after = O.bytes out.new;
-          faults_before = O.faults out.old;
-          faults_after = O.faults out.new;
-        })) }
+        (record { before = O.page out.old; after = O.page out.new })) }
     ensures stopped { IfErr result (IsBusTraceStopped (started loaded.now) seed steps shown.from to shown.states
-        (record {
-          before = O.bytes out.old;
-          after = O.bytes out.new;
-          faults_before = O.faults out.old;
-          faults_after = O.faults out.new;
-        })) }
+        (record { before = O.page out.old; after = O.page out.new })) }
 {
     let Shown { from, states } = shown;
     match trace_on_bus(alloc, loaded, seed, steps.min(to), from, states, out) {

@@ -78,12 +78,12 @@ pub fn read_files<'a, F: Store>(
     names: &[&'a str],
     files: &mut F,
 ) -> Result<Vec<List<u8>>, Refusal<'a>>
-    ensures read { IfOk result (λ read. AreGiven (F.contents files.old) (map (λ w. w.now) names.now) read.items) }
-    ensures refused { IfErr result (RefusedFiles (F.contents files.old) (map (λ w. w.now) names.now)
-        (F.failed_reads files.old) (F.failed_reads files.new)) }
-    ensures contents { (n : Seq ℕ) → F.contents files.new n ≡ F.contents files.old n }
-    ensures tells { F.tells files.new ≡ F.tells files.old }
-    ensures writes { (n : Seq ℕ) → F.failed_writes files.new n ≡ F.failed_writes files.old n }
+    ensures read { IfOk result (λ read. AreGiven (F.disk files.old).contents (map (λ w. w.now) names.now) read.items) }
+    ensures refused { IfErr result (RefusedFiles (F.disk files.old).contents (map (λ w. w.now) names.now)
+        (F.disk files.old).failed_reads (F.disk files.new).failed_reads) }
+    ensures contents { (n : Seq ℕ) → (F.disk files.new).contents n ≡ (F.disk files.old).contents n }
+    ensures tells { (F.disk files.new).tells ≡ (F.disk files.old).tells }
+    ensures writes { (n : Seq ℕ) → (F.disk files.new).failed_writes n ≡ (F.disk files.old).failed_writes n }
 {
     let mut read = Vec::new(alloc);
     for name in names {

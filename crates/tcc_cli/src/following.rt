@@ -72,18 +72,10 @@ pub fn run_following<'a, F: Store>(
     files: &mut F,
 ) -> Result<Finished, Refusal<'a>>
     ensures ran { IfOk result (λ f. RanFollowing (started loaded.now) bytes.now
-        (λ es. IsRecorded keep.now (F.tells files.old) (F.contents files.new) (record { config = loaded.now.settings; events = es }))
+        (λ es. IsRecorded keep.now (F.disk files.old).tells (F.disk files.new).contents (record { config = loaded.now.settings; events = es }))
         f.done (string_bytes f.text)) }
-    ensures failed { IfErr result (IsFollowStopped (started loaded.now) bytes.now loaded.now.settings keep.now (record {
-      tells = F.tells files.old;
-      before = F.contents files.old;
-      after = F.contents files.new;
-      reads_before = F.failed_reads files.old;
-      reads_after = F.failed_reads files.new;
-      writes_before = F.failed_writes files.old;
-      writes_after = F.failed_writes files.new;
-    })) }
-    ensures others { (n : Seq ℕ) → keep.now ≢ Some n → F.contents files.new n ≡ F.contents files.old n }
+    ensures failed { IfErr result (IsFollowStopped (started loaded.now) bytes.now loaded.now.settings keep.now (record { before = F.disk files.old; after = F.disk files.new })) }
+    ensures others { (n : Seq ℕ) → keep.now ≢ Some n → (F.disk files.new).contents n ≡ (F.disk files.old).contents n }
 {
     settings_are_allowed(loaded.config());
     the_commits_are_the_lists();

@@ -74,19 +74,9 @@ fn write_searched<'a, O: Sink>(
     requires results { AreResults tell searched.now.explored searched.now.results }
     requires stuck { AreStuck searched.now.explored searched.now.stuck }
     ensures told { IfOk result (IsTableTold (started loaded.now) limits tell
-        (record {
-          before = O.bytes out.old;
-          after = O.bytes out.new;
-          faults_before = O.faults out.old;
-          faults_after = O.faults out.new;
-        })) }
+        (record { before = O.page out.old; after = O.page out.new })) }
     ensures stopped { IfErr result (IsTableStopped (started loaded.now) limits tell
-        (record {
-          before = O.bytes out.old;
-          after = O.bytes out.new;
-          faults_before = O.faults out.old;
-          faults_after = O.faults out.new;
-        })) }
+        (record { before = O.page out.old; after = O.page out.new })) }
 {
     let table = Table {
         loaded,
@@ -111,19 +101,9 @@ pub fn write_outcomes<'a, O: Sink>(
 ) -> Result<bool, Refusal<'a>>
     requires { 1 ≤ limits.states }
     ensures told { IfOk result (IsTableTold (started loaded.now) limits tell
-        (record {
-          before = O.bytes out.old;
-          after = O.bytes out.new;
-          faults_before = O.faults out.old;
-          faults_after = O.faults out.new;
-        })) }
+        (record { before = O.page out.old; after = O.page out.new })) }
     ensures stopped { IfErr result (IsTableStopped (started loaded.now) limits tell
-        (record {
-          before = O.bytes out.old;
-          after = O.bytes out.new;
-          faults_before = O.faults out.old;
-          faults_after = O.faults out.new;
-        })) }
+        (record { before = O.page out.old; after = O.page out.new })) }
 {
     match search(alloc, loaded, limits, tell) {
         Ok(searched) => write_searched(alloc, loaded, limits, tell, &searched, out),

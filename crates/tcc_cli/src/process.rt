@@ -34,43 +34,17 @@ pub fn tcc_process<R: Threads + Wait + Sync, F: Store, O: Sink, E: Sink, G: Gate
 ) -> Status
     ensures words { IfOk given (λ words. Caused (words_in words)
         (record {
-          files = record {
-            tells = F.tells files.old;
-            before = F.contents files.old;
-            after = F.contents files.new;
-            reads_before = F.failed_reads files.old;
-            reads_after = F.failed_reads files.new;
-            writes_before = F.failed_writes files.old;
-            writes_after = F.failed_writes files.new;
-          };
-          out = record {
-            before = O.bytes out.old;
-            after = O.bytes out.new;
-            faults_before = O.faults out.old;
-            faults_after = O.faults out.new;
-          };
+          files = record { before = F.disk files.old; after = F.disk files.new };
+          out = record { before = O.page out.old; after = O.page out.new };
         })
-        (record { before = E.bytes err.old; after = E.bytes err.new; faults_before = E.faults err.old; faults_after = E.faults err.new })
+        (record { before = E.page err.old; after = E.page err.new })
         result) }
     ensures refused { IfErr given (λ e. IsRefusedAtOnce (unread (error_kind e))
         (record {
-          files = record {
-            tells = F.tells files.old;
-            before = F.contents files.old;
-            after = F.contents files.new;
-            reads_before = F.failed_reads files.old;
-            reads_after = F.failed_reads files.new;
-            writes_before = F.failed_writes files.old;
-            writes_after = F.failed_writes files.new;
-          };
-          out = record {
-            before = O.bytes out.old;
-            after = O.bytes out.new;
-            faults_before = O.faults out.old;
-            faults_after = O.faults out.new;
-          };
+          files = record { before = F.disk files.old; after = F.disk files.new };
+          out = record { before = O.page out.old; after = O.page out.new };
         })
-        (record { before = E.bytes err.old; after = E.bytes err.new; faults_before = E.faults err.old; faults_after = E.faults err.new })
+        (record { before = E.page err.old; after = E.page err.new })
         result) }
 {
     let given = match given {

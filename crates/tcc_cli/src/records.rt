@@ -34,19 +34,11 @@ pub fn record<'a, F: Store>(
     files: &mut F,
 ) -> Result<(), Refusal<'a>>
     requires few { length refined.now.taken ≤ text_limit }
-    ensures recorded { OnOk result (IsRecorded keep.now (F.tells files.old) (F.contents files.new)
+    ensures recorded { OnOk result (IsRecorded keep.now (F.disk files.old).tells (F.disk files.new).contents
         (record { config = settings_of refined.now.machine; events = refined.now.taken })) }
-    ensures failed { IfErr result (IsNotWritten keep.now (record {
-      tells = F.tells files.old;
-      before = F.contents files.old;
-      after = F.contents files.new;
-      reads_before = F.failed_reads files.old;
-      reads_after = F.failed_reads files.new;
-      writes_before = F.failed_writes files.old;
-      writes_after = F.failed_writes files.new;
-    })) }
-    ensures others { (n : Seq ℕ) → keep.now ≢ Some n → F.contents files.new n ≡ F.contents files.old n }
-    ensures reads { (n : Seq ℕ) → F.failed_reads files.new n ≡ F.failed_reads files.old n }
+    ensures failed { IfErr result (IsNotWritten keep.now (record { before = F.disk files.old; after = F.disk files.new })) }
+    ensures others { (n : Seq ℕ) → keep.now ≢ Some n → (F.disk files.new).contents n ≡ (F.disk files.old).contents n }
+    ensures reads { (n : Seq ℕ) → (F.disk files.new).failed_reads n ≡ (F.disk files.old).failed_reads n }
 {
     let Some(name) = keep else {
         return Ok(());

@@ -115,19 +115,9 @@ enum Piece<'a> {
 }
 
 fn write_piece<S: Sink>(sink: &mut S, piece: &Piece) -> Result<(), SinkFailed>
-    ensures written { OnOk result (IsWhole (piece_text piece.now) (record {
-      before = S.bytes sink.old;
-      after = S.bytes sink.new;
-      faults_before = S.faults sink.old;
-      faults_after = S.faults sink.new;
-    })) }
-    ensures cut { OnErr result (IsCut (piece_text piece.now) (record {
-      before = S.bytes sink.old;
-      after = S.bytes sink.new;
-      faults_before = S.faults sink.old;
-      faults_after = S.faults sink.new;
-    })) }
-    ensures faults_stay { S.faults sink.old ≤ S.faults sink.new }
+    ensures written { OnOk result (IsWhole (piece_text piece.now) (record { before = S.page sink.old; after = S.page sink.new })) }
+    ensures cut { OnErr result (IsCut (piece_text piece.now) (record { before = S.page sink.old; after = S.page sink.new })) }
+    ensures faults_stay { (S.page sink.old).faults ≤ (S.page sink.new).faults }
 {
     match piece {
         Piece::Text(text) => write_all(sink, text.as_bytes()),
@@ -137,12 +127,7 @@ fn write_piece<S: Sink>(sink: &mut S, piece: &Piece) -> Result<(), SinkFailed>
 
 /// Writes the pieces one after the other, as far as the sink takes them. Takes no memory.
 fn write_pieces<S: Sink>(sink: &mut S, pieces: &[Piece])
-    ensures { IsTold (flat_map piece_text pieces.now) (record {
-      before = S.bytes sink.old;
-      after = S.bytes sink.new;
-      faults_before = S.faults sink.old;
-      faults_after = S.faults sink.new;
-    }) }
+    ensures { IsTold (flat_map piece_text pieces.now) (record { before = S.page sink.old; after = S.page sink.new }) }
 {
     for piece in pieces {
         match write_piece(sink, piece) {
@@ -164,12 +149,7 @@ fn reader_word(reader: Reader) -> &'static str
 /// The line of an image's fault.
 #[tactic(auto, unfolding(crate::specs::Refusals::line_of))]
 fn write_fault<S: Sink>(sink: &mut S, fault: &ImageFault)
-    ensures { IsTold (line_of (Image fault.now)) (record {
-      before = S.bytes sink.old;
-      after = S.bytes sink.new;
-      faults_before = S.faults sink.old;
-      faults_after = S.faults sink.new;
-    }) }
+    ensures { IsTold (line_of (Image fault.now)) (record { before = S.page sink.old; after = S.page sink.new }) }
 {
     let pieces = [
         Piece::Text("tcc: image "),
@@ -187,12 +167,7 @@ fn write_fault<S: Sink>(sink: &mut S, fault: &ImageFault)
 
 #[tactic(auto, unfolding(crate::specs::Refusals::line_of))]
 fn write_line<S: Sink>(sink: &mut S, refusal: &Refusal)
-    ensures { IsTold (line_of refusal.now) (record {
-      before = S.bytes sink.old;
-      after = S.bytes sink.new;
-      faults_before = S.faults sink.old;
-      faults_after = S.faults sink.new;
-    }) }
+    ensures { IsTold (line_of refusal.now) (record { before = S.page sink.old; after = S.page sink.new }) }
 {
     match refusal {
         Refusal::Words => write_pieces(sink, &[Piece::Text("tcc: words\n")]),
@@ -240,12 +215,7 @@ fn write_line<S: Sink>(sink: &mut S, refusal: &Refusal)
 /// Where `err` fails, a first part of the line was written, and the status is the same. Takes no memory.
 pub fn refuse<E: Sink>(err: &mut E, refusal: &Refusal) -> Status
     ensures status { result ≡ refusal_status refusal.now }
-    ensures told { IsTold (line_of refusal.now) (record {
-      before = E.bytes err.old;
-      after = E.bytes err.new;
-      faults_before = E.faults err.old;
-      faults_after = E.faults err.new;
-    }) }
+    ensures told { IsTold (line_of refusal.now) (record { before = E.page err.old; after = E.page err.new }) }
 {
     write_line(err, refusal);
     refusal.status()

@@ -38,19 +38,11 @@ pub fn run_recorded<'a, R: Threads + Wait + Sync, F: Store, G: Gate + Sync>(
     requires batch { (1 ≤ plan.batch) × (plan.batch ≤ 1024) }
     ensures ran { IfOk result (λ f. Ran (started loaded.now)
         (λ es. IsMade plan.threads (started loaded.now) plan.seed plan.steps es
-        × IsRecorded keep.now (F.tells files.old) (F.contents files.new) (record { config = loaded.now.settings; events = es }))
+        × IsRecorded keep.now (F.disk files.old).tells (F.disk files.new).contents (record { config = loaded.now.settings; events = es }))
         (run_text (started loaded.now)) f.done (string_bytes f.text)) }
     ensures failed { IfErr result (IsRunStopped (IsMade plan.threads (started loaded.now) plan.seed plan.steps) loaded.now.settings
-        keep.now (record {
-          tells = F.tells files.old;
-          before = F.contents files.old;
-          after = F.contents files.new;
-          reads_before = F.failed_reads files.old;
-          reads_after = F.failed_reads files.new;
-          writes_before = F.failed_writes files.old;
-          writes_after = F.failed_writes files.new;
-        })) }
-    ensures others { (n : Seq ℕ) → keep.now ≢ Some n → F.contents files.new n ≡ F.contents files.old n }
+        keep.now (record { before = F.disk files.old; after = F.disk files.new })) }
+    ensures others { (n : Seq ℕ) → keep.now ≢ Some n → (F.disk files.new).contents n ≡ (F.disk files.old).contents n }
 {
     let refined = match run_by(rt, alloc, loaded, plan, gate) {
         Ok(refined) => refined,
@@ -122,19 +114,11 @@ pub fn run_phased<'a, F: Store>(
     requires few { steps ≤ run_limit }
     ensures ran { IfOk result (λ f. RanInPhases (started loaded.now)
         (λ es. IsPhasePicked (started loaded.now) seed steps es
-        × IsRecorded keep.now (F.tells files.old) (F.contents files.new) (record { config = loaded.now.settings; events = es }))
+        × IsRecorded keep.now (F.disk files.old).tells (F.disk files.new).contents (record { config = loaded.now.settings; events = es }))
         f.done (string_bytes f.text)) }
     ensures failed { IfErr result (IsRunStopped (IsPhasePicked (started loaded.now) seed steps) loaded.now.settings
-        keep.now (record {
-          tells = F.tells files.old;
-          before = F.contents files.old;
-          after = F.contents files.new;
-          reads_before = F.failed_reads files.old;
-          reads_after = F.failed_reads files.new;
-          writes_before = F.failed_writes files.old;
-          writes_after = F.failed_writes files.new;
-        })) }
-    ensures others { (n : Seq ℕ) → keep.now ≢ Some n → F.contents files.new n ≡ F.contents files.old n }
+        keep.now (record { before = F.disk files.old; after = F.disk files.new })) }
+    ensures others { (n : Seq ℕ) → keep.now ≢ Some n → (F.disk files.new).contents n ≡ (F.disk files.old).contents n }
 {
     let system = match phase_run(alloc, loaded, seed, steps) {
         Ok(system) => system,

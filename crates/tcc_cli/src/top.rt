@@ -76,23 +76,10 @@ pub fn tcc_main<R: Threads + Wait + Sync, F: Store, O: Sink, E: Sink, G: Gate + 
 ) -> Status
     ensures { Caused (map (λ w. w.now) words.now)
         (record {
-          files = record {
-            tells = F.tells files.old;
-            before = F.contents files.old;
-            after = F.contents files.new;
-            reads_before = F.failed_reads files.old;
-            reads_after = F.failed_reads files.new;
-            writes_before = F.failed_writes files.old;
-            writes_after = F.failed_writes files.new;
-          };
-          out = record {
-            before = O.bytes out.old;
-            after = O.bytes out.new;
-            faults_before = O.faults out.old;
-            faults_after = O.faults out.new;
-          };
+          files = record { before = F.disk files.old; after = F.disk files.new };
+          out = record { before = O.page out.old; after = O.page out.new };
         })
-        (record { before = E.bytes err.old; after = E.bytes err.new; faults_before = E.faults err.old; faults_after = E.faults err.new })
+        (record { before = E.page err.old; after = E.page err.new })
         result }
 {
     commands_are_in_bounds();
@@ -118,24 +105,11 @@ fn carry_out<'a, R: Threads + Wait + Sync, F: Store, O: Sink, G: Gate + Sync>(
     requires { IsInBounds command.now }
     ensures ends { EndsOf command.now
         (record {
-          files = record {
-            tells = F.tells files.old;
-            before = F.contents files.old;
-            after = F.contents files.new;
-            reads_before = F.failed_reads files.old;
-            reads_after = F.failed_reads files.new;
-            writes_before = F.failed_writes files.old;
-            writes_after = F.failed_writes files.new;
-          };
-          out = record {
-            before = O.bytes out.old;
-            after = O.bytes out.new;
-            faults_before = O.faults out.old;
-            faults_after = O.faults out.new;
-          };
+          files = record { before = F.disk files.old; after = F.disk files.new };
+          out = record { before = O.page out.old; after = O.page out.new };
         })
         result }
-    ensures others { (n : Seq ℕ) → record_of command.now ≢ Some n → F.contents files.new n ≡ F.contents files.old n }
+    ensures others { (n : Seq ℕ) → record_of command.now ≢ Some n → (F.disk files.new).contents n ≡ (F.disk files.old).contents n }
 {
     let names = match names(alloc, command) {
         Ok(names) => names,
@@ -209,23 +183,10 @@ fn tell<'a, R: Threads + Wait + Sync, F: Store, O: Sink, G: Gate + Sync>(
     requires start { started loaded.now ≡ start_from command.now read.now }
     requires settings { loaded.now.settings ≡ (machine_of command.now).config }
     ensures tells { Tells command.now read.now
-        (record {
-          tells = F.tells files.old;
-          before = F.contents files.old;
-          after = F.contents files.new;
-          reads_before = F.failed_reads files.old;
-          reads_after = F.failed_reads files.new;
-          writes_before = F.failed_writes files.old;
-          writes_after = F.failed_writes files.new;
-        })
-        (record {
-          before = O.bytes out.old;
-          after = O.bytes out.new;
-          faults_before = O.faults out.old;
-          faults_after = O.faults out.new;
-        })
+        (record { before = F.disk files.old; after = F.disk files.new })
+        (record { before = O.page out.old; after = O.page out.new })
         result }
-    ensures others { (n : Seq ℕ) → record_of command.now ≢ Some n → F.contents files.new n ≡ F.contents files.old n }
+    ensures others { (n : Seq ℕ) → record_of command.now ≢ Some n → (F.disk files.new).contents n ≡ (F.disk files.old).contents n }
 {
     match command {
         Command::Look {
@@ -302,23 +263,10 @@ fn print<'a, R: Threads + Wait + Sync, F: Store, O: Sink, G: Gate + Sync>(
     requires start { started loaded.now ≡ start_from command.now read.now }
     requires settings { loaded.now.settings ≡ (machine_of command.now).config }
     ensures tells { Tells command.now read.now
-        (record {
-          tells = F.tells files.old;
-          before = F.contents files.old;
-          after = F.contents files.new;
-          reads_before = F.failed_reads files.old;
-          reads_after = F.failed_reads files.new;
-          writes_before = F.failed_writes files.old;
-          writes_after = F.failed_writes files.new;
-        })
-        (record {
-          before = O.bytes out.old;
-          after = O.bytes out.new;
-          faults_before = O.faults out.old;
-          faults_after = O.faults out.new;
-        })
+        (record { before = F.disk files.old; after = F.disk files.new })
+        (record { before = O.page out.old; after = O.page out.new })
         result }
-    ensures others { (n : Seq ℕ) → record_of command.now ≢ Some n → F.contents files.new n ≡ F.contents files.old n }
+    ensures others { (n : Seq ℕ) → record_of command.now ≢ Some n → (F.disk files.new).contents n ≡ (F.disk files.old).contents n }
 {
     let finished = match finish(rt, alloc, command, loaded, read, files, gate) {
         Ok(finished) => finished,
@@ -345,17 +293,10 @@ fn finish<'a, R: Threads + Wait + Sync, F: Store, G: Gate + Sync>(
     requires count { length read.now ≡ length (files_of command.now) }
     requires start { started loaded.now ≡ start_from command.now read.now }
     requires settings { loaded.now.settings ≡ (machine_of command.now).config }
-    ensures comes { IfOk result (λ f. Comes command.now read.now (F.tells files.old) (F.contents files.new) f.done (string_bytes f.text)) }
-    ensures refused { IfErr result (IsStopped command.now read.now (record {
-      tells = F.tells files.old;
-      before = F.contents files.old;
-      after = F.contents files.new;
-      reads_before = F.failed_reads files.old;
-      reads_after = F.failed_reads files.new;
-      writes_before = F.failed_writes files.old;
-      writes_after = F.failed_writes files.new;
-    })) }
-    ensures others { (n : Seq ℕ) → record_of command.now ≢ Some n → F.contents files.new n ≡ F.contents files.old n }
+    ensures comes { IfOk result
+        (λ f. Comes command.now read.now (F.disk files.old).tells (F.disk files.new).contents f.done (string_bytes f.text)) }
+    ensures refused { IfErr result (IsStopped command.now read.now (record { before = F.disk files.old; after = F.disk files.new })) }
+    ensures others { (n : Seq ℕ) → record_of command.now ≢ Some n → (F.disk files.new).contents n ≡ (F.disk files.old).contents n }
 {
     match command {
         Command::Run {
@@ -437,18 +378,9 @@ fn finish<'a, R: Threads + Wait + Sync, F: Store, G: Gate + Sync>(
 
 /// Writes a text: whether what it tells of has run to its end.
 fn show<O: Sink>(finished: &Finished, out: &mut O) -> Result<bool, SinkFailed>
-    ensures whole { IfOk result (λ done. (done ≡ finished.now.done) × IsWhole (string_bytes finished.now.text) (record {
-      before = O.bytes out.old;
-      after = O.bytes out.new;
-      faults_before = O.faults out.old;
-      faults_after = O.faults out.new;
-    })) }
-    ensures cut { OnErr result (IsCut (string_bytes finished.now.text) (record {
-      before = O.bytes out.old;
-      after = O.bytes out.new;
-      faults_before = O.faults out.old;
-      faults_after = O.faults out.new;
-    })) }
+    ensures whole { IfOk result (λ done. (done ≡ finished.now.done)
+        × IsWhole (string_bytes finished.now.text) (record { before = O.page out.old; after = O.page out.new })) }
+    ensures cut { OnErr result (IsCut (string_bytes finished.now.text) (record { before = O.page out.old; after = O.page out.new })) }
 {
     match write_all(out, finished.text.as_bytes()) {
         Ok(()) => Ok(finished.done),

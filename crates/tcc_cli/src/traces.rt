@@ -37,19 +37,9 @@ pub fn trace_by_seed<'a, O: Sink>(
 ) -> Result<bool, Refusal<'a>>
     requires few { steps ≤ run_limit }
     ensures told { IfOk result (IsTraceTold (started loaded.now) (ArePicked (started loaded.now) seed steps to) shown
-        (record {
-          before = O.bytes out.old;
-          after = O.bytes out.new;
-          faults_before = O.faults out.old;
-          faults_after = O.faults out.new;
-        })) }
+        (record { before = O.page out.old; after = O.page out.new })) }
     ensures stopped { IfErr result (IsTraceStopped (started loaded.now) (ArePicked (started loaded.now) seed steps to) shown (λ line. ⊥)
-        (record {
-          before = O.bytes out.old;
-          after = O.bytes out.new;
-          faults_before = O.faults out.old;
-          faults_after = O.faults out.new;
-        })) }
+        (record { before = O.page out.old; after = O.page out.new })) }
 {
     a_picked_schedule_is_a_run();
     let most = steps.min(to) as u32;
@@ -70,19 +60,9 @@ fn trace_listed<'a, O: Sink>(
 ) -> Result<bool, Refusal<'a>>
     requires few { length listed.now ≤ run_limit }
     ensures told { IfOk result (IsTraceTold (started loaded.now) (λ es. es ≡ map event_of listed.now) shown
-        (record {
-          before = O.bytes out.old;
-          after = O.bytes out.new;
-          faults_before = O.faults out.old;
-          faults_after = O.faults out.new;
-        })) }
+        (record { before = O.page out.old; after = O.page out.new })) }
     ensures stopped { IfErr result (IsTraceStopped (started loaded.now) (λ es. es ≡ map event_of listed.now) shown (λ line. ⊥)
-        (record {
-          before = O.bytes out.old;
-          after = O.bytes out.new;
-          faults_before = O.faults out.old;
-          faults_after = O.faults out.new;
-        })) }
+        (record { before = O.page out.old; after = O.page out.new })) }
 {
     let mut events = Listed::new(listed);
     match trace(alloc, loaded, &mut events, listed.len() as u32, shown, out) {
@@ -104,20 +84,10 @@ pub fn trace_by_schedule<'a, O: Sink>(
 ) -> Result<bool, Refusal<'a>>
     requires settings { loaded.now.settings ≡ config.now }
     ensures told { IfOk result (IsTraceTold (started loaded.now) (AreFirst config.now bytes.now to) shown
-        (record {
-          before = O.bytes out.old;
-          after = O.bytes out.new;
-          faults_before = O.faults out.old;
-          faults_after = O.faults out.new;
-        })) }
+        (record { before = O.page out.old; after = O.page out.new })) }
     ensures stopped { IfErr result (IsTraceStopped (started loaded.now) (AreFirst config.now bytes.now to) shown
         (IsFaultOfFirst (started loaded.now) config.now bytes.now to)
-        (record {
-          before = O.bytes out.old;
-          after = O.bytes out.new;
-          faults_before = O.faults out.old;
-          faults_after = O.faults out.new;
-        })) }
+        (record { before = O.page out.old; after = O.page out.new })) }
 {
     let refined = match run_first(alloc, loaded, config, bytes, to) {
         Ok(refined) => refined,

@@ -1,7 +1,9 @@
 pub mod Booked
+pub mod Disk
 pub mod Faults
 pub mod Files
+pub mod Held
 pub mod Names
+pub mod Page
 pub mod Shelf
 pub mod Told
-pub mod Written

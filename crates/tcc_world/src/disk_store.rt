@@ -82,13 +82,12 @@ impl<R: Files> Store for DiskStore<R> {
     ghost use Rattle.std.specs.Prelude.{false, None};
     ghost use Rattle.tcc_world.specs.Names.{times};
 
-    ghost tells = { λ _. false };
-
-    ghost contents = { λ _ _. None };
-
-    ghost failed_reads = { λ s name. times s.unread name };
-
-    ghost failed_writes = { λ s name. times s.unwritten name };
+    ghost disk = { λ s. record {
+      tells = false;
+      contents = λ _. None;
+      failed_reads = times s.unread;
+      failed_writes = times s.unwritten;
+    } };
 
     #[tactic(auto, using(crate::proofs::Holding::booking))]
     fn read(&mut self, alloc: Global, name: &str) -> Result<Vec<u8>, StoreError> {

@@ -147,13 +147,12 @@ impl Store for MapStore {
     ghost use Rattle.tcc_world.specs.Shelf.{holding, counted, readable, read_failed, write_failed, is_due};
     ghost use Rattle.tcc_world.specs.Names.{times};
 
-    ghost tells = { λ _. true };
-
-    ghost contents = { λ s name. by_name.get s.files name };
-
-    ghost failed_reads = { λ s name. times s.unread name };
-
-    ghost failed_writes = { λ s name. times s.unwritten name };
+    ghost disk = { λ s. record {
+      tells = true;
+      contents = by_name.get s.files;
+      failed_reads = times s.unread;
+      failed_writes = times s.unwritten;
+    } };
 
     /// Fails exactly where its number is in the list or the name has no contents. After `Memory` nothing has changed.
     #[tactic(auto, using(crate::proofs::Holding::booking))]

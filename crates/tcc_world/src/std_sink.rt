@@ -25,9 +25,7 @@ impl<W> StdSink<W> {
 }
 
 impl<W: Write> Sink for StdSink<W> {
-    ghost bytes = { λ s. W.contents s.stream };
-
-    ghost faults = { λ s. s.faults };
+    ghost page = { λ s. record { bytes = W.contents s.stream; faults = s.faults } };
 
     /// A stream that takes nothing of a piece that isn't empty has failed.
     fn write(&mut self, piece: &[u8]) -> Result<usize, SinkFailed> {

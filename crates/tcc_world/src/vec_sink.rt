@@ -20,9 +20,9 @@ pub struct VecSink {
 
 impl Model for VecSink {
     ghost use Rattle.std.specs.Prelude.{◌≤◌, vec_len, vec_capacity};
-    ghost use Rattle.tcc_world.specs.Written.{Written};
+    ghost use Rattle.tcc_world.specs.Held.{Held};
 
-    ghost Value = { Written };
+    ghost Value = { Held };
 
     ghost view = { λ s. record { bytes = s.bytes.items; limit = s.limit; fails = s.fails.items; calls = s.calls; faults = s.faults } };
 
@@ -30,7 +30,7 @@ impl Model for VecSink {
 }
 
 impl VecSink {
-    ghost use Rattle.tcc_world.specs.Written.{empty_sink};
+    ghost use Rattle.tcc_world.specs.Held.{empty_sink};
 
     /// An empty sink with room for `limit` bytes, which is made here. Of the calls that bring a byte, numbered from 0,
     /// those in `fails` fail, and so do those that find it full.
@@ -60,11 +60,9 @@ impl VecSink {
 
 impl Sink for VecSink {
     ghost use Rattle.std.specs.Prelude.{Some};
-    ghost use Rattle.tcc_world.specs.Written.{answer, after_call};
+    ghost use Rattle.tcc_world.specs.Held.{answer, after_call};
 
-    ghost bytes = { λ s. Some s.bytes };
-
-    ghost faults = { λ s. s.faults };
+    ghost page = { λ s. record { bytes = Some s.bytes; faults = s.faults } };
 
     /// Takes as many bytes as there is room for, and no memory. A call with an empty piece has no number; calls past
     /// number 2^64 - 1 have that number.

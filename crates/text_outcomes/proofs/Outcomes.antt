@@ -4,7 +4,8 @@ use Rattle.run_outcomes.specs.Ways.{Explored}
 use Rattle.run_outcomes.specs.declared.outcomes.Results.{Results}
 use Rattle.run_outcomes.specs.declared.outcomes.Tell.{Tell}
 use Rattle.text_outcomes.specs.Table.{Table, head_text, outcome_of, outcome_text, outcomes_text, table_text, tail_text}
-use Rattle.text_outcomes.specs.Written.{IsBroken, IsCut, IsPut, Written}
+use Rattle.text_outcomes.specs.Written.{IsBroken, IsCut, IsPut}
+use Rattle.tcc_world.specs.Page.{Written}
 use Rattle.text_outcomes.specs.declared.writing.Broken.{Broken}
 use Rattle.text_outcomes.proofs.Parts.{IsSplit, first_texts, outcome-some, split, texts-more}
 use Rattle.text_outcomes.proofs.Put.{broken-more, cut-more, put-cut, put-more, put-put, put-short}

@@ -6,7 +6,8 @@ use Rattle.std.proofs.lemmas.List.{length-append, take-append-le}
 use Rattle.std.specs.Io.KnownBytes.{Appends}
 use Rattle.base_lemmas.proofs.Lemmas.{appends-more, appends-none}
 use Rattle.tcc_world.specs.Faults.{Rose}
-use Rattle.text_outcomes.specs.Written.{IsBroken, IsCut, IsPut, Written}
+use Rattle.text_outcomes.specs.Written.{IsBroken, IsCut, IsPut}
+use Rattle.tcc_world.specs.Page.{Written}
 use Rattle.text_outcomes.specs.declared.writing.Broken.{Broken}
 use Rattle.text_outcomes.specs.declared.writing.Broken.TheVariants.{Memory, Output}
 
@@ -86,11 +87,11 @@ pub rose-later : (a b c : ℕ) → a ≤ b → Rose b c → Rose a c
 rose-later a b c h r = omega (arith, h, r)
 
 pub broken-later : (all held : List ℕ) (a b c : Option (List ℕ)) (f g k : ℕ) (why : Broken) → IsPut all held a b → f ≤ g
-    → IsBroken held (record { before = b; after = c; faults_before = g; faults_after = k }) why
-    → IsBroken all (record { before = a; after = c; faults_before = f; faults_after = k }) why
+    → IsBroken held (record { before = record { bytes = b; faults = g }; after = record { bytes = c; faults = k } }) why
+    → IsBroken all (record { before = record { bytes = a; faults = f }; after = record { bytes = c; faults = k } }) why
 broken-later all held a b c f g k Memory p le q = put-cut all held a b c p q
 broken-later all held a b c f g k Output p le q = (put-cut all held a b c p q.0, rose-later f g k le q.1)
 
 pub broken-more : (all more : List ℕ) (o : Written) (why : Broken) → IsBroken all o why → IsBroken (all ++ more) o why
-broken-more all more o Memory p = cut-more all more o.before o.after p
-broken-more all more o Output p = (cut-more all more o.before o.after p.0, p.1)
+broken-more all more o Memory p = cut-more all more o.before.bytes o.after.bytes p
+broken-more all more o Output p = (cut-more all more o.before.bytes o.after.bytes p.0, p.1)

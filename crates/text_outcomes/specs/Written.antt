@@ -2,15 +2,9 @@
 use Rattle.std.specs.Prelude.{ℕ, ◌≡◌, ◌<◌, List, ◌++◌, Option, length, take}
 use Rattle.std.specs.Io.KnownBytes.{Appends}
 use Rattle.tcc_world.specs.Faults.{Rose}
+use Rattle.tcc_world.specs.Page.{Written}
 use Rattle.text_outcomes.specs.declared.writing.Broken.{Broken}
 use Rattle.text_outcomes.specs.declared.writing.Broken.TheVariants.{Memory, Output}
-
--- an output before and after, as far as it tells its bytes, and its count of faults
-pub record Written : Type 0 where
-  pub before : Option (List ℕ)
-  pub after : Option (List ℕ)
-  pub faults_before : ℕ
-  pub faults_after : ℕ
 
 -- of these bytes a first part was written, and the rest is held
 pub record IsPut (all held : List ℕ) (before after : Option (List ℕ)) : Type 0 where
@@ -26,5 +20,5 @@ pub record IsCut (bytes : List ℕ) (before after : Option (List ℕ)) : Type 0 
 
 -- why the bytes broke off, and what was written of them
 abbrev pub IsBroken : (bytes : List ℕ) → Written → Broken → Type 0
-IsBroken bytes o Memory = IsCut bytes o.before o.after
-IsBroken bytes o Output = IsCut bytes o.before o.after × Rose o.faults_before o.faults_after
+IsBroken bytes o Memory = IsCut bytes o.before.bytes o.after.bytes
+IsBroken bytes o Output = IsCut bytes o.before.bytes o.after.bytes × Rose o.before.faults o.after.faults

@@ -27,10 +27,10 @@ pub enum Broken {
 /// Writes all that is held, and holds nothing then.
 fn put_all<O: Sink>(alloc: Global, held: &mut String, out: &mut O) -> Result<(), SinkFailed>
     ensures empty { OnOk result (string_bytes held.new ≡ []) }
-    ensures written { OnOk result (Appends (O.bytes out.old) (O.bytes out.new) (string_bytes held.old)) }
-    ensures cut { OnErr result (IsCut (string_bytes held.old) (O.bytes out.old) (O.bytes out.new)) }
-    ensures cause { OnErr result (Rose (O.faults out.old) (O.faults out.new)) }
-    ensures faults_stay { O.faults out.old ≤ O.faults out.new }
+    ensures written { OnOk result (Appends (O.page out.old).bytes (O.page out.new).bytes (string_bytes held.old)) }
+    ensures cut { OnErr result (IsCut (string_bytes held.old) (O.page out.old).bytes (O.page out.new).bytes) }
+    ensures cause { OnErr result (Rose (O.page out.old).faults (O.page out.new).faults) }
+    ensures faults_stay { (O.page out.old).faults ≤ (O.page out.new).faults }
 {
     write_all(out, held.as_bytes())?;
     *held = String::new(alloc);
@@ -39,10 +39,10 @@ fn put_all<O: Sink>(alloc: Global, held: &mut String, out: &mut O) -> Result<(),
 
 /// Writes what is held where that is a piece.
 fn put_piece<O: Sink>(alloc: Global, held: &mut String, out: &mut O) -> Result<(), SinkFailed>
-    ensures put { OnOk result (IsPut (string_bytes held.old) (string_bytes held.new) (O.bytes out.old) (O.bytes out.new)) }
-    ensures cut { OnErr result (IsCut (string_bytes held.old) (O.bytes out.old) (O.bytes out.new)) }
-    ensures cause { OnErr result (Rose (O.faults out.old) (O.faults out.new)) }
-    ensures faults_stay { O.faults out.old ≤ O.faults out.new }
+    ensures put { OnOk result (IsPut (string_bytes held.old) (string_bytes held.new) (O.page out.old).bytes (O.page out.new).bytes) }
+    ensures cut { OnErr result (IsCut (string_bytes held.old) (O.page out.old).bytes (O.page out.new).bytes) }
+    ensures cause { OnErr result (Rose (O.page out.old).faults (O.page out.new).faults) }
+    ensures faults_stay { (O.page out.old).faults ≤ (O.page out.new).faults }
 {
     if held.len() < PIECE {
         return Ok(());
@@ -60,15 +60,10 @@ fn put_outcomes<O: Sink>(
     requires one { IsOne table.now }
     requires fit { AreWords table.now.loaded.now }
     ensures put { OnOk result (IsPut (string_bytes held.old ++ outcomes_text table.now.tell (table_of table.now)) (string_bytes held.new)
-        (O.bytes out.old) (O.bytes out.new)) }
-    ensures faults_stay { O.faults out.old ≤ O.faults out.new }
+        (O.page out.old).bytes (O.page out.new).bytes) }
+    ensures faults_stay { (O.page out.old).faults ≤ (O.page out.new).faults }
     ensures broken { IfErr result (IsBroken (string_bytes held.old ++ outcomes_text table.now.tell (table_of table.now))
-        (record {
-          before = O.bytes out.old;
-          after = O.bytes out.new;
-          faults_before = O.faults out.old;
-          faults_after = O.faults out.new;
-        })) }
+        (record { before = O.page out.old; after = O.page out.new })) }
 {
     let results = table.results;
     for i in 0..results.firsts.items.len() {
@@ -92,14 +87,10 @@ fn put_tail<O: Sink>(
     out: &mut O,
 ) -> Result<(), Broken>
     requires { IsOne table.now }
-    ensures written { OnOk result (Appends (O.bytes out.old) (O.bytes out.new) (string_bytes held.old ++ tail_text (table_of table.now))) }
+    ensures written { OnOk result
+        (Appends (O.page out.old).bytes (O.page out.new).bytes (string_bytes held.old ++ tail_text (table_of table.now))) }
     ensures broken { IfErr result (IsBroken (string_bytes held.old ++ tail_text (table_of table.now))
-        (record {
-          before = O.bytes out.old;
-          after = O.bytes out.new;
-          faults_before = O.faults out.old;
-          faults_after = O.faults out.new;
-        })) }
+        (record { before = O.page out.old; after = O.page out.new })) }
 {
     match push_tail(held, table) {
         Ok(()) => {}
@@ -117,14 +108,9 @@ fn put_tail<O: Sink>(
 /// that of the text, and RAM's words are looked at once; the memory is that of a piece and of the longest list of transactions.
 pub fn write_table<O: Sink>(alloc: Global, table: &Table, out: &mut O) -> Result<(), Broken>
     requires { IsOne table.now }
-    ensures written { OnOk result (Appends (O.bytes out.old) (O.bytes out.new) (table_text table.now.tell (table_of table.now))) }
+    ensures written { OnOk result (Appends (O.page out.old).bytes (O.page out.new).bytes (table_text table.now.tell (table_of table.now))) }
     ensures broken { IfErr result (IsBroken (table_text table.now.tell (table_of table.now))
-        (record {
-          before = O.bytes out.old;
-          after = O.bytes out.new;
-          faults_before = O.faults out.old;
-          faults_after = O.faults out.new;
-        })) }
+        (record { before = O.page out.old; after = O.page out.new })) }
 {
     words_fit(table.loaded);
     let mut held = String::new(alloc);

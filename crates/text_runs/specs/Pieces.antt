@@ -3,15 +3,9 @@ use Rattle.std.specs.Prelude.{ℕ, ◌≡◌, ◌<◌, ◌⊎◌, Bool, true, fa
 use Rattle.std.specs.Io.KnownBytes.{Appends}
 use Rattle.schedule_text.specs.Grammar.{joined}
 use Rattle.tcc_world.specs.Faults.{Rose}
+use Rattle.tcc_world.specs.Page.{Written}
 use Rattle.text_runs.specs.declared.pieces.Broken.{Broken}
 use Rattle.text_runs.specs.declared.pieces.Broken.TheVariants.{Memory, Output}
-
--- an output before and after, as far as it tells its bytes, and its count of faults
-pub record Written : Type 0 where
-  pub before : Option (List ℕ)
-  pub after : Option (List ℕ)
-  pub faults_before : ℕ
-  pub faults_after : ℕ
 
 -- the texts from number `from` on, one after another, where the first is number 0
 abbrev pub window : (from : ℕ) → List (List ℕ) → List ℕ
@@ -55,10 +49,11 @@ pub record HasBegun {Run : Type 0} (leads : Run → List (List ℕ) → Type 0) 
 
 -- why the texts broke off, and what was written of them
 abbrev pub IsStopped : {Run : Type 0} → (leads : Run → List (List ℕ) → Type 0) → (from : ℕ) → (held : List ℕ) → Written → Broken → Type 0
-IsStopped leads from held o Memory = HasBegun leads from held o.before o.after
-IsStopped leads from held o Output = HasBegun leads from held o.before o.after × Rose o.faults_before o.faults_after
+IsStopped leads from held o Memory = HasBegun leads from held o.before.bytes o.after.bytes
+IsStopped leads from held o Output = HasBegun leads from held o.before.bytes o.after.bytes × Rose o.before.faults o.after.faults
 
 -- the last lines aren't all there: a first part of what was held was written, or all of it and a first part of the last lines
 abbrev pub IsEndCut : (held tail : List ℕ) → Written → Broken → Type 0
-IsEndCut held tail o Memory = IsPart held o.before o.after
-IsEndCut held tail o Output = (IsPart held o.before o.after ⊎ IsCut (held ++ tail) o.before o.after) × Rose o.faults_before o.faults_after
+IsEndCut held tail o Memory = IsPart held o.before.bytes o.after.bytes
+IsEndCut held tail o Output = (IsPart held o.before.bytes o.after.bytes ⊎ IsCut (held ++ tail) o.before.bytes o.after.bytes)
+    × Rose o.before.faults o.after.faults

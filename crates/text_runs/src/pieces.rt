@@ -24,11 +24,11 @@ pub enum Broken {
 /// Writes all that is held, and holds nothing then.
 fn put_all<O: Sink>(alloc: Global, held: &mut String, out: &mut O) -> Result<(), SinkFailed>
     ensures empty { OnOk result (string_bytes held.new ≡ []) }
-    ensures written { OnOk result (Appends (O.bytes out.old) (O.bytes out.new) (string_bytes held.old)) }
+    ensures written { OnOk result (Appends (O.page out.old).bytes (O.page out.new).bytes (string_bytes held.old)) }
     ensures cut { OnErr result ((n : ℕ) × (n < length (string_bytes held.old))
-        × Appends (O.bytes out.old) (O.bytes out.new) (take n (string_bytes held.old))) }
-    ensures cause { OnErr result (Rose (O.faults out.old) (O.faults out.new)) }
-    ensures faults_stay { O.faults out.old ≤ O.faults out.new }
+        × Appends (O.page out.old).bytes (O.page out.new).bytes (take n (string_bytes held.old))) }
+    ensures cause { OnErr result (Rose (O.page out.old).faults (O.page out.new).faults) }
+    ensures faults_stay { (O.page out.old).faults ≤ (O.page out.new).faults }
 {
     write_all(out, held.as_bytes())?;
     *held = String::new(alloc);
@@ -41,11 +41,11 @@ pub(crate) fn put_piece<O: Sink>(
     held: &mut String,
     out: &mut O,
 ) -> Result<(), SinkFailed>
-    ensures put { OnOk result (IsPut (string_bytes held.old) (string_bytes held.new) (O.bytes out.old) (O.bytes out.new) []) }
+    ensures put { OnOk result (IsPut (string_bytes held.old) (string_bytes held.new) (O.page out.old).bytes (O.page out.new).bytes []) }
     ensures cut { OnErr result ((n : ℕ) × (n < length (string_bytes held.old))
-        × Appends (O.bytes out.old) (O.bytes out.new) (take n (string_bytes held.old))) }
-    ensures cause { OnErr result (Rose (O.faults out.old) (O.faults out.new)) }
-    ensures faults_stay { O.faults out.old ≤ O.faults out.new }
+        × Appends (O.page out.old).bytes (O.page out.new).bytes (take n (string_bytes held.old))) }
+    ensures cause { OnErr result (Rose (O.page out.old).faults (O.page out.new).faults) }
+    ensures faults_stay { (O.page out.old).faults ≤ (O.page out.new).faults }
 {
     if held.len() < PIECE {
         return Ok(());
@@ -62,14 +62,9 @@ pub fn tell_end<O: Sink>(
     held: &mut String,
     out: &mut O,
 ) -> Result<(), Broken>
-    ensures ended { OnOk result (Appends (O.bytes out.old) (O.bytes out.new) (string_bytes held.old ++ tail_text done events)) }
+    ensures ended { OnOk result (Appends (O.page out.old).bytes (O.page out.new).bytes (string_bytes held.old ++ tail_text done events)) }
     ensures cut { IfErr result (IsEndCut (string_bytes held.old) (tail_text done events)
-        (record {
-          before = O.bytes out.old;
-          after = O.bytes out.new;
-          faults_before = O.faults out.old;
-          faults_after = O.faults out.new;
-        })) }
+        (record { before = O.page out.old; after = O.page out.new })) }
 {
     match put_all(alloc, held, out) {
         Ok(()) => {}

@@ -48,15 +48,10 @@ pub fn tell_events<R: TextRun, O: Sink>(
     requires can { R.can run.old }
     requires enough { R.left run.old ≤ most }
     ensures told { OnOk result (IsTold (R.leads run.old run.new) (R.ended run.new) from (string_bytes held.old) (string_bytes held.new)
-        (O.bytes out.old) (O.bytes out.new)) }
-    ensures faults_stay { OnOk result (O.faults out.old ≤ O.faults out.new) }
+        (O.page out.old).bytes (O.page out.new).bytes) }
+    ensures faults_stay { OnOk result ((O.page out.old).faults ≤ (O.page out.new).faults) }
     ensures stopped { IfErr result (IsStopped (R.leads run.old) from (string_bytes held.old)
-        (record {
-          before = O.bytes out.old;
-          after = O.bytes out.new;
-          faults_before = O.faults out.old;
-          faults_after = O.faults out.new;
-        })) }
+        (record { before = O.page out.old; after = O.page out.new })) }
 {
     for number in 0..(most as u64 + 1) {
         match run.tell_next(from <= number, held) {

@@ -23,7 +23,8 @@ use Rattle.watch_run.specs.Going.{Went}
 use Rattle.watch_run.specs.Shown.{lines_with, shown_lines, shown_trace, trace_with}
 use Rattle.watch_run.specs.Telling.{lines_from}
 use Rattle.watch_run.specs.Written.{HasBegun, IsEndCut, IsEnded, IsPart, IsPut, IsStopped, IsTraceBegun, IsTraceBroken, IsTraceCut}
-use Rattle.watch_run.specs.Written.{IsTraced, Written}
+use Rattle.watch_run.specs.Written.{IsTraced}
+use Rattle.tcc_world.specs.Page.{Written}
 use Rattle.watch_run.specs.declared.telling.Shown.{Shown}
 use Rattle.watch_run.specs.declared.tracing.Broken.{Broken}
 use Rattle.watch_run.specs.declared.tracing.Broken.TheVariants.{Memory, Output}
@@ -83,12 +84,12 @@ begun-first c m shown held es fs a b s e f h =
     (subst (λ bytes. HasBegun (lines_from shown m) bytes es a b) e h)))
 
 pub stopped-broken : (c : Contents) (m : Machine) (shown : Shown) (held : List ℕ) (es fs : List Event) (o : Written) (b : Broken) (f : ℕ)
-    → StartsAt c m → held ≡ head_text (settings_of m) shown.from → es ≡ fs → f ≤ o.faults_before
+    → StartsAt c m → held ≡ head_text (settings_of m) shown.from → es ≡ fs → f ≤ o.before.faults
     → IsStopped (lines_from shown m) held es o b
-    → IsTraceBroken (started c) shown fs (record { before = o.before; after = o.after; faults_before = f; faults_after = o.faults_after }) b
-stopped-broken c m shown held es fs o Memory f s e is l h = begun-first c m shown held es fs o.before o.after s e is h
+    → IsTraceBroken (started c) shown fs (record { before = record { bytes = o.before.bytes; faults = f }; after = o.after }) b
+stopped-broken c m shown held es fs o Memory f s e is l h = begun-first c m shown held es fs o.before.bytes o.after.bytes s e is h
 stopped-broken c m shown held es fs o Output f s e is l h =
-    (inl (begun-first c m shown held es fs o.before o.after s e is h.0), rose-later f o.faults_before o.faults_after l h.1)
+    (inl (begun-first c m shown held es fs o.before.bytes o.after.bytes s e is h.0), rose-later f o.before.faults o.after.faults l h.1)
 
 -- ---- the whole text
 
@@ -165,14 +166,17 @@ ended-cut c m n shown held now es fs x y z done k allowed s e f none w p is shor
 
 pub ended-broken : (c : Contents) (m n : Machine) (shown : Shown) (held now : List ℕ) (es fs : List Event) (x : Option (List ℕ))
     (o : Written) (b : Broken) (f : ℕ) → IsAllowed c.settings → StartsAt c m → held ≡ head_text (settings_of m) shown.from → es ≡ fs
-    → m.events ≡ 0 → Went m n es → IsPut held now x o.before (lines_from shown m es) → f ≤ o.faults_before
+    → m.events ≡ 0 → Went m n es → IsPut held now x o.before.bytes (lines_from shown m es) → f ≤ o.before.faults
     → IsEndCut (settings_of n) (world_of n) now n.events o b
-    → IsTraceBroken (started c) shown fs (record { before = x; after = o.after; faults_before = f; faults_after = o.faults_after }) b
+    → IsTraceBroken (started c) shown fs (record { before = record { bytes = x; faults = f }; after = o.after }) b
 ended-broken c m n shown held now es fs x o Memory f allowed s e is none w p l h =
-    ended-part c m shown held now es fs x o.before o.after s e is p h
-ended-broken c m n shown held now es fs x o Output f allowed s e is none w p l (inl h, rose) =
-    (inl (ended-part c m shown held now es fs x o.before o.after s e is p h), rose-later f o.faults_before o.faults_after l rose)
+    ended-part c m shown held now es fs x o.before.bytes o.after.bytes s e is p h
+ended-broken c m n shown held now es fs x o Output f allowed s e is none w p l (inl h, rose) = (
+  inl (ended-part c m shown held now es fs x o.before.bytes o.after.bytes s e is p h),
+  rose-later f o.before.faults o.after.faults l
+      rose,
+)
 ended-broken c m n shown held now es fs x o Output f allowed s e is none w p l (inr (done, k, done_is, short, cut), rose) = (
-  inr (ended-cut c m n shown held now es fs x o.before o.after done k allowed s e is none w p done_is short cut),
-  rose-later f o.faults_before o.faults_after l rose,
+  inr (ended-cut c m n shown held now es fs x o.before.bytes o.after.bytes done k allowed s e is none w p done_is short cut),
+  rose-later f o.before.faults o.after.faults l rose,
 )

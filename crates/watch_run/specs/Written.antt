@@ -10,19 +10,13 @@ use Rattle.rules_maps.specs.Shape.{Shape}
 use Rattle.rules_tcc.specs.Seen.{IsDone}
 use Rattle.rules_tcc.specs.Step.{History, run}
 use Rattle.tcc_world.specs.Faults.{Rose}
+use Rattle.tcc_world.specs.Page.{Written}
 use Rattle.rules_tcc.specs.State.{World}
 use Rattle.watch_trace.specs.Text.{head_text, tail_text}
 use Rattle.watch_run.specs.Shown.{shown_lines, shown_trace}
 use Rattle.watch_run.specs.declared.telling.Shown.{Shown}
 use Rattle.watch_run.specs.declared.tracing.Broken.{Broken}
 use Rattle.watch_run.specs.declared.tracing.Broken.TheVariants.{Memory, Output}
-
--- an output before and after, as far as it tells its bytes, and its count of faults
-pub record Written : Type 0 where
-  pub before : Option (List ℕ)
-  pub after : Option (List ℕ)
-  pub faults_before : ℕ
-  pub faults_after : ℕ
 
 -- of what was held, with this behind it, a first part was written, and the rest is held now
 pub record IsPut (held now : List ℕ) (before after : Option (List ℕ)) (more : List ℕ) : Type 0 where
@@ -40,8 +34,8 @@ pub record HasBegun (lines : List Event → List ℕ) (held : List ℕ) (es : Li
 
 -- why the lines of events broke off, and what was written of them
 abbrev pub IsStopped : (lines : List Event → List ℕ) → (held : List ℕ) → List Event → Written → Broken → Type 0
-IsStopped lines held es o Memory = HasBegun lines held es o.before o.after
-IsStopped lines held es o Output = HasBegun lines held es o.before o.after × Rose o.faults_before o.faults_after
+IsStopped lines held es o Memory = HasBegun lines held es o.before.bytes o.after.bytes
+IsStopped lines held es o Output = HasBegun lines held es o.before.bytes o.after.bytes × Rose o.before.faults o.after.faults
 
 -- the rules lead from the start by these events to this state, which is done or isn't, and its commits are a serial execution of the
 -- plain machine
@@ -72,9 +66,10 @@ pub record IsTraceCut (s : Start) (shown : Shown) (es : List Event) (before afte
 
 -- why a trace broke off, and what was written of it
 abbrev pub IsTraceBroken : Start → Shown → List Event → Written → Broken → Type 0
-IsTraceBroken s shown es o Memory = IsTraceBegun s shown es o.before o.after
+IsTraceBroken s shown es o Memory = IsTraceBegun s shown es o.before.bytes o.after.bytes
 IsTraceBroken s shown es o Output =
-    (IsTraceBegun s shown es o.before o.after ⊎ IsTraceCut s shown es o.before o.after) × Rose o.faults_before o.faults_after
+    (IsTraceBegun s shown es o.before.bytes o.after.bytes ⊎ IsTraceCut s shown es o.before.bytes o.after.bytes)
+    × Rose o.before.faults o.after.faults
 
 -- a first part of these bytes was written
 abbrev pub IsPart : List ℕ → (before after : Option (List ℕ)) → Type 0
@@ -86,9 +81,9 @@ IsEnded sh w held events before after done =
     (IsTrue done ↔ IsDone sh w) × Appends before after (held ++ tail_text done events)
 
 abbrev pub IsEndCut : Shape → World → (held : List ℕ) → (events : ℕ) → Written → Broken → Type 0
-IsEndCut sh w held events o Memory = IsPart held o.before o.after
+IsEndCut sh w held events o Memory = IsPart held o.before.bytes o.after.bytes
 IsEndCut sh w held events o Output =
-    (IsPart held o.before o.after
+    (IsPart held o.before.bytes o.after.bytes
     ⊎ ((done : Bool) × (n : ℕ) × (IsTrue done ↔ IsDone sh w) × (n < length (held ++ tail_text done events))
-    × Appends o.before o.after (take n (held ++ tail_text done events))))
-    × Rose o.faults_before o.faults_after
+    × Appends o.before.bytes o.after.bytes (take n (held ++ tail_text done events))))
+    × Rose o.before.faults o.after.faults

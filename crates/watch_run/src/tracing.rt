@@ -34,11 +34,11 @@ pub enum Broken {
 /// Writes all that is held, and holds nothing then.
 fn put_all<O: Sink>(alloc: Global, held: &mut String, out: &mut O) -> Result<(), SinkFailed>
     ensures empty { OnOk result (string_bytes held.new ≡ []) }
-    ensures written { OnOk result (Appends (O.bytes out.old) (O.bytes out.new) (string_bytes held.old)) }
+    ensures written { OnOk result (Appends (O.page out.old).bytes (O.page out.new).bytes (string_bytes held.old)) }
     ensures cut { OnErr result ((n : ℕ) × (n < length (string_bytes held.old))
-        × Appends (O.bytes out.old) (O.bytes out.new) (take n (string_bytes held.old))) }
-    ensures cause { OnErr result (Rose (O.faults out.old) (O.faults out.new)) }
-    ensures faults_stay { O.faults out.old ≤ O.faults out.new }
+        × Appends (O.page out.old).bytes (O.page out.new).bytes (take n (string_bytes held.old))) }
+    ensures cause { OnErr result (Rose (O.page out.old).faults (O.page out.new).faults) }
+    ensures faults_stay { (O.page out.old).faults ≤ (O.page out.new).faults }
 {
     write_all(out, held.as_bytes())?;
     *held = String::new(alloc);
@@ -47,11 +47,11 @@ fn put_all<O: Sink>(alloc: Global, held: &mut String, out: &mut O) -> Result<(),
 
 /// Writes what is held where that is a piece.
 fn put_piece<O: Sink>(alloc: Global, held: &mut String, out: &mut O) -> Result<(), SinkFailed>
-    ensures put { OnOk result (IsPut (string_bytes held.old) (string_bytes held.new) (O.bytes out.old) (O.bytes out.new) []) }
+    ensures put { OnOk result (IsPut (string_bytes held.old) (string_bytes held.new) (O.page out.old).bytes (O.page out.new).bytes []) }
     ensures cut { OnErr result ((n : ℕ) × (n < length (string_bytes held.old))
-        × Appends (O.bytes out.old) (O.bytes out.new) (take n (string_bytes held.old))) }
-    ensures cause { OnErr result (Rose (O.faults out.old) (O.faults out.new)) }
-    ensures faults_stay { O.faults out.old ≤ O.faults out.new }
+        × Appends (O.page out.old).bytes (O.page out.new).bytes (take n (string_bytes held.old))) }
+    ensures cause { OnErr result (Rose (O.page out.old).faults (O.page out.new).faults) }
+    ensures faults_stay { (O.page out.old).faults ≤ (O.page out.new).faults }
 {
     if held.len() < PIECE {
         return Ok(());
@@ -73,17 +73,12 @@ fn trace_events<E: Events, O: Sink>(
     requires settled { system.old.unsent ≡ [] }
     requires enough { length (E.coming events.old (start_of system.old) (world_of system.old)) ≤ most }
     ensures went { OnOk result (Went system.old system.new (E.coming events.old (start_of system.old) (world_of system.old))) }
-    ensures put { OnOk result (IsPut (string_bytes held.old) (string_bytes held.new) (O.bytes out.old) (O.bytes out.new)
+    ensures put { OnOk result (IsPut (string_bytes held.old) (string_bytes held.new) (O.page out.old).bytes (O.page out.new).bytes
         (lines_from shown system.old (E.coming events.old (start_of system.old) (world_of system.old)))) }
-    ensures faults_stay { OnOk result (O.faults out.old ≤ O.faults out.new) }
+    ensures faults_stay { OnOk result ((O.page out.old).faults ≤ (O.page out.new).faults) }
     ensures stopped { IfErr result (IsStopped (lines_from shown system.old) (string_bytes held.old)
         (E.coming events.old (start_of system.old) (world_of system.old))
-        (record {
-          before = O.bytes out.old;
-          after = O.bytes out.new;
-          faults_before = O.faults out.old;
-          faults_after = O.faults out.new;
-        })) }
+        (record { before = O.page out.old; after = O.page out.new })) }
 {
     let mut facts = List::new(alloc);
     match begin(alloc, shown, system, held) {
@@ -115,14 +110,9 @@ fn end_trace<O: Sink>(
 ) -> Result<bool, Broken>
     requires { system.now.unsent ≡ [] }
     ensures ended { IfOk result (IsEnded (settings_of system.now) (world_of system.now) (string_bytes held.old) system.now.events
-        (O.bytes out.old) (O.bytes out.new)) }
+        (O.page out.old).bytes (O.page out.new).bytes) }
     ensures cut { IfErr result (IsEndCut (settings_of system.now) (world_of system.now) (string_bytes held.old) system.now.events
-        (record {
-          before = O.bytes out.old;
-          after = O.bytes out.new;
-          faults_before = O.faults out.old;
-          faults_after = O.faults out.new;
-        })) }
+        (record { before = O.page out.old; after = O.page out.new })) }
 {
     match put_all(alloc, held, out) {
         Ok(()) => {}
@@ -157,15 +147,10 @@ pub fn trace<E: Events, O: Sink>(
     requires few { most ≤ run_limit }
     requires enough { length (E.coming events.old (started loaded.now) (world_at_start (started loaded.now))) ≤ most }
     ensures traced { IfOk result (IsTraced (started loaded.now) shown
-        (E.coming events.old (started loaded.now) (world_at_start (started loaded.now))) (O.bytes out.old) (O.bytes out.new)) }
+        (E.coming events.old (started loaded.now) (world_at_start (started loaded.now))) (O.page out.old).bytes (O.page out.new).bytes) }
     ensures broken { IfErr result (IsTraceBroken (started loaded.now) shown
         (E.coming events.old (started loaded.now) (world_at_start (started loaded.now)))
-        (record {
-          before = O.bytes out.old;
-          after = O.bytes out.new;
-          faults_before = O.faults out.old;
-          faults_after = O.faults out.new;
-        })) }
+        (record { before = O.page out.old; after = O.page out.new })) }
 {
     settings_are_allowed(loaded.config());
     let mut system = match System::start(alloc, loaded) {

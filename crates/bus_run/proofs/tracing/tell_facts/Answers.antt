@@ -15,5 +15,5 @@ returns-in_err-tell_events-clause-broken g c = λ d seed steps s e.
 pub returns-clause-told : goal.returns-clause-told
 returns-clause-told g c = λ d seed steps s e.
     told-all false d seed steps c.args.from c.args.run c.args.run c.tell_events.new.run (string_bytes c.args.held.now)
-    (string_bytes c.tell_events.new.held) c.args.from (g.O.Sink.bytes c.args.out.now) (g.O.Sink.bytes c.tell_events.new.out)
+    (string_bytes c.tell_events.new.held) c.args.from (g.O.Sink.page c.args.out.now).bytes (g.O.Sink.page c.tell_events.new.out).bytes
     (facts-ready d seed steps c.args.from c.args.run (string_bytes c.args.held.now) s e) c.in_ok-tell_events.ensures.told

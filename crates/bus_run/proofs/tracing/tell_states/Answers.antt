@@ -18,7 +18,7 @@ returns-in-Ok-true-clause-broken g c = λ d seed steps s e.
 pub returns-in-Ok-false-clause-told : goal.returns-in-Ok-false-clause-told
 returns-in-Ok-false-clause-told g c = λ d seed steps s e.
     let skipped = subst (Skipped c.args.from c.args.run c.skip.new.run) c.in-Ok-false.field-0-test c.in-Ok-false.ensures in
-    told-none d seed steps c.args.from c.args.run c.skip.new.run (string_bytes c.args.held.now) (g.O.Sink.bytes c.args.out.now) s e
+    told-none d seed steps c.args.from c.args.run c.skip.new.run (string_bytes c.args.held.now) (g.O.Sink.page c.args.out.now).bytes s e
     skipped.0 skipped.1 skipped.2
 
 pub tell_window-requires-clause-few : goal.tell_window-requires-clause-few

@@ -21,4 +21,4 @@ returns-clause-told g c = λ first d seed steps from s k e l.
     let ready = subst (λ r. Ready true d seed steps from first r held 0) (sym c.in-Ok.ensures.run)
     (states-ready d seed steps from first c.args.run (string_bytes c.args.held.now) held s k e l c.in-Ok.ensures.told) in
     told-all true d seed steps from first c.in-Ok.run'.run c.tell_events.new.run.run held (string_bytes c.tell_events.new.held) 0
-    (g.O.Sink.bytes c.args.out.now) (g.O.Sink.bytes c.tell_events.new.out) ready c.in_ok-tell_events.ensures.told
+    (g.O.Sink.page c.args.out.now).bytes (g.O.Sink.page c.tell_events.new.out).bytes ready c.in_ok-tell_events.ensures.told

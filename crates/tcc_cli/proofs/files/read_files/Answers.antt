@@ -6,8 +6,8 @@ use Rattle.tcc_cli.proofs.files.read_files.Goals as goal
 
 pub loop-name-init : goal.loop-name-init
 loop-name-init g c = record {
-  given = subst (λ items. AreGiven (g.F.Store.contents c.args.files.now) [] items) (sym c.new-read.ensures.items)
-      (none_given (g.F.Store.contents c.args.files.now));
+  given = subst (λ items. AreGiven (g.F.Store.disk c.args.files.now).contents [] items) (sym c.new-read.ensures.items)
+      (none_given (g.F.Store.disk c.args.files.now).contents);
   contents = λ n. refl;
   reads = λ n. refl;
   tells = refl;
@@ -16,7 +16,7 @@ loop-name-init g c = record {
 
 pub loop-name-preserved : goal.loop-name-preserved
 loop-name-preserved g c = record {
-  given = given_next (g.F.Store.contents c.args.files.now) c.args.names.now _ c.loop-name.name-index c.loop-name.read.items
+  given = given_next (g.F.Store.disk c.args.files.now).contents c.args.names.now _ c.loop-name.name-index c.loop-name.read.items
       c.push.new.self.items c.in-Ok.items.items c.loop-name-test.true c.loop-name.invariant.given
       (subst (λ t. Gives t c.in-Ok.items.items) (c.loop-name.invariant.contents _) c.in-Ok.ensures.bytes) c.in-Ok-push.ensures.items;
   contents = λ n. search (rules, c.loop-name.invariant.contents n, c.in-Ok.ensures.contents_stay n);
@@ -27,7 +27,8 @@ loop-name-preserved g c = record {
 
 pub returns-in-Err-Failed-clause-refused : goal.returns-in-Err-Failed-clause-refused
 returns-in-Err-Failed-clause-refused g c =
-    failed_first (g.F.Store.contents c.args.files.now) c.args.names.now _ c.loop-name.name-index c.loop-name.read.items
-    (g.F.Store.failed_reads c.args.files.now) (g.F.Store.failed_reads c.loop-name.files) (g.F.Store.failed_reads c.read.new.self)
+    failed_first (g.F.Store.disk c.args.files.now).contents c.args.names.now _ c.loop-name.name-index c.loop-name.read.items
+    (g.F.Store.disk c.args.files.now).failed_reads (g.F.Store.disk c.loop-name.files).failed_reads
+    (g.F.Store.disk c.read.new.self).failed_reads
     c.loop-name-test.true c.loop-name.invariant.given c.loop-name.invariant.reads (search (rules, c.in-Err-Failed.ensures.cause))
     (λ n apart. c.in-Err-Failed.ensures.others_stay n apart)

@@ -4,9 +4,9 @@ use Rattle.tcc_cli.proofs.files.read_files.Given as goal
 
 abbrev pub invariant-loop-name : goal.invariant-loop-name
 invariant-loop-name g l = record {
-  given : AreGiven (g.F.Store.contents l.fn.files) (map (λ w. w.now) (take l.name-index l.names)) l.read.items;
-  contents : (n : List ℕ) → g.F.Store.contents l.files n ≡ g.F.Store.contents l.fn.files n;
-  reads : (n : List ℕ) → g.F.Store.failed_reads l.files n ≡ g.F.Store.failed_reads l.fn.files n;
-  tells : g.F.Store.tells l.files ≡ g.F.Store.tells l.fn.files;
-  writes : (n : List ℕ) → g.F.Store.failed_writes l.files n ≡ g.F.Store.failed_writes l.fn.files n;
+  given : AreGiven (g.F.Store.disk l.fn.files).contents (map (λ w. w.now) (take l.name-index l.names)) l.read.items;
+  contents : (n : List ℕ) → (g.F.Store.disk l.files).contents n ≡ (g.F.Store.disk l.fn.files).contents n;
+  reads : (n : List ℕ) → (g.F.Store.disk l.files).failed_reads n ≡ (g.F.Store.disk l.fn.files).failed_reads n;
+  tells : (g.F.Store.disk l.files).tells ≡ (g.F.Store.disk l.fn.files).tells;
+  writes : (n : List ℕ) → (g.F.Store.disk l.files).failed_writes n ≡ (g.F.Store.disk l.fn.files).failed_writes n;
 }

@@ -12,8 +12,8 @@ pub returns-in-Ok-report_of-clause-ran : goal.returns-in-Ok-report_of-clause-ran
 unfolding started
 returns-in-Ok-report_of-clause-ran g c =
     let settings = c.args.loaded.now.settings in
-    let told = g.F.Store.tells c.args.files.now in
-    let contents = g.F.Store.contents c.record.new.files in
+    let told = (g.F.Store.disk c.args.files.now).tells in
+    let contents = (g.F.Store.disk c.record.new.files).contents in
     followed-ran c.the_commits_are_the_lists.ensures.keeps c.the_commits_are_the_lists.ensures.ends
     (started c.args.loaded.now) c.args.bytes.now
     (λ (es : List Event). IsRecorded c.args.keep.now told contents (record { config = settings; events = es }))

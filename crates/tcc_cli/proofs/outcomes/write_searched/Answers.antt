@@ -7,7 +7,7 @@ use Rattle.tcc_cli.proofs.outcomes.write_searched.Goals as goal
 pub returns-in-Err-clause-stopped : goal.returns-in-Err-clause-stopped
 returns-in-Err-clause-stopped g c =
     let it = c.args.searched.now in
-    table-broken (started c.args.loaded.now) c.args.limits c.args.tell it.results.done _ _ _ _ _ c.in-Err.broken c.of_broken.result
+    table-broken (started c.args.loaded.now) c.args.limits c.args.tell it.results.done _ _ c.in-Err.broken c.of_broken.result
     (one-table (started c.args.loaded.now) c.args.limits c.args.tell it.explored it.results it.stuck (ap started c.requires.loaded)
     c.requires.searched c.requires.results c.requires.stuck)
     c.of_broken.ensures c.in-Err.ensures.broken

@@ -8,8 +8,8 @@ use Rattle.tcc_cli.proofs.records.record.Goals as goal
 
 pub returns-in-Ok-write-clause-recorded : goal.returns-in-Ok-write-clause-recorded
 returns-in-Ok-write-clause-recorded g c =
-    let tells = g.F.Store.tells c.args.files.now in
-    let after = g.F.Store.contents c.write.new.self in
+    let tells = (g.F.Store.disk c.args.files.now).tells in
+    let after = (g.F.Store.disk c.write.new.self).contents in
     let s : Schedule = record { config = settings_of c.args.refined.now.machine; events = c.args.refined.now.taken } in
     let bytes = c.deref.ensures.value ∙ c.in-Ok.ensures.text in
     let name = c.as_str.ensures.value ∙ c.name.view_is in

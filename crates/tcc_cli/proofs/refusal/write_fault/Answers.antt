@@ -6,8 +6,7 @@ use Rattle.tcc_cli.proofs.refusal.write_fault.Goals as goal
 pub returns : goal.returns
 returns g c =
     told_same _ (line_of (Image c.args.fault.now)) (record {
-      before = g.S.Sink.bytes c.args.sink.now;
-      after = g.S.Sink.bytes c.write_pieces.new.sink;
-      faults_before = g.S.Sink.faults c.args.sink.now;
-      faults_after = g.S.Sink.faults c.write_pieces.new.sink;
+      before = g.S.Sink.page c.args.sink.now;
+      after = g.S.Sink.page
+          c.write_pieces.new.sink;
     }) (fault_pieces c.args.fault.now c.reader_word.result.now c.reader_word.ensures) c.write_pieces.ensures

@@ -6,6 +6,6 @@ use Rattle.tcc_cli.proofs.refusal.write_pieces.Given as goal
 
 abbrev pub invariant-loop-piece : goal.invariant-loop-piece
 invariant-loop-piece g l = record {
-  written : Appends (g.S.Sink.bytes l.fn.sink) (g.S.Sink.bytes l.sink) (flat_map piece_text (take l.piece-index l.pieces));
-  faults_stay : g.S.Sink.faults l.fn.sink ≤ g.S.Sink.faults l.sink;
+  written : Appends (g.S.Sink.page l.fn.sink).bytes (g.S.Sink.page l.sink).bytes (flat_map piece_text (take l.piece-index l.pieces));
+  faults_stay : (g.S.Sink.page l.fn.sink).faults ≤ (g.S.Sink.page l.sink).faults;
 }

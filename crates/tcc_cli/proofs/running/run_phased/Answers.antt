@@ -12,9 +12,10 @@ returns-in-Ok-phases_of-clause-ran g c = record {
     ends = history_of c.in-Ok.system.refined.machine;
     schedule = (
       c.in-Ok.ensures.picked,
-      subst (λ k. IsRecorded c.args.keep.now (g.F.Store.tells c.args.files.now) (g.F.Store.contents c.record.new.files)
+      subst (λ k. IsRecorded c.args.keep.now (g.F.Store.disk c.args.files.now).tells (g.F.Store.disk c.record.new.files).contents
           (record { config = k.settings; events = c.in-Ok.system.refined.taken })) c.in-Ok.ensures.code
-          (subst (λ (r : Refined). IsRecorded c.args.keep.now (g.F.Store.tells c.args.files.now) (g.F.Store.contents c.record.new.files)
+          (subst (λ (r : Refined). IsRecorded c.args.keep.now (g.F.Store.disk c.args.files.now).tells
+          (g.F.Store.disk c.record.new.files).contents
           (record { config = settings_of r.machine; events = r.taken })) c.inner.ensures.inner c.in-Ok-record.ensures.recorded),
     );
     runs = c.in-Ok-phases_of.ensures.runs;

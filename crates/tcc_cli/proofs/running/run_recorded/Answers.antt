@@ -10,7 +10,7 @@ returns-in-Ok-report_of-clause-ran g c = record {
   ends = history_of c.in-Ok.refined.machine;
   schedule = (
     c.in-Ok.ensures.made,
-    subst (λ k. IsRecorded c.args.keep.now (g.F.Store.tells c.args.files.now) (g.F.Store.contents c.record.new.files)
+    subst (λ k. IsRecorded c.args.keep.now (g.F.Store.disk c.args.files.now).tells (g.F.Store.disk c.record.new.files).contents
         (record { config = k.settings; events = c.in-Ok.refined.taken })) c.in-Ok.ensures.code c.in-Ok-record.ensures.recorded,
   );
   runs = c.in-Ok-report_of.ensures.runs;

@@ -8,45 +8,24 @@ use Rattle.tcc_cli.proofs.top.carry_out.Goals as goal
 pub load-requires-clause-count : goal.load-requires-clause-count
 load-requires-clause-count g c =
     ap length c.deref-2.ensures.value
-    ∙ sym (given_length (g.F.Store.contents c.args.files.now) (map (λ n. n.now) c.deref.result.now) c.in-Ok-read_files.read.items
+    ∙ sym (given_length (g.F.Store.disk c.args.files.now).contents (map (λ n. n.now) c.deref.result.now) c.in-Ok-read_files.read.items
     c.in-Ok-read_files.ensures.read)
     ∙ ap length (ap (map (λ n. n.now)) c.deref.ensures.value ∙ c.in-Ok.ensures)
 
 pub tell-requires-clause-count : goal.tell-requires-clause-count
 tell-requires-clause-count g c lifetimes outlive =
     ap length c.deref-3.ensures.value
-    ∙ sym (given_length (g.F.Store.contents c.args.files.now) (map (λ n. n.now) c.deref.result.now) c.in-Ok-read_files.read.items
+    ∙ sym (given_length (g.F.Store.disk c.args.files.now).contents (map (λ n. n.now) c.deref.result.now) c.in-Ok-read_files.read.items
     c.in-Ok-read_files.ensures.read)
     ∙ ap length (ap (map (λ n. n.now)) c.deref.ensures.value ∙ c.in-Ok.ensures)
 
 pub returns-clause-ends : goal.returns-clause-ends
 returns-clause-ends g c =
-    let files : FilesAround = record {
-      tells = g.F.Store.tells c.args.files.now;
-      before = g.F.Store.contents c.args.files.now;
-      after = g.F.Store.contents c.tell.new.files;
-      reads_before = g.F.Store.failed_reads c.args.files.now;
-      reads_after = g.F.Store.failed_reads c.tell.new.files;
-      writes_before = g.F.Store.failed_writes c.args.files.now;
-      writes_after = g.F.Store.failed_writes c.tell.new.files;
-    } in
-    let mid : FilesAround = record {
-      tells = g.F.Store.tells c.read_files.new.files;
-      before = g.F.Store.contents c.read_files.new.files;
-      after = g.F.Store.contents c.tell.new.files;
-      reads_before = g.F.Store.failed_reads c.read_files.new.files;
-      reads_after = g.F.Store.failed_reads c.tell.new.files;
-      writes_before = g.F.Store.failed_writes c.read_files.new.files;
-      writes_after = g.F.Store.failed_writes c.tell.new.files;
-    } in
+    let files : FilesAround = record { before = g.F.Store.disk c.args.files.now; after = g.F.Store.disk c.tell.new.files } in
+    let mid : FilesAround = record { before = g.F.Store.disk c.read_files.new.files; after = g.F.Store.disk c.tell.new.files } in
     let w : Around = record {
       files = files;
-      out = record {
-        before = g.O.Sink.bytes c.args.out.now;
-        after = g.O.Sink.bytes c.tell.new.out;
-        faults_before = g.O.Sink.faults c.args.out.now;
-        faults_after = g.O.Sink.faults c.tell.new.out;
-      };
+      out = record { before = g.O.Sink.page c.args.out.now; after = g.O.Sink.page c.tell.new.out };
     } in
     let later : IsLater files mid = record {
       contents = c.in-Ok-read_files.ensures.contents;

@@ -1,7 +1,7 @@
 -- From the end of the command, or of the words, to the answer.
 use Rattle.std.proofs.Common.{true, false, Ok, refl, subst}
 use Rattle.tcc_cli.specs.Around.{Around, FilesAround}
-use Rattle.tcc_cli.specs.Lines.{Written}
+use Rattle.tcc_world.specs.Page.{Written}
 use Rattle.tcc_cli.specs.Top.{EndsOf}
 use Rattle.tcc_cli.proofs.Ending.{command-ended, words-refused}
 use Rattle.tcc_cli.proofs.top.tcc_main.Goals as goal
@@ -14,42 +14,16 @@ returns-in-Err g c =
 
 pub returns-in-Ok-true : goal.returns-in-Ok-true
 returns-in-Ok-true g c =
-    let files : FilesAround = record {
-      tells = g.F.Store.tells c.args.files.now;
-      before = g.F.Store.contents c.args.files.now;
-      after = g.F.Store.contents c.carry_out.new.files;
-      reads_before = g.F.Store.failed_reads c.args.files.now;
-      reads_after = g.F.Store.failed_reads c.carry_out.new.files;
-      writes_before = g.F.Store.failed_writes c.args.files.now;
-      writes_after = g.F.Store.failed_writes c.carry_out.new.files;
-    } in
-    let out : Written = record {
-      before = g.O.Sink.bytes c.args.out.now;
-      after = g.O.Sink.bytes c.carry_out.new.out;
-      faults_before = g.O.Sink.faults c.args.out.now;
-      faults_after = g.O.Sink.faults c.carry_out.new.out;
-    } in
+    let files : FilesAround = record { before = g.F.Store.disk c.args.files.now; after = g.F.Store.disk c.carry_out.new.files } in
+    let out : Written = record { before = g.O.Sink.page c.args.out.now; after = g.O.Sink.page c.carry_out.new.out } in
     let w : Around = record { files = files; out = out } in
     command-ended _ w _ _ c.in-Ok.command (Ok true) c.in-Ok.ensures.command
     (subst (λ d. EndsOf c.in-Ok.command w (Ok d)) c.in-Ok-true.field-0-test c.in-Ok-true.ensures.ends) c.in-Ok-true.ensures.others refl refl
 
 pub returns-in-Ok-false : goal.returns-in-Ok-false
 returns-in-Ok-false g c =
-    let files : FilesAround = record {
-      tells = g.F.Store.tells c.args.files.now;
-      before = g.F.Store.contents c.args.files.now;
-      after = g.F.Store.contents c.carry_out.new.files;
-      reads_before = g.F.Store.failed_reads c.args.files.now;
-      reads_after = g.F.Store.failed_reads c.carry_out.new.files;
-      writes_before = g.F.Store.failed_writes c.args.files.now;
-      writes_after = g.F.Store.failed_writes c.carry_out.new.files;
-    } in
-    let out : Written = record {
-      before = g.O.Sink.bytes c.args.out.now;
-      after = g.O.Sink.bytes c.carry_out.new.out;
-      faults_before = g.O.Sink.faults c.args.out.now;
-      faults_after = g.O.Sink.faults c.carry_out.new.out;
-    } in
+    let files : FilesAround = record { before = g.F.Store.disk c.args.files.now; after = g.F.Store.disk c.carry_out.new.files } in
+    let out : Written = record { before = g.O.Sink.page c.args.out.now; after = g.O.Sink.page c.carry_out.new.out } in
     let w : Around = record { files = files; out = out } in
     command-ended _ w _ _ c.in-Ok.command (Ok false) c.in-Ok.ensures.command
     (subst (λ d. EndsOf c.in-Ok.command w (Ok d)) c.in-Ok-false.field-0-test c.in-Ok-false.ensures.ends) c.in-Ok-false.ensures.others refl

@@ -8,7 +8,7 @@ use Rattle.tcc_cli.proofs.BusViews.{bus-trace-tells}
 use Rattle.tcc_cli.proofs.Looking.{first-file, shown_by, trace-tells}
 use Rattle.tcc_cli.specs.Around.{FilesAround}
 use Rattle.tcc_cli.specs.Commands.{head_of, machine_of}
-use Rattle.tcc_cli.specs.Lines.{Written}
+use Rattle.tcc_world.specs.Page.{Written}
 use Rattle.tcc_cli.specs.Looks.{AreFirst, ArePicked, IsFaultOfFirst, IsTraceStopped, IsTraceTold}
 use Rattle.tcc_cli.proofs.top.tell.Goals as goal
 
@@ -24,21 +24,8 @@ returns-in-Look-default-default-Schedule-Trace-clause-tells g c =
     let bytes : c.bytes.result.now ≡ head_of c.args.read.now = c.bytes.ensures ∙ c.index-read-0.is
     ∙ first-file c.args.command.now c.args.read.now it.machine it.images it.source-0 (Trace it.from it.to it.states) _
     c.requires.count is in
-    let o : Written = record {
-      before = g.O.Sink.bytes c.args.out.now;
-      after = g.O.Sink.bytes c.trace_by_schedule.new.out;
-      faults_before = g.O.Sink.faults c.args.out.now;
-      faults_after = g.O.Sink.faults c.trace_by_schedule.new.out;
-    } in
-    let f : FilesAround = record {
-      tells = g.F.Store.tells c.args.files.now;
-      before = g.F.Store.contents c.args.files.now;
-      after = g.F.Store.contents c.args.files.now;
-      reads_before = g.F.Store.failed_reads c.args.files.now;
-      reads_after = g.F.Store.failed_reads c.args.files.now;
-      writes_before = g.F.Store.failed_writes c.args.files.now;
-      writes_after = g.F.Store.failed_writes c.args.files.now;
-    } in
+    let o : Written = record { before = g.O.Sink.page c.args.out.now; after = g.O.Sink.page c.trace_by_schedule.new.out } in
+    let f : FilesAround = record { before = g.F.Store.disk c.args.files.now; after = g.F.Store.disk c.args.files.now } in
     trace-tells c.args.command.now c.args.read.now s config it.machine it.images (Schedule it.source-0) it.from it.to it.states
     (λ q settings. IsFaultOfFirst q settings (head_of c.args.read.now) it.to) f o c.trace_by_schedule.result
     (record { is = is; start = c.requires.start; config = ap (λ d. (machine_of d).config) (sym is) }) refl (λ n. refl)
@@ -57,21 +44,8 @@ returns-in-Look-default-default-Seed-Trace-clause-tells g c =
     let view : it.view ≡ Trace it.from it.to it.states = rw it.is at it.view-is in
     let is : c.args.command.now ≡ Look it.machine it.images (Seed it.steps it.seed) (Trace it.from it.to it.states) =
     it.is ∙ (λ i. Look it.machine it.images (source i) (view i)) in
-    let o : Written = record {
-      before = g.O.Sink.bytes c.args.out.now;
-      after = g.O.Sink.bytes c.trace_by_seed.new.out;
-      faults_before = g.O.Sink.faults c.args.out.now;
-      faults_after = g.O.Sink.faults c.trace_by_seed.new.out;
-    } in
-    let f : FilesAround = record {
-      tells = g.F.Store.tells c.args.files.now;
-      before = g.F.Store.contents c.args.files.now;
-      after = g.F.Store.contents c.args.files.now;
-      reads_before = g.F.Store.failed_reads c.args.files.now;
-      reads_after = g.F.Store.failed_reads c.args.files.now;
-      writes_before = g.F.Store.failed_writes c.args.files.now;
-      writes_after = g.F.Store.failed_writes c.args.files.now;
-    } in
+    let o : Written = record { before = g.O.Sink.page c.args.out.now; after = g.O.Sink.page c.trace_by_seed.new.out } in
+    let f : FilesAround = record { before = g.F.Store.disk c.args.files.now; after = g.F.Store.disk c.args.files.now } in
     let told : IfOk c.trace_by_seed.result (IsTraceTold s (ArePicked s it.seed it.steps it.to) (shown_by it.from it.states) o) =
     rw (it.steps-is, it.seed-is, it.from-is, it.to-is, it.states-is) at c.trace_by_seed.ensures.told in
     let stopped : IfErr c.trace_by_seed.result
@@ -88,21 +62,8 @@ returns-in-LookOnBus-default-default-default-default-Trace-clause-tells g c =
     let view : it.view ≡ Trace it.from it.to it.states = rw it.is at it.view-is in
     let is : c.args.command.now ≡ LookOnBus it.machine it.images it.steps it.seed (Trace it.from it.to it.states) =
     it.is ∙ (λ i. LookOnBus it.machine it.images it.steps it.seed (view i)) in
-    let o : Written = record {
-      before = g.O.Sink.bytes c.args.out.now;
-      after = g.O.Sink.bytes c.trace_bus.new.out;
-      faults_before = g.O.Sink.faults c.args.out.now;
-      faults_after = g.O.Sink.faults c.trace_bus.new.out;
-    } in
-    let f : FilesAround = record {
-      tells = g.F.Store.tells c.args.files.now;
-      before = g.F.Store.contents c.args.files.now;
-      after = g.F.Store.contents c.args.files.now;
-      reads_before = g.F.Store.failed_reads c.args.files.now;
-      reads_after = g.F.Store.failed_reads c.args.files.now;
-      writes_before = g.F.Store.failed_writes c.args.files.now;
-      writes_after = g.F.Store.failed_writes c.args.files.now;
-    } in
+    let o : Written = record { before = g.O.Sink.page c.args.out.now; after = g.O.Sink.page c.trace_bus.new.out } in
+    let f : FilesAround = record { before = g.F.Store.disk c.args.files.now; after = g.F.Store.disk c.args.files.now } in
     bus-trace-tells c.args.command.now c.args.read.now (started c.args.loaded.now) it.machine it.images it.steps it.seed it.from it.to
     it.states f o c.trace_bus.result is c.requires.start (λ n. refl) (rw (it.from-is, it.to-is, it.states-is) at c.trace_bus.ensures.told)
     (rw (it.from-is, it.to-is, it.states-is) at c.trace_bus.ensures.stopped)

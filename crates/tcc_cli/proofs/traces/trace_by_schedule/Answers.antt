@@ -10,23 +10,15 @@ use Rattle.tcc_cli.proofs.traces.trace_by_schedule.Goals as goal
 pub returns-clause-told : goal.returns-clause-told
 returns-clause-told g c =
     all-told-by (started c.args.loaded.now) (λ (es : List Event). es ≡ map event_of c.taken.result.now)
-    (AreFirst c.args.config.now c.args.bytes.now c.args.to) c.args.shown (record {
-      before = g.O.Sink.bytes c.args.out.now;
-      after = g.O.Sink.bytes c.trace_listed.new.out;
-      faults_before = g.O.Sink.faults c.args.out.now;
-      faults_after = g.O.Sink.faults c.trace_listed.new.out;
-    }) c.trace_listed.result
+    (AreFirst c.args.config.now c.args.bytes.now c.args.to) c.args.shown
+    (record { before = g.O.Sink.page c.args.out.now; after = g.O.Sink.page c.trace_listed.new.out }) c.trace_listed.result
     (λ es e. subst (AreFirst c.args.config.now c.args.bytes.now c.args.to) (sym (e ∙ ap (map event_of) c.taken.ensures.taken))
     c.in-Ok.ensures.first) c.trace_listed.ensures.told
 
 pub returns-clause-stopped : goal.returns-clause-stopped
 returns-clause-stopped g c =
     all-stopped-by (started c.args.loaded.now) (λ (es : List Event). es ≡ map event_of c.taken.result.now)
-    (AreFirst c.args.config.now c.args.bytes.now c.args.to) c.args.shown _ (record {
-      before = g.O.Sink.bytes c.args.out.now;
-      after = g.O.Sink.bytes c.trace_listed.new.out;
-      faults_before = g.O.Sink.faults c.args.out.now;
-      faults_after = g.O.Sink.faults c.trace_listed.new.out;
-    }) c.trace_listed.result
+    (AreFirst c.args.config.now c.args.bytes.now c.args.to) c.args.shown _
+    (record { before = g.O.Sink.page c.args.out.now; after = g.O.Sink.page c.trace_listed.new.out }) c.trace_listed.result
     (λ es e. subst (AreFirst c.args.config.now c.args.bytes.now c.args.to) (sym (e ∙ ap (map event_of) c.taken.ensures.taken))
     c.in-Ok.ensures.first) c.trace_listed.ensures.stopped

@@ -10,7 +10,7 @@ trace-requires-clause-enough g c =
 
 pub returns-in-Err-clause-stopped : goal.returns-in-Err-clause-stopped
 returns-in-Err-clause-stopped g c =
-    broken-so (started c.args.loaded.now) _ c.args.shown _ _ _ _ _ _ c.in-Err.broken c.of_broken.result
+    broken-so (started c.args.loaded.now) _ c.args.shown _ _ _ c.in-Err.broken c.of_broken.result
     (picked-so (started c.args.loaded.now) _ _ c.args.seed _ (c.new-events.ensures.left ∙ c.min-most.ensures)
     c.new-events.ensures.chooser) c.of_broken.ensures
     c.in-Err.ensures.broken

@@ -5,8 +5,8 @@ use Rattle.tcc_world.proofs.sinks.write_all.Given as goal
 abbrev pub invariant-loop-done : goal.invariant-loop-done
 invariant-loop-done g l = record {
   within : l.done ≤ length l.bytes;
-  taken : Appends (g.S.Sink.bytes l.fn.sink) (g.S.Sink.bytes l.sink) (take l.done l.bytes);
-  faults_stay : g.S.Sink.faults l.fn.sink ≤ g.S.Sink.faults l.sink;
+  taken : Appends (g.S.Sink.page l.fn.sink).bytes (g.S.Sink.page l.sink).bytes (take l.done l.bytes);
+  faults_stay : (g.S.Sink.page l.fn.sink).faults ≤ (g.S.Sink.page l.sink).faults;
 }
 
 abbrev pub decreases-loop-done : goal.decreases-loop-done

@@ -8,5 +8,5 @@ use Rattle.text_outcomes.proofs.writing.put_outcomes.Given as goal
 abbrev pub invariant-loop-i : goal.invariant-loop-i
 invariant-loop-i g l =
     IsPut (string_bytes l.fn.held ++ first_texts (outcome_text l.table.tell) (outcome_of l.table.explored.now l.table.results.now) l.i)
-    (string_bytes l.held) (g.O.Sink.bytes l.fn.out) (g.O.Sink.bytes l.out)
-    × (g.O.Sink.faults l.fn.out ≤ g.O.Sink.faults l.out)
+    (string_bytes l.held) (g.O.Sink.page l.fn.out).bytes (g.O.Sink.page l.out).bytes
+    × ((g.O.Sink.page l.fn.out).faults ≤ (g.O.Sink.page l.out).faults)

@@ -10,7 +10,7 @@ returns-in-Err-clause-broken g c = cut-none _ _ (longer-end _ _ c.in-Err.ensures
 
 pub returns-in-Err-put_all-clause-broken : goal.returns-in-Err-put_all-clause-broken
 returns-in-Err-put_all-clause-broken g c = (
-  subst (λ xs. IsCut xs (g.O.Sink.bytes c.args.out.now) (g.O.Sink.bytes c.put_all.new.out)) c.in-Ok.ensures.text
+  subst (λ xs. IsCut xs (g.O.Sink.page c.args.out.now).bytes (g.O.Sink.page c.put_all.new.out).bytes) c.in-Ok.ensures.text
       c.in-Err-put_all.ensures.cut,
   c.in-Err-put_all.ensures.cause,
 )

@@ -8,7 +8,8 @@ use Rattle.text_runs.proofs.runs.tell_events.Goals as goal
 pub loop-number-init : goal.loop-number-init
 loop-number-init g c =
     telling-none (g.R.TextRun.can c.args.run.now) (g.R.TextRun.leads c.args.run.now c.args.run.now) c.args.from
-    (g.R.TextRun.left c.args.run.now) (string_bytes c.args.held.now) (g.O.Sink.bytes c.args.out.now) (g.O.Sink.faults c.args.out.now)
+    (g.R.TextRun.left c.args.run.now) (string_bytes c.args.held.now) (g.O.Sink.page c.args.out.now).bytes
+    (g.O.Sink.page c.args.out.now).faults
     c.requires.can (g.met.R.TextRun.stays c.args.run.now)
 
 pub returns-in-Ok-false-clause-told : goal.returns-in-Ok-false-clause-told

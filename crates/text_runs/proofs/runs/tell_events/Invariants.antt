@@ -6,4 +6,4 @@ use Rattle.text_runs.proofs.runs.tell_events.Given as goal
 abbrev pub invariant-loop-number : goal.invariant-loop-number
 invariant-loop-number g l = Telling (g.R.TextRun.can l.run) (g.R.TextRun.leads l.fn.run l.run) l.number l.from
     (g.R.TextRun.left l.fn.run) (g.R.TextRun.left l.run) (string_bytes l.fn.held) (string_bytes l.held)
-    (g.O.Sink.bytes l.fn.out) (g.O.Sink.bytes l.out) (g.O.Sink.faults l.fn.out) (g.O.Sink.faults l.out)
+    (g.O.Sink.page l.fn.out).bytes (g.O.Sink.page l.out).bytes (g.O.Sink.page l.fn.out).faults (g.O.Sink.page l.out).faults

@@ -13,7 +13,7 @@ returns-in-Err-clause-stopped g c = begun-none _ _ _ _
 pub loop-number-init : goal.loop-number-init
 loop-number-init g c =
     going-none c.args.system.now _ c.args.shown (string_bytes c.args.held.now) (string_bytes c.begin.new.text)
-    (g.O.Sink.bytes c.args.out.now) (g.O.Sink.faults c.args.out.now) c.requires.settled c.in-Ok.ensures
+    (g.O.Sink.page c.args.out.now).bytes (g.O.Sink.page c.args.out.now).faults c.requires.settled c.in-Ok.ensures
 
 pub returns-in-Err-event-clause-stopped : goal.returns-in-Err-event-clause-stopped
 returns-in-Err-event-clause-stopped g c = going-part _ _ _ _ _ _ _ _ _ _ _ _ c.loop-number.invariant

@@ -9,4 +9,4 @@ invariant-loop-number g l = Going l.fn.system l.system
     (g.E.Events.coming l.fn.events (start_of l.fn.system) (world_of l.fn.system))
     (g.E.Events.coming l.events (start_of l.system) (world_of l.system))
     l.number l.shown (string_bytes l.fn.held) (string_bytes l.held)
-    (g.O.Sink.bytes l.fn.out) (g.O.Sink.bytes l.out) (g.O.Sink.faults l.fn.out) (g.O.Sink.faults l.out)
+    (g.O.Sink.page l.fn.out).bytes (g.O.Sink.page l.out).bytes (g.O.Sink.page l.fn.out).faults (g.O.Sink.page l.out).faults

@@ -4,7 +4,7 @@ use Rattle.std.specs.List.{list_any}
 use Rattle.tcc_world.specs.declared.sinks.SinkFailed.{SinkFailed}
 use Rattle.tcc_world.specs.Faults.{raised}
 
-pub record Written : Type 0 where
+pub record Held : Type 0 where
   pub bytes : List ℕ  -- what was taken, in order
   pub limit : ℕ  -- how many bytes there is room for
   pub fails : List ℕ  -- the numbers of the calls that fail
@@ -12,23 +12,23 @@ pub record Written : Type 0 where
   pub faults : ℕ  -- how many calls failed
 
 -- nothing is taken yet
-abbrev pub empty_sink : ℕ → List ℕ → Written
+abbrev pub empty_sink : ℕ → List ℕ → Held
 empty_sink limit fails = record { bytes = []; limit = limit; fails = fails; calls = 0; faults = 0 }
 
 -- the coming call fails if it brings a byte: its number is in the list, or the sink is full
-abbrev pub refuses : Written → Bool
+abbrev pub refuses : Held → Bool
 refuses s = nat_le s.limit (length s.bytes) || list_any (λ n. n == s.calls) s.fails
 
 -- how many bytes of the piece there is room for
-abbrev pub room_for : Written → List ℕ → ℕ
+abbrev pub room_for : Held → List ℕ → ℕ
 room_for s piece = min (s.limit - length s.bytes) (length piece)
 
 -- what a call with a piece that isn't empty answers
-abbrev pub answer : Written → List ℕ → Result ℕ SinkFailed
+abbrev pub answer : Held → List ℕ → Result ℕ SinkFailed
 answer s piece = if refuses s then Err (record {}) else Ok (room_for s piece)
 
 -- the sink after a call with a piece that isn't empty
-abbrev pub after_call : Written → List ℕ → Written
+abbrev pub after_call : Held → List ℕ → Held
 after_call s piece =
     if refuses s then record s { calls = raised s.calls; faults = raised s.faults }
     else record s { bytes = s.bytes ++ take (room_for s piece) piece; calls = raised s.calls }
