@@ -14,7 +14,7 @@ use Rattle.tcc_phase.specs.Answers.{cause_of, next_of}
 use Rattle.tcc_phase.specs.Kept.{HasRows, IsKept}
 use Rattle.tcc_phase.specs.Phased.{PhaseMachine}
 use Rattle.tcc_phase.specs.Requests.{asker, is_below}
-use Rattle.tcc_phase.specs.declared.ledger.Ledger.{Ledger}
+use Rattle.tcc_phase.specs.declared.standing.Standing.{Standing}
 use Rattle.tcc_phase.proofs.Requests.Behind.{behind-late}
 
 abbrev pub goes : Machine → Event → Option History
@@ -24,13 +24,13 @@ abbrev pub Holds : Machine → Event → Bool → Type 0
 Holds m e b = next_of m e ≡ (if b then None else goes m e)
 
 -- the same settings
-pub rows-by : (m n : Machine) (l : Ledger) → n.cores.code ≡ m.cores.code → IsKept (start_of m) (history_of m) m.events l
+pub rows-by : (m n : Machine) (l : Standing) → n.cores.code ≡ m.cores.code → IsKept (start_of m) (history_of m) m.events l
     → HasRows (settings_of n).cores l
 unfolding started
 rows-by m n l e kept = subst (λ k. HasRows k.settings.cores l) (sym e) kept.rows
 
 -- a request is held back where its core is late
-pub by-late : (m : Machine) (l : Ledger) (c k : ℕ) (b : Bool) → IsKept (start_of m) (history_of m) m.events l
+pub by-late : (m : Machine) (l : Standing) (c k : ℕ) (b : Bool) → IsKept (start_of m) (history_of m) m.events l
     → c < (settings_of m).cores → b ≡ is_below l.least (get_or l.own.items c 0) → Holds m (Deliver (Core c) Vendor k) b
 unfolding started history_of phased_next is_held
 by-late m l c k b kept h e =
@@ -91,7 +91,7 @@ asker-none m (Deliver Vendor d k) q = refl
 pub free-of : (m : Machine) (e : Event) → asker e ≡ None → Holds m e false
 free-of m e q = by-free m e (asker-none m e q)
 
-pub late-of : (m : Machine) (l : Ledger) (e : Event) (c : ℕ) (b : Bool) → asker e ≡ Some c
+pub late-of : (m : Machine) (l : Standing) (e : Event) (c : ℕ) (b : Bool) → asker e ≡ Some c
     → IsKept (start_of m) (history_of m) m.events l → c < (settings_of m).cores
     → b ≡ is_below l.least (get_or l.own.items c 0) → Holds m e b
 late-of m l (Exec d) c b q kept h e = absurd (cc)

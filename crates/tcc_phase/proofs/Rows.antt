@@ -18,7 +18,7 @@ use Rattle.tcc_phase.specs.Choosing.{IsPassed, all_in, held_in, passed_by}
 use Rattle.tcc_phase.specs.Kept.{IsKept}
 use Rattle.tcc_phase.specs.Phased.{useful_in}
 use Rattle.tcc_phase.specs.Requests.{is_waiting, request}
-use Rattle.tcc_phase.specs.declared.ledger.Ledger.{Ledger}
+use Rattle.tcc_phase.specs.declared.standing.Standing.{Standing}
 use Rattle.tcc_phase.proofs.Order.Counted.{all-parts, kth, left_out, out-all, out-most, out-rises, stands-before, stands-behind}
 use Rattle.tcc_phase.proofs.Requests.Behind.{behind-late}
 use Rattle.tcc_phase.proofs.Requests.Listed.{held-listed}
@@ -29,7 +29,7 @@ pub all-is : (m : Machine) → useful (settings_of m) (program_of m) (world_of m
 unfolding all_in started history_of
 all-is m = refl
 
-module _ (m : Machine) (l : Ledger) (kept : IsKept (start_of m) (history_of m) m.events l) (holds : UsefulHolds) (ordered :
+module _ (m : Machine) (l : Standing) (kept : IsKept (start_of m) (history_of m) m.events l) (holds : UsefulHolds) (ordered :
     UsefulOrdered) where
   abbrev held : Event → Bool
   held = is_held (start_of m) (history_of m)

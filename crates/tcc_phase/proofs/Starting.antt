@@ -15,7 +15,7 @@ use Rattle.rules_phases.specs.Phases.{phase_of, phases_along, phases_in, phases_
 use Rattle.net_core.specs.Machine.{Machine, history_of, start_of}
 use Rattle.tcc_phase.specs.Kept.{HasRows, IsKept}
 use Rattle.tcc_phase.specs.Requests.{IsAsked, Limits, is_below}
-use Rattle.tcc_phase.specs.declared.ledger.Ledger.{Ledger}
+use Rattle.tcc_phase.specs.declared.standing.Standing.{Standing}
 use Rattle.tcc_phase.proofs.Requests.Asked.{asked-none}
 use Rattle.tcc_phase.proofs.Requests.Behind.{even-none}
 use Rattle.tcc_phase.proofs.Requests.Waiting.{waiting-none}
@@ -39,7 +39,7 @@ unfolding start
 nothing-sent s c = refl
 
 -- what is kept at the start
-pub record IsFirst (n : ℕ) (l : Ledger) : Type 0 where
+pub record IsFirst (n : ℕ) (l : Standing) : Type 0 where
   pub each : l.each.items ≡ []
   pub own : l.own.items ≡ replicate n 0
   pub asked : l.asked.items ≡ replicate n 0
@@ -47,7 +47,7 @@ pub record IsFirst (n : ℕ) (l : Ledger) : Type 0 where
   pub none : l.held.items ≡ []
   pub even : l.least ≡ None
 
-kept-at : (s : Start) (events : ℕ) (l : Ledger) → IsFirst s.settings.cores l → IsKept s (at_start s) events l
+kept-at : (s : Start) (events : ℕ) (l : Standing) → IsFirst s.settings.cores l → IsKept s (at_start s) events l
 kept-at s events l f = record {
   rows = f.rows;
   each = f.each ∙ sym (no-phases s);
@@ -68,7 +68,7 @@ kept-at s events l f = record {
     even : Limits s.settings (at_start s).world l.own.items None
     even c h = even-none s.settings.cores (at_start s).world l.own.items c (λ j k. own-zero j ∙ sym (own-zero c))
 
-pub kept-first : (c : Contents) (m : Machine) (l : Ledger) → m.cores.code ≡ c → history_of m ≡ at_start (started c)
+pub kept-first : (c : Contents) (m : Machine) (l : Standing) → m.cores.code ≡ c → history_of m ≡ at_start (started c)
     → IsFirst c.settings.cores l → IsKept (start_of m) (history_of m) m.events l
 unfolding started
 kept-first c m l code first f =

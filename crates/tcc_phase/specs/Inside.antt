@@ -11,4 +11,4 @@ machine_of s = record { refined = s.refined }
 pub record IsPhaseSystem (s : Inside) : Type 0 where
   pub allowed : IsAllowed (settings_of s.refined.machine)
   pub phased : IsPhased (machine_of s)
-  pub kept : IsKept (start_of s.refined.machine) (history_of s.refined.machine) s.refined.machine.events s.ledger
+  pub kept : IsKept (start_of s.refined.machine) (history_of s.refined.machine) s.refined.machine.events s.standing

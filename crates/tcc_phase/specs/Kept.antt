@@ -7,15 +7,15 @@ use Rattle.rules_maps.specs.Words.{those}
 use Rattle.rules_tcc.specs.Step.{History}
 use Rattle.rules_phases.specs.Phases.{phase_of, phases_of}
 use Rattle.tcc_phase.specs.Requests.{IsAsked, Limits, is_waiting}
-use Rattle.tcc_phase.specs.declared.ledger.Ledger.{Ledger}
+use Rattle.tcc_phase.specs.declared.standing.Standing.{Standing}
 
 -- a row for each core, and room for all of them among those that wait
-pub record HasRows (n : ℕ) (l : Ledger) : Type 0 where
+pub record HasRows (n : ℕ) (l : Standing) : Type 0 where
   pub own : length l.own.items ≡ n
   pub asked : length l.asked.items ≡ n
   pub held : n ≤ vec_capacity l.held
 
-pub record IsKept (s : Start) (h : History) (events : ℕ) (l : Ledger) : Type 0 where
+pub record IsKept (s : Start) (h : History) (events : ℕ) (l : Standing) : Type 0 where
   pub rows : HasRows s.settings.cores l
   pub each : l.each.items ≡ phases_of s h
   pub own : (c : ℕ) → c < s.settings.cores → get_or l.own.items c 0 ≡ phase_of s h c

@@ -2,7 +2,7 @@
 pub mod Phased
 pub mod Answers
 pub mod Requests
-pub mod Ledger
+pub mod Standing
 pub mod Kept
 pub mod Choosing
 pub mod Inside

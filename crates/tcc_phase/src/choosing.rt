@@ -36,7 +36,7 @@ impl PhaseSystem {
         ensures { result ≡ length (useful_in self.now.refined.machine) }
     {
         useful_events_are_listed();
-        self.refined.system().useful_count() - self.ledger.held.len() as u64
+        self.refined.system().useful_count() - self.standing.held.len() as u64
     }
 
     /// Whether the request of number `row` among those that are held back stands at the useful event k + row or before it.
@@ -48,8 +48,8 @@ impl PhaseSystem {
         ensures not_yet { result ≡ false → passed_by self.now.refined.machine (k + row + 1) ≤ row }
     {
         useful_events_are_listed();
-        let core = self.ledger.held[row];
-        let seq = self.ledger.asked[core as usize];
+        let core = self.standing.held[row];
+        let seq = self.standing.asked[core as usize];
         match self.refined.system().useful_at(k + row as u64) {
             Some(e) => !stands_before(e, core, seq),
             None => true,
@@ -65,7 +65,7 @@ impl PhaseSystem {
     {
         useful_events_are_listed();
         let mut low = 0;
-        let mut high = self.ledger.held.len();
+        let mut high = self.standing.held.len();
         while low < high {
             let middle = low + (high - low) / 2;
             if self.is_passed(k, middle) {
@@ -85,7 +85,7 @@ impl PhaseSystem {
     {
         useful_events_are_listed();
         let all = self.refined.system().useful_count();
-        if k >= all - self.ledger.held.len() as u64 {
+        if k >= all - self.standing.held.len() as u64 {
             return None;
         }
         self.refined.system().useful_at(k + self.passed(k) as u64)

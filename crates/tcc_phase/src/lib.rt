@@ -2,8 +2,8 @@
 #![tactic(auto)]
 
 mod choosing;
-mod ledger;
 mod running;
+mod standing;
 mod system;
 mod taking;
 

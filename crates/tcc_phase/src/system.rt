@@ -6,7 +6,7 @@ ghost use Rattle.net_core.specs.Machine.{history_of, settings_of, start_of};
 ghost use Rattle.rules_riscv.specs.Starting.{at_start};
 ghost use Rattle.tcc_phase.specs.Phased.{IsPhased};
 
-use crate::ledger::Ledger;
+use crate::standing::Standing;
 use image_load::Loaded;
 use std::alloc::Global;
 use std::marker::Model;
@@ -19,7 +19,7 @@ use tcc_refine::Refined;
 #[derive(Debug, Drop)]
 pub struct PhaseSystem {
     pub(crate) refined: Refined,
-    pub(crate) ledger: Ledger,
+    pub(crate) standing: Standing,
 }
 
 impl Model for PhaseSystem {
@@ -44,11 +44,11 @@ impl PhaseSystem {
         ensures settled { IfOk result (λ p. p.refined.machine.unsent ≡ []) }
     {
         let refined = Refined::start(alloc, loaded)?;
-        let Ok(ledger) = Ledger::start(alloc, loaded.config().cores()) else {
+        let Ok(standing) = Standing::start(alloc, loaded.config().cores()) else {
             return Err(NoMemory);
         };
         refined.taken();
-        Ok(PhaseSystem { refined, ledger })
+        Ok(PhaseSystem { refined, standing })
     }
 
     /// The machine with the list of its events, for all that is read of it. It takes constant time.
@@ -64,13 +64,13 @@ impl PhaseSystem {
         requires { core.0 < (settings_of self.now.refined.machine).cores }
         ensures { result ≡ phase_of (start_of self.now.refined.machine) (history_of self.now.refined.machine) core.0 }
     {
-        self.ledger.own[core.0 as usize]
+        self.standing.own[core.0 as usize]
     }
 
     /// The phase of each commit, by rising TID. It takes constant time.
     pub fn phases(&self) -> &[u32]
         ensures { result.now ≡ phases_of (start_of self.now.refined.machine) (history_of self.now.refined.machine) }
     {
-        &self.ledger.each
+        &self.standing.each
     }
 }

@@ -52,7 +52,7 @@ impl PhaseSystem {
     {
         let system = self.refined.system();
         match asker(e) {
-            Some(core) => core.0 < system.config().cores() && self.ledger.is_late(core),
+            Some(core) => core.0 < system.config().cores() && self.standing.is_late(core),
             None => false,
         }
     }
@@ -85,14 +85,14 @@ impl PhaseSystem {
         if self.holds_back(e) {
             return Err(StepError::Refused);
         }
-        if self.ledger.reserve().is_err() {
+        if self.standing.reserve().is_err() {
             return Err(cause(self.refined.system(), e));
         }
         an_event_acts_on_one_node();
         match self.refined.step(e) {
             Err(error) => Err(error),
             Ok(done) => {
-                self.ledger.note(self.refined.system(), e, done);
+                self.standing.note(self.refined.system(), e, done);
                 Ok(done)
             }
         }

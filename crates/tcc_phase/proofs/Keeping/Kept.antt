@@ -30,9 +30,9 @@ use Rattle.net_core.specs.Machine.{Machine, history_of, program_of, settings_of,
 use Rattle.net_core.specs.declared.taking.Step.{Step}
 use Rattle.net_core.specs.declared.taking.Step.TheVariants.{Moved, Committed}
 use Rattle.tcc_phase.specs.Kept.{HasRows, IsKept}
-use Rattle.tcc_phase.specs.Ledger.{IsListed, Notes, StillHolds}
+use Rattle.tcc_phase.specs.Standing.{IsListed, Notes, StillHolds}
 use Rattle.tcc_phase.specs.Requests.{Counts, HeldBefore, IsAsked, Limits, is_behind, is_waiting}
-use Rattle.tcc_phase.specs.declared.ledger.Ledger.{Ledger}
+use Rattle.tcc_phase.specs.declared.standing.Standing.{Standing}
 use Rattle.tcc_phase.proofs.Keeping.Following.{Did, by-cores, did, grown, in-phases, next-is, not-held, not-late}
 use Rattle.tcc_phase.proofs.Keeping.Following.{one-each, phased-on, rising}
 use Rattle.tcc_phase.proofs.Places.{at-place, by-core, place-insert, place-most}
@@ -129,7 +129,7 @@ link-grows w v (Evict d y z) c x a = absurd (cc)
 link-grows w v (Deliver b d k) c x a = absurd (cc)
 
 -- what is noted of an event that was taken
-pub record Noted (n : Machine) (e : Event) (done : Step) (l k : Ledger) : Type 0 where
+pub record Noted (n : Machine) (e : Event) (done : Step) (l k : Standing) : Type 0 where
   pub rows : HasRows (settings_of n).cores k
   pub asked : Counts e l.asked.items k.asked.items
   pub notes : Notes n done l.each.items l.own.items k.each.items k.own.items
@@ -137,7 +137,7 @@ pub record Noted (n : Machine) (e : Event) (done : Step) (l k : Ledger) : Type 0
   pub held : k.held.items ≡ those (is_waiting (settings_of n) (program_of n) (world_of n) k.own.items k.asked.items) (settings_of n).cores
 
 -- room for one more phase changes nothing
-pub kept-each : (s : Start) (h : History) (events : ℕ) (l : Ledger) (v : Vec ℕ) → v.items ≡ l.each.items → IsKept s h events l
+pub kept-each : (s : Start) (h : History) (events : ℕ) (l : Standing) (v : Vec ℕ) → v.items ≡ l.each.items → IsKept s h events l
     → IsKept s h events (record l { each = v })
 kept-each s h events l v q k = record {
   rows = record { own = k.rows.own; asked = k.rows.asked; held = k.rows.held };
@@ -221,7 +221,7 @@ module _ (m n : Machine) (allowed : IsAllowed (settings_of m)) (es : List Event)
           }
 
   -- where no commit was told, who waits is as before, but perhaps for the core that executed
-  module _ (acts : StepsActOnOne) (l : Ledger) (kept : IsKept (start_of m) (history_of m) m.events l) (code : n.cores.code ≡ m.cores.code)
+  module _ (acts : StepsActOnOne) (l : Standing) (kept : IsKept (start_of m) (history_of m) m.events l) (code : n.cores.code ≡ m.cores.code)
     where
       abbrev old : World
       old = (history_of m).world
@@ -279,7 +279,7 @@ module _ (m n : Machine) (allowed : IsAllowed (settings_of m)) (es : List Event)
               → HeldBefore k.settings (program (started k)) (world_of n) l.own.items asked e l.held.items)) (sym code)
               (still-m (none-told done-by.out.noted r))
 
-  module _ (acts : StepsActOnOne) (l k : Ledger) (kept : IsKept (start_of m) (history_of m) m.events l) (w : Noted n e done l k)
+  module _ (acts : StepsActOnOne) (l k : Standing) (kept : IsKept (start_of m) (history_of m) m.events l) (w : Noted n e done l k)
       (events : n.events ≡ m.events + 1) (code : n.cores.code ≡ m.cores.code) where
     same : start_of n ≡ start_of m
     same = ap started code

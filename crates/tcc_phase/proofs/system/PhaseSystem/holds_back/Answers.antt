@@ -25,7 +25,7 @@ returns-then-core-cores c =
     let q = c.cores.ensures.value ∙ ap (λ (k : Settings). k.cores) c.config.ensures
     ∙ ap (λ (m : Machine). (settings_of m).cores) c.system-system.ensures.machine in
     subst (λ (p : PhaseMachine). Holds p.refined.machine (event_of c.args.e) c.is_late.result) c.self.view_is
-    (late-of c.self.inside.refined.machine c.self.inside.ledger (event_of c.args.e) c.in-Some.core.0 c.is_late.result by
+    (late-of c.self.inside.refined.machine c.self.inside.standing (event_of c.args.e) c.in-Some.core.0 c.is_late.result by
     c.self.invariant.kept (omega (arith, q, c.if-core-cores.true)) c.is_late.ensures)
 
 pub returns-else-core-cores : goal.returns-else-core-cores

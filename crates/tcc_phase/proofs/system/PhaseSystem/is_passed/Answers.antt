@@ -4,14 +4,14 @@ use Rattle.tcc_msg.specs.Plain.{event_of}
 use Rattle.net_core.specs.Machine.{Machine}
 use Rattle.tcc_phase.specs.Choosing.{held_in, passed_by}
 use Rattle.tcc_phase.specs.Phased.{PhaseMachine}
-use Rattle.tcc_phase.specs.declared.ledger.Ledger.{Ledger}
+use Rattle.tcc_phase.specs.declared.standing.Standing.{Standing}
 use Rattle.tcc_phase.proofs.Rows.{all-passed, core-row, found-at, held-many, not_yet-if, passed-if}
 use Rattle.tcc_phase.proofs.system.PhaseSystem.is_passed.Goals as goal
 
-row : (c : goal.After-self) → c.args.row < length c.self.inside.ledger.held.items
+row : (c : goal.After-self) → c.args.row < length c.self.inside.standing.held.items
 row c =
     let m : Machine = c.self.inside.refined.machine in
-    let a = held-many m c.self.inside.ledger c.self.invariant.kept c.useful_events_are_listed.ensures.holds
+    let a = held-many m c.self.inside.standing c.self.invariant.kept c.useful_events_are_listed.ensures.holds
     c.useful_events_are_listed.ensures.ordered in
     let b : c.args.row < held_in m =
     subst (λ (p : PhaseMachine). c.args.row < held_in p.refined.machine) (sym c.self.view_is) c.requires.row in
@@ -19,12 +19,12 @@ row c =
 
 pub index-core-requires : goal.index-core-requires
 index-core-requires c =
-    let a = row c in omega (arith, a, c.self.inside.ledger.held.ok)
+    let a = row c in omega (arith, a, c.self.inside.standing.held.ok)
 
 pub index-seq-requires : goal.index-seq-requires
 index-seq-requires c =
     let m : Machine = c.self.inside.refined.machine in
-    let l : Ledger = c.self.inside.ledger in
+    let l : Standing = c.self.inside.standing in
     let laws = c.useful_events_are_listed.ensures in
     let a = held-many m l c.self.invariant.kept laws.holds laws.ordered in
     let b : c.args.row < held_in m =
@@ -33,10 +33,10 @@ index-seq-requires c =
     let r = core-row m l c.self.invariant.kept laws.holds laws.ordered c.args.k c.args.row h c.index-core.result.now c.index-core.ensures in
     omega (arith, r, l.asked.ok)
 
-below : (c : goal.After-stands_before) → c.args.row < length c.self.inside.ledger.held.items
+below : (c : goal.After-stands_before) → c.args.row < length c.self.inside.standing.held.items
 below c =
     let m : Machine = c.self.inside.refined.machine in
-    let l : Ledger = c.self.inside.ledger in
+    let l : Standing = c.self.inside.standing in
     let laws = c.useful_events_are_listed.ensures in
     let a = held-many m l c.self.invariant.kept laws.holds laws.ordered in
     let b : c.args.row < held_in m =
@@ -46,7 +46,7 @@ below c =
 pub returns-in-Some-clause-passed : goal.returns-in-Some-clause-passed
 returns-in-Some-clause-passed c = λ q.
     let m : Machine = c.self.inside.refined.machine in
-    let l : Ledger = c.self.inside.ledger in
+    let l : Standing = c.self.inside.standing in
     let laws = c.useful_events_are_listed.ensures in
     let at = found-at m c.system.result.now c.useful_at.result (Some c.in-Some.e) (c.args.k + c.args.row) c.system.ensures.machine
     c.useful_at.ensures c.in-Some.is in
@@ -58,7 +58,7 @@ returns-in-Some-clause-passed c = λ q.
 pub returns-in-Some-clause-not_yet : goal.returns-in-Some-clause-not_yet
 returns-in-Some-clause-not_yet c = λ q.
     let m : Machine = c.self.inside.refined.machine in
-    let l : Ledger = c.self.inside.ledger in
+    let l : Standing = c.self.inside.standing in
     let laws = c.useful_events_are_listed.ensures in
     let at = found-at m c.system.result.now c.useful_at.result (Some c.in-Some.e) (c.args.k + c.args.row) c.system.ensures.machine
     c.useful_at.ensures c.in-Some.is in
@@ -70,7 +70,7 @@ returns-in-Some-clause-not_yet c = λ q.
 pub returns-in-None-clause-passed : goal.returns-in-None-clause-passed
 returns-in-None-clause-passed c = λ q.
     let m : Machine = c.self.inside.refined.machine in
-    let l : Ledger = c.self.inside.ledger in
+    let l : Standing = c.self.inside.standing in
     let laws = c.useful_events_are_listed.ensures in
     let a = held-many m l c.self.invariant.kept laws.holds laws.ordered in
     let b : c.args.row < held_in m =

@@ -10,9 +10,9 @@ pub loop-low-init : goal.loop-low-init
 loop-low-init c =
     let m : Machine = c.args.self.now.refined.machine in
     let laws = c.useful_events_are_listed.ensures in
-    let a : held_in m ≡ length c.self.inside.ledger.held.items =
-    subst (λ (p : PhaseMachine). held_in p.refined.machine ≡ length c.self.inside.ledger.held.items) c.self.view_is
-    (held-many c.self.inside.refined.machine c.self.inside.ledger c.self.invariant.kept laws.holds laws.ordered) in
+    let a : held_in m ≡ length c.self.inside.standing.held.items =
+    subst (λ (p : PhaseMachine). held_in p.refined.machine ≡ length c.self.inside.standing.held.items) c.self.view_is
+    (held-many c.self.inside.refined.machine c.self.inside.standing c.self.invariant.kept laws.holds laws.ordered) in
     let b = at-most-held m (c.args.k + c.len-high.result + 1) in
     (omega arith, omega (arith, a), omega arith, omega (arith, a, b))
 

@@ -10,7 +10,7 @@ unfolding started
 index-requires c =
     let at = subst (λ p. c.args.core.0 < (settings_of p.refined.machine).cores) (sym c.self.view_is) c.requires in
     let rows = c.self.invariant.kept.rows.own in
-    omega (arith, at, rows, c.self.inside.ledger.own.ok)
+    omega (arith, at, rows, c.self.inside.standing.own.ok)
 
 pub returns : goal.returns
 unfolding started
@@ -18,5 +18,5 @@ returns c =
     let at = subst (λ p. c.args.core.0 < (settings_of p.refined.machine).cores) (sym c.self.view_is) c.requires in
     let rows = c.self.invariant.kept.rows.own in
     rw (← c.self.view_is)
-    (get_or_read c.self.inside.ledger.own.items c.args.core.0 c.index.result.now (omega (arith, at, rows)) c.index.ensures 0
+    (get_or_read c.self.inside.standing.own.items c.args.core.0 c.index.result.now (omega (arith, at, rows)) c.index.ensures 0
     ∙ c.self.invariant.kept.own c.args.core.0 at)

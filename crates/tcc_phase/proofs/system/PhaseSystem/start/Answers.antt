@@ -3,7 +3,7 @@ use Rattle.std.proofs.Common.{ap, ◌∙◌, subst}
 use Rattle.image_load.specs.Contents.{Contents}
 use Rattle.tcc_base.specs.Settings.{Settings}
 use Rattle.net_core.specs.Machine.{Machine}
-use Rattle.tcc_phase.specs.declared.ledger.Ledger.{Ledger}
+use Rattle.tcc_phase.specs.declared.standing.Standing.{Standing}
 use Rattle.tcc_phase.proofs.Keeping.Kept.{in-phases-of}
 use Rattle.tcc_phase.proofs.Starting.{IsFirst, kept-first, phased-first}
 use Rattle.tcc_phase.proofs.system.PhaseSystem.start.Goals as goal
@@ -12,7 +12,7 @@ pub invariant_of-result : goal.invariant_of-result
 invariant_of-result c =
     let k : Contents = c.args.loaded.now in
     let m : Machine = c.in_ok-refined.refined.machine in
-    let l : Ledger = c.in-Ok.ledger in
+    let l : Standing = c.in-Ok.standing in
     let r = c.in_ok-refined.ensures in
     let e = c.in-Ok.ensures in
     let allowed = c.taken.ensures.refined.allowed in

@@ -10,9 +10,9 @@ use Rattle.net_core.specs.declared.taking.Step.{Step}
 use Rattle.net_core.specs.declared.taking.StepError.TheVariants.{Refused}
 use Rattle.tcc_phase.specs.Answers.{cause_of, next_of}
 use Rattle.tcc_phase.specs.Kept.{IsKept}
-use Rattle.tcc_phase.specs.Ledger.{IsListed, StillHolds}
+use Rattle.tcc_phase.specs.Standing.{IsListed, StillHolds}
 use Rattle.tcc_phase.specs.Phased.{PhaseMachine}
-use Rattle.tcc_phase.specs.declared.ledger.Ledger.{Ledger}
+use Rattle.tcc_phase.specs.declared.standing.Standing.{Standing}
 use Rattle.tcc_phase.proofs.Holding.{free-in, goes, refused-as, refused-so, rows-by}
 use Rattle.tcc_phase.proofs.Keeping.Kept.{Noted, in-phases-of, kept-each, kept-next, now-listed, now-rising, phased-after, still-so}
 use Rattle.tcc_phase.proofs.system.PhaseSystem.step.Goals as goal
@@ -48,7 +48,7 @@ kept : (c : goal.After-system-in-Ok) → IsKept (start_of c.self.inside.refined.
 kept c =
     let m : Machine = c.self.inside.refined.machine in
     subst (IsKept (start_of m) (history_of m) m.events) (sym c.reserve.ensures.others)
-    (kept-each (start_of m) (history_of m) m.events c.self.inside.ledger c.reserve.new.self.each c.reserve.ensures.each
+    (kept-each (start_of m) (history_of m) m.events c.self.inside.standing c.reserve.new.self.each c.reserve.ensures.each
     c.self.invariant.kept)
 
 same-code : (c : goal.After-system-in-Ok) → c.system-in-Ok.result.now.cores.code ≡ c.self.inside.refined.machine.cores.code
@@ -74,7 +74,7 @@ pub note-requires-clause-listed : goal.note-requires-clause-listed
 note-requires-clause-listed c =
     let m : Machine = c.self.inside.refined.machine in
     let n : Machine = c.step.new.self.machine in
-    let l : Ledger = c.reserve.new.self in
+    let l : Standing = c.reserve.new.self in
     subst (λ (x : Machine). IsListed x c.in-Ok.done l.each.items (settings_of x).cores) (sym c.system-in-Ok.ensures.machine)
     (subst (λ k. IsListed n c.in-Ok.done l.each.items k.settings.cores) (sym c.in-Ok.ensures.code)
     (now-listed m n c.self.invariant.allowed (map event_of c.self.inside.refined.taken) (event_of c.args.e) c.self.invariant.phased.from
@@ -87,7 +87,7 @@ invariant_of-self-in-Ok c =
     let to-n = free-in (record { refined = c.self.inside.refined }) c.args.self.now (event_of c.args.e) c.holds_back.result c.self.view_is
     c.holds_back.ensures c.if-holds_back.false ∙ c.in-Ok.ensures.next in
     let kept-1 = subst (IsKept (start_of m) (history_of m) m.events) (sym c.reserve.ensures.others)
-    (kept-each (start_of m) (history_of m) m.events c.self.inside.ledger c.reserve.new.self.each c.reserve.ensures.each
+    (kept-each (start_of m) (history_of m) m.events c.self.inside.standing c.reserve.new.self.each c.reserve.ensures.each
     c.self.invariant.kept) in
     let es = map event_of c.self.inside.refined.taken in
     let e = event_of c.args.e in

@@ -17,7 +17,7 @@ overflow_sub-all c =
     let laws = c.useful_events_are_listed.ensures in
     let many = c.useful_count-all.ensures
     ∙ ap (λ (x : Machine). length (useful (settings_of x) (program_of x) (world_of x))) c.system.ensures.machine ∙ ap length (all-is m) in
-    let all = useful-many m c.self.inside.ledger c.self.invariant.kept laws.holds laws.ordered in
+    let all = useful-many m c.self.inside.standing c.self.invariant.kept laws.holds laws.ordered in
     omega (arith, many, all)
 
 pub overflow_add-k : goal.overflow_add-k
@@ -26,10 +26,10 @@ overflow_add-k c =
     let laws = c.useful_events_are_listed.ensures in
     let many = c.useful_count-all.ensures
     ∙ ap (λ (x : Machine). length (useful (settings_of x) (program_of x) (world_of x))) c.system.ensures.machine ∙ ap length (all-is m) in
-    let all = useful-many m c.self.inside.ledger c.self.invariant.kept laws.holds laws.ordered in
-    let held : held_in c.args.self.now.refined.machine ≡ length c.self.inside.ledger.held.items =
-    subst (λ (p : PhaseMachine). held_in p.refined.machine ≡ length c.self.inside.ledger.held.items) c.self.view_is
-    (held-many m c.self.inside.ledger c.self.invariant.kept laws.holds laws.ordered) in
+    let all = useful-many m c.self.inside.standing c.self.invariant.kept laws.holds laws.ordered in
+    let held : held_in c.args.self.now.refined.machine ≡ length c.self.inside.standing.held.items =
+    subst (λ (p : PhaseMachine). held_in p.refined.machine ≡ length c.self.inside.standing.held.items) c.self.view_is
+    (held-many m c.self.inside.standing c.self.invariant.kept laws.holds laws.ordered) in
     let few = c.passed.ensures.few in
     omega (arith, many, all, held, few, c.if-k-all.false, c.useful_count-all.type_inv)
 
@@ -39,10 +39,10 @@ passed-requires-clause-few c =
     let laws = c.useful_events_are_listed.ensures in
     let many = c.useful_count-all.ensures
     ∙ ap (λ (x : Machine). length (useful (settings_of x) (program_of x) (world_of x))) c.system.ensures.machine ∙ ap length (all-is m) in
-    let all = useful-many m c.self.inside.ledger c.self.invariant.kept laws.holds laws.ordered in
-    let held : held_in c.args.self.now.refined.machine ≡ length c.self.inside.ledger.held.items =
-    subst (λ (p : PhaseMachine). held_in p.refined.machine ≡ length c.self.inside.ledger.held.items) c.self.view_is
-    (held-many m c.self.inside.ledger c.self.invariant.kept laws.holds laws.ordered) in
+    let all = useful-many m c.self.inside.standing c.self.invariant.kept laws.holds laws.ordered in
+    let held : held_in c.args.self.now.refined.machine ≡ length c.self.inside.standing.held.items =
+    subst (λ (p : PhaseMachine). held_in p.refined.machine ≡ length c.self.inside.standing.held.items) c.self.view_is
+    (held-many m c.self.inside.standing c.self.invariant.kept laws.holds laws.ordered) in
     omega (arith, many, all, held, c.if-k-all.false, c.useful_count-all.type_inv)
 
 pub returns-then-k-all : goal.returns-then-k-all
@@ -51,7 +51,7 @@ returns-then-k-all c =
     let laws = c.useful_events_are_listed.ensures in
     let many = c.useful_count-all.ensures
     ∙ ap (λ (x : Machine). length (useful (settings_of x) (program_of x) (world_of x))) c.system.ensures.machine ∙ ap length (all-is m) in
-    let all = useful-many m c.self.inside.ledger c.self.invariant.kept laws.holds laws.ordered in
+    let all = useful-many m c.self.inside.standing c.self.invariant.kept laws.holds laws.ordered in
     subst (λ (p : PhaseMachine). ◌≡◌ {A = Option Event} None (slice_get (useful_in p.refined.machine) c.args.k)) c.self.view_is
     (sym (slice_get_past (useful_in m) c.args.k (omega (arith, many, all, c.if-k-all.true))))
 

@@ -7,9 +7,9 @@ use Rattle.tcc_phase.proofs.Rows.{all-is, useful-many}
 use Rattle.tcc_phase.proofs.system.PhaseSystem.useful_count.Goals as goal
 
 many : (c : goal.After-len)
-    → length (useful_in c.self.inside.refined.machine) + length c.self.inside.ledger.held.items ≡ c.useful_count.result
+    → length (useful_in c.self.inside.refined.machine) + length c.self.inside.standing.held.items ≡ c.useful_count.result
 many c =
-    useful-many c.self.inside.refined.machine c.self.inside.ledger c.self.invariant.kept c.useful_events_are_listed.ensures.holds
+    useful-many c.self.inside.refined.machine c.self.inside.standing c.self.invariant.kept c.useful_events_are_listed.ensures.holds
     c.useful_events_are_listed.ensures.ordered
     ∙ ap length (sym (all-is c.self.inside.refined.machine))
     ∙ ap (λ (m : Machine). length (useful (settings_of m) (program_of m) (world_of m))) (sym c.system.ensures.machine)

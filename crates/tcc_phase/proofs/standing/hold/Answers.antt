@@ -4,8 +4,8 @@ use Rattle.base_lemmas.proofs.Lemmas.{those-most}
 use Rattle.net_core.specs.Machine.{program_of, settings_of, world_of}
 use Rattle.tcc_phase.specs.Requests.{is_above}
 use Rattle.tcc_phase.proofs.Requests.Those.{those-first, those-more, those-same}
-use Rattle.tcc_phase.proofs.ledger.hold.Goals as goal
-use Rattle.tcc_phase.proofs.ledger.hold.Goals.{then-is_above, else-is_above}
+use Rattle.tcc_phase.proofs.standing.hold.Goals as goal
+use Rattle.tcc_phase.proofs.standing.hold.Goals.{then-is_above, else-is_above}
 
 pub loop-core-init : goal.loop-core-init
 loop-core-init c = (c.requires.none ∙ those-first _, c.requires.room)

@@ -3,8 +3,8 @@ use Rattle.std.proofs.Common.{◌≡◌, sym, ◌∙◌, add-one}
 use Rattle.rules_phases.specs.Phased.{has_halted}
 use Rattle.net_core.specs.Machine.{world_of}
 use Rattle.tcc_phase.proofs.Requests.Behind.{behind-halted, behind-none, behind-running, halted-is}
-use Rattle.tcc_phase.proofs.ledger.earliest.Goals as goal
-use Rattle.tcc_phase.proofs.ledger.earliest.Goals.{then-not-has_halted, else-not-has_halted}
+use Rattle.tcc_phase.proofs.standing.earliest.Goals as goal
+use Rattle.tcc_phase.proofs.standing.earliest.Goals.{then-not-has_halted, else-not-has_halted}
 
 pub loop-core-init : goal.loop-core-init
 loop-core-init c = λ q. behind-none (world_of c.args.system.now) c.args.own.now q

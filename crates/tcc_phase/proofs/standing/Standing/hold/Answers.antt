@@ -5,7 +5,7 @@ use Rattle.rules_maps.specs.Words.{those}
 use Rattle.net_core.specs.Machine.{program_of, settings_of, world_of}
 use Rattle.tcc_phase.specs.Requests.{Limits, is_above, is_behind, is_below}
 use Rattle.tcc_phase.proofs.Requests.Waiting.{none-of, waiting-above, waiting-none}
-use Rattle.tcc_phase.proofs.ledger.Ledger.hold.Goals as goal
+use Rattle.tcc_phase.proofs.standing.Standing.hold.Goals as goal
 
 pub returns-in-Some-clause-held : goal.returns-in-Some-clause-held
 returns-in-Some-clause-held c =

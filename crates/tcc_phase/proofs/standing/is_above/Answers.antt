@@ -4,7 +4,7 @@ use Rattle.std.specs.Prelude.{get_or, is_some, nat_lt}
 use Rattle.std.proofs.lemmas.Bool.Decides.{nat_tests}
 use Rattle.net_core.specs.Answers.{step_of}
 use Rattle.tcc_phase.specs.Requests.{is_above}
-use Rattle.tcc_phase.proofs.ledger.is_above.Goals as goal
+use Rattle.tcc_phase.proofs.standing.is_above.Goals as goal
 
 pub returns-then-least-own : goal.returns-then-least-own
 unfolding is_above

@@ -3,7 +3,7 @@ use Rattle.std.proofs.Common.{◌-◌, ◌<◌, ◌≤◌, length, refl, sym, su
 use Rattle.std.proofs.lemmas.Option.{slice_get_read}
 use Rattle.tcc_base.specs.declared.access.Commit.{Commit}
 use Rattle.tcc_phase.proofs.Places.{first-smaller, last-smaller, place-most}
-use Rattle.tcc_phase.proofs.ledger.place_of.Goals as goal
+use Rattle.tcc_phase.proofs.standing.place_of.Goals as goal
 
 pub loop-at-init : goal.loop-at-init
 loop-at-init c = (omega arith, place-most c.args.tid.0 c.args.commits.now)

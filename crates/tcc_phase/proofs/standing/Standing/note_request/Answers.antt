@@ -6,9 +6,9 @@ use Rattle.net_core.specs.Machine.{program_of, settings_of, world_of}
 use Rattle.tcc_phase.specs.Requests.{Limits, is_above, is_waiting}
 use Rattle.tcc_phase.proofs.Requests.Staying.{IsListed, itself, looked-up, not-before, room, unless-executed}
 use Rattle.tcc_phase.proofs.Requests.Waiting.{none-of, waits-above, waits-none}
-use Rattle.tcc_phase.proofs.ledger.Ledger.note_request.Goals as goal
-use Rattle.tcc_phase.proofs.ledger.Ledger.note_request.Goals.{then-core-len-via-then-core-len}
-use Rattle.tcc_phase.proofs.ledger.Ledger.note_request.Goals.{then-core-len-via-else-core-len+then-not-is_above}
+use Rattle.tcc_phase.proofs.standing.Standing.note_request.Goals as goal
+use Rattle.tcc_phase.proofs.standing.Standing.note_request.Goals.{then-core-len-via-then-core-len}
+use Rattle.tcc_phase.proofs.standing.Standing.note_request.Goals.{then-core-len-via-else-core-len+then-not-is_above}
 
 -- where no core is late
 pub returns-in_default-clause-held : goal.returns-in_default-clause-held

@@ -9,11 +9,11 @@ use Rattle.tcc_msg.specs.declared.event.Event.TheVariants.{Exec, Evict, Deliver}
 use Rattle.net_core.specs.Machine.{program_of, settings_of, world_of}
 use Rattle.net_core.specs.declared.taking.Step.TheVariants.{Moved}
 use Rattle.theorem_phases.specs.Laws.{executes}
-use Rattle.tcc_phase.specs.Ledger.{Notes, StillHolds}
+use Rattle.tcc_phase.specs.Standing.{Notes, StillHolds}
 use Rattle.tcc_phase.specs.Requests.{Limits, is_waiting}
-use Rattle.tcc_phase.specs.declared.ledger.Ledger.{Ledger}
+use Rattle.tcc_phase.specs.declared.standing.Standing.{Standing}
 use Rattle.tcc_phase.proofs.Requests.Staying.{unless-executed}
-use Rattle.tcc_phase.proofs.ledger.Ledger.note.Goals as goal
+use Rattle.tcc_phase.proofs.standing.Standing.note.Goals as goal
 
 no-core : (e : Event) → ((x : CoreId) → e ≡ Exec x → ⊥) → (d : ℕ) → executes d (event_of e) ≡ false
 no-core (Exec x) f d = absurd (f x refl)
@@ -25,34 +25,34 @@ still c = subst (λ d. StillHolds c.args.system.now (event_of c.args.e) d c.args
 
 pub returns-in_default-clause-rows : goal.returns-in_default-clause-rows
 returns-in_default-clause-rows c =
-    let k : Ledger = c.note_delivery.new.self in
+    let k : Standing = c.note_delivery.new.self in
     record {
-      own = ap (λ (x : Ledger). length x.own.items) c.note_delivery.ensures.others ∙ c.requires.rows.own;
+      own = ap (λ (x : Standing). length x.own.items) c.note_delivery.ensures.others ∙ c.requires.rows.own;
       asked = c.note_delivery.ensures.rows ∙ c.requires.rows.asked;
-      held = subst (λ (x : Ledger). (settings_of c.args.system.now).cores ≤ vec_capacity x.held) (sym c.note_delivery.ensures.others)
+      held = subst (λ (x : Standing). (settings_of c.args.system.now).cores ≤ vec_capacity x.held) (sym c.note_delivery.ensures.others)
           c.requires.rows.held;
     }
 
 pub returns-in_default-clause-notes : goal.returns-in_default-clause-notes
 returns-in_default-clause-notes c =
-    let l : Ledger = c.args.self.now in
-    let k : Ledger = c.note_delivery.new.self in
+    let l : Standing = c.args.self.now in
+    let k : Standing = c.note_delivery.new.self in
     subst (λ d. Notes c.args.system.now d l.each.items l.own.items k.each.items k.own.items) (sym c.in-Moved.is) (
-      ap (λ (x : Ledger). x.each.items) c.note_delivery.ensures.others,
-      ap (λ (x : Ledger). x.own.items) c.note_delivery.ensures.others,
+      ap (λ (x : Standing). x.each.items) c.note_delivery.ensures.others,
+      ap (λ (x : Standing). x.own.items) c.note_delivery.ensures.others,
     )
 
 pub returns-in_default-clause-limits : goal.returns-in_default-clause-limits
 returns-in_default-clause-limits c =
-    subst (λ (x : Ledger). Limits (settings_of c.args.system.now) (world_of c.args.system.now) x.own.items x.least)
+    subst (λ (x : Standing). Limits (settings_of c.args.system.now) (world_of c.args.system.now) x.own.items x.least)
     (sym c.note_delivery.ensures.others) (still c).0
 
 pub returns-in_default-clause-held : goal.returns-in_default-clause-held
 returns-in_default-clause-held c =
     let m = c.args.system.now in
-    let l : Ledger = c.args.self.now in
-    let k : Ledger = c.note_delivery.new.self in
-    subst (λ (x : Ledger). x.held.items ≡ those (is_waiting (settings_of m) (program_of m) (world_of m) x.own.items k.asked.items)
+    let l : Standing = c.args.self.now in
+    let k : Standing = c.note_delivery.new.self in
+    subst (λ (x : Standing). x.held.items ≡ those (is_waiting (settings_of m) (program_of m) (world_of m) x.own.items k.asked.items)
     (settings_of m).cores) (sym c.note_delivery.ensures.others)
     (unless-executed (settings_of m) (program_of m) (world_of m) l.own.items k.asked.items (event_of c.args.e) l.held.items
     ((still c).1 k.asked.items c.note_delivery.ensures.asked)

@@ -8,7 +8,7 @@ use Rattle.net_core.specs.Machine.{Machine, program_of, settings_of, world_of}
 use Rattle.net_core.specs.declared.taking.Step.{Step}
 use Rattle.net_core.specs.declared.taking.Step.TheVariants.{Moved, Committed}
 use Rattle.tcc_phase.specs.Requests.{Counts, HeldBefore, Limits}
-use Rattle.tcc_phase.specs.declared.ledger.Ledger.{Ledger}
+use Rattle.tcc_phase.specs.declared.standing.Standing.{Standing}
 
 -- a commit has the phase that its core was in, in its place by its TID, and its core's phase is then that of its checkpoint where this
 -- is greater
@@ -26,7 +26,7 @@ IsListed m (Committed t) each n =
     (x : Commit) × (slice_get m.commits (place_of t.0 m.commits) ≡ Some x) × (x.core.0 < n) × (place_of t.0 m.commits ≤ length each)
 
 -- Where no commit was told, the same cores are late as before, and those that are listed waited before the event.
-abbrev pub StillHolds : Machine → Event → Step → Ledger → Type 0
+abbrev pub StillHolds : Machine → Event → Step → Standing → Type 0
 StillHolds m e (Committed t) l = Unit {0}
 StillHolds m e Moved l =
     Limits (settings_of m) (world_of m) l.own.items l.least

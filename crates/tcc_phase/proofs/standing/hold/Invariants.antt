@@ -4,7 +4,7 @@ use Rattle.std.specs.Prelude.{vec_capacity}
 use Rattle.rules_maps.specs.Words.{those}
 use Rattle.net_core.specs.Machine.{program_of, settings_of, world_of}
 use Rattle.tcc_phase.specs.Requests.{is_above}
-use Rattle.tcc_phase.proofs.ledger.hold.Given as goal
+use Rattle.tcc_phase.proofs.standing.hold.Given as goal
 
 abbrev pub invariant-loop-core : goal.invariant-loop-core
 invariant-loop-core l =

@@ -8,7 +8,7 @@ ghost use Rattle.theorem_phases.specs.Laws.{place_of};
 ghost use Rattle.rules_phases.specs.Phases.{x27};
 ghost use Rattle.net_core.specs.Machine.{program_of, settings_of, world_of};
 ghost use Rattle.tcc_phase.specs.Kept.{HasRows};
-ghost use Rattle.tcc_phase.specs.Ledger.{IsListed, Notes, StillHolds};
+ghost use Rattle.tcc_phase.specs.Standing.{IsListed, Notes, StillHolds};
 ghost use Rattle.tcc_phase.specs.Requests.{Counts, HeldBefore, Limits, either_below, is_above, is_behind, is_below, is_waiting};
 
 use live_core::has_halted;
@@ -20,7 +20,7 @@ use tcc_msg::{Event, Name};
 
 /// The records of a machine that runs by phases.
 #[derive(Debug, Drop)]
-pub(crate) struct Ledger {
+pub(crate) struct Standing {
     /// The phase of each commit, by rising TID.
     pub each: Vec<u32>,
     /// The phase that each core is in.
@@ -117,9 +117,9 @@ pub(crate) fn place_of(commits: &[Commit], tid: Tid) -> usize
     at
 }
 
-impl Ledger {
+impl Standing {
     /// That of a machine before its first event, in which all cores are in phase 0.
-    pub fn start(alloc: Global, cores: u8) -> Result<Ledger, AllocError>
+    pub fn start(alloc: Global, cores: u8) -> Result<Standing, AllocError>
         ensures each { IfOk result (λ l. l.each.items ≡ []) }
         ensures own { IfOk result (λ l. l.own.items ≡ replicate cores 0) }
         ensures asked { IfOk result (λ l. l.asked.items ≡ replicate cores 0) }
@@ -128,7 +128,7 @@ impl Ledger {
         ensures even { IfOk result (λ l. l.least ≡ None) }
     {
         let cores = cores as usize;
-        Ok(Ledger {
+        Ok(Standing {
             each: Vec::new(alloc),
             own: vec![in alloc; 0; cores]?,
             asked: vec![in alloc; 0; cores]?,
