@@ -28,7 +28,8 @@ fn core_count(core: &CoreNode, code: &Code) -> usize
     requires same { code.now.settings ≡ core.now.config }
     ensures { result ≡ length (core_events core.now.config (program (started code.now)) core.now.id.0 (core_of core.now)) }
 {
-    core.can_exec(code) as usize + core.useful_evicts(code)
+    let (may_execute, evictions) = core.uses(code);
+    may_execute as usize + evictions
 }
 
 /// The k-th useful eviction of the core of this number, from 0.
