@@ -10,7 +10,7 @@ use Rattle.rules_apart.specs.Filled.{bare}
 use Rattle.rules_apart.specs.Fitting.{IsMergeOf, log_of, node_count, place}
 use Rattle.rules_apart.specs.declared.logs.Logged.{Logged}
 use Rattle.tcc_base.specs.Settings.{Settings}
-use Rattle.base_lemmas.proofs.Lemmas.{lt-from as below}
+use Rattle.base_lemmas.proofs.Lemmas.{lt-from}
 use Rattle.rules_maps.specs.Nodes.{Core, Dir, Node, Vendor, node_eq}
 use Rattle.tcc_msg.specs.declared.event.Event.{Event}
 use Rattle.rules_tcc.specs.Local.{Entry, at_node}
@@ -100,15 +100,15 @@ all-places s (e ∷ es) (h, a) =
 node-by-place : (s : Settings) (m n : Node) → is_node s m ≡ true → is_node s n ≡ true
     → cond (node_eq m n) 1 0 ≡ same (place s m) (place s n)
 node-by-place s (Core c) (Core d) p q = refl
-node-by-place s (Core c) (Dir d) p q = let l = below c s.cores p in sym (same-other c (s.cores + d) (λ e. omega (arith, e, l)))
-node-by-place s (Core c) Vendor p q = let l = below c s.cores p in sym (same-other c (s.cores + s.dirs) (λ e. omega (arith, e, l)))
-node-by-place s (Dir c) (Core d) p q = let l = below d s.cores q in sym (same-other (s.cores + c) d (λ e. omega (arith, e, l)))
+node-by-place s (Core c) (Dir d) p q = let l = lt-from c s.cores p in sym (same-other c (s.cores + d) (λ e. omega (arith, e, l)))
+node-by-place s (Core c) Vendor p q = let l = lt-from c s.cores p in sym (same-other c (s.cores + s.dirs) (λ e. omega (arith, e, l)))
+node-by-place s (Dir c) (Core d) p q = let l = lt-from d s.cores q in sym (same-other (s.cores + c) d (λ e. omega (arith, e, l)))
 node-by-place s (Dir c) (Dir d) p q = grind (arith, nat_tests)
 node-by-place s (Dir c) Vendor p q =
-    let l = below c s.dirs p in sym (same-other (s.cores + c) (s.cores + s.dirs) (λ e. omega (arith, e, l)))
-node-by-place s Vendor (Core d) p q = let l = below d s.cores q in sym (same-other (s.cores + s.dirs) d (λ e. omega (arith, e, l)))
+    let l = lt-from c s.dirs p in sym (same-other (s.cores + c) (s.cores + s.dirs) (λ e. omega (arith, e, l)))
+node-by-place s Vendor (Core d) p q = let l = lt-from d s.cores q in sym (same-other (s.cores + s.dirs) d (λ e. omega (arith, e, l)))
 node-by-place s Vendor (Dir d) p q =
-    let l = below d s.dirs q in sym (same-other (s.cores + s.dirs) (s.cores + d) (λ e. omega (arith, e, l)))
+    let l = lt-from d s.dirs q in sym (same-other (s.cores + s.dirs) (s.cores + d) (λ e. omega (arith, e, l)))
 node-by-place s Vendor Vendor p q = sym (same-self (s.cores + s.dirs))
 
 one-longer : (b : Bool) (e : Entry) (es : List Entry) → length (cond b (e ∷ es) es) ≡ cond b 1 0 + length es

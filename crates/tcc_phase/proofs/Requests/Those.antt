@@ -5,7 +5,7 @@ use Rattle.std.specs.Prelude.{get_or, insert, nat_lt}
 use Rattle.std.proofs.lemmas.Bool.Decides.{nat_tests}
 use Rattle.std.proofs.lemmas.List.{get_or_append_left, get_or_push, length_push}
 use Rattle.std.proofs.lemmas.List.Edits.{insert-append_left, insert_end}
-use Rattle.base_lemmas.proofs.Lemmas.{those-same as those-alike}
+use Rattle.base_lemmas.proofs.Lemmas.{those-same}
 use Rattle.rules_maps.specs.Words.{those}
 
 pub those-first : (p : ℕ → Bool) → [] ≡ those p 0
@@ -23,8 +23,8 @@ none p n t = ap (λ b. those p n ++ cond b (n ∷ []) []) t ∙ append-nil (thos
 pub those-more : (p : ℕ → Bool) (n : ℕ) → p n ≡ true → those p n ++ n ∷ [] ≡ those p (n + 1)
 those-more p n t = sym (rw add-one (one p n t))
 
-pub those-same : (p : ℕ → Bool) (n : ℕ) → p n ≡ false → those p (n + 1) ≡ those p n
-those-same p n t = rw add-one (none p n t)
+pub those-past : (p : ℕ → Bool) (n : ℕ) → p n ≡ false → those p (n + 1) ≡ those p n
+those-past p n t = rw add-one (none p n t)
 
 -- ---- where they stand
 
@@ -156,7 +156,7 @@ those-insert p q c (suc n) l f t h = go (c == n) refl (λ m. those-insert p q c 
         ∙ ap (λ xs. insert xs (length (those p c)) c) (append-nil (those p n))
         ∙ (λ i. insert (those p n) (length (those p (s i))) (s i))
         ∙ insert_end (those p n) n
-        ∙ ap (λ xs. xs ++ n ∷ []) (those-alike p q n (λ d k. subst (λ m. (d : ℕ) → d < m → p d ≡ q d) s below d k))
+        ∙ ap (λ xs. xs ++ n ∷ []) (those-same p q n (λ d k. subst (λ m. (d : ℕ) → d < m → p d ≡ q d) s below d k))
         ∙ ap (λ b. those q n ++ cond b (n ∷ []) []) (sym tn)
     go false e rest =
         let m : c < n = grind (arith, nat_tests) in

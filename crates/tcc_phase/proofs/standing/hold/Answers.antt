@@ -3,7 +3,7 @@ use Rattle.std.proofs.Common.{◌≡◌, ℕ, Bool, [], ◌∷◌, ◌++◌, len
 use Rattle.base_lemmas.proofs.Lemmas.{those-most}
 use Rattle.net_core.specs.Machine.{program_of, settings_of, world_of}
 use Rattle.tcc_phase.specs.Requests.{is_above}
-use Rattle.tcc_phase.proofs.Requests.Those.{those-first, those-more, those-same}
+use Rattle.tcc_phase.proofs.Requests.Those.{those-first, those-more, those-past}
 use Rattle.tcc_phase.proofs.standing.hold.Goals as goal
 use Rattle.tcc_phase.proofs.standing.hold.Goals.{then-is_above, else-is_above}
 
@@ -34,5 +34,5 @@ loop-core-preserved c =
             omega (arith, i.1, w.push_reserved.ensures.capacity),
           )
       | else-is_above w ↦
-          rw w.held-is (i.0 ∙ sym (those-same p c.loop-core.core (sym c.is_above.ensures ∙ w.if-is_above.false)), i.1)
+          rw w.held-is (i.0 ∙ sym (those-past p c.loop-core.core (sym c.is_above.ensures ∙ w.if-is_above.false)), i.1)
     ]
