@@ -10,7 +10,7 @@ use Rattle.rules_bus.specs.State.{Bus, Free, Alone, Packet, BusWorld}
 use Rattle.bus_tcc.specs.Left.{packet_words}
 use Rattle.bus_tcc.specs.Packets.{PacketLine, packet_line}
 use Rattle.schedule_text.specs.Grammar.{newline}
-use Rattle.report_text.specs.Lines.{hex}
+use Rattle.base_digits.specs.Digits.{hex}
 use Rattle.watch_state.specs.Cores.{addr_of}
 use Rattle.watch_changes.specs.Same.{alike}
 use Rattle.bus_state.specs.Lines.{bus_record_line}

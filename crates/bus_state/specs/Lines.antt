@@ -2,7 +2,7 @@
 use Rattle.std.specs.Prelude.{ℕ, List, ◌++◌, codes}
 use Rattle.std.specs.List.{flat_map}
 use Rattle.schedule_text.specs.Grammar.{newline}
-use Rattle.report_text.specs.Lines.{hex}
+use Rattle.base_digits.specs.Digits.{hex}
 use Rattle.watch_trace.specs.Words.{field, value_words}
 use Rattle.watch_state.specs.Lines.{number_words}
 use Rattle.bus_state.specs.Records.{BusRecord, ArbiterIs, PacketHas, MemoryWord, Holding, Nobody, OneCore, LeftTo}

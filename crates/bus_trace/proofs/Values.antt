@@ -3,7 +3,7 @@ use Rattle.std.proofs.Common.{◌≡◌, ℕ, Bool, true, false, List, [], ◌++
 use Rattle.std.specs.Prelude.{if◌then◌else◌}
 use Rattle.rules_maps.specs.Masks.{has, masked}
 use Rattle.rules_maps.specs.Words.{eight}
-use Rattle.report_text.specs.Lines.{hex}
+use Rattle.base_digits.specs.Digits.{hex}
 use Rattle.watch_trace.specs.Words.{value_word, value_words}
 
 one : (b : Bool) (x : ℕ)

@@ -1,8 +1,9 @@
 -- The lines of a report, each ended by a line feed. A decimal number has no leading zeros; an address and a value are
 -- eight lower-case hexadecimal digits.
-use Rattle.std.specs.Prelude.{ℕ, List, [], ◌∷◌, ◌++◌, ◌-◌, ◌^◌, Bool, true, false, codes}
-use Rattle.std.specs.Fmt.{decimal, digits, padded_integral, format_spec}
+use Rattle.std.specs.Prelude.{ℕ, List, [], ◌∷◌, ◌++◌, Bool, true, false, codes}
+use Rattle.std.specs.Fmt.{decimal}
 use Rattle.std.specs.List.{flat_map}
+use Rattle.base_digits.specs.Digits.{hex}
 use Rattle.tcc_base.specs.Bytes.{bytes_of}
 use Rattle.tcc_base.specs.declared.access.Commit.{Commit}
 use Rattle.tcc_base.specs.declared.access.CoreEnd.{CoreEnd}
@@ -11,10 +12,6 @@ use Rattle.tcc_base.specs.declared.access.Load.{Load}
 
 abbrev pub newline : List ℕ
 newline = 10 ∷ []
-
--- at least so many lower-case hexadecimal digits, with zeros in front
-abbrev pub hex : (width n : ℕ) → List ℕ
-hex width n = padded_integral (format_spec 32 0 4 width (2 ^ 64 - 1)) false [] (digits 16 false n)
 
 unfoldable pub end_line : (done : Bool) → List ℕ
 end_line true = codes "end done" ++ newline

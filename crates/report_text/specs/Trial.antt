@@ -4,7 +4,8 @@ use Rattle.std.specs.Fmt.{decimal}
 use Rattle.std.specs.List.{sum, range_with_len}
 use Rattle.work_gen.specs.Names.{work_word}
 use Rattle.work_gen.specs.declared.work.Work.{Work}
-use Rattle.report_text.specs.Lines.{newline, hex, end_line, events_line}
+use Rattle.report_text.specs.Lines.{newline, end_line, events_line}
+use Rattle.base_digits.specs.Digits.{hex}
 use Rattle.report_text.specs.declared.shown.Trial.{Trial}
 
 -- what a summary tells of a trial; RAM is `count` words, with the value that each word has and the value that it was loaded with

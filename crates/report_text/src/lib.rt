@@ -4,6 +4,7 @@
 mod body;
 mod growing;
 mod lines;
+mod often;
 mod shown;
 mod texts;
 mod trials;

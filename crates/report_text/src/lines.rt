@@ -1,9 +1,12 @@
 // The lines of a report, each appended to a text. Where memory runs out, the text holds a part of the line.
 ghost use Rattle.std.specs.Prelude.{◌≡◌, ◌++◌, OnOk, string_bytes};
 ghost use Rattle.report_text.specs.Lines.{end_line, events_line, commit_line, load_line, core_line, pc_line, reg_line, console_line};
-ghost use Rattle.report_text.specs.Lines.{mem_line, hex};
+ghost use Rattle.report_text.specs.Lines.{mem_line};
+ghost use Rattle.base_digits.specs.Digits.{hex};
 ghost use Rattle.std.specs.List.{flat_map};
 
+use crate::often::{put_commit, put_load, put_mem};
+use base_digits::{ROOM, push_from};
 use std::alloc::AllocError;
 use tcc_base::{Commit, CoreEnd, Load};
 
@@ -23,23 +26,20 @@ pub fn push_events(text: &mut String, events: u64) -> Result<(), AllocError>
     write!(text, "events {events}\n")
 }
 
-#[tactic(auto, unfolding(crate::specs::Lines::commit_line))]
 pub fn push_commit(text: &mut String, commit: &Commit) -> Result<(), AllocError>
     ensures { OnOk result (string_bytes text.new ≡ string_bytes text.old ++ commit_line commit.now) }
 {
-    write!(
-        text,
-        "commit {} {} {}\n",
-        commit.tid.0, commit.core.0, commit.n
-    )
+    let mut line = [0; ROOM];
+    let start = put_commit(commit, &mut line);
+    push_from(text, &line, start)
 }
 
-#[tactic(auto, unfolding(crate::specs::Lines::load_line))]
 pub fn push_load(text: &mut String, load: &Load) -> Result<(), AllocError>
     ensures { OnOk result (string_bytes text.new ≡ string_bytes text.old ++ load_line load.now) }
 {
-    let size = load.size.bytes();
-    write!(text, "load {:08x} {size} {:08x}\n", load.addr, load.value)
+    let mut line = [0; ROOM];
+    let start = put_load(load, &mut line);
+    push_from(text, &line, start)
 }
 
 /// Appends the line that says how a core ended. After want of memory a part of it may stand there.
@@ -88,9 +88,10 @@ pub fn push_console(text: &mut String, console: &[u8]) -> Result<(), AllocError>
 }
 
 /// Appends the line of a word of RAM, by its address in bytes. After want of memory a part of it may stand there.
-#[tactic(auto, unfolding(crate::specs::Lines::mem_line))]
 pub fn push_mem(text: &mut String, addr: u32, value: u32) -> Result<(), AllocError>
     ensures { OnOk result (string_bytes text.new ≡ string_bytes text.old ++ mem_line addr value) }
 {
-    write!(text, "mem {addr:08x} {value:08x}\n")
+    let mut line = [0; ROOM];
+    let start = put_mem(addr, value, &mut line);
+    push_from(text, &line, start)
 }

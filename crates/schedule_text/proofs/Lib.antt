@@ -3,3 +3,4 @@ mod FirstLines
 mod Numbers
 mod Texts
 mod Words
+pub mod Ascii

@@ -1,6 +1,7 @@
 // The text of a schedule: one text for each well-formed schedule, and a reader that accepts no other spelling.
 #![tactic(auto)]
 
+mod events;
 mod fault;
 mod fields;
 mod laws;

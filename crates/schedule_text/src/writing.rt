@@ -4,10 +4,12 @@ ghost use Rattle.std.specs.List.{flat_map};
 ghost use Rattle.schedule_text.specs.WellFormed.{IsWellFormed};
 ghost use Rattle.schedule_text.specs.Grammar.{version_of, version_line, config_line, node_word, event_line, end_line, text_of};
 
+use crate::events::{put_event, put_node};
 use crate::lines::version_needed;
+use base_digits::{ROOM, push_from};
 use std::alloc::{AllocError, Global};
 use tcc_base::{Config, NoMemory, NodeId};
-use tcc_msg::{Event, Name};
+use tcc_msg::Event;
 
 #[tactic(auto, unfolding(crate::specs::Grammar::version_line))]
 fn push_version(text: &mut String, version: u64) -> Result<(), AllocError>
@@ -45,38 +47,21 @@ pub fn push_config(text: &mut String, config: &Config) -> Result<(), AllocError>
 }
 
 /// Appends a node, as it stands in an event's line. After want of memory a part of it may stand there.
-#[tactic(auto, unfolding(crate::specs::Grammar::node_word))]
 pub fn push_node(text: &mut String, node: NodeId) -> Result<(), AllocError>
     ensures { OnOk result (string_bytes text.new ≡ string_bytes text.old ++ node_word node) }
 {
-    match node {
-        NodeId::Core(core) => write!(text, "c{}", core.0),
-        NodeId::Dir(dir) => write!(text, "d{}", dir.0),
-        NodeId::Vendor => text.push_str("v"),
-    }
-}
-
-#[tactic(auto, unfolding(crate::specs::Grammar::event_line))]
-fn push_deliver(text: &mut String, name: &Name) -> Result<(), AllocError>
-    ensures { OnOk result (string_bytes text.new ≡ string_bytes text.old ++ event_line (Event.Deliver name.now)) }
-{
-    text.push_str("d ")?;
-    push_node(text, name.src)?;
-    text.push_str(" ")?;
-    push_node(text, name.dst)?;
-    write!(text, " {}\n", name.seq)
+    let mut line = [0; ROOM];
+    let start = put_node(node, &mut line, ROOM);
+    push_from(text, &line, start)
 }
 
 /// Appends the line of an event. After want of memory a part of it may stand there.
-#[tactic(auto, unfolding(crate::specs::Grammar::event_line))]
 pub fn push_event(text: &mut String, event: &Event) -> Result<(), AllocError>
     ensures { OnOk result (string_bytes text.new ≡ string_bytes text.old ++ event_line event.now) }
 {
-    match event {
-        Event::Exec(core) => write!(text, "e {}\n", core.0),
-        Event::Evict(core, set, way) => write!(text, "x {} {set} {way}\n", core.0),
-        Event::Deliver(name) => push_deliver(text, name),
-    }
+    let mut line = [0; ROOM];
+    let start = put_event(event, &mut line);
+    push_from(text, &line, start)
 }
 
 fn push_events(text: &mut String, events: &[Event]) -> Result<(), AllocError>

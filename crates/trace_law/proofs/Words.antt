@@ -10,7 +10,7 @@ use Rattle.rules_maps.specs.Nodes.{Node, Core, Dir, Vendor}
 use Rattle.rules_maps.specs.Nodes.{Msg, TidReq, TidGrant, LoadReq, Fill, Skip, Probe, ProbeReply, Mark, Commit, Abort}
 use Rattle.rules_maps.specs.Nodes.{WriteBack, Flush, DataReq, Inv, InvAck}
 use Rattle.rules_tcc.specs.State.{Phase, Running, AwaitTid, DoomedTid, Probing, Ready, Overflowing, Solo, Halted}
-use Rattle.report_text.specs.Lines.{hex}
+use Rattle.base_digits.specs.Digits.{hex}
 use Rattle.schedule_text.specs.Grammar.{node_word}
 use Rattle.watch.specs.Facts.{Fact, Did, Missed, Overflowed, Evicted, Took, Dropped, AskedOwner, Violated, GaveUp, Committed, CameTo}
 use Rattle.watch.specs.Facts.{Serves, Sent}

@@ -6,7 +6,7 @@ use Rattle.std.specs.List.{flat_map}
 use Rattle.rules_program.specs.Plain.{Outcome, Goes, Ended, Halted, Trapped}
 use Rattle.rules_maps.specs.Words.{num}
 use Rattle.schedule_text.specs.Grammar.{newline}
-use Rattle.report_text.specs.Lines.{hex}
+use Rattle.base_digits.specs.Digits.{hex}
 use Rattle.watch_trace.specs.Lines.{name_words}
 use Rattle.watch_trace.specs.Words.{message_words, phase_words, value_words}
 use Rattle.watch_state.specs.Records.{Frame, Known, Record, CoreIs, Reserved, EndedBy, AwaitsLine, OwedBy, CommittedAt, Register, SavedPc}

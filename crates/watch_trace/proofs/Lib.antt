@@ -1,5 +1,4 @@
 mod Lists
-mod Hex
 mod Written
 mod Growing
 pub mod Lemmas

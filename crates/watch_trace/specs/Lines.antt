@@ -3,7 +3,7 @@ use Rattle.std.specs.Prelude.{ℕ, List, ◌++◌, codes}
 use Rattle.std.specs.Fmt.{decimal}
 use Rattle.rules_maps.specs.Nodes.{Node}
 use Rattle.schedule_text.specs.Grammar.{newline, node_word}
-use Rattle.report_text.specs.Lines.{hex}
+use Rattle.base_digits.specs.Digits.{hex}
 use Rattle.watch.specs.Facts.{Fact, Did, Missed, Overflowed, Evicted, Took, Dropped, AskedOwner, Violated, GaveUp, Committed, CameTo}
 use Rattle.watch.specs.Facts.{Serves, Sent}
 use Rattle.watch_trace.specs.Shown.{shown_node_of}

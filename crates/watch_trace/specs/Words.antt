@@ -9,7 +9,7 @@ use Rattle.rules_maps.specs.Masks.{has, full}
 use Rattle.rules_maps.specs.Nodes.{Msg, TidReq, TidGrant, LoadReq, Fill, Skip, Probe, ProbeReply, Mark, Commit, Abort}
 use Rattle.rules_maps.specs.Nodes.{WriteBack, Flush, DataReq, Inv, InvAck}
 use Rattle.rules_tcc.specs.State.{Phase, Running, AwaitTid, DoomedTid, Probing, Ready, Overflowing, Solo, Halted}
-use Rattle.report_text.specs.Lines.{hex}
+use Rattle.base_digits.specs.Digits.{hex}
 use Rattle.watch.specs.Facts.{Done, Plainly, Loaded, Stored, Changed, Printed, Ended, HaltedWith, TrappedWith}
 
 -- a number behind its name

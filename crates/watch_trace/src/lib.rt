@@ -13,7 +13,7 @@ ghost use Rattle.watch_trace.specs.Rows.{LastOfDoomedAttempt, FirstAndLastLines}
 
 pub use facts::{push_event_facts, push_fact, push_facts};
 pub use lines::push_name;
-pub use numbers::{push_decimal, push_field, push_fields, push_hex};
+pub use numbers::{push_field, push_fields};
 pub use texts::{push_from, push_head, push_tail};
 pub use words::{push_message, push_phase, push_values};
 

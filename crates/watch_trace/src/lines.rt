@@ -8,8 +8,9 @@ ghost use Rattle.watch.specs.Plain.{done_of};
 ghost use Rattle.watch_trace.specs.Words.{message_words};
 ghost use Rattle.watch_trace.specs.Lines.{wanted_words, cause_words, name_words, fact_words};
 
-use crate::numbers::{push_decimal, push_field, push_fields, push_hex};
+use crate::numbers::{push_field, push_fields};
 use crate::words::{push_done, push_message, push_phase};
+use base_digits::{push_decimal, push_hex};
 use commit_engine::Phase;
 use schedule_text::push_node;
 use std::alloc::AllocError;

@@ -2,7 +2,7 @@
 ghost use Rattle.std.specs.Prelude.{◌≡◌, ◌++◌, OnOk, string_bytes};
 ghost use Rattle.watch_trace.specs.Text.{version_line, from_line, head_text, tail_text};
 
-use crate::numbers::push_decimal;
+use base_digits::push_decimal;
 use report_text::{push_end, push_events};
 use schedule_text::push_config;
 use std::alloc::AllocError;

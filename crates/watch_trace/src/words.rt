@@ -6,9 +6,10 @@ ghost use Rattle.commit_engine.specs.Engine.{phase_of};
 ghost use Rattle.watch.specs.Plain.{done_of};
 ghost use Rattle.watch_trace.specs.Words.{value_word, value_words, home_words, committed_words, fill_words, keeps_words};
 ghost use Rattle.watch_trace.specs.Words.{acknowledged_words, message_words, phase_words, access_words, done_words};
-ghost use Rattle.report_text.specs.Lines.{hex};
+ghost use Rattle.base_digits.specs.Digits.{hex};
 
-use crate::numbers::{push_byte, push_field, push_fields, push_hex};
+use crate::numbers::{push_field, push_fields};
+use base_digits::{push_hex, push_hex_byte};
 use commit_engine::Phase;
 use std::alloc::AllocError;
 use tcc_base::{LineAddr, Mask, Size, Tid};
@@ -207,7 +208,7 @@ pub(crate) fn push_done(text: &mut String, done: Done) -> Result<(), AllocError>
         }
         Done::Printed(byte) => {
             text.push_str("console ")?;
-            push_byte(text, byte)
+            push_hex_byte(text, byte)
         }
         Done::Ended => text.push_str("end"),
         Done::Halted(code) => push_field(text, "halt ", code as u64),

@@ -1,6 +1,6 @@
 -- The bytes so far are written.
 use Rattle.std.proofs.Common.{◌≡◌, ◌++◌, string_bytes, take}
-use Rattle.report_text.specs.Lines.{hex}
+use Rattle.base_digits.specs.Digits.{hex}
 use Rattle.std.specs.List.{flat_map}
 use Rattle.report_text.proofs.lines.push_bytes.Given as goal
 

@@ -5,8 +5,8 @@ use Rattle.std.proofs.lemmas.Bool.Decides.{nat_tests}
 use Rattle.std.proofs.lemmas.Grind.{common_steps}
 use Rattle.std.specs.Prelude.{◌==◌, if◌then◌else◌}
 use Rattle.std.specs.Fmt.{char_count, digit_glyph, digits_onto, digits, padded_integral}
-use Rattle.report_text.specs.Lines.{hex}
-use Rattle.watch_trace.specs.Digits.{last_digits}
+use Rattle.base_digits.specs.Digits.{hex}
+use Rattle.base_digits.specs.Digits.{last_digits}
 
 zeros-shift : (w : ℕ) (more : List ℕ) → replicate w 48 ++ 48 ∷ more ≡ 48 ∷ replicate w 48 ++ more
 zeros-shift zero more = refl
