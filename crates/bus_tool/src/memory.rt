@@ -1,13 +1,16 @@
-// Memory as a report reads it: as it is, and as it was loaded.
+// The machine as a report reads it: memory as it is and as it was loaded, and the cores.
 ghost use Rattle.std.specs.Prelude.{◌/◌};
 ghost use Rattle.image_load.specs.Contents.{started};
 ghost use Rattle.tcc_base.specs.Settings.{IsAllowed};
-ghost use Rattle.bus_tcc.specs.Machine.{bus_settings_of, bus_world_of};
+ghost use Rattle.theorem_bus.specs.Given.{bus_committed};
+ghost use Rattle.bus_tcc.specs.Machine.{bus_history_of, bus_settings_of, bus_start_of, bus_world_of};
 
 use bus_tcc::BusSystem;
-use report_text::ShownWords;
+use reg_checkpoint::Check;
+use report_text::{ShownCores, ShownWords};
 use rv_code::Code;
-use tcc_base::{Config, LineAddr, WordAddr};
+use std::alloc::Global;
+use tcc_base::{Config, CoreEnd, CoreId, LineAddr, List, NoMemory, WordAddr};
 
 /// A law: settings that are there are allowed.
 fn settings_are_allowed(config: &Config)
@@ -16,13 +19,13 @@ fn settings_are_allowed(config: &Config)
     config.cores();
 }
 
-/// Memory as the machine has it.
+/// What the machine has committed.
 #[derive(Clone, Copy)]
-pub struct Memory<'a> {
+pub struct Committed<'a> {
     pub bus: &'a BusSystem,
 }
 
-impl<'a> ShownWords for Memory<'a> {
+impl<'a> ShownWords for Committed<'a> {
     ghost words = { λ m. (bus_world_of m.bus.now).ram };
 
     ghost count = { λ m. (bus_settings_of m.bus.now).ram / 4 };
@@ -33,6 +36,29 @@ impl<'a> ShownWords for Memory<'a> {
 
     fn line(&self, line: LineAddr) -> [u32; 8] {
         self.bus.line(line)
+    }
+}
+
+#[tactic(auto, unfolding(theorem_bus::specs::Given::bus_committed, bus_tcc::specs::Machine::bus_history_of, image_load::specs::Contents::started))]
+impl<'a> ShownCores for Committed<'a> {
+    ghost plain = { λ m. bus_committed (bus_start_of m.bus.now) (bus_history_of m.bus.now) };
+
+    ghost count = { λ m. (bus_settings_of m.bus.now).cores };
+
+    fn core_count(&self) -> u8 {
+        self.bus.config().cores()
+    }
+
+    fn ended(&self, core: CoreId) -> CoreEnd {
+        self.bus.ended(core)
+    }
+
+    fn committed(&self, core: CoreId) -> &Check {
+        self.bus.committed(core)
+    }
+
+    fn console(&self, alloc: Global, core: CoreId) -> Result<List<u8>, NoMemory> {
+        self.bus.console(alloc, core)
     }
 }
 

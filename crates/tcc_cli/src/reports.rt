@@ -1,21 +1,21 @@
 // The text of a machine as it stands: the report of a run, the summary of a workload's, and why messages wait.
-ghost use Rattle.std.specs.Prelude.{◌≡◌, ◌/◌, [], IfOk, length, map};
-ghost use Rattle.std.specs.List.{range_with_len};
+ghost use Rattle.std.specs.Prelude.{◌≡◌, ◌/◌, [], IfOk, length};
 ghost use Rattle.std.specs.String.{string_bytes};
 ghost use Rattle.image_load.specs.Contents.{started};
-ghost use Rattle.rules_program.specs.Cores.{printed};
+ghost use Rattle.theorem_riscv.specs.Given.{committed};
 ghost use Rattle.rules_tcc.specs.Seen.{seen};
 ghost use Rattle.net_core.specs.Machine.{history_of, settings_of, start_of, world_of};
-ghost use Rattle.tcc_cli.specs.Runs.{RunsTo, run_text, shown, summary_text};
+ghost use Rattle.tcc_cli.specs.Runs.{RunsTo, run_text, summary_text};
 ghost use Rattle.text_why.specs.Text.{why_text};
 
 use crate::laid::Laid;
 use image_load::Loaded;
 use net_core::{SeenRam, System};
-use report_text::{CoreShown, Ending, ShownWords, Trial, report, trial_summary};
+use reg_checkpoint::Check;
+use report_text::{Ending, ShownCores, ShownWords, Trial, consoles, cores, report, trial_summary};
 use std::alloc::Global;
 use std::marker::Model;
-use tcc_base::{CoreId, LineAddr, List, NoMemory};
+use tcc_base::{CoreEnd, CoreId, LineAddr, List, NoMemory};
 use tcc_refine::Refined;
 use text_why::why;
 use work_gen::Work;
@@ -55,38 +55,33 @@ impl<'a> ShownWords for Committed<'a> {
     }
 }
 
-/// What the commits of each core printed.
-fn consoles(alloc: Global, system: &System) -> Result<List<List<u8>>, NoMemory>
-    ensures { IfOk result (λ cs. cs ≡ map (λ core. printed core system.now.commits) (range_with_len 0 (settings_of system.now).cores)) }
-{
-    let mut consoles = List::new(alloc);
-    for c in 0..system.config().cores() {
-        consoles.push(system.console(alloc, CoreId(c))?)?;
-    }
-    Ok(consoles)
+/// The cores as their commits left them.
+#[derive(Clone, Copy)]
+struct Cores<'a> {
+    system: &'a System,
 }
 
-/// The cores as their commits left them.
-fn cores<'a>(
-    alloc: Global,
-    system: &System,
-    consoles: &'a List<List<u8>>,
-) -> Result<List<CoreShown<'a>>, NoMemory>
-    requires { consoles.now ≡ map (λ core. printed core system.now.commits) (range_with_len 0 (settings_of system.now).cores) }
-    ensures { IfOk result (λ cs. cs ≡ (shown (start_of system.now) (history_of system.now)).cores) }
-{
-    let mut cores = List::new(alloc);
-    for c in 0..system.config().cores() {
-        let core = CoreId(c);
-        let check = system.committed(core);
-        cores.push(CoreShown {
-            end: system.ended(core),
-            pc: check.pc(),
-            regs: *check.regs(),
-            console: &consoles.items[c as usize].items,
-        })?;
+#[tactic(auto, unfolding(theorem_riscv::specs::Given::committed, net_core::specs::Machine::history_of, image_load::specs::Contents::started))]
+impl<'a> ShownCores for Cores<'a> {
+    ghost plain = { λ m. committed (start_of m.system.now) (history_of m.system.now) };
+
+    ghost count = { λ m. (settings_of m.system.now).cores };
+
+    fn core_count(&self) -> u8 {
+        self.system.config().cores()
     }
-    Ok(cores)
+
+    fn ended(&self, core: CoreId) -> CoreEnd {
+        self.system.ended(core)
+    }
+
+    fn committed(&self, core: CoreId) -> &Check {
+        self.system.committed(core)
+    }
+
+    fn console(&self, alloc: Global, core: CoreId) -> Result<List<u8>, NoMemory> {
+        self.system.console(alloc, core)
+    }
 }
 
 /// The report of a machine as it stands, which began with what was loaded.
@@ -99,8 +94,9 @@ pub fn report_of(alloc: Global, loaded: &Loaded, refined: &Refined) -> Result<Fi
 {
     let system = refined.system();
     let done = system.done();
-    let consoles = consoles(alloc, system)?;
-    let cores = cores(alloc, system, &consoles)?;
+    let shown = Cores { system };
+    let consoles = consoles(alloc, &shown)?;
+    let cores = cores(alloc, &shown, &consoles)?;
     let ram = system.seen_ram(alloc)?;
     let ending = Ending {
         commits: system.commits(),
