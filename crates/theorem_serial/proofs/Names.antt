@@ -11,7 +11,6 @@ pub use Rattle.std.specs.Prelude.{get_or, length, unwrap_or, map, max, ◌≢◌
 pub use Rattle.std.specs.List.{flat_map}
 pub use Rattle.std.proofs.Common.{refl, arith, inl, inr, ◌⊎◌, ◌∙◌, sym, ap, subst, append_assoc, true≢false, ap₂}
 pub use Rattle.std.proofs.lemmas.Bool.{cases_eq, cases_lt, cases_order}
-pub use Rattle.std.proofs.lemmas.Bool.Decides.{nat_tests}
 pub use Rattle.std.proofs.lemmas.Option.{IfSome_then}
 pub use Rattle.std.proofs.lemmas.Grind.{flat_map-append}
 pub use Rattle.std.proofs.lemmas.List.{append-nil, length-append, map-append}
@@ -92,11 +91,11 @@ unfoldable pub use tcc.Step.{happens, names_nodes}
 pub use Rattle.theorem_attempt.proofs.Lemmas.{hit-reads, attempts-fit, patched-small, start-follows}
 pub use attempt.Follows.{Uses, Agrees, Reaches, FollowsIn, HasEnded, IsSmall, NeedFits, used_by, EndFits, Fits, used_at, used_in}
 unfoldable pub use attempt.Follows.{sees}
-pub use attempt.Marks.{UsesStand, AllStand, AttemptFits, MarksFit}
-pub use attempt.Views.{Views, uses_delivered, views_after, uses_executed, no_views, rolls_back, uses_violated}
+pub use attempt.Marks.{UsesStand, AllStand, MarksFit}
+pub use attempt.Views.{Views, uses_delivered, views_after, uses_executed, no_views, rolls_back}
 unfoldable pub use attempt.Views.{views_from}
 pub use Rattle.theorem_serial.proofs.Phrases.{nats, tested, grant_to, home_of, tid_at, to_dir, to_core, FromCore, FromDir}
-pub use own.Theorem.{Suits, AllHold, IsSerialExecution, RunsAreSerial}
+pub use own.Theorem.{Suits, AllHold, RunsAreSerial}
 pub use own.Alone.{ReadFits, IsApart, OwingFits, PhaseFits}
 pub use own.AtHomes.{MarkedAtHomes, AccessesAtHomes, MarksAtHomes, UsedAtHomes, WrittenInMemory}
 pub use own.Commits.{end_after, CoresSerial, CommitsSerial, CoreSerial, SeenSerial}

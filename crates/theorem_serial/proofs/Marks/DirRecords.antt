@@ -166,14 +166,6 @@ RecordsBy sh s c m Drops = Dropped s c m
 RecordsBy sh s c m (Asks new sends) = RecordStays s new
 RecordsBy sh s c m (Takes new sends) = Records sh s c m new
 
-no-copy : (s : DirState) (c : ℕ) (m : Msg) → NoCommit m → NoCopy m → Dropped s c m
-no-copy s c m n y = record {
-  commit = n;
-  late = λ l t q. let e = y l t in absurd (cc);
-  other = λ l q. let e = y l (s.lines.tag l) in
-      absurd (cc);
-}
-
 pub dir-records : (sh : Shape) (s : DirState) (c : ℕ) (m : Msg) → RecordsBy sh s c m (dir_deliver sh s c m)
 unfolding passes
 dir-records sh s c m = go (outcome sh s c m)

@@ -6,7 +6,7 @@ use Names.{put, Program, Outcome, HaltedWith, TrappedWith, any_below, any_below-
 use Names.{writes_at, reads_at, CoreState, Phase, Running, AwaitTid, DoomedTid, Probing, Ready, Overflowing, Solo, Halted, Out, commit}
 use Names.{committed_core, phase_after_commit, core_exec, core_evict, grant, grant_in_phase, from_dir, probing_or_ready, is_probed}
 use Names.{all_replied, RepliesAbove, passes, tid_of, asks_dir, may_commit, Reached, solo_commit, nats, ◌+◌, List, [], ◌∷◌, arith, word_of}
-use Names.{num, line_of, Dir, LoadReq, home, Awaited, nothing, moves, is_awaited, staled, LoadOf, FillOf, among, ◌≢◌, tested, inl, inr}
+use Names.{num, line_of, Dir, LoadReq, home, Awaited, nothing, moves, is_awaited, staled, LoadOf, FillOf, among, tested, inl, inr}
 use proofs.OneCore.CoreSteps.{Steady, did-steady, reads_at-same, fill-steady, data-steady, Hurt, Unhurt, Rolled, Doomed, Aborted, Gave_up}
 use proofs.OneCore.CoreSteps.{Invalidated, invalidate-cases, Replied, Ignored, Probed, Left_alone, reply-cases, steady-emptied}
 use proofs.OneCore.Outcomes.{Acts, Commits_now, Did, each-exec, out, each-evict, emptied, writes_at-same, Ends_alone, Ends_run, Room_wanted}
@@ -95,10 +95,6 @@ asked-grant {sh} u d {x} {s} h = go s.phase
     go DoomedTid = none-asked Running refl (λ b. refl) refl
     go (Overflowing None) = record { reached = λ l a o. absurd (grind nats); replied = λ l m. absurd (cc) }
     go _ = h
-
--- a reply of a directory that has reached the TID
-put-away : (f : ℕ → Bool) (e d : ℕ) (x : Bool) → d ≢ e → put f e x d ≡ f d
-put-away f e d x q = let b : (d == e) ≡ false = grind nats in rw b
 
 pub all-replied : (sh : Shape) (f : ℕ → Bool) (d : ℕ) → d < sh.dirs → all_replied sh f ≡ true → f d ≡ false
 all-replied sh f d l q = none-below f sh.dirs d l (go (any_below f sh.dirs) refl)

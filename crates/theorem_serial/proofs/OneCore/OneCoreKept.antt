@@ -4,7 +4,7 @@ use Rattle.theorem_serial.proofs
 use proofs.Names
 use Names.{awaits_replies, load_of, ◌⊎◌, put, stored, marked, IsCache, ℕ, ◌+◌, ◌≡◌, Bool, true, false, Option, Some, None, IfSome, is_some}
 use Names.{refl, sym, ap, subst, ◌∙◌, Program, Need, word_of, line_of, Shape, set_of, Cache, free_way, placed, placed_at, committed}
-use Names.{none_spilled, words_dropped-keeps, CoreState, Awaited, Phase, Running, AwaitTid, Ready, Overflowing, Solo, is_running, is_solo}
+use Names.{none_spilled, words_dropped-keeps, CoreState, Awaited, Phase, Running, AwaitTid, Ready, Overflowing, Solo, is_solo}
 use Names.{commit, committed_core, phase_after_commit, solo_commit, core_exec, Words, OneCore, Empty, executes, rests, nats, inl, inr}
 use Names.{Spilled, cleaned, ◌≤◌, ◌==◌, [], nat_lt, cases_lt, any_below, Msg, is_marked, evicted, evicted_line, invalidated, rolled_back}
 use Names.{DoomedTid, Probing, core_evict, is_awaited, grant, is_probed, probing_or_ready, all_replied, words_invalidated, staled, from_dir}
@@ -61,9 +61,6 @@ waits {sh} s go e h n a b c = record {
 pub placed-held : (sh : Shape) (l : ℕ) (c : Cache) → is_some (free_way sh c (set_of sh l)) ≡ true → (placed sh l c).held l ≡ true
 unfolding placed placed_at
 placed-held sh l c e = grind nats
-
-running-is : (q : Phase) → is_running q ≡ true → q ≡ Running
-running-is a e = grind nats
 
 marked_words : (sh : Shape) (w x : ℕ) (s : CoreState) → s.cache.value w ≡ Some x → s.phase ≡ Running
     → Words sh (is_solo s.phase) s.cache s.spilled s.stores → Words sh (is_solo s.phase) (marked w s.cache) s.spilled s.stores

@@ -62,12 +62,6 @@ names-more : (base : ℕ) (ss : List Stored) (s : Stored) (w v : ℕ) → word_o
 unfolding stores_word
 names-more base ss s w v e = grind (nats, stores_word-append)
 
-or-true : (a b : Bool) → (true || b) ≡ (a || true)
-or-true a b = grind nats
-
-or-false : (a : Bool) → a ≡ (a || false)
-or-false a = grind nats
-
 pub words-stored : {sh : Shape} {solo : Bool} {c : Cache} (w x : ℕ) (also : Bool) {sp : Spilled} {ss : List Stored} (s : Stored)
     → c.held (line_of w) ≡ true → holds sp (line_of w) ≡ false → (solo ≡ true → also ≡ false) → word_of sh.base s.addr ≡ w
     → Words sh solo c sp ss → Words sh solo (stored w x also c) sp (ss ++ s ∷ [])

@@ -132,9 +132,6 @@ abbrev AgainIf : (base : ℕ) → List Order → (here there : Plain) → Option
 AgainIf base os here there one other = IfSome one (λ done. ((c : ℕ) → orders_core os c ≡ true → there.cores c ≡ here.cores c)
     → ((w : ℕ) → commits_touch base done.1 w ≡ true → here.ram w ≡ there.ram w) → Again base os here there done other)
 
-left_of : (x y : Bool) → y ≡ false → (x || y) ≡ true → x ≡ true
-left_of a y q h = grind nats
-
 again_then : {base : ℕ} {p : Program} (o : Order) (os : List Order) {here there : Plain} {done : Plain × Attempt}
     (rest : Plain × List Commit) {other : Option (Plain × Attempt)} (more : Plain → Option (Plain × List Commit))
     → Twice base p here there o.core done other

@@ -152,6 +152,9 @@ pub run-owners : (sh : Shape) (p : Program) (entries : ℕ → Local) (ram : ℕ
     (λ r. KeptOwners sh (grants_from sh p es (record { world = start entries ram; commits = [] })) r.world r.commits)
 run-owners sh p entries ram es = IfSome_then (run sh p (start entries ram) es) (run-all sh p entries ram es) (λ r h. h.owners)
 
+-- what the law on grants and commits cites
+pub ruleset granting = (run-owners, last_granted)
+
 -- The laws of every run, from the invariants.
 
 from_kept : (P : Shape → World → Type 0) → ((sh : Shape) (w : World) → Kept sh w → P sh w) → Always P

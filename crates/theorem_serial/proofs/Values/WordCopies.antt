@@ -12,10 +12,6 @@ use proofs.Counts.{live-fewer, among-fewer}
 
 -- The copies of a word: no more than those of its line, and all of them where the copies have the word in their mask.
 
--- in messages
-back-line : (a b c : Bool) → num ((a && b) && c) ≤ num (a && c)
-back-line a b c = grind nats
-
 pub word-line : (x t : ℕ) (m : Msg) → num (passes (CopyWord x t) m) ≤ num (passes (CopyOf (line_of x) t) m)
 unfolding passes hit
 word-line x t a = grind nats
@@ -35,11 +31,6 @@ among-words x t ms = among-fewer (CopyWord x t) (CopyOf (line_of x) t) (word-lin
 
 pub among-others : (x t y : ℕ) (ms : List Msg) → among (CopyNot x t y) ms ≤ among (CopyWord x t) ms
 among-others x t y ms = among-fewer (CopyNot x t y) (CopyWord x t) (other-word x t y) ms
-
--- a copy of the line has the word, or another mask than one with the word
-in-mask : (k m n x : ℕ) (c : Bool) → has n (place_of x) ≡ true → (d : Bool) → (m == n) ≡ d
-    → num ((k == line_of x) && c) ≤ num (((k == line_of x) && has m (place_of x)) && c) + num (((k == line_of x) && c) && not d)
-in-mask k m n x c h a q = grind nats
 
 line-word : (x t n : ℕ) → has n (place_of x) ≡ true → (m : Msg)
     → num (passes (CopyOf (line_of x) t) m) ≤ num (passes (CopyWord x t) m) + num (passes (CopyMask (line_of x) t n) m)
