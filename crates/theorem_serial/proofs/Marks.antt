@@ -1,9 +1,7 @@
 -- Marked lines, their masks and how many a Commit counts; and what a commit stored of them.
 pub mod CoreMarks
 pub mod CoreMarking
-pub mod CoreMarkingTakes
 pub mod MarksKept
-pub mod ModifiedMasksKept
 pub mod CommitMasks
 pub mod StoredKept
 pub mod NamedKept

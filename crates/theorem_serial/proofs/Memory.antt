@@ -1,5 +1,3 @@
 -- What lies in memory, and messages that go to the homes of their lines.
 pub mod CoreHomes
 pub mod HomesKept
-pub mod CoreInMemory
-pub mod InMemoryKept

@@ -95,6 +95,7 @@ pub use attempt.Marks.{UsesStand, AllStand, MarksFit}
 pub use attempt.Views.{Views, uses_delivered, views_after, uses_executed, no_views, rolls_back}
 unfoldable pub use attempt.Views.{views_from}
 pub use Rattle.theorem_serial.proofs.Phrases.{nats, tested, grant_to, home_of, tid_at, to_dir, to_core, FromCore, FromDir}
+pub use Rattle.theorem_serial.proofs.Phrases.{got, if_recorded, if_some, moved_by, taken_by, unnoted}
 pub use own.Theorem.{Suits, AllHold, RunsAreSerial}
 pub use own.Alone.{ReadFits, IsApart, OwingFits, PhaseFits}
 pub use own.AtHomes.{MarkedAtHomes, AccessesAtHomes, MarksAtHomes, UsedAtHomes, WrittenInMemory}

@@ -4,16 +4,10 @@ pub use Outcomes.*
 pub use CoreSteps.*
 pub use UsedWords.*
 pub use WordsKept.*
-pub use CoreReads.*
 pub use CoreCloses.*
-pub use OneCoreKept.*
-pub use CoreAsks.*
 pub mod Said
 pub mod Outcomes
 pub mod CoreSteps
 pub mod UsedWords
 pub mod WordsKept
-pub mod CoreReads
 pub mod CoreCloses
-pub mod OneCoreKept
-pub mod CoreAsks

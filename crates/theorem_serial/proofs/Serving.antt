@@ -3,13 +3,9 @@ pub use KeptSteps.*
 pub use CoreDue.*
 pub use DirDue.*
 pub use ProbingSteps.*
-pub use OwingKept.*
-pub use CommitSteps.*
 pub use OwnerSteps.*
 pub mod KeptSteps
 pub mod CoreDue
 pub mod DirDue
 pub mod ProbingSteps
-pub mod OwingKept
-pub mod CommitSteps
 pub mod OwnerSteps

@@ -1,7 +1,5 @@
 -- TIDs: who has which one, where it is handled, and which of them were committed.
 pub use Commits.*
-pub use CoreTids.*
 pub use TidSteps.*
 pub mod Commits
-pub mod CoreTids
 pub mod TidSteps

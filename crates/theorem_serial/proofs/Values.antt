@@ -1,13 +1,9 @@
 -- Words and their values: at home, in copies, and in frames and Fills.
 pub mod ValueAt
 pub mod ModifiedWords
-pub mod FramedSteps
 pub mod FramedCores
 pub mod FramedWords
-pub mod WordValues
 pub mod WordCopies
 pub mod HomesAnswered
 pub mod WordsMoved
-pub mod CoreWords
-pub mod HomeWordsKept
 pub mod SeenWords

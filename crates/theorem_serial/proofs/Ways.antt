@@ -1,5 +1,7 @@
 -- In which way each TID was given to each directory, and what its core says of it.
+pub use CoreSkips.*
+pub use WaySteps.*
+pub use ToldSteps.*
 pub mod CoreSkips
-pub mod WayFacts
 pub mod WaySteps
 pub mod ToldSteps

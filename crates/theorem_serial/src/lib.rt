@@ -165,7 +165,7 @@ pub fn commits_mark_what_they_stored()
 
 /// Each TID was given to each directory in one way: untold exactly where it isn't granted, is on its way to its core or is open,
 /// and else skipped, aborted or committed, as the word in flight and what the directory keeps say.
-#[tactic(auto, using(crate::proofs::Ways::WayFacts::untold_where_open, crate::proofs::Ways::WayFacts::all_ways_fit))]
+#[tactic(auto, using(crate::proofs::Ways::WaySteps::untold_where_open, crate::proofs::Ways::WaySteps::all_ways_fit))]
 pub fn tids_are_told_apart()
     ensures untold { AlwaysTold UntoldWhereOpen }
     ensures fit { AlwaysTold AllWaysFit }
@@ -173,14 +173,14 @@ pub fn tids_are_told_apart()
 
 /// Of a TID that was given up at a directory one Skip or Abort is in flight there, or the directory keeps it as skipped, or has
 /// passed it; and only one of these.
-#[tactic(auto, using(crate::proofs::Ways::WayFacts::given_up_once))]
+#[tactic(auto, using(crate::proofs::Ways::WaySteps::given_up_once))]
 pub fn given_up_tids_are_told_or_kept_or_passed()
     ensures once { AlwaysTold GivenUpOnce }
 {}
 
 /// A TID that is on its way to its core, or that its core has, is untold at each directory where it may still store, and skipped at
 /// the others; and one that is untold anywhere is with a core or on its way to it.
-#[tactic(auto, using(crate::proofs::Ways::WayFacts::live_is_open, crate::proofs::Ways::WayFacts::untold_is_live))]
+#[tactic(auto, using(crate::proofs::Ways::WaySteps::live_is_open, crate::proofs::Ways::WaySteps::untold_is_live))]
 pub fn a_live_tid_is_open_where_it_must_be()
     ensures untold { AlwaysTold LiveIsOpen }
     ensures live { AlwaysTold UntoldIsLive }
@@ -188,14 +188,14 @@ pub fn a_live_tid_is_open_where_it_must_be()
 
 /// A committed TID is committed at each directory where its commit stored a word, and skipped at every other; a TID that no commit
 /// has is committed nowhere.
-#[tactic(auto, using(crate::proofs::Ways::WayFacts::committed_where_stored))]
+#[tactic(auto, using(crate::proofs::Ways::WaySteps::committed_where_stored))]
 pub fn a_committed_tid_is_given_up_where_it_stored_nothing()
     ensures stored { AlwaysTold CommittedWhereStored }
 {}
 
 /// A directory where a commit loaded or stored has reached its TID, so that a smaller TID that no commit has is given up there; and
 /// where a TID is committed each smaller one is given up or settled.
-#[tactic(auto, using(crate::proofs::Ways::WayFacts::smaller_are_resolved, crate::proofs::Ways::WayFacts::smaller_are_given_up, crate::proofs::Ways::WayFacts::work_is_reached))]
+#[tactic(auto, using(crate::proofs::Ways::WaySteps::smaller_are_resolved, crate::proofs::Ways::WaySteps::smaller_are_given_up, crate::proofs::Ways::WaySteps::work_is_reached))]
 pub fn a_smaller_tid_is_given_up_where_a_larger_one_worked()
     ensures reached { AlwaysTold WorkIsReached }
     ensures given_up { AlwaysTold SmallerAreGivenUp }
@@ -223,7 +223,7 @@ pub fn attempts_follow_from_their_views()
 
 /// In every state that a run reaches frames, the words that attempts and commits loaded and stored, spilled words and awaited lines lie
 /// in memory, where the program's accesses do. So each word that was loaded or stored, or that is marked, is found at its line's home.
-#[tactic(auto, using(crate::proofs::Run::FactsOfRuns::runs_stay_in_memory, crate::proofs::Memory::CoreInMemory::accesses_at_homes, crate::proofs::Memory::CoreInMemory::marks_at_homes, crate::proofs::Memory::CoreInMemory::written_in_memory))]
+#[tactic(auto, using(crate::proofs::Run::FactsOfRuns::runs_stay_in_memory, crate::proofs::Memory::CoreHomes::accesses_at_homes, crate::proofs::Memory::CoreHomes::marks_at_homes, crate::proofs::Memory::CoreHomes::written_in_memory))]
 pub fn accesses_stay_in_memory()
     ensures inside { RunsStayInMemory }
     ensures used { AccessesAtHomes }
@@ -250,7 +250,7 @@ pub fn attempts_are_sound_or_doomed()
 
 /// An event of a state that has the invariants of the list leaves each word its value: in the copy with its line's tag, and at home where
 /// no such copy has the word; and copies with a larger tag have the words of their commits.
-#[tactic(auto, using(crate::proofs::Values::HomeWordsKept::homes_kept))]
+#[tactic(auto, using(crate::proofs::Values::WordsMoved::homes_kept))]
 pub fn events_keep_home_words()
     ensures keeps { EventsKeepHomes }
 {}
@@ -271,7 +271,7 @@ pub fn events_keep_the_commits_serial()
 
 /// An event of a state that has the invariants of the list keeps the words in frames and in Fills: each that isn't modified is as its
 /// core sees it, or an invalidation of it is on its way to the core.
-#[tactic(auto, using(crate::proofs::Values::FramedSteps::words_kept))]
+#[tactic(auto, using(crate::proofs::Values::ModifiedWords::words_kept))]
 pub fn events_keep_words()
     ensures keeps { EventsKeepWords }
 {}

@@ -68,7 +68,7 @@ same-dirty c e l h = (
   ),
 )
 
-pub same-frame : (c e : Cache) (l : ℕ) → SameDirty c e l → ((t : ℕ) → frame_copy e l t ≡ frame_copy c l t)
+same-frame : (c e : Cache) (l : ℕ) → SameDirty c e l → ((t : ℕ) → frame_copy e l t ≡ frame_copy c l t)
     × ((t n : ℕ) → frame_wrong e l t n ≡ frame_wrong c l t n)
 unfolding frame_copy frame_wrong
 same-frame c e l h = let x = same-dirty c e l h in (λ t. rw (x.0, x.1), λ t n. rw (x.0, x.1, x.2))
@@ -91,7 +91,7 @@ unfolding frame_copy
 clean-frame c l h t = rw (clean-dirty c l h)
 
 -- a dirty line has a word with its tag
-pub dirty-found : (c : Cache) (l : ℕ) → is_dirty c l ≡ true → (k : ℕ) × (k < 8) × (c.dirty (word_at l k) ≡ Some (dirty_tag c l))
+dirty-found : (c : Cache) (l : ℕ) → is_dirty c l ≡ true → (k : ℕ) × (k < 8) × (c.dirty (word_at l k) ≡ Some (dirty_tag c l))
 unfolding is_dirty any_word any_below dirty_tag first_of_line
 dirty-found c l h = go (c.dirty (word_at l 0)) (c.dirty (word_at l 1)) (c.dirty (word_at l 2)) (c.dirty (word_at l 3))
     (c.dirty (word_at l 4)) (c.dirty (word_at l 5)) (c.dirty (word_at l 6)) (c.dirty (word_at l 7)) refl refl refl refl refl refl refl refl
@@ -209,9 +209,6 @@ committed-frame {sh} {c} e l u h f = go (is_modified c l) refl
         is : (b : Bool) → (if b then Some u else None) ≡ Some (dirty_tag e l) → dirty_tag e l ≡ u
         is a q = grind nats
 
-    clean : is_modified c l ≡ true → is_dirty c l ≡ false
-    clean m = clean-dirty c l (no-dirty l h m)
-
     go : (b : Bool) → is_modified c l ≡ b
         → ((t : ℕ) → num (is_dirty e l && dirty_tag e l == t) ≡ num (is_dirty c l && dirty_tag c l == t) + num (b && u == t))
         × ((t n : ℕ) → num ((is_dirty e l && dirty_tag e l == t) && not (dirty_mask e l == n)) ≡ num
@@ -222,7 +219,7 @@ committed-frame {sh} {c} e l u h f = go (is_modified c l) refl
         let x = dirty-modified c e l u (new-dirty sh c e l u h f q) in
         let d : is_dirty e l ≡ true = x.0 ∙ q in
         let g : dirty_tag e l ≡ u = tag q d in
-        let n : is_dirty c l ≡ false = clean q in
+        let n : is_dirty c l ≡ false = clean-dirty c l (no-dirty l h q) in
         (λ t. rw (d, g, n) (omega arith), λ t m. rw (d, g, n, x.1) (omega arith))
 
 -- The copies of a line among what a core sends, and what its instructions and evictions do to them.
@@ -236,7 +233,7 @@ mask-copy l t n m = grind nats
 pub few-masks : (l t n : ℕ) (ms : List Msg) → among (CopyMask l t n) ms ≤ among (CopyOf l t) ms
 unfolding among
 few-masks l t n [] = omega arith
-few-masks l t n (m ∷ ms) = omega (arith, mask-copy l t n m, few-masks l t n ms)
+few-masks l t n (m ∷ ms) = omega (arith, mask-copy, few-masks l t n ms)
 
 -- what leaves a frame of line k is the frame's copy of it
 pub record Leaves (l k : ℕ) (c : Cache) (ms : List Msg) : Type 0 where
@@ -408,8 +405,8 @@ pub conserves-still : (sh : Shape) (l : ℕ) (s : CoreState) (o : Out) → o.com
     → ((t : ℕ) → among (CopyOf l t) (o.sends (Dir (home sh l))) ≡ 0) → Conserves sh l s o
 conserves-still sh l s o e h z =
     let x = same-frame s.cache o.core.cache l h in record {
-      copies = λ t. rw e (omega (arith, x.0 t, z t));
-      wrong = λ t m. rw e (omega (arith, x.1 t m, z t, few-masks l t m (o.sends (Dir (home sh l)))));
+      copies = λ t. rw e (omega (arith, x.0, z));
+      wrong = λ t m. rw e (omega (arith, x.1, z, few-masks));
     }
 
 -- the dirty words of line k are sent, and become clean
@@ -420,8 +417,8 @@ conserves-sent sh {l} {k} s o e h y = elim (cases_eq k l) [
   | inl q ↦ let x = y.same q in
       let z : (k == l) ≡ true = grind nats in
       let f : (t : ℕ) → frame_copy o.core.cache l t ≡ 0 = clean-frame o.core.cache l (λ i j. at-line i j z) in record {
-        copies = λ t. rw e (omega (arith, f t, x.0 t));
-        wrong = λ t m. rw e (omega (arith, f t, wrong-copy o.core.cache l t m, x.1 t m));
+        copies = λ t. rw e (omega (arith, f, x.0));
+        wrong = λ t m. rw e (omega (arith, f, wrong-copy, x.1));
       }
   | inr q ↦ let z : (k == l) ≡ false = grind nats in conserves-still sh l s o e (λ i j. at-line i j z) (y.other q)
 ]

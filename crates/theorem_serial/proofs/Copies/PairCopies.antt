@@ -7,7 +7,7 @@ use Names.{after_move, is_this, stores_in, names_line, wrote_line, wrote_mask, n
 use Names.{◌≢◌}
 use proofs.Copies.CopySends.{Conserves, mask-copy, frame_copy, frame_wrong, wrong-copy}
 use proofs.Counts.{live-sends}
-use proofs.Copies.WroteLines.{Wrote, wrote-new, SameWrote, wrote-other, wrote-unknown}
+use proofs.Copies.CopyRules.{Wrote, wrote-new, SameWrote, wrote-other, wrote-unknown}
 use proofs.Marks.DirRecords.{NoCommit}
 
 -- What each kind of event does, between a core and the line's home, to the copies of a line.
@@ -28,17 +28,17 @@ live-masks : (l t m : ℕ) (k : Link) → live (CopyMask l t m) k ≤ live (Copy
 unfolding live
 live-masks l t m [] = omega arith
 live-masks l t m (None ∷ k) = live-masks l t m k
-live-masks l t m (Some x ∷ k) = omega (arith, mask-copy l t m x, live-masks l t m k)
+live-masks l t m (Some x ∷ k) = omega (arith, mask-copy, live-masks l t m k)
 
-pub few-wrong : (l t m : ℕ) (v : Pair) → line_wrong l t m v ≤ line_copies l t v
+few-wrong : (l t m : ℕ) (v : Pair) → line_wrong l t m v ≤ line_copies l t v
 unfolding line_wrong line_copies
-few-wrong l t m v = omega (arith, wrong-copy v.core.cache l t m, live-masks l t m v.out)
+few-wrong l t m v = omega (arith, wrong-copy, live-masks)
 
 pub of-line : (l t : ℕ) (v : Pair) → line_copies l t v ≡ frame_copy v.core.cache l t + live (CopyOf l t) v.out
 unfolding line_copies
 of-line l t v = refl
 
-pub of-wrong : (l t m : ℕ) (v : Pair) → line_wrong l t m v ≡ frame_wrong v.core.cache l t m + live (CopyMask l t m) v.out
+of-wrong : (l t m : ℕ) (v : Pair) → line_wrong l t m v ≡ frame_wrong v.core.cache l t m + live (CopyMask l t m) v.out
 unfolding line_wrong
 of-wrong l t m v = refl
 
@@ -47,15 +47,15 @@ moved-copies : (sh : Shape) (d l t : ℕ) (v : Pair) (o : Out) → home sh l ≡
     → frame_copy o.core.cache l t + among (CopyOf l t) (o.sends (Dir (home sh l))) + live (CopyOf l t) v.out ≡ line_copies l t
     (after_move v o d)
 unfolding line_copies
-moved-copies sh d l t v o e = rw e (omega (arith, live-sends (CopyOf l t) v.out (o.sends (Dir d))))
+moved-copies sh d l t v o e = rw e (omega (arith, live-sends))
 
 moved-wrong : (sh : Shape) (d l t m : ℕ) (v : Pair) (o : Out) → home sh l ≡ d
     → frame_wrong o.core.cache l t m + among (CopyMask l t m) (o.sends (Dir (home sh l))) + live (CopyMask l t m) v.out ≡ line_wrong l t m
     (after_move v o d)
 unfolding line_wrong
-moved-wrong sh d l t m v o e = rw e (omega (arith, live-sends (CopyMask l t m) v.out (o.sends (Dir d))))
+moved-wrong sh d l t m v o e = rw e (omega (arith, live-sends))
 
-pub same-cond : (b : Bool) (x y : ℕ) → (b ≡ true → x ≡ y) → cond b x 0 ≡ cond b y 0
+same-cond : (b : Bool) (x y : ℕ) → (b ≡ true → x ≡ y) → cond b x 0 ≡ cond b y 0
 same-cond a x y h = grind nats
 
 -- nothing is committed
@@ -64,7 +64,7 @@ pub copies-moved : (sh : Shape) {cs : List Noted} {c d l : ℕ} {v : Pair} (o : 
     → LineCopies sh.base cs c l (after_move v o d)
 unfolding line_copies line_wrong
 copies-moved sh {cs} {c} {d} {l} {v} o e n z k h = record {
-  owned = omega (arith, moved-copies sh d l (v.dir.lines.tag l) v o e, rw n at (k.copies (v.dir.lines.tag l)), h.owned);
+  owned = omega (arith, moved-copies sh d l (v.dir.lines.tag l) v o e, rw n at (k.copies (v.dir.lines.tag l)));
   above =
       λ t i. omega (
         arith,
@@ -72,13 +72,14 @@ copies-moved sh {cs} {c} {d} {l} {v} o e n z k h = record {
         rw n at (k.copies t),
         h.above t i,
         same-cond (wrote_line sh.base cs c t l) (live (Commits t) (after_move v o d).out) (live (Commits t) v.out)
-            (λ y. omega (arith, z t, live-sends (Commits t) v.out (o.sends (Dir d)))),
+            (λ y. omega (arith, z, live-sends)),
       );
   masks = λ t i. omega (
     arith,
     moved-wrong sh d l t (wrote_mask sh.base cs c t l) v o e,
-    rw n at (k.wrong t (wrote_mask sh.base cs c t l)),
-    h.masks t i,
+    rw n at
+        (k.wrong t (wrote_mask sh.base cs c t l)),
+    h.masks,
   );
 }
 
@@ -88,24 +89,21 @@ pub copies-lost : (sh : Shape) {cs : List Noted} (c d l : ℕ) (v : Pair) (o : O
     → ((t : ℕ) → frame_copy o.core.cache l t + among (CopyOf l t) (o.sends (Dir (home sh l))) ≤ frame_copy v.core.cache l t)
     → ((t : ℕ) → v.dir.lines.tag l ≤ t → line_copies l t v ≡ 0) → LineCopies sh.base cs c l v → LineCopies sh.base cs c l (after_move v o d)
 copies-lost sh {cs} c d l v o e z k f h = record {
-  owned = omega (arith, gone (v.dir.lines.tag l) (omega arith), f (v.dir.lines.tag l) (omega arith), h.owned);
+  owned = omega (arith, gone, f);
   above =
       λ t i. omega (
         arith,
-        gone t (omega (arith, i)),
-        f t (omega (arith, i)),
+        gone t (omega arith),
+        f t (omega arith),
         h.above t i,
         same-cond (wrote_line sh.base cs c t l) (live (Commits t) (after_move v o d).out) (live (Commits t) v.out)
-            (λ y. omega (arith, z t, live-sends (Commits t) v.out (o.sends (Dir d)))),
+            (λ y. omega (arith, z, live-sends)),
       );
-  masks = λ t i. omega (arith, gone t (omega (arith, i)), few-wrong l t (wrote_mask sh.base cs c t l) (after_move v o d));
+  masks = λ t i. omega (arith, gone, few-wrong);
 }
   where
-    before : (t : ℕ) → line_copies l t v ≡ frame_copy v.core.cache l t + live (CopyOf l t) v.out
-    before t = of-line l t v
-
     gone : (t : ℕ) → v.dir.lines.tag l ≤ t → line_copies l t (after_move v o d) ≡ 0
-    gone t i = omega (arith, moved-copies sh d l t v o e, k t, f t i, before t)
+    gone t i = omega (arith, moved-copies sh d l t v o e, k t, f t i, (of-line l t v))
 
 -- a commit by the core, of a TID that isn't the line's
 pub record NewCommit (base : ℕ) (cs : List Noted) (c d l : ℕ) (v : Pair) (o : Out) (n : Noted) : Type 0 where
@@ -128,12 +126,12 @@ copies-committed {sh} {cs} c d l {v} o {n} e q x k h =
     ds = insert_commit n cs
 
     copies : (t : ℕ) → line_copies l t (after_move v o d) ≡ line_copies l t v + num (names_line sh.base n.stores l && u == t)
-    copies t = omega (arith, moved-copies sh d l t v o e, rw q at (k.copies t), of-line l t v)
+    copies t = omega (arith, moved-copies sh d l t v o e, rw q at (k.copies t), of-line)
 
     wrong : (t m : ℕ)
         → line_wrong l t m (after_move v o d) ≡ line_wrong l t m v + num
         ((names_line sh.base n.stores l && u == t) && not (stores_in sh.base n.stores l == m))
-    wrong t m = omega (arith, moved-wrong sh d l t m v o e, rw q at (k.wrong t m), of-wrong l t m v)
+    wrong t m = omega (arith, moved-wrong sh d l t m v o e, rw q at (k.wrong t m), of-wrong)
 
     none : (t : ℕ) (b : Bool) → (u == t) ≡ false → num (b && u == t) ≡ 0
     none t a r = grind nats
@@ -142,7 +140,7 @@ copies-committed {sh} {cs} c d l {v} o {n} e q x k h =
     not-tag a r = grind nats
 
     owned : line_copies l (v.dir.lines.tag l) (after_move v o d) ≡ num (is_this (v.dir.lines.owner l) c)
-    owned = omega (arith, copies (v.dir.lines.tag l), not-tag (names_line sh.base n.stores l) refl, h.owned)
+    owned = omega (arith, copies (v.dir.lines.tag l), not-tag (names_line sh.base n.stores l) refl)
 
     -- the commit's own copies: none before
     mine : (t : ℕ) → u ≡ t → wrote_line sh.base cs c t l ≡ false
@@ -164,17 +162,17 @@ copies-committed {sh} {cs} c d l {v} o {n} e q x k h =
     above : (t : ℕ) → v.dir.lines.tag l < t → (u ≡ t) ⊎ (u ≢ t)
         → line_copies l t (after_move v o d) ≡ cond (wrote_line sh.base ds c t l) (live (Commits t) (after_move v o d).out) 0
     above t i (inl r) = let y = (new t r).line in let z : line_copies l t v ≡ 0 = h.above t i ∙ rw (mine t r) in
-        rw y (copies t ∙ rw z (let w = one t (names_line sh.base n.stores l) r refl in omega (arith, w)))
+        rw y (copies t ∙ rw z (let w = one t (names_line sh.base n.stores l) r refl in omega arith))
     above t i (inr r) =
         let y : (u == t) ≡ false = grind nats in
         let s = (other t r).line in
         rw s (omega (
           arith,
-          copies t,
-          none t (names_line sh.base n.stores l) y,
-          h.above t i,
-          same-cond (wrote_line sh.base cs c t l) (live (Commits t) (after_move v o d).out) (live (Commits t) v.out)
-              (λ w. omega (arith, x.others t y, live-sends (Commits t) v.out (o.sends (Dir d)))),
+          copies,
+          none,
+          h.above,
+          same-cond (wrote_line sh.base cs c t l) (live (Commits t) (after_move v o d).out)
+              (live (Commits t) v.out) (λ w. omega (arith, x.others, live-sends)),
         ))
 
     masks : (t : ℕ) → v.dir.lines.tag l < t → (u ≡ t) ⊎ (u ≢ t) → line_wrong l t (wrote_mask sh.base ds c t l) (after_move v o d) ≡ 0
@@ -184,7 +182,7 @@ copies-committed {sh} {cs} c d l {v} o {n} e q x k h =
         let s : (stores_in sh.base n.stores l == stores_in sh.base n.stores l) ≡ true = grind nats in
         let w : num ((names_line sh.base n.stores l && u == t) && not (stores_in sh.base n.stores l == stores_in sh.base n.stores l)) ≡ 0 =
         rw s (never (names_line sh.base n.stores l && u == t)) in
-        rw y (omega (arith, wrong t (stores_in sh.base n.stores l), w, z, few-wrong l t (stores_in sh.base n.stores l) v))
+        rw y (omega (arith, wrong, few-wrong))
       where
         never : (b : Bool) → num (b && false) ≡ 0
         never true = refl
@@ -194,7 +192,7 @@ copies-committed {sh} {cs} c d l {v} o {n} e q x k h =
         let s = (other t r).mask in
         let w : num ((names_line sh.base n.stores l && u == t) && not (stores_in sh.base n.stores l == wrote_mask sh.base cs c t l)) ≡ 0 =
         rw y (off (names_line sh.base n.stores l)) in
-        rw s (omega (arith, wrong t (wrote_mask sh.base cs c t l), w, h.masks t i))
+        rw s (omega (arith, wrong, h.masks))
       where
         off : (b : Bool) → num ((b && false) && not (stores_in sh.base n.stores l == wrote_mask sh.base cs c t l)) ≡ 0
         off true = refl
@@ -227,18 +225,18 @@ similar-copies {base} {cs} {c} {l} v w s h =
     g = v.dir.lines.tag l
 
     owned : line_copies l g w ≡ num (is_this (w.dir.lines.owner l) c)
-    owned = omega (arith, of-line l g w, of-line l g v, same-frames l g v w s.cache, s.owned, h.owned)
+    owned = omega (arith, of-line, same-frames l g v w s.cache)
 
     above : (t : ℕ) → g < t → line_copies l t w ≡ cond (wrote_line base cs c t l) (live (Commits t) w.out) 0
     above t i =
         omega (
           arith,
-          of-line l t w,
-          of-line l t v,
+          of-line,
           same-frames l t v w s.cache,
           s.copies t i,
           h.above t i,
-          same-cond (wrote_line base cs c t l) (live (Commits t) w.out) (live (Commits t) v.out) (s.commits t),
+          same-cond (wrote_line base cs c t l)
+              (live (Commits t) w.out) (live (Commits t) v.out) (s.commits t),
         )
 
     masks : (t : ℕ) → g < t → line_wrong l t (wrote_mask base cs c t l) w ≡ 0
@@ -266,14 +264,14 @@ taken-copies {base} {cs} c u j l {v} w s h =
     record {
       owned = rw (s.tag, s.owner) owned;
       above = λ t i. above t (rw s.tag at i);
-      masks = λ t i. let m : ℕ = wrote_mask base cs j t l in omega (arith, few-wrong l t m w, none t (rw s.tag at i));
+      masks = λ t i. let m : ℕ = wrote_mask base cs j t l in omega (arith, few-wrong, none);
     }
   where
     copies : (t : ℕ) → line_copies l t w ≡ line_copies l t v
-    copies t = omega (arith, of-line l t w, of-line l t v, same-frames l t v w s.cache, s.copies t)
+    copies t = omega (arith, of-line, same-frames l t v w s.cache, s.copies t)
 
     none : (t : ℕ) → u < t → line_copies l t w ≡ 0
-    none t i = copies t ∙ h.above t (omega (arith, i, s.old)) ∙ nothing-in (wrote_line base cs j t l) (s.before t i)
+    none t i = copies t ∙ h.above t (omega arith) ∙ nothing-in (wrote_line base cs j t l) (s.before t i)
 
     above : (t : ℕ) → u < t → line_copies l t w ≡ cond (wrote_line base cs j t l) (live (Commits t) w.out) 0
     above t i = none t i ∙ sym (nothing-in (wrote_line base cs j t l) (s.after t i))
@@ -291,7 +289,7 @@ none-passes a k m e = grind nats
 
 still-live : {b : Bool} {m : Msg} {s : DirState} {v w : Pair} (k : Kind) → Answered b m s v w → passes k m ≡ false
     → live k w.out ≡ live k v.out
-still-live {b} {m} k a e = omega (arith, a.lives k, none-passes b k m e)
+still-live {b} {m} k a e = omega (arith, a.lives, none-passes)
 
 pub still-similar : (base : ℕ) (cs : List Noted) (c l : ℕ) {b : Bool} {m : Msg} {s : DirState} {v w : Pair} → Answered b m s v w
     → s.lines.tag l ≡ v.dir.lines.tag l → s.lines.owner l ≡ v.dir.lines.owner l
@@ -301,10 +299,10 @@ still-similar base cs c l {v} {w} a e f n q = record {
   cache = a.cache;
   tag = rw a.dir e;
   owned = let y : num (is_this (w.dir.lines.owner l) c) ≡ num (is_this (v.dir.lines.owner l) c) = rw (a.dir, f) in
-      omega (arith, y, still-live (CopyOf l (v.dir.lines.tag l)) a (n (v.dir.lines.tag l) (omega arith)));
-  copies = λ t i. still-live (CopyOf l t) a (n t (omega (arith, i)));
-  wrong = λ t k. omega (arith, a.lives (CopyMask l t k));
-  commits = λ t y. omega (arith, a.lives (Commits t), q t y);
+      omega (arith, still-live (CopyOf l (v.dir.lines.tag l)) a (n (v.dir.lines.tag l) (omega arith)));
+  copies = λ t i. still-live (CopyOf l t) a (n t (omega arith));
+  wrong = λ t k. omega (arith, a.lives);
+  commits = λ t y. omega (arith, a.lives, q);
 }
 
 -- a dropped copy isn't counted
@@ -316,9 +314,9 @@ dropped-similar {c} {l} b m {v} w a n late other h = record {
   cache = a.cache;
   tag = rw a.dir;
   owned = let y : num (is_this (w.dir.lines.owner l) c) ≡ num (is_this (v.dir.lines.owner l) c) = rw a.dir in
-      omega (arith, y, a.lives (CopyOf l (v.dir.lines.tag l)), here b (passes (CopyOf l (v.dir.lines.tag l)) m) refl refl);
+      omega (arith, a.lives (CopyOf l (v.dir.lines.tag l)), here b (passes (CopyOf l (v.dir.lines.tag l)) m) refl refl);
   copies = λ t i. omega (arith, a.lives (CopyOf l t), above t i b (passes (CopyOf l t) m) refl refl);
-  wrong = λ t k. omega (arith, a.lives (CopyMask l t k));
+  wrong = λ t k. omega (arith, a.lives);
   commits = λ t y. still-live (Commits t) a (n t);
 }
   where
@@ -331,7 +329,7 @@ dropped-similar {c} {l} b m {v} w a n late other h = record {
     here : (x y : Bool) → b ≡ x → passes (CopyOf l g) m ≡ y → num (x && y) ≡ 0
     here true true e f = absurd (let z : num (is_this (v.dir.lines.owner l) c) ≡ 0 = ap num (other e f) in
         let p : num (b && passes (CopyOf l g) m) ≡ 1 = rw (e, f) in
-        omega (arith, z, p, h.owned, of-line l g v, a.lives (CopyOf l g)))
+        omega (arith, of-line, a.lives (CopyOf l g)))
     here true false e f = refl
     here false y e f = refl
 
@@ -361,10 +359,10 @@ came-similar base cs c o l k {b} m s {v} w z a p own e f n = go (cases_eq k l)
         let d : num (b && passes (CopyOf l g) m) ≡ num b = rw r (all b) in record {
           cache = a.cache;
           tag = rw a.dir e;
-          owned = let t : num (is_this (w.dir.lines.owner l) c) ≡ 0 = rw u in omega (arith, t, j, d, a.lives (CopyOf l g));
+          owned = let t : num (is_this (w.dir.lines.owner l) c) ≡ 0 = rw u in omega (arith, a.lives);
           copies = λ t h. still-live (CopyOf l t) a (p l t ∙ rw q (later t h));
-          wrong = λ t h. omega (arith, a.lives (CopyMask l t h));
-          commits = λ t h. omega (arith, a.lives (Commits t), quiet t h);
+          wrong = λ t h. omega (arith, a.lives);
+          commits = λ t h. omega (arith, a.lives, quiet);
         }
       where
         all : (b : Bool) → num (b && true) ≡ num b

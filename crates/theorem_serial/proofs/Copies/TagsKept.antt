@@ -1,15 +1,15 @@
 -- Every event keeps that the tag of a line in memory is the greatest TID that is settled at its home and stored in it.
 use Rattle.theorem_serial.proofs
 use proofs.Names
-use Names.{and-false, ℕ, ◌+◌, ◌≡◌, ◌<◌, ◌≤◌, ◌⊎◌, ◌==◌, ◌&&◌, Bool, true, false, nat_lt, List, [], Contains, Option, Some, None, IfSome}
-use Names.{max, cond, set, if◌then◌else◌, arith, refl, ap, sym, ◌∙◌, cases_eq, Noted, Program, Local, num, any_word, has_mark, no_lines}
-use Names.{Core, Dir, Msg, Event, Shape, home, lines, any_below-at, DirState, World, start, dir_start, Sends, Out, core_exec, core_evict}
-use Names.{from_dir, Answer, Waits, Drops, Asks, Takes, dir_deliver, core_moves, core_takes, dir_takes, dir_asks, vendor_gives, History}
+use Names.{moved_by, nothing, taken_by, unnoted, and-false, ℕ, ◌+◌, ◌≡◌, ◌<◌, ◌≤◌, ◌⊎◌, ◌==◌, ◌&&◌, Bool, true, false, nat_lt, List, []}
+use Names.{Contains, Option, Some, None, IfSome, max, cond, set, if◌then◌else◌, arith, refl, ap, sym, ◌∙◌, cases_eq, Noted, Program, Local}
+use Names.{num, any_word, has_mark, no_lines, Core, Dir, Msg, Event, Shape, home, lines, any_below-at, DirState, World, start, dir_start}
+use Names.{Sends, Out, Answer, Waits, Drops, Asks, Takes, dir_deliver, core_moves, core_takes, dir_takes, dir_asks, vendor_gives, History}
 use Names.{Stepped, and_noted, step, settled_in_line, KeptTags, Kind, Commits, live, passes, KeptAll, KeptRun, pair, Grant, is_settled}
 use Names.{is_applied, CommitsStand, stored_mask, stores_at, SettledCommit, stores_word, Ways, names_line, last_of, ◌∷◌, cases_lt, Inv}
 use Names.{Invs, InvOf, KeptNamed, due, OwedAt, times, share, KeptStored, inl, inr, ◌-◌, subst, insert_commit, nats, tid_at, to_dir}
 use Names.{to_core, FromCore, FromDir, tested}
-use proofs.Copies.WroteLines.{on-its-way, applied-or}
+use proofs.Copies.CopyRules.{on-its-way, applied-or}
 use proofs.Counts.{num-same, live-takes, total-le, OfAnswer, step_cases}
 use proofs.Marks.DirRecords.{NoCommit, Records, Still, Came, Settles, RecordsBy, dir-records, CountsMarked}
 use proofs.Marks.MaskLaws.{same-commit}
@@ -46,17 +46,15 @@ takes-consumes w c d k m s sends i q j e = go (j == c) (e == d) refl refl
 
 pub tag-step : (sh : Shape) (p : Program) (w : World) (e : Event) → IfSome (step sh p w e) (TagStep sh w)
 unfolding core_moves core_takes vendor_gives dir_asks dir_takes
-tag-step sh p w e = step_cases sh p w e (λ g o. TagStep sh w o) (λ c l. moved c (core_exec sh p c (w.cores c)))
-    (λ c x y l. moved c (core_evict sh x y (w.cores c))) (λ c k t i. Unheard refl) (λ c d k m i. taken c d k (from_dir sh d (w.cores c) m))
+tag-step sh p w e = step_cases sh p w e (λ g o. TagStep sh w o) (λ c o eq l. moved c o)
+    (λ c x y o eq l. moved c o) (λ c k t i. Unheard refl) (λ c d k m o eq i. taken c d k o)
     (λ c d k m i. answered c d k m i (dir_deliver sh (w.dirs d) c m) (dir-records sh (w.dirs d) c m)) (λ c k i. Unheard refl)
   where
-    moved : (c : ℕ) (x : Option Out) → IfSome x (λ o. TagStep sh w (record { world = core_moves w c o; noted = o.commit }))
-    moved c None = tt
-    moved c (Some o) = Unheard refl
+    moved : (c : ℕ) (o : Out) → TagStep sh w (moved_by w c o)
+    moved c o = Unheard refl
 
-    taken : (c d k : ℕ) (x : Option Out) → IfSome x (λ o. TagStep sh w (record { world = core_takes w (Dir d) c k o; noted = o.commit }))
-    taken c d k None = tt
-    taken c d k (Some o) = Unheard refl
+    taken : (c d k : ℕ) (o : Out) → TagStep sh w (taken_by w (Dir d) c k o)
+    taken c d k o = Unheard refl
 
     same-tags : (d e l : ℕ) (s : DirState) → ((l : ℕ) → s.lines.tag l ≡ (w.dirs d).lines.tag l)
         → (if e == d then s else w.dirs e).lines.tag l ≡ (w.dirs e).lines.tag l
@@ -77,16 +75,16 @@ tag-step sh p w e = step_cases sh p w e (λ g o. TagStep sh w o) (λ c l. moved 
     new-tags d e l s h = grind nats
 
     takes : (c d k : ℕ) (m : Msg) (s : DirState) (sends : Sends) → FromCore w c d k m → Records sh (w.dirs d) c m s
-        → TagStep sh w (record { world = dir_takes w c d k s sends; noted = None })
+        → TagStep sh w (unnoted (dir_takes w c d k s sends))
     takes c d k m s sends i (Still y n q) = Heard refl (λ e l. same-tags d e l s y.tags) (same-commits c d k m s sends i n)
     takes c d k m s sends i (Came x q o g a n) = Heard refl (λ e l. same-tags d e l s g) (same-commits c d k m s sends i n)
     takes c d k m s sends i (Settles q g a n) = Taken c d k m refl i q (λ e l. new-tags d e l s g) (takes-consumes w c d k m s sends i)
 
     answered : (c d k : ℕ) (m : Msg) → FromCore w c d k m → (a : Answer) → RecordsBy sh (w.dirs d) c m a
-        → OfAnswer w c d k (λ v. TagStep sh w (record { world = v; noted = None })) a
+        → OfAnswer w c d k (λ v. TagStep sh w (unnoted v)) a
     answered c d k m i Waits u = tt
     answered c d k m i Drops u = Heard refl (λ e l. same-tags d e l (w.dirs d) (λ x. refl))
-        (same-commits c d k m (w.dirs d) (λ dst. []) i u.commit)
+        (same-commits c d k m (w.dirs d) nothing i u.commit)
     answered c d k m i (Asks s sends) u = Heard refl (λ e l. same-tags d e l s u.tags) (λ t j e. refl)
     answered c d k m i (Takes s sends) u = takes c d k m s sends i u
 
@@ -126,7 +124,7 @@ unheard-tags sh w v cs a b z e f h d l dl i q = rw e (h d l dl i q ∙ go a refl
         let n : live (Commits x.tid.0) (to_dir v x.core.0 d) + num (is_applied (w.dirs d) x.tid.0) ≡ 1 =
         rw e at (z x d (noted-keeps a cs x k) dl (here x s)) in
         let y : live (Commits x.tid.0) (to_dir v x.core.0 d) ≡ live (Commits x.tid.0) (to_dir w x.core.0 d) =
-        omega (arith, n, b x d k dl (here x s)) in
+        omega (arith, b x d k dl (here x s)) in
         rw y)
 
     new : (n : Noted) → a ≡ Some n → Contains (and_noted a cs) n → settled_in_line sh v d l n ≡ false
@@ -135,7 +133,7 @@ unheard-tags sh w v cs a b z e f h d l dl i q = rw e (h d l dl i q ∙ go a refl
       | inl s ↦ let y : live (Commits n.tid.0) (to_dir v n.core.0 d) + num (is_applied (w.dirs d) n.tid.0) ≡ 1 =
           rw e at (z n d k dl (here n s)) in
           let u : num (is_applied (w.dirs d) n.tid.0) ≡ 0 = ap num (f n d r dl (here n s)) in
-          let x : live (Commits n.tid.0) (to_dir v n.core.0 d) ≡ 1 = omega (arith, y, u) in
+          let x : live (Commits n.tid.0) (to_dir v n.core.0 d) ≡ 1 = omega arith in
           rw x
     ]
 
@@ -143,13 +141,10 @@ unheard-tags sh w v cs a b z e f h d l dl i q = rw e (h d l dl i q ∙ go a refl
     go None r = sym (last-same (settled_in_line sh v d l) (settled_in_line sh w d l) cs one)
     go (Some n) r =
         let x : settled_in_line sh v d l n ≡ false = new n r (noted-has cs r) in
-        let m : last_of (settled_in_line sh v d l) (insert_commit n cs) ≡ max (cond (settled_in_line sh v d l n) n.tid.0 0)
-        (last_of (settled_in_line sh v d l) cs) = last-insert (settled_in_line sh v d l) n cs in
-        let y : last_of (settled_in_line sh v d l) cs ≡ last_of (settled_in_line sh w d l) cs =
-        last-same (settled_in_line sh v d l) (settled_in_line sh w d l) cs one in
+        let m = last-insert (settled_in_line sh v d l) n cs in
         let u : last_of (settled_in_line sh v d l) (insert_commit n cs) ≡ max (cond {A = ℕ} false n.tid.0 0)
         (last_of (settled_in_line sh v d l) cs) = rw x at m in
-        omega (arith, u, y)
+        omega (arith, last-same (settled_in_line sh v d l) (settled_in_line sh w d l) cs one)
 
 -- where the tags stay, and no Commit is consumed
 heard-tags : (sh : Shape) (w v : World) (cs : List Noted) → ((e l : ℕ) → (v.dirs e).lines.tag l ≡ (w.dirs e).lines.tag l)
@@ -158,7 +153,7 @@ unfolding settled_in_line is_settled
 heard-tags sh w v cs f g h d l dl i q = f d l ∙ h d l dl i q
     ∙ sym (last-same (settled_in_line sh v d l) (settled_in_line sh w d l) cs (λ x k. rw (g x.tid.0 x.core.0 d)))
 
-pub applied-served : (s : DirState) (t : ℕ) → 1 ≤ num (is_applied s t) → t ≤ s.serving.serving
+applied-served : (s : DirState) (t : ℕ) → 1 ≤ num (is_applied s t) → t ≤ s.serving.serving
 applied-served s t l = grind (nats, applied-or)
 
 -- a Commit that a directory takes is of a commit of the served TID, by the core that sent it
@@ -182,15 +177,12 @@ taken-commit {sh} {gs} {h} c d k {m} r dl i q =
     u : ℕ
     u = tid_at h.world d
 
-    cl : c < sh.cores
-    cl = core_of_out c d k r.kept.told.tids i
-
     n : SettledCommit sh h.commits d (h.world.dirs d)
-    n = taken-stored h.world c k r.counted r.stored cl dl i q
+    n = taken-stored h.world c k r.counted r.stored (core_of_out c d k r.kept.told.tids i) dl i q
 
     sent : 1 ≤ live (Commits u) (to_dir h.world c d)
     sent = let one : num (passes (Commits u) m) ≡ 1 = rw q (grind nats) in
-        omega (arith, one, live-some (Commits u) (to_dir h.world c d) k m i)
+        omega (arith, live-some (Commits u) (to_dir h.world c d) k m i)
 
     core : n.commit.core.0 ≡ c
     core = granted-once 1 gs u n.commit.core.0 c r.owners.numbered
@@ -217,7 +209,7 @@ settled-now w v c d m a dl q b t st =
     let one : num ((x.core.0 == c && d == d) && passes (Commits x.tid.0) m) ≡ 1 = rw (q, t.core, e) (grind nats) in
     let before : 1 ≤ live (Commits x.tid.0) (to_dir w x.core.0 d) = rw (t.core, e) t.sent in
     let z : live (Commits x.tid.0) (to_dir v x.core.0 d) ≡ 0 =
-    omega (arith, one, before, b (Commits x.tid.0) x.core.0 d, a x d t.settled.noted dl st) in
+    omega (arith, b, a) in
     rw z
 
 -- where a Commit is taken, each line of its commit has its TID, which is the greatest that is settled
@@ -251,7 +243,7 @@ taken-here sh cs w v c d l m a dl i e q b t g h = go (has_mark (w.dirs d).lines 
         below false f z k o r false r' s = absurd (cc)
         below false false z k true r true r' s = absurd (let y = other x z in cc)
         below false true z k true r true r' s =
-            applied-served (w.dirs d) x.tid.0 (omega (arith, a x d j dl (stored-home sh l x i e r), none-sent w d x k))
+            applied-served (w.dirs d) x.tid.0 (omega (arith, a x d j dl (stored-home sh l x i e r), none-sent))
 
     go : (f : Bool) → has_mark (w.dirs d).lines l ≡ f → (v.dirs d).lines.tag l ≡ (if f then u else (w.dirs d).lines.tag l)
         → (v.dirs d).lines.tag l ≡ last_of (settled_in_line sh v d l) cs
@@ -259,7 +251,7 @@ taken-here sh cs w v c d l m a dl i e q b t g h = go (has_mark (w.dirs d).lines 
         let s : names_line sh.base n.stores l ≡ true = line ∙ f in
         let y : settled_in_line sh v d l n ≡ true = rw (settled-now w v c d m a dl q b t (stored-home sh l n i e s), s) in
         let z : n.tid.0 ≡ u = t.settled.tid in
-        omega (arith, g, z, last-least (settled_in_line sh v d l) cs n t.settled.noted y, last-most (settled_in_line sh v d l) cs u most)
+        omega (arith, last-least (settled_in_line sh v d l) cs n t.settled.noted y, last-most (settled_in_line sh v d l) cs u most)
     go false f g = g ∙ h ∙ sym (last-same (settled_in_line sh v d l) (settled_in_line sh w d l) cs one)
       where
         one : (x : Noted) → Contains cs x → settled_in_line sh v d l x ≡ settled_in_line sh w d l x
@@ -302,7 +294,7 @@ start-tags sh entries ram d l a b e = refl
 -- a greatest TID is of a commit
 last-listed : (p : Noted → Bool) (cs : List Noted) (t : ℕ) → last_of p cs ≡ t → 1 ≤ t → 1 ≤ times t cs
 unfolding last_of times
-last-listed p [] t e l = absurd (omega (arith, e, l))
+last-listed p [] t e l = absurd (omega arith)
 last-listed p (x ∷ cs) t e l = go (p x) e (cases_lt (last_of p cs) t) (λ q. last-listed p cs t q l)
   where
     go : (b : Bool) → max (cond b x.tid.0 0) (last_of p cs) ≡ t → (last_of p cs < t) ⊎ (t ≤ last_of p cs)
@@ -313,7 +305,7 @@ last-listed p (x ∷ cs) t e l = go (p x) e (cases_lt (last_of p cs) t) (λ q. l
 pub untagged : (sh : Shape) (h : History) (d l t : ℕ) → KeptTags sh h.world h.commits → d < sh.dirs → l < lines sh → home sh l ≡ d → 1 ≤ t
     → times t h.commits ≡ 0 → t ≡ (h.world.dirs d).lines.tag l → ⊥
 untagged sh h d l t k dl ll e p z q =
-    absurd (omega (arith, z, last-listed (settled_in_line sh h.world d l) h.commits t (sym (k d l dl ll e) ∙ sym q) p))
+    absurd (omega (arith, last-listed (settled_in_line sh h.world d l) h.commits t (sym (k d l dl ll e) ∙ sym q) p))
 
 -- the tag isn't above the served TID
 tag-served : (sh : Shape) (w : World) (cs : List Noted) (d l : ℕ) → CommitsStand sh w cs → KeptTags sh w cs → d < sh.dirs → l < lines sh
@@ -324,7 +316,7 @@ tag-served sh w cs d l a k dl ll e = rw (k d l dl ll e) (last-most (settled_in_l
   where
     one : (x : Noted) → Contains cs x → (b s : Bool) → is_settled w d x ≡ b → names_line sh.base x.stores l ≡ s → (b && s) ≡ true
         → x.tid.0 ≤ (tid_at w d)
-    one x j true true q r f = applied-served (w.dirs d) x.tid.0 (omega (arith, a x d j dl (stored-home sh l x ll e r), none-sent w d x q))
+    one x j true true q r f = applied-served (w.dirs d) x.tid.0 (omega (arith, a x d j dl (stored-home sh l x ll e r), none-sent))
     one x j true false q r f = absurd (cc)
     one x j false s q r f = absurd (cc)
 
@@ -344,18 +336,18 @@ tag-below sh h c d l a k dl ll e p own s = go (tid_at h.world d) refl
       | inr z ↦ z
       | inl z ↦ absurd (let i : x.tid.0 ≡ u = omega (arith, z, most, y) in
           let n : live (Commits u) (to_dir h.world c d) ≡ 0 = rw (i, own x j i) at (none-sent h.world d x q) in
-          omega (arith, s, n))
+          omega arith)
     ]
       where
         most : x.tid.0 ≤ u
-        most = applied-served (h.world.dirs d) x.tid.0 (omega (arith, a x d j dl (stored-home sh l x ll e r), none-sent h.world d x q))
+        most = applied-served (h.world.dirs d) x.tid.0 (omega (arith, a x d j dl (stored-home sh l x ll e r), none-sent))
     one v y x j true false q r f = absurd (cc)
     one v y x j false s q r f = absurd (cc)
 
     go : (n : ℕ) → u ≡ n → (h.world.dirs d).lines.tag l < u
-    go n q = let y : u ≡ (u - 1) + 1 = omega (arith, p) in let z = last-most (settled_in_line sh h.world d l) h.commits (u - 1)
+    go n q = let y : u ≡ (u - 1) + 1 = omega arith in let z = last-most (settled_in_line sh h.world d l) h.commits (u - 1)
         (λ x j s. one (u - 1) y x j (is_settled h.world d x) (names_line sh.base x.stores l) refl refl s) in
-        omega (arith, k d l dl ll e, z, p)
+        omega (arith, k)
 
 pub applied-owed : (s : DirState) (t : ℕ) → t ≡ s.serving.serving → 1 ≤ s.owed → is_applied s t ≡ true
 unfolding is_applied
@@ -372,7 +364,7 @@ pub inv-tag-of : (sh : Shape) (h : History) (c d k l m u : ℕ) → ((d : ℕ) �
 unfolding pair passes due share settled_in_line is_settled
 inv-tag-of sh h c d k l m u owes named stored a g cl dl ll e i =
     let most : s.lines.tag l ≤ s.serving.serving = tag-served sh w h.commits d l a g dl ll e in
-    record { tag = omega (arith, most, least); sent = invs }
+    record { tag = omega (arith, least); sent = invs }
   where
     w : World
     w = h.world
@@ -390,7 +382,7 @@ inv-tag-of sh h c d k l m u owes named stored a g cl dl ll e i =
     marked true q = refl
     marked false q = absurd (let y : (l == l) ≡ true = grind nats in let z : num (l == l) ≡ 1 = rw y in
         let n : num (has_mark s.lines l) ≡ 0 = ap num q in
-        omega (arith, z, n, live-some (InvOf l) (to_core w d c) k (Inv l m u) i, (named c d l cl dl).one))
+        omega (arith, live-some (InvOf l) (to_core w d c) k (Inv l m u) i, (named c d l cl dl).one, n))
 
     n : SettledCommit sh h.commits d s
     n = (stored 0 d 0).settled dl owed
@@ -398,11 +390,8 @@ inv-tag-of sh h c d k l m u owes named stored a g cl dl ll e i =
     line : names_line sh.base n.commit.stores l ≡ true
     line = stored-in sh d l n.commit ll e ∙ ap (nat_lt 0) (sym (n.marks l)) ∙ marked (has_mark s.lines l) refl
 
-    applied : is_applied s n.commit.tid.0 ≡ true
-    applied = applied-owed s n.commit.tid.0 n.tid owed
-
     settled : settled_in_line sh w d l n.commit ≡ true
-    settled = let y : num (is_applied s n.commit.tid.0) ≡ 1 = ap num applied in
+    settled = let y : num (is_applied s n.commit.tid.0) ≡ 1 = ap num (applied-owed s n.commit.tid.0 n.tid owed) in
         let z : live (Commits n.commit.tid.0) (to_dir w n.commit.core.0 d) ≡ 0 =
         omega (arith, y, a n.commit d n.noted dl (stored-home sh l n.commit ll e line)) in rw (z, line)
 

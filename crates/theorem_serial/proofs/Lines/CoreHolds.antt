@@ -25,12 +25,12 @@ is_kept c w = is_some (c.value w) && (not (c.modified w) || c.read w)
 abbrev pub Fewer : Cache → Cache → (line : ℕ) → Type 0
 Fewer c e l = (k : ℕ) → k < 8 → is_kept e (word_at l k) ≡ true → is_kept c (word_at l k) ≡ true
 
-pub fewer-kept : (c e : Cache) (l : ℕ) → Fewer c e l → keeps_unmodified e l ≡ true → keeps_unmodified c l ≡ true
+fewer-kept : (c e : Cache) (l : ℕ) → Fewer c e l → keeps_unmodified e l ≡ true → keeps_unmodified c l ≡ true
 unfolding keeps_unmodified any_word
 fewer-kept c e l h q = let x = any_below-found (λ k. is_kept e (word_at l k)) 8 q in
     any_below-at (λ k. is_kept c (word_at l k)) 8 x.0 x.1 (h x.0 x.1 x.2)
 
-pub fewer-marked : (w l : ℕ) (c : Cache) → Fewer c (marked w c) l
+fewer-marked : (w l : ℕ) (c : Cache) → Fewer c (marked w c) l
 unfolding marked
 fewer-marked w l c k i q = go (is_some (c.value (word_at l k))) (c.modified (word_at l k)) (c.read (word_at l k)) (w == word_at l k) q
   where
@@ -38,7 +38,7 @@ fewer-marked w l c k i q = go (is_some (c.value (word_at l k))) (c.modified (wor
     go a m r b q = grind nats
 
 -- a stored word was kept before where it is marked read now
-pub fewer-stored : (w x l : ℕ) (also : Bool) (c : Cache) → (also ≡ true → (is_some (c.value w) ≡ true) × (c.modified w ≡ false))
+fewer-stored : (w x l : ℕ) (also : Bool) (c : Cache) → (also ≡ true → (is_some (c.value w) ≡ true) × (c.modified w ≡ false))
     → (c.read w ≡ true → is_some (c.value w) ≡ true) → Fewer c (stored w x also c) l
 unfolding stored
 fewer-stored w x l also c f g k i q = go (word_at l k) (word_at l k == w) refl q
@@ -54,7 +54,7 @@ fewer-stored w x l also c f g k i q = go (word_at l k) (word_at l k == w) refl q
         && (not (if v == w then true else c.modified v) || (if w == v then also || c.read v else c.read v))) ≡ true → is_kept c v ≡ true
     go v a e q = grind nats
 
-pub fewer-invalidated : (k m l : ℕ) (c : Cache) → Fewer c (invalidated k m c) l
+fewer-invalidated : (k m l : ℕ) (c : Cache) → Fewer c (invalidated k m c) l
 unfolding invalidated
 fewer-invalidated k m l c j i q = go (hit k m (word_at l j) && not (c.modified (word_at l j))) (c.value (word_at l j))
     (c.modified (word_at l j)) (c.read (word_at l j)) q
@@ -63,21 +63,21 @@ fewer-invalidated k m l c j i q = go (hit k m (word_at l j) && not (c.modified (
         → (is_some v && (not m || r)) ≡ true
     go a v m r q = grind nats
 
-pub fewer-rolled : (l : ℕ) (c : Cache) → Fewer c (rolled_back c) l
+fewer-rolled : (l : ℕ) (c : Cache) → Fewer c (rolled_back c) l
 unfolding rolled_back
 fewer-rolled l c j i q = go (c.value (word_at l j)) (c.modified (word_at l j)) (c.read (word_at l j)) q
   where
     go : (v : Option ℕ) (m r : Bool) → (is_some (if m then None else v) && true) ≡ true → (is_some v && (not m || r)) ≡ true
     go v a r q = grind nats
 
-pub fewer-cleared : (l : ℕ) (c : Cache) → Fewer c (read_cleared c) l
+fewer-cleared : (l : ℕ) (c : Cache) → Fewer c (read_cleared c) l
 unfolding read_cleared
 fewer-cleared l c j i q = go (is_some (c.value (word_at l j))) (c.modified (word_at l j)) (c.read (word_at l j)) q
   where
     go : (v m r : Bool) → (v && (not m || false)) ≡ true → (v && (not m || r)) ≡ true
     go a m r q = grind nats
 
-pub fewer-evicted : (x y l : ℕ) (c : Cache) → Fewer c (evicted x y c) l
+fewer-evicted : (x y l : ℕ) (c : Cache) → Fewer c (evicted x y c) l
 unfolding evicted evicted_line
 fewer-evicted x y l c = go (c.at x y)
   where
@@ -104,7 +104,7 @@ either-kept c e l h q = let x = any_below-found (λ k. is_kept e (word_at l k)) 
     go k i (inl y) = inl (any_below-at (λ k. is_kept c (word_at l k)) 8 k i y)
     go k i (inr y) = inr (any_below-at (λ k. c.modified (word_at l k)) 8 k i y)
 
-pub kept-committed : (u l : ℕ) (c : Cache) → keeps_unmodified (committed u c) l ≡ true
+kept-committed : (u l : ℕ) (c : Cache) → keeps_unmodified (committed u c) l ≡ true
     → (keeps_unmodified c l ≡ true) ⊎ (is_modified c l ≡ true)
 unfolding committed
 kept-committed u l c =
@@ -114,7 +114,7 @@ kept-committed u l c =
     one v true r q = inr refl
     one v false r q = inl q
 
-pub kept-alone : (u l : ℕ) (sp : Spilled) (c : Cache) → keeps_unmodified (committed u (words_dropped sp c)) l ≡ true
+kept-alone : (u l : ℕ) (sp : Spilled) (c : Cache) → keeps_unmodified (committed u (words_dropped sp c)) l ≡ true
     → (keeps_unmodified c l ≡ true) ⊎ (is_modified c l ≡ true)
 unfolding committed words_dropped
 kept-alone u l sp c = either-kept c (committed u (words_dropped sp c)) l
@@ -254,7 +254,7 @@ unfolding filled
 filled-kept k l ws c q = elim (tested (k == l)) [
   | inl e ↦ inr e
   | inr e ↦ inl (fewer-kept c (filled k ws c) l
-      (λ j i r. (let z : (word_at l j) / 8 ≡ l = omega (arith, i) in let y : (k == (word_at l j) / 8) ≡ false = rw (z, e) in
+      (λ j i r. (let z : (word_at l j) / 8 ≡ l = omega arith in let y : (k == (word_at l j) / 8) ≡ false = rw (z, e) in
       rw y at r)) q)
 ]
 
@@ -312,7 +312,8 @@ holds-back sh l e s m = each-back sh e s (HoldsTaken sh l s) go m
             inl (omega (
               arith,
               acked-quiet sh (GoneOf l) k (keeps r.cache k) (say sh s q) (home sh l) (rw y (no (k == l))),
-              quiet sh s (GoneOf l) q h (home sh l),
+              quiet sh s
+                  (GoneOf l) q h (home sh l),
             ))
           where
             no : (b : Bool) → (b && false) ≡ false

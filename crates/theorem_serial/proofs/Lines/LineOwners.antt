@@ -2,12 +2,12 @@
 use Rattle.theorem_serial.specs.Asked.{AskedOwned, KeptAsked}
 use Rattle.theorem_serial.proofs
 use proofs.Names
-use Names.{eq-self, ℕ, ◌≡◌, Bool, false, [], ◌==◌, ◌&&◌, Option, Some, None, IfSome, arith, refl, Program, Local, num, Core, Dir, Event}
-use Names.{Msg, Fill, ProbeReply, DataReq, Shape, DirState, World, start, core_start, Out, core_exec, core_evict, from_dir, grant, Answer}
-use Names.{Waits, Drops, Asks, Takes, dir_deliver, home_words, core_moves, core_takes, step, LoadingOf, KeptLoading, LoadOf, FillOf, live}
-use Names.{among, passes, Pair, pair, nats, to_dir, to_core, FromCore, FromDir, no_lines, dir_start, Commit, true, List, ◌++◌, Contains}
-use Names.{if◌then◌else◌, ap, Contains-append_left, has_mark, KeptLineOwners, Commits, Grant, granted_by, SparesCommitter, Stepped, tid_at}
-use Names.{inr, WhollyOrHome, KeptWhole, grant_to, ◌≢◌}
+use Names.{got, nothing, eq-self, ℕ, ◌≡◌, Bool, false, [], ◌==◌, ◌&&◌, Option, Some, None, IfSome, arith, refl, Program, Local, num, Core}
+use Names.{Dir, Event, Msg, Fill, ProbeReply, DataReq, Shape, DirState, World, start, core_start, Out, grant, Answer, Waits, Drops, Asks}
+use Names.{Takes, dir_deliver, home_words, core_moves, core_takes, step, LoadingOf, KeptLoading, LoadOf, FillOf, live, among, passes, Pair}
+use Names.{pair, nats, to_dir, to_core, FromCore, FromDir, no_lines, dir_start, Commit, true, List, ◌++◌, Contains, if◌then◌else◌, ap}
+use Names.{Contains-append_left, has_mark, KeptLineOwners, Commits, Grant, granted_by, SparesCommitter, Stepped, tid_at, inr, WhollyOrHome}
+use Names.{KeptWhole, grant_to, ◌≢◌}
 use proofs.Counts.{Outcome, Waiting, Spent, AsksOwner, TakesProbe, TakesLoad, TakesCommit, TakesCopy, IsSpent, CopyPassed, outcome}
 use proofs.Counts.{among-none, among-to, none-to, none-invalidations, TakesAbort, TakesMark, TakesAck, live-sends, live-takes, differ}
 use proofs.Counts.{pairs_move, pairs_grant, pairs_back, pairs_dir, pairs_asks, pairs_vendor, OfAnswer, step_cases, Leaves, dirs_step}
@@ -29,7 +29,7 @@ and-none a b h = grind nats
 -- where nothing is sent for a message that is no load request
 quiet : (c : ℕ) (m : Msg) (l j : ℕ) → passes (LoadOf l) m ≡ false → among (FillOf l) [] ≡ num (j == c && passes (LoadOf l) m)
 unfolding among
-quiet c m l j h = omega (arith, and-none (j == c) (passes (LoadOf l) m) h)
+quiet c m l j h = omega (arith, and-none)
 
 pub dir-fills : (sh : Shape) (s : DirState) (c : ℕ) (m : Msg) → FillsBy c m (dir_deliver sh s c m)
 unfolding passes
@@ -60,26 +60,20 @@ pub step-loading : (sh : Shape) (p : Program) (w : World) (e : Event) → KeptLo
     → IfSome (step sh p w e) (λ o. KeptLoading sh o.world)
 unfolding pair
 step-loading sh p w e h = step_cases sh p w e (λ g o. KeptLoading sh o.world)
-    (λ c l. moved c (core_exec sh p c (w.cores c)) (loads-exec sh p c (w.cores c)))
-    (λ c a b l. moved c (core_evict sh a b (w.cores c)) (loads-evict sh a b (w.cores c)))
+    (λ c o eq l. moved c o (got _ eq (loads-exec sh p c (w.cores c))))
+    (λ c a b o eq l. moved c o (got _ eq (loads-evict sh a b (w.cores c))))
     (λ c k u i. pairs_grant P w c k (grant sh u (w.cores c))
-    (λ d l. omega (
-      arith,
-      h c d l,
-      loads-grant sh u (w.cores c) d l,
-      live-sends (LoadOf l) (to_dir w c d) ((grant sh u (w.cores c)).sends (Dir d)),
-    )) h)
-    (λ c d k m i. taken c d k m i (from_dir sh d (w.cores c) m)
-    (loads-back sh d (w.cores c) m (λ l. omega (arith, h c d l, live-some (FillOf l) (to_core w d c) k m i))))
+    (λ d l. omega (arith, h, loads-grant, live-sends)) h)
+    (λ c d k m o eq i. taken c d k m i o
+    (got _ eq (loads-back sh d (w.cores c) m (λ l. omega (arith, h c d l, live-some (FillOf l) (to_core w d c) k m i)))))
     (λ c d k m i. answered c d k m i (dir_deliver sh (w.dirs d) c m) (dir-fills sh (w.dirs d) c m))
     (λ c k i. pairs_vendor P w c k (h c) (λ j d n l. h j d l))
   where
     P : ℕ → ℕ → Pair → Type 0
     P c d v = (l : ℕ) → LoadingOf sh d l v
 
-    moved : (c : ℕ) (x : Option Out) → IfSome x (λ o. LoadsStep sh (w.cores c) o) → IfSome x (λ o. KeptLoading sh (core_moves w c o))
-    moved c None a = tt
-    moved c (Some o) a = pairs_move P w c o (λ d l. omega (arith, h c d l, a d l, live-sends (LoadOf l) (to_dir w c d) (o.sends (Dir d)))) h
+    moved : (c : ℕ) (o : Out) → LoadsStep sh (w.cores c) o → KeptLoading sh (core_moves w c o)
+    moved c o a = pairs_move P w c o (λ d l. omega (arith, h, a, live-sends)) h
 
     self : (d : ℕ) (b : Bool) → num (d == d && b) ≡ num b
     self d b = rw (eq-self d)
@@ -87,56 +81,22 @@ step-loading sh p w e h = step_cases sh p w e (λ g o. KeptLoading sh o.world)
     other : (d e : ℕ) (b : Bool) → d ≢ e → num (d == e && b) ≡ 0
     other d e b n = rw (differ d e n)
 
-    taken : (c d k : ℕ) (m : Msg) → FromDir w d c k m → (x : Option Out)
-        → IfSome x (λ o. LoadsBack sh d (w.cores c) m o) → IfSome x (λ o. KeptLoading sh (core_takes w (Dir d) c k o))
-    taken c d k m i None a = tt
-    taken c d k m i (Some o) a = pairs_back P w d c k o
-        (λ l. omega (
-          arith,
-          h c d l,
-          a d l,
-          self d (passes (FillOf l) m),
-          live-sends (LoadOf l) (to_dir w c d) (o.sends (Dir d)),
-          live-takes (FillOf l) (to_core w d c) k m i,
-        ))
-        (λ b n l. omega (
-          arith,
-          h c b l,
-          a b l,
-          other b d (passes (FillOf l) m) n,
-          live-sends (LoadOf l) (to_dir w c b) (o.sends (Dir b)),
-        )) h
+    taken : (c d k : ℕ) (m : Msg) → FromDir w d c k m → (o : Out) → LoadsBack sh d (w.cores c) m o
+        → KeptLoading sh (core_takes w (Dir d) c k o)
+    taken c d k m i o a = pairs_back P w d c k o
+        (λ l. omega (arith, h c d l, a d l, self d (passes (FillOf l) m), live-sends, live-takes (FillOf l) (to_core w d c) k m i))
+        (λ b n l. omega (arith, h, a, other, live-sends)) h
 
-    answered : (c d k : ℕ) (m : Msg) → FromCore w c d k m → (a : Answer) → FillsBy c m a → OfAnswer w c d k (λ v. KeptLoading sh v) a
+    answered : (c d k : ℕ) (m : Msg) → FromCore w c d k m → (a : Answer) → FillsBy c m a → OfAnswer w c d k (KeptLoading sh) a
     answered c d k m i Waits u = tt
-    answered c d k m i Drops u = pairs_dir P w c d k (w.dirs d) (λ dst. []) (λ l. let z : num (passes (LoadOf l) m) ≡ 0 = rw (u l) in
-        omega (
-          arith,
-          h c d l,
-          z,
-          live-takes (LoadOf l) (to_dir w c d) k m i,
-          live-sends (FillOf l) (to_core w d c) [],
-          none-fills l,
-        ))
-        (λ j n l. omega (arith, h j d l, live-sends (FillOf l) (to_core w d j) [], none-fills l)) h
+    answered c d k m i Drops u = pairs_dir P w c d k (w.dirs d) nothing (λ l. let z : num (passes (LoadOf l) m) ≡ 0 = rw (u l) in
+        omega (arith, h, live-takes (LoadOf l) (to_dir w c d) k m i, live-sends, none-fills))
+        (λ j n l. omega (arith, h, live-sends, none-fills)) h
     answered c d k m i (Asks s sends) u =
-        pairs_asks P w d s sends (λ j l. omega (arith, h j d l, u l j, live-sends (FillOf l) (to_core w d j) (sends (Core j)))) h
+        pairs_asks P w d s sends (λ j l. omega (arith, h, u, live-sends)) h
     answered c d k m i (Takes s sends) u = pairs_dir P w c d k s sends
-        (λ l. omega (
-          arith,
-          h c d l,
-          u l c,
-          self c (passes (LoadOf l) m),
-          live-takes (LoadOf l) (to_dir w c d) k m i,
-          live-sends (FillOf l) (to_core w d c) (sends (Core c)),
-        ))
-        (λ j n l. omega (
-          arith,
-          h j d l,
-          u l j,
-          other j c (passes (LoadOf l) m) n,
-          live-sends (FillOf l) (to_core w d j) (sends (Core j)),
-        )) h
+        (λ l. omega (arith, h, u, self, live-takes (LoadOf l) (to_dir w c d) k m i, live-sends))
+        (λ j n l. omega (arith, h, u, other, live-sends)) h
 
 pub start-loading : (sh : Shape) (entries : ℕ → Local) (ram : ℕ → ℕ) → KeptLoading sh (start entries ram)
 unfolding start core_start pair live
@@ -153,9 +113,9 @@ dir-asked sh s c m h = go (outcome sh s c m)
     go : {m : Msg} {a : Answer} → Outcome sh s c m a → Leaves AskedOwned a
     go (Waiting m) = tt
     go (Spent m i) = tt
-    go (AsksOwner m l o w e) = λ x a. grind (nats, e, h x)
-    go (TakesCommit b e) = λ x a. grind (nats, h x)
-    go (TakesCopy m l k ws g y e o) = λ x a. grind (nats, h x)
+    go (AsksOwner m l o w e) = λ x a. grind (nats, h)
+    go (TakesCommit b e) = λ x a. grind (nats, h)
+    go (TakesCopy m l k ws g y e o) = λ x a. grind (nats, h)
     go _ = h
 
 pub step-asked : (sh : Shape) (p : Program) (w : World) (e : Event) → KeptAsked sh w → IfSome (step sh p w e) (λ o. KeptAsked sh o.world)
@@ -191,7 +151,7 @@ step-line-owners sh p gs w e y h = more-granted gs (granted_by w e) w e (step sh
         let u : ℕ = tid_at w d in
         let z : c ≡ j = cc in
         let v : num (u == u) ≡ 1 = ap num (eq-self u) in
-        rw (← z) ((y c d).owner u (omega (arith, v, live-takes (Commits u) (to_dir w c d) k (Commit u n) i)))
+        rw (← z) ((y c d).owner u (omega (arith, live-takes (Commits u) (to_dir w c d) k (Commit u n) i)))
 
     owners : (c d k : ℕ) {m : Msg} {a : Answer} → FromCore w c d k m → Outcome sh (w.dirs d) c m a → Leaves (LineOwners gs) a
     owners c d k i (Waiting m) = tt
@@ -212,11 +172,11 @@ dir-whole sh s c m h = go (outcome sh s c m)
     go : {m : Msg} {a : Answer} → Outcome sh s c m a → Leaves WhollyOrHome a
     go (Waiting m) = tt
     go (Spent m i) = tt
-    go (TakesAbort u b e i) = λ x o n. grind (nats, h x)
-    go (TakesMark l k i) = λ x o n. grind (nats, h x, i)
-    go (TakesCommit b e) = λ x o n. grind (nats, e)
-    go (TakesAck l k b i e) = λ x o n. grind (nats, e)
-    go (TakesCopy m l k ws g y e o) = λ x o n. grind (nats, h x)
+    go (TakesAbort u b e i) = λ x o n. grind (nats, h)
+    go (TakesMark l k i) = λ x o n. grind (nats, h)
+    go (TakesCommit b e) = λ x o n. grind nats
+    go (TakesAck l k b i e) = λ x o n. grind nats
+    go (TakesCopy m l k ws g y e o) = λ x o n. grind (nats, h)
     go _ = h
 
 pub step-whole : (sh : Shape) (p : Program) (w : World) (e : Event) → KeptWhole sh w → IfSome (step sh p w e) (λ o. KeptWhole sh o.world)

@@ -8,11 +8,8 @@ use Names.{passes, Grant, pair, Ways, wrote_line, Option, IfSome, Out, and_noted
 use Names.{after_move, share, is_applied, stores_at, names_line, is_some, CoreState, Phase, Running, World, core_moves, dir_takes}
 use Names.{KeptSharers, OneCore, acting, after_answer, out_taken, has_tid, ◌%◌, not, is_awaited, KeptHomes, LoadingOf, InvOf, LinesAway}
 use Names.{nats, home_of, tid_at, to_dir, to_core, FromCore, FromDir, ◌≢◌, tested}
-use proofs.Copies.LinesKept.{Before, new-of}
-use proofs.Copies.LinesStep.{writer-line, commit-passes}
-use proofs.Copies.PairCopies.{NewCommit}
-use proofs.Copies.TagsKept.{taken-commit, stored-home}
-use proofs.Copies.WroteLines.{applied-or, is_of, wrote-new, wrote-other, commit-sent, wrote-unknown}
+use proofs.Copies.{Before, new-of, writer-line, commit-passes, NewCommit, taken-commit, stored-home, applied-or, is_of, wrote-new}
+use proofs.Copies.{wrote-other, commit-sent, wrote-unknown}
 use proofs.Counts.{live-sends, total-le, live-takes, differ, either, moves-own, moves-other, pairs_dir}
 use proofs.Lines.CoreHolds.{Holds, ReadsValid, HoldsTaken, Gone}
 use proofs.Marks.DirRecords.{Shares, Records, Still, Came, Settles}
@@ -22,13 +19,12 @@ use proofs.Marks.ReadsKept.{KeptReads}
 use proofs.OneCore.{ValidOrPassed}
 use proofs.Serving.{of-above}
 use proofs.Tids.{live-some}
-use proofs.Ways.CoreSkips.{TellsCommit}
-use proofs.Ways.ToldSteps.{Speaks}
+use proofs.Ways.{TellsCommit, Speaks}
 
 -- What each kind of event does, between a core and the line's home, to that a core which holds a line is one of its sharers.
 
 -- a core holds a line by a word that it keeps, or by a Fill that it will take
-pub holds-cases : (l : ℕ) (v : Pair) → holds_line l v ≡ true → (keeps_unmodified v.core.cache l ≡ true)
+holds-cases : (l : ℕ) (v : Pair) → holds_line l v ≡ true → (keeps_unmodified v.core.cache l ≡ true)
     ⊎ ((is_fresh v.core.awaited ≡ true) × (1 ≤ live (FillOf l) v.back))
 unfolding holds_line
 holds-cases l v q = go (keeps_unmodified v.core.cache l) (is_fresh v.core.awaited) (nat_lt 0 (live (FillOf l) v.back)) refl q
@@ -40,16 +36,16 @@ holds-cases l v q = go (keeps_unmodified v.core.cache l) (is_fresh v.core.awaite
     go false true false r q = absurd (cc)
     go false false c r q = absurd (cc)
 
-pub holds-kept : (l : ℕ) (v : Pair) → keeps_unmodified v.core.cache l ≡ true → holds_line l v ≡ true
+holds-kept : (l : ℕ) (v : Pair) → keeps_unmodified v.core.cache l ≡ true → holds_line l v ≡ true
 unfolding holds_line
 holds-kept l v q = rw q
 
-pub holds-fill : (l : ℕ) (v : Pair) → is_fresh v.core.awaited ≡ true → 1 ≤ live (FillOf l) v.back → holds_line l v ≡ true
+holds-fill : (l : ℕ) (v : Pair) → is_fresh v.core.awaited ≡ true → 1 ≤ live (FillOf l) v.back → holds_line l v ≡ true
 unfolding holds_line
 holds-fill l v q i = grind nats
 
 -- a core's event: what it holds it held before, or it has committed the line and has acknowledged nothing of it
-pub sharer-moved : {base : ℕ} {cs ds : List Noted} {c l : ℕ} {v w : Pair} → w.dir ≡ v.dir
+sharer-moved : {base : ℕ} {cs ds : List Noted} {c l : ℕ} {v w : Pair} → w.dir ≡ v.dir
     → (holds_line l w ≡ true → (holds_line l v ≡ true) ⊎ (CommitsLine base ds c l w × (live (GoneOf l) v.out ≡ 0)))
     → (CommitsLine base cs c l v → CommitsLine base ds c l w) → (holds_line l w ≡ true → live (GoneOf l) w.out ≡ live (GoneOf l) v.out)
     → SharerOf base cs c l v → SharerOf base ds c l w
@@ -84,12 +80,12 @@ sharer-answered {base} {cs} {c} {l} v w s h = record { shares = λ q. shares (he
             → (live (FillOf l) w.back ≤ live (FillOf l) v.back) ⊎ ((w.dir.lines.sharers l c ≡ true) × (live (GoneOf l) v.out ≡ 0))
             → (holds_line l v ≡ true) ⊎ ((w.dir.lines.sharers l c ≡ true) × (live (GoneOf l) v.out ≡ 0))
         go (inl x) y = inl (holds-kept l v (ap (λ r. keeps_unmodified r.cache l) (sym s.core) ∙ x))
-        go (inr x) (inl y) = inl (holds-fill l v (ap (λ r. is_fresh r.awaited) (sym s.core) ∙ x.0) (omega (arith, x.1, y)))
+        go (inr x) (inl y) = inl (holds-fill l v (ap (λ r. is_fresh r.awaited) (sym s.core) ∙ x.0) (omega arith))
         go (inr x) (inr y) = inr y
 
     carried : holds_line l v ≡ true → (v.dir.lines.sharers l c ≡ true) ⊎ CommitsLine base cs c l v
         → (w.dir.lines.sharers l c ≡ true) ⊎ CommitsLine base cs c l w
-    carried q (inl x) = elim (s.kept x) [ inl y ↦ inl y | inr y ↦ absurd (omega (arith, y, h.stays q)) ]
+    carried q (inl x) = elim (s.kept x) [ inl y ↦ inl y | inr y ↦ absurd (omega (arith, h.stays)) ]
     carried q (inr x) = s.commits x
 
     shares : (holds_line l v ≡ true) ⊎ ((w.dir.lines.sharers l c ≡ true) × (live (GoneOf l) v.out ≡ 0))
@@ -109,7 +105,7 @@ pub gone-acks : (l : ℕ) (k : Link) → live (GoneOf l) k ≤ live (AckOf l) k
 unfolding live
 gone-acks l [] = omega arith
 gone-acks l (None ∷ k) = gone-acks l k
-gone-acks l (Some m ∷ k) = omega (arith, gone-ack l m, gone-acks l k)
+gone-acks l (Some m ∷ k) = omega (arith, gone-ack, gone-acks l k)
 
 -- the directory is s now, and has sent these messages; the message was consumed where it came from this core
 pub record Seen (mine : Bool) (j : ℕ) (m : Msg) (s : DirState) (sends : Sends) (v w : Pair) : Type 0 where
@@ -127,7 +123,7 @@ takes-commits : {sh : Shape} {gs : List Grant} {ys : Ways} (h : History) (c d k 
 takes-commits {sh} h c d k j l {mine} m s w b i z dl ll e a r f x = go r
   where
     same : num (mine && passes (Commits x.tid) m) ≡ 0 → (w.dir.lines.sharers l j ≡ true) ⊎ CommitsLine sh.base h.commits j l w
-    same n = inr (record { tid = x.tid; sent = omega (arith, x.sent, n, a.lives (Commits x.tid)); line = x.line })
+    same n = inr (record { tid = x.tid; sent = omega (arith, a.lives); line = x.line })
 
     none : (y : Bool) → passes (Commits x.tid) m ≡ false → num (y && passes (Commits x.tid) m) ≡ 0
     none a n = grind nats
@@ -150,7 +146,7 @@ takes-commits {sh} h c d k j l {mine} m s w b i z dl ll e a r f x = go r
             let o' : has_mark (h.world.dirs d).lines l ≡ true = sym (writer-line h l ll e (taken-commit c d k b.told.all dl i q)) ∙ n' in
             inl (ap (λ u. u.lines.sharers l j) a.dir ∙ ap (s.lines.sharers l) y ∙ f.taken l q o')
 
-pub answer-sharers : {sh : Shape} {gs : List Grant} {ys : Ways} {h : History} {c d : ℕ}
+answer-sharers : {sh : Shape} {gs : List Grant} {ys : Ways} {h : History} {c d : ℕ}
     (k : ℕ) {j l : ℕ} {mine : Bool} {m : Msg} {s : DirState} {sends : Sends} (w : Pair) → Before sh gs ys h → FromCore h.world c d k m
     → (j == c) ≡ mine → j < sh.cores → d < sh.dirs → l < lines sh → home sh l ≡ d → Seen mine j m s sends (pair h.world j d) w
     → Records sh (h.world.dirs d) c m s → Shares sh (h.world.dirs d) c m s sends → SharerOf sh.base h.commits j l (pair h.world j d)
@@ -162,23 +158,23 @@ answer-sharers {h} {c} {d} k {j} {l} {mine} {m} {s} {sends} w b i z jl dl ll e a
       kept = λ q. kept (f.kept l j q);
       commits = takes-commits h c d k j l m s w b i z dl ll e a r f;
       filled = filled (cases_lt 0 (among (FillOf l) (sends (Core j))));
-      gone = omega (arith, a.lives (GoneOf l));
+      gone = omega (arith, a.lives);
     })
   where
     kept : (s.lines.sharers l j ≡ true) ⊎ ((j ≡ c) × (passes (GoneOf l) m ≡ true))
         → (w.dir.lines.sharers l j ≡ true) ⊎ (1 ≤ live (GoneOf l) (to_dir h.world j d))
     kept (inl q) = inl (ap (λ u. u.lines.sharers l j) a.dir ∙ q)
     kept (inr q) = let y : mine ≡ true = sym z ∙ (let p = q.0 in grind nats) in
-        let n : num (mine && passes (GoneOf l) m) ≡ 1 = rw (y, q.1) in inr (omega (arith, n, a.lives (GoneOf l)))
+        let n : num (mine && passes (GoneOf l) m) ≡ 1 = rw (y, q.1) in inr (omega (arith, a.lives (GoneOf l)))
 
     filled : (0 < among (FillOf l) (sends (Core j))) ⊎ (among (FillOf l) (sends (Core j)) ≤ 0)
         → (live (FillOf l) w.back ≤ live (FillOf l) (to_core h.world d j))
         ⊎ ((w.dir.lines.sharers l j ≡ true) × (live (GoneOf l) (to_dir h.world j d) ≡ 0))
-    filled (inr q) = inl (omega (arith, q, a.back (FillOf l)))
-    filled (inl q) = let x = f.filled l j (omega (arith, q)) in let n : num (has_mark (h.world.dirs d).lines l) ≡ 0 = ap num x.1 in
+    filled (inr q) = inl (omega (arith, a.back))
+    filled (inl q) = let x = f.filled l j (omega arith) in let n : num (has_mark (h.world.dirs d).lines l) ≡ 0 = ap num x.1 in
         inr (
           ap (λ u. u.lines.sharers l j) a.dir ∙ x.0,
-          omega (arith, n, (b.told.all.named j d l jl dl).one, gone-acks l (to_dir h.world j d)),
+          omega (arith, (b.told.all.named j d l jl dl).one, gone-acks),
         )
 
 -- Every event of a core keeps that a core which holds a line is one of its sharers, or its Commit of the line is in flight.
@@ -203,11 +199,11 @@ unfolding share due pair
 unowed {sh} h c d l b cl z =
     omega (
       arith,
-      z,
-      gone-acks l (to_dir h.world c d),
+      gone-acks,
       (lines-live l 0 (to_dir h.world c d)).2,
       b.told.all.kept.told.owed.owed d,
-      total-le (share due h.world d) sh.cores c cl,
+      total-le
+          (share due h.world d) sh.cores c cl,
     )
 
 served-owed : (s : DirState) (t : ℕ) → t ≤ s.serving.serving → is_applied s t ≡ false → s.owed ≡ 0
@@ -223,7 +219,7 @@ pub own-sharers : {sh : Shape} {gs : List Grant} {ys : Ways} {h : History} {c d 
     → SharerOf sh.base (and_noted o.commit h.commits) c l (after_move (pair h.world c d) o d)
 unfolding pair
 own-sharers {sh} {h} {c} {d} {l} o b ld cl dl ll e s k = sharer-moved refl
-    (λ q. held (holds-cases l w q)) more (λ q. omega (arith, s.quiet, live-sends (GoneOf l) v.out (o.sends (Dir d)))) k
+    (λ q. held (holds-cases l w q)) more (λ q. omega (arith, live-sends)) k
   where
     v : Pair
     v = pair h.world c d
@@ -242,7 +238,7 @@ own-sharers {sh} {h} {c} {d} {l} o b ld cl dl ll e s k = sharer-moved refl
           subst (λ a. CommitsLine sh.base (and_noted a h.commits) c l w) (sym q)
               (record {
                 tid = n.tid.0;
-                sent = omega (arith, y.sent i, live-sends (Commits n.tid.0) v.out (o.sends (Dir d)));
+                sent = omega (arith, y.sent, live-sends);
                 line = (wrote-new sh.base n h.commits c n.tid.0 l core refl y.fresh).line ∙ i;
               }),
           unowed h c d l b cl (served-owed (h.world.dirs d) n.tid.0 below (s.unapplied n q (stored-home sh l n ll e i))),
@@ -263,7 +259,8 @@ own-sharers {sh} {h} {c} {d} {l} o b ld cl dl ll e s k = sharer-moved refl
             arith,
             s.reached,
             above-sent (tid_at h.world d) n.tid.0 (o.sends (Dir d)) z,
-            commit-sent c d b.told cl (tells q s.speaks.tells.commits) dl (stored-home sh l n ll e i),
+            commit-sent c d b.told cl
+                (tells q s.speaks.tells.commits) dl (stored-home sh l n ll e i),
           ))
         ]
 
@@ -272,14 +269,14 @@ own-sharers {sh} {h} {c} {d} {l} o b ld cl dl ll e s k = sharer-moved refl
     held (inl q) = elim (s.holds.kept q) [ inl x ↦ inl (holds-kept l v x) | inr x ↦ inr (stored x.noted x.line s.after) ]
     held (inr q) = elim (s.holds.fresh q.0) [
       | inl x ↦ inl (holds-fill l v x q.1)
-      | inr x ↦ absurd (let y : live (LoadOf l) v.out + live (FillOf l) v.back ≡ 0 = rw x at (ld c d l) in omega (arith, y, q.1))
+      | inr x ↦ absurd (let y : live (LoadOf l) v.out + live (FillOf l) v.back ≡ 0 = rw x at (ld c d l) in omega arith)
     ]
 
     more : CommitsLine sh.base h.commits c l v → CommitsLine sh.base (and_noted o.commit h.commits) c l w
     more x = go s.after
       where
         sent : 1 ≤ live (Commits x.tid) w.out
-        sent = omega (arith, x.sent, live-sends (Commits x.tid) v.out (o.sends (Dir d)))
+        sent = omega (arith, live-sends)
 
         line : (n : Noted) → o.commit ≡ Some n → n.core.0 ≡ c → (a : Bool) → is_of c x.tid n ≡ a
             → wrote_line sh.base (insert_commit n h.commits) c x.tid l ≡ true
@@ -380,7 +377,7 @@ unfolding pair
 fill-home sh w c e k l m h i q = elim (tested (home sh l == e)) [
   | inl p ↦ grind nats
   | inr p ↦ absurd (let n : num (passes (LinesAway sh.dirs e) m) ≡ 1 = ap num (fill-away sh.dirs e l m q) ∙ rw p in
-      omega (arith, n, live-some (LinesAway sh.dirs e) (to_core w e c) k m i, (h c e l).back))
+      omega (arith, live-some (LinesAway sh.dirs e) (to_core w e c) k m i, (h c e l).back))
 ]
 
 -- v is the core's pair, with the message or without
@@ -401,12 +398,12 @@ back-sharers sh w cs c e d k l m v o h q i vc vd vo vb f g ld t =
 
     held : (keeps_unmodified o.core.cache l ≡ true) ⊎ ((is_fresh o.core.awaited ≡ true) × (1 ≤ live (FillOf l) v.back))
         → holds_line l u ≡ true
-    held (inr r) = holds-fill l u (f.holds.fresh r.0) (omega (arith, r.1, vb))
+    held (inr r) = holds-fill l u (f.holds.fresh r.0) (omega arith)
     held (inl r) = elim (f.holds.kept r) [
       | inl y ↦ holds-kept l u y
       | inr y ↦ let z : e ≡ d = sym (fill-home sh w c e k l m h i y.0) ∙ q in
           let n : num (passes (FillOf l) m) ≡ 1 = ap num y.0 in
-          let p : 1 ≤ live (FillOf l) (to_core w d c) = rw (sym z) (omega (arith, n, live-some (FillOf l) (to_core w e c) k m i)) in
+          let p : 1 ≤ live (FillOf l) (to_core w d c) = rw (sym z) (omega (arith, live-some (FillOf l) (to_core w e c) k m i)) in
           holds-fill l u y.1 p
     ]
 
@@ -414,20 +411,20 @@ back-sharers sh w cs c e d k l m v o h q i vc vd vo vb f g ld t =
     more y = record {
       tid = y.tid;
       sent = let z : live (Commits y.tid) v.out ≡ live (Commits y.tid) u.out = rw vo in
-          omega (arith, y.sent, z, live-sends (Commits y.tid) v.out (o.sends (Dir d)));
+          omega (arith, live-sends);
       line = y.line;
     }
 
     same : among (GoneOf l) (o.sends (Dir d)) ≡ 0 → live (GoneOf l) x.out ≡ live (GoneOf l) u.out
     same z = let y : live (GoneOf l) v.out ≡ live (GoneOf l) u.out = rw vo in
-        omega (arith, z, y, live-sends (GoneOf l) v.out (o.sends (Dir d)))
+        omega (arith, live-sends)
 
     -- a core that says that it keeps no word holds none
     none : Gone l o.core → (keeps_unmodified o.core.cache l ≡ true) ⊎ ((is_fresh o.core.awaited ≡ true) × (1 ≤ live (FillOf l) v.back)) → ⊥
     none y (inl r) = let z = y.kept in absurd (cc)
     none y (inr r) = elim (tested (is_awaited o.core.awaited l)) [
       | inl p ↦ let z = y.stale p in let a = r.0 in absurd (cc)
-      | inr p ↦ let z : live (LoadOf l) x.out + live (FillOf l) v.back ≡ 0 = rw p at ld in absurd (omega (arith, z, r.1))
+      | inr p ↦ let z : live (LoadOf l) x.out + live (FillOf l) v.back ≡ 0 = rw p at ld in absurd (omega arith)
     ]
 
     gone : holds_line l x ≡ true → (b : Bool) → passes (InvOf l) m ≡ b → live (GoneOf l) x.out ≡ live (GoneOf l) u.out

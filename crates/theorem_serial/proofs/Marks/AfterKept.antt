@@ -1,13 +1,13 @@
 -- Every event keeps that a core notes of each directory the greatest TID of its commits that stored there.
 use Rattle.theorem_serial.proofs
 use proofs.Names
-use Names.{ℕ, ◌≡◌, ◌⊎◌, Bool, true, false, [], ◌∷◌, ◌==◌, Option, Some, None, IfSome, if◌then◌else◌, arith, refl, inl, inr, Noted, Program}
-use Names.{word_of, num, line_of, Dir, Msg, LoadReq, Shape, home, CoreState, Awaited, Ready, Out, moves, commit, noted, with_last_commit}
-use Names.{committed_core, solo_commit, core_exec, core_evict, grant, from_dir, LoadOf, LoadNot, among, passes, OneCore, executes}
-use Names.{stores_at, nats, max, cond, ◌<◌, ◌≤◌, ◌&&◌, List, Contains, nat_lt, ap, sym, subst, ◌∙◌, Local, Vendor, Event, DirState, World}
-use Names.{Link, start, core_start, Sends, Answer, Waits, Drops, Asks, Takes, dir_deliver, core_moves, core_takes, dir_takes, step}
-use Names.{and_noted, insert_commit, AfterOf, KeptAfter, KeptLoading, stored_there, live, KeptCores, Grant, AreGranted, holder, KeptOwners}
-use Names.{LastGranted, Pair, pair, after_move, last_of, to_dir, FromCore, FromDir, grant_to, ◌≢◌}
+use Names.{got, nothing, ℕ, ◌≡◌, ◌⊎◌, Bool, true, false, [], ◌∷◌, ◌==◌, Option, Some, None, IfSome, if◌then◌else◌, arith, refl, inl, inr}
+use Names.{Noted, Program, word_of, num, line_of, Dir, Msg, LoadReq, Shape, home, CoreState, Awaited, Ready, Out, moves, commit, noted}
+use Names.{with_last_commit, committed_core, solo_commit, core_exec, core_evict, grant, from_dir, LoadOf, LoadNot, among, passes, OneCore}
+use Names.{executes, stores_at, nats, max, cond, ◌<◌, ◌≤◌, ◌&&◌, List, Contains, nat_lt, ap, sym, subst, ◌∙◌, Local, Vendor, Event}
+use Names.{DirState, World, Link, start, core_start, Sends, Answer, Waits, Drops, Asks, Takes, dir_deliver, core_moves, core_takes}
+use Names.{dir_takes, step, and_noted, insert_commit, AfterOf, KeptAfter, KeptLoading, stored_there, live, KeptCores, Grant, AreGranted}
+use Names.{holder, KeptOwners, LastGranted, Pair, pair, after_move, last_of, to_dir, FromCore, FromDir, grant_to, ◌≢◌}
 use proofs.Marks.CoreMarks.{stored-solo, stored-written}
 use proofs.OneCore.{Empties, Flushes, Requests, Silent, Tells_alone, Tells_commit, quiet, say, Commits_now, Did, Ends_alone, Given_none}
 use proofs.OneCore.{Granted, Hands_out, Heard, Misses, Misses_anew, after_end, each-back, each-evict, each-exec, each-grant, emptied}
@@ -20,10 +20,10 @@ use proofs.Serving.{holder-moved}
 -- What a core's step does to the TIDs that it notes of its last commit at each directory.
 
 -- without a request for a line there is none that carries something else
-pub no-load : (x : ℕ) (m : Msg) → ((l : ℕ) → num (passes (LoadOf l) m) ≡ 0) → num (passes (LoadNot x) m) ≡ 0
+no-load : (x : ℕ) (m : Msg) → ((l : ℕ) → num (passes (LoadOf l) m) ≡ 0) → num (passes (LoadNot x) m) ≡ 0
 unfolding passes
 no-load x (LoadReq k a) f = absurd (let y = f k in let z : (k == k) ≡ true = grind nats in let q : num (k == k) ≡ 1 = rw z in
-    omega (arith, y, q))
+    omega arith)
 no-load x _ f = refl
 
 -- nothing is committed, and a load request carries what the core notes of the line's home
@@ -59,7 +59,7 @@ asked sh k s r e = record { after = e; carries = λ d. go d (d == home sh k) ref
     go d a q = grind nats
 
 -- a core whose directories are all ready awaits nothing and has spilled nothing
-pub after-exec : {sh : Shape} (p : Program) (c : ℕ) {s : CoreState} → OneCore sh s → IfSome (core_exec sh p c s) (λ o. AfterStep sh c s o)
+pub after-exec : {sh : Shape} (p : Program) (c : ℕ) {s : CoreState} → OneCore sh s → IfSome (core_exec sh p c s) (AfterStep sh c s)
 unfolding passes commit solo_commit committed_core noted with_last_commit
 after-exec {sh} p c {s} h = each-exec sh p c s (AfterStep sh c s) go
   where
@@ -88,7 +88,7 @@ after-exec {sh} p c {s} h = each-exec sh p c s (AfterStep sh c s) go
     })
     go x = inl (stays s (out x) (λ d y. quiet sh s (LoadNot y) (said x) (λ z. refl) d) refl refl)
 
-pub after-evict : (sh : Shape) (c x y : ℕ) (s : CoreState) → IfSome (core_evict sh x y s) (λ o. AfterStep sh c s o)
+pub after-evict : (sh : Shape) (c x y : ℕ) (s : CoreState) → IfSome (core_evict sh x y s) (AfterStep sh c s)
 unfolding passes
 after-evict sh c x y s = each-evict sh x y s (AfterStep sh c s)
     (λ k e a m. inl (stays s (emptied sh x y k s) (λ d y. quiet sh s (LoadNot y) (Empties k) (λ z. refl) d) refl refl))
@@ -101,7 +101,7 @@ after-grant sh t s = each-grant sh t s (Stays s) go
     go (Given_none e) = stays s _ (λ d y. quiet sh s (LoadNot y) Silent (λ z. refl) d) refl refl
     go x = stays s (granted x) (λ d y. quiet sh s (LoadNot y) (granted_said x) (λ z. refl) d) refl refl
 
-pub after-back : (sh : Shape) (e : ℕ) (s : CoreState) (m : Msg) → IfSome (from_dir sh e s m) (λ o. Stays s o)
+pub after-back : (sh : Shape) (e : ℕ) (s : CoreState) (m : Msg) → IfSome (from_dir sh e s m) (Stays s)
 unfolding passes
 after-back sh e s m = each-back sh e s (λ m o. Stays s o) go m
   where
@@ -147,7 +147,7 @@ stays-after : {sh : Shape} {cs : List Noted} {c d : ℕ} {v : Pair} {o : Out} �
     → AfterOf sh cs c d (after_move v o d)
 stays-after {d} {v} {o} y h = record {
   last = ap (λ f. f d) y.after ∙ h.last;
-  carried = rw y.after (omega (arith, h.carried, y.carries d, live-sends (LoadNot (v.core.last_commit d)) v.out (o.sends (Dir d))));
+  carried = rw y.after (omega (arith, y.carries, live-sends));
 }
 
 -- a core that commits, whose commits so far have smaller TIDs
@@ -162,7 +162,8 @@ commits-after {sh} {cs} c d {v} o y b n h = record {
         arith,
         no-live v.out n (o.core.last_commit d),
         y.quiet d (o.core.last_commit d),
-        live-sends (LoadNot (o.core.last_commit d)) v.out (o.sends (Dir d)),
+        live-sends
+            (LoadNot (o.core.last_commit d)) v.out (o.sends (Dir d)),
       );
 }
   where
@@ -196,9 +197,9 @@ pub step-after : {sh : Shape} (p : Program) {gs : List Grant} {w : World} {cs : 
     → IfSome (step sh p w e) (λ o. KeptAfter sh o.world (and_noted o.noted cs))
 unfolding pair
 step-after {sh} p {gs} {w} {cs} e y k g ld h = step_cases sh p w e (λ x o. KeptAfter sh o.world (and_noted o.noted cs))
-    (λ c l. moved c l (core_exec sh p c (w.cores c)) (after-exec p c (k c)) (holder-exec sh p c (w.cores c)))
-    (λ c a b l. moved c l (core_evict sh a b (w.cores c)) (after-evict sh c a b (w.cores c)) (holder-evict sh a b c (w.cores c)))
-    (λ c i u q. granted c i u) (λ c d i m q. taken c d i q (from_dir sh d (w.cores c) m) (after-back sh d (w.cores c) m))
+    (λ c o eq l. moved c l o (got _ eq (after-exec p c (k c))) (got _ eq (holder-exec sh p c (w.cores c))))
+    (λ c a b o eq l. moved c l o (got _ eq (after-evict sh c a b (w.cores c))) (got _ eq (holder-evict sh a b c (w.cores c))))
+    (λ c i u q. granted c i u) (λ c d i m o eq q. taken c d i q o (got _ eq (after-back sh d (w.cores c) m)))
     (λ c d i m q. answered c d i m q (dir_deliver sh (w.dirs d) c m))
     (λ c i q. pairs_vendor P w c i (λ d cl dl. record { last = (h c d cl dl).last; carried = (h c d cl dl).carried })
     (λ j d n cl dl. record { last = (h j d cl dl).last; carried = (h j d cl dl).carried }))
@@ -226,15 +227,14 @@ step-after {sh} p {gs} {w} {cs} e y k g ld h = step_cases sh p w e (λ x o. Kept
     noted-one : (n : Noted) → noted_tid n.tid.0 (Some n) ≡ 1
     noted-one n = let z : (n.tid.0 == n.tid.0) ≡ true = grind nats in rw z
 
-    moved : (c : ℕ) → c < sh.cores → (x : Option Out) → IfSome x (λ o. AfterStep sh c (w.cores c) o)
-        → IfSome x (λ o. KeepsHolder c none (w.cores c) o) → IfSome x (λ o. KeptAfter sh (core_moves w c o) (and_noted o.commit cs))
-    moved c l None a b = tt
-    moved c l (Some o) (inl a) b = subst (λ n. KeptAfter sh (core_moves w c o) (and_noted n cs)) (sym a.commit)
+    moved : (c : ℕ) → c < sh.cores → (o : Out) → AfterStep sh c (w.cores c) o → KeepsHolder c none (w.cores c) o
+        → KeptAfter sh (core_moves w c o) (and_noted o.commit cs)
+    moved c l o (inl a) b = subst (λ n. KeptAfter sh (core_moves w c o) (and_noted n cs)) (sym a.commit)
         (pairs_move P w c o (λ d cl dl. stays-after a (h c d cl dl)) h)
-    moved c l (Some o) (inr a) b = subst (λ n. KeptAfter sh (core_moves w c o) (and_noted n cs)) (sym a.commit)
+    moved c l o (inr a) b = subst (λ n. KeptAfter sh (core_moves w c o) (and_noted n cs)) (sym a.commit)
         (commits c o a (let x = holder-moved (pair w c 0) 0 a.noted.tid.0 b in
         let z : noted_tid a.noted.tid.0 o.commit ≡ 1 = ap (noted_tid a.noted.tid.0) a.commit ∙ noted-one a.noted in
-        omega (arith, x, z)))
+        omega arith))
 
     granted : (c i u : ℕ) → KeptAfter sh (core_takes w Vendor c i (grant sh u (w.cores c))) (and_noted (grant sh u (w.cores c)).commit cs)
     granted c i u = let a = after-grant sh u (w.cores c) in
@@ -242,10 +242,9 @@ step-after {sh} p {gs} {w} {cs} e y k g ld h = step_cases sh p w e (λ x o. Kept
         (pairs_grant P w c i (grant sh u (w.cores c)) (λ d cl dl. let z = stays-after a (h c d cl dl) in
         record { last = z.last; carried = z.carried }) h)
 
-    taken : (c d i : ℕ) {m : Msg} → FromDir w d c i m → (x : Option Out) → IfSome x (λ o. Stays (w.cores c) o)
-        → IfSome x (λ o. KeptAfter sh (core_takes w (Dir d) c i o) (and_noted o.commit cs))
-    taken c d i q None a = tt
-    taken c d i q (Some o) a = subst (λ n. KeptAfter sh (core_takes w (Dir d) c i o) (and_noted n cs)) (sym a.commit)
+    taken : (c d i : ℕ) {m : Msg} → FromDir w d c i m → (o : Out) → Stays (w.cores c) o
+        → KeptAfter sh (core_takes w (Dir d) c i o) (and_noted o.commit cs)
+    taken c d i q o a = subst (λ n. KeptAfter sh (core_takes w (Dir d) c i o) (and_noted n cs)) (sym a.commit)
         (pairs_back P w d c i o (λ cl dl. let z = stays-after a (h c d cl dl) in record { last = z.last; carried = z.carried })
         (λ b n cl dl. let z = stays-after a (h c b cl dl) in record { last = z.last; carried = z.carried }) h)
 
@@ -263,7 +262,7 @@ step-after {sh} p {gs} {w} {cs} e y k g ld h = step_cases sh p w e (λ x o. Kept
 
     answered : (c d i : ℕ) (m : Msg) → FromCore w c d i m → (a : Answer) → OfAnswer w c d i (λ v. KeptAfter sh v cs) a
     answered c d i m q Waits = tt
-    answered c d i m q Drops = takes c d i m (w.dirs d) (λ dst. []) q
+    answered c d i m q Drops = takes c d i m (w.dirs d) nothing q
     answered c d i m q (Asks s sends) =
         pairs_asks P w d s sends (λ j cl dl. record { last = (h j d cl dl).last; carried = (h j d cl dl).carried }) h
     answered c d i m q (Takes s sends) = takes c d i m s sends q

@@ -13,12 +13,11 @@ use proofs.Serving.{heard-free, few-of}
 use proofs.Counts.{among-append, total-same, among-fewer, among-flat_map_none, live-fewer}
 use proofs.Marks.CoreMarks.{one-mark, marks-only, unspilled, stored-line, stored-any, stored-cases, modified-line, modified-stored}
 use proofs.Marks.CoreMarks.{written-line, written-stored}
-use proofs.Marks.CoreMarking.{mine, told-commit, has-ready, Unsaid, unsaid-quiet, unsaid-nothing, unsaid-append, acked, idle}
+use proofs.Marks.CoreMarking.{mine, told-commit, has-ready, Unsaid, unsaid-quiet, unsaid-nothing, unsaid-append, acked, idle, unmarked}
 use proofs.OneCore.{quiet, Empties, Commits_now, Did, each-exec, out, each-evict, emptied, Ends_alone, after_end, each-back, heard, said}
 use proofs.OneCore.{Ends_run, Room_wanted, Steady, did-steady, fill-steady, data-steady, ignored-steady, Hurt, Unhurt, Rolled, Doomed}
 use proofs.OneCore.{Aborted, Gave_up, Invalidated, invalidate-cases, Replied, Ignored, Probed, Left_alone, reply-cases, steady-emptied}
 use proofs.Tids.{tid-after}
-use proofs.Marks.CoreMarkingTakes.{unmarked}
 
 -- A Commit that a core sends counts the Marks that it has sent, or sends with it.
 
@@ -45,7 +44,7 @@ counts-lines : {sh : Shape} {d t n : ℕ} {s : CoreState} {o : Out} (p : ℕ →
     → ((l : ℕ) → marks_after sh d t s o l ≡ num (nat_lt l (lines sh) && p l)) → Counts sh d t n s o
 counts-lines {sh} {d} {t} {s} {o} p h e f = record {
   held = h;
-  each = λ l. omega (arith, f l, few (nat_lt l (lines sh)) (p l));
+  each = λ l. omega (arith, f, few);
   sum = total-same (marks_after sh d t s o) (λ l. num (p l)) (lines sh) (λ l x. f l ∙ below l x) ∙ total-num p (lines sh) ∙ e;
 }
   where
@@ -64,7 +63,7 @@ pub few-any : (t n : ℕ) (ms : List Msg) → among (CommitOf t n) ms ≤ among 
 few-any t n ms = among-fewer (CommitOf t n) AnyCommit (of-any t n) ms
 
 counts-none : (sh : Shape) (d t : ℕ) (s : CoreState) (o : Out) → among AnyCommit (o.sends (Dir d)) ≡ 0 → CountsAll sh d t s o
-counts-none sh d t s o z n x = absurd (omega (arith, x, z, few-any t n (o.sends (Dir d))))
+counts-none sh d t s o z n x = absurd (omega (arith, few-any))
 
 -- a core whose directories are all ready
 pub is-commit : (sh : Shape) (c : Cache) (u d t n : ℕ) → 1 ≤ among (CommitOf t n) (commit_sends sh c u (Dir d))
@@ -80,10 +79,10 @@ is-commit sh c u d t n x =
     go true true true true p q y = (grind nats, grind nats)
     go true true true false p q y = absurd (grind nats)
     go true true false f p q y = absurd (grind nats)
-    go true false e f p q y = absurd (omega (arith, y))
-    go false b e f p q y = absurd (omega (arith, y))
+    go true false e f p q y = absurd (omega arith)
+    go false b e f p q y = absurd (omega arith)
 
-pub has-solo : {u : ℕ} {q : Phase} → q ≡ Solo u → has_tid q u ≡ true
+has-solo : {u : ℕ} {q : Phase} → q ≡ Solo u → has_tid q u ≡ true
 unfolding has_tid
 has-solo {u} e = rw e (eq-self u)
 
@@ -95,7 +94,7 @@ counts-ready sh c d t u s ph ow n x =
     counts-lines p (mine s.phase (has-ready ph) r.0) r.1 (λ l. rw (ph, ow) (omega (arith, (told-commit sh s.cache u d t l).1)))
 
 -- a core alone
-pub is-alone : (sh : Shape) (c : Cache) (sp : Spilled) (u d t n : ℕ) → 1 ≤ among (CommitOf t n) (solo_sends sh c sp u (Dir d))
+is-alone : (sh : Shape) (c : Cache) (sp : Spilled) (u d t n : ℕ) → 1 ≤ among (CommitOf t n) (solo_sends sh c sp u (Dir d))
     → (u ≡ t) × (count_below (λ l. d == home sh l && is_written c sp l) (lines sh) ≡ n)
     × ((l : ℕ) → among (MarkOf t l) (solo_sends sh c sp u (Dir d)) ≡ num (nat_lt l (lines sh) && (d == home sh l && is_written c sp l)))
 unfolding solo_sends solo_marks_or_skip solo_write_backs among passes
@@ -106,7 +105,7 @@ is-alone sh c sp u d t n x = go (nat_lt d sh.dirs) (solo_writes_at sh c sp d) x
 
     backs : (k : Kind) → ((x m : ℕ) (ws : List ℕ) → num (passes k (WriteBack x m ws u)) ≡ 0) → among k (solo_write_backs sh sp u d) ≡ 0
     backs k e = among-flat_map_none k (λ x. WriteBack x (spilled_mask sp x) (spilled_words sp x) u ∷ [])
-        (λ x. omega (arith, e x (spilled_mask sp x) (spilled_words sp x))) (those (λ x. d == home sh x && holds sp x) (lines sh))
+        (λ x. omega (arith, e)) (those (λ x. d == home sh x && holds sp x) (lines sh))
 
     marks : List Msg
     marks = flat_map (λ k. Mark k (written_mask c sp k) u ∷ []) (those p (lines sh))
@@ -134,12 +133,12 @@ is-alone sh c sp u d t n x = go (nat_lt d sh.dirs) (solo_writes_at sh c sp d) x
 
     both : (e f : Bool) → (u == t) ≡ e → (count_below p (lines sh) == n) ≡ f → 1 ≤ num (e && f) → (u ≡ t) × (count_below p (lines sh) ≡ n)
     both true true q r y = (grind nats, grind nats)
-    both true false q r y = absurd (omega (arith, y))
-    both false f q r y = absurd (omega (arith, y))
+    both true false q r y = absurd (omega arith)
+    both false f q r y = absurd (omega arith)
 
     go : (a w : Bool) → 1 ≤ among (CommitOf t n) (sends a w) → (u ≡ t) × (count_below p (lines sh) ≡ n)
         × ((l : ℕ) → among (MarkOf t l) (sends a w) ≡ num (nat_lt l (lines sh) && p l))
-    go false w y = absurd (omega (arith, y))
+    go false w y = absurd (omega arith)
     go true false y = absurd (omega (arith, y, skipped))
     go true true y = let r = both (u == t) (count_below p (lines sh) == n) refl refl (omega (arith, y, counted)) in (r.0, r.1, marked r.0)
 
@@ -148,24 +147,24 @@ counts-alone : {sh : Shape} (d t u : ℕ) (s : CoreState) {o : Out} → s.phase 
 unfolding marked_by has_marked
 counts-alone {sh} d t u s q se n x = let f = is-alone sh s.cache s.spilled u d t n (rw se at x) in
     counts-lines (λ k. d == home sh k && is_written s.cache s.spilled k) (mine s.phase (has-solo q) f.0) f.1
-    (λ l. rw (se, q) (omega (arith, f.2 l)))
+    (λ l. rw (se, q) (omega (arith, f.2)))
 
 pub counts-exec : (sh : Shape) (p : Program) (c d t : ℕ) (s : CoreState) → (may_commit s.phase ≡ true → s.owing d ≡ false)
-    → IfSome (core_exec sh p c s) (λ o. CountsAll sh d t s o)
+    → IfSome (core_exec sh p c s) (CountsAll sh d t s)
 unfolding passes solo_commit
-counts-exec sh p c d t s f = each-exec sh p c s (λ o. CountsAll sh d t s o) go
+counts-exec sh p c d t s f = each-exec sh p c s (CountsAll sh d t s) go
   where
     go : (x : Did sh p c s) → CountsAll sh d t s (out x)
     go (Ends_alone u l o g q i) = counts-alone d t u s q refl
     go (Commits_now u e) = counts-ready sh c d t u s e (f (rw e))
     go x = counts-none sh d t s (out x) (quiet sh s AnyCommit (said x) (λ y. refl) d)
 
-pub counts-evict : (sh : Shape) (x y d t : ℕ) (s : CoreState) → IfSome (core_evict sh x y s) (λ o. CountsAll sh d t s o)
+pub counts-evict : (sh : Shape) (x y d t : ℕ) (s : CoreState) → IfSome (core_evict sh x y s) (CountsAll sh d t s)
 unfolding passes
-counts-evict sh x y d t s = each-evict sh x y s (λ o. CountsAll sh d t s o)
+counts-evict sh x y d t s = each-evict sh x y s (CountsAll sh d t s)
     (λ k q u z. counts-none sh d t s (emptied sh x y k s) (quiet sh s AnyCommit (Empties k) (λ y. refl) d))
 
-pub counts-back : (sh : Shape) (e d t : ℕ) (s : CoreState) (m : Msg) → IfSome (from_dir sh e s m) (λ o. CountsAll sh d t s o)
+pub counts-back : (sh : Shape) (e d t : ℕ) (s : CoreState) (m : Msg) → IfSome (from_dir sh e s m) (CountsAll sh d t s)
 counts-back sh e d t s m = each-back sh e s (λ m o. CountsAll sh d t s o) (λ y. counts-none sh d t s (heard y) (heard-free y d)) m
 
 -- The masks of the Marks that a core sends: the words that it has modified, and at a commit those that it stored.
@@ -189,10 +188,10 @@ pub live-masked : (t l q : ℕ) (k : Link) → live (MarkMask t l q) k ≤ live 
 live-masked t l q k = live-fewer (MarkMask t l q) (MarkOf t l) (one-masked t l q) k
 
 pub passes-masked : (t l q : ℕ) (m : Msg) → num (passes (MarkOf t l) m) ≡ 0 → num (passes (MarkMask t l q) m) ≡ 0
-passes-masked t l q m z = omega (arith, z, one-masked t l q m)
+passes-masked t l q m z = omega (arith, one-masked)
 
 -- Marks of lines whose masks are f
-pub own-mask : (f : ℕ → ℕ) (t u l k : ℕ) → num (passes (MarkMask t l (f l)) (Mark k (f k) u)) ≡ 0
+own-mask : (f : ℕ → ℕ) (t u l k : ℕ) → num (passes (MarkMask t l (f l)) (Mark k (f k) u)) ≡ 0
 unfolding passes
 own-mask f t u l k = grind nats
 
@@ -201,7 +200,7 @@ unfolding marks_for among
 masked-for sh c u e t l = among-flat_map_none (MarkMask t l (modified_mask c l)) (λ k. Mark k (modified_mask c k) u ∷ [])
     (λ k. omega (arith, own-mask (modified_mask c) t u l k)) (written_lines sh c e)
 
-pub mask-same : (a b : Cache) (l : ℕ) → ((v : ℕ) → a.modified v ≡ b.modified v) → modified_mask a l ≡ modified_mask b l
+mask-same : (a b : Cache) (l : ℕ) → ((v : ℕ) → a.modified v ≡ b.modified v) → modified_mask a l ≡ modified_mask b l
 unfolding modified_mask
 mask-same a b l h = ap {A = ℕ → Bool} (λ m. mask_of (λ k. m (word_at l k))) (λ i v. h v i)
 
@@ -212,7 +211,7 @@ masking-unsaid : {sh : Shape} {d t l : ℕ} {s : CoreState} {o : Out} → Unsaid
     → (has_tid o.core.phase t ≡ true → (marked_by sh s d l ≡ 0) ⊎ (modified_mask o.core.cache l ≡ modified_mask s.cache l))
     → Masking sh d t l s o
 masking-unsaid {d} {t} {l} {o} u f = record {
-  sent = λ x. omega (arith, u.marks, few-masked t l (modified_mask o.core.cache l) (o.sends (Dir d)));
+  sent = λ x. omega (arith, few-masked);
   stays = f;
 }
 
@@ -229,9 +228,9 @@ masking-steady sh d t l {s} {o} y = masking-unsaid (unsaid-quiet t l (o.sends (D
     go false e = inl (unmarked sh s d l e)
     go true e = inr (mask-same o.core.cache s.cache l (y.modified (idle s.phase e)))
 
-pub masking-exec : (sh : Shape) (p : Program) (c d t l : ℕ) (s : CoreState) → IfSome (core_exec sh p c s) (λ o. Masking sh d t l s o)
+pub masking-exec : (sh : Shape) (p : Program) (c d t l : ℕ) (s : CoreState) → IfSome (core_exec sh p c s) (Masking sh d t l s)
 unfolding commit solo_commit committed_core has_tid
-masking-exec sh p c d t l s = each-exec sh p c s (λ o. Masking sh d t l s o) go
+masking-exec sh p c d t l s = each-exec sh p c s (Masking sh d t l s) go
   where
     go : (x : Did sh p c s) → Masking sh d t l s (out x)
     go (Commits_now u e) = gone (phase_after_commit s.ended) refl (tid-after s.ended t)
@@ -240,8 +239,8 @@ masking-exec sh p c d t l s = each-exec sh p c s (λ o. Masking sh d t l s o) go
     go (Ends_alone u n e f r i) = gone (phase_after_commit e) refl (tid-after e t)
     go x = masking-steady sh d t l (did-steady x)
 
-pub masking-evict : (sh : Shape) (x y d t l : ℕ) (s : CoreState) → IfSome (core_evict sh x y s) (λ o. Masking sh d t l s o)
-masking-evict sh x y d t l s = each-evict sh x y s (λ o. Masking sh d t l s o)
+pub masking-evict : (sh : Shape) (x y d t l : ℕ) (s : CoreState) → IfSome (core_evict sh x y s) (Masking sh d t l s)
+masking-evict sh x y d t l s = each-evict sh x y s (Masking sh d t l s)
     (λ k q u z. masking-steady sh d t l (steady-emptied sh x y s k q u z))
 
 masking-hurt : {sh : Shape} (x d t l : ℕ) (s : CoreState) {o : Out} → Invalidated sh x s o → Masking sh d t l s o
@@ -271,7 +270,7 @@ masking-replied sh {e} {u} d t l s (Probed ph ow ph' ow' ca se cm) =
 masking-replied sh d t l s {o} (Left_alone ph ow ph' ow' ca se cm) = masking-unsaid (rw (ap (λ f. f (Dir d)) se) (unsaid-nothing t l))
     (λ x. inr (mask-same o.core.cache s.cache l ca))
 
-pub masking-back : (sh : Shape) (e d t l : ℕ) (s : CoreState) (m : Msg) → IfSome (from_dir sh e s m) (λ o. Masking sh d t l s o)
+pub masking-back : (sh : Shape) (e d t l : ℕ) (s : CoreState) (m : Msg) → IfSome (from_dir sh e s m) (Masking sh d t l s)
 masking-back sh e d t l s (ProbeReply u v) = masking-replied sh d t l s (reply-cases sh e u s)
 masking-back sh e d t l s (Fill k ws) = masking-steady sh d t l (fill-steady k ws s)
 masking-back sh e d t l s (DataReq k) = masking-steady sh d t l (data-steady sh k s)
@@ -299,7 +298,7 @@ StoresAll sh c d t s o = 1 ≤ among (Commits t) (o.sends (Dir d)) → Storing s
 
 -- no Commit is sent
 storing-none : (sh : Shape) (c d t : ℕ) (s : CoreState) (o : Out) → among AnyCommit (o.sends (Dir d)) ≡ 0 → StoresAll sh c d t s o
-storing-none sh c d t s o z x = absurd (omega (arith, x, z, few-of t (o.sends (Dir d))))
+storing-none sh c d t s o z x = absurd (omega (arith, few-of))
 
 -- a Commit counts something
 abbrev count_of : Msg → ℕ
@@ -312,13 +311,13 @@ of-count t m = grind nats
 
 commit-some : (t : ℕ) (ms : List Msg) → 1 ≤ among (Commits t) ms → (n : ℕ) × (1 ≤ among (CommitOf t n) ms)
 unfolding among
-commit-some t [] x = absurd (omega (arith, x))
+commit-some t [] x = absurd (omega arith)
 commit-some t (m ∷ ms) x = go (passes (Commits t) m) refl (commit-some t ms)
   where
     go : (b : Bool) → passes (Commits t) m ≡ b → (1 ≤ among (Commits t) ms → (n : ℕ) × (1 ≤ among (CommitOf t n) ms))
         → (n : ℕ) × (1 ≤ num (passes (CommitOf t n) m) + among (CommitOf t n) ms)
-    go true q f = let o : num (passes (Commits t) m) ≡ 1 = ap num q in (count_of m, omega (arith, o, of-count t m))
-    go false q f = let o : num (passes (Commits t) m) ≡ 0 = ap num q in let r = f (omega (arith, o, x)) in (r.0, omega (arith, r.1))
+    go true q f = let o : num (passes (Commits t) m) ≡ 1 = ap num q in (count_of m, omega (arith, of-count))
+    go false q f = let o : num (passes (Commits t) m) ≡ 0 = ap num q in let r = f (omega arith) in (r.0, omega arith)
 
 -- a core whose directories are all ready has marked what its stores name
 commit-writes : (sh : Shape) (c : Cache) (u d t : ℕ) → 1 ≤ among (Commits t) (commit_sends sh c u (Dir d))
@@ -337,11 +336,7 @@ storing-ready sh c d t u s ph h x = record {
   stored = sym (stored-any sh d s.stores (λ l. d == home sh l && is_modified s.cache l) line) ∙ commit-writes sh s.cache u d t x;
   marks = marks;
   right =
-      λ l. omega (
-        arith,
-        few-masked t l (stored_mask sh d s.stores l) (commit_sends sh s.cache u (Dir d)),
-        (told-commit sh s.cache u d t l).1,
-      );
+      λ l. omega (arith, few-masked, (told-commit sh s.cache u d t l).1);
   before = λ l. before l (stored-cases sh d s.stores l);
 }
   where
@@ -362,13 +357,13 @@ storing-ready sh c d t u s ph h x = record {
         → among (MarkOf t l) (commit_sends sh s.cache u (Dir d)) + num
         (has_marked s.phase && (not (s.owing d) && (nat_lt l (lines sh) && (d == home sh l && is_modified s.cache l)))) ≡ num
         (nat_lt 0 (stored_mask sh d s.stores l))
-    marks l = rw (ph, owing) (omega (arith, (told-commit sh s.cache u d t l).1, line l))
+    marks l = rw (ph, owing) (omega (arith, (told-commit sh s.cache u d t l).1, line))
 
     before : (l : ℕ) → (stored_mask sh d s.stores l ≡ stores_in sh.base s.stores l) ⊎ (stored_mask sh d s.stores l ≡ 0)
         → (num (has_marked s.phase && (not (s.owing d) && (nat_lt l (lines sh) && (d == home sh l && is_modified s.cache l)))) ≡ 0)
         ⊎ (stored_mask sh d s.stores l ≡ modified_mask s.cache l)
     before l (inl e) = inr (e ∙ modified-stored sh.base s.cache s.stores l (unspilled sh s.cache s.spilled s.stores (rw ph at h.words)))
-    before l (inr e) = let z : num (nat_lt 0 (stored_mask sh d s.stores l)) ≡ 0 = rw e in inl (omega (arith, marks l, z))
+    before l (inr e) = let z : num (nat_lt 0 (stored_mask sh d s.stores l)) ≡ 0 = rw e in inl (omega (arith, marks l))
 
 -- a core alone marks what its stores name
 alone-masked : (sh : Shape) (c : Cache) (sp : Spilled) (u d t l : ℕ)
@@ -396,7 +391,7 @@ storing-alone {sh} c d t u s r ph cm st se h x = record {
   held = mine s.phase (has-solo ph) same;
   stored = rw st (sym (stored-any sh d s.stores (λ l. d == home sh l && is_written s.cache s.spilled l) line)
       ∙ alone-writes sh s.cache s.spilled u d t (rw se at x));
-  marks = λ l. rw (se, st) (omega (arith, marks l, nothing l));
+  marks = λ l. rw (se, st) (omega (arith, marks, nothing));
   right = λ l. rw (se, st) (right l (stored-cases sh d s.stores l));
   before = λ l. inl (nothing l);
 }
@@ -418,28 +413,28 @@ storing-alone {sh} c d t u s r ph cm st se h x = record {
     line l = rw (written-line sh.base s.cache s.spilled s.stores l h.words.named) (stored-line sh d s.stores l)
 
     marks : (l : ℕ) → among (MarkOf t l) all ≡ num (nat_lt 0 (stored_mask sh d s.stores l))
-    marks l = omega (arith, (is-alone sh s.cache s.spilled u d t sent.0 sent.1).2 l, line l)
+    marks l = omega (arith, (is-alone sh s.cache s.spilled u d t sent.0 sent.1).2 l, line)
 
     right : (l : ℕ) → (stored_mask sh d s.stores l ≡ stores_in sh.base s.stores l) ⊎ (stored_mask sh d s.stores l ≡ 0)
         → among (MarkMask t l (stored_mask sh d s.stores l)) all ≡ 0
     right l (inl e) = rw (e ∙ written-stored sh.base s.cache s.spilled s.stores l h.words.named) (alone-masked sh s.cache s.spilled u d t l)
     right l (inr e) = let z : num (nat_lt 0 (stored_mask sh d s.stores l)) ≡ 0 = rw e in
-        omega (arith, few-masked t l (stored_mask sh d s.stores l) all, marks l, z)
+        omega (arith, few-masked, marks)
 
 pub storing-exec : {sh : Shape} (p : Program) (c d t : ℕ) {s : CoreState} → OneCore sh s
-    → IfSome (core_exec sh p c s) (λ o. StoresAll sh c d t s o)
+    → IfSome (core_exec sh p c s) (StoresAll sh c d t s)
 unfolding passes solo_commit
-storing-exec {sh} p c d t {s} h = each-exec sh p c s (λ o. StoresAll sh c d t s o) go
+storing-exec {sh} p c d t {s} h = each-exec sh p c s (StoresAll sh c d t s) go
   where
     go : (x : Did sh p c s) → StoresAll sh c d t s (out x)
     go (Ends_alone u l o f q i) = storing-alone c d t u s (after_end s l o) q refl refl refl h
     go (Commits_now u e) = storing-ready sh c d t u s e h
     go x = storing-none sh c d t s (out x) (quiet sh s AnyCommit (said x) (λ y. refl) d)
 
-pub storing-evict : (sh : Shape) (x y c d t : ℕ) (s : CoreState) → IfSome (core_evict sh x y s) (λ o. StoresAll sh c d t s o)
+pub storing-evict : (sh : Shape) (x y c d t : ℕ) (s : CoreState) → IfSome (core_evict sh x y s) (StoresAll sh c d t s)
 unfolding passes
-storing-evict sh x y c d t s = each-evict sh x y s (λ o. StoresAll sh c d t s o)
+storing-evict sh x y c d t s = each-evict sh x y s (StoresAll sh c d t s)
     (λ k q u z. storing-none sh c d t s (emptied sh x y k s) (quiet sh s AnyCommit (Empties k) (λ y. refl) d))
 
-pub storing-back : (sh : Shape) (e c d t : ℕ) (s : CoreState) (m : Msg) → IfSome (from_dir sh e s m) (λ o. StoresAll sh c d t s o)
+pub storing-back : (sh : Shape) (e c d t : ℕ) (s : CoreState) (m : Msg) → IfSome (from_dir sh e s m) (StoresAll sh c d t s)
 storing-back sh e c d t s m = each-back sh e s (λ m o. StoresAll sh c d t s o) (λ y. storing-none sh c d t s (heard y) (heard-free y d)) m

@@ -28,10 +28,10 @@ one-mark p f u t l (suc n) = rw (flat_map-append, among-append, one-mark p f u t
 pub marks-only : (k : Kind) (p : ℕ → Bool) (f : ℕ → ℕ) (u n : ℕ) → ((l x : ℕ) → num (passes k (Mark l x u)) ≡ 0)
     → among k (flat_map (λ l. Mark l (f l) u ∷ []) (those p n)) ≡ 0
 unfolding among
-marks-only k p f u n h = among-flat_map_none k (λ l. Mark l (f l) u ∷ []) (λ l. omega (arith, h l (f l))) (those p n)
+marks-only k p f u n h = among-flat_map_none k (λ l. Mark l (f l) u ∷ []) (λ l. omega (arith, h)) (those p n)
 
 -- none is empty, where f is no mask of nothing
-pub full-marks : (p : ℕ → Bool) (f : ℕ → ℕ) (u n : ℕ) → ((l : ℕ) → p l ≡ true → 0 < f l)
+full-marks : (p : ℕ → Bool) (f : ℕ → ℕ) (u n : ℕ) → ((l : ℕ) → p l ≡ true → 0 < f l)
     → among EmptyMarks (flat_map (λ k. Mark k (f k) u ∷ []) (those p n)) ≡ 0
 unfolding among passes those
 full-marks p f u zero h = refl
@@ -107,7 +107,7 @@ solo-mark sh c sp u d t l = go (nat_lt d sh.dirs) (solo_writes_at sh c sp d)
     go false w = omega arith
     go true false = rw (among-append, backs) (omega arith)
     go true true = rw (among-append, among-append, backs, one-mark p (written_mask c sp) u t l (lines sh))
-        (omega (arith, few (nat_lt l (lines sh) && p l)))
+        (omega (arith, few))
 
 pub solo-full : (sh : Shape) (c : Cache) (sp : Spilled) (u d : ℕ) → among EmptyMarks (solo_sends sh c sp u (Dir d)) ≡ 0
 unfolding solo_sends solo_marks_or_skip solo_write_backs among passes
@@ -149,7 +149,7 @@ solo-owned sh c sp u d t =
 
     backs : (k : Kind) → ((x m : ℕ) (ws : List ℕ) → num (passes k (WriteBack x m ws u)) ≡ 0) → among k (solo_write_backs sh sp u d) ≡ 0
     backs k e = among-flat_map_none k (λ x. WriteBack x (spilled_mask sp x) (spilled_words sp x) u ∷ [])
-        (λ x. omega (arith, e x (spilled_mask sp x) (spilled_words sp x))) (those (λ x. d == home sh x && holds sp x) (lines sh))
+        (λ x. omega (arith, e)) (those (λ x. d == home sh x && holds sp x) (lines sh))
 
     sends : (a w : Bool) → List Msg
     sends a w = if a then (if w then flat_map (λ k. Mark k (written_mask c sp k) u ∷ []) (those p (lines sh))

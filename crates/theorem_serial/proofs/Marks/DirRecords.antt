@@ -97,7 +97,7 @@ marks-count s {new} t l (Clears e f g) k w = rw (f l, g t l) (go (cases_eq s.ser
     go : {A : Type 0} → (s.serving.serving ≡ t) ⊎ (s.serving.serving ≢ t)
         → (num (new.serving.serving == t && nat_lt 0 0) ≡ num (s.serving.serving == t && has_mark s.lines l) + 0)
         ⊎ ((t < new.serving.serving) ⊎ A)
-    go (inl p) = inr (inl (omega (arith, e, p)))
+    go (inl p) = inr (inl (omega arith))
     go (inr p) = inl (grind nats)
 marks-count s t l (Skipped e f) k w = inl (rw (f l, k e, e) (grind arith))
 marks-count s t l (Marks a i e g f) k w = rw (g, f l, e) (go (rw e at w) (l == a) refl (s.serving.serving == t) refl)
@@ -223,7 +223,7 @@ dir-shares sh s c m = go (outcome sh s c m)
         → ((l j : ℕ) → among (FillOf l) (sends (Core j)) ≡ 0) → (CountsMarked sh s m → ⊥) → Shares sh s c m new sends
     same-shares h z n = record {
       kept = λ l j e. inl (rw (h l j) e);
-      filled = λ l j x. absurd (omega (arith, x, z l j));
+      filled = λ l j x. absurd (omega (arith, z));
       taken = λ l q e. absurd (n q);
     }
 
@@ -234,19 +234,19 @@ dir-shares sh s c m = go (outcome sh s c m)
     go (AsksOwner m l o (ToMark k) e) = same-shares (λ x j. refl) (λ x j. none-to (FillOf x) o j (DataReq l) refl) (λ q. absurd (cc))
     go (TakesProbe t h) = same-shares (λ x j. refl) (λ x j. none-to (FillOf x) c j (ProbeReply t s.serving.serving) refl) (λ q. absurd (cc))
     go (TakesLoad l k h e o) = record {
-      kept = λ x j q. inl (grind (nats, q));
+      kept = λ x j q. inl (grind nats);
       filled = λ x j q. let n : 1 ≤ num (j == c && l == x) = rw (among-to (FillOf x) c j (Fill l (home_words s l))) at q in
-          (grind nats, grind (nats, e));
+          (grind nats, grind nats);
       taken = λ x q r. absurd (cc);
     }
     go (TakesCommit b e) = record {
-      kept = λ x j q. inl (grind (nats, q));
-      filled = λ x j q. absurd (omega (arith, q, none-invalidations (FillOf x) (λ l k t. refl) sh s.lines c s.serving.serving j));
+      kept = λ x j q. inl (grind nats);
+      filled = λ x j q. absurd (omega (arith, none-invalidations (FillOf x) (λ l k t. refl) sh s.lines c s.serving.serving j));
       taken = λ x q r. rw (r, eq-self c);
     }
     go (TakesAck l k b h e) = record {
-      kept = λ x j q. grind (nats, q);
-      filled = λ x j q. absurd (omega (arith, q, none x j));
+      kept = λ x j q. grind nats;
+      filled = λ x j q. absurd (omega (arith, none));
       taken = λ x q r. absurd (cc);
     }
     go (TakesCopy m l k ws g y e o) = same-shares (λ x j. refl) none (λ q. absurd (not_counts q (y.alike AnyCommit)))

@@ -17,8 +17,8 @@ use proofs.Tids.{inside_from}
 rising-at : (last k : ℕ) (cs : List Noted) (x : Noted) → IsRising last cs → k < length cs → slice_index_or cs k x ≡ x → last < x.tid.0
 unfolding IsRising
 rising-at last k [] x h l e = absurd (omega arith)
-rising-at last zero (c ∷ cs) x h l e = let q : c.tid.0 ≡ x.tid.0 = ap (λ y. y.tid.0) e in omega (arith, h.0)
-rising-at last (suc k) (c ∷ cs) x h l e = omega (arith, h.0, rising-at c.tid.0 k cs x h.1 (omega arith) e)
+rising-at last zero (c ∷ cs) x h l e = let q : c.tid.0 ≡ x.tid.0 = ap (λ y. y.tid.0) e in omega arith
+rising-at last (suc k) (c ∷ cs) x h l e = omega (arith, rising-at c.tid.0 k cs x h.1 (omega arith) e)
 
 same-at : (last i j : ℕ) (cs : List Noted) (x y : Noted) → IsRising last cs → x.tid.0 ≡ y.tid.0 → i < length cs → slice_index_or cs i x ≡ x
     → j < length cs → slice_index_or cs j y ≡ y → x ≡ y
@@ -26,9 +26,9 @@ unfolding IsRising
 same-at last i j [] x y h t a p b q = absurd (omega arith)
 same-at last zero zero (c ∷ cs) x y h t a p b q = sym p ∙ q
 same-at last zero (suc j) (c ∷ cs) x y h t a p b q = let r : c.tid.0 ≡ x.tid.0 = ap (λ z. z.tid.0) p in
-    absurd (omega (arith, t, rising-at c.tid.0 j cs y h.1 (omega arith) q))
+    absurd (omega (arith, rising-at c.tid.0 j cs y h.1 (omega arith) q))
 same-at last (suc i) zero (c ∷ cs) x y h t a p b q = let r : c.tid.0 ≡ y.tid.0 = ap (λ z. z.tid.0) q in
-    absurd (omega (arith, t, rising-at c.tid.0 i cs x h.1 (omega arith) p))
+    absurd (omega (arith, rising-at c.tid.0 i cs x h.1 (omega arith) p))
 same-at last (suc i) (suc j) (c ∷ cs) x y h t a p b q = same-at c.tid.0 i j cs x y h.1 t (omega arith) p (omega arith) q
 
 pub same-commit : (cs : List Noted) (x y : Noted) → IsRising 0 cs → Contains cs x → Contains cs y → x.tid.0 ≡ y.tid.0 → x ≡ y
@@ -59,7 +59,7 @@ served-marks {sh} w m q = record {
     granted : (d l : ℕ) → has_mark (w.dirs d).lines l ≡ true → (tid_at w d < w.next) ⊎ (w.next ≤ tid_at w d) → tid_at w d < w.next
     granted d l h (inl x) = x
     granted d l h (inr x) = let n : num (nat_le w.next (tid_at w d)) ≡ 1 = grind nats in
-        absurd (omega (arith, marked-one l (pair w 0 d) h, (m 0 d (tid_at w d) l).fresh (omega (arith, n))))
+        absurd (omega (arith, marked-one l (pair w 0 d) h, (m 0 d (tid_at w d) l).fresh (omega arith)))
 
 -- the commits of the list
 one-any : (t : ℕ) (m : Msg) → num (passes (Commits t) m) ≤ num (passes Any m)
@@ -81,7 +81,7 @@ commits-marks sh gs h k = record { stored = stored; counted = counted; sent = se
 
     inside : (x : Noted) (d : ℕ) → 1 ≤ live (Commits x.tid.0) (to_dir w x.core.0 d) → x.core.0 < sh.cores
     inside x d o = inside_from sh x.core.0 (live Any (to_dir w x.core.0 d)) (k.kept.told.tids.inside x.core.0 d).out
-        (omega (arith, o, few-any x.tid.0 (to_dir w x.core.0 d)))
+        (omega (arith, few-any))
 
     sent : (x : Noted) (d l : ℕ) → Contains h.commits x → d < sh.dirs → 1 ≤ live (Commits x.tid.0) (to_dir w x.core.0 d)
         → MarkedWith x.tid.0 l (stored_mask sh d x.stores l) (pair w x.core.0 d)
@@ -99,7 +99,7 @@ commits-marks sh gs h k = record { stored = stored; counted = counted; sent = se
     counted : (x : Noted) (d n : ℕ) → Contains h.commits x → d < sh.dirs → 1 ≤ live (CommitOf x.tid.0 n) (to_dir w x.core.0 d)
         → count_below (λ l. nat_lt 0 (stored_mask sh d x.stores l)) (lines sh) ≡ n
     counted x d n c dl o =
-        let z : 1 ≤ live (Commits x.tid.0) (to_dir w x.core.0 d) = omega (arith, o, few-commits x.tid.0 n (to_dir w x.core.0 d)) in
+        let z : 1 ≤ live (Commits x.tid.0) (to_dir w x.core.0 d) = omega (arith, few-commits) in
         sym (total-num (λ l. nat_lt 0 (stored_mask sh d x.stores l)) (lines sh))
         ∙ total-same (λ l. num (nat_lt 0 (stored_mask sh d x.stores l))) (λ l. marks_of x.tid.0 l (pair w x.core.0 d)) (lines sh)
         (λ l b. sym (sent x d l c dl z).one) ∙ ((k.counted x.core.0 d x.tid.0 (inside x d z)).counted n dl o).sum
@@ -109,7 +109,7 @@ commits-marks sh gs h k = record { stored = stored; counted = counted; sent = se
         → (w.dirs d).lines.mark l ≡ stored_mask sh d x.stores l
     taken x d l c dl e o =
         let n : ℕ = count_below (has_mark (w.dirs d).lines) (lines sh) in
-        let z : 1 ≤ live (Commits x.tid.0) (to_dir w x.core.0 d) = omega (arith, o, few-commits x.tid.0 n (to_dir w x.core.0 d)) in
+        let z : 1 ≤ live (Commits x.tid.0) (to_dir w x.core.0 d) = omega (arith, few-commits) in
         let counts : CountsMarks sh n x.tid.0 (pair w x.core.0 d) = (k.counted x.core.0 d x.tid.0 (inside x d z)).counted n dl o in
         taken-marks l (pair w x.core.0 d) (none-away sh l (pair w x.core.0 d) (rw e counts)) (rw e (sent x d l c dl z))
 
@@ -123,10 +123,8 @@ commits-marks sh gs h k = record { stored = stored; counted = counted; sent = se
 -- along every run
 from_all : (P : Shape → List Noted → World → Type 0)
     → ((sh : Shape) (gs : List Grant) (h : History) → KeptAll sh gs h → P sh h.commits h.world) → AlwaysSince P
-from_all P f sh p entries ram es = IfSome_then (run sh p (start entries ram) es) (run-all sh p entries ram es) (f sh gs)
-  where
-    gs : List Grant
-    gs = grants_from sh p es (first_state entries ram)
+from_all P f sh p entries ram es = IfSome_then (run sh p (start entries ram) es) (run-all sh p entries ram es)
+    (f sh (grants_from sh p es (first_state entries ram)))
 
 pub masks_stored : Always KeptMasks
 masks_stored = from_all (λ sh cs w. KeptMasks sh w) (λ sh gs h k. k.masks)

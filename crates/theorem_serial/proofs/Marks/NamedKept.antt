@@ -1,14 +1,14 @@
 -- Every event keeps that invalidations in flight name marked lines with their masks, once each.
 use Rattle.theorem_serial.proofs
-use proofs.Names.{eq-self, Contains-append_cases, flat_map-append, SparesCommitter, is_invalidated, if◌then◌else◌, invalidations}
-use proofs.Names.{after_answer, dir_deliver, KeptCounted, grant_taken, ProbeReply, core_evict, core_moves, core_takes, after_move}
-use proofs.Names.{back_taken, append-nil, granted_by, home_words, CoreState, core_exec, dir_takes, KeptNamed, out_taken, flat_map, cases_eq}
-use proofs.Names.{has_mark, DirState, from_dir, InvsAway, Resolves, cases_lt, KeptTold, Contains, DataReq, invs_to, InvMask, Program}
-use proofs.Names.{NamedOf, handled, IfSome, nat_lt, InvAck, Answer, passes, Option, MarkOf, false, arith, those, Lines, Shape, lines, Waits}
-use proofs.Names.{Drops, Takes, InvOf, AckOf, among, subst, Local, Event, World, start, Sends, grant, share, Grant, zero, Bool, true, List}
-use proofs.Names.{◌==◌, ◌&&◌, Some, None, refl, Core, Fill, Mark, home, Link, Asks, Invs, Acks, live, step, Pair, pair, Kept, ◌++◌, suc}
-use proofs.Names.{◌+◌, ◌≡◌, ◌≤◌, ◌∷◌, ◌⊎◌, inl, inr, num, Dir, Msg, Inv, Out, ◌<◌, set, sym, ◌∙◌, due, Any, [], to, ap, ℕ, nats, tid_at}
-use proofs.Names.{to_dir, to_core, FromCore, FromDir, grant_to, ◌≢◌}
+use proofs.Names.{got, eq-self, Contains-append_cases, flat_map-append, SparesCommitter, is_invalidated, if◌then◌else◌, invalidations}
+use proofs.Names.{after_answer, dir_deliver, KeptCounted, grant_taken, ProbeReply, core_moves, core_takes, after_move, back_taken}
+use proofs.Names.{append-nil, granted_by, home_words, CoreState, dir_takes, KeptNamed, out_taken, flat_map, cases_eq, has_mark, DirState}
+use proofs.Names.{from_dir, InvsAway, Resolves, cases_lt, KeptTold, Contains, DataReq, invs_to, InvMask, Program, NamedOf, handled, IfSome}
+use proofs.Names.{nat_lt, InvAck, Answer, passes, MarkOf, false, arith, those, Lines, Shape, lines, Waits, Drops, Takes, InvOf, AckOf}
+use proofs.Names.{among, subst, Local, Event, World, start, Sends, grant, share, Grant, zero, Bool, true, List, ◌==◌, ◌&&◌, Some, None}
+use proofs.Names.{refl, Core, Fill, Mark, home, Link, Asks, Invs, Acks, live, step, Pair, pair, Kept, ◌++◌, suc, ◌+◌, ◌≡◌, ◌≤◌, ◌∷◌, ◌⊎◌}
+use proofs.Names.{inl, inr, num, Dir, Msg, Inv, Out, ◌<◌, set, sym, ◌∙◌, due, Any, [], ap, ℕ, nats, tid_at, to_dir, to_core, FromCore}
+use proofs.Names.{FromDir, grant_to, ◌≢◌}
 use proofs.Counts.{Outcome, Waiting, Spent, AsksOwner, TakesProbe, TakesLoad, TakesCommit, outcome, none-to, among-none, among-append}
 use proofs.Counts.{among-flat_map_none, live-sends, live-takes, total-le, live-fewer, none-taken, among-fewer, dir-own, dir-other}
 use proofs.Counts.{pairs_move, pairs_grant, pairs_back, pairs_dir, pairs_asks, pairs_vendor, OfAnswer, step_cases, asks-own}
@@ -48,13 +48,7 @@ acks-of : {sh : Shape} (k l d : ℕ) (s : CoreState) {o : Out} → Invalidated s
     → among (AckOf l) (o.sends (Dir d)) ≤ num ((d == home sh k) && (k == l))
 unfolding among passes
 acks-of {sh} k l d s i =
-    rw (i.dirs d) (omega (
-      arith,
-      among-append (AckOf l) (i.sends (Dir d)) (to (Dir (home sh k)) (InvAck k i.kept ∷ []) (Dir d)),
-      (clean-hurt sh d i.hurt).acks,
-      (lines-among l 0 (i.sends (Dir d))).2,
-      one (d == home sh k),
-    ))
+    rw (i.dirs d) (omega (arith, among-append, (clean-hurt sh d i.hurt).acks, (lines-among l 0 (i.sends (Dir d))).2, one))
   where
     one : (b : Bool) → among (AckOf l) (if b then InvAck k i.kept ∷ [] else []) ≤ num (b && (k == l))
     one true = omega arith
@@ -65,7 +59,7 @@ unfolding passes
 at-home sh e k m u h = grind nats
 
 none-of : (l : ℕ) {d : ℕ} {sh : Shape} {ms : List Msg} (n : ℕ) → Clean sh d ms → among (AckOf l) ms ≤ n
-none-of l {ms} n c = omega (arith, c.acks, (lines-among l 0 ms).2)
+none-of l {ms} n c = omega (arith, (lines-among l 0 ms).2)
 
 pub acks-line : (sh : Shape) (e d l : ℕ) (s : CoreState) (m : Msg) → passes (InvsAway sh.dirs e) m ≡ false
     → IfSome (from_dir sh e s m) (λ o. among (AckOf l) (o.sends (Dir d)) ≤ num ((d == e) && passes (InvOf l) m))
@@ -84,7 +78,7 @@ one-inv p f u l n = exact n (one n)
   where
     exact : (n : ℕ) → among (InvOf l) (flat_map (λ k. Inv k (f k) u ∷ []) (those p n)) ≡ num (nat_lt l n && p l)
         → among (InvOf l) (flat_map (λ k. Inv k (f k) u ∷ []) (those p n)) ≤ num (p l)
-    exact n e = let z : num (nat_lt l n && p l) ≤ num (p l) = grind nats in omega (arith, e, z)
+    exact n e = let z : num (nat_lt l n && p l) ≤ num (p l) = grind nats in omega arith
 
     one : (n : ℕ) → among (InvOf l) (flat_map (λ k. Inv k (f k) u ∷ []) (those p n)) ≡ num (nat_lt l n && p l)
     one zero = grind nats
@@ -107,7 +101,7 @@ names-invs : (sh : Shape) (ls : Lines) (c u j : ℕ) → Names ls (invalidations
 unfolding invalidations invs_to among is_invalidated
 names-invs sh ls c u j l =
     let marked : num (is_invalidated sh ls c j l) ≤ num (has_mark ls l) = grind arith in (
-      omega (arith, one-inv (is_invalidated sh ls c j) ls.mark u l (lines sh), marked),
+      omega (arith, one-inv (is_invalidated sh ls c j) ls.mark u l (lines sh)),
       among-flat_map_none (InvMask l (ls.mark l))
           (λ k. Inv k (ls.mark k) u ∷ []) (λ k. omega (arith, own-mask ls.mark u l k)) (those (is_invalidated sh ls c j) (lines sh)),
     )
@@ -117,7 +111,7 @@ NamesBy s m (Asks new sends) = Quiet sends
 NamesBy s m (Takes new sends) = Quiet sends ⊎ ((passes (Resolves s.serving.serving) m ≡ true) × ((j : ℕ) → Names s.lines (sends (Core j))))
 NamesBy s m _ = Unit {0}
 
-pub dir-names : (sh : Shape) (s : DirState) (c : ℕ) (m : Msg) → NamesBy s m (dir_deliver sh s c m)
+dir-names : (sh : Shape) (s : DirState) (c : ℕ) (m : Msg) → NamesBy s m (dir_deliver sh s c m)
 unfolding passes
 dir-names sh s c m = go (outcome sh s c m)
   where
@@ -136,12 +130,12 @@ named-moved : {l : ℕ} (d got : ℕ) {v : Pair} (o : Out) (k : Link) → among 
     → live (InvMask l (v.dir.lines.mark l)) k ≤ live (InvMask l (v.dir.lines.mark l)) v.back → NamedOf l v
     → NamedOf l (after_move (record v { back = k }) o d)
 named-moved {l} d got {v} o k a b m h = record {
-  one = omega (arith, a, b, h.one, live-sends (AckOf l) v.out (o.sends (Dir d)));
-  mask = omega (arith, m, h.mask);
+  one = omega (arith, live-sends);
+  mask = omega arith;
 }
 
 named-clean : {l d : ℕ} {sh : Shape} (v : Pair) (o : Out) → Clean sh d (o.sends (Dir d)) → NamedOf l v → NamedOf l (after_move v o d)
-named-clean {l} {d} v o c h = named-moved d 0 o v.back (omega (arith, c.acks, (lines-among l 0 (o.sends (Dir d))).2)) (omega arith)
+named-clean {l} {d} v o c h = named-moved d 0 o v.back (omega (arith, (lines-among l 0 (o.sends (Dir d))).2)) (omega arith)
     (omega arith) h
 
 named-granted : (l d k : ℕ) {sh : Shape} {v : Pair} (o : Out) → Clean sh d (o.sends (Dir d)) → NamedOf l v
@@ -153,8 +147,8 @@ named-granted l d k {v} o c h = named-clean (grant_taken v k) o c (record { one 
 -- nothing is in flight any more
 named-none : (l : ℕ) (v : Pair) → live Invs v.back ≡ 0 → live Acks v.out ≡ 0 → NamedOf l v
 named-none l v a b = let r = lines-live l (v.dir.lines.mark l) v.back in let s = lines-live l 0 v.out in record {
-  one = omega (arith, r.0, s.2, a, b);
-  mask = omega (arith, r.1, a);
+  one = omega arith;
+  mask = omega arith;
 }
 
 has-same : {a b : ℕ} → a ≡ b → num (nat_lt 0 a) ≡ num (nat_lt 0 b)
@@ -164,8 +158,8 @@ has-same e = rw e
 named-quiet : {l : ℕ} {v : Pair} (s : DirState) (ms : List Msg) (k : Link) → s.lines.mark l ≡ v.dir.lines.mark l → among Invs ms ≡ 0
     → live (AckOf l) k ≤ live (AckOf l) v.out → NamedOf l v → NamedOf l (after_answer (record v { out = k }) s ms)
 named-quiet {l} {v} s ms k e q a h = record {
-  one = omega (arith, h.one, a, q, (lines-among l 0 ms).0, live-sends (InvOf l) v.back ms, has-same e);
-  mask = rw e (omega (arith, h.mask, q, (lines-among l (v.dir.lines.mark l) ms).1, live-sends (InvMask l (v.dir.lines.mark l)) v.back ms));
+  one = omega (arith, (lines-among l 0 ms).0, live-sends, has-same e);
+  mask = rw e (omega (arith, (lines-among l (v.dir.lines.mark l) ms).1, live-sends));
 }
 
 -- the marks stay, and the first invalidations go out
@@ -173,25 +167,16 @@ named-first : (l : ℕ) (v : Pair) (s : DirState) (ms : List Msg) (k : Link) →
     → live Invs v.back ≡ 0 → live Acks k ≡ 0 → NamedOf l (after_answer (record v { out = k }) s ms)
 named-first l v s ms k e n a b = record {
   one =
-      omega (
-        arith,
-        a,
-        b,
-        (n l).0,
-        (lines-live l 0 v.back).0,
-        (lines-live l 0 k).2,
-        live-sends (InvOf l) v.back ms,
-        has-same e,
-      );
+      omega (arith, (n l).0, (lines-live l 0 v.back).0, (lines-live l 0 k).2, live-sends, has-same e);
   mask =
-      rw e (omega (arith, a, (n l).1, (lines-live l (v.dir.lines.mark l) v.back).1, live-sends (InvMask l (v.dir.lines.mark l)) v.back ms));
+      rw e (omega (arith, (n l).1, (lines-live l (v.dir.lines.mark l) v.back).1, live-sends));
 }
 
 -- a directory that is owed nothing has nothing in flight
 none-due : {sh : Shape} {w : World} (j d : ℕ) → KeptTold sh w → j < sh.cores → (pair w j d).dir.owed ≡ 0
     → live Invs (pair w j d).back + live Acks (pair w j d).out ≡ 0
 unfolding share due pair
-none-due {sh} {w} j d k l z = omega (arith, z, k.owed.owed d, total-le (share due w d) sh.cores j l)
+none-due {sh} {w} j d k l z = omega (arith, k.owed.owed d, total-le (share due w d) sh.cores j l)
 
 no-commit-mark : (sh : Shape) (s : DirState) (l k t : ℕ) → CountsMarked sh s (Mark l k t) → ⊥
 no-commit-mark sh s l k t e = cc
@@ -202,14 +187,15 @@ pub marks-same : {sh : Shape} (w : World) (c d k : ℕ) {m : Msg} {s : DirState}
     → Marked (w.dirs d) m s → (l : ℕ) → s.lines.mark l ≡ (w.dirs d).lines.mark l
 unfolding pair
 marks-same w c d k h cl dl i x e o (Stays f g p) l = g l
-marks-same w c d k h cl dl i x e o (Clears f g p) l = absurd (omega (arith, f, e))
+marks-same w c d k h cl dl i x e o (Clears f g p) l = absurd (omega arith)
 marks-same w c d k h cl dl i x e o (Skipped f g) l = g l
 marks-same w c d k h cl dl i x e (inl o) (IsMarked a b q g f) l =
     absurd (omega (
       arith,
-      (h c d 0 cl).settled a dl (omega (arith, x, o)),
-      live-some (MarkOf (tid_at w d) a) (to_dir w c d) k (Mark a b (tid_at w d)) (i ∙ ap (λ y. Some y) q),
-      is-mark (tid_at w d) a b,
+      (h c d 0 cl).settled a dl (omega arith),
+      live-some (MarkOf (tid_at w d) a) (to_dir w c d) k
+          (Mark a b (tid_at w d)) (i ∙ ap (λ y. Some y) q),
+      is-mark,
     ))
 marks-same {sh} w c d k h cl dl i x e (inr o) (IsMarked a b q g f) l = absurd (no-commit-mark sh (w.dirs d) a b (tid_at w d) (sym q ∙ o))
 
@@ -236,9 +222,9 @@ dir-named {sh} {w} c {d} k {m} {s} {sends} b g h z cl i u p o n =
         → (s.owed ≡ 0 → live Invs (after_answer (record (pair w j d) { out = q }) s (sends (Core j))).back + live Acks q ≡ 0)
         → NamedOf l (after_answer (record (pair w j d) { out = q }) s (sends (Core j)))
     pairs j l jl dl q a f e = elim (cases_lt 0 s.owed) [
-      | inl x ↦ serves (omega (arith, x)) p.served
-      | inr x ↦ let t = e (omega (arith, x)) in named-none l (after_answer (record (pair w j d) { out = q }) s (sends (Core j)))
-          (omega (arith, t)) (omega (arith, t))
+      | inl x ↦ serves (omega arith) p.served
+      | inr x ↦ let t = e (omega arith) in named-none l (after_answer (record (pair w j d) { out = q }) s (sends (Core j)))
+          (omega arith) (omega arith)
     ]
       where
         first : (s.serving.serving ≡ tid_at w d) → 1 ≤ s.owed
@@ -248,13 +234,13 @@ dir-named {sh} {w} c {d} k {m} {s} {sends} b g h z cl i u p o n =
         first r x (inl y) = named-quiet s (sends (Core j)) q (marks-same w c d k g cl dl i x r o u l) (y j) a (h j d l jl dl)
         first r x (inr y) =
             let t = none-due j d b jl (unserved (w.dirs d) m (once_at c d k b i) y.0) in
-            named-first l (pair w j d) s (sends (Core j)) q (marks-same w c d k g cl dl i x r o u l) (y.1 j) (omega (arith, t))
-            (omega (arith, t, f))
+            named-first l (pair w j d) s (sends (Core j)) q (marks-same w c d k g cl dl i x r o u l) (y.1 j) (omega arith)
+            (omega arith)
 
         serves : {B : Type 0} → 1 ≤ s.owed → ((s.serving.serving ≡ tid_at w d) × B) ⊎ (s.owed ≡ 0)
             → NamedOf l (after_answer (record (pair w j d) { out = q }) s (sends (Core j)))
         serves x (inl y) = first y.0 x n
-        serves x (inr y) = absurd (omega (arith, x, y))
+        serves x (inr y) = absurd (omega arith)
 
 near-back : (k e d c l : ℕ) (sh : Shape) (w : World) (m : Msg) (o : Out) → FromDir w e c k m
     → among (AckOf l) (o.sends (Dir e)) ≤ num ((e == e) && passes (InvOf l) m) → NamedOf l (pair w c e)
@@ -278,11 +264,11 @@ pub step-named : {sh : Shape} (p : Program) {w : World} (e : Event) → Kept sh 
     → IfSome (step sh p w e) (λ o. KeptTold sh o.world → KeptNamed sh o.world)
 unfolding pair
 step-named {sh} p {w} e z g h = step_cases sh p w e (λ x o. KeptTold sh o.world → KeptNamed sh o.world)
-    (λ c l. moved c (core_exec sh p c (w.cores c)) (clean-exec sh p c (w.cores c)))
-    (λ c a b l. moved c (core_evict sh a b (w.cores c)) (clean-evict sh a b (w.cores c)))
+    (λ c o eq l. moved c o (got _ eq (clean-exec sh p c (w.cores c))))
+    (λ c a b o eq l. moved c o (got _ eq (clean-evict sh a b (w.cores c))))
     (λ c k u i n. pairs_grant P w c k (grant sh u (w.cores c))
     (λ d l x y. named-granted l d k (grant sh u (w.cores c)) (clean-grant sh u (w.cores c) d) (h c d l x y)) h)
-    (λ c d k m i. taken c d k m i (from_dir sh d (w.cores c) m) (λ b l. acks-line sh d b l (w.cores c) m (passed-away c d k z.told i)))
+    (λ c d k m o eq i. taken c d k m i o (λ b l. got _ eq (acks-line sh d b l (w.cores c) m (passed-away c d k z.told i))))
     (λ c d k m i. answered c d k i (core_of_out c d k z.told.tids i) (dir_deliver sh (w.dirs d) c m) (dir-marked sh (w.dirs d) c m)
     (dir-owes sh (w.dirs d) c m)
     (dir-due sh d (w.dirs d) c m (once_at c d k z.told i) (z.told.owed.at_home c d).marked (marks_home c d k z.told.owed i)
@@ -293,16 +279,13 @@ step-named {sh} p {w} e z g h = step_cases sh p w e (λ x o. KeptTold sh o.world
     P : ℕ → ℕ → Pair → Type 0
     P c d v = (l : ℕ) → c < sh.cores → d < sh.dirs → NamedOf l v
 
-    moved : (c : ℕ) (q : Option Out) → IfSome q (λ o. CleanOut sh o)
-        → IfSome q (λ o. KeptTold sh (core_moves w c o) → KeptNamed sh (core_moves w c o))
-    moved c None u = tt
-    moved c (Some o) u = λ n. pairs_move P w c o (λ d l x y. named-clean (pair w c d) o (u d) (h c d l x y)) h
+    moved : (c : ℕ) (o : Out) → CleanOut sh o → KeptTold sh (core_moves w c o) → KeptNamed sh (core_moves w c o)
+    moved c o u = λ n. pairs_move P w c o (λ d l x y. named-clean (pair w c d) o (u d) (h c d l x y)) h
 
-    taken : (c d k : ℕ) (m : Msg) → FromDir w d c k m → (q : Option Out)
-        → ((b l : ℕ) → IfSome q (λ o. among (AckOf l) (o.sends (Dir b)) ≤ num ((b == d) && passes (InvOf l) m)))
-        → IfSome q (λ o. KeptTold sh (core_takes w (Dir d) c k o) → KeptNamed sh (core_takes w (Dir d) c k o))
-    taken c d k m i None u = tt
-    taken c d k m i (Some o) u = λ n. pairs_back P w d c k o (λ l x y. near-back k d d c l sh w m o i (u d l) (h c d l x y))
+    taken : (c d k : ℕ) (m : Msg) → FromDir w d c k m → (o : Out)
+        → ((b l : ℕ) → among (AckOf l) (o.sends (Dir b)) ≤ num ((b == d) && passes (InvOf l) m)) → KeptTold sh (core_takes w (Dir d) c k o)
+        → KeptNamed sh (core_takes w (Dir d) c k o)
+    taken c d k m i o u = λ n. pairs_back P w d c k o (λ l x y. near-back k d d c l sh w m o i (u d l) (h c d l x y))
         (λ b r l x y. away-back d b c l w m o r (u b l) (h c b l x y)) h
 
     answered : (c d k : ℕ) {m : Msg} → FromCore w c d k m → c < sh.cores → (b : Answer) → MarkedBy (w.dirs d) m b → OwesBy sh (w.dirs d) m b
@@ -349,7 +332,7 @@ next-unacked sh w j d k l e = elim (cases_eq (w.dirs d).owed 0) [
 unacked-answered : (sh : Shape) (gs : List Grant) (c d : ℕ) (v q : Pair) {B : Type 0}
     → ((q.dir.serving.serving ≡ v.dir.serving.serving) × B) ⊎ (q.dir.owed ≡ 0) → live Acks q.out ≤ live Acks v.out
     → (q.dir.owed ≡ 0 → live Acks q.out ≡ 0) → UnackedOf sh gs c d v → UnackedOf sh gs c d q
-unacked-answered sh gs c d v q (inl e) f z h l g = omega (arith, f, h l (rw e.0 at g))
+unacked-answered sh gs c d v q (inl e) f z h l g = omega (arith, h l (rw e.0 at g))
 unacked-answered sh gs c d v q (inr e) f z h l g = z e
 
 dir-unacked : {sh : Shape} (gs : List Grant) (w : World) (c : ℕ) {e : ℕ} (k : ℕ) {ack : ℕ} {m : Msg} {s : DirState} {sends : Sends}
@@ -367,16 +350,11 @@ pub step-unacked : {sh : Shape} (p : Program) {gs : List Grant} {w : World} (e :
     → KeptUnacked sh gs w → IfSome (step sh p w e) (λ o. KeptTold sh o.world → KeptUnacked sh (gs ++ granted_by w e) o.world)
 unfolding pair
 step-unacked {sh} p {gs} {w} e z y h = step_cases sh p w e (λ g o. KeptTold sh o.world → KeptUnacked sh (gs ++ g) o.world)
-    (λ c l. moved c (core_exec sh p c (w.cores c)) (clean-exec sh p c (w.cores c)))
-    (λ c a b l. moved c (core_evict sh a b (w.cores c)) (clean-evict sh a b (w.cores c))) (λ c k u i n. rw append-nil
+    (λ c o eq l. moved c o (got _ eq (clean-exec sh p c (w.cores c))))
+    (λ c a b o eq l. moved c o (got _ eq (clean-evict sh a b (w.cores c)))) (λ c k u i n. rw append-nil
     (pairs_grant P w c k (grant sh u (w.cores c))
-    (λ d l g. omega (
-      arith,
-      h c d l g,
-      (clean-grant sh u (w.cores c) d).acks,
-      live-sends Acks (to_dir w c d) ((grant sh u (w.cores c)).sends (Dir d)),
-    )) h))
-    (λ c d k m i. taken c d k m i (from_dir sh d (w.cores c) m) (back-due sh d (w.cores c) m (passed-away c d k z.told i)))
+    (λ d l g. omega (arith, h, (clean-grant sh u (w.cores c) d).acks, live-sends)) h))
+    (λ c d k m o eq i. taken c d k m i o (got _ eq (back-due sh d (w.cores c) m (passed-away c d k z.told i))))
     (λ c d k m i. answered c d k i (dir_deliver sh (w.dirs d) c m)
     (dir-due sh d (w.dirs d) c m (once_at c d k z.told i) (z.told.owed.at_home c d).marked (marks_home c d k z.told.owed i)
     (acks_owed c d k z.told.owed (core_of_out c d k z.told.tids i) i)))
@@ -394,25 +372,15 @@ step-unacked {sh} p {gs} {w} e z y h = step_cases sh p w e (λ g o. KeptTold sh 
         ⊎ Contains (one c) (grant_to (tid_at w d) j) → live Acks (to_dir w j d) ≡ 0
     more c j d l a = grind (nats, next-unacked, only-one)
 
-    moved : (c : ℕ) (x : Option Out) → IfSome x (λ o. CleanOut sh o)
-        → IfSome x (λ o. KeptTold sh (core_moves w c o) → KeptUnacked sh (gs ++ []) (core_moves w c o))
-    moved c None a = tt
-    moved c (Some o) a = λ n. rw append-nil (pairs_move P w c o
-        (λ d l g. omega (arith, h c d l g, (a d).acks, live-sends Acks (to_dir w c d) (o.sends (Dir d)))) h)
+    moved : (c : ℕ) (o : Out) → CleanOut sh o → KeptTold sh (core_moves w c o) → KeptUnacked sh (gs ++ []) (core_moves w c o)
+    moved c o a = λ n. rw append-nil (pairs_move P w c o
+        (λ d l g. omega (arith, h, (a d).acks, live-sends)) h)
 
-    taken : (c d k : ℕ) (m : Msg) → FromDir w d c k m → (x : Option Out) → IfSome x (λ o. BackDue sh d m o)
-        → IfSome x (λ o. KeptTold sh (core_takes w (Dir d) c k o) → KeptUnacked sh (gs ++ []) (core_takes w (Dir d) c k o))
-    taken c d k m i None a = tt
-    taken c d k m i (Some o) a = λ n. rw append-nil (pairs_back P w d c k o
-        (λ l g. omega (
-          arith,
-          h c d l g,
-          (y c d).own l g,
-          a.here,
-          live-takes Invs (to_core w d c) k m i,
-          live-sends Acks (to_dir w c d) (o.sends (Dir d)),
-        ))
-        (λ b q l g. omega (arith, h c b l g, a.away b q, live-sends Acks (to_dir w c b) (o.sends (Dir b)))) h)
+    taken : (c d k : ℕ) (m : Msg) → FromDir w d c k m → (o : Out) → BackDue sh d m o → KeptTold sh (core_takes w (Dir d) c k o)
+        → KeptUnacked sh (gs ++ []) (core_takes w (Dir d) c k o)
+    taken c d k m i o a = λ n. rw append-nil (pairs_back P w d c k o
+        (λ l g. omega (arith, h, (y c d).own l g, live-takes Invs (to_core w d c) k m i, live-sends))
+        (λ b q l g. omega (arith, h, a.away, live-sends)) h)
 
     answered : (c d k : ℕ) {m : Msg} → FromCore w c d k m → (a : Answer) → DueBy sh d (w.dirs d) (num (passes Acks m)) a
         → OfAnswer w c d k (λ v. KeptTold sh v → KeptUnacked sh (gs ++ []) v) a

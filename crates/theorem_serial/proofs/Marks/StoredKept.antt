@@ -1,26 +1,24 @@
 -- Every event keeps that a TID that commits has marked what its commit stored, also while acknowledgements of it are owed.
 use Rattle.theorem_serial.proofs
 use proofs.Names
-use Names.{num-most, after_other_grant, slice_index_or, if◌then◌else◌, modified_mask, insert_commit, SettledCommit, Contains, after_answer}
-use Names.{MarkedCommit, wrong_marks, grant_taken, stored_mask, count_below, dir_deliver, EmptyMarks, KeptCounted, after_grant, after_move}
-use Names.{MarkedWith, core_evict, core_moves, core_takes, KeptOwners, false, back_taken, KeptStored, writes_at, and_noted, AnyCommit}
-use Names.{dir_start, [], core_exec, dir_takes, KeptMarks, KeptMasks, KeptCores, cases_lt, has_mark, DirState, sent_all, Resolves, MarkMask}
-use Names.{marks_of, MaskedOf, StoredOf, from_dir, dir_asks, CommitOf, KeptTold, Commits, MarksOf, arith, Program, Option, length, nat_lt}
-use Names.{MarkOf, passes, IfSome, TidReq, Commit, Answer, Noted, Shape, among, ℕ, Grant, opens, subst, Local, Event, lines, World, start}
-use Names.{Sends, grant, Waits, Drops, Takes, zero, Bool, true, List, ◌++◌, Some, None, refl, Skip, Link, Kind, live, Pair, Core, Asks}
-use Names.{step, Acks, pair, Kept, skip, suc, ◌+◌, ◌≡◌, ◌<◌, ◌≤◌, ◌∷◌, ◌∙◌, ◌⊎◌, inl, inr, num, Dir, Msg, Out, set, sym, ap, nats, tid_at}
-use Names.{to_dir, FromCore, grant_to}
+use Names.{got, num-most, after_other_grant, slice_index_or, if◌then◌else◌, modified_mask, insert_commit, SettledCommit, Contains}
+use Names.{after_answer, MarkedCommit, wrong_marks, grant_taken, stored_mask, count_below, dir_deliver, EmptyMarks, KeptCounted}
+use Names.{after_grant, after_move, MarkedWith, core_moves, core_takes, KeptOwners, false, back_taken, KeptStored, writes_at, and_noted}
+use Names.{AnyCommit, dir_start, [], dir_takes, KeptMarks, KeptMasks, KeptCores, cases_lt, has_mark, DirState, sent_all, Resolves, MarkMask}
+use Names.{marks_of, MaskedOf, StoredOf, dir_asks, CommitOf, KeptTold, Commits, MarksOf, arith, Program, Option, length, nat_lt, MarkOf}
+use Names.{passes, IfSome, TidReq, Commit, Answer, Noted, Shape, among, ℕ, Grant, opens, subst, Local, Event, lines, World, start, Sends}
+use Names.{grant, Waits, Drops, Takes, zero, Bool, true, List, ◌++◌, Some, None, refl, Skip, Link, Kind, live, Pair, Core, Asks, step, Acks}
+use Names.{pair, Kept, skip, suc, ◌+◌, ◌≡◌, ◌<◌, ◌≤◌, ◌∷◌, ◌∙◌, ◌⊎◌, inl, inr, num, Dir, Msg, Out, set, sym, ap, nats, tid_at, to_dir}
+use Names.{FromCore, grant_to}
 use proofs.Counts.{live-sends, live-takes, dir-own, dir-other, asks-own, pairs_move, pairs_grant, pairs_back, pairs_dir, pairs_asks}
 use proofs.Counts.{pairs_vendor, OfAnswer, step_cases}
 use proofs.Marks.CommitMasks.{Storing, StoresAll, storing-exec, storing-evict, storing-back, few-masked, passes-masked}
 use proofs.Serving.{granted-free, few-of, ofs-resolve, Due, DueBy, dir-due, still-due, core_of_back, core_of_out, once_at, marks_home}
 use proofs.Serving.{acks_owed}
-use proofs.Marks.CoreMarking.{Marking, marking-exec, marking-evict}
-use proofs.Marks.CoreMarkingTakes.{marking-back, granting}
-use proofs.Marks.CountsKept.{none-sent, marks-stay, told-ahead, is-commit, none-away}
+use proofs.Marks.CoreMarking.{Marking, marking-exec, marking-evict, marking-back, granting}
+use proofs.Marks.CountsKept.{none-sent, marks-stay, told-ahead, is-commit, none-away, wrong-few, wrong-falls, masked-there}
 use proofs.Marks.DirRecords.{Marked, Stays, MarkedBy, dir-marked, CountsMarked, OwesBy, dir-owes}
 use proofs.Marks.MarksKept.{open-untold, taken-less, empty-one, skip-unmarked, only-there, no-request, no-empty, taken-back as back-marks}
-use proofs.Marks.ModifiedMasksKept.{wrong-few, wrong-falls, masked-there}
 use proofs.Marks.NamedKept.{marks-same}
 use proofs.Tids.{granted_waits, live-some}
 
@@ -34,18 +32,18 @@ insert-has n (c ∷ cs) = go (nat_lt n.tid.0 c.tid.0) (insert-has n cs)
   where
     go : (b : Bool) → Contains (insert_commit n cs) n → Contains (if b then n ∷ c ∷ cs else c ∷ insert_commit n cs) n
     go true r = (0, omega arith, refl)
-    go false r = (suc r.0, omega (arith, r.1), r.2)
+    go false r = (suc r.0, omega arith, r.2)
 
 insert-keeps : (n : Noted) (cs : List Noted) (x : Noted) → Contains cs x → Contains (insert_commit n cs) x
 unfolding insert_commit
-insert-keeps n [] x h = absurd (omega (arith, h.1))
+insert-keeps n [] x h = absurd (omega arith)
 insert-keeps n (c ∷ cs) x h = go (nat_lt n.tid.0 c.tid.0) h.0 h.1 h.2 (insert-keeps n cs x)
   where
     go : (b : Bool) (k : ℕ) → k < suc (length cs) → slice_index_or (c ∷ cs) k x ≡ x → (Contains cs x → Contains (insert_commit n cs) x)
         → Contains (if b then n ∷ c ∷ cs else c ∷ insert_commit n cs) x
-    go true k l e f = (suc k, omega (arith, l), e)
+    go true k l e f = (suc k, omega arith, e)
     go false zero l e f = (0, omega arith, e)
-    go false (suc k) l e f = let r = f (k, omega (arith, l), e) in (suc r.0, omega (arith, r.1), r.2)
+    go false (suc k) l e f = let r = f (k, omega arith, e) in (suc r.0, omega arith, r.2)
 
 pub noted-keeps : (n : Option Noted) (cs : List Noted) (x : Noted) → Contains cs x → Contains (and_noted n cs) x
 noted-keeps None cs x h = h
@@ -54,7 +52,7 @@ noted-keeps (Some n) cs x h = insert-keeps n cs x h
 pub noted-has : {n : Option Noted} (cs : List Noted) {x : Noted} → n ≡ Some x → Contains (and_noted n cs) x
 noted-has cs {x} e = rw e (insert-has x cs)
 
-pub stored-more : {sh : Shape} {cs : List Noted} (n : Option Noted) {c d t : ℕ} {v : Pair} → StoredOf sh cs c d t v
+stored-more : {sh : Shape} {cs : List Noted} (n : Option Noted) {c d t : ℕ} {v : Pair} → StoredOf sh cs c d t v
     → StoredOf sh (and_noted n cs) c d t v
 stored-more {cs} n h = record {
   sent = λ cl dl x. let k = h.sent cl dl x in
@@ -78,7 +76,7 @@ with-none : (t l : ℕ) {q : ℕ} (d : ℕ) (v : Pair) (o : Out) → among (Mark
 unfolding wrong_marks
 with-none t l {q} d v o z h = record {
   one = none-sent t l d v o z ∙ h.one;
-  right = omega (arith, h.right, live-sends (MarkMask t l q) v.out (o.sends (Dir d)), few-masked t l q (o.sends (Dir d)), z);
+  right = omega (arith, live-sends, few-masked);
 }
 
 -- it commits what it has marked, and marks
@@ -87,14 +85,14 @@ with-all : (t l q d : ℕ) {b : ℕ} (v : Pair) (o : Out) → marks_of t l v ≡
     → wrong_marks t l (modified_mask v.core.cache l) v ≡ 0 → MarkedWith t l q (after_move v o d)
 unfolding marks_of wrong_marks
 with-all t l q d {b} v o e m r k h = record {
-  one = omega (arith, e, m, live-sends (MarkOf t l) v.out (o.sends (Dir d)));
-  right = omega (arith, r, before k, live-sends (MarkMask t l q) v.out (o.sends (Dir d)));
+  one = omega (arith, live-sends);
+  right = omega (arith, before, live-sends);
 }
   where
     before : (b ≡ 0) ⊎ (q ≡ modified_mask v.core.cache l) → wrong_marks t l q v ≡ 0
     before a = grind (nats, wrong-few)
 
-pub stored-moved : {sh : Shape} (gs : List Grant) {cs : List Noted} {c d t : ℕ} {v : Pair} {o : Out} → c < sh.cores
+stored-moved : {sh : Shape} (gs : List Grant) {cs : List Noted} {c d t : ℕ} {v : Pair} {o : Out} → c < sh.cores
     → ((l : ℕ) → Marking sh d t l v.core o) → StoresAll sh c d t v.core o → ((l : ℕ) → MarksOf sh gs c d t l v)
     → (d < sh.dirs → (l : ℕ) → MaskedOf t l v)
     → (d < sh.dirs → opens v.core.phase (writes_at sh v.core.cache d) t ≡ true → live (Resolves t) v.out ≡ 0) → StoredOf sh cs c d t v
@@ -119,23 +117,23 @@ stored-moved {sh} gs {cs} {c} {d} {t} {v} {o} cl y s m q free h =
 
     sent : d < sh.dirs → 1 ≤ live (Commits t) (v.out ++ sent_all (o.sends (Dir d)))
         → (0 < live (Commits t) v.out) ⊎ (live (Commits t) v.out ≤ 0) → MarkedCommit sh (and_noted o.commit cs) c d t (after_move v o d)
-    sent dl x (inr z) = new dl (s (omega (arith, x, z, live-sends (Commits t) v.out (o.sends (Dir d)))))
-    sent dl x (inl z) = let k = h.sent cl dl (omega (arith, z)) in record {
+    sent dl x (inr z) = new dl (s (omega (arith, live-sends)))
+    sent dl x (inl z) = let k = h.sent cl dl (omega arith) in record {
       commit = k.commit;
       noted = noted-keeps o.commit cs k.commit k.noted;
       tid = k.tid;
       core = k.core;
       stored = k.stored;
-      marks = λ l. with-none t l d v o (told l dl (omega (arith, z)) (cases_lt 0 (among (MarkOf t l) (o.sends (Dir d))))) (k.marks l);
+      marks = λ l. with-none t l d v o (told l dl (omega arith) (cases_lt 0 (among (MarkOf t l) (o.sends (Dir d))))) (k.marks l);
     }
 
 -- a core takes a grant: it sends neither Marks nor Commits
-pub stored-granted : {sh : Shape} {cs : List Noted} (c d t k : ℕ) {v : Pair} (o : Out)
+stored-granted : {sh : Shape} {cs : List Noted} (c d t k : ℕ) {v : Pair} (o : Out)
     → ((l : ℕ) → among (MarkOf t l) (o.sends (Dir d)) ≡ 0) → among AnyCommit (o.sends (Dir d)) ≡ 0 → StoredOf sh cs c d t v
     → StoredOf sh (and_noted o.commit cs) c d t (after_move (grant_taken v k) o d)
 unfolding marks_of wrong_marks
 stored-granted {sh} {cs} c d t k {v} o f z h = record {
-  sent = λ cl dl x. let k = h'.sent cl dl (omega (arith, x, z, few-of t (o.sends (Dir d)), live-sends (Commits t) v.out (o.sends (Dir d))))
+  sent = λ cl dl x. let k = h'.sent cl dl (omega (arith, few-of, live-sends))
       in record {
         commit = k.commit;
         noted = k.noted;
@@ -143,15 +141,9 @@ stored-granted {sh} {cs} c d t k {v} o f z h = record {
         core = k.core;
         stored = k.stored;
         marks = λ l. record {
-          one = omega (arith, (k.marks l).one, f l, live-sends (MarkOf t l) v.out (o.sends (Dir d)));
+          one = omega (arith, (k.marks l).one, f, live-sends);
           right =
-              omega (
-                arith,
-                (k.marks l).right,
-                f l,
-                few-masked t l (stored_mask sh d k.commit.stores l) (o.sends (Dir d)),
-                live-sends (MarkMask t l (stored_mask sh d k.commit.stores l)) v.out (o.sends (Dir d)),
-              );
+              omega (arith, (k.marks l).right, f, few-masked, live-sends);
         };
       };
   settled = h'.settled;
@@ -161,7 +153,7 @@ stored-granted {sh} {cs} c d t k {v} o f z h = record {
     h' = stored-more o.commit h
 
 -- a directory answers
-pub stored-answered : {sh : Shape} {gs : List Grant} {cs : List Noted} {j d t : ℕ} {v : Pair} (m : Msg) (s : DirState) (ms : List Msg)
+stored-answered : {sh : Shape} {gs : List Grant} {cs : List Noted} {j d t : ℕ} {v : Pair} (m : Msg) (s : DirState) (ms : List Msg)
     (k : Link) → Marked v.dir m s → ((x : Kind) → live x k ≤ live x v.out)
     → ((l : ℕ) → Contains gs (grant_to t j) → live (MarkOf t l) k + num (passes (MarkOf t l) m) ≡ live (MarkOf t l) v.out)
     → ((l q : ℕ) → Contains gs (grant_to t j) → live (MarkMask t l q) k + num (passes (MarkMask t l q) m) ≡ live (MarkMask t l q) v.out)
@@ -174,9 +166,9 @@ stored-answered {sh} {gs} {cs} {j} {d} {t} {v} m s ms k y less ones wrongs skip 
   where
     sent : j < sh.cores → d < sh.dirs → 1 ≤ live (Commits t) k → MarkedCommit sh cs j d t (after_answer (record v { out = k }) s ms)
     sent jl dl x =
-        let a : 1 ≤ live (Resolves t) k = omega (arith, x, ofs-resolve t k) in
-        let b : Contains gs (grant_to t j) = g.owner (omega (arith, a, less (Resolves t))) in
-        let n = h.sent jl dl (omega (arith, x, less (Commits t))) in
+        let a : 1 ≤ live (Resolves t) k = omega (arith, ofs-resolve) in
+        let b : Contains gs (grant_to t j) = g.owner (omega (arith, less)) in
+        let n = h.sent jl dl (omega (arith, less)) in
         record {
           commit = n.commit;
           noted = n.noted;
@@ -189,7 +181,7 @@ stored-answered {sh} {gs} {cs} {j} {d} {t} {v} m s ms k y less ones wrongs skip 
         stays : (l : ℕ) {q : ℕ} → 1 ≤ live (Resolves t) k → Contains gs (grant_to t j) → j < sh.cores → d < sh.dirs → MarkedWith t l q v
             → MarkedWith t l q (after_answer (record v { out = k }) s ms)
         stays l {q} a b jl dl w = record {
-          one = marks-stay sh d t l v ms k y (ones l b) (skip l) nonempty (ahead jl dl a) (omega (arith, w.one, num-most (nat_lt 0 q)))
+          one = marks-stay sh d t l v ms k y (ones l b) (skip l) nonempty (ahead jl dl a) (omega (arith, num-most))
               ∙ w.one;
           right = wrong-falls t l q (live (MarkMask t l q) k) y (wrongs l q b) (skip l) w.right;
         }
@@ -227,7 +219,7 @@ taken-stored {sh} w {cs} c {d} k g h cl dl i q =
     j = i ∙ ap (λ x. Some x) q
 
     sent : 1 ≤ live (CommitOf u n) (to_dir w c d)
-    sent = omega (arith, live-some (CommitOf u n) (to_dir w c d) k (Commit u n) j, is-commit u n)
+    sent = omega (arith, live-some (CommitOf u n) (to_dir w c d) k (Commit u n) j, is-commit)
 
     x : MarkedCommit sh cs c d u (pair w c d)
     x =
@@ -266,7 +258,7 @@ dir-stored {sh} {w} {cs} c {d} k {m} {s} {sends} b y a g h z cl i u p o = pairs_
 
     -- what the directory serves is settled already, or by this message
     before : d < sh.dirs → 1 ≤ s.owed → (s.owed ≤ (w.dirs d).owed) ⊎ CountsMarked sh (w.dirs d) m → SettledCommit sh cs d (w.dirs d)
-    before dl x (inl q) = (h c d 0).settled dl (omega (arith, x, q))
+    before dl x (inl q) = (h c d 0).settled dl (omega arith)
     before dl x (inr q) = taken-stored w c k g h cl dl i q
 
     serves : {B : Type 0} → 1 ≤ s.owed → ((s.serving.serving ≡ tid_at w d) × B) ⊎ (s.owed ≡ 0) → s.serving.serving ≡ (tid_at w d)
@@ -297,7 +289,7 @@ asks-stored {sh} w {cs} d s sends a h z u o = pairs_asks (λ j e v. (t : ℕ) �
     none t l = rw (no-request t l) (omega arith)
 
     settles : d < sh.dirs → 1 ≤ s.owed → SettledCommit sh cs d s
-    settles dl x = let n = (h 0 d 0).settled dl (omega (arith, x, o)) in
+    settles dl x = let n = (h 0 d 0).settled dl (omega arith) in
         record { commit = n.commit; noted = n.noted; tid = n.tid ∙ sym u.0; stored = n.stored; marks = λ l. u.1 l ∙ n.marks l }
 
 -- another pair in which the Marks, the Commits and the directory are the same
@@ -327,15 +319,16 @@ pub step-stored : {sh : Shape} (p : Program) {gs : List Grant} {w : World} {cs :
 unfolding pair
 step-stored {sh} p {gs} {w} {cs} e z y x a g q h = step_cases sh p w e
     (λ r o. KeptTold sh o.world → KeptStored sh (and_noted o.noted cs) o.world)
-    (λ c l. moved c l (core_exec sh p c (w.cores c)) (λ d t l. marking-exec sh p c d t l (w.cores c)) (λ d t. storing-exec p c d t (x c)))
-    (λ c r b l. moved c l (core_evict sh r b (w.cores c)) (λ d t l. marking-evict sh r b d t l (w.cores c))
-    (λ d t. storing-evict sh r b c d t (w.cores c)))
+    (λ c o eq l. moved c l o (λ d t l. got _ eq (marking-exec sh p c d t l (w.cores c)))
+    (λ d t. got _ eq (storing-exec p c d t (x c))))
+    (λ c r b o eq l. moved c l o (λ d t l. got _ eq (marking-evict sh r b d t l (w.cores c)))
+    (λ d t. got _ eq (storing-evict sh r b c d t (w.cores c))))
     (λ c k u i n. pairs_grant (P (grant sh u (w.cores c)).commit) w c k (grant sh u (w.cores c))
     (λ d t. stored-granted c d t k (grant sh u (w.cores c))
     (λ l. (granting sh u d t l (w.cores c) (granted_waits (pair w c d) k i (z.told.tids.requests c d))).marks)
     (granted-free sh u d (w.cores c)) (h c d t)) (more (grant sh u (w.cores c)).commit))
-    (λ c d k m i. taken c d k (core_of_back c d k z.told.tids i) (from_dir sh d (w.cores c) m)
-    (λ b t l. marking-back sh d b t l (w.cores c) m) (λ b t. storing-back sh d c b t (w.cores c) m))
+    (λ c d k m o eq i. taken c d k (core_of_back c d k z.told.tids i) o (λ b t l. got _ eq (marking-back sh d b t l (w.cores c) m))
+    (λ b t. got _ eq (storing-back sh d c b t (w.cores c) m)))
     (λ c d k m i. answered c d k i (core_of_out c d k z.told.tids i) (dir_deliver sh (w.dirs d) c m) (dir-marked sh (w.dirs d) c m)
     (dir-owes sh (w.dirs d) c m)
     (dir-due sh d (w.dirs d) c m (once_at c d k z.told i) (z.told.owed.at_home c d).marked (marks_home c d k z.told.owed i)
@@ -354,11 +347,10 @@ step-stored {sh} p {gs} {w} {cs} e z y x a g q h = step_cases sh p w e
     own {c} {d} {t} cl u k = stored-moved gs cl (u d t) k (a c d t) (λ dl l. q c d t l cl dl)
         (open-untold c d t z.told.tids cl) (h c d t)
 
-    moved : (c : ℕ) → c < sh.cores → (r : Option Out) → ((d t l : ℕ) → IfSome r (λ o. Marking sh d t l (w.cores c) o))
-        → ((d t : ℕ) → IfSome r (λ o. StoresAll sh c d t (w.cores c) o))
-        → IfSome r (λ o. KeptTold sh (core_moves w c o) → KeptStored sh (and_noted o.commit cs) (core_moves w c o))
-    moved c cl None u k = tt
-    moved c cl (Some o) u k = λ n. pairs_move (P o.commit) w c o (λ d t. own cl u (k d t)) (more o.commit)
+    moved : (c : ℕ) → c < sh.cores → (o : Out) → ((d t l : ℕ) → Marking sh d t l (w.cores c) o)
+        → ((d t : ℕ) → StoresAll sh c d t (w.cores c) o) → KeptTold sh (core_moves w c o)
+        → KeptStored sh (and_noted o.commit cs) (core_moves w c o)
+    moved c cl o u k = λ n. pairs_move (P o.commit) w c o (λ d t. own cl u (k d t)) (more o.commit)
 
     back : (c d k t : ℕ) (o : Out) → c < sh.cores → ((d t l : ℕ) → Marking sh d t l (w.cores c) o) → StoresAll sh c d t (w.cores c) o
         → StoredOf sh (and_noted o.commit cs) c d t (after_move (back_taken (pair w c d) k) o d)
@@ -366,11 +358,10 @@ step-stored {sh} p {gs} {w} {cs} e z y x a g q h = step_cases sh p w e
         (λ dl l. same-masked t l (pair w c d) (back_taken (pair w c d) k) refl refl refl (q c d t l cl dl))
         (open-untold c d t z.told.tids cl) (same-stored (back_taken (pair w c d) k) refl refl (h c d t))
 
-    taken : (c d k : ℕ) → c < sh.cores → (r : Option Out) → ((b t l : ℕ) → IfSome r (λ o. Marking sh b t l (w.cores c) o))
-        → ((b t : ℕ) → IfSome r (λ o. StoresAll sh c b t (w.cores c) o))
-        → IfSome r (λ o. KeptTold sh (core_takes w (Dir d) c k o) → KeptStored sh (and_noted o.commit cs) (core_takes w (Dir d) c k o))
-    taken c d k cl None u f = tt
-    taken c d k cl (Some o) u f = λ n. pairs_back (P o.commit) w d c k o (λ t. back c d k t o cl u (f d t))
+    taken : (c d k : ℕ) → c < sh.cores → (o : Out) → ((b t l : ℕ) → Marking sh b t l (w.cores c) o)
+        → ((b t : ℕ) → StoresAll sh c b t (w.cores c) o) → KeptTold sh (core_takes w (Dir d) c k o)
+        → KeptStored sh (and_noted o.commit cs) (core_takes w (Dir d) c k o)
+    taken c d k cl o u f = λ n. pairs_back (P o.commit) w d c k o (λ t. back c d k t o cl u (f d t))
         (λ b r t. own cl u (f b t)) (more o.commit)
 
     answered : (c d k : ℕ) {m : Msg} → FromCore w c d k m → c < sh.cores → (b : Answer) → MarkedBy (w.dirs d) m b → OwesBy sh (w.dirs d) m b
@@ -383,4 +374,4 @@ step-stored {sh} p {gs} {w} {cs} e z y x a g q h = step_cases sh p w e
 
 pub start-stored : (sh : Shape) (entries : ℕ → Local) (ram : ℕ → ℕ) → KeptStored sh [] (start entries ram)
 unfolding start dir_start pair live
-start-stored sh entries ram c d t = record { sent = λ cl dl x. absurd (omega (arith, x)); settled = λ dl x. absurd (omega (arith, x)) }
+start-stored sh entries ram c d t = record { sent = λ cl dl x. absurd (omega arith); settled = λ dl x. absurd (omega arith) }

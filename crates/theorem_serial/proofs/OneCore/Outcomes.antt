@@ -5,20 +5,20 @@ use Rattle.rules_program.specs.Ram.{part}
 use Rattle.rules_tcc.specs.Sends.{then_send}
 use Rattle.theorem_serial.proofs
 use proofs.Names
-use Names.{one_more_instruction, ready_once_replied, solo_once_replied, violated_in_phase, words_invalidated, Kind, stored_in_buffer}
-use Names.{probing_or_ready, any_below-found, stored_in_frame, end_transaction, unless_awaiting, with_read_mark, change_spilled}
-use Names.{grant_in_phase, reply_in_phase, if◌then◌else◌, abort_written, partial_store, exec_in_phase, waits_for_tid, read_cleared}
-use Names.{none_spilled, request_line, load_spilled, [], change_valid, execute_need, fill_awaited, data_request, acknowledged, is_modified}
-use Names.{invalidated, is_some, rolled_back, Overflowing, solo_commit, probe_reply, all_replied, if_violated, is_violated, TrappedWith}
-use Names.{HaltedWith, ProbeReply, all_marked, spill_line, flush_line, is_running, load_valid, word_store, Program, marks_read, core_evict}
-use Names.{evict_line, is_awaited, invalidate, any_below, is_marked, writes_at, CoreState, DoomedTid, marks_for, roll_back, core_exec}
-use Names.{is_probed, store_of, any_word, free_way, AwaitTid, finished, new_word, overflow, full_set, from_dir, Nothing, Changes, Outcome}
-use Names.{load_of, word_of, line_of, DataReq, evicted, cleaned, Spilled, Awaited, Running, Probing, nothing, to_dirs, is_solo, execute}
-use Names.{replied, Bool, ignored, passes, Option, IfSome, nat_lt, Stored, Stores, Prints, InvAck, set_of, marked, stored, placed, filled}
-use Names.{commit, staled, among, false, arith, subst, Local, Loads, Halts, Traps, Ended, Abort, Shape, ap, lines, Cache, keeps, holds}
-use Names.{Phase, Ready, Sends, moves, place, grant, rests, true, List, ◌++◌, ◌==◌, to, ◌&&◌, ◌||◌, Some, None, refl, Load, Size, Byte}
-use Names.{Half, Word, Need, Ends, Goes, Fill, home, Solo, when, ℕ, miss, load, fill, ◌+◌, ◌*◌, ◌≡◌, not, ◌∷◌, sym, inl, inr, put, Dir, Msg}
-use Names.{Inv, Out, ◌⊎◌, nats}
+use Names.{◌∙◌, sym, one_more_instruction, ready_once_replied, solo_once_replied, violated_in_phase, words_invalidated, Kind}
+use Names.{stored_in_buffer, probing_or_ready, any_below-found, stored_in_frame, end_transaction, unless_awaiting, with_read_mark}
+use Names.{change_spilled, grant_in_phase, reply_in_phase, if◌then◌else◌, abort_written, partial_store, exec_in_phase, waits_for_tid}
+use Names.{read_cleared, none_spilled, request_line, load_spilled, [], change_valid, execute_need, fill_awaited, data_request, acknowledged}
+use Names.{is_modified, invalidated, is_some, rolled_back, Overflowing, solo_commit, probe_reply, all_replied, if_violated, is_violated}
+use Names.{TrappedWith, HaltedWith, ProbeReply, all_marked, spill_line, flush_line, is_running, load_valid, word_store, Program, marks_read}
+use Names.{core_evict, evict_line, is_awaited, invalidate, any_below, is_marked, writes_at, CoreState, DoomedTid, marks_for, roll_back}
+use Names.{core_exec, is_probed, store_of, any_word, free_way, AwaitTid, finished, new_word, overflow, full_set, from_dir, Nothing, Changes}
+use Names.{Outcome, load_of, word_of, line_of, DataReq, evicted, cleaned, Spilled, Awaited, Running, Probing, nothing, to_dirs, is_solo}
+use Names.{execute, replied, Bool, ignored, passes, Option, IfSome, nat_lt, Stored, Stores, Prints, InvAck, set_of, marked, stored, placed}
+use Names.{filled, commit, staled, among, false, arith, subst, Local, Loads, Halts, Traps, Ended, Abort, Shape, ap, lines, Cache, keeps}
+use Names.{holds, Phase, Ready, Sends, moves, place, grant, rests, true, List, ◌++◌, ◌==◌, to, ◌&&◌, ◌||◌, Some, None, refl, Load, Size}
+use Names.{Byte, Half, Word, Need, Ends, Goes, Fill, home, Solo, when, ℕ, miss, load, fill, ◌+◌, ◌*◌, ◌≡◌, not, ◌∷◌, inl, inr, put, Dir}
+use Names.{Msg, Inv, Out, ◌⊎◌, nats}
 use proofs.OneCore.Said.{Silent, Flushes, Empties, Requests, Wants, say, Aborts_all, Answers, Marks_at, Probes_all, Skips_all, Said}
 use proofs.OneCore.Said.{Tells_alone, Tells_commit, Unheard, acked-quiet, quiet}
 
@@ -122,26 +122,26 @@ pub data Did (sh : Shape) (p : Program) (c : ℕ) (s : CoreState) : Type 0 where
   Commits_now : (t : ℕ) → s.phase ≡ Ready t → Did sh p c s
 
 abbrev pub out : {sh : Shape} {p : Program} {c : ℕ} {s : CoreState} → Did sh p c s → Out
-out {sh} {p} {c} {s} (Idles need l bytes g) = moves (record s { n = s.n + 1; local = l; console = bytes }) (say sh s Silent)
-out {sh} {p} {c} {s} (Finds a x z l g f) = moves (after_load s l (load_of a z (part x a z)) s.cache) (say sh s Silent)
-out {sh} {p} {c} {s} (Reads a x z l g r f) = moves (after_load s l (load_of a z (part x a z)) (marked (word_of sh.base a) s.cache))
+out {sh} {s} (Idles need l bytes g) = moves (record s { n = s.n + 1; local = l; console = bytes }) (say sh s Silent)
+out {sh} {s} (Finds a x z l g f) = moves (after_load s l (load_of a z (part x a z)) s.cache) (say sh s Silent)
+out {sh} {s} (Reads a x z l g r f) = moves (after_load s l (load_of a z (part x a z)) (marked (word_of sh.base a) s.cache))
     (say sh s Silent)
-out {sh} {p} {c} {s} (Buffers a y v need k g at q h) = moves (after_store s a k s.cache (put s.spilled (word_of sh.base a) (Some y)))
+out {sh} {s} (Buffers a y v need k g at q h) = moves (after_store s a k s.cache (put s.spilled (word_of sh.base a) (Some y)))
     (say sh s Silent)
-out {sh} {p} {c} {s} (Frames a y also need k g at f) = moves (after_store s a k (stored (word_of sh.base a) y also s.cache) s.spilled)
+out {sh} {s} (Frames a y also need k g at f) = moves (after_store s a k (stored (word_of sh.base a) y also s.cache) s.spilled)
     (say sh s (Flushes (line_of (word_of sh.base a))))
-out {sh} {p} {c} {s} (Frames_anew a y need k g at q f h) =
+out {sh} {s} (Frames_anew a y need k g at q f h) =
     moves (after_store s a k (stored (word_of sh.base a) y false (placed sh (line_of (word_of sh.base a)) s.cache)) s.spilled)
     (say sh s Silent)
-out {sh} {p} {c} {s} (Misses a need g at q) = moves (record s { awaited = awaiting (line_of (word_of sh.base a)) })
+out {sh} {s} (Misses a need g at q) = moves (record s { awaited = awaiting (line_of (word_of sh.base a)) })
     (say sh s (Requests (line_of (word_of sh.base a))))
-out {sh} {p} {c} {s} (Misses_anew a need g at q f) =
+out {sh} {s} (Misses_anew a need g at q f) =
     moves (record s { awaited = awaiting (line_of (word_of sh.base a)); cache = placed sh (line_of (word_of sh.base a)) s.cache })
     (say sh s (Requests (line_of (word_of sh.base a))))
-out {sh} {p} {c} {s} (Room_wanted r i) = moves (record s { phase = Overflowing None }) (say sh s Wants)
-out {sh} {p} {c} {s} (Ends_run l e f r i) = moves (record (after_end s l e) { phase = AwaitTid }) (say sh s Wants)
-out {sh} {p} {c} {s} (Ends_alone t l e f r i) = solo_commit sh c t (after_end s l e)
-out {sh} {p} {c} {s} (Commits_now t r) = commit sh c t s
+out {sh} {s} (Room_wanted r i) = moves (record s { phase = Overflowing None }) (say sh s Wants)
+out {sh} {s} (Ends_run l e f r i) = moves (record (after_end s l e) { phase = AwaitTid }) (say sh s Wants)
+out {sh} {c} {s} (Ends_alone t l e f r i) = solo_commit sh c t (after_end s l e)
+out {sh} {c} {s} (Commits_now t r) = commit sh c t s
 
 abbrev pub said : {sh : Shape} {p : Program} {c : ℕ} {s : CoreState} → Did sh p c s → Said
 said {sh} (Frames a y also need k g at f) = Flushes (line_of (word_of sh.base a))
@@ -175,7 +175,7 @@ storing p _ x a s e = absurd e
 
 holds-word : (sp : Spilled) (l : ℕ) → holds sp l ≡ true → (v : ℕ) × (line_of v ≡ l) × (is_some (sp v) ≡ true)
 unfolding holds any_word
-holds-word sp l h = let f = any_below-found (λ k. is_some (sp (8 * l + k))) 8 h in (8 * l + f.0, omega (arith, f.1), f.2)
+holds-word sp l h = let f = any_below-found (λ k. is_some (sp (8 * l + k))) 8 h in (8 * l + f.0, omega arith, f.2)
 
 also-alone : (q : Phase) (b : Bool) → is_solo q ≡ true → (is_running q && b) ≡ false
 also-alone a b e = grind nats
@@ -223,7 +223,7 @@ each-exec sh p c s P k = go s.phase refl
 
     buffers_held : {need : Need} (x a y : ℕ) → Acting p s need → (at : StoresAt a need) → holds s.spilled (line_of (w a)) ≡ true
         → P (moves (finished p need x (stored_in_buffer (w a) y s)) nothing)
-    buffers_held {need} x a y g at h = let f = holds-word s.spilled (line_of (w a)) h in buffers x a y f.0 g at f.1 f.2
+    buffers_held x a y g at h = let f = holds-word s.spilled (line_of (w a)) h in buffers x a y f.0 g at f.1 f.2
 
     frames : {need : Need} (x a y : ℕ) (also : Bool) → Acting p s need → (at : StoresAt a need) → Framing sh s a also
         → P (moves (finished p need x (stored_in_frame (w a) y also s)) (flush_line sh s.cache (line_of (w a))))
@@ -355,12 +355,12 @@ granted {sh} {t} {s} (Given e) =
 granted {sh} {t} {s} (Given_doomed e) = moves (record s { phase = Running }) (say sh s (Skips_all t))
 granted {sh} {t} {s} (Given_room e) = moves (record s { owing = λ d. nat_lt d sh.dirs; phase = Overflowing (Some t) })
     (say sh s (Probes_all t))
-granted {sh} {t} {s} (Given_none e) = moves s (say sh s Silent)
+granted {sh} {s} (Given_none e) = moves s (say sh s Silent)
 
 abbrev pub granted_said : {sh : Shape} {t : ℕ} {s : CoreState} → Granted sh t s → Said
-granted_said {sh} {t} (Given e) = Answers t
-granted_said {sh} {t} (Given_doomed e) = Skips_all t
-granted_said {sh} {t} (Given_room e) = Probes_all t
+granted_said {t} (Given e) = Answers t
+granted_said {t} (Given_doomed e) = Skips_all t
+granted_said {t} (Given_room e) = Probes_all t
 granted_said (Given_none e) = Silent
 
 pub each-grant : (sh : Shape) (t : ℕ) (s : CoreState) (P : Out → Type 0) → ((d : Granted sh t s) → P (granted d)) → P (grant sh t s)
@@ -416,16 +416,16 @@ heard {sh} {e} {s} (Last_probing u v q o r) = moves (record s { owing = put s.ow
 heard {sh} {e} {s} (Reply_room u v q o r) = moves (record s { owing = put s.owing e false }) (say sh s Silent)
 heard {sh} {e} {s} (Last_room u v q o r) = moves (record s { owing = put s.owing e false; phase = Solo u; cache = read_cleared s.cache })
     (say sh s Silent)
-heard {sh} {e} {s} (Fills l ws a q i f) = moves (record s { cache = filled l ws s.cache; awaited = None }) (say sh s Silent)
-heard {sh} {e} {s} (Fills_none l ws a q i f) = moves (record s { awaited = None }) (say sh s Silent)
-heard {sh} {e} {s} (Hands_out l) = moves (record s { cache = cleaned l s.cache }) (say sh s (Flushes l))
-heard {sh} {e} {s} (Hurt_none l m u n) = acked sh l (record s { cache = invalidated l m s.cache; awaited = staled l s.awaited })
+heard {sh} {s} (Fills l ws a q i f) = moves (record s { cache = filled l ws s.cache; awaited = None }) (say sh s Silent)
+heard {sh} {s} (Fills_none l ws a q i f) = moves (record s { awaited = None }) (say sh s Silent)
+heard {sh} {s} (Hands_out l) = moves (record s { cache = cleaned l s.cache }) (say sh s (Flushes l))
+heard {sh} {s} (Hurt_none l m u n) = acked sh l (record s { cache = invalidated l m s.cache; awaited = staled l s.awaited })
     (say sh s Silent)
-heard {sh} {e} {s} (Hurt_running l m u v q) = acked sh l (rolled l m s Running s.spilled) (say sh s Silent)
-heard {sh} {e} {s} (Hurt_waiting l m u v q) = acked sh l (rolled l m s DoomedTid s.spilled) (say sh s Silent)
-heard {sh} {e} {s} (Hurt_probing l m u t v q) = acked sh l (rolled l m s Running s.spilled) (say sh s (Aborts_all t))
-heard {sh} {e} {s} (Hurt_alone l m u t v q) = acked sh l (rolled l m s Running none_spilled) (say sh s (Skips_all t))
-heard {sh} {e} {s} _ = moves s (say sh s Silent)
+heard {sh} {s} (Hurt_running l m u v q) = acked sh l (rolled l m s Running s.spilled) (say sh s Silent)
+heard {sh} {s} (Hurt_waiting l m u v q) = acked sh l (rolled l m s DoomedTid s.spilled) (say sh s Silent)
+heard {sh} {s} (Hurt_probing l m u t v q) = acked sh l (rolled l m s Running s.spilled) (say sh s (Aborts_all t))
+heard {sh} {s} (Hurt_alone l m u t v q) = acked sh l (rolled l m s Running none_spilled) (say sh s (Skips_all t))
+heard {sh} {s} _ = moves s (say sh s Silent)
 
 abbrev pub message : {sh : Shape} {e : ℕ} {s : CoreState} → Heard sh e s → Msg
 message (Ignores_reply u v n) = ProbeReply u v
@@ -445,8 +445,8 @@ message (Hurt_alone l m u t v q) = Inv l m u
 
 -- what is said with it, and whether the acknowledgement behind it is of this kind
 abbrev pub heard_said : {sh : Shape} {e : ℕ} {s : CoreState} → Heard sh e s → Said
-heard_said {sh} {e} (Reply_probing u v q o r) = Marks_at e u
-heard_said {sh} {e} (Last_probing u v q o r) = Marks_at e u
+heard_said {e} (Reply_probing u v q o r) = Marks_at e u
+heard_said {e} (Last_probing u v q o r) = Marks_at e u
 heard_said (Hands_out l) = Flushes l
 heard_said (Hurt_probing l m u t v q) = Aborts_all t
 heard_said (Hurt_alone l m u t v q) = Skips_all t
@@ -462,37 +462,13 @@ hears_ack k _ b = false
 
 pub heard-quiet : {sh : Shape} {e : ℕ} {s : CoreState} (k : Kind) (x : Heard sh e s) → Unheard k (heard_said x)
     → ((b : Bool) → hears_ack k x b ≡ false) → (d : ℕ) → among k ((heard x).sends (Dir d)) ≡ 0
-heard-quiet {sh} {e} {s} k (Hurt_none l m u n) h a d =
-    omega (
-      arith,
-      acked-quiet sh k l (keeps (heard {sh = sh} {e = e} {s = s} (Hurt_none l m u n)).core.cache l) (say sh s Silent) d (a _),
-      quiet sh s k Silent h d,
-    )
-heard-quiet {sh} {e} {s} k (Hurt_running l m u v q) h a d =
-    omega (
-      arith,
-      acked-quiet sh k l (keeps (heard {sh = sh} {e = e} {s = s} (Hurt_running l m u v q)).core.cache l) (say sh s Silent) d (a _),
-      quiet sh s k Silent h d,
-    )
-heard-quiet {sh} {e} {s} k (Hurt_waiting l m u v q) h a d =
-    omega (
-      arith,
-      acked-quiet sh k l (keeps (heard {sh = sh} {e = e} {s = s} (Hurt_waiting l m u v q)).core.cache l) (say sh s Silent) d (a _),
-      quiet sh s k Silent h d,
-    )
-heard-quiet {sh} {e} {s} k (Hurt_probing l m u t v q) h a d =
-    omega (
-      arith,
-      acked-quiet sh k l (keeps (heard {sh = sh} {e = e} {s = s} (Hurt_probing l m u t v q)).core.cache l)
-          (say sh s (Aborts_all t)) d (a _),
-      quiet sh s k (Aborts_all t) h d,
-    )
-heard-quiet {sh} {e} {s} k (Hurt_alone l m u t v q) h a d =
-    omega (
-      arith,
-      acked-quiet sh k l (keeps (heard {sh = sh} {e = e} {s = s} (Hurt_alone l m u t v q)).core.cache l) (say sh s (Skips_all t)) d (a _),
-      quiet sh s k (Skips_all t) h d,
-    )
+heard-quiet {sh} {s} k (Hurt_none l m u n) h a d = sym (acked-quiet sh k l _ (say sh s Silent) d (a _)) ∙ quiet sh s k Silent h d
+heard-quiet {sh} {s} k (Hurt_running l m u v q) h a d = sym (acked-quiet sh k l _ (say sh s Silent) d (a _)) ∙ quiet sh s k Silent h d
+heard-quiet {sh} {s} k (Hurt_waiting l m u v q) h a d = sym (acked-quiet sh k l _ (say sh s Silent) d (a _)) ∙ quiet sh s k Silent h d
+heard-quiet {sh} {s} k (Hurt_probing l m u t v q) h a d = sym (acked-quiet sh k l _ (say sh s (Aborts_all t)) d (a _))
+    ∙ quiet sh s k (Aborts_all t) h d
+heard-quiet {sh} {s} k (Hurt_alone l m u t v q) h a d = sym (acked-quiet sh k l _ (say sh s (Skips_all t)) d (a _))
+    ∙ quiet sh s k (Skips_all t) h d
 heard-quiet {sh} {s} k x h a d = quiet sh s k (heard_said x) h d
 
 pub writes_at-same : (sh : Shape) (a b : Cache) (d : ℕ) → ((v : ℕ) → a.modified v ≡ b.modified v) → writes_at sh a d ≡ writes_at sh b d

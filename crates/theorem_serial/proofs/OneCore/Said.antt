@@ -66,7 +66,7 @@ abbrev pub Unheard : Kind → Said → Type 0
 Unheard k q = (x : Piece) → hears k q x ≡ false
 
 -- a message that isn't of the kind, and one that is sent where a test holds
-pub one-quiet : (k : Kind) (m : Msg) (b : Bool) → passes k m ≡ false → among k (if b then m ∷ [] else []) ≡ 0
+one-quiet : (k : Kind) (m : Msg) (b : Bool) → passes k m ≡ false → among k (if b then m ∷ [] else []) ≡ 0
 unfolding among
 one-quiet k m a e = grind nats
 
@@ -141,11 +141,8 @@ quiet sh s k (Answers t) h d = go (nat_lt d sh.dirs) (writes_at sh s.cache d) (w
 
     go : (a b c : Bool) → among k (if a then (if not b then Skip t ∷ [] else []) ++ (if c then Probe t ∷ [] else []) else []) ≡ 0
     go true b c =
-        rw among-append (omega (
-          arith,
-          one-quiet k (Skip t) (not b) (neither _ _ (h of)).0,
-          one-quiet k (Probe t) c (neither _ _ (h of)).1,
-        ))
+        rw among-append (omega
+        (arith, one-quiet k (Skip t) (not b) (neither _ _ (h of)).0, one-quiet k (Probe t) c (neither _ _ (h of)).1))
     go false b c = refl
 quiet sh s k (Skips_all t) h d = one-quiet k (Skip t) (nat_lt d sh.dirs) (h (record { line = 0; mask = 0; words = []; tag = t; count = 0 }))
 quiet sh s k (Probes_all t) h d =
@@ -165,4 +162,4 @@ quiet sh s k _ h d = refl
 -- nor where an acknowledgement stands behind it, of another kind too
 pub acked-quiet : (sh : Shape) (k : Kind) (l : ℕ) (b : Bool) (sends : Sends) (d : ℕ) → passes k (InvAck l b) ≡ false
     → among k (sends (Dir d)) ≡ among k (sends (Dir d) ++ to (Dir (home sh l)) (InvAck l b ∷ []) (Dir d))
-acked-quiet sh k l b sends d e = rw among-append (omega (arith, one-quiet k (InvAck l b) (d == home sh l) e))
+acked-quiet sh k l b sends d e = rw among-append (omega (arith, one-quiet))

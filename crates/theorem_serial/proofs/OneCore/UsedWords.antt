@@ -25,8 +25,7 @@ pub stores_word-append : (base : ℕ) (a b : List Stored) (w : ℕ)
     → stores_word base (a ++ b) w ≡ (stores_word base a w || stores_word base b w)
 unfolding stores_word
 stores_word-append base [] b w = refl
-stores_word-append base (s ∷ a) b w = let r : stores_word base (a ++ b) w ≡ (stores_word base a w || stores_word base b w) =
-    stores_word-append base a b w in rw r (go (word_of base s.addr == w))
+stores_word-append base (s ∷ a) b w = let r = stores_word-append base a b w in rw r (go (word_of base s.addr == w))
   where
     go : (x : Bool) → (x || (stores_word base a w || stores_word base b w)) ≡ ((x || stores_word base a w) || stores_word base b w)
     go true = refl
@@ -56,7 +55,7 @@ record Apart (base : ℕ) (here there : ℕ → ℕ) (a : Attempt) (ram : ℕ �
 same_word : {base : ℕ} {here there : ℕ → ℕ} (a : Attempt) {ram : ℕ → ℕ} (need : Need) → Apart base here there a ram
     → ((w : ℕ) → (reads_word base need w && not (stores_whole base a.stores w)) ≡ true → here w ≡ there w) → (w : ℕ)
     → reads_word base need w ≡ true → ram w ≡ a.ram w
-same_word a need ap agree w r = grind (nats, a.ram, ap.stored, stored-whole, ap.kept_here, ap.kept_there)
+same_word a need ap agree w r = grind (nats, stored-whole)
 
 -- the word that a store leaves
 same_patched : (base : ℕ) (here there : ℕ → ℕ) (a : Attempt) (ram : ℕ → ℕ) (addr : ℕ) (size : Size) (value : ℕ)
@@ -64,7 +63,7 @@ same_patched : (base : ℕ) (here there : ℕ → ℕ) (a : Attempt) (ram : ℕ 
     → ((w : ℕ) → reads_word base (Stores addr size value) w ≡ true → ram w ≡ a.ram w)
     → patched (ram (word_of base addr)) addr size value ≡ patched (a.ram (word_of base addr)) addr size value
 same_patched base here there a ram addr b value ap mh mt al reads =
-    grind (nats, a.ram, ap.stored, ap.kept_here, ap.kept_there, patched-whole)
+    grind (nats, patched-whole)
 
 -- the memories after a store, apart as before
 apart-stored : (base : ℕ) (here there : ℕ → ℕ) (a : Attempt) (ram : ℕ → ℕ) (addr : ℕ) (size : Size) (value : ℕ)
@@ -132,7 +131,7 @@ same_step {base} p {here} {there} {a} ram (Stores addr size value) ap mh mt al r
     same_from (stored base ram addr size value) (record { stored = q.stored; kept_here = q.kept_here; kept_there = q.kept_there }) refl
 same_step {base} p {here} {there} {a} ram (Changes addr changed) ap mh mt al reads =
     let e : ram (word_of base addr) ≡ a.ram (word_of base addr) = reads (word_of base addr) (grind nats) in
-    let v : loaded base ram addr Word ≡ loaded base a.ram addr Word = same_loaded base ram a.ram addr Word e in
+    let v = same_loaded base ram a.ram addr Word e in
     let q = apart-stored base here there a ram addr Word (changed (loaded base a.ram addr Word)) ap (rw e) in
     same_from (stored base ram addr Word (changed (loaded base a.ram addr Word)))
     (record { stored = q.stored; kept_here = q.kept_here; kept_there = q.kept_there }) (rw v)
@@ -211,8 +210,7 @@ steps-memory base p (suc n) a al m = then-memory base p (steps base p n a) al (s
 pub loads_word-append : (base : ℕ) (a b : List Load) (w : ℕ) → loads_word base (a ++ b) w ≡ (loads_word base a w || loads_word base b w)
 unfolding loads_word
 loads_word-append base [] b w = refl
-loads_word-append base (s ∷ a) b w = let r : loads_word base (a ++ b) w ≡ (loads_word base a w || loads_word base b w) =
-    loads_word-append base a b w in rw r (go (word_of base s.addr == w))
+loads_word-append base (s ∷ a) b w = let r = loads_word-append base a b w in rw r (go (word_of base s.addr == w))
   where
     go : (x : Bool) → (x || (loads_word base a w || loads_word base b w)) ≡ ((x || loads_word base a w) || loads_word base b w)
     go true = refl
@@ -223,7 +221,7 @@ named-stepped : (base : ℕ) (p : Program) (a : Attempt) (need : Need) (w : ℕ)
     → ((loads_word base a.loads w || stores_word base a.stores w) || reads_word base need w) ≡ true
     → (loads_word base (stepped base p a need).loads w || stores_word base (stepped base p a need).stores w) ≡ true
 unfolding loads_word stores_word
-named-stepped base p a b w h = grind (nats, loads_word-append, a.loads, stores_word-append)
+named-stepped base p a b w h = grind (nats, loads_word-append, stores_word-append)
 
 -- each word that the instructions use is named by the loads or stores
 abbrev Names : (base : ℕ) → ℕ → Bool → Option Attempt → Type 0

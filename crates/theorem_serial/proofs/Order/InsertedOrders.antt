@@ -4,11 +4,11 @@ use Rattle.rules_program.proofs.Lemmas.{serial-append}
 use Rattle.rules_program.specs.Plain.{Halted, close}
 use Rattle.theorem_serial.proofs
 use proofs.Names
-use Names.{neither, or-left, ℕ, ◌≡◌, ◌≢◌, Bool, true, false, ◌||◌, ◌==◌, List, [], ◌∷◌, Option, Some, None, MatchOption, IfSome, nat_lt}
-use Names.{if◌then◌else◌, refl, sym, subst, ◌∙◌, put, CoreEnd, Run, Halt, Trap, Local, Program, Attempt, Outcome, Goes, Ended, Trapped}
-use Names.{steps, begun, Plain, closed, end_of, close_if, if_runs, transaction, Order, commit_of, and_commit, after_order, serial}
-use Names.{loads_word, stores_word, uses, Aligned, IsMemory, SameAttempt, AgreeOnUsed, commits_store, commits_touch, orders_core, Again}
-use Names.{◌<◌, ◌++◌, ap, last_tid, IsBelow, Inserted, CanInsert, nats}
+use Names.{if_some, got, neither, or-left, ℕ, ◌≡◌, ◌≢◌, Bool, true, false, ◌||◌, ◌==◌, List, [], ◌∷◌, Option, Some, None, MatchOption}
+use Names.{IfSome, nat_lt, if◌then◌else◌, refl, sym, subst, ◌∙◌, put, CoreEnd, Run, Halt, Trap, Local, Program, Attempt, Outcome, Goes}
+use Names.{Ended, Trapped, steps, begun, Plain, closed, end_of, close_if, if_runs, transaction, Order, commit_of, and_commit, after_order}
+use Names.{serial, loads_word, stores_word, uses, Aligned, IsMemory, SameAttempt, AgreeOnUsed, commits_store, commits_touch, orders_core}
+use Names.{Again, ◌<◌, ◌++◌, ap, last_tid, IsBelow, Inserted, CanInsert, nats}
 use proofs.OneCore.{steps_same, steps-memory, uses-named}
 
 -- The same orders from another machine that agrees on the cores and words that they touch.
@@ -31,7 +31,7 @@ pub record Twice (base : ℕ) (p : Program) (here there : Plain) (core : ℕ) (d
 pub put-same : {A : Type 0} → (f : ℕ → A) (i : ℕ) (v : A) → put f i v i ≡ v
 put-same f i v = let e : (i == i) ≡ true = grind nats in rw e
 
-pub put-other : {A : Type 0} → (f : ℕ → A) (i j : ℕ) (v : A) → j ≢ i → put f i v j ≡ f j
+put-other : {A : Type 0} → (f : ℕ → A) (i j : ℕ) (v : A) → j ≢ i → put f i v j ≡ f j
 put-other f i j v h = let e : (j == i) ≡ false = grind nats in rw e
 
 -- both attempts are closed alike
@@ -109,7 +109,7 @@ same_named base p n l here there al mh mt = go (steps base p n (begun l here)) r
     go None q u f = tt
     go (Some a) q u f = λ agree. f (λ w t. agree w (u w t))
 
-pub transaction_twice : (base : ℕ) (p : Program) (here there : Plain) (core n : ℕ) → Aligned p → IsMemory here.ram → IsMemory there.ram
+transaction_twice : (base : ℕ) (p : Program) (here there : Plain) (core n : ℕ) → Aligned p → IsMemory here.ram → IsMemory there.ram
     → there.cores core ≡ here.cores core → TwiceIf base p here there core (transaction base p here core n) (transaction base p there core n)
 unfolding transaction begun
 transaction_twice base p here there core n al mh mt e = rw e (run_twice base p here there core (here.cores core).ended _ _
@@ -119,7 +119,7 @@ transaction_twice base p here there core n al mh mt e = rw e (run_twice base p h
     (same_named base p n (here.cores core).local here.ram there.ram al mh mt)))
 
 -- the orders from two machines
-pub commits_touch-store : (base : ℕ) (cs : List Commit) (w : ℕ) → commits_touch base cs w ≡ false → commits_store base cs w ≡ false
+commits_touch-store : (base : ℕ) (cs : List Commit) (w : ℕ) → commits_touch base cs w ≡ false → commits_store base cs w ≡ false
 unfolding commits_touch commits_store
 commits_touch-store base [] w h = refl
 commits_touch-store base (c ∷ cs) w h = go (loads_word base c.loads w) (stores_word base c.stores w) (commits_touch-store base cs w) h
@@ -198,19 +198,9 @@ when_again : (base : ℕ) (p : Program) (o : Order) (os : List Order) (here ther
 unfolding orders_core
 when_again base p o os here there false one other more t again = tt
 when_again base p o os here there true None other more t again = tt
-when_again base p o os here there true (Some done) other more t again = swap (and_commit (commit_of o done.1) (more done.0))
-    (λ cores. rest_again base p o os here there done (more done.0) other more cores
-    (t (cores o.core (or-left (o.core == o.core) (orders_core os o.core) (grind nats)))) (again done.0))
-  where
-    swap : (x : Option (Plain × List Commit))
-        → (((c : ℕ) → orders_core (o ∷ os) c ≡ true → there.cores c ≡ here.cores c)
-        → IfSome x (λ d. ((w : ℕ) → commits_touch base d.1 w ≡ true → here.ram w ≡ there.ram w)
-        → Again base (o ∷ os) here there d (after_order more o other)))
-        → IfSome x (λ d. ((c : ℕ) → orders_core (o ∷ os) c ≡ true → there.cores c ≡ here.cores c)
-        → ((w : ℕ) → commits_touch base d.1 w ≡ true → here.ram w ≡ there.ram w)
-        → Again base (o ∷ os) here there d (after_order more o other))
-    swap None f = tt
-    swap (Some d) f = λ cores words. f cores words
+when_again base p o os here there true (Some done) other more t again = if_some (and_commit (commit_of o done.1) (more done.0))
+    (λ d eq cores. got _ eq (rest_again base p o os here there done (more done.0) other more cores
+    (t (cores o.core (or-left (o.core == o.core) (orders_core os o.core) (grind nats)))) (again done.0)))
 
 pub serial_again : (base : ℕ) (p : Program) (last : ℕ) (os : List Order) (here there : Plain) → Aligned p → IsMemory here.ram
     → IsMemory there.ram → AgainIf base os here there (serial base p last os here) (serial base p last os there)
@@ -280,7 +270,7 @@ whole_inserted : {base : ℕ} {p : Program} {last : ℕ} {early late : List Orde
     → serial base p (last_tid last early) late done ≡ Some (plain, after)
     → serial base p last (early ++ o ∷ late) m ≡ Some (plain, before ++ commit_of o a ∷ after)
 unfolding serial
-whole_inserted plain c e = grind (nats, c.above, serial-below, c.below, serial-append, c.first, c.executed)
+whole_inserted plain c e = grind (nats, serial-below, serial-append)
 
 differs : (late : List Order) (c core : ℕ) → orders_core late core ≡ false → orders_core late c ≡ true → c ≢ core
 differs late c core h k e = let q : orders_core late c ≡ orders_core late core = ap (orders_core late) e in absurd (cc)

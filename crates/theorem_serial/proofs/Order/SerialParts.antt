@@ -50,7 +50,7 @@ Each P (n ∷ ns) = P n × Each P ns
 pub each-listed : (P : Noted → Type 0) (ns : List Noted) → ((n : Noted) → Contains ns n → P n) → Each P ns
 unfolding Each
 each-listed P [] h = tt
-each-listed P (n ∷ ns) h = (h n (0, omega arith, refl), each-listed P ns (λ k c. h k (suc c.0, omega (arith, c.1), c.2)))
+each-listed P (n ∷ ns) h = (h n (0, omega arith, refl), each-listed P ns (λ k c. h k (suc c.0, omega arith, c.2)))
 
 pub each-behind : (P : Noted → Type 0) (t : ℕ) (ns : List Noted) → Each P ns → Each P (behind t ns)
 unfolding Each behind
@@ -75,7 +75,7 @@ each-then P Q (n ∷ ns) f h = (f n h.0, each-then P Q ns f h.1)
 above-last : (t last : ℕ) (ns : List Noted) → t ≤ last → IsRising last ns → Each (λ n. t < n.tid.0) ns
 unfolding Each IsRising
 above-last t last [] l r = tt
-above-last t last (n ∷ ns) l r = let q : last < n.tid.0 = r.0 in (omega (arith, l, q), above-last t n.tid.0 ns (omega (arith, l, q)) r.1)
+above-last t last (n ∷ ns) l r = let q : last < n.tid.0 = r.0 in (omega arith, above-last t n.tid.0 ns (omega arith) r.1)
 
 pub behind-larger : (t last : ℕ) (ns : List Noted) → IsRising last ns → Each (λ n. t < n.tid.0) (behind t ns)
 unfolding Each IsRising behind
@@ -84,13 +84,13 @@ behind-larger t last (n ∷ ns) r = go (nat_lt t n.tid.0) refl (behind-larger t 
   where
     go : (b : Bool) → nat_lt t n.tid.0 ≡ b → Each (λ k. t < k.tid.0) (behind t ns)
         → Each (λ k. t < k.tid.0) (if b then n ∷ ns else behind t ns)
-    go true q e = let l : t < n.tid.0 = grind nats in (l, above-last t n.tid.0 ns (omega (arith, l)) r.1)
+    go true q e = let l : t < n.tid.0 = grind nats in (l, above-last t n.tid.0 ns (omega arith) r.1)
     go false q e = e
 
 pub before-smaller : (t : ℕ) (ns : List Noted) → times t ns ≡ 0 → Each (λ n. n.tid.0 < t) (before t ns)
 unfolding Each before times
 before-smaller t [] z = tt
-before-smaller t (n ∷ ns) z = go (nat_lt t n.tid.0) refl (before-smaller t ns (omega (arith, z)))
+before-smaller t (n ∷ ns) z = go (nat_lt t n.tid.0) refl (before-smaller t ns (omega arith))
   where
     smaller : nat_lt t n.tid.0 ≡ false → num (n.tid.0 == t) ≡ 0 → n.tid.0 < t
     smaller q k = grind nats
@@ -98,7 +98,7 @@ before-smaller t (n ∷ ns) z = go (nat_lt t n.tid.0) refl (before-smaller t ns 
     go : (b : Bool) → nat_lt t n.tid.0 ≡ b → Each (λ k. k.tid.0 < t) (before t ns)
         → Each (λ k. k.tid.0 < t) (if b then [] else n ∷ before t ns)
     go true q e = tt
-    go false q e = (smaller q (omega (arith, z)), e)
+    go false q e = (smaller q (omega arith), e)
 
 -- as orders
 pub behind-below : (t : ℕ) (ns : List Noted) → IsBelow t (map order_of_commit (behind t ns))
@@ -302,15 +302,10 @@ below-other : (x t s : ℕ) (m : Msg) → t ≤ s → num (passes (InvBelow x t)
 unfolding passes
 below-other x t s m l = grind nats
 
-pub undoomed : (w : World) (c d t x : ℕ) → t ≤ tid_at w d → live (InvsNot (tid_at w d)) (pair w c d).back ≡ 0
+undoomed : (w : World) (c d t x : ℕ) → t ≤ tid_at w d → live (InvsNot (tid_at w d)) (pair w c d).back ≡ 0
     → IsDoomed (Some t) x (pair w c d) → ⊥
 undoomed w c d t x l z h =
-    omega (
-      arith,
-      z,
-      h.hit,
-      live-fewer (InvBelow x t) (InvsNot (tid_at w d)) (λ m. below-other x t (tid_at w d) m l) (pair w c d).back,
-    )
+    omega (arith, live-fewer (InvBelow x t) (InvsNot (tid_at w d)) (λ m. below-other x t (tid_at w d) m l) (pair w c d).back)
 
 -- so the view is what the commits before left
 pub agrees-before : (sh : Shape) (ram there : ℕ → ℕ) (w : World) (cs : List Noted) (c t : ℕ) (us : Uses) → 1 ≤ sh.dirs → IsRising 0 cs

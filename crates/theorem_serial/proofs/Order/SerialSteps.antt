@@ -1,19 +1,20 @@
 -- Each event keeps the commits serial: an instruction that commits inserts its transaction, and no other event commits.
 use Rattle.theorem_serial.proofs
 use proofs.Names
-use Names.{phase_after_commit, ended_after_commit, EventsKeepSerial, order_of_commit, insert_commit, commits_touch, MarkedAtHomes}
-use Names.{if◌then◌else◌, CommitsSerial, next_history, vendor_gives, TrappedWith, transaction, orders_core, stores_word, UsedAtHomes}
-use Names.{plain_start, AlignedNeed, is_given_up, dir_deliver, CoresSerial, map-append, HaltedWith, Invariants, may_commit, loads_word}
-use Names.{core_evict, core_moves, core_takes, CoreSerial, IsSomeAnd, commit_of, CoreState, end_after, CanInsert, writes_at, UsesStand}
-use Names.{worked_at, in_flight, core_exec, and_noted, dir_takes, last_tid, HasEnded, Inserted, IsMemory, Contains, reads_at, NeedFits}
-use Names.{AllStand, asks_dir, live_way, TidGrant, from_dir, recorded, dir_asks, IsSerial, CoreEnd, Attempt, Outcome, Program, Aligned}
-use Names.{Changes, line_of, is_solo, History, has_tid, EachUse, Stepped, Option, closed, end_of, serial, Stores, Agrees, holder, tid_of}
-use Names.{Untold, IfSome, Vendor, TidReq, Answer, false, subst, Noted, Plain, Order, Ended, begun, steps, Local, noted, Again, times}
-use Names.{arith, Loads, Shape, Phase, Ready, World, Suits, Grant, grant, Waits, Drops, Takes, true, List, ◌++◌, Some, None, refl, Halt}
-use Names.{Trap, Goes, Bool, ◌==◌, ◌||◌, Need, home, Solo, Uses, Fits, pair, Ways, Core, Asks, step, ◌≡◌, ◌≤◌, ◌≢◌, ◌∷◌, map, sym, ◌∙◌, Run}
-use Names.{◌<◌, ◌⊎◌, inl, inr, num, Out, Dir, Msg, ap, [], ℕ, nats, home_of, tid_at, FromCore, FromDir, IfSome_then, grant_to}
+use Names.{if_recorded, got, moved_by, nothing, taken_by, unnoted, phase_after_commit, ended_after_commit, EventsKeepSerial}
+use Names.{order_of_commit, insert_commit, commits_touch, MarkedAtHomes, if◌then◌else◌, CommitsSerial, next_history, vendor_gives}
+use Names.{TrappedWith, transaction, orders_core, stores_word, UsedAtHomes, plain_start, AlignedNeed, is_given_up, dir_deliver, CoresSerial}
+use Names.{map-append, HaltedWith, Invariants, may_commit, loads_word, core_evict, core_moves, core_takes, CoreSerial, IsSomeAnd, commit_of}
+use Names.{CoreState, end_after, CanInsert, writes_at, UsesStand, worked_at, in_flight, core_exec, and_noted, dir_takes, last_tid, HasEnded}
+use Names.{Inserted, IsMemory, Contains, reads_at, NeedFits, AllStand, asks_dir, live_way, TidGrant, from_dir, recorded, dir_asks, IsSerial}
+use Names.{CoreEnd, Attempt, Outcome, Program, Aligned, Changes, line_of, is_solo, History, has_tid, EachUse, Stepped, Option, closed}
+use Names.{end_of, serial, Stores, Agrees, holder, tid_of, Untold, IfSome, Vendor, TidReq, Answer, false, subst, Noted, Plain, Order, Ended}
+use Names.{begun, steps, Local, noted, Again, times, arith, Loads, Shape, Phase, Ready, World, Suits, Grant, grant, Waits, Drops, Takes}
+use Names.{true, List, ◌++◌, Some, None, refl, Halt, Trap, Goes, Bool, ◌==◌, ◌||◌, Need, home, Solo, Uses, Fits, pair, Ways, Core, Asks}
+use Names.{step, ◌≡◌, ◌≤◌, ◌≢◌, ◌∷◌, map, sym, ◌∙◌, Run, ◌<◌, ◌⊎◌, inl, inr, num, Out, Dir, Msg, ap, [], ℕ, nats, home_of, tid_at, FromCore}
+use Names.{FromDir, IfSome_then, grant_to}
 use proofs.Counts.{given, OfAnswer, step_cases}
-use proofs.Memory.CoreInMemory.{accesses_at_homes, marks_at_homes}
+use proofs.Memory.CoreHomes.{accesses_at_homes, marks_at_homes}
 use proofs.OneCore.{Gives, Closing, Leaves, Stays, Closes, exec-leaves, CheckpointStays, evict-stays, grant-stays, back-stays}
 use proofs.Order.InsertedOrders.{order_inserted, put-same, serial_again, serial-memory}
 use proofs.Order.SerialParts.{before, behind, cut-inserted, behind-below, before-smaller, last-below, SerialCut, home-below, agrees-before}
@@ -84,7 +85,7 @@ pub record ClosedSerial (base : ℕ) (p : Program) (cs : List Noted) (c t : ℕ)
   pub ended : (plain.cores c).ended ≡ end_after (phase_after_commit r.ended) (ended_after_commit r.ended)
   pub others : (e : ℕ) → e ≢ c → plain.cores e ≡ m.cores e
 
-pub closed-serial : {base : ℕ} (p : Program) {cs : List Noted} (c t : ℕ) {saved : Local} (r : CoreState) {first : Plain} (m : Plain)
+closed-serial : {base : ℕ} (p : Program) {cs : List Noted} (c t : ℕ) {saved : Local} (r : CoreState) {first : Plain} (m : Plain)
     (s : SerialCut base p 0 (before t cs) (behind t cs) first m) → Aligned p → IsMemory first.ram → IsMemory s.start.ram
     → CanClose base p cs c t saved r m s.start → ClosedSerial base p cs c t r first m
 unfolding closed noted
@@ -157,7 +158,7 @@ fits-aligned p f l = go (p.need l) (f l)
 abbrev pub May : (t : ℕ) → Phase → Type 0
 May t q = (q ≡ Ready t) ⊎ (q ≡ Solo t)
 
-pub may-has : (t : ℕ) (q : Phase) → May t q → has_tid q t ≡ true
+may-has : (t : ℕ) (q : Phase) → May t q → has_tid q t ≡ true
 unfolding has_tid
 may-has t q a = grind nats
 
@@ -177,7 +178,7 @@ may-untold t q b a h = grind nats
 
 pub may-bound : (w : World) (c d t : ℕ) → May t (w.cores c).phase → 1 ≤ holder t (pair w c d)
 unfolding holder pair
-may-bound w c d t y = let n : num (has_tid (w.cores c).phase t) ≡ 1 = ap num (may-has t (w.cores c).phase y) in omega (arith, n)
+may-bound w c d t y = let n : num (has_tid (w.cores c).phase t) ≡ 1 = ap num (may-has t (w.cores c).phase y) in omega arith
 
 -- what a core that commits knows of the rest
 pub record Stand (sh : Shape) (h : History) (ys : Ways) (c t : ℕ) : Type 0 where
@@ -208,9 +209,6 @@ stand {sh} {gs} {ys} {h} {c} {t} u k l y = record {
     s : CoreState
     s = h.world.cores c
 
-    has : has_tid s.phase t ≡ true
-    has = may-has t s.phase y
-
     held : 1 ≤ holder t (pair h.world c 0)
     held = may-bound h.world c 0 t y
 
@@ -231,16 +229,14 @@ stand {sh} {gs} {ys} {h} {c} {t} u k l y = record {
         may-asks t s.phase _ y (λ q. either (writes_at sh s.cache (home_of sh x)) _ (marked.read x (r q))) in
         let o : s.owing (home_of sh x) ≡ false = k.carried.directory_that_replied_serves_the_tid.replied c (home_of sh x) l i
         (may-commits t s.phase y).0 in
-        let z : tid_of s.phase ≤ tid_at h.world (home_of sh x) =
-        k.carried.directory_that_replied_serves_the_tid.reached c (home_of sh x) l i a o in
-        omega (arith, z, (may-commits t s.phase y).1)
+        omega (arith, (may-commits t s.phase y).1, k.carried.directory_that_replied_serves_the_tid.reached c (home_of sh x) l i a o)
 
     -- a word that it stores is modified, unless it is alone
     modified : (x : ℕ) → stores_word sh.base s.stores x ≡ true → is_solo s.phase ≡ false → s.cache.modified x ≡ true
     modified x e q = grind nats
 
     untold : (x : ℕ) → stores_word sh.base s.stores x ≡ true → ys (home_of sh x) t ≡ Untold
-    untold x e = k.carried.live_tid_is_open_where_it_must_be.held c (home_of sh x) t l (home-below sh x u.dirs) has
+    untold x e = k.carried.live_tid_is_open_where_it_must_be.held c (home_of sh x) t l (home-below sh x u.dirs) (may-has t s.phase y)
         ∙ may-untold t s.phase (writes_at sh s.cache (home_of sh x)) y (λ q. marked.modified x (modified x e q))
 
 -- every word of the view is at a home that has reached the TID
@@ -280,7 +276,7 @@ later-apart {sh} {ys} t x n u k s e i l = go (loads_word sh.base n.loads x) (sto
     go false false f g = refl
 
 -- the commit is inserted
-pub closed-core : {sh : Shape} (p : Program) {entries : ℕ → Local} {ram : ℕ → ℕ} {gs : List Grant} {ys : Ways} {views : ℕ → Uses}
+closed-core : {sh : Shape} (p : Program) {entries : ℕ → Local} {ram : ℕ → ℕ} {gs : List Grant} {ys : Ways} {views : ℕ → Uses}
     (m : Plain) (h : History) (c t : ℕ) (r : CoreState) {o : Out} → Suits sh p ram → Invariants sh p entries ram gs ys views m h
     → c < sh.cores → Closing sh p c t (h.world.cores c) r o → ClosedSerial sh.base p h.commits c t r (plain_start entries ram) m
 unfolding plain_start pair
@@ -317,7 +313,7 @@ closed-core {sh} p {entries} {ram} {ys} {views} m h c t r u k l f = closed-seria
       where
         go : (b : Bool) → (n.core.0 == c) ≡ b → b ≡ false
         go false q = refl
-        go true q = absurd (let e : n.core.0 ≡ c = grind nats in omega (arith, s.last n i.0 e, i.1))
+        go true q = absurd (let e : n.core.0 ≡ c = grind nats in omega (arith, s.last))
 
     can : CanClose sh.base p h.commits c t (h.world.cores c).saved r m cut.start
     can = record {
@@ -371,23 +367,19 @@ closed-cores w c e o g f k = go (e == c) refl
 pub events_serial : EventsKeepSerial
 unfolding next_history core_moves core_takes dir_takes dir_asks vendor_gives
 events_serial sh p entries ram gs ys views m h e u k =
-    whole (step sh p h.world e) (step_cases sh p h.world e (λ _. After sh p entries ram h) executes evicts grants backs answers gives)
+    if_recorded _ h (step sh p h.world e) (λ o eq. got _ eq (step_cases sh p h.world e (λ _. After sh p entries ram h)
+    executes evicts grants backs answers gives))
   where
-    whole : (o : Option Stepped) → IfSome o (After sh p entries ram h) → IfSome (recorded h o) (IsSerial sh p entries ram)
-    whole None q = tt
-    whole (Some o) q = q
-
-    executes : (c : ℕ) → c < sh.cores
-        → IfSome (core_exec sh p c (h.world.cores c))
-        (λ o. After sh p entries ram h (record { world = core_moves h.world c o; noted = o.commit }))
-    executes c l = IfSome_then (core_exec sh p c (h.world.cores c)) (exec-leaves sh p c (h.world.cores c)) one
+    executes : (c : ℕ) (o : Out) → core_exec sh p c (h.world.cores c) ≡ Some o → c < sh.cores
+        → After sh p entries ram h (moved_by h.world c o)
+    executes c o eq l = one o (got _ eq (exec-leaves sh p c (h.world.cores c)))
       where
         one : (o : Out) → Leaves sh p c (h.world.cores c) o
-            → After sh p entries ram h (record { world = core_moves h.world c o; noted = o.commit })
-        one o (Stays n v i) = kept-serial h m (record { world = core_moves h.world c o; noted = o.commit }) n k.commits_are_serial
+            → After sh p entries ram h (moved_by h.world c o)
+        one o (Stays n v i) = kept-serial h m (moved_by h.world c o) n k.commits_are_serial
             (λ j y. rested-core sh h.world c j o m (record { commit = n; saved = v; ends = i }) (k.committed_cores_are_serial j y))
         one o (Closes t r f) =
-            let g : ClosedSerial sh.base p h.commits c t r (plain_start entries ram) m = closed-core p m h c t r u k l f in
+            let g = closed-core p m h c t r u k l f in
             record {
               plain = g.plain;
               commits = subst (λ q. CommitsSerial sh p entries ram (and_noted q h.commits) g.plain) (sym f.commit) g.commits;
@@ -399,45 +391,33 @@ events_serial sh p entries ram gs ys views m h e u k =
     rested c {o} w q r = kept-serial h m (record { world = w; noted = o.commit }) r.commit k.commits_are_serial
         (λ j y. subst (λ f. CoreSerial (f j) (m.cores j)) (sym q) (rested-core sh h.world c j o m r (k.committed_cores_are_serial j y)))
 
-    same : (w : World) → w.cores ≡ h.world.cores → After sh p entries ram h (record { world = w; noted = None })
-    same w q = kept-serial h m (record { world = w; noted = None }) refl k.commits_are_serial
+    same : (w : World) → w.cores ≡ h.world.cores → After sh p entries ram h (unnoted w)
+    same w q = kept-serial h m (unnoted w) refl k.commits_are_serial
         (subst (λ f. (j : ℕ) → j < sh.cores → CoreSerial (f j) (m.cores j)) (sym q) k.committed_cores_are_serial)
 
-    evicts : (c x y : ℕ) → c < sh.cores
-        → IfSome (core_evict sh x y (h.world.cores c))
-        (λ o. After sh p entries ram h (record { world = core_moves h.world c o; noted = o.commit }))
-    evicts c x y l = go (core_evict sh x y (h.world.cores c)) (evict-stays sh x y (h.world.cores c))
-      where
-        go : (a : Option Out) → IfSome a (CheckpointStays (h.world.cores c))
-            → IfSome a (λ o. After sh p entries ram h (record { world = core_moves h.world c o; noted = o.commit }))
-        go None q = tt
-        go (Some o) q = rested c (core_moves h.world c o) refl q
+    evicts : (c x y : ℕ) (o : Out) → core_evict sh x y (h.world.cores c) ≡ Some o → c < sh.cores
+        → After sh p entries ram h (moved_by h.world c o)
+    evicts c x y o eq l = rested c (core_moves h.world c o) refl (got _ eq (evict-stays sh x y (h.world.cores c)))
 
     grants : (c n t : ℕ) → in_flight h.world.net Vendor (Core c) n ≡ Some (TidGrant t)
         → After sh p entries ram h
-        (record { world = core_takes h.world Vendor c n (grant sh t (h.world.cores c)); noted = (grant sh t (h.world.cores c)).commit })
+        (taken_by h.world Vendor c n (grant sh t (h.world.cores c)))
     grants c n t i = rested c (core_takes h.world Vendor c n (grant sh t (h.world.cores c))) refl (grant-stays sh t (h.world.cores c))
 
-    backs : (c d n : ℕ) (a : Msg) → FromDir h.world d c n a
-        → IfSome (from_dir sh d (h.world.cores c) a)
-        (λ o. After sh p entries ram h (record { world = core_takes h.world (Dir d) c n o; noted = o.commit }))
-    backs c d n a i = go (from_dir sh d (h.world.cores c) a) (back-stays sh d (h.world.cores c) a)
-      where
-        go : (x : Option Out) → IfSome x (CheckpointStays (h.world.cores c))
-            → IfSome x (λ o. After sh p entries ram h (record { world = core_takes h.world (Dir d) c n o; noted = o.commit }))
-        go None q = tt
-        go (Some o) q = rested c (core_takes h.world (Dir d) c n o) refl q
+    backs : (c d n : ℕ) (a : Msg) (o : Out) → from_dir sh d (h.world.cores c) a ≡ Some o → FromDir h.world d c n a
+        → After sh p entries ram h (taken_by h.world (Dir d) c n o)
+    backs c d n a o eq i = rested c (core_takes h.world (Dir d) c n o) refl (got _ eq (back-stays sh d (h.world.cores c) a))
 
     answers : (c d n : ℕ) (a : Msg) → FromCore h.world c d n a
-        → OfAnswer h.world c d n (λ v. After sh p entries ram h (record { world = v; noted = None })) (dir_deliver sh (h.world.dirs d) c a)
+        → OfAnswer h.world c d n (λ v. After sh p entries ram h (unnoted v)) (dir_deliver sh (h.world.dirs d) c a)
     answers c d n a i = go (dir_deliver sh (h.world.dirs d) c a)
       where
-        go : (x : Answer) → OfAnswer h.world c d n (λ v. After sh p entries ram h (record { world = v; noted = None })) x
+        go : (x : Answer) → OfAnswer h.world c d n (λ v. After sh p entries ram h (unnoted v)) x
         go Waits = tt
-        go Drops = same (dir_takes h.world c d n (h.world.dirs d) (λ dst. [])) refl
+        go Drops = same (dir_takes h.world c d n (h.world.dirs d) nothing) refl
         go (Asks s sends) = same (dir_asks h.world d s sends) refl
         go (Takes s sends) = same (dir_takes h.world c d n s sends) refl
 
     gives : (c n : ℕ) → in_flight h.world.net (Core c) Vendor n ≡ Some TidReq
-        → After sh p entries ram h (record { world = vendor_gives h.world c n (given h.world c); noted = None })
+        → After sh p entries ram h (unnoted (vendor_gives h.world c n (given h.world c)))
     gives c n i = same (vendor_gives h.world c n (given h.world c)) refl

@@ -1,19 +1,18 @@
 -- The whole list along every run, from what each event keeps of it; and so every run is serial.
-use Rattle.theorem_serial.specs.KeepsHomes.{HomesHold}
 use Rattle.theorem_serial.proofs
 use proofs.Names
-use Names.{◌≡◌, List, [], ◌∷◌, ◌++◌, Option, Some, None, refl, ap, subst, sym, ◌∙◌, append_assoc, append-nil, Program, Event, Shape}
-use Names.{History, next_history, and_then, run_from, Views, views_after, views_from, granted_by, grants_from, Ways, sent_by, ways_after}
-use Names.{ways_from, ℕ, flat_map, inl, serial, Local, is_skipped, first_serving, empty_cache, no_lines, Copy, seen, home_copy, copies}
-use Names.{copies_of, copies_on, newest, numbers, core_start, dir_start, vendor_start, start, ReadFits, CoresSerial, SeenSerial}
+use Names.{if_some, got, ◌≡◌, List, [], ◌∷◌, ◌++◌, Option, Some, None, refl, ap, subst, sym, ◌∙◌, append_assoc, append-nil, Program, Event}
+use Names.{Shape, History, next_history, and_then, run_from, Views, views_after, views_from, granted_by, grants_from, Ways, sent_by}
+use Names.{ways_after, ways_from, ℕ, flat_map, inl, serial, Local, is_skipped, first_serving, empty_cache, no_lines, Copy, seen, home_copy}
+use Names.{copies, copies_of, copies_on, newest, numbers, core_start, dir_start, vendor_start, start, ReadFits, CoresSerial, SeenSerial}
 use Names.{plain_start, live, Carried, StartHasAll, first_state, marks_of, pair, first_ways, run, HomeWords, CopiesAbove, UnmodifiedWords}
 use Names.{FilledWords, CopiesHave, value_at, after_commits, start-follows, IfSome, Plain, no_views, Suits, AllHold, RunsAreSerial}
-use Names.{CarriedInMemory, CarriedViews, Invariants, Grant, IsSerial, ViewedWords, HaltedUsesNone, IfSome_then}
-use proofs.Memory.InMemoryKept.{start-memory}
-use proofs.Order.SerialSteps.{events_serial}
+use Names.{CarriedInMemory, CarriedViews, Invariants, Grant, IfSome_then}
+use proofs.Memory.HomesKept.{start-memory}
+use proofs.Order.{events_serial}
 use proofs.Run.FactsOfRuns.{runs_carry, carried-memory, runs_stay_in_memory, runs_carry_views}
-use proofs.Values.FramedSteps.{words_kept}
-use proofs.Values.HomeWordsKept.{homes_kept}
+use proofs.Values.ModifiedWords.{words_kept}
+use proofs.Values.WordsMoved.{homes_kept}
 use proofs.Values.SeenWords.{seen_follows}
 use proofs.Views.ViewsKept.{keeps_views}
 
@@ -40,7 +39,7 @@ abbrev or_else : History → Option History → History
 or_else h None = h
 or_else h (Some g) = g
 
-pub one-more : (sh : Shape) (p : Program) (es : List Event) (e : Event) (ys : Ways) (vs : Views) (first h g : History)
+one-more : (sh : Shape) (p : Program) (es : List Event) (e : Event) (ys : Ways) (vs : Views) (first h g : History)
     → run_from sh p es first ≡ Some h → next_history sh p h e ≡ Some g → OneMore sh p es e ys vs first h g
 unfolding run_from grants_from ways_from views_from
 one-more sh p [] e ys vs first h g r n = subst (λ k. next_history sh p k e ≡ Some g → OneMore sh p [] e ys vs first k g)
@@ -178,9 +177,9 @@ proved : {sh : Shape} (p : Program) (entries : ℕ → Local) {ram : ℕ → ℕ
     → run_from sh p es (first_state entries ram) ≡ Some h → Proved sh p (memo sh p entries ram es) h
 unfolding run
 proved {sh} p entries {ram} es s r = record {
-  carried = subst (λ x. IfSome x (λ g. Carried sh o.gs o.ys g)) r (runs_carry sh p entries ram es);
-  memory = subst (λ x. IfSome x (λ g. CarriedInMemory sh g)) r (runs_stay_in_memory sh p entries ram es s.inside);
-  views = subst (λ x. IfSome x (λ g. CarriedViews sh p o.vs g)) r (runs_carry_views sh p entries ram es s.fits);
+  carried = subst (λ x. IfSome x (Carried sh o.gs o.ys)) r (runs_carry sh p entries ram es);
+  memory = subst (λ x. IfSome x (CarriedInMemory sh)) r (runs_stay_in_memory sh p entries ram es s.inside);
+  views = subst (λ x. IfSome x (CarriedViews sh p o.vs)) r (runs_carry_views sh p entries ram es s.fits);
 }
   where
     o : Memo
@@ -190,39 +189,30 @@ proved {sh} p entries {ram} es s r = record {
 step-all : {sh : Shape} (p : Program) {entries : ℕ → Local} {ram : ℕ → ℕ} (o : Memo) (h : History) (e : Event) → Suits sh p ram
     → AllOf sh p entries ram o h
     → IfSome (next_history sh p h e) (λ g. Proved sh p (memo_after sh p h e o) g → AllOf sh p entries ram (memo_after sh p h e o) g)
-step-all {sh} p {entries} {ram} o h e s a = go (next_history sh p h e) (homes_kept sh p entries ram o.gs o.ys o.vs a.0 h e s a.1)
-    (words_kept sh p entries ram o.gs o.ys o.vs a.0 h e s a.1) (keeps_views sh p entries ram o.gs o.ys o.vs a.0 h e a.1)
-    (events_serial sh p entries ram o.gs o.ys o.vs a.0 h e s a.1)
+step-all {sh} p {entries} {ram} o h e s a = if_some (next_history sh p h e) (λ g eq k.
+    let homes = got _ eq (homes_kept sh p entries ram o.gs o.ys o.vs a.0 h e s a.1) k.carried in
+    let words = got _ eq (words_kept sh p entries ram o.gs o.ys o.vs a.0 h e s a.1) k.carried in
+    let views = got _ eq (keeps_views sh p entries ram o.gs o.ys o.vs a.0 h e a.1) k.carried k.views in
+    let d = got _ eq (events_serial sh p entries ram o.gs o.ys o.vs a.0 h e s a.1) in (
+      d.plain,
+      record {
+        carried = k.carried;
+        carried_views = k.views;
+        carried_in_memory = k.memory;
+        no_view_after_the_halt = views.1;
+        home_words_are_current = homes.0;
+        copy_above_the_tag_has_the_committed_words = homes.1;
+        unmodified_word_is_current_or_inv_in_flight = words.0;
+        filled_word_is_current_or_inv_in_flight = words.1;
+        viewed_word_is_current_or_doomed = views.0;
+        commits_are_serial = d.commits;
+        committed_cores_are_serial = d.cores;
+        seen_words_are_serial = seen_follows sh p entries ram n.gs n.ys d.plain g s.dirs k.carried k.memory homes.0 homes.1 d.commits;
+      },
+    ))
   where
     n : Memo
     n = memo_after sh p h e o
-
-    go : (x : Option History) → IfSome x (λ g. Carried sh n.gs n.ys g → HomesHold sh ram g)
-        → IfSome x (λ g. Carried sh n.gs n.ys g → UnmodifiedWords sh ram g.world g.commits × FilledWords sh ram g.world g.commits)
-        → IfSome x (λ g. Carried sh n.gs n.ys g → CarriedViews sh p n.vs g → ViewedWords sh ram g.world g.commits n.vs
-        × HaltedUsesNone g.world n.vs) → IfSome x (IsSerial sh p entries ram)
-        → IfSome x (λ g. Proved sh p n g → AllOf sh p entries ram n g)
-    go None a b c d = tt
-    go (Some g) a b c d = λ k.
-        let homes = a k.carried in
-        let words = b k.carried in
-        let views = c k.carried k.views in (
-          d.plain,
-          record {
-            carried = k.carried;
-            carried_views = k.views;
-            carried_in_memory = k.memory;
-            no_view_after_the_halt = views.1;
-            home_words_are_current = homes.0;
-            copy_above_the_tag_has_the_committed_words = homes.1;
-            unmodified_word_is_current_or_inv_in_flight = words.0;
-            filled_word_is_current_or_inv_in_flight = words.1;
-            viewed_word_is_current_or_doomed = views.0;
-            commits_are_serial = d.commits;
-            committed_cores_are_serial = d.cores;
-            seen_words_are_serial = seen_follows sh p entries ram n.gs n.ys d.plain g s.dirs k.carried k.memory homes.0 homes.1 d.commits;
-          },
-        )
 
 -- what is remembered of the longer run is what the event leaves
 memo-more : {sh : Shape} {p : Program} (entries : ℕ → Local) (ram : ℕ → ℕ) {es : List Event} {e : Event} {h g : History}
@@ -252,7 +242,7 @@ from-there sh p entries ram past (e ∷ es) h s r a = go (next_history sh p h e)
         let k = one-more sh p past e first_ways no_views (first_state entries ram) h g r q in
         let same : memo sh p entries ram (past ++ e ∷ []) ≡ o = memo-more entries ram k in
         let b : AllOf sh p entries ram o g = a (subst (λ y. Proved sh p y g) same (proved p entries (past ++ e ∷ []) s k.state)) in
-        subst (λ fs. IfSome (run_from sh p es g) (λ f. AllOf sh p entries ram (memo sh p entries ram fs) f)) (append_assoc past (e ∷ []) es)
+        subst (λ fs. IfSome (run_from sh p es g) (AllOf sh p entries ram (memo sh p entries ram fs))) (append_assoc past (e ∷ []) es)
         (more g q (subst (λ y. AllOf sh p entries ram y g) (sym same) b))
 
 start-all : (sh : Shape) (p : Program) (entries : ℕ → Local) (ram : ℕ → ℕ)

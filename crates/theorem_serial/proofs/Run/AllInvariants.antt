@@ -5,22 +5,21 @@ use Rattle.theorem_serial.specs.Asked.{KeptAsked}
 use Rattle.theorem_serial.specs.Probing.{KeptProbing, OneProbe}
 use Rattle.theorem_serial.proofs
 use proofs.Names
-use Names.{ℕ, ◌≡◌, ◌<◌, ◌≤◌, ◌==◌, ◌&&◌, ◌||◌, Bool, true, false, Option, Some, None, IfSome, nat_lt, arith, refl, num, Shape, writes_at}
-use Names.{reads_at, World, start, Phase, Probing, Ready, Overflowing, Solo, History, run, pair, share, opens, part, handled, ResolvedAt}
-use Names.{Kept, Always, OneWay, OneRequest, Passed, NeverPasses, OwedInFlight, Served, tid_of, asks_dir, KeptOwed, nats, tid_at}
-use Names.{IfSome_then, List, [], ◌∷◌, if◌then◌else◌, Noted, Program, Event, CoreState, Out, core_exec, core_evict, from_dir, grant, Answer}
-use Names.{Waits, Drops, Asks, Takes, dir_deliver, Stepped, step, insert_commit, and_noted, recorded, next_history, and_then, run_from}
-use Names.{first_state, SparesItsCommitter, SparesCommitter, KeptCommitting, MarksAreStored, append_assoc, KeptCounted, then_grants}
-use Names.{grants_from, LastGranted, append-nil, core_start, KeptStored, granted_by, KeptOwners, KeptWhole, KeptNamed, KeptMarks, KeptMasks}
-use Names.{KeptCores, HoldsLast, KeptTold, has_tid, KeptAll, Local, Grant, ◌++◌, live, sym, CommitsAreServed}
+use Names.{if_recorded, got, ℕ, ◌≡◌, ◌<◌, ◌≤◌, ◌==◌, ◌&&◌, ◌||◌, Bool, true, false, Option, Some, None, IfSome, nat_lt, arith, refl, num}
+use Names.{Shape, writes_at, reads_at, World, start, Phase, Probing, Ready, Overflowing, Solo, History, run, pair, share, opens, part}
+use Names.{handled, ResolvedAt, Kept, Always, OneWay, OneRequest, Passed, NeverPasses, OwedInFlight, Served, tid_of, asks_dir, KeptOwed}
+use Names.{nats, tid_at, IfSome_then, List, [], ◌∷◌, if◌then◌else◌, Noted, Program, Event, grant, Answer, Waits, Drops, Asks, Takes}
+use Names.{dir_deliver, Stepped, step, insert_commit, and_noted, recorded, next_history, and_then, run_from, first_state}
+use Names.{SparesItsCommitter, SparesCommitter, MarksAreStored, append_assoc, KeptCounted, then_grants, grants_from, append-nil, core_start}
+use Names.{granted_by, KeptOwners, KeptWhole, KeptNamed, KeptCores, HoldsLast, has_tid, KeptAll, Local, Grant, ◌++◌, live, sym}
+use Names.{CommitsAreServed}
 use proofs.Counts.{total-le, OfAnswer, step_cases}
 use proofs.Serving.{core_of_grant, core_of_back, step-kept, start-all, step-committing, start-committing, step-spared, commits_served}
 use proofs.Serving.{step-owners, start-owners, step-last, step-probing}
-use proofs.Tids.{KeepsHolder, holder-exec, holder-evict, holder-grant, holder-back}
+use proofs.Tids.{holder-exec, holder-evict, holder-grant, holder-back}
 use proofs.Lines.LineOwners.{step-asked, start-asked, step-whole, start-whole}
-use proofs.Marks.CountsKept.{step-counted, start-counted}
+use proofs.Marks.CountsKept.{step-counted, start-counted, step-masks, start-masks}
 use proofs.Marks.MarksKept.{step-marks, start-marks}
-use proofs.Marks.ModifiedMasksKept.{step-masks, start-masks}
 use proofs.Marks.NamedKept.{step-named, start-named}
 use proofs.Marks.StoredKept.{step-stored, start-stored}
 use proofs.OneCore.{step-cores, start-cores}
@@ -36,52 +35,33 @@ unfolding start pair live
 start-spared sh entries ram c d = record { owner = λ t l. absurd (omega arith); own = λ l g. refl }
 
 pub step-all : {sh : Shape} (p : Program) {gs : List Grant} {h : History} (e : Event) → KeptAll sh gs h
-    → IfSome (recorded h (step sh p h.world e)) (λ g. KeptAll sh (gs ++ granted_by h.world e) g)
-step-all {sh} p {gs} {h} e k = go (step sh p h.world e) (step-kept p e k.kept)
-    (step-owners p e k.kept.told.tids k.owners) (step-cores p h.world e k.cores) (step-committing p e k.kept k.committing)
-    (step-probing p e k.kept k.owners k.cores k.probing) (step-last p e k.kept.told.tids k.owners k.last)
-    (step-spared p e k.kept k.owners k.spared) (step-marks p e k.kept k.owners k.marks)
-    (step-counted p e k.kept k.owners k.cores k.marks k.counted) (step-whole sh p h.world e k.whole)
-    (step-named p e k.kept k.counted k.named) (step-asked sh p h.world e k.asked) (step-masks p e k.kept k.owners k.marks k.masks)
-    (step-stored p e k.kept k.owners k.cores k.marks k.counted k.masks k.stored)
-  where
-    go : (x : Option Stepped) → IfSome x (λ o. Kept sh o.world)
-        → IfSome x (λ o. KeptOwners sh (gs ++ granted_by h.world e) o.world (and_noted o.noted h.commits))
-        → IfSome x (λ o. KeptCores sh o.world) → IfSome x (λ o. KeptCommitting o.world) → IfSome x (λ o. KeptProbing o.world)
-        → IfSome x (λ o. LastGranted (gs ++ granted_by h.world e) o.world)
-        → IfSome x (λ o. KeptTold sh o.world → SparesCommitter sh (gs ++ granted_by h.world e) o.world)
-        → IfSome x (λ o. KeptTold sh o.world → KeptMarks sh (gs ++ granted_by h.world e) o.world)
-        → IfSome x (λ o. KeptTold sh o.world → KeptCounted sh o.world) → IfSome x (λ o. KeptWhole sh o.world)
-        → IfSome x (λ o. KeptTold sh o.world → KeptNamed sh o.world) → IfSome x (λ o. KeptAsked sh o.world)
-        → IfSome x (λ o. KeptMasks sh o.world) → IfSome x (λ o. KeptTold sh o.world → KeptStored sh (and_noted o.noted h.commits) o.world)
-        → IfSome (recorded h x) (λ g. KeptAll sh (gs ++ granted_by h.world e) g)
-    go None a b c d f l q m n r y z u v = tt
-    go (Some o) a b c d f l q m n r y z u v =
-        record {
-          kept = a;
-          owners = b;
-          cores = c;
-          committing = d;
-          probing = f;
-          last = l;
-          spared = q a.told;
-          marks = m a.told;
-          counted = n a.told;
-          whole = r;
-          named = y a.told;
-          asked = z;
-          masks = u;
-          stored = v a.told;
-        }
+    → IfSome (recorded h (step sh p h.world e)) (KeptAll sh (gs ++ granted_by h.world e))
+step-all {sh} p {gs} {h} e k = if_recorded _ h (step sh p h.world e)
+    (λ o eq. let a : Kept sh o.world = got _ eq (step-kept p e k.kept) in record {
+      kept = a;
+      owners = got _ eq (step-owners p e k.kept.told.tids k.owners);
+      cores = got _ eq (step-cores p h.world e k.cores);
+      committing = got _ eq (step-committing p e k.kept k.committing);
+      probing = got _ eq (step-probing p e k.kept k.owners k.cores k.probing);
+      last = got _ eq (step-last p e k.kept.told.tids k.owners k.last);
+      spared = got _ eq (step-spared p e k.kept k.owners k.spared) a.told;
+      marks = got _ eq (step-marks p e k.kept k.owners k.marks) a.told;
+      counted = got _ eq (step-counted p e k.kept k.owners k.cores k.marks k.counted) a.told;
+      whole = got _ eq (step-whole sh p h.world e k.whole);
+      named = got _ eq (step-named p e k.kept k.counted k.named) a.told;
+      asked = got _ eq (step-asked sh p h.world e k.asked);
+      masks = got _ eq (step-masks p e k.kept k.owners k.marks k.masks);
+      stored = got _ eq (step-stored p e k.kept k.owners k.cores k.marks k.counted k.masks k.stored) a.told;
+    })
 
 run_from-all : (sh : Shape) (p : Program) (es : List Event) (gs : List Grant) (h : History) → KeptAll sh gs h
-    → IfSome (run_from sh p es h) (λ r. KeptAll sh (gs ++ grants_from sh p es h) r)
+    → IfSome (run_from sh p es h) (KeptAll sh (gs ++ grants_from sh p es h))
 unfolding run_from grants_from next_history
 run_from-all sh p [] gs h k = rw append-nil k
 run_from-all sh p (e ∷ es) gs h k = go (recorded h (step sh p h.world e)) (step-all p e k)
     (run_from-all sh p es (gs ++ granted_by h.world e))
   where
-    go : (x : Option History) → IfSome x (λ g. KeptAll sh (gs ++ granted_by h.world e) g)
+    go : (x : Option History) → IfSome x (KeptAll sh (gs ++ granted_by h.world e))
         → ((g : History) → KeptAll sh (gs ++ granted_by h.world e) g
         → IfSome (run_from sh p es g) (λ r. KeptAll sh ((gs ++ granted_by h.world e) ++ grants_from sh p es g) r))
         → IfSome (and_then (run_from sh p es) x) (λ r. KeptAll sh (gs ++ then_grants (granted_by h.world e) (grants_from sh p es) x) r)
@@ -95,7 +75,7 @@ all-at-start sh entries ram = record {
   cores = start-cores sh entries ram;
   committing = start-committing entries ram;
   probing = start-probing entries ram;
-  last = λ c d t u l q. absurd (omega (arith, q.1));
+  last = λ c d t u l q. absurd (omega arith);
   spared = start-spared sh entries ram;
   marks = start-marks sh entries ram;
   counted = start-counted entries ram;
@@ -111,46 +91,51 @@ pub run-all : (sh : Shape) (p : Program) (entries : ℕ → Local) (ram : ℕ �
 unfolding run
 run-all sh p entries ram es = run_from-all sh p es [] (first_state entries ram) (all-at-start sh entries ram)
 
+-- what follows from all invariants, of the state that a run reaches
+along : {P : History → Type 0} (sh : Shape) (p : Program) (entries : ℕ → Local) (ram : ℕ → ℕ) (es : List Event)
+    → ((r : History) → KeptAll sh (grants_from sh p es (first_state entries ram)) r → P r) → IfSome (run sh p (start entries ram) es) P
+along sh p entries ram es f = IfSome_then (run sh p (start entries ram) es) (run-all sh p entries ram es) f
+
 pub one_probe_from : (sh : Shape) (w : World) → KeptProbing w → OneProbe sh w
 unfolding pair
 one_probe_from sh w k c d t h = (k c d t).held h
 
 pub one_probe : Always OneProbe
-one_probe sh p entries ram es = IfSome_then (run sh p (start entries ram) es) (run-all sh p entries ram es)
+one_probe sh p entries ram es = along sh p entries ram es
     (λ r h. one_probe_from sh r.world h.probing)
 
 pub last_granted : HoldsLast
-last_granted sh p entries ram es = IfSome_then (run sh p (start entries ram) es) (run-all sh p entries ram es) (λ r h. h.last)
+last_granted sh p entries ram es = along sh p entries ram es (λ r h. h.last)
 
 pub spares_committer : SparesItsCommitter
-spares_committer sh p entries ram es = IfSome_then (run sh p (start entries ram) es) (run-all sh p entries ram es) (λ r h. h.spared)
+spares_committer sh p entries ram es = along sh p entries ram es (λ r h. h.spared)
 
 pub marks_stored : MarksAreStored
-marks_stored sh p entries ram es = IfSome_then (run sh p (start entries ram) es) (run-all sh p entries ram es) (λ r h. h.marks)
+marks_stored sh p entries ram es = along sh p entries ram es (λ r h. h.marks)
 
 pub counts_marks : Always KeptCounted
-counts_marks sh p entries ram es = IfSome_then (run sh p (start entries ram) es) (run-all sh p entries ram es) (λ r h. h.counted)
+counts_marks sh p entries ram es = along sh p entries ram es (λ r h. h.counted)
 
 pub wholly_marked : Always KeptWhole
-wholly_marked sh p entries ram es = IfSome_then (run sh p (start entries ram) es) (run-all sh p entries ram es) (λ r h. h.whole)
+wholly_marked sh p entries ram es = along sh p entries ram es (λ r h. h.whole)
 
 pub named_lines : Always KeptNamed
-named_lines sh p entries ram es = IfSome_then (run sh p (start entries ram) es) (run-all sh p entries ram es) (λ r h. h.named)
+named_lines sh p entries ram es = along sh p entries ram es (λ r h. h.named)
 
 pub asked_owned : Always KeptAsked
-asked_owned sh p entries ram es = IfSome_then (run sh p (start entries ram) es) (run-all sh p entries ram es) (λ r h. h.asked)
+asked_owned sh p entries ram es = along sh p entries ram es (λ r h. h.asked)
 
 pub one_core : Always KeptCores
-one_core sh p entries ram es = IfSome_then (run sh p (start entries ram) es) (run-all sh p entries ram es) (λ r h. h.cores)
+one_core sh p entries ram es = along sh p entries ram es (λ r h. h.cores)
 
 pub commits_are_served : Always CommitsAreServed
-commits_are_served sh p entries ram es = IfSome_then (run sh p (start entries ram) es) (run-all sh p entries ram es)
+commits_are_served sh p entries ram es = along sh p entries ram es
     (λ r h. commits_served h.kept h.committing)
 
 pub run-owners : (sh : Shape) (p : Program) (entries : ℕ → Local) (ram : ℕ → ℕ) (es : List Event)
     → IfSome (run sh p (start entries ram) es)
     (λ r. KeptOwners sh (grants_from sh p es (record { world = start entries ram; commits = [] })) r.world r.commits)
-run-owners sh p entries ram es = IfSome_then (run sh p (start entries ram) es) (run-all sh p entries ram es) (λ r h. h.owners)
+run-owners sh p entries ram es = along sh p entries ram es (λ r h. h.owners)
 
 -- what the law on grants and commits cites
 pub ruleset granting = (run-owners, last_granted)
@@ -158,7 +143,7 @@ pub ruleset granting = (run-owners, last_granted)
 -- The laws of every run, from the invariants.
 
 from_kept : (P : Shape → World → Type 0) → ((sh : Shape) (w : World) → Kept sh w → P sh w) → Always P
-from_kept P f sh p entries ram es = IfSome_then (run sh p (start entries ram) es) (run-all sh p entries ram es) (λ r h. f sh r.world h.kept)
+from_kept P f sh p entries ram es = along sh p entries ram es (λ r h. f sh r.world h.kept)
 
 pub one_way : Always OneWay
 one_way = from_kept OneWay (λ sh w k. k.told.tids.resolved)
@@ -174,7 +159,7 @@ pub passed : (sh : Shape) (w : World) (d t : ℕ) → ResolvedAt sh w d t → t 
 unfolding handled share part pair
 passed sh w d t r l = record {
   granted = grind nats;
-  came = λ c i. omega (arith, none c i);
+  came = λ c i. omega (arith, none);
   closed = λ c i. num-zero (opens (w.cores c).phase (writes_at sh (w.cores c).cache d) t) (omega (arith, none c i));
   told = λ c i. omega (arith, none c i);
 }
@@ -223,9 +208,9 @@ serves sh w c d t k l x o r =
     let n : num (opens (w.cores c).phase (writes_at sh (w.cores c).cache d) t) ≡ 1 = rw o in
     let a = opens-asks (w.cores c).phase (writes_at sh (w.cores c).cache d) (reads_at sh (w.cores c).cache d) t o in
     let low = (k.probes c d).core.reached x a.0 r in
-    let z : num (nat_lt t (tid_at w d)) ≡ 0 = omega (arith, p, q, n) in
+    let z : num (nat_lt t (tid_at w d)) ≡ 0 = omega arith in
     let high : tid_at w d ≤ t = not_below t (tid_at w d) z in
-    omega (arith, low, a.1, high)
+    omega arith
   where
     not_below : (a b : ℕ) → num (nat_lt a b) ≡ 0 → b ≤ a
     not_below a b z = grind nats
@@ -251,18 +236,13 @@ noted-by : (sh : Shape) (c : ℕ) (n : Option Noted) → c < sh.cores → IfSome
 noted-by sh c None l o = tt
 noted-by sh c (Some n) l o = rw o l
 
-out-by : (sh : Shape) (c : ℕ) (got : ℕ → ℕ) (s : CoreState) (x : Option Out) → c < sh.cores → IfSome x (KeepsHolder c got s)
-    → IfSome x (λ o. NotedByCore sh o.commit)
-out-by sh c got s None l k = tt
-out-by sh c got s (Some o) l k = noted-by sh c o.commit l k.own
-
 step-by : {sh : Shape} (p : Program) {w : World} (e : Event) → Kept sh w → IfSome (step sh p w e) (λ o. NotedByCore sh o.noted)
 step-by {sh} p {w} e h = step_cases sh p w e (λ g o. NotedByCore sh o.noted)
-    (λ c l. out-by sh c _ (w.cores c) (core_exec sh p c (w.cores c)) l (holder-exec sh p c (w.cores c)))
-    (λ c x y l. out-by sh c _ (w.cores c) (core_evict sh x y (w.cores c)) l (holder-evict sh x y c (w.cores c)))
+    (λ c o eq l. noted-by sh c o.commit l (got _ eq (holder-exec sh p c (w.cores c))).own)
+    (λ c x y o eq l. noted-by sh c o.commit l (got _ eq (holder-evict sh x y c (w.cores c))).own)
     (λ c k t i. noted-by sh c (grant sh t (w.cores c)).commit (core_of_grant c k h.told.tids i) (holder-grant sh t c (w.cores c)).own)
-    (λ c d k m i. out-by sh c _ (w.cores c) (from_dir sh d (w.cores c) m) (core_of_back c d k h.told.tids i)
-    (holder-back sh d c (w.cores c) m)) (λ c d k m i. answer c d k (dir_deliver sh (w.dirs d) c m)) (λ c k i. tt)
+    (λ c d k m o eq i. noted-by sh c o.commit (core_of_back c d k h.told.tids i) (got _ eq (holder-back sh d c (w.cores c) m)).own)
+    (λ c d k m i. answer c d k (dir_deliver sh (w.dirs d) c m)) (λ c k i. tt)
   where
     answer : (c d k : ℕ) (a : Answer) → OfAnswer w c d k (λ v. NotedByCore sh None) a
     answer c d k Waits = tt

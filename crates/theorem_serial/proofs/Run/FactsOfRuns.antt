@@ -1,37 +1,31 @@
 -- What is carried along a run together, and the facts of the list that every run has.
 use Rattle.theorem_serial.proofs
 use proofs.Names
-use Names.{ℕ, List, [], ◌++◌, Option, Some, None, IfSome, Program, Local, Event, Shape, Stepped, step, History, and_noted, recorded}
-use Names.{run_from, run, KeptHomes, KeptLineOwners, KeptLoading, KeptAfter, first_state, KeptAll, KeptTold, OneMark, Grant, granted_by}
-use Names.{grants_from, ◌<◌, ◌≡◌, true, false, ◌∷◌, sym, append_assoc, append-nil, start, next_history, and_then, KeptTags, KeptGets}
-use Names.{KeptSharers, is_applied, stores_at, Noted, KeptRun, then_grants, Ways, ways_after, sent_by, then_ways, ways_from, first_ways}
-use Names.{◌+◌, ◌≤◌, ◌==◌, ◌&&◌, Bool, not, Contains, nat_le, arith, refl, num, home, Cache, IsCache, has_mark, CoreState, Halted, World}
-use Names.{IsApart, PhaseFits, Grants, Marks, MarkOf, Probes, Replies, live, Carried, RunsCarry, marks_of, marked_by, has_marked}
-use Names.{stores_line, OneCore, Empty, times, holder, pair, share, CommitsStand, MarksWait, MarkedByServed, MarksOfCommits}
-use Names.{UntoldWhereOpen, UntoldIsLive, AllWaysFit, GivenUpOnce, LiveIsOpen, CommittedWhereStored, SmallerAreGivenUp, WorkIsReached, ◌||◌}
-use Names.{◌∙◌, inl, inr, cases_lt, lines, Awaited, is_awaited, AttemptInMemory, LoadsInMemory, CopiesInMemory, CarriedInMemory}
-use Names.{RunsStayInMemory, Uses, MarksFit, Views, no_views, views_from, attempts-fit, ReadFits, RunsCarryViews, nats, tid_at, IfSome_then}
-use Names.{grant_to}
-use proofs.Copies.LinesKept.{start-lines, KeptLines, above-from, owned-from}
-use proofs.Copies.LinesStep.{step-lines}
-use proofs.Copies.TagsKept.{TagStep, tag-step, tags-out, start-tags}
-use proofs.Copies.WroteLines.{new-commit, on-its-way}
-use proofs.Lines.GetsKept.{step-gets, start-gets}
+use Names.{got, if_recorded, if_some, ap, ℕ, List, [], ◌++◌, Option, Some, None, IfSome, Program, Local, Event, Shape, Stepped, step}
+use Names.{History, and_noted, recorded, run_from, run, KeptHomes, KeptLineOwners, KeptLoading, KeptAfter, first_state, KeptAll, OneMark}
+use Names.{Grant, granted_by, grants_from, ◌<◌, ◌≡◌, true, false, ◌∷◌, sym, append_assoc, append-nil, start, next_history, and_then}
+use Names.{KeptTags, KeptGets, KeptSharers, KeptRun, then_grants, Ways, ways_after, sent_by, then_ways, ways_from, first_ways, ◌+◌, ◌≤◌}
+use Names.{◌==◌, ◌&&◌, Bool, Contains, nat_le, arith, refl, num, home, Cache, IsCache, has_mark, CoreState, Halted, World, IsApart}
+use Names.{PhaseFits, Grants, Marks, MarkOf, Probes, Replies, live, Carried, RunsCarry, marks_of, marked_by, OneCore, Empty, times, holder}
+use Names.{pair, share, CommitsStand, MarksWait, MarkedByServed, MarksOfCommits, UntoldWhereOpen, UntoldIsLive, AllWaysFit, GivenUpOnce}
+use Names.{LiveIsOpen, CommittedWhereStored, SmallerAreGivenUp, WorkIsReached, ◌||◌, ◌∙◌, inl, inr, cases_lt, lines, Awaited, is_awaited}
+use Names.{AttemptInMemory, LoadsInMemory, CopiesInMemory, CarriedInMemory, RunsStayInMemory, Uses, MarksFit, Views, no_views, views_from}
+use Names.{attempts-fit, ReadFits, RunsCarryViews, nats, tid_at, IfSome_then, grant_to}
+use proofs.Copies.{Before, start-lines, KeptLines, above-from, owned-from, step-lines, tag-step, tags-out, start-tags, new-commit}
+use proofs.Copies.{on-its-way}
+use proofs.Lines.GetsKept.{step-gets, start-gets, step-sharers, start-sharers}
 use proofs.Lines.LineOwners.{step-line-owners, start-line-owners, step-loading, start-loading}
-use proofs.Lines.SharersStep.{step-sharers, start-sharers}
 use proofs.Marks.AfterKept.{step-after, start-after}
-use proofs.Marks.ModifiedMasksKept.{step-one-mark, start-one-mark}
+use proofs.Marks.CountsKept.{step-one-mark, start-one-mark}
 use proofs.Marks.NamedKept.{KeptUnacked, step-unacked, start-unacked}
 use proofs.Marks.ReadsKept.{KeptReads, step-reads, start-reads, read-words}
-use proofs.Memory.HomesKept.{step-homes, start-homes}
+use proofs.Memory.HomesKept.{step-homes, start-homes, KeptInMemory, run-memory}
 use proofs.Run.AllInvariants.{step-all, run-all, one_probe_from, passed, owed_from, served_from}
 use proofs.Serving.{KeptOwing, step-owing, start-owing, KeptProbed, step-probed, start-probed, commits_served}
-use proofs.Ways.ToldSteps.{ByCore, Speaks, step-speaks}
-use proofs.Ways.WayFacts.{step-run, start-run, told_from, smaller_are_given_up, work_is_reached, untold_where_open, untold_is_live}
-use proofs.Ways.WayFacts.{all_ways_fit, given_up_once, live_is_open, committed_where_stored}
+use proofs.Ways.{ByCore, Speaks, step-speaks, step-run, start-run, told_from, smaller_are_given_up, work_is_reached, untold_where_open}
+use proofs.Ways.{untold_is_live, all_ways_fit, given_up_once, live_is_open, committed_where_stored}
 use proofs.Counts.{total-le}
 use proofs.Marks.MaskLaws.{marked_by_served, marks_of_commits}
-use proofs.Memory.InMemoryKept.{KeptInMemory, run-memory}
 
 -- What is carried along every run together with all else.
 
@@ -47,41 +41,30 @@ pub record KeptMore (sh : Shape) (gs : List Grant) (h : History) : Type 0 where
   pub one_mark : OneMark sh h.world
   pub reads : KeptReads sh h.world
 
-pub step-more : (sh : Shape) (p : Program) (gs : List Grant) (h : History) (e : Event) → KeptMore sh gs h
-    → IfSome (recorded h (step sh p h.world e)) (λ g. KeptMore sh (gs ++ granted_by h.world e) g)
-step-more sh p gs h e k = go (step sh p h.world e) (step-all p e k.all) (step-line-owners sh p gs h.world e k.all.spared k.line_owners)
-    (step-loading sh p h.world e k.loading) (step-probed p e k.all.kept k.all.owners k.probed)
-    (step-owing sh p h.world e k.owing) (step-unacked p e k.all.kept k.all.spared k.unacked) (step-homes p e k.all.kept k.homes)
-    (step-after p e k.all.owners k.all.cores k.all.last k.loading k.after)
-    (step-one-mark p e k.all.kept k.all.owners k.all.marks k.one_mark)
-    (step-reads p e k.all.kept k.all.owners k.all.cores k.all.spared k.reads)
-  where
-    go : (x : Option Stepped) → IfSome (recorded h x) (λ g. KeptAll sh (gs ++ granted_by h.world e) g)
-        → IfSome x (λ o. KeptLineOwners (gs ++ granted_by h.world e) o.world) → IfSome x (λ o. KeptLoading sh o.world)
-        → IfSome x (λ o. KeptProbed (gs ++ granted_by h.world e) o.world) → IfSome x (λ o. KeptOwing sh o.world)
-        → IfSome x (λ o. KeptTold sh o.world → KeptUnacked sh (gs ++ granted_by h.world e) o.world) → IfSome x (λ o. KeptHomes sh o.world)
-        → IfSome x (λ o. KeptAfter sh o.world (and_noted o.noted h.commits)) → IfSome x (λ o. OneMark sh o.world)
-        → IfSome x (λ o. KeptReads sh o.world) → IfSome (recorded h x) (λ g. KeptMore sh (gs ++ granted_by h.world e) g)
-    go None a b c d f i j l m n = tt
-    go (Some o) a b c d f i j l m n = record {
+step-more : (sh : Shape) (p : Program) (gs : List Grant) (h : History) (e : Event) → KeptMore sh gs h
+    → IfSome (recorded h (step sh p h.world e)) (KeptMore sh (gs ++ granted_by h.world e))
+step-more sh p gs h e k = if_recorded _ h (step sh p h.world e) (λ o eq.
+    let a : KeptAll sh (gs ++ granted_by h.world e) (record { world = o.world; commits = and_noted o.noted h.commits }) =
+    got _ (ap (recorded h) eq) (step-all p e k.all) in
+    record {
       all = a;
-      line_owners = b;
-      loading = c;
-      probed = d;
-      owing = f;
-      unacked = i a.kept.told;
-      homes = j;
-      after = l;
-      one_mark = m;
-      reads = n;
-    }
+      line_owners = got _ eq (step-line-owners sh p gs h.world e k.all.spared k.line_owners);
+      loading = got _ eq (step-loading sh p h.world e k.loading);
+      probed = got _ eq (step-probed p e k.all.kept k.all.owners k.probed);
+      owing = got _ eq (step-owing sh p h.world e k.owing);
+      unacked = got _ eq (step-unacked p e k.all.kept k.all.spared k.unacked) a.kept.told;
+      homes = got _ eq (step-homes p e k.all.kept k.homes);
+      after = got _ eq (step-after p e k.all.owners k.all.cores k.all.last k.loading k.after);
+      one_mark = got _ eq (step-one-mark p e k.all.kept k.all.owners k.all.marks k.one_mark);
+      reads = got _ eq (step-reads p e k.all.kept k.all.owners k.all.cores k.all.spared k.reads);
+    })
 
 -- what is carried holds where the run has no event
 start-all : (sh : Shape) (p : Program) (entries : ℕ → Local) (ram : ℕ → ℕ) → KeptAll sh [] (first_state entries ram)
 unfolding run run_from grants_from
 start-all sh p entries ram = run-all sh p entries ram []
 
-pub start-more : (sh : Shape) (p : Program) (entries : ℕ → Local) (ram : ℕ → ℕ) → KeptMore sh [] (first_state entries ram)
+start-more : (sh : Shape) (p : Program) (entries : ℕ → Local) (ram : ℕ → ℕ) → KeptMore sh [] (first_state entries ram)
 start-more sh p entries ram =
     record {
       all = start-all sh p entries ram;
@@ -107,40 +90,32 @@ pub record KeptCopies (sh : Shape) (gs : List Grant) (ys : Ways) (h : History) :
 
 step-copies : (sh : Shape) (p : Program) (gs : List Grant) (ys : Ways) (h : History) (e : Event) → KeptCopies sh gs ys h
     → IfSome (recorded h (step sh p h.world e)) (λ g. KeptCopies sh (gs ++ granted_by h.world e) (ways_after (sent_by sh p h.world e) ys) g)
-step-copies sh p gs ys h e k = go (step sh p h.world e) (step-run p e k.told) (step-more sh p gs h e k.more)
-    (step-speaks p e k.told.all.kept.told.tids k.told.all.cores) (tag-step sh p h.world e)
-    (step-lines sh p gs ys h e (record { told = k.told; owners = k.more.line_owners; tags = k.tags; lines = k.lines }))
-    (step-gets sh p h.world h.commits e k.gets)
-    (step-sharers sh p gs ys h e (record { told = k.told; owners = k.more.line_owners; tags = k.tags; lines = k.lines }) k.more.loading
-    k.more.homes k.more.reads k.sharers)
-  where
-    hs : List Grant
-    hs = gs ++ granted_by h.world e
-
-    zs : Ways
-    zs = ways_after (sent_by sh p h.world e) ys
-
-    go : (x : Option Stepped) → IfSome (recorded h x) (λ g. KeptRun sh hs zs g) → IfSome (recorded h x) (λ g. KeptMore sh hs g)
-        → IfSome x (ByCore sh h.world (Speaks sh h.world) (sent_by sh p h.world e)) → IfSome x (TagStep sh h.world)
-        → IfSome x (λ o. KeptLines sh (and_noted o.noted h.commits) o.world)
-        → IfSome x (λ o. KeptLines sh (and_noted o.noted h.commits) o.world → KeptGets sh o.world)
-        → IfSome x (λ o. KeptLoading sh o.world
-        → ((n : Noted) (d : ℕ) → o.noted ≡ Some n → d < sh.dirs → stores_at sh d n.stores ≡ true
-        → is_applied (h.world.dirs d) n.tid.0 ≡ false) → KeptSharers sh o.world (and_noted o.noted h.commits))
-        → IfSome (recorded h x) (λ g. KeptCopies sh hs zs g)
-    go None a b c d f i j = tt
-    go (Some o) a b c d f i j = record {
+step-copies sh p gs ys h e k = if_recorded _ h (step sh p h.world e) (λ o eq.
+    let a : KeptRun sh (gs ++ granted_by h.world e) (ways_after (sent_by sh p h.world e) ys) (after o) =
+    got _ (ap (recorded h) eq) (step-run p e k.told) in
+    let b : KeptMore sh (gs ++ granted_by h.world e) (after o) = got _ (ap (recorded h) eq) (step-more sh p gs h e k.more) in
+    let speaks : ByCore sh h.world (Speaks sh h.world) (sent_by sh p h.world e) o =
+    got _ eq (step-speaks p e k.told.all.kept.told.tids k.told.all.cores) in
+    let lines : KeptLines sh (and_noted o.noted h.commits) o.world = got _ eq (step-lines sh p gs ys h e before) in
+    record {
       told = a;
       more = b;
-      tags = tags-out sh gs ys h o k.told (on-its-way sh hs zs (record { world = o.world; commits = and_noted o.noted h.commits }) a)
-          (new-commit k.told c) k.tags d;
-      lines = f;
-      gets = i f;
-      sharers = j b.loading (new-commit k.told c);
-    }
+      tags = tags-out sh gs ys h o k.told (on-its-way sh (gs ++ granted_by h.world e) (ways_after (sent_by sh p h.world e) ys) (after o) a)
+          (new-commit k.told speaks) k.tags (got _ eq (tag-step sh p h.world e));
+      lines = lines;
+      gets = got _ eq (step-gets sh p h.world h.commits e k.gets) lines;
+      sharers = got _ eq (step-sharers sh p gs ys h e before k.more.loading k.more.homes k.more.reads k.sharers) b.loading
+          (new-commit k.told speaks);
+    })
+  where
+    before : Before sh gs ys h
+    before = record { told = k.told; owners = k.more.line_owners; tags = k.tags; lines = k.lines }
+
+    after : Stepped → History
+    after o = record { world = o.world; commits = and_noted o.noted h.commits }
 
 run_from-copies : (sh : Shape) (p : Program) (es : List Event) (gs : List Grant) (ys : Ways) (h : History) → KeptCopies sh gs ys h
-    → IfSome (run_from sh p es h) (λ r. KeptCopies sh (gs ++ grants_from sh p es h) (ways_from sh p es ys h) r)
+    → IfSome (run_from sh p es h) (KeptCopies sh (gs ++ grants_from sh p es h) (ways_from sh p es ys h))
 unfolding run_from grants_from ways_from next_history
 run_from-copies sh p [] gs ys h k = rw append-nil k
 run_from-copies sh p (e ∷ es) gs ys h k = go (recorded h (step sh p h.world e)) (step-copies sh p gs ys h e k)
@@ -149,7 +124,7 @@ run_from-copies sh p (e ∷ es) gs ys h k = go (recorded h (step sh p h.world e)
     x : Ways
     x = ways_after (sent_by sh p h.world e) ys
 
-    go : (a : Option History) → IfSome a (λ g. KeptCopies sh (gs ++ granted_by h.world e) x g)
+    go : (a : Option History) → IfSome a (KeptCopies sh (gs ++ granted_by h.world e) x)
         → ((g : History) → KeptCopies sh (gs ++ granted_by h.world e) x g
         → IfSome (run_from sh p es g)
         (λ r. KeptCopies sh ((gs ++ granted_by h.world e) ++ grants_from sh p es g) (ways_from sh p es x g) r))
@@ -158,7 +133,7 @@ run_from-copies sh p (e ∷ es) gs ys h k = go (recorded h (step sh p h.world e)
     go None a f = tt
     go (Some g) a f = rw (sym (append_assoc gs (granted_by h.world e) (grants_from sh p es g))) (f g a)
 
-pub run-copies : (sh : Shape) (p : Program) (entries : ℕ → Local) (ram : ℕ → ℕ) (es : List Event)
+run-copies : (sh : Shape) (p : Program) (entries : ℕ → Local) (ram : ℕ → ℕ) (es : List Event)
     → IfSome (run sh p (start entries ram) es)
     (λ r. KeptCopies sh (grants_from sh p es (first_state entries ram)) (ways_from sh p es first_ways (first_state entries ram)) r)
 unfolding run
@@ -193,7 +168,7 @@ live-granted : {sh : Shape} {gs : List Grant} (h : History) → KeptAll sh gs h 
 unfolding share
 live-granted {sh} h k c d t l x =
     let y : 1 ≤ holder t (pair h.world c 0) = rw (holder-same h.world c 0 d t) x in
-    (k.owners.held c d t x, omega (arith, y, k.owners.once t, total-le (share (holder t) h.world 0) sh.cores c l))
+    (k.owners.held c d t x, omega (arith, k.owners.once t, total-le (share (holder t) h.world 0) sh.cores c l))
 
 -- Marks
 none-coming : (n g x : ℕ) → (1 ≤ n + g → x ≡ 0) → 1 ≤ x → g ≡ 0
@@ -227,18 +202,13 @@ unfolding marked_by
 marks-wait {sh} h k c d t l cl dl = record {
   fresh = (k.marks c d t l).fresh;
   unsent =
-      λ y z. omega (
-        arith,
-        (k.marks c d t l).held cl dl y,
-        none-marked (has_marked (pair h.world c d).core.phase)
-            (not ((pair h.world c d).core.owing d)) (stores_line sh (pair h.world c d).core.cache d l) z,
-      );
+      λ y z. omega (arith, (k.marks c d t l).held cl dl y, none-marked);
 }
 
 -- the owner of a Mark is known by any of its lines
 mark-owner : {sh : Shape} {gs : List Grant} {h : History} → KeptAll sh gs h → (c d t : ℕ) → 1 ≤ live (Marks t) (pair h.world c d).out
     → Contains gs (grant_to t c)
-mark-owner k c d t x = (k.marks c d t 0).owner (omega (arith, x))
+mark-owner k c d t x = (k.marks c d t 0).owner (omega arith)
 
 probes-taken : {sh : Shape} {gs : List Grant} (h : History) → KeptMore sh gs h → (c d t : ℕ)
     → 1 ≤ live (Probes t) (pair h.world c d).out + live (Replies t) (pair h.world c d).back
@@ -321,48 +291,24 @@ carried sh gs ys h x t = let m = x.more in let k = m.all in record {
 
 proved-alone : (sh : Shape) (p : Program) (entries : ℕ → Local) (ram : ℕ → ℕ) (es : List Event)
     → IfSome (run sh p (start entries ram) es) (λ h. ProvedAlone sh (ways_from sh p es first_ways (first_state entries ram)) h)
-proved-alone sh p entries ram es = go (run sh p (start entries ram) es) (untold_where_open sh p entries ram es)
-    (untold_is_live sh p entries ram es) (all_ways_fit sh p entries ram es) (given_up_once sh p entries ram es)
-    (live_is_open sh p entries ram es) (committed_where_stored sh p entries ram es) (smaller_are_given_up sh p entries ram es)
-    (work_is_reached sh p entries ram es) (marked_by_served sh p entries ram es) (marks_of_commits sh p entries ram es)
-    (told_from (λ sh ys h. CommitsStand sh h.world h.commits) on-its-way sh p entries ram es)
-  where
-    ys : Ways
-    ys = ways_from sh p es first_ways (first_state entries ram)
-
-    go : (x : Option History) → IfSome x (λ h. UntoldWhereOpen sh ys h) → IfSome x (λ h. UntoldIsLive sh ys h)
-        → IfSome x (λ h. AllWaysFit sh ys h) → IfSome x (λ h. GivenUpOnce sh ys h) → IfSome x (λ h. LiveIsOpen sh ys h)
-        → IfSome x (λ h. CommittedWhereStored sh ys h) → IfSome x (λ h. SmallerAreGivenUp sh ys h) → IfSome x (λ h. WorkIsReached sh ys h)
-        → IfSome x (λ h. MarkedByServed sh h.world) → IfSome x (λ h. MarksOfCommits sh h.commits h.world)
-        → IfSome x (λ h. CommitsStand sh h.world h.commits) → IfSome x (λ h. ProvedAlone sh ys h)
-    go None a b c d f i j l m n q = tt
-    go (Some h) a b c d f i j l m n q = record {
-      untold = a;
-      is_live = b;
-      fit = c;
-      once = d;
-      is_open = f;
-      committed = i;
-      smaller = j;
-      reached = l;
-      served = m;
-      marks = n;
-      stand = q;
-    }
+proved-alone sh p entries ram es = if_some (run sh p (start entries ram) es) (λ h eq. record {
+  untold = got _ eq (untold_where_open sh p entries ram es);
+  is_live = got _ eq (untold_is_live sh p entries ram es);
+  fit = got _ eq (all_ways_fit sh p entries ram es);
+  once = got _ eq (given_up_once sh p entries ram es);
+  is_open = got _ eq (live_is_open sh p entries ram es);
+  committed = got _ eq (committed_where_stored sh p entries ram es);
+  smaller = got _ eq (smaller_are_given_up sh p entries ram es);
+  reached = got _ eq (work_is_reached sh p entries ram es);
+  served = got _ eq (marked_by_served sh p entries ram es);
+  marks = got _ eq (marks_of_commits sh p entries ram es);
+  stand = got _ eq (told_from (λ sh ys h. CommitsStand sh h.world h.commits) on-its-way sh p entries ram es);
+})
 
 pub runs_carry : RunsCarry
-runs_carry sh p entries ram es = go (run sh p (start entries ram) es) (run-copies sh p entries ram es) (proved-alone sh p entries ram es)
-  where
-    gs : List Grant
-    gs = grants_from sh p es (first_state entries ram)
-
-    ys : Ways
-    ys = ways_from sh p es first_ways (first_state entries ram)
-
-    go : (x : Option History) → IfSome x (λ h. KeptCopies sh gs ys h) → IfSome x (λ h. ProvedAlone sh ys h)
-        → IfSome x (λ h. Carried sh gs ys h)
-    go None k t = tt
-    go (Some h) k t = carried sh gs ys h k t
+runs_carry sh p entries ram es = if_some (run sh p (start entries ram) es) (λ h eq.
+    carried sh (grants_from sh p es (first_state entries ram)) (ways_from sh p es first_ways (first_state entries ram)) h
+    (got _ eq (run-copies sh p entries ram es)) (got _ eq (proved-alone sh p entries ram es)))
 
 -- The facts of the list that are proved of every run of a program whose accesses lie in memory.
 attempt-memory : (sh : Shape) (gs : List Grant) (ys : Ways) (h : History) → Carried sh gs ys h → KeptInMemory sh h → (c : ℕ)
@@ -378,7 +324,7 @@ attempt-memory sh gs ys h k m c = record {
 
 loads-memory : {sh : Shape} {gs : List Grant} {ys : Ways} (h : History) → Carried sh gs ys h → KeptInMemory sh h → LoadsInMemory sh h.world
 unfolding pair
-loads-memory {sh} h k m c d l i = go (h.world.cores c).awaited refl (omega (arith, i, k.one_load_request_or_fill c d l))
+loads-memory {sh} h k m c d l i = go (h.world.cores c).awaited refl (omega (arith, k.one_load_request_or_fill))
   where
     line : (a : Awaited) → (h.world.cores c).awaited ≡ Some a → (b e : Bool) → (a.line == l) ≡ b → 1 ≤ num (b && e) → l < lines sh
     line a q b e r n = grind (nats, attempt-memory)
@@ -388,7 +334,7 @@ loads-memory {sh} h k m c d l i = go (h.world.cores c).awaited refl (omega (arit
     go (Some a) q n = line a q (a.line == l) (home sh l == d) refl n
 
 copies-memory : (sh : Shape) (h : History) → KeptInMemory sh h → CopiesInMemory sh h.world
-copies-memory sh h m c d l t i = elim (cases_lt l (lines sh)) [ inl q ↦ q | inr q ↦ absurd (omega (arith, i, m.copies c d l t q)) ]
+copies-memory sh h m c d l t i = elim (cases_lt l (lines sh)) [ inl q ↦ q | inr q ↦ absurd (omega (arith, m.copies)) ]
 
 pub carried-memory : (sh : Shape) (gs : List Grant) (ys : Ways) (h : History) → Carried sh gs ys h → KeptInMemory sh h
     → CarriedInMemory sh h
@@ -401,19 +347,9 @@ carried-memory sh gs ys h k m = record {
 }
 
 pub runs_stay_in_memory : RunsStayInMemory
-runs_stay_in_memory sh p entries ram es i = go (run sh p (start entries ram) es) (runs_carry sh p entries ram es)
-    (run-memory sh p entries ram es i)
-  where
-    gs : List Grant
-    gs = grants_from sh p es (first_state entries ram)
-
-    ys : Ways
-    ys = ways_from sh p es first_ways (first_state entries ram)
-
-    go : (x : Option History) → IfSome x (λ h. Carried sh gs ys h) → IfSome x (λ h. KeptInMemory sh h)
-        → IfSome x (λ h. CarriedInMemory sh h)
-    go None k m = tt
-    go (Some h) k m = carried-memory sh gs ys h k m
+runs_stay_in_memory sh p entries ram es i = if_some (run sh p (start entries ram) es) (λ h eq.
+    carried-memory sh (grants_from sh p es (first_state entries ram)) (ways_from sh p es first_ways (first_state entries ram)) h
+    (got _ eq (runs_carry sh p entries ram es)) (got _ eq (run-memory sh p entries ram es i)))
 
 -- The facts of the list that are proved of every run of a program that fits: what theorem_attempt says of each core's attempt and its view.
 read-fits : {sh : Shape} {s : CoreState} {us : Uses} → MarksFit sh s us → ReadFits s us

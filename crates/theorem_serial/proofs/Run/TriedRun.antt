@@ -57,7 +57,7 @@ one-two : 1 < 2
 one-two = omega arith
 
 no : 1 ≤ 0 → ⊥
-no l = omega (arith, l)
+no l = omega arith
 
 unequal : (a b : ℕ) → (a == b) ≡ false → a ≡ b → ⊥
 unequal a b h e = grind nats
@@ -67,7 +67,7 @@ home-of : {sh : Shape} {ram : ℕ → ℕ} {w : World} {cs : List Noted} (d x : 
     → word_copies x ((w.dirs d).lines.tag (line_of x)) (pair w 1 d) ≡ 0
     → (w.dirs d).words x ≡ value_at sh.base ram cs (w.dirs d) None None x
 home-of {w} d x k e l h a b =
-    k.at_home d x l h (λ c i. both (λ c. word_copies x ((w.dirs d).lines.tag (line_of x)) (pair w c d) ≡ 0) a b c (omega (arith, i, e)))
+    k.at_home d x l h (λ c i. both (λ c. word_copies x ((w.dirs d).lines.tag (line_of x)) (pair w c d) ≡ 0) a b c (omega arith))
 
 pub tried_fails : TriedFails
 unfolding run_computed

@@ -1,18 +1,23 @@
 -- What a core sends that directories count: Commits, to those that have reached its TID, and acknowledgements.
+use Rattle.rules_maps.specs.Words.{put}
 use Rattle.theorem_serial.proofs
 use proofs.Names
-use Names.{ℕ, ◌≡◌, ◌<◌, ◌≤◌, true, false, List, IfSome, nat_lt, arith, refl, Program, num, Dir, Msg, Shape, Cache, writes_at, CoreState}
-use Names.{Ready, Link, Out, commit, commit_sends, solo_sends, core_exec, core_evict, grant, from_dir, CommitsAbove, AnyCommit, among, live}
-use Names.{passes, Reached, cases_lt, inl, inr, solo_commit, nats, ◌==◌, Spilled, noted, solo_marks_or_skip, solo_write_backs, Commits}
-use Names.{zero, suc, ◌%◌, Bool, [], ◌∷◌, ◌++◌, ◌&&◌, None, cond, if◌then◌else◌, flat_map, flat_map-append, those, count_below, Fill, Skip}
-use Names.{ProbeReply, Mark, Commit, WriteBack, DataReq, Inv, InvAck, home, lines, is_modified, modified_mask, written_lines, holds}
-use Names.{spilled_mask, spilled_words, Phase, AwaitTid, DoomedTid, Overflowing, Sends, to, marks_for, skip_all, probe_all, abort_written}
-use Names.{solo_writes_at, is_written, written_mask, grant_in_phase, grant_sends, ignored, Kind, Acks, MarksAway, AnyResolve, Protocol}
-use proofs.Counts.{among-fewer, live-fewer, among-append, among-flat_map_none}
+use Names.{got, ℕ, ◌≡◌, ◌<◌, ◌≤◌, true, false, List, IfSome, nat_lt, arith, refl, Program, num, Dir, Msg, Shape, Cache, writes_at}
+use Names.{CoreState, Ready, Link, Out, commit, commit_sends, solo_sends, core_exec, core_evict, grant, from_dir, CommitsAbove, AnyCommit}
+use Names.{among, live, passes, Reached, cases_lt, inl, inr, solo_commit, nats, ◌==◌, Spilled, noted, solo_marks_or_skip, solo_write_backs}
+use Names.{Commits, zero, suc, ◌%◌, Bool, [], ◌∷◌, ◌++◌, ◌&&◌, None, cond, if◌then◌else◌, flat_map, flat_map-append, those, count_below}
+use Names.{Fill, Skip, ProbeReply, Mark, Commit, WriteBack, DataReq, Inv, InvAck, home, lines, is_modified, modified_mask, written_lines}
+use Names.{holds, spilled_mask, spilled_words, Phase, AwaitTid, DoomedTid, Overflowing, Sends, to, marks_for, skip_all, probe_all}
+use Names.{abort_written, solo_writes_at, is_written, written_mask, grant_in_phase, grant_sends, Kind, Acks, MarksAway, AnyResolve}
+use Names.{Protocol, ◌||◌, Some, ap₂, Local, Outcome, any_below, Event, reads_at, any_below-at, World, Running, Probing, Solo, start}
+use Names.{core_start, committed_core, phase_after_commit, is_probed, probing_or_ready, all_replied, Answer, Waits, dir_deliver, core_moves}
+use Names.{core_takes, dir_takes, dir_asks, vendor_gives, step, OwingFits, awaits_replies, asks_dir, tested}
+use proofs.Counts.{among-fewer, live-fewer, among-append, among-flat_map_none, OfAnswer, step_cases}
 use proofs.OneCore.{quiet, Empties, Flushes, Silent, Tells_alone, say, Commits_now, Did, each-exec, out, each-evict, emptied, Ends_alone}
 use proofs.OneCore.{Given_none, Granted, Hands_out, Heard, each-back, each-grant, granted, granted_said, heard, heard-quiet, said, Ends_run}
 use proofs.OneCore.{Room_wanted, Steady, did-steady, ignored-steady, fill-steady, data-steady, Hurt, Unhurt, Rolled, Doomed, Aborted}
-use proofs.OneCore.{Gave_up, Invalidated, invalidate-cases, Replied, Ignored, Probed, Left_alone, reply-cases, steady-emptied}
+use proofs.OneCore.{Gave_up, Invalidated, invalidate-cases, Replied, Ignored, Probed, Left_alone, reply-cases, steady-emptied, none-below}
+use proofs.OneCore.{all-replied, reads_at-same, Acts, writes_at-same}
 use proofs.Tids.{noted_tid}
 
 -- What a core sends as a commit: only to directories that have reached its TID, and of what it notes the commit of.
@@ -31,7 +36,7 @@ few-above : (x : ℕ) (ms : List Msg) → among (CommitsAbove x) ms ≤ among An
 few-above x ms = among-fewer (CommitsAbove x) AnyCommit (above-any x) ms
 
 served-free : (d x : ℕ) (o : Out) → among AnyCommit (o.sends (Dir d)) ≡ 0 → Served d x o
-served-free d x o h = omega (arith, few-above x (o.sends (Dir d)))
+served-free d x o h = omega (arith, few-above)
 
 served-commit : (sh : Shape) (c : Cache) (t d x : ℕ) → (d < sh.dirs → writes_at sh c d ≡ true → t ≤ x)
     → among (CommitsAbove x) (commit_sends sh c t (Dir d)) ≡ 0
@@ -48,9 +53,9 @@ served-solo sh s t d x h = elim (cases_lt d sh.dirs) [
 ]
 
 pub served-exec : {sh : Shape} (p : Program) (c : ℕ) {d x : ℕ} {s : CoreState} → Reached sh d x s
-    → IfSome (core_exec sh p c s) (λ o. Served d x o)
+    → IfSome (core_exec sh p c s) (Served d x)
 unfolding commit solo_commit passes
-served-exec {sh} p c {d} {x} {s} r = each-exec sh p c s (λ o. Served d x o) go
+served-exec {sh} p c {d} {x} {s} r = each-exec sh p c s (Served d x) go
   where
     ready : (u : ℕ) → s.phase ≡ Ready u → d < sh.dirs → writes_at sh s.cache d ≡ true → u ≤ x
     ready u e l w = rw e at (r.reached l (rw e (rw w)) (r.replied l (rw e)))
@@ -60,9 +65,9 @@ served-exec {sh} p c {d} {x} {s} r = each-exec sh p c s (λ o. Served d x o) go
     go (Commits_now u e) = served-commit sh s.cache u d x (ready u e)
     go y = served-free d x (out y) (quiet sh s AnyCommit (said y) (λ z. refl) d)
 
-pub served-evict : (sh : Shape) (y z d x : ℕ) (s : CoreState) → IfSome (core_evict sh y z s) (λ o. Served d x o)
+pub served-evict : (sh : Shape) (y z d x : ℕ) (s : CoreState) → IfSome (core_evict sh y z s) (Served d x)
 unfolding passes
-served-evict sh y z d x s = each-evict sh y z s (λ o. Served d x o)
+served-evict sh y z d x s = each-evict sh y z s (Served d x)
     (λ k q u i. served-free d x (emptied sh y z k s) (quiet sh s AnyCommit (Empties k) (λ z. refl) d))
 
 -- no other event sends a Commit
@@ -82,7 +87,7 @@ heard-free y d = heard-quiet AnyCommit y (λ z. refl) (λ b. refl) d
 pub served-grant : (sh : Shape) (u d x : ℕ) (s : CoreState) → Served d x (grant sh u s)
 served-grant sh u d x s = served-free d x (grant sh u s) (granted-free sh u d s)
 
-pub served-back : (sh : Shape) (e d x : ℕ) (s : CoreState) (m : Msg) → IfSome (from_dir sh e s m) (λ o. Served d x o)
+pub served-back : (sh : Shape) (e d x : ℕ) (s : CoreState) (m : Msg) → IfSome (from_dir sh e s m) (Served d x)
 served-back sh e d x s m = each-back sh e s (λ m o. Served d x o) (λ y. served-free d x (heard y) (heard-free y d)) m
 
 -- fewer Commits are above a larger TID
@@ -107,7 +112,7 @@ pub few-of : (t : ℕ) (ms : List Msg) → among (Commits t) ms ≤ among AnyCom
 few-of t ms = among-fewer (Commits t) AnyCommit (of-any t) ms
 
 noted-free : (o : Out) → ((d : ℕ) → among AnyCommit (o.sends (Dir d)) ≡ 0) → CommitsNoted o
-noted-free o h d t = omega (arith, h d, few-of t (o.sends (Dir d)))
+noted-free o h d t = omega (arith, h, few-of)
 
 of-commit : (sh : Shape) (c : Cache) (u d t : ℕ) → among (Commits t) (commit_sends sh c u (Dir d)) ≤ num (u == t)
 unfolding commit_sends among passes
@@ -117,24 +122,24 @@ of-solo : (sh : Shape) (c : Cache) (sp : Spilled) (u d t : ℕ) → among (Commi
 unfolding solo_sends solo_marks_or_skip solo_write_backs among passes
 of-solo sh c sp u d t = grind (nats, among-flat_map_none, among-append)
 
-pub noted-exec : (sh : Shape) (p : Program) (c : ℕ) (s : CoreState) → IfSome (core_exec sh p c s) (λ o. CommitsNoted o)
+pub noted-exec : (sh : Shape) (p : Program) (c : ℕ) (s : CoreState) → IfSome (core_exec sh p c s) CommitsNoted
 unfolding commit solo_commit noted passes
-noted-exec sh p c s = each-exec sh p c s (λ o. CommitsNoted o) go
+noted-exec sh p c s = each-exec sh p c s CommitsNoted go
   where
     go : (x : Did sh p c s) → CommitsNoted (out x)
     go (Ends_alone t l o f q i) = λ d u. of-solo sh s.cache s.spilled t d u
     go (Commits_now u e) = λ d t. of-commit sh s.cache u d t
     go x = noted-free (out x) (quiet sh s AnyCommit (said x) (λ y. refl))
 
-pub noted-evict : (sh : Shape) (x y : ℕ) (s : CoreState) → IfSome (core_evict sh x y s) (λ o. CommitsNoted o)
+pub noted-evict : (sh : Shape) (x y : ℕ) (s : CoreState) → IfSome (core_evict sh x y s) CommitsNoted
 unfolding passes
-noted-evict sh x y s = each-evict sh x y s (λ o. CommitsNoted o)
+noted-evict sh x y s = each-evict sh x y s CommitsNoted
     (λ k q u z. noted-free (emptied sh x y k s) (quiet sh s AnyCommit (Empties k) (λ y. refl)))
 
 pub noted-grant : (sh : Shape) (u : ℕ) (s : CoreState) → CommitsNoted (grant sh u s)
 noted-grant sh u s = noted-free (grant sh u s) (λ d. granted-free sh u d s)
 
-pub noted-back : (sh : Shape) (e : ℕ) (s : CoreState) (m : Msg) → IfSome (from_dir sh e s m) (λ o. CommitsNoted o)
+pub noted-back : (sh : Shape) (e : ℕ) (s : CoreState) (m : Msg) → IfSome (from_dir sh e s m) CommitsNoted
 noted-back sh e s m = each-back sh e s (λ m o. CommitsNoted o) (λ y. noted-free (heard y) (heard-free y)) m
 
 -- A core acknowledges nothing but an invalidation, and marks lines at their homes alone.
@@ -175,17 +180,17 @@ clean-quiet : (sh : Shape) (d : ℕ) (ms : List Msg) → among Protocol ms ≡ 0
 unfolding among
 clean-quiet sh d [] h = record { acks = refl; marks = refl; far = λ x. refl }
 clean-quiet sh d (m ∷ ms) h = let r = clean-quiet sh d ms (omega arith) in record {
-  acks = omega (arith, acks-protocol m, r.acks);
-  marks = omega (arith, marks-protocol sh.dirs d m, r.marks);
-  far = λ x. omega (arith, resolves-protocol m, r.far x);
+  acks = omega (arith, acks-protocol);
+  marks = omega (arith, marks-protocol);
+  far = λ x. omega (arith, resolves-protocol, r.far);
 }
 
 clean-append : {sh : Shape} {d : ℕ} (a b : List Msg) → Clean sh d a → Clean sh d b → Clean sh d (a ++ b)
 clean-append {sh} {d} a b x y =
     record {
-      acks = omega (arith, among-append Acks a b, x.acks, y.acks);
-      marks = omega (arith, among-append (MarksAway sh.dirs d) a b, x.marks, y.marks);
-      far = λ z. omega (arith, among-append AnyResolve a b, x.far z, y.far z);
+      acks = omega (arith, among-append);
+      marks = omega (arith, among-append);
+      far = λ z. omega (arith, among-append, x.far, y.far);
     }
 
 clean-marks : (sh : Shape) (d t : ℕ) (mask : ℕ → ℕ) (p : ℕ → Bool) (n : ℕ) → ((l : ℕ) → p l ≡ true → home sh l ≡ d)
@@ -262,9 +267,9 @@ clean-none sh d = record { acks = refl; marks = refl; far = λ x. refl }
 pub clean-steady : (sh : Shape) {s : CoreState} {o : Out} → Steady s o → CleanOut sh o
 clean-steady sh {o} y d = clean-quiet sh d (o.sends (Dir d)) (y.quiet d)
 
-pub clean-exec : (sh : Shape) (p : Program) (c : ℕ) (s : CoreState) → IfSome (core_exec sh p c s) (λ o. CleanOut sh o)
+pub clean-exec : (sh : Shape) (p : Program) (c : ℕ) (s : CoreState) → IfSome (core_exec sh p c s) (CleanOut sh)
 unfolding commit solo_commit
-clean-exec sh p c s = each-exec sh p c s (λ o. CleanOut sh o) go
+clean-exec sh p c s = each-exec sh p c s (CleanOut sh) go
   where
     go : (x : Did sh p c s) → CleanOut sh (out x)
     go (Commits_now u e) = λ d. clean-commit sh s.cache u d
@@ -273,21 +278,18 @@ clean-exec sh p c s = each-exec sh p c s (λ o. CleanOut sh o) go
     go (Ends_alone u l e f r i) = λ d. clean-solo sh s.cache s.spilled u d
     go x = clean-steady sh (did-steady x)
 
-pub clean-evict : (sh : Shape) (x y : ℕ) (s : CoreState) → IfSome (core_evict sh x y s) (λ o. CleanOut sh o)
-clean-evict sh x y s = each-evict sh x y s (λ o. CleanOut sh o) (λ k q u z. clean-steady sh (steady-emptied sh x y s k q u z))
+pub clean-evict : (sh : Shape) (x y : ℕ) (s : CoreState) → IfSome (core_evict sh x y s) (CleanOut sh)
+clean-evict sh x y s = each-evict sh x y s (CleanOut sh) (λ k q u z. clean-steady sh (steady-emptied sh x y s k q u z))
 
 pub clean-grant : (sh : Shape) (u : ℕ) (s : CoreState) → CleanOut sh (grant sh u s)
 unfolding grant
 clean-grant sh u s = go s.phase
   where
-    still : CleanOut sh (ignored s)
-    still = clean-steady sh (ignored-steady s)
-
     go : (q : Phase) → CleanOut sh (grant_in_phase sh u s q)
     go AwaitTid = clean-grants s.cache u
     go DoomedTid = clean-skip sh u
     go (Overflowing None) = clean-probe u
-    go _ = still
+    go _ = clean-steady sh (ignored-steady s)
 
 pub clean-replied : (sh : Shape) {e u : ℕ} {s : CoreState} {o : Out} → Replied sh e u s o → CleanOut sh o
 clean-replied sh {s} (Ignored q n) = rw q (clean-steady sh (ignored-steady s))
@@ -327,12 +329,7 @@ acks-invalidated {sh} l d s i = rw (i.dirs d) (record {
     c.marks,
     (one (d == home sh l)).1,
   );
-  far = λ x. omega (
-    arith,
-    among-append AnyResolve (i.sends (Dir d)) (to (Dir (home sh l)) (InvAck l i.kept ∷ []) (Dir d)),
-    c.far x,
-    (one (d == home sh l)).2,
-  );
+  far = λ x. omega (arith, among-append, c.far, (one (d == home sh l)).2);
 })
   where
     c : Clean sh d (i.sends (Dir d))
@@ -349,9 +346,180 @@ abbrev pub AcksBack : Shape → (dir : ℕ) → Msg → Out → Type 0
 AcksBack sh d (Inv l m u) o = AcksHome sh l d (o.sends (Dir d))
 AcksBack sh d m o = Clean sh d (o.sends (Dir d))
 
-pub acks-back : (sh : Shape) (e d : ℕ) (s : CoreState) (m : Msg) → IfSome (from_dir sh e s m) (λ o. AcksBack sh d m o)
+pub acks-back : (sh : Shape) (e d : ℕ) (s : CoreState) (m : Msg) → IfSome (from_dir sh e s m) (AcksBack sh d m)
 acks-back sh e d s (ProbeReply u v) = clean-replied sh (reply-cases sh e u s) d
 acks-back sh e d s (Fill l ws) = clean-steady sh (fill-steady l ws s) d
 acks-back sh e d s (DataReq l) = clean-steady sh (data-steady sh l s) d
 acks-back sh e d s (Inv l m u) = acks-invalidated l d s (invalidate-cases sh l m u s)
 acks-back sh e d s _ = tt
+
+-- Every event keeps which directories owe a core replies: those that it asked, while it waits, and then some does.
+
+abbrev pub KeptOwing : Shape → World → Type 0
+KeptOwing sh w = (c : ℕ) → OwingFits sh (w.cores c)
+
+-- no reply is owed where the core doesn't wait
+idle : {sh : Shape} {s : CoreState} → OwingFits sh s → awaits_replies s.phase ≡ false → (d : ℕ) → s.owing d ≡ false
+idle h n d = grind nats
+
+none-owing : {sh : Shape} {r : CoreState} {q : Phase} → r.phase ≡ q → awaits_replies q ≡ false → ((d : ℕ) → r.owing d ≡ false)
+    → OwingFits sh r
+none-owing {r} e n f = record {
+  asked = λ d o. absurd (let y = f d in cc);
+  waits = λ d o. absurd (let y = f d in cc);
+  some = λ a. absurd (let y : awaits_replies r.phase ≡ false = rw e n in cc);
+}
+
+-- a core that doesn't wait goes on to a phase in which it doesn't wait
+still-none : {sh : Shape} {s r : CoreState} {p : Phase} (q : Phase) → s.phase ≡ p → awaits_replies p ≡ false → r.phase ≡ q
+    → awaits_replies q ≡ false → r.owing ≡ s.owing → OwingFits sh s → OwingFits sh r
+still-none q e n f m ow h = none-owing f m (λ d. rw ow (idle h (rw e n) d))
+
+not-acts : (q : Phase) → awaits_replies q ≡ true → Acts q → ⊥
+not-acts Running e a = cc
+not-acts (Solo t) e a = cc
+not-acts _ e a = a
+
+same-owing : {sh : Shape} {s r : CoreState} → r.phase ≡ s.phase → r.owing ≡ s.owing
+    → (awaits_replies s.phase ≡ true → (d : ℕ)
+    → (writes_at sh r.cache d || reads_at sh r.cache d) ≡ (writes_at sh s.cache d || reads_at sh s.cache d)) → OwingFits sh s
+    → OwingFits sh r
+same-owing {s} e f g h = record {
+  asked = λ d o. let a : s.owing d ≡ true = rw f at o in ((h.asked d a).0, rw (e, g (h.waits d a) d) (h.asked d a).1);
+  waits = λ d o. rw e (h.waits d (rw f at o));
+  some = λ a l. rw f (h.some (rw e at a) l);
+}
+
+steady-owing : {sh : Shape} {s : CoreState} {o : Out} → Steady s o → OwingFits sh s → OwingFits sh o.core
+steady-owing {sh} {s} {o} y h = same-owing y.phase y.owing
+    (λ a d. ap₂ (λ x z. x || z) (writes_at-same sh o.core.cache s.cache d (y.modified (not-acts s.phase a)))
+    (reads_at-same sh o.core.cache s.cache d (y.read (not-acts s.phase a)))) h
+
+after-none : (e : Outcome) → awaits_replies (phase_after_commit e) ≡ false
+after-none a = grind nats
+
+owing-exec : {sh : Shape} (p : Program) (c : ℕ) {s : CoreState} → OwingFits sh s → IfSome (core_exec sh p c s) (λ o. OwingFits sh o.core)
+unfolding commit solo_commit committed_core
+owing-exec {sh} p c {s} h = each-exec sh p c s (λ o. OwingFits sh o.core) go
+  where
+    go : (x : Did sh p c s) → OwingFits sh (out x).core
+    go (Commits_now t e) = still-none (phase_after_commit s.ended) e refl refl (after-none s.ended) refl h
+    go (Room_wanted r i) = still-none (Overflowing None) r refl refl refl refl h
+    go (Ends_run l e f r i) = still-none AwaitTid r refl refl refl refl h
+    go (Ends_alone t l e f r i) = still-none (phase_after_commit e) r refl refl (after-none e) refl h
+    go x = steady-owing (did-steady x) h
+
+owing-evict : {sh : Shape} (x y : ℕ) {s : CoreState} → OwingFits sh s → IfSome (core_evict sh x y s) (λ o. OwingFits sh o.core)
+owing-evict {sh} x y {s} h = each-evict sh x y s (λ o. OwingFits sh o.core) (λ k q u z. steady-owing (steady-emptied sh x y s k q u z) h)
+
+owing-grant : {sh : Shape} (t : ℕ) {s : CoreState} → OwingFits sh s → OwingFits sh (grant sh t s).core
+unfolding grant is_probed
+owing-grant {sh} t {s} h = go s.phase refl
+  where
+    both : (a b : Bool) → (a && b) ≡ true → (a ≡ true) × (b ≡ true)
+    both true b x = (refl, x)
+    both false b x = absurd (cc)
+
+    asks : (d : ℕ) → is_probed sh s.cache d ≡ true → (d < sh.dirs) × ((writes_at sh s.cache d || reads_at sh s.cache d) ≡ true)
+    asks d o = let y = both (nat_lt d sh.dirs) (writes_at sh s.cache d || reads_at sh s.cache d) o in let z = y.0 in
+        (grind nats, y.1)
+
+    probed : (b : Bool) → any_below (is_probed sh s.cache) sh.dirs ≡ b
+        → OwingFits sh (record s { owing = is_probed sh s.cache; phase = probing_or_ready b t })
+    probed true q = record { asked = λ d o. asks d o; waits = λ d o. refl; some = λ a l. q }
+    probed false q = record {
+      asked = λ d o. absurd (let y = none-below (is_probed sh s.cache) sh.dirs d (asks d o).0 q in cc);
+      waits = λ d o. absurd (let y = none-below (is_probed sh s.cache) sh.dirs d (asks d o).0 q in cc);
+      some = λ a. absurd (cc);
+    }
+
+    every : OwingFits sh (record s { owing = λ d. nat_lt d sh.dirs; phase = Overflowing (Some t) })
+    every = record {
+      asked = λ d o. (grind nats, refl);
+      waits = λ d o. refl;
+      some = λ a l. any_below-at (λ d. nat_lt d sh.dirs) sh.dirs 0 l (grind nats);
+    }
+
+    go : (q : Phase) → s.phase ≡ q → OwingFits sh (grant_in_phase sh t s q).core
+    go AwaitTid e = probed (any_below (is_probed sh s.cache) sh.dirs) refl
+    go DoomedTid e = still-none Running e refl refl refl refl h
+    go (Overflowing None) e = every
+    go _ e = h
+
+-- a directory has replied
+put-true : (f : ℕ → Bool) (e d : ℕ) → put f e false d ≡ true → f d ≡ true
+put-true f e d x = grind nats
+
+not-all : (sh : Shape) (f : ℕ → Bool) → all_replied sh f ≡ false → any_below f sh.dirs ≡ true
+not-all sh f q = grind nats
+
+one-less : {sh : Shape} (e : ℕ) {s r : CoreState} (goes wait : Phase)
+    → r.phase ≡ (if all_replied sh (put s.owing e false) then goes else wait) → r.owing ≡ put s.owing e false → awaits_replies goes ≡ false
+    → ((d : ℕ) → asks_dir s.phase (writes_at sh s.cache d || reads_at sh s.cache d) ≡ true
+    → asks_dir wait (writes_at sh r.cache d || reads_at sh r.cache d) ≡ true) → awaits_replies wait ≡ true → OwingFits sh s → OwingFits sh r
+one-less {sh} e {s} {r} goes wait ph ow n f w h = elim (tested (all_replied sh (put s.owing e false))) [
+  | inl q ↦ let p : r.phase ≡ goes = rw q at ph in
+      let none : (d : ℕ) → r.owing d ≡ true → ⊥ = λ d o. let z = all-replied sh (put s.owing e false) d (h.asked d (old d o)).0 q in
+      let y : put s.owing e false d ≡ true = rw ow at o in cc in
+      record {
+        asked = λ d o. absurd (none d o);
+        waits = λ d o. absurd (none d o);
+        some = λ a. absurd (let y : awaits_replies r.phase ≡ false = rw p n in cc);
+      }
+  | inr q ↦ let p : r.phase ≡ wait = rw q at ph in
+      record {
+        asked = λ d o. ((h.asked d (old d o)).0, rw p (f d (h.asked d (old d o)).1));
+        waits = λ d o. rw p w;
+        some = λ a l. rw ow (not-all sh (put s.owing e false) q);
+      }
+]
+  where
+    old : (d : ℕ) → r.owing d ≡ true → s.owing d ≡ true
+    old d o = put-true s.owing e d (rw ow at o)
+
+replied-owing : {sh : Shape} (e u : ℕ) {s : CoreState} {o : Out} → Replied sh e u s o → OwingFits sh s → OwingFits sh o.core
+replied-owing e u (Ignored q n) h = rw q h
+replied-owing e u (Probed g w ph ow ca se cm) h = one-less e (Ready u) (Probing u) ph ow refl (λ d a. rw ca (rw g at a)) refl h
+replied-owing e u (Left_alone g w ph ow mo se cm) h = one-less e (Solo u) (Overflowing (Some u)) ph ow refl (λ d a. refl) refl h
+
+hurt-owing : {sh : Shape} {l : ℕ} (s : CoreState) {o : Out} → Invalidated sh l s o → OwingFits sh s → OwingFits sh o.core
+hurt-owing {sh} s {o} i h = go i.hurt
+  where
+    go : Hurt sh s o.core i.sends → OwingFits sh o.core
+    go (Unhurt ph ow mo re se) = same-owing ph ow
+        (λ a d. ap₂ (λ x z. x || z) (writes_at-same sh o.core.cache s.cache d mo) (reads_at-same sh o.core.cache s.cache d re)) h
+    go (Rolled ph ph' ow se) = none-owing ph' refl (λ d. rw ow)
+    go (Doomed ph ph' ow se) = none-owing ph' refl (λ d. rw ow)
+    go (Aborted u ph ph' ow se) = none-owing ph' refl (λ d. rw ow)
+    go (Gave_up u ph ph' ow se) = none-owing ph' refl (λ d. rw ow)
+
+owing-back : {sh : Shape} (e : ℕ) {s : CoreState} (m : Msg) → OwingFits sh s → IfSome (from_dir sh e s m) (λ o. OwingFits sh o.core)
+owing-back {sh} e {s} (ProbeReply u v) h = replied-owing e u (reply-cases sh e u s) h
+owing-back e {s} (Fill l ws) h = steady-owing (fill-steady l ws s) h
+owing-back {sh} e {s} (DataReq l) h = steady-owing (data-steady sh l s) h
+owing-back {sh} e {s} (Inv l m u) h = hurt-owing s (invalidate-cases sh l m u s) h
+owing-back e _ h = tt
+
+-- one core has changed
+put-owing : {sh : Shape} (w : World) (c : ℕ) {s : CoreState} → KeptOwing sh w → OwingFits sh s → (j : ℕ)
+    → OwingFits sh (if j == c then s else w.cores j)
+put-owing {sh} w c {s} k h j = elim (j == c) as (λ b. OwingFits sh (if b then s else w.cores j)) [ true ↦ h | false ↦ k j ]
+
+pub step-owing : (sh : Shape) (p : Program) (w : World) (e : Event) → KeptOwing sh w → IfSome (step sh p w e) (λ o. KeptOwing sh o.world)
+unfolding core_moves core_takes dir_takes dir_asks vendor_gives
+step-owing sh p w e k = step_cases sh p w e (λ g o. KeptOwing sh o.world)
+    (λ c o eq l. moved c o (got _ eq (owing-exec p c (k c))))
+    (λ c x y o eq l. moved c o (got _ eq (owing-evict x y (k c)))) (λ c i t q. put-owing w c k (owing-grant t (k c)))
+    (λ c d i m o eq q. (put-owing w c k (got _ eq (owing-back d m (k c)))))
+    (λ c d i m q. answered c d i (dir_deliver sh (w.dirs d) c m)) (λ c i q. k)
+  where
+    moved : (c : ℕ) (o : Out) → OwingFits sh o.core → KeptOwing sh (core_moves w c o)
+    moved c o h = put-owing w c k h
+
+    answered : (c d i : ℕ) (a : Answer) → OfAnswer w c d i (KeptOwing sh) a
+    answered c d i Waits = tt
+    answered c d i _ = k
+
+pub start-owing : {sh : Shape} (entries : ℕ → Local) (ram : ℕ → ℕ) → KeptOwing sh (start entries ram)
+unfolding start core_start
+start-owing entries ram c = record { asked = λ d e. absurd (cc); waits = λ d e. absurd (cc); some = λ e. absurd (cc) }

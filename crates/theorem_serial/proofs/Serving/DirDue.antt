@@ -62,7 +62,7 @@ RisesBy s (Asks new sends) = Rises s new sends
 RisesBy s (Takes new sends) = Rises s new sends
 RisesBy s _ = Unit {0}
 
-pub rises-still : (s : DirState) → Rises s s (λ dst. [])
+pub rises-still : (s : DirState) → Rises s s nothing
 unfolding among
 rises-still s = record { rises = omega arith; replies = λ j. refl }
 
@@ -193,22 +193,22 @@ few-aways n d ms = among-fewer (InvsAway n d) Invs (aways-invs n d) ms
 quiet-due : (sh : Shape) (d : ℕ) (s new : DirState) (sends : Sends) → new.owed ≡ s.owed → (new.serving.serving ≡ s.serving.serving)
     ⊎ (new.owed ≡ 0) → ((j : ℕ) → among Invs (sends (Core j)) ≡ 0) → MarkedHome sh d new → Due sh d s 0 new sends
 quiet-due sh d s new sends e f q m = record {
-  owed = omega (arith, e, none-sent sh sends q);
+  owed = omega (arith, none-sent);
   served = served f;
-  invs = λ j. omega (arith, q j, few-aways sh.dirs d (sends (Core j)));
+  invs = λ j. omega (arith, q, few-aways);
   marked = m;
 }
   where
     served : (new.serving.serving ≡ s.serving.serving) ⊎ (new.owed ≡ 0)
         → ((new.serving.serving ≡ s.serving.serving) × ((j : ℕ) → among (InvsNot s.serving.serving) (sends (Core j)) ≡ 0)) ⊎ (new.owed ≡ 0)
-    served (inl x) = inl (x, λ j. omega (arith, q j, few-nots s.serving.serving (sends (Core j))))
+    served (inl x) = inl (x, λ j. omega (arith, q, few-nots))
     served (inr x) = inr x
 
 -- a commit's invalidations are as many as are owed for it
 invs-those : (f : ℕ → ℕ) (t : ℕ) (p : ℕ → Bool) (n : ℕ) → among Invs (flat_map (λ l. Inv l (f l) t ∷ []) (those p n)) ≡ count_below p n
 unfolding among passes those count_below
 invs-those f t p zero = refl
-invs-those f t p (suc n) = rw flat_map-append (rw among-append (omega (arith, invs-those f t p n, last (p n))))
+invs-those f t p (suc n) = rw flat_map-append (rw among-append (omega (arith, invs-those f t p n, last)))
   where
     last : (b : Bool) → among Invs (flat_map (λ l. Inv l (f l) t ∷ []) (cond b (n ∷ []) [])) ≡ num b
     last a = grind nats
@@ -260,7 +260,7 @@ dir-due sh d s c m h k = go (outcome sh s c m) h
     settled false n sends e q = inl (refl, q)
 
     spent : {m : Msg} → IsSpent s c m → num (passes Acks m) ≤ s.owed → num (passes Acks m) ≡ 0
-    spent (NoneOwed l b i) o = omega (arith, o, i)
+    spent (NoneOwed l b i) o = omega arith
     spent (CopyPassed m l n ws g y i e) o = rw (y.alike Acks)
     spent _ o = refl
 
@@ -271,26 +271,26 @@ dir-due sh d s c m h k = go (outcome sh s c m) h
     go (AsksOwner m l x w e) h a o = quiet-due sh d s _ _ refl (inl refl) (λ j. none-to Invs x j (DataReq l) refl) k
     go (TakesSkip u b e i) h a o = quiet-due sh d s _ nothing refl (given (Skip u) u b e (eq-self u) h) none-quiet k
     go (TakesAbort u b e i) h a o = quiet-due sh d s _ nothing refl (given (Abort u) u b e (eq-self u) h) none-quiet
-        (λ x q. grind (nats, k x))
+        (λ x q. grind (nats, k))
     go (TakesProbe u i) h a o = quiet-due sh d s s _ refl (inl refl) (λ j. none-to Invs c j (ProbeReply u s.serving.serving) refl) k
     go (TakesLoad l x i e n) h a o = quiet-due sh d s _ _ refl (inl refl) (λ j. none-to Invs c j (Fill l (home_words s l)) refl) k
-    go (TakesMark l n i) h a o = quiet-due sh d s _ nothing refl (inl refl) none-quiet (λ x q. grind (nats, k x, at-home (l % sh.dirs) d a))
+    go (TakesMark l n i) h a o = quiet-due sh d s _ nothing refl (inl refl) none-quiet (λ x q. grind (nats, k, at-home))
     go (TakesCommit b e) h a o = let z : s.owed ≡ 0 = unserved s (Commit s.serving.serving (count_below (has_mark s.lines) (lines sh))) h
         (eq-self s.serving.serving) in record {
-          owed = omega (arith, z, invs-invalidations sh s.lines c s.serving.serving);
+          owed = omega (arith, invs-invalidations);
           served = settled b (invalidation_count sh s.lines c) (invalidations sh s.lines c s.serving.serving) e
               (nots-sent sh s.lines c s.serving.serving);
           invs = λ j. aways-sent sh d s.lines c s.serving.serving j k;
-          marked = λ x q. grind (nats, k x);
+          marked = λ x q. grind (nats, k);
         }
     go (TakesAck l x b i e) h a o = record {
       owed = omega (arith, none-sent sh nothing none-quiet);
       served = settled b (s.owed - 1) nothing e (λ j. among-none (InvsNot s.serving.serving));
       invs = λ j. among-none (InvsAway sh.dirs d);
-      marked = λ x q. grind (nats, k x);
+      marked = λ x q. grind (nats, k);
     }
     go (TakesCopy m l n ws g y e x) h a o = rw (y.alike Acks) (quiet-due sh d s _ nothing refl (inl refl) none-quiet k)
 
 -- a message that is dropped leaves all as it was
-pub still-due : (sh : Shape) (d : ℕ) (s : DirState) → MarkedHome sh d s → Due sh d s 0 s (λ dst. [])
-still-due sh d s m = quiet-due sh d s s (λ dst. []) refl (inl refl) none-quiet m
+pub still-due : (sh : Shape) (d : ℕ) (s : DirState) → MarkedHome sh d s → Due sh d s 0 s nothing
+still-due sh d s m = quiet-due sh d s s nothing refl (inl refl) none-quiet m

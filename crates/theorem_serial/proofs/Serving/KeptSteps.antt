@@ -1,18 +1,18 @@
 -- Every event keeps the invariants on TIDs, probes and what is owed, and so does every run.
 use Rattle.theorem_serial.proofs
 use proofs.Names
-use Names.{eq-self, ℕ, ◌+◌, ◌≡◌, ◌<◌, ◌≤◌, ◌%◌, true, false, List, ◌++◌, ◌==◌, Option, Some, None, IfSome, slice_index_or, arith, refl, sym}
-use Names.{◌∙◌, ◌⊎◌, inl, inr, cases_lt, cases_eq, Local, num, no_lines, Core, Dir, Vendor, Msg, Fill, ProbeReply, DataReq, Inv, Shape}
-use Names.{home, CoreState, DirState, World, Link, start, dir_start, in_flight, sent_all, Sends, Out, from_dir, core_moves, core_takes}
-use Names.{dir_takes, dir_asks, vendor_gives, Invs, InvsNot, InvsAway, Acks, MarksAway, AnyResolve, Any, live, among, passes, Pair, pair}
-use Names.{after_move, grant_taken, back_taken, after_answer, out_taken, after_grant, after_other_grant, share, KeptTids, due, OwedAt}
-use Names.{AtHomeOf, KeptOwed, Running, core_start, RepliesAbove, Reached, ReachedOf, KeptProbes, [], Program, Serving, Event, core_exec}
-use Names.{core_evict, grant, Answer, Waits, Drops, Asks, Takes, dir_deliver, Stepped, step, Resolves, handled, KeptTold, Kept, nats}
-use Names.{tid_at, to_dir, to_core, FromCore, FromDir, IfSome_then, ◌≢◌}
+use Names.{got, nothing, eq-self, ℕ, ◌+◌, ◌≡◌, ◌<◌, ◌≤◌, ◌%◌, true, false, List, ◌++◌, ◌==◌, Option, Some, None, IfSome, slice_index_or}
+use Names.{arith, refl, sym, ◌∙◌, ◌⊎◌, inl, inr, cases_lt, cases_eq, Local, num, no_lines, Core, Dir, Vendor, Msg, Fill, ProbeReply}
+use Names.{DataReq, Inv, Shape, home, CoreState, DirState, World, Link, start, dir_start, in_flight, sent_all, Sends, Out, from_dir}
+use Names.{core_moves, core_takes, dir_takes, dir_asks, vendor_gives, Invs, InvsNot, InvsAway, Acks, MarksAway, AnyResolve, Any, live}
+use Names.{among, passes, Pair, pair, after_move, grant_taken, back_taken, after_answer, out_taken, after_grant, after_other_grant, share}
+use Names.{KeptTids, due, OwedAt, AtHomeOf, KeptOwed, Running, core_start, RepliesAbove, Reached, ReachedOf, KeptProbes, Program, Serving}
+use Names.{Event, grant, Answer, Waits, Drops, Asks, Takes, dir_deliver, Stepped, step, Resolves, handled, KeptTold, Kept, nats, tid_at}
+use Names.{to_dir, to_core, FromCore, FromDir, IfSome_then, ◌≢◌}
 use proofs.Counts.{AnswersInside, dir-inside, live-sends, live-takes, total-le, total-zero, live-fewer, none-taken, differ, given}
 use proofs.Counts.{pairs_move, pairs_grant, pairs_back, pairs_dir, pairs_asks, pairs_vendor, sum_move, sum_grant, sum_back, sum_back_away}
 use proofs.Counts.{sum_dir, sum_dir_away, sum_asks_here, sum_asks_away, sum_vendor, OfAnswer, step_cases}
-use proofs.OneCore.{StaysReached, none-asked, asked-back, asked-exec, asked-evict, asked-grant}
+use proofs.OneCore.{none-asked, asked-back, asked-exec, asked-evict, asked-grant}
 use proofs.Serving.CoreDue.{Clean, CleanOut, AcksHome, acks-back, clean-exec, clean-evict, clean-grant}
 use proofs.Serving.DirDue.{Due, nots-invs, at-home, DueBy, dir-due, still-due, Rises, fewer-above, RisesBy, dir-rises, rises-still}
 use proofs.Tids.{KeepsRequests, requests-exec, requests-evict, requests-back, KeepsPart, part-exec, part-evict, part-back, HandledBy}
@@ -22,30 +22,30 @@ use proofs.Tids.{inside_from, any-one, live-some, once-there, no_sends}
 -- Each kind of event keeps what is owed equal to what is in flight.
 due-moved : {sh : Shape} (v : Pair) (o : Out) {d : ℕ} → Clean sh d (o.sends (Dir d)) → due (after_move v o d) + 0 ≡ due v + 0
 unfolding due
-due-moved v o {d} c = omega (arith, live-sends Acks v.out (o.sends (Dir d)), c.acks)
+due-moved v o {d} c = omega (arith, live-sends)
 
 home-moved : {sh : Shape} {d : ℕ} {v : Pair} (o : Out) → among (MarksAway sh.dirs d) (o.sends (Dir d)) ≡ 0
     → (sh.dirs ≤ d → among AnyResolve (o.sends (Dir d)) ≡ 0) → AtHomeOf sh d v → AtHomeOf sh d (after_move v o d)
 home-moved {sh} {d} {v} o c f h = record {
   served = h.served;
   invs = h.invs;
-  marks = omega (arith, live-sends (MarksAway sh.dirs d) v.out (o.sends (Dir d)), h.marks, c);
-  far = λ x. omega (arith, live-sends AnyResolve v.out (o.sends (Dir d)), h.far x, f x);
+  marks = omega (arith, live-sends);
+  far = λ x. omega (arith, live-sends, h.far, f);
   marked = h.marked;
 }
 
-pub move-owed : (sh : Shape) (w : World) (c : ℕ) (o : Out) → KeptOwed sh w → c < sh.cores → CleanOut sh o → KeptOwed sh (core_moves w c o)
+move-owed : (sh : Shape) (w : World) (c : ℕ) (o : Out) → KeptOwed sh w → c < sh.cores → CleanOut sh o → KeptOwed sh (core_moves w c o)
 unfolding core_moves
 move-owed sh w c o k l y = record {
-  owed = λ d. let e = sum_move due sh.cores w c o d 0 0 l (due-moved (pair w c d) o (y d)) in omega (arith, k.owed d);
+  owed = λ d. let e = sum_move due sh.cores w c o d 0 0 l (due-moved (pair w c d) o (y d)) in omega (arith, k.owed);
   at_home = pairs_move (λ c d v. AtHomeOf sh d v) w c o (λ d. home-moved o (y d).marks (y d).far (k.at_home c d)) k.at_home;
 }
 
-pub grant-owed : (sh : Shape) (w : World) (c k : ℕ) (o : Out) → KeptOwed sh w → c < sh.cores → CleanOut sh o
+grant-owed : (sh : Shape) (w : World) (c k : ℕ) (o : Out) → KeptOwed sh w → c < sh.cores → CleanOut sh o
     → KeptOwed sh (core_takes w Vendor c k o)
 unfolding core_takes due
 grant-owed sh w c k o h l y = record {
-  owed = λ d. let e = sum_grant due sh.cores w c k o d 0 0 l (due-moved (pair w c d) o (y d)) in omega (arith, h.owed d);
+  owed = λ d. let e = sum_grant due sh.cores w c k o d 0 0 l (due-moved (pair w c d) o (y d)) in omega (arith, h.owed);
   at_home = pairs_grant (λ c d v. AtHomeOf sh d v) w c k o granted h.at_home;
 }
   where
@@ -75,7 +75,7 @@ back-inv sh e l k u o q y = record {
 }
 
 pub back-due : (sh : Shape) (e : ℕ) (s : CoreState) (m : Msg) → passes (InvsAway sh.dirs e) m ≡ false
-    → IfSome (from_dir sh e s m) (λ o. BackDue sh e m o)
+    → IfSome (from_dir sh e s m) (BackDue sh e m)
 unfolding passes
 back-due sh e s (ProbeReply u v) a = back-clean refl (λ d. acks-back sh e d s (ProbeReply u v))
 back-due sh e s (Fill l ws) a = back-clean refl (λ d. acks-back sh e d s (Fill l ws))
@@ -86,17 +86,17 @@ back-due sh e s _ a = tt
 due-back : (v : Pair) (e k : ℕ) (m : Msg) (o : Out) → slice_index_or v.back k None ≡ Some m
     → among Acks (o.sends (Dir e)) ≡ num (passes Invs m) → due (after_move (back_taken v k) o e) + 0 ≡ due v + 0
 unfolding due
-due-back v e k m o i a = omega (arith, live-sends Acks v.out (o.sends (Dir e)), live-takes Invs v.back k m i)
+due-back v e k m o i a = omega (arith, live-sends, live-takes Invs v.back k m i)
 
 due-away : (v : Pair) (d : ℕ) (o : Out) → among Acks (o.sends (Dir d)) ≡ 0 → due (after_move v o d) + 0 ≡ due v + 0
 unfolding due
-due-away v d o a = omega (arith, live-sends Acks v.out (o.sends (Dir d)))
+due-away v d o a = omega (arith, live-sends)
 
 home-back : {sh : Shape} (d k : ℕ) (m : Msg) {v : Pair} → slice_index_or v.back k None ≡ Some m → AtHomeOf sh d v
     → AtHomeOf sh d (back_taken v k)
 home-back {sh} d k m {v} i h = record {
-  served = omega (arith, live-takes (InvsNot v.dir.serving.serving) v.back k m i, h.served);
-  invs = omega (arith, live-takes (InvsAway sh.dirs d) v.back k m i, h.invs);
+  served = omega (arith, live-takes (InvsNot v.dir.serving.serving) v.back k m i);
+  invs = omega (arith, live-takes (InvsAway sh.dirs d) v.back k m i);
   marks = h.marks;
   far = h.far;
   marked = h.marked;
@@ -113,16 +113,16 @@ back-owed sh w e c k m o h l i y = record {
   where
     owed : (d : ℕ) → (d ≡ e) ⊎ (d ≢ e) → OwedAt sh (core_takes w (Dir e) c k o) d
     owed d (inr n) = let q = sum_back_away due sh.cores w e c k o d 0 0 n l (due-away (pair w c d) d o (y.away d n)) in
-        omega (arith, h.owed d)
+        omega (arith, h.owed)
     owed d (inl n) = rw n (let q = sum_back due sh.cores w c k o e 0 0 l (due-back (pair w c e) e k m o i y.here) in
-        omega (arith, h.owed e))
+        omega (arith, h.owed))
 
 -- what is taken from a directory's link is at home there
-pub taken_home : (sh : Shape) (w : World) (e c k : ℕ) (m : Msg) → KeptOwed sh w → FromDir w e c k m → passes (InvsAway sh.dirs e) m ≡ false
+taken_home : (sh : Shape) (w : World) (e c k : ℕ) (m : Msg) → KeptOwed sh w → FromDir w e c k m → passes (InvsAway sh.dirs e) m ≡ false
 unfolding pair
 taken_home sh w e c k m h i = none-taken (InvsAway sh.dirs e) (to_core w e c) k i (h.at_home c e).invs
 
-pub backs-owed : (sh : Shape) (w : World) (e c k : ℕ) (m : Msg) → KeptOwed sh w → c < sh.cores → FromDir w e c k m
+backs-owed : (sh : Shape) (w : World) (e c k : ℕ) (m : Msg) → KeptOwed sh w → c < sh.cores → FromDir w e c k m
     → IfSome (from_dir sh e (w.cores c) m) (λ o. KeptOwed sh (core_takes w (Dir e) c k o))
 backs-owed sh w e c k m h l i = IfSome_then (from_dir sh e (w.cores c) m) (back-due sh e (w.cores c) m (taken_home sh w e c k m h i))
     (λ o y. back-owed sh w e c k m o h l i y)
@@ -131,11 +131,11 @@ backs-owed sh w e c k m h l i = IfSome_then (from_dir sh e (w.cores c) m) (back-
 due-answered : (v : Pair) (k : ℕ) (m : Msg) (s : DirState) (ms : List Msg) → slice_index_or v.out k None ≡ Some m
     → due (after_answer (out_taken v k) s ms) + num (passes Acks m) ≡ due v + among Invs ms + 0
 unfolding due
-due-answered v k m s ms i = omega (arith, live-sends Invs v.back ms, live-takes Acks v.out k m i)
+due-answered v k m s ms i = omega (arith, live-sends, live-takes Acks v.out k m i)
 
 due-other : (v : Pair) (s : DirState) (ms : List Msg) → due (after_answer v s ms) ≡ due v + among Invs ms
 unfolding due
-due-other v s ms = omega (arith, live-sends Invs v.back ms)
+due-other v s ms = omega (arith, live-sends)
 
 nots-few : (t : ℕ) (l : Link) → live (InvsNot t) l ≤ live Invs l
 nots-few t l = live-fewer (InvsNot t) Invs (nots-invs t) l
@@ -152,8 +152,8 @@ none-due : (sh : Shape) (w : World) (d j t : ℕ) → (sh.cores ≤ j → live A
     → (w.dirs d).owed ≡ 0 → live (InvsNot t) (to_core w d j) ≡ 0
 unfolding share due pair
 none-due sh w d j t a o z = elim (cases_lt j sh.cores) [
-  | inl l ↦ omega (arith, o, z, total-le (share due w d) sh.cores j l, nots-few t (to_core w d j))
-  | inr l ↦ omega (arith, a l, invs-few (to_core w d j), nots-few t (to_core w d j))
+  | inl l ↦ omega (arith, total-le (share due w d) sh.cores j l, nots-few)
+  | inr l ↦ omega (arith, a, invs-few, nots-few)
 ]
 
 -- a pair at the directory that answers, unless its served TID has changed
@@ -162,7 +162,7 @@ home-answered : {sh : Shape} {d : ℕ} {v : Pair} {ack : ℕ} {s : DirState} {se
     → AtHomeOf sh d (after_answer v s (sends (Core j)))
 home-answered {sh} {d} {v} {sends} j u n h = record {
   served = n;
-  invs = omega (arith, live-sends (InvsAway sh.dirs d) v.back (sends (Core j)), h.invs, u.invs j);
+  invs = omega (arith, live-sends, u.invs);
   marks = h.marks;
   far = h.far;
   marked = u.marked;
@@ -173,7 +173,7 @@ home-taken : {sh : Shape} (d k : ℕ) (m : Msg) {v : Pair} → slice_index_or v.
 home-taken {sh} d k m {v} i h = record {
   served = h.served;
   invs = h.invs;
-  marks = omega (arith, live-takes (MarksAway sh.dirs d) v.out k m i, h.marks);
+  marks = omega (arith, live-takes (MarksAway sh.dirs d) v.out k m i);
   far = λ x. omega (arith, live-takes AnyResolve v.out k m i, h.far x);
   marked = h.marked;
 }
@@ -184,7 +184,7 @@ unfolding dir_takes pair
 owed-answered sh w c e k m s sends h l i u =
     let p = sum_dir due (λ j. among Invs (sends (Core j))) sh.cores w c k s sends e (num (passes Acks m)) 0 l
     (due-answered (pair w c e) k m s (sends (Core c)) i) (λ j n. due-other (pair w j e) s (sends (Core j))) in
-    rw (eq-self e) (omega (arith, h, u.owed))
+    rw (eq-self e) (omega arith)
 
 served-back : {sh : Shape} (w : World) {e : ℕ} (j : ℕ) {ack : ℕ} {s : DirState} {sends : Sends}
     → live (InvsNot (tid_at w e)) (to_core w e j) ≡ 0 → Due sh e (w.dirs e) ack s sends
@@ -196,7 +196,7 @@ served-back w {e} j {s} {sends} h u z = go u.served
         ⊎ (s.owed ≡ 0) → live (InvsNot s.serving.serving) (to_core w e j ++ sent_all (sends (Core j))) ≡ 0
     go a = grind (nats, live-sends)
 
-pub dir-owed : {sh : Shape} {w : World} (c e k : ℕ) {m : Msg} (s : DirState) (sends : Sends) → KeptOwed sh w
+dir-owed : {sh : Shape} {w : World} (c e k : ℕ) {m : Msg} (s : DirState) (sends : Sends) → KeptOwed sh w
     → KeptTids sh (dir_takes w c e k s sends) → c < sh.cores → FromCore w c e k m → Due sh e (w.dirs e) (num (passes Acks m)) s sends
     → KeptOwed sh (dir_takes w c e k s sends)
 unfolding dir_takes pair
@@ -214,14 +214,14 @@ dir-owed {sh} {w} c e k {m} s sends h z l i u = record {
 
     owed : (d : ℕ) → (d ≡ e) ⊎ (d ≢ e) → OwedAt sh v d
     owed d (inl n) = rw n here
-    owed d (inr n) = let p = sum_dir_away due sh.cores w c e k s sends d n in rw (differ d e n) (omega (arith, h.owed d))
+    owed d (inr n) = let p = sum_dir_away due sh.cores w c e k s sends d n in rw (differ d e n) (omega (arith, h.owed))
 
     back_of : (j : ℕ) → live (InvsNot s.serving.serving) (to_core w e j ++ sent_all (sends (Core j))) ≡ 0
     back_of j = served-back w j (h.at_home j e).served u
         (λ x. rw (eq-self e) at (none-due sh v e j s.serving.serving (z.inside j e).back here (rw (eq-self e) x)))
 
 -- a directory asks
-pub asks-owed : (sh : Shape) (w : World) (e : ℕ) (s : DirState) (sends : Sends) → KeptOwed sh w → KeptTids sh (dir_asks w e s sends)
+asks-owed : (sh : Shape) (w : World) (e : ℕ) (s : DirState) (sends : Sends) → KeptOwed sh w → KeptTids sh (dir_asks w e s sends)
     → Due sh e (w.dirs e) 0 s sends → KeptOwed sh (dir_asks w e s sends)
 unfolding dir_asks pair
 asks-owed sh w e s sends h z u = record {
@@ -236,21 +236,21 @@ asks-owed sh w e s sends h z u = record {
     here =
         let p = sum_asks_here due (λ j. among Invs (sends (Core j))) sh.cores w s sends e
         (λ j. due-other (pair w j e) s (sends (Core j))) in
-        rw (eq-self e) (omega (arith, h.owed e, u.owed))
+        rw (eq-self e) (omega (arith, h.owed))
 
     owed : (d : ℕ) → (d ≡ e) ⊎ (d ≢ e) → OwedAt sh v d
     owed d (inl n) = rw n here
-    owed d (inr n) = let p = sum_asks_away due sh.cores w e s sends d n in rw (differ d e n) (omega (arith, h.owed d))
+    owed d (inr n) = let p = sum_asks_away due sh.cores w e s sends d n in rw (differ d e n) (omega (arith, h.owed))
 
     back_of : (j : ℕ) → live (InvsNot s.serving.serving) (to_core w e j ++ sent_all (sends (Core j))) ≡ 0
     back_of j = served-back w j (h.at_home j e).served u
         (λ x. rw (eq-self e) at (none-due sh v e j s.serving.serving (z.inside j e).back here (rw (eq-self e) x)))
 
 -- the vendor grants
-pub vendor-owed : (sh : Shape) (w : World) (c k : ℕ) → KeptOwed sh w → c < sh.cores → KeptOwed sh (vendor_gives w c k (given w c))
+vendor-owed : (sh : Shape) (w : World) (c k : ℕ) → KeptOwed sh w → c < sh.cores → KeptOwed sh (vendor_gives w c k (given w c))
 unfolding vendor_gives due
 vendor-owed sh w c k h l = record {
-  owed = λ d. let p = sum_vendor due sh.cores w c k d 0 0 l refl (λ j n. refl) in omega (arith, h.owed d);
+  owed = λ d. let p = sum_vendor due sh.cores w c k d 0 0 l refl (λ j n. refl) in omega (arith, h.owed);
   at_home = pairs_vendor (λ c d v. AtHomeOf sh d v) w c k (λ d. next (after_grant (pair w c d) k) refl refl refl (h.at_home c d))
       (λ j d n. next (after_other_grant (pair w j d)) refl refl refl (h.at_home j d));
 }
@@ -269,15 +269,12 @@ unfolding share due start pair live
 share-start entries ram d j = refl
 
 -- at the start nothing is owed
-pub start-owed : (sh : Shape) (entries : ℕ → Local) (ram : ℕ → ℕ) → KeptOwed sh (start entries ram)
+start-owed : (sh : Shape) (entries : ℕ → Local) (ram : ℕ → ℕ) → KeptOwed sh (start entries ram)
 unfolding start dir_start pair live no_lines
 start-owed sh entries ram = record {
-  owed = λ d. sym (total-zero (share due (start entries ram) d) sh.cores (λ j l. none d j));
+  owed = λ d. sym (total-zero (share due (start entries ram) d) sh.cores (λ j l. (share-start entries ram d j)));
   at_home = λ c d. record { served = refl; invs = refl; marks = refl; far = λ x. refl; marked = λ l e. absurd (cc) };
 }
-  where
-    none : (d j : ℕ) → share due (start entries ram) d j ≡ 0
-    none d j = share-start entries ram d j
 
 -- what is known of a message to a directory
 pub marks_home : {sh : Shape} {w : World} (c e k : ℕ) {m : Msg} → KeptOwed sh w → FromCore w c e k m
@@ -300,12 +297,12 @@ reached-moved : {sh : Shape} {d : ℕ} (v : Pair) (o : Out) → Reached sh d v.d
     → ReachedOf sh d (after_move v o d)
 reached-moved v o r h = record { core = r; replies = h.replies }
 
-pub move-probes : (sh : Shape) (w : World) (c : ℕ) (o : Out) → KeptProbes sh w → ((d : ℕ) → Reached sh d (tid_at w d) o.core)
+move-probes : (sh : Shape) (w : World) (c : ℕ) (o : Out) → KeptProbes sh w → ((d : ℕ) → Reached sh d (tid_at w d) o.core)
     → KeptProbes sh (core_moves w c o)
 unfolding pair
 move-probes sh w c o h r = pairs_move (λ c d v. ReachedOf sh d v) w c o (λ d. reached-moved (pair w c d) o (r d) (h c d)) h
 
-pub grant-probes : (sh : Shape) (w : World) (c k : ℕ) (o : Out) → KeptProbes sh w
+grant-probes : (sh : Shape) (w : World) (c k : ℕ) (o : Out) → KeptProbes sh w
     → ((d : ℕ) → Reached sh d (tid_at w d) o.core) → KeptProbes sh (core_takes w Vendor c k o)
 unfolding pair
 grant-probes sh w c k o h r = pairs_grant (λ c d v. ReachedOf sh d v) w c k o
@@ -331,47 +328,31 @@ reply-low : {sh : Shape} (w : World) (e c k : ℕ) {m : Msg} → KeptProbes sh w
 unfolding pair
 reply-low w e c k h i = none-taken (RepliesAbove (tid_at w e)) (to_core w e c) k i (h c e).replies
 
-pub backs-probes : (sh : Shape) (w : World) (e c k : ℕ) (m : Msg) → KeptProbes sh w → FromDir w e c k m
-    → IfSome (from_dir sh e (w.cores c) m) (λ o. KeptProbes sh (core_takes w (Dir e) c k o))
-unfolding pair
-backs-probes sh w e c k m h i = go (from_dir sh e (w.cores c) m) (λ d. asked-back e m (λ q. rw q (reply-low w e c k h i)) (h c d).core)
-  where
-    go : (x : Option Out) → ((d : ℕ) → StaysReached sh d (tid_at w d) (w.cores c) x)
-        → IfSome x (λ o. KeptProbes sh (core_takes w (Dir e) c k o))
-    go None r = tt
-    go (Some o) r = back-probes sh w e c k m o h i r
-
 reached-answered : (sh : Shape) (d : ℕ) (v : Pair) {s : DirState} {sends : Sends} (j : ℕ) → Rises v.dir s sends → ReachedOf sh d v
     → ReachedOf sh d (after_answer v s (sends (Core j)))
 reached-answered sh d v {s} {sends} j u h = record {
   core = later u.rises h.core;
   replies =
-      omega (
-        arith,
-        live-sends (RepliesAbove s.serving.serving) v.back (sends (Core j)),
-        u.replies j,
-        fewer-above v.dir.serving.serving s.serving.serving v.back u.rises,
-        h.replies,
-      );
+      omega (arith, live-sends, u.replies, fewer-above v.dir.serving.serving s.serving.serving v.back u.rises);
 }
 
-pub dir-probes : {sh : Shape} (w : World) (c e k : ℕ) {s : DirState} {sends : Sends} → KeptProbes sh w → Rises (w.dirs e) s sends
+dir-probes : {sh : Shape} (w : World) (c e k : ℕ) {s : DirState} {sends : Sends} → KeptProbes sh w → Rises (w.dirs e) s sends
     → KeptProbes sh (dir_takes w c e k s sends)
 unfolding pair
 dir-probes {sh} w c e k {s} {sends} h u = pairs_dir (λ c d v. ReachedOf sh d v) w c e k s sends
     (reached-answered sh e (out_taken (pair w c e) k) c u (record { core = (h c e).core; replies = (h c e).replies }))
     (λ j n. reached-answered sh e (pair w j e) j u (h j e)) h
 
-pub asks-probes : (sh : Shape) (w : World) (e : ℕ) (s : DirState) (sends : Sends) → KeptProbes sh w → Rises (w.dirs e) s sends
+asks-probes : (sh : Shape) (w : World) (e : ℕ) (s : DirState) (sends : Sends) → KeptProbes sh w → Rises (w.dirs e) s sends
     → KeptProbes sh (dir_asks w e s sends)
 unfolding pair
 asks-probes sh w e s sends h u = pairs_asks (λ c d v. ReachedOf sh d v) w e s sends (λ j. reached-answered sh e (pair w j e) j u (h j e)) h
 
-pub vendor-probes : (sh : Shape) (w : World) (c k : ℕ) → KeptProbes sh w → KeptProbes sh (vendor_gives w c k (given w c))
+vendor-probes : (sh : Shape) (w : World) (c k : ℕ) → KeptProbes sh w → KeptProbes sh (vendor_gives w c k (given w c))
 vendor-probes sh w c k h = pairs_vendor (λ c d v. ReachedOf sh d v) w c k (λ d. record { core = (h c d).core; replies = (h c d).replies })
     (λ j d n. record { core = (h j d).core; replies = (h j d).replies })
 
-pub start-probes : (sh : Shape) (entries : ℕ → Local) (ram : ℕ → ℕ) → KeptProbes sh (start entries ram)
+start-probes : (sh : Shape) (entries : ℕ → Local) (ram : ℕ → ℕ) → KeptProbes sh (start entries ram)
 unfolding start core_start pair live
 start-probes sh entries ram c d = record { core = none-asked Running refl (λ b. refl) refl; replies = refl }
 
@@ -408,38 +389,29 @@ pub once_at : {sh : Shape} {w : World} (c d k : ℕ) {m : Msg} → KeptTold sh w
 unfolding pair
 once_at {sh} {w} c d k {m} h i t = elim (cases_lt d sh.dirs) [
   | inl l ↦ once-there sh w c d k t m (core_of_out c d k h.tids i) i (h.tids.resolved d t l)
-  | inr l ↦ omega (
-    arith,
-    resolves-any t m,
-    live-some AnyResolve (to_dir w c d) k m i,
-    (h.owed.at_home c d).far l,
-    handled-once (w.dirs d).serving (w.dirs d).owed t,
-  )
+  | inr l ↦ omega (arith, resolves-any, live-some AnyResolve (to_dir w c d) k m i, (h.owed.at_home c d).far l, handled-once)
 ]
 
 -- every event that is enabled keeps the invariants
-moves : {sh : Shape} {w : World} (c : ℕ) → KeptTold sh w → c < sh.cores → (x : Option Out) → IfSome x (λ o. KeepsRequests 0 (w.cores c) o)
-    → ((d t : ℕ) → d < sh.dirs → IfSome x (λ o. KeepsPart sh d t 0 (w.cores c) o)) → IfSome x (λ o. CleanOut sh o)
-    → IfSome x (λ o. KeptTold sh (core_moves w c o))
-moves c h l None r q y = tt
-moves {sh} {w} c h l (Some o) r q y = record { tids = move-kept sh w c o h.tids l r q; owed = move-owed sh w c o h.owed l y }
+moves : {sh : Shape} {w : World} (c : ℕ) (o : Out) → KeptTold sh w → c < sh.cores → KeepsRequests 0 (w.cores c) o
+    → ((d t : ℕ) → d < sh.dirs → KeepsPart sh d t 0 (w.cores c) o) → CleanOut sh o → KeptTold sh (core_moves w c o)
+moves {sh} {w} c o h l r q y = record { tids = move-kept sh w c o h.tids l r q; owed = move-owed sh w c o h.owed l y }
 
-backs : {sh : Shape} {w : World} (c d k : ℕ) {m : Msg} → KeptTold sh w → FromDir w d c k m → (x : Option Out)
-    → IfSome x (λ o. KeepsRequests 0 (w.cores c) o) → ((e t : ℕ) → e < sh.dirs → IfSome x (λ o. KeepsPart sh e t 0 (w.cores c) o))
-    → IfSome x (λ o. KeptOwed sh (core_takes w (Dir d) c k o)) → IfSome x (λ o. KeptTold sh (core_takes w (Dir d) c k o))
-backs c d k h i None r q y = tt
-backs {sh} {w} c d k {m} h i (Some o) r q y = record { tids = back-kept sh w d c k m o h.tids i r q; owed = y }
+backs : {sh : Shape} {w : World} (c d k : ℕ) {m : Msg} (o : Out) → KeptTold sh w → FromDir w d c k m → KeepsRequests 0 (w.cores c) o
+    → ((e t : ℕ) → e < sh.dirs → KeepsPart sh e t 0 (w.cores c) o) → KeptOwed sh (core_takes w (Dir d) c k o)
+    → KeptTold sh (core_takes w (Dir d) c k o)
+backs {sh} {w} c d k {m} o h i r q y = record { tids = back-kept sh w d c k m o h.tids i r q; owed = y }
 
 answers : {sh : Shape} {w : World} (c d k : ℕ) {m : Msg} → KeptTold sh w → FromCore w c d k m → (a : Answer) → AnswersInside sh a
     → ((t : ℕ) → d < sh.dirs → HandledBy (w.dirs d) m t a) → DueBy sh d (w.dirs d) (num (passes Acks m)) a
-    → OfAnswer w c d k (λ v. KeptTold sh v) a
+    → OfAnswer w c d k (KeptTold sh) a
 unfolding pair
 answers c d k h i Waits n q u = tt
 answers {sh} {w} c d k h i Drops n q u =
-    let t = dir-kept c d k (w.dirs d) (λ dst. []) h.tids i (λ j x. no_sends) (h.tids.inside c d).owners (λ t x. rw (q t x) (omega arith)) in
+    let t = dir-kept c d k (w.dirs d) nothing h.tids i (λ j x. no_sends) (h.tids.inside c d).owners (λ t x. rw (q t x) (omega arith)) in
     record {
       tids = t;
-      owed = dir-owed c d k (w.dirs d) (λ dst. []) h.owed t (core_of_out c d k h.tids i) i
+      owed = dir-owed c d k (w.dirs d) nothing h.owed t (core_of_out c d k h.tids i) i
           (rw u (still-due sh d (w.dirs d) (h.owed.at_home c d).marked));
     }
 answers {sh} {w} c d k h i (Asks s sends) n q u =
@@ -452,15 +424,16 @@ answers c d k h i (Takes s sends) n q u =
 step-told : (sh : Shape) (p : Program) (w : World) (e : Event) → KeptTold sh w → IfSome (step sh p w e) (λ o. KeptTold sh o.world)
 unfolding pair
 step-told sh p w e h = step_cases sh p w e (λ g o. KeptTold sh o.world)
-    (λ c l. moves c h l (core_exec sh p c (w.cores c)) (requests-exec sh p c (w.cores c)) (λ d t x. part-exec sh p c d t (w.cores c) x)
-    (clean-exec sh p c (w.cores c))) (λ c x y l. moves c h l (core_evict sh x y (w.cores c)) (requests-evict sh x y (w.cores c))
-    (λ d t z. part-evict sh x y d t (w.cores c)) (clean-evict sh x y (w.cores c)))
+    (λ c o eq l. moves c o h l (got _ eq (requests-exec sh p c (w.cores c))) (λ d t x. got _ eq (part-exec sh p c d t (w.cores c) x))
+    (got _ eq (clean-exec sh p c (w.cores c))))
+    (λ c x y o eq l. moves c o h l (got _ eq (requests-evict sh x y (w.cores c))) (λ d t z. got _ eq (part-evict sh x y d t (w.cores c)))
+    (got _ eq (clean-evict sh x y (w.cores c))))
     (λ c k t i. record {
       tids = grant-kept sh w c k t h.tids i;
       owed = grant-owed sh w c k (grant sh t (w.cores c)) h.owed (core_of_grant c k h.tids i) (clean-grant sh t (w.cores c));
     })
-    (λ c d k m i. backs c d k h i (from_dir sh d (w.cores c) m) (requests-back sh d (w.cores c) m)
-    (λ e t x. part-back sh d e t (w.cores c) m x) (backs-owed sh w d c k m h.owed (core_of_back c d k h.tids i) i))
+    (λ c d k m o eq i. backs c d k o h i (got _ eq (requests-back sh d (w.cores c) m))
+    (λ e t x. got _ eq (part-back sh d e t (w.cores c) m x)) (got _ eq (backs-owed sh w d c k m h.owed (core_of_back c d k h.tids i) i)))
     (λ c d k m i. answers c d k h i (dir_deliver sh (w.dirs d) c m)
     (dir-inside sh (w.dirs d) c m (core_of_out c d k h.tids i) (h.tids.inside c d).owners)
     (λ t x. dir-handled sh (w.dirs d) c m t (once_at c d k h i))
@@ -471,18 +444,14 @@ step-told sh p w e h = step_cases sh p w e (λ g o. KeptTold sh o.world)
 step-probes : (sh : Shape) (p : Program) (w : World) (e : Event) → KeptProbes sh w → IfSome (step sh p w e) (λ o. KeptProbes sh o.world)
 unfolding pair
 step-probes sh p w e h = step_cases sh p w e (λ g o. KeptProbes sh o.world)
-    (λ c l. moved c (core_exec sh p c (w.cores c)) (λ d. asked-exec p c d (h c d).core))
-    (λ c x y l. moved c (core_evict sh x y (w.cores c)) (λ d. asked-evict x y d (h c d).core))
+    (λ c o eq l. move-probes sh w c o h (λ d. got _ eq (asked-exec p c d (h c d).core)))
+    (λ c x y o eq l. move-probes sh w c o h (λ d. got _ eq (asked-evict x y d (h c d).core)))
     (λ c k t i. grant-probes sh w c k (grant sh t (w.cores c)) h (λ d. asked-grant t d (h c d).core))
-    (λ c d k m i. backs-probes sh w d c k m h i) (λ c d k m i. answered c d k (dir_deliver sh (w.dirs d) c m) (dir-rises sh (w.dirs d) c m))
+    (λ c d k m o eq i. back-probes sh w d c k m o h i (λ e. got _ eq (asked-back d m (λ q. rw q (reply-low w d c k h i)) (h c e).core)))
+    (λ c d k m i. answered c d k (dir_deliver sh (w.dirs d) c m) (dir-rises sh (w.dirs d) c m))
     (λ c k i. vendor-probes sh w c k h)
   where
-    moved : (c : ℕ) (x : Option Out) → ((d : ℕ) → StaysReached sh d (tid_at w d) (w.cores c) x)
-        → IfSome x (λ o. KeptProbes sh (core_moves w c o))
-    moved c None r = tt
-    moved c (Some o) r = move-probes sh w c o h r
-
-    answered : (c d k : ℕ) (a : Answer) → RisesBy (w.dirs d) a → OfAnswer w c d k (λ v. KeptProbes sh v) a
+    answered : (c d k : ℕ) (a : Answer) → RisesBy (w.dirs d) a → OfAnswer w c d k (KeptProbes sh) a
     answered c d k Waits r = tt
     answered c d k Drops r = dir-probes w c d k h (rises-still (w.dirs d))
     answered c d k (Asks s sends) r = asks-probes sh w d s sends h r

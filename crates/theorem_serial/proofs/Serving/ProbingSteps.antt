@@ -2,14 +2,14 @@
 use Rattle.theorem_serial.specs.Probing.{ProbingOf, KeptProbing}
 use Rattle.theorem_serial.proofs
 use proofs.Names
-use Names.{Contains-append_left, after_other_grant, slice_index_or, if◌then◌else◌, after_answer, probe_reply, dir_deliver, Overflowing}
-use Names.{all_replied, grant_taken, after_grant, append-nil, ProbeReply, core_evict, core_moves, core_takes, granted_by, KeptOwners}
-use Names.{after_move, back_taken, CoreState, in_flight, core_exec, marks_for, dir_takes, out_taken, KeptCores, Contains, cases_eq}
-use Names.{TidGrant, sent_all, from_dir, DirState, Program, DataReq, ignored, Replies, Probing, has_tid, OneCore, Option, IfSome, Vendor}
-use Names.{Answer, Grants, Probes, passes, holder, nat_le, arith, Noted, Local, Event, Shape, World, start, grant, Waits, Drops, Takes}
-use Names.{among, Grant, false, subst, Phase, Ready, Sends, ◌==◌, List, ◌++◌, Some, None, refl, Core, Fill, Asks, step, live, Kept, Pair}
-use Names.{pair, Bool, true, Solo, ◌+◌, ◌≡◌, ◌≤◌, ◌∷◌, sym, ◌⊎◌, inl, inr, num, Dir, Msg, Inv, Out, ◌∙◌, put, [], ap, ℕ, nats, to_dir}
-use Names.{to_core, FromCore, FromDir, grant_to, ◌≢◌}
+use Names.{got, nothing, Contains-append_left, after_other_grant, slice_index_or, if◌then◌else◌, after_answer, probe_reply, dir_deliver}
+use Names.{Overflowing, all_replied, grant_taken, after_grant, append-nil, ProbeReply, core_moves, core_takes, granted_by, KeptOwners}
+use Names.{after_move, back_taken, CoreState, in_flight, marks_for, dir_takes, out_taken, KeptCores, Contains, cases_eq, TidGrant, sent_all}
+use Names.{from_dir, DirState, Program, DataReq, ignored, Replies, Probing, has_tid, OneCore, IfSome, Vendor, Answer, Grants, Probes}
+use Names.{passes, holder, nat_le, arith, Noted, Local, Event, Shape, World, start, grant, Waits, Drops, Takes, among, Grant, false, subst}
+use Names.{Phase, Ready, Sends, ◌==◌, List, ◌++◌, Some, None, refl, Core, Fill, Asks, step, live, Kept, Pair, pair, Bool, true, Solo, ◌+◌}
+use Names.{◌≡◌, ◌≤◌, ◌∷◌, sym, ◌⊎◌, inl, inr, num, Dir, Msg, Inv, Out, ◌∙◌, put, [], ap, ℕ, nats, to_dir, to_core, FromCore, FromDir}
+use Names.{grant_to, ◌≢◌}
 use proofs.Counts.{live-sends, live-takes, pairs_move, pairs_grant, pairs_back, pairs_dir, pairs_asks, pairs_vendor, OfAnswer, step_cases}
 use proofs.OneCore.{fill-steady, data-steady, invalidate-cases, Replied, Ignored, Probed, Left_alone, reply-cases}
 use proofs.Serving.DirDue.{RepliesBy, dir-replies, none-replied, Replying}
@@ -45,7 +45,7 @@ reply-quiet {sh} {e} {u} s (Probed ph ow ph' ow' ca se cm) d t = rw se
     (none-to t e d (marks_for sh s.cache u e) (none-marks sh s.cache u e t))
 reply-quiet s (Left_alone ph ow ph' ow' ca se cm) d t = rw se (nothing-sent t)
 
-back-quiet : (sh : Shape) (e : ℕ) (s : CoreState) (m : Msg) → IfSome (from_dir sh e s m) (λ o. Quiet o)
+back-quiet : (sh : Shape) (e : ℕ) (s : CoreState) (m : Msg) → IfSome (from_dir sh e s m) Quiet
 back-quiet sh e s (ProbeReply u v) = reply-quiet s (reply-cases sh e u s)
 back-quiet sh e s (Fill l ws) = (unprobed-steady (fill-steady l ws s)).sent
 back-quiet sh e s (DataReq l) = (unprobed-steady (data-steady sh l s)).sent
@@ -57,16 +57,16 @@ taken-granted : {sh : Shape} {gs : List Grant} (w : World) {cs : List Noted} (c 
     → in_flight w.net Vendor (Core c) k ≡ Some (TidGrant u) → Contains gs (grant_to u c)
 unfolding holder pair passes
 taken-granted w c k u y i = y.held c 0 u (let n : num (u == u) ≡ 1 = grind nats in
-    omega (arith, n, live-some (Grants u) (w.net Vendor (Core c)) k (TidGrant u) i))
+    omega (arith, live-some (Grants u) (w.net Vendor (Core c)) k (TidGrant u) i))
 
 pub step-probed : {sh : Shape} (p : Program) {gs : List Grant} {w : World} {cs : List Noted} (e : Event) → Kept sh w → KeptOwners sh gs w cs
     → KeptProbed gs w → IfSome (step sh p w e) (λ o. KeptProbed (gs ++ granted_by w e) o.world)
 unfolding pair
 step-probed {sh} p {gs} {w} e z y h = step_cases sh p w e (λ g o. KeptProbed (gs ++ g) o.world)
-    (λ c l. moved c (core_exec sh p c (w.cores c)) (unprobed-exec sh p c (w.cores c)))
-    (λ c a b l. moved c (core_evict sh a b (w.cores c)) (unprobed-evict sh a b (w.cores c)))
+    (λ c o eq l. moved c o (got _ eq (unprobed-exec sh p c (w.cores c))))
+    (λ c a b o eq l. moved c o (got _ eq (unprobed-evict sh a b (w.cores c))))
     (λ c k u i. rw append-nil (pairs_grant P w c k (grant sh u (w.cores c)) (λ d t x. mine c d k u t i x (cases_eq u t)) h))
-    (λ c d k m i. taken c d k m i (from_dir sh d (w.cores c) m) (back-quiet sh d (w.cores c) m))
+    (λ c d k m o eq i. taken c d k m i o (got _ eq (back-quiet sh d (w.cores c) m)))
     (λ c d k m i. answered c d k m i (dir_deliver sh (w.dirs d) c m) (dir-replies sh (w.dirs d) c m))
     (λ c k i. pairs_vendor (λ j d v. ProbedOf (gs ++ grant_to w.next c ∷ []) j v) w c k (λ d t x. more c c t (h c d t x))
     (λ j d n t x. more c j t (h j d t x)))
@@ -84,63 +84,41 @@ step-probed {sh} p {gs} {w} e z y h = step_cases sh p w e (λ g o. KeptProbed (g
     mine c d k u t i x (inr q) =
         h c d t (omega (
           arith,
-          x,
-          live-sends (Probes t) (to_dir w c d) ((grant sh u (w.cores c)).sends (Dir d)),
+          live-sends,
           (granted sh u (w.cores c) (granted_waits (pair w c d) k i (z.told.tids.requests c d))).sent d t q,
         ))
 
-    moved : (c : ℕ) (x : Option Out) → IfSome x (λ o. Unprobed (w.cores c) o) → IfSome x (λ o. KeptProbed (gs ++ []) (core_moves w c o))
-    moved c None a = tt
-    moved c (Some o) a = rw append-nil (pairs_move P w c o
-        (λ d t x. h c d t (omega (arith, x, a.sent d t, live-sends (Probes t) (to_dir w c d) (o.sends (Dir d))))) h)
+    moved : (c : ℕ) (o : Out) → Unprobed (w.cores c) o → KeptProbed (gs ++ []) (core_moves w c o)
+    moved c o a = rw append-nil (pairs_move P w c o
+        (λ d t x. h c d t (omega (arith, a.sent, live-sends))) h)
 
-    taken : (c d k : ℕ) (m : Msg) → FromDir w d c k m → (x : Option Out) → IfSome x (λ o. Quiet o)
-        → IfSome x (λ o. KeptProbed (gs ++ []) (core_takes w (Dir d) c k o))
-    taken c d k m i None a = tt
-    taken c d k m i (Some o) a = rw append-nil (pairs_back P w d c k o
-        (λ t x. h c d t (omega (
-          arith,
-          x,
-          a d t,
-          live-sends (Probes t) (to_dir w c d) (o.sends (Dir d)),
-          live-takes (Replies t) (to_core w d c) k m i,
-        )))
-        (λ b n t x. h c b t (omega (arith, x, a b t, live-sends (Probes t) (to_dir w c b) (o.sends (Dir b))))) h)
+    taken : (c d k : ℕ) (m : Msg) → FromDir w d c k m → (o : Out) → Quiet o → KeptProbed (gs ++ []) (core_takes w (Dir d) c k o)
+    taken c d k m i o a = rw append-nil (pairs_back P w d c k o
+        (λ t x. h c d t (omega (arith, a, live-sends, live-takes (Replies t) (to_core w d c) k m i)))
+        (λ b n t x. h c b t (omega (arith, a, live-sends))) h)
 
     answered : (c d k : ℕ) (m : Msg) → FromCore w c d k m → (a : Answer) → RepliesBy m c a
-        → OfAnswer w c d k (λ v. KeptProbed (gs ++ []) v) a
+        → OfAnswer w c d k (KeptProbed (gs ++ [])) a
     answered c d k m i Waits u = tt
-    answered c d k m i Drops u = rw append-nil (pairs_dir P w c d k (w.dirs d) (λ dst. [])
-        (λ t x. h c d t (omega (
-          arith,
-          x,
-          none-replied t,
-          live-takes (Probes t) (to_dir w c d) k m i,
-          live-sends (Replies t) (to_core w d c) [],
-        )))
-        (λ j n t x. h j d t (omega (arith, x, none-replied t, live-sends (Replies t) (to_core w d j) []))) h)
+    answered c d k m i Drops u = rw append-nil (pairs_dir P w c d k (w.dirs d) nothing
+        (λ t x. h c d t (omega (arith, none-replied, live-takes (Probes t) (to_dir w c d) k m i, live-sends)))
+        (λ j n t x. h j d t (omega (arith, none-replied, live-sends))) h)
     answered c d k m i (Asks s sends) u = rw append-nil (pairs_asks P w d s sends
-        (λ j t x. h j d t (omega (arith, x, u j t, live-sends (Replies t) (to_core w d j) (sends (Core j))))) h)
+        (λ j t x. h j d t (omega (arith, u, live-sends))) h)
     answered c d k m i (Takes s sends) u = rw append-nil (pairs_dir P w c d k s sends
-        (λ t x. h c d t (omega (
-          arith,
-          x,
-          u.own t,
-          live-takes (Probes t) (to_dir w c d) k m i,
-          live-sends (Replies t) (to_core w d c) (sends (Core c)),
-        )))
-        (λ j n t x. h j d t (omega (arith, x, u.others j t n, live-sends (Replies t) (to_core w d j) (sends (Core j))))) h)
+        (λ t x. h c d t (omega (arith, u.own, live-takes (Probes t) (to_dir w c d) k m i, live-sends)))
+        (λ j n t x. h j d t (omega (arith, u.others, live-sends))) h)
 
 pub start-probed : (entries : ℕ → Local) (ram : ℕ → ℕ) → KeptProbed [] (start entries ram)
 unfolding start pair live
-start-probed entries ram c d t x = absurd (omega (arith, x))
+start-probed entries ram c d t x = absurd (omega arith)
 
 -- Every event keeps that one probe or reply is in flight for each directory that owes one, and so does every run.
 probing-moved : {v : Pair} {o : Out} {d t : ℕ} → Unprobed v.core o → ProbingOf d t v → ProbingOf d t (after_move v o d)
 probing-moved {v} {o} {d} {t} y h = record {
-  fresh = λ l. omega (arith, h.fresh l, live-sends (Probes t) v.out (o.sends (Dir d)), y.sent d t);
+  fresh = λ l. omega (arith, h.fresh, live-sends, y.sent);
   held = λ k. let x = y.kept d t k in let q : num (o.core.owing d) ≡ num (v.core.owing d) = ap num x.1 in
-      omega (arith, h.held x.0, live-sends (Probes t) v.out (o.sends (Dir d)), y.sent d t);
+      omega (arith, h.held, live-sends, y.sent);
 }
 
 -- a core takes its grant, which is the only one of its TID
@@ -154,7 +132,8 @@ probing-granted {v} {o} d t k u i one y hu h = elim (cases_eq u t) [
         λ l. omega (
           arith,
           h.fresh (omega (arith, live-takes (Grants t) v.grants k (TidGrant u) i, not_mine u t n)),
-          live-sends (Probes t) v.out (o.sends (Dir d)),
+          live-sends
+              (Probes t) v.out (o.sends (Dir d)),
           y.sent d t n,
         );
     held = λ x. absurd (n (y.kept d t x).0);
@@ -162,12 +141,12 @@ probing-granted {v} {o} d t k u i one y hu h = elim (cases_eq u t) [
 ]
   where
     mine : 1 ≤ live (Grants u) v.grants
-    mine = omega (arith, live-takes (Grants u) v.grants k (TidGrant u) i, is_mine u)
+    mine = omega (arith, live-takes (Grants u) v.grants k (TidGrant u) i, is_mine)
 
     here : ProbingOf d u (after_move (grant_taken v k) o d)
     here = record {
-      fresh = λ l. absurd (omega (arith, live-takes (Grants u) v.grants k (TidGrant u) i, is_mine u));
-      held = λ x. omega (arith, hu.fresh (omega (arith, mine)), (y.kept d u x).1, live-sends (Probes u) v.out (o.sends (Dir d)));
+      fresh = λ l. absurd (omega (arith, live-takes (Grants u) v.grants k (TidGrant u) i, is_mine));
+      held = λ x. omega (arith, hu.fresh (omega (arith, mine)), (y.kept d u x).1, live-sends);
     }
 
 -- a core takes a reply
@@ -186,22 +165,9 @@ probing-taken : (v : Pair) (o : Out) (e k u x t : ℕ) → slice_index_or v.back
     → ProbingOf e t v → ProbingOf e t (after_move (back_taken v k) o e)
 unfolding passes
 probing-taken v o e k u x t i n f h = record {
-  fresh = λ l. omega (
-    arith,
-    h.fresh l,
-    live-takes (Replies t) v.back k (ProbeReply u x) i,
-    live-sends (Probes t) v.out (o.sends (Dir e)),
-    n e t,
-  );
+  fresh = λ l. omega (arith, h.fresh l, live-takes (Replies t) v.back k (ProbeReply u x) i, live-sends, n e t);
   held = λ y. let z = f y in
-      omega (
-        arith,
-        h.held z.0,
-        z.1,
-        live-takes (Replies t) v.back k (ProbeReply u x) i,
-        live-sends (Probes t) v.out (o.sends (Dir e)),
-        n e t,
-      );
+      omega (arith, h.held z.0, live-takes (Replies t) v.back k (ProbeReply u x) i, live-sends, n e t);
 }
 
 -- elsewhere the replies owed stay
@@ -209,9 +175,9 @@ probing-away : {v : Pair} (o : Out) (d t : ℕ) → ((d t : ℕ) → among (Prob
     → (has_tid o.core.phase t ≡ true → (has_tid v.core.phase t ≡ true) × (o.core.owing d ≡ v.core.owing d)) → ProbingOf d t v
     → ProbingOf d t (after_move v o d)
 probing-away {v} o d t n f h = record {
-  fresh = λ l. omega (arith, h.fresh l, live-sends (Probes t) v.out (o.sends (Dir d)), n d t);
+  fresh = λ l. omega (arith, h.fresh, live-sends, n);
   held = λ y. let z = f y in let q : num (o.core.owing d) ≡ num (v.core.owing d) = ap num z.1 in
-      omega (arith, h.held z.0, live-sends (Probes t) v.out (o.sends (Dir d)), n d t);
+      omega (arith, h.held, live-sends, n);
 }
 
 -- what a reply does to the replies owed
@@ -233,7 +199,7 @@ one-less : {s : CoreState} {o : Out} {e u : ℕ} (x y : Phase) (b : Bool) → o.
 one-less {s} {e} {u} x y b p w f hx hy hs n = record {
   sent = n;
   here = λ t k. let q : u ≡ t = has-one b x y u t (hx t) (hy t) (rw p at k) in let r : (u == t) ≡ true = grind nats in
-      (hs t ∙ r, inl (rw (f, w) (omega (arith, put-here s.owing e, ap num r))));
+      (hs t ∙ r, inl (rw (f, w) (omega (arith, put-here, ap num r))));
   away = λ d t m k. let q : u ≡ t = has-one b x y u t (hx t) (hy t) (rw p at k) in let r : (u == t) ≡ true = grind nats in
       (hs t ∙ r, ap (λ g. g d) w ∙ put-away s.owing e d m);
 }
@@ -269,7 +235,7 @@ probing-replied {v} {o} e k u x t i y h = probing-taken v o e k u x t i y.sent (
     here : has_tid v.core.phase t ≡ true → (num (v.core.owing e) ≡ num (o.core.owing e) + num (u == t))
         ⊎ ((u ≡ t) × (v.core.owing e ≡ false)) → num (v.core.owing e) ≡ num (o.core.owing e) + num (u == t)
     here z (inl q) = q
-    here z (inr q) = let n : num (v.core.owing e) ≡ 0 = ap num q.1 in absurd (omega (arith, h.held z, some q.0, n))
+    here z (inr q) = let n : num (v.core.owing e) ≡ 0 = ap num q.1 in absurd (omega (arith, h.held, some))
 
 -- a core that has a TID and waits for no reply is owed none
 idle_of : {sh : Shape} {s : CoreState} (e t : ℕ) → OneCore sh s → Idle e t s
@@ -290,15 +256,15 @@ idle_of {s} e t h k = go s.phase refl k
 probing-answered : {v : Pair} (s : DirState) (ms : List Msg) {d t : ℕ} → among (Replies t) ms ≡ 0 → ProbingOf d t v
     → ProbingOf d t (after_answer v s ms)
 probing-answered {v} s ms {t} n h = record {
-  fresh = λ l. omega (arith, h.fresh l, live-sends (Replies t) v.back ms);
-  held = λ k. omega (arith, h.held k, live-sends (Replies t) v.back ms);
+  fresh = λ l. omega (arith, h.fresh, live-sends);
+  held = λ k. omega (arith, h.held, live-sends);
 }
 
 probing-exchanged : {v : Pair} (s : DirState) (ms : List Msg) {d : ℕ} (t k : ℕ) (m : Msg) → slice_index_or v.out k None ≡ Some m
     → among (Replies t) ms ≡ num (passes (Probes t) m) → ProbingOf d t v → ProbingOf d t (after_answer (out_taken v k) s ms)
 probing-exchanged {v} s ms t k m i n h = record {
-  fresh = λ l. omega (arith, h.fresh l, live-sends (Replies t) v.back ms, live-takes (Probes t) v.out k m i);
-  held = λ x. omega (arith, h.held x, live-sends (Replies t) v.back ms, live-takes (Probes t) v.out k m i);
+  fresh = λ l. omega (arith, h.fresh l, live-sends, live-takes (Probes t) v.out k m i);
+  held = λ x. omega (arith, h.held x, live-sends, live-takes (Probes t) v.out k m i);
 }
 
 -- the vendor grants
@@ -306,7 +272,7 @@ probing-given : (v : Pair) (k d t : ℕ) → ProbingOf d t v → ProbingOf d t (
 unfolding passes among
 probing-given v k d t h = record {
   fresh = λ l. h.fresh (let b : num (nat_le v.next t) ≡ num (nat_le (v.next + 1) t) + num (v.next == t) = grind nats in
-      omega (arith, live-sends (Grants t) v.grants (TidGrant v.next ∷ [])));
+      omega (arith, live-sends));
   held = h.held;
 }
 
@@ -340,20 +306,20 @@ pub step-probing : {sh : Shape} (p : Program) {gs : List Grant} {w : World} {cs 
     → KeptOwners sh gs w cs → KeptCores sh w → KeptProbing w → IfSome (step sh p w e) (λ o. KeptProbing o.world)
 unfolding pair
 step-probing {sh} p {w} e z y x h = step_cases sh p w e (λ g o. KeptProbing o.world)
-    (λ c l. moved c (core_exec sh p c (w.cores c)) (unprobed-exec sh p c (w.cores c)))
-    (λ c a b l. moved c (core_evict sh a b (w.cores c)) (unprobed-evict sh a b (w.cores c)))
+    (λ c o eq l. moved c o (got _ eq (unprobed-exec sh p c (w.cores c))))
+    (λ c a b o eq l. moved c o (got _ eq (unprobed-evict sh a b (w.cores c))))
     (λ c k u i. pairs_grant P w c k (grant sh u (w.cores c)) (λ d t. probing-granted d t k u i
     (grant-alone c u y (core_of_grant c k z.told.tids i))
     (granted sh u (w.cores c) (granted_waits (pair w c d) k i (z.told.tids.requests c d))) (h c d u) (h c d t)) h)
-    taken (λ c d k m i. answered c d k m i (dir_deliver sh (w.dirs d) c m) (dir-replies sh (w.dirs d) c m))
+    (λ c d k m o eq i. got _ eq (taken c d k m i))
+    (λ c d k m i. answered c d k m i (dir_deliver sh (w.dirs d) c m) (dir-replies sh (w.dirs d) c m))
     (λ c k i. pairs_vendor P w c k (λ d t. probing-given (pair w c d) k d t (h c d t)) (λ j d n t. probing-next t (h j d t)))
   where
     P : ℕ → ℕ → Pair → Type 0
     P c d v = (t : ℕ) → ProbingOf d t v
 
-    moved : (c : ℕ) (q : Option Out) → IfSome q (λ o. Unprobed (w.cores c) o) → IfSome q (λ o. KeptProbing (core_moves w c o))
-    moved c None u = tt
-    moved c (Some o) u = pairs_move P w c o (λ d t. probing-moved u (h c d t)) h
+    moved : (c : ℕ) (o : Out) → Unprobed (w.cores c) o → KeptProbing (core_moves w c o)
+    moved c o u = pairs_move P w c o (λ d t. probing-moved u (h c d t)) h
 
     quiet : (c e k : ℕ) {m : Msg} {o : Out} → FromDir w e c k m → ((t : ℕ) → passes (Replies t) m ≡ false) → Unprobed (w.cores c) o
         → KeptProbing (core_takes w (Dir e) c k o)
@@ -378,9 +344,9 @@ step-probing {sh} p {w} e z y x h = step_cases sh p w e (λ g o. KeptProbing o.w
     dir c d k m s sends i u = pairs_dir P w c d k s sends (λ t. probing-exchanged s (sends (Core c)) t k m i (u.own t) (h c d t))
         (λ j n t. probing-answered s (sends (Core j)) (u.others j t n) (h j d t)) h
 
-    answered : (c d k : ℕ) (m : Msg) → FromCore w c d k m → (a : Answer) → RepliesBy m c a → OfAnswer w c d k (λ v. KeptProbing v) a
+    answered : (c d k : ℕ) (m : Msg) → FromCore w c d k m → (a : Answer) → RepliesBy m c a → OfAnswer w c d k KeptProbing a
     answered c d k m i Waits u = tt
     answered c d k m i Drops u =
-        dir c d k m (w.dirs d) (λ dst. []) i (record { own = λ t. none-replied t ∙ sym (u t); others = λ j t n. none-replied t })
+        dir c d k m (w.dirs d) nothing i (record { own = λ t. none-replied t ∙ sym (u t); others = λ j t n. none-replied t })
     answered c d k m i (Asks s sends) u = pairs_asks P w d s sends (λ j t. probing-answered s (sends (Core j)) (u j t) (h j d t)) h
     answered c d k m i (Takes s sends) u = dir c d k m s sends i u

@@ -8,13 +8,12 @@ use Names.{handled, nats, after_other_grant, slice_index_or, first_serving, wait
 use Names.{first-skips, grant_taken, after_grant, core_start, core_moves, core_takes, after_move, back_taken, ResolvedAt, dir_start}
 use Names.{in_flight, sum_below, dir_takes, out_taken, RequestOf, cases_lt, cases_eq, no_lines, TidGrant, dir_asks, AnyGrant, InsideOf}
 use Names.{KeptTids, AsksTid, nat_le, Vendor, TidReq, Grants, subst, Local, World, start, Sends, grant, among, share, opens, List, Some}
-use Names.{None, Core, Link, Kind, live, Pair, pair, part, ◌∷◌, sym, ◌⊎◌, inl, inr, Dir, Out, Any, [], to_dir, to_core, FromCore, FromDir}
-use Names.{◌≢◌}
+use Names.{None, Core, Link, Kind, live, Pair, pair, part, sym, ◌⊎◌, inl, inr, Dir, Out, Any, [], to_dir, to_core, FromCore, FromDir, ◌≢◌}
 use proofs.Counts.{Outcome, Waiting, Spent, TakesSkip, TakesAbort, TakesCommit, TakesAck, TakesCopy, IsSpent, SkipPassed, AbortPassed}
 use proofs.Counts.{CopyPassed, outcome, live-sends, live-takes, total-le, total-zero, sum_back_away, pairs_vendor, sum_dir_away}
 use proofs.Counts.{pairs_grant, pairs_move, pairs_back, pairs_asks, sum_vendor, pairs_dir, sum_grant, sum_move, sum_back, sum_asks, sum_dir}
 use proofs.Counts.{differ, given}
-use proofs.Tids.CoreTids.{KeepsRequests, requests-grant, KeepsPart, part-grant}
+use proofs.Tids.Commits.{KeepsRequests, requests-grant, KeepsPart, part-grant}
 
 -- What a directory's rules do to the TIDs that it has handled.
 
@@ -79,7 +78,7 @@ resolved_ahead : (s : DirState) (m : Msg) (u t : ℕ) → OnceAt s m → s.servi
     → num (passes (Resolves t) m) ≡ num (u == t)
     → handled (kept u s.serving) s.owed t ≡ handled s.serving s.owed t + num (passes (Resolves t) m)
 unfolding handled kept
-resolved_ahead s m u t h l f g = omega (arith, kept-count s.serving t u l (not_kept s m u h f), g)
+resolved_ahead s m u t h l f g = omega (arith, kept-count s.serving t u l (not_kept s m u h f))
 
 owed-handled : (s : Serving) (n t : ℕ) → 0 < n → handled s n t ≡ handled s 0 t + num (s.serving == t)
 unfolding handled
@@ -113,7 +112,7 @@ dir-handled sh s c m t = go (outcome sh s c m)
     go (TakesAbort u b e l) h = resolved (Abort u) u b e l (eq-self u) refl h
     go (TakesCommit b e) h = let o : s.owed ≡ 0 = unserved s (Commit s.serving.serving (count_below (has_mark s.lines) (lines sh))) h
         (eq-self s.serving.serving) in rw o (settled b (invalidation_count sh s.lines c) e)
-    go (TakesAck l k b i e) h = omega (arith, settled b (s.owed - 1) e, owed-handled s.serving s.owed t i)
+    go (TakesAck l k b i e) h = omega (arith, settled, owed-handled)
     go (TakesCopy m l k ws g y e o) h = rw (y.alike (Resolves t)) (omega arith)
     go _ h = omega arith
 
@@ -138,7 +137,7 @@ not_mine u t n = let b : (u == t) ≡ false = grind nats in rw b
 
 -- a core that a message comes from or goes to is one of the machine
 pub inside_from : (sh : Shape) (c n : ℕ) → (sh.cores ≤ c → n ≡ 0) → 1 ≤ n → c < sh.cores
-inside_from sh c n h l = elim (cases_lt c sh.cores) [ inl x ↦ x | inr x ↦ absurd (omega (arith, h x)) ]
+inside_from sh c n h l = elim (cases_lt c sh.cores) [ inl x ↦ x | inr x ↦ absurd (omega (arith, h)) ]
 
 -- for a core of the machine only the owners matter
 within : (sh : Shape) (c : ℕ) (v : Pair) → c < sh.cores → ((l o : ℕ) → v.dir.lines.owner l ≡ Some o → o < sh.cores) → InsideOf sh c v
@@ -151,12 +150,12 @@ within sh c v l h = record {
 }
 
 request-moved : (v : Pair) (o : Out) (d : ℕ) → KeepsRequests 0 v.core o → RequestOf v → RequestOf (after_move v o d)
-request-moved v o d k r = omega (arith, live-sends AsksTid v.asks (o.sends Vendor))
+request-moved v o d k r = omega (arith, live-sends)
 
 part-moved : (sh : Shape) (d t : ℕ) (v : Pair) (o : Out) → KeepsPart sh d t 0 v.core o
     → part sh d t (after_move v o d) + 0 ≡ part sh d t v + 0
 unfolding part
-part-moved sh d t v o k = omega (arith, live-sends (Resolves t) v.out (o.sends (Dir d)))
+part-moved sh d t v o k = omega (arith, live-sends)
 
 -- a core moves
 pub move-kept : (sh : Shape) (w : World) (c : ℕ) (o : Out) → KeptTids sh w → c < sh.cores → KeepsRequests 0 (w.cores c) o
@@ -166,20 +165,20 @@ move-kept sh w c o k l r p = record {
   inside = pairs_move (λ c d v. InsideOf sh c v) w c o (λ d. within sh c _ l (k.inside c d).owners) k.inside;
   requests = pairs_move (λ c d v. RequestOf v) w c o (λ d. request-moved (pair w c d) o d r (k.requests c d)) k.requests;
   resolved = λ d t h. let e = sum_move (part sh d t) sh.cores w c o d 0 0 l (part-moved sh d t (pair w c d) o (p d t h)) in
-      omega (arith, k.resolved d t h);
+      omega (arith, k.resolved);
 }
 
 -- a core takes a grant
 request-granted : (v : Pair) (k u : ℕ) (o : Out) (d : ℕ) → slice_index_or v.grants k None ≡ Some (TidGrant u) → KeepsRequests 1 v.core o
     → RequestOf v → RequestOf (after_move (grant_taken v k) o d)
 unfolding passes
-request-granted v k u o d e r q = omega (arith, live-sends AsksTid v.asks (o.sends Vendor), live-takes AnyGrant v.grants k (TidGrant u) e)
+request-granted v k u o d e r q = omega (arith, live-sends, live-takes AnyGrant v.grants k (TidGrant u) e)
 
 part-granted : (sh : Shape) (d t k u : ℕ) (v : Pair) (o : Out) → slice_index_or v.grants k None ≡ Some (TidGrant u)
     → KeepsPart sh d t (num (u == t)) v.core o → part sh d t (after_move (grant_taken v k) o d) + 0 ≡ part sh d t v + 0
 unfolding part passes
 part-granted sh d t k u v o e q =
-    omega (arith, live-sends (Resolves t) v.out (o.sends (Dir d)), live-takes (Grants t) v.grants k (TidGrant u) e)
+    omega (arith, live-sends, live-takes (Grants t) v.grants k (TidGrant u) e)
 
 pub granted_waits : (v : Pair) (k : ℕ) {u : ℕ} → slice_index_or v.grants k None ≡ Some (TidGrant u) → RequestOf v
     → waits_for_tid v.core.phase ≡ true
@@ -203,7 +202,7 @@ grant-kept sh w c k u h e =
           (λ d. request-granted (pair w c d) k u o d e (requests-grant sh u (w.cores c) wt) (h.requests c d)) h.requests;
       resolved = λ d t x. let e =
           sum_grant (part sh d t) sh.cores w c k o d 0 0 l (part-granted sh d t k u (pair w c d) o e (part-grant sh u d t (w.cores c) x wt))
-          in omega (arith, h.resolved d t x);
+          in omega (arith, h.resolved);
     }
 
 -- a core takes a message of a directory
@@ -222,12 +221,12 @@ back-kept sh w e c k m o h i r p =
   where
     resolved : c < sh.cores → (d t : ℕ) → d < sh.dirs → (d ≡ e) ⊎ (d ≢ e) → ResolvedAt sh (core_takes w (Dir e) c k o) d t
     resolved l d t x (inr n) = let q = sum_back_away (part sh d t) sh.cores w e c k o d 0 0 n l (part-moved sh d t (pair w c d) o (p d t x))
-        in omega (arith, h.resolved d t x)
+        in omega (arith, h.resolved)
     resolved l d t x (inl n) = subst (λ e. ResolvedAt sh (core_takes w (Dir e) c k o) d t) n (here l d t x)
       where
         here : c < sh.cores → (d t : ℕ) → d < sh.dirs → ResolvedAt sh (core_takes w (Dir d) c k o) d t
         here l d t x = let q = sum_back (part sh d t) sh.cores w c k o d 0 0 l (part-moved sh d t (back_taken (pair w c d) k) o (p d t x))
-            in omega (arith, h.resolved d t x)
+            in omega (arith, h.resolved)
 
 -- a directory takes a message of a core
 part-answered : (sh : Shape) (d t k : ℕ) (m : Msg) (v : Pair) (s : DirState) (ms : List Msg) → slice_index_or v.out k None ≡ Some m
@@ -239,13 +238,13 @@ pub once-there : (sh : Shape) (w : World) (c d k t : ℕ) (m : Msg) → c < sh.c
     → ResolvedAt sh w d t → num (passes (Resolves t) m) + handled (w.dirs d).serving (w.dirs d).owed t ≤ 1
 unfolding part pair share
 once-there sh w c d k t m l e r =
-    omega (arith, r, total-le (share (part sh d t) w d) sh.cores c l, live-some (Resolves t) (to_dir w c d) k m e)
+    omega (arith, total-le (share (part sh d t) w d) sh.cores c l, live-some (Resolves t) (to_dir w c d) k m e)
 
 inside-answered : {sh : Shape} {j : ℕ} {v : Pair} (s : DirState) (ms : List Msg) → (sh.cores ≤ j → among Any ms ≡ 0)
     → ((l o : ℕ) → s.lines.owner l ≡ Some o → o < sh.cores) → InsideOf sh j v → InsideOf sh j (after_answer v s ms)
 inside-answered {v} s ms q h i = record {
   out = i.out;
-  back = λ x. omega (arith, live-sends Any v.back ms, i.back x, q x);
+  back = λ x. omega (arith, live-sends, i.back, q);
   asks = i.asks;
   grants = i.grants;
   owners = h;
@@ -265,11 +264,11 @@ part-next sh d t v = refl
 
 part-given : (sh : Shape) (d t : ℕ) (v : Pair) (k : ℕ) → part sh d t (after_grant v k) + 0 ≡ part sh d t v + num (v.next == t)
 unfolding part passes among
-part-given sh d t v k = omega (arith, live-sends (Grants t) v.grants (TidGrant v.next ∷ []))
+part-given sh d t v k = omega (arith, live-sends)
 
 request-given : (v : Pair) (k : ℕ) → slice_index_or v.asks k None ≡ Some TidReq → RequestOf v → RequestOf (after_grant v k)
 unfolding passes among
-request-given v k e r = omega (arith, live-sends AnyGrant v.grants (TidGrant v.next ∷ []), live-takes AsksTid v.asks k TidReq e)
+request-given v k e r = omega (arith, live-sends, live-takes AsksTid v.asks k TidReq e)
 
 inside-next : {sh : Shape} {j : ℕ} {v : Pair} → InsideOf sh j v → InsideOf sh j (after_other_grant v)
 inside-next i = record { out = i.out; back = i.back; asks = i.asks; grants = i.grants; owners = i.owners }
@@ -307,11 +306,11 @@ dir-kept {sh} {w} c e k {m} s sends h i q ow hd =
         let z : sum_below (λ j. 0) sh.cores ≡ 0 = total-zero (λ j. 0) sh.cores (λ j y. refl) in
         let p = sum_dir (part sh d t) (λ j. 0) sh.cores w c k s sends d (num (passes (Resolves t) m)) 0 l
         (part-answered sh d t k m (pair w c d) s (sends (Core c)) i) (λ j n. part-still sh d t (pair w j d) s (sends (Core j))) in
-        rw (eq-self d) (omega (arith, h.resolved d t x))
+        rw (eq-self d) (omega (arith, h.resolved))
 
     resolved : c < sh.cores → (d t : ℕ) → d < sh.dirs → (d ≡ e) ⊎ (d ≢ e) → ResolvedAt sh (dir_takes w c e k s sends) d t
     resolved l d t x (inr n) = let p = sum_dir_away (part sh d t) sh.cores w c e k s sends d n in
-        rw (differ d e n) (omega (arith, h.resolved d t x))
+        rw (differ d e n) (omega (arith, h.resolved))
     resolved l d t x (inl n) = subst (λ y. ResolvedAt sh (dir_takes w c y k s sends) d t) n (here l d t x (rw (sym n) at i)
         (subst (λ y. handled s.serving s.owed t ≡ handled (w.dirs y).serving (w.dirs y).owed t + num (passes (Resolves t) m)) (sym n)
         (hd t (rw n at x))))
@@ -330,13 +329,13 @@ asks-kept sh w e s sends h q ow hd = record {
   where
     resolved : (d t : ℕ) → d < sh.dirs → (d ≡ e) ⊎ (d ≢ e) → ResolvedAt sh (dir_asks w e s sends) d t
     resolved d t x (inr n) = let p = sum_asks (part sh d t) (λ j. 0) sh.cores w e s sends d
-        (λ j. part-same sh d t (pair w j d) s (sends (Core j))) in rw (differ d e n) (omega (arith, h.resolved d t x))
+        (λ j. part-same sh d t (pair w j d) s (sends (Core j))) in rw (differ d e n) (omega (arith, h.resolved))
     resolved d t x (inl n) =
         let p = sum_asks (part sh d t) (λ j. 0) sh.cores w e s sends d (λ j. part-same sh d t (pair w j d) s (sends (Core j))) in
         let y : handled s.serving s.owed t ≡ handled (w.dirs d).serving (w.dirs d).owed t =
         subst (λ y. handled s.serving s.owed t ≡ handled (w.dirs y).serving (w.dirs y).owed t) (sym n) (hd t (rw n at x)) in
         let b : (d == e) ≡ true = rw n (eq-self e) in
-        rw b (omega (arith, h.resolved d t x))
+        rw b (omega (arith, h.resolved))
 
 -- the vendor grants a TID
 pub vendor-kept : (sh : Shape) (w : World) (c k : ℕ) → KeptTids sh w → in_flight w.net (Core c) Vendor k ≡ Some TidReq
@@ -352,7 +351,7 @@ vendor-kept sh w c k h i =
           let p = sum_vendor (part sh d t) sh.cores w c k d 0 (num (w.next == t)) l (part-given sh d t (pair w c d) k)
           (λ j n. part-next sh d t (pair w j d)) in
           let b : num (nat_le w.next t) ≡ num (nat_le (w.next + 1) t) + num (w.next == t) = grind nats in
-          omega (arith, h.resolved d t x);
+          omega (arith, h.resolved);
     }
 
 pub start-kept : (sh : Shape) (entries : ℕ → Local) (ram : ℕ → ℕ) → KeptTids sh (start entries ram)
@@ -366,6 +365,7 @@ start-kept sh entries ram = record {
     resolved : (d t : ℕ) → ResolvedAt sh (start entries ram) d t
     resolved d t = omega (
       arith,
-      total-zero (share (part sh d t) (start entries ram) d) sh.cores (λ j l. part-start sh entries ram d t j),
-      start-handled t,
+      total-zero (share (part sh d t) (start entries ram) d) sh.cores
+          (λ j l. part-start sh entries ram d t j),
+      start-handled,
     )

@@ -305,7 +305,7 @@ pub held-quietly : {x y : ℕ} (k : ℕ) {v : Pair} (w : Pair) {m : Msg} → get
 held-quietly {x} {y} k {v} w {m} i b n f h = rebuilt
   where
     invs : live (InvWord x) w.back ≡ live (InvWord x) v.back
-    invs = let z : num (passes (InvWord x) m) ≡ 0 = rw n in rw b (omega (arith, z, live-takes (InvWord x) v.back k m i))
+    invs = let z : num (passes (InvWord x) m) ≡ 0 = rw n in rw b (omega (arith, live-takes (InvWord x) v.back k m i))
 
     nots : live (FillNot x y) w.back ≤ live (FillNot x y) v.back
     nots = rw b (omega (arith, live-takes (FillNot x y) v.back k m i))
@@ -325,7 +325,7 @@ held-quietly {x} {y} k {v} w {m} i b n f h = rebuilt
 
 -- no Fill of a line is in flight to a core that awaits none, or another
 pub no-fill : (sh : Shape) (d l : ℕ) (v : Pair) → is_awaited v.core.awaited l ≡ false → LoadingOf sh d l v → live (FillOf l) v.back ≡ 0
-no-fill sh d l v a h = let z : num (is_awaited v.core.awaited l && home sh l == d) ≡ 0 = rw a in omega (arith, h, z)
+no-fill sh d l v a h = let z : num (is_awaited v.core.awaited l && home sh l == d) ≡ 0 = rw a in omega arith
 
 stale-other : (l : ℕ) (a : Option Awaited) → is_stale (staled l a) ≡ false → is_awaited a l ≡ false
 stale-other l a h = grind nats
@@ -344,12 +344,7 @@ held-invalid sh d x y k l m u {v} o i f loading h = elim (tested (hit l m x)) [
       framed = λ z p r. absurd (f.gone x z q p r);
       filled = λ p. inl (let e : l ≡ line_of x = hit-line l m x q in let z : is_awaited v.core.awaited (line_of x) ≡ false = rw (← e)
           (stale-other l v.core.awaited (rw f.staled at p)) in
-          omega (
-            arith,
-            no-fill sh d (line_of x) v z loading,
-            few-not x y (set v.back k None),
-            live-takes (FillOf (line_of x)) v.back k (Inv l m u) i,
-          ));
+          omega (arith, no-fill sh d (line_of x) v z loading, few-not, live-takes (FillOf (line_of x)) v.back k (Inv l m u) i));
     }
 
 -- a Fill is taken
@@ -377,7 +372,7 @@ held-filled sh d x y k l {ws} {v} o i f loading h = record { framed = λ z p q. 
     new : (z : ℕ) → (l == line_of x) ≡ true → get_or ws (place_of x) 0 ≡ z → (live (FillNot x y) v.back ≡ 0) ⊎ (1 ≤ live (InvWord x) v.back)
         → (z ≡ y) ⊎ (1 ≤ live (InvWord x) (set v.back k None))
     new z e g (inr q) = inr (omega (arith, q, invs))
-    new z e g (inl q) = inl (filled-is x y z l ws (omega (arith, q, live-some (FillNot x y) v.back k (Fill l ws) i)) e g)
+    new z e g (inl q) = inl (filled-is x y z l ws (omega (arith, live-some (FillNot x y) v.back k (Fill l ws) i)) e g)
 
     framed : (z : ℕ) → ((v.core.cache.value x ≡ Some z) × (v.core.cache.modified x ≡ false))
         ⊎ ((l == line_of x ≡ true) × (get_or ws (place_of x) 0 ≡ z) × (is_stale v.core.awaited ≡ false))
@@ -387,7 +382,7 @@ held-filled sh d x y k l {ws} {v} o i f loading h = record { framed = λ z p q. 
 
     less : (live (FillNot x y) v.back ≡ 0) ⊎ (1 ≤ live (InvWord x) v.back) → (live (FillNot x y) (set v.back k None) ≡ 0)
         ⊎ (1 ≤ live (InvWord x) (set v.back k None))
-    less (inl q) = inl (omega (arith, q, live-takes (FillNot x y) v.back k (Fill l ws) i))
+    less (inl q) = inl (omega (arith, live-takes (FillNot x y) v.back k (Fill l ws) i))
     less (inr q) = inr (omega (arith, q, invs))
 
     one : (b : Bool) → num b ≤ 1
@@ -418,5 +413,5 @@ held-elsewhere sh d x y l {ws} {v} o n f loading h =
     filled : is_stale o.core.awaited ≡ false → ((a : Awaited) × (v.core.awaited ≡ Some a) × ((a.line == l) ≡ true))
         ⊎ (o.core.awaited ≡ v.core.awaited) → (live (FillNot x y) v.back ≡ 0) ⊎ (1 ≤ live (InvWord x) v.back)
     filled p (inl a) =
-        inl (omega (arith, no-fill sh d (line_of x) v (awaits-other l x a.0 v.core.awaited a.1 a.2 n) loading, few-not x y v.back))
+        inl (omega (arith, no-fill sh d (line_of x) v (awaits-other l x a.0 v.core.awaited a.1 a.2 n) loading, few-not))
     filled p (inr e) = h.filled (rw e at p)

@@ -19,7 +19,7 @@ use proofs.Marks.CoreMarks.{some-mask}
 use proofs.Marks.MaskLaws.{same-commit}
 use proofs.Marks.DirRecords.{CountsMarked}
 use proofs.Marks.StoredKept.{taken-stored}
-use proofs.Memory.CoreInMemory.{accesses_at_homes}
+use proofs.Memory.CoreHomes.{accesses_at_homes}
 use proofs.Tids.{live-some}
 use proofs.Values.ValueAt.{IsAlike, value-alike}
 
@@ -55,7 +55,7 @@ pub held-answered : {x y z : ℕ} {v : Pair} (out : Link) (s : DirState) (ms : L
 held-answered {x} {y} {v} out s ms e f h = rw e (record { framed = λ a p q. framed (h.framed a p q); filled = λ p. filled (h.filled p) })
   where
     sent : 1 ≤ live (InvWord x) v.back → 1 ≤ live (InvWord x) (after_answer (record v { out = out }) s ms).back
-    sent n = omega (arith, n, live-sends (InvWord x) v.back ms)
+    sent n = omega (arith, live-sends)
 
     framed : {A : Type 0} → A ⊎ (1 ≤ live (InvWord x) v.back) → A ⊎ (1 ≤ live (InvWord x) (after_answer (record v { out = out }) s ms).back)
     framed (inl q) = inl q
@@ -64,22 +64,22 @@ held-answered {x} {y} {v} out s ms e f h = rw e (record { framed = λ a p q. fra
     filled : (live (FillNot x y) v.back ≡ 0) ⊎ (1 ≤ live (InvWord x) v.back)
         → (live (FillNot x y) (after_answer (record v { out = out }) s ms).back ≡ 0)
         ⊎ (1 ≤ live (InvWord x) (after_answer (record v { out = out }) s ms).back)
-    filled (inl q) = inl (omega (arith, q, f, live-sends (FillNot x y) v.back ms))
+    filled (inl q) = inl (omega (arith, live-sends))
     filled (inr n) = inr (sent n)
 
 -- an invalidation goes out
-pub held-invalidated : (x z : ℕ) (v : Pair) (out : Link) (s : DirState) (ms : List Msg) → 1 ≤ among (InvWord x) ms
+held-invalidated : (x z : ℕ) (v : Pair) (out : Link) (s : DirState) (ms : List Msg) → 1 ≤ among (InvWord x) ms
     → HeldOf x z (after_answer (record v { out = out }) s ms)
 held-invalidated x z v out s ms n = record { framed = λ a p q. inr sent; filled = λ p. inr sent }
   where
     sent : 1 ≤ live (InvWord x) (after_answer (record v { out = out }) s ms).back
-    sent = omega (arith, n, live-sends (InvWord x) v.back ms)
+    sent = omega (arith, live-sends)
 
 -- the core holds no word of the line
-pub held-idle : (x z : ℕ) (v : Pair) → keeps_unmodified v.core.cache (line_of x) ≡ false
+held-idle : (x z : ℕ) (v : Pair) → keeps_unmodified v.core.cache (line_of x) ≡ false
     → (is_stale v.core.awaited ≡ false → live (FillOf (line_of x)) v.back ≡ 0) → HeldOf x z v
 unfolding keeps_unmodified any_word
-held-idle x z v k f = record { framed = λ a p q. absurd (kept a p q); filled = λ p. inl (omega (arith, f p, few-not x z v.back)) }
+held-idle x z v k f = record { framed = λ a p q. absurd (kept a p q); filled = λ p. inl (omega (arith, f, few-not)) }
   where
     kept : (a : ℕ) → v.core.cache.value x ≡ Some a → v.core.cache.modified x ≡ false → ⊥
     kept a p q =
@@ -140,7 +140,7 @@ FillsHome c l a s _ = Unit {0}
 filled-word : (s : DirState) (l x y : ℕ) → (l ≡ line_of x → s.words x ≡ y)
     → (l == line_of x && not (get_or (home_words s l) (place_of x) 0 == y)) ≡ false
 unfolding home_words
-filled-word s l x y e = grind (nats, s.words, eight-at)
+filled-word s l x y e = grind (nats, eight-at)
 
 owner-home : (o c l a : ℕ) (s : DirState) → FillsHome c l a s (ask_owner o l s)
 unfolding ask_owner
@@ -170,16 +170,16 @@ pub dirs-taken : (w : World) (c d k : ℕ) (s : DirState) (sends : Sends) → (d
 unfolding pair
 dirs-taken w c d k s sends = ap (λ v. v.dir) (dir-own w c d k s sends)
 
-pub commits-other : (w : World) (c d k : ℕ) (s : DirState) (sends : Sends) (j t : ℕ) → j ≢ c
+commits-other : (w : World) (c d k : ℕ) (s : DirState) (sends : Sends) (j t : ℕ) → j ≢ c
     → live (Commits t) ((dir_takes w c d k s sends).net (Core j) (Dir d)) ≡ live (Commits t) (to_dir w j d)
 unfolding pair
 commits-other w c d k s sends j t n = ap (λ v. live (Commits t) v.out) (dir-other w c d k s sends j n)
 
-pub commits-own : (w : World) (c d k : ℕ) {m : Msg} (s : DirState) (sends : Sends) (t : ℕ) → FromCore w c d k m
+commits-own : (w : World) (c d k : ℕ) {m : Msg} (s : DirState) (sends : Sends) (t : ℕ) → FromCore w c d k m
     → passes (Commits t) m ≡ false → live (Commits t) ((dir_takes w c d k s sends).net (Core c) (Dir d)) ≡ live (Commits t) (to_dir w c d)
 unfolding pair
 commits-own w c d k {m} s sends t i p = ap (λ v. live (Commits t) v.out) (dir-own w c d k s sends)
-    ∙ (let z : num (passes (Commits t) m) ≡ 0 = rw p in omega (arith, z, live-takes (Commits t) (to_dir w c d) k m i))
+    ∙ (let z : num (passes (Commits t) m) ≡ 0 = rw p in omega (arith, live-takes (Commits t) (to_dir w c d) k m i))
 
 -- the value stays where the commits that stored the word are steady
 pub value-taken : (sh : Shape) (ram : ℕ → ℕ) (w : World) (cs : List Noted) (c d k : ℕ) (s : DirState) (sends : Sends) (j : Option ℕ) (x : ℕ)
@@ -240,7 +240,7 @@ commit-invalidates sh c u n s = go (s.serving.serving == u) (count_below (has_ma
 sent-one : (k : Kind) (f : ℕ → List Msg) (p : ℕ → Bool) (n l : ℕ) → l < n → p l ≡ true → 1 ≤ among k (f l)
     → 1 ≤ among k (flat_map f (those p n))
 unfolding those among
-sent-one k f p zero l i e h = absurd (omega (arith, i))
+sent-one k f p zero l i e h = absurd (omega arith)
 sent-one k f p (suc n) l i e h = rw flat_map-append (rw among-append (go (cases_eq l n) (λ r. sent-one k f p n l r e h)))
   where
     last : l ≡ n → 1 ≤ among k (flat_map f (cond (p n) (n ∷ []) []))
@@ -248,8 +248,8 @@ sent-one k f p (suc n) l i e h = rw flat_map-append (rw among-append (go (cases_
 
     go : (l ≡ n) ⊎ (l ≢ n) → (l < n → 1 ≤ among k (flat_map f (those p n)))
         → 1 ≤ among k (flat_map f (those p n)) + among k (flat_map f (cond (p n) (n ∷ []) []))
-    go (inl q) r = omega (arith, last q)
-    go (inr q) r = omega (arith, r (omega (arith, i, q)))
+    go (inl q) r = omega (arith, last)
+    go (inr q) r = omega (arith, r)
 
 -- the marked words of a line are those that the commit stored
 stored-hit : (sh : Shape) (d x : ℕ) (ls : Lines) (n : Noted) → line_of x < lines sh → home_of sh x ≡ d
@@ -319,7 +319,7 @@ unfolding pair passes
 answered-commit ram w d k inside before h rising served counted stored loading sharers cl dl i lm Waits f g = tt
 answered-commit ram w d k inside before h rising served counted stored loading sharers cl dl i lm Drops f g = absurd g
 answered-commit ram w d k inside before h rising served counted stored loading sharers cl dl i lm (Asks s sends) f g = absurd g
-answered-commit {sh} ram w {cs} {c} d k {m} inside before h rising served counted stored loading sharers cl dl i lm (Takes s sends) f g =
+answered-commit {sh} ram w {cs} {c} d k inside before h rising served counted stored loading sharers cl dl i lm (Takes s sends) f g =
     λ after. held-taken sh ram w cs c d k s sends (λ j x out jl dl' e. either j c (λ q. stays j x out jl e after (λ n r y. rw q (own n)))
     (λ n. other j x out jl n e after (stores_word sh.base was.commit.stores x) refl)) h
   where
@@ -380,7 +380,8 @@ answered-commit {sh} ram w {cs} {c} d k {m} inside before h rising served counte
               z.1 p,
               live-sends (FillOf (line_of x)) (to_core w d j) (sends (Core j)),
               f (line_of x) j,
-              none (j == c) (lm (line_of x)),
+              none (j == c)
+                  (lm (line_of x)),
             ))
           where
             z : (keeps_unmodified (w.cores j).cache (line_of x) ≡ false)

@@ -1,33 +1,30 @@
 -- What a directory or the vendor does keeps the values of home words and of copies on their way home.
 use Rattle.theorem_serial.proofs
 use proofs.Names
-use Names.{and-false, ℕ, ◌+◌, ◌≡◌, ◌<◌, ◌≤◌, ◌⊎◌, ◌==◌, ◌&&◌, ◌||◌, Bool, true, false, cond, nat_lt, List, Contains, Option, Some, None}
-use Names.{if◌then◌else◌, arith, refl, ap, sym, ◌∙◌, inl, inr, cases_eq, cases_lt, Noted, Stored, num, count_below, line_of, place_of}
-use Names.{word_at, has_mark, has, full, mask_of, Msg, Shape, lines, has-mask_of, World, History, copies_with, AboveOf, Commits, CommitOf}
-use Names.{CopyOf, CopyWord, CopyNot, live, passes, pair, is_applied, MarkedCommit, stores_at, stores_in, is_this, stored_mask, stores_word}
-use Names.{counts, word_copies, CopiesHave, names_line, wrote, wrote_line, wrote_mask, [], subst, Plain, Program, Local, DirState, Sends}
-use Names.{Answer, Waits, Drops, Asks, Takes, dir_takes, dir_asks, vendor_gives, Uses, Invariants, Grant, CommitsStand, Ways, nats, home_of}
-use Names.{tid_at, to_dir, FromCore, ◌≢◌, tested}
-use proofs.Copies.LinesStep.{marked-line, writer-line, other-writer, commit-passes}
-use proofs.Copies.TagsKept.{tag-below, applied-owed, TakenCommit, takes-consumes}
-use proofs.Copies.WroteLines.{wrote-at}
+use Names.{nothing, and-false, ℕ, ◌+◌, ◌≡◌, ◌<◌, ◌≤◌, ◌⊎◌, ◌==◌, ◌&&◌, ◌||◌, Bool, true, false, cond, nat_lt, List, Contains, Option, Some}
+use Names.{None, if◌then◌else◌, arith, refl, ap, sym, ◌∙◌, inl, inr, cases_eq, cases_lt, Noted, Stored, num, count_below, line_of, place_of}
+use Names.{word_at, has_mark, has, full, mask_of, Msg, Shape, lines, has-mask_of, World, History, copies_with, Commits, CommitOf, CopyOf}
+use Names.{CopyWord, live, passes, pair, is_applied, MarkedCommit, stores_at, stores_in, is_this, stored_mask, stores_word, counts}
+use Names.{word_copies, CopiesHave, names_line, wrote, wrote_line, wrote_mask, subst, Plain, Program, Local, DirState, Sends, Answer, Waits}
+use Names.{Drops, Asks, Takes, dir_takes, dir_asks, vendor_gives, Uses, Invariants, Grant, CommitsStand, Ways, nats, home_of, tid_at}
+use Names.{to_dir, FromCore, ◌≢◌, tested}
+use proofs.Copies.{marked-line, writer-line, other-writer, commit-passes, tag-below, applied-owed, TakenCommit, takes-consumes, wrote-at}
 use proofs.Counts.{num-same, given, OfAnswer}
 use proofs.Marks.DirRecords.{NoCopy, RecordStays, Records, Still, Came, Settles, Dropped, RecordsBy, CountsMarked}
 use proofs.Marks.MaskLaws.{same-commit}
 use proofs.Marks.CoreMarks.{stored-line, stored-cases}
-use proofs.Memory.CoreInMemory.{line-has}
+use proofs.Memory.CoreHomes.{line-has}
 use proofs.Tids.{live-some}
-use proofs.Values.CoreWords.{HomeBy, Left, Home, WordsBy}
-use proofs.Values.ValueAt.{value-alike, rising-above}
-use proofs.Values.WordCopies.{none-copied, copy-has, word-line, few-copies}
-use proofs.Values.WordValues.{Known, Answers, unconsumed, value_of, tag_of, ValuesAt, have-still, same-value, stored-at-home, quiet-keep}
-use proofs.Values.WordValues.{taken-values, dropped-values, away-values, KeptValues, values-of, same-values, SameCommits, same-copies}
+use proofs.Values.WordCopies.{HomeBy, Left, Home, WordsBy, none-copied, copy-has, word-line, few-copies}
+use proofs.Values.ValueAt.{same-copies, value-alike, rising-above, Known, Answers, unconsumed, value_of, tag_of, ValuesAt, have-still}
+use proofs.Values.ValueAt.{same-value, stored-at-home, quiet-keep, taken-values, dropped-values, away-values, KeptValues, values-of}
+use proofs.Values.ValueAt.{same-values, SameCommits}
 
 -- A Commit that a directory handles keeps the values of each word: its core's copies have the stored words as they are from now on for
 -- all, and the words of a marked line that it didn't store are at home.
 
 -- the commit whose Commit is taken
-pub taken-of : {sh : Shape} {ram : ℕ → ℕ} (h : History) (c d k : ℕ) (m : Msg) → Known sh ram h → c < sh.cores → d < sh.dirs
+taken-of : {sh : Shape} {ram : ℕ → ℕ} (h : History) (c d k : ℕ) (m : Msg) → Known sh ram h → c < sh.cores → d < sh.dirs
     → FromCore h.world c d k m → CountsMarked sh (h.world.dirs d) m → TakenCommit sh h.commits h.world c d
 unfolding pair passes
 taken-of {sh} h c d k m b cl dl i q = record {
@@ -52,14 +49,14 @@ taken-of {sh} h c d k m b cl dl i q = record {
 
     sent : 1 ≤ live (Commits u) (to_dir h.world c d)
     sent = let one : num (passes (Commits u) m) ≡ 1 = rw q (grind nats) in
-        omega (arith, one, live-some (Commits u) (to_dir h.world c d) k m i)
+        omega (arith, live-some (Commits u) (to_dir h.world c d) k m i)
 
     n : MarkedCommit sh h.commits c d u (pair h.world c d)
     n = (b.stored c d u).sent cl dl sent
 
     counted : 1 ≤ live (CommitOf n.commit.tid.0 r) (to_dir h.world n.commit.core.0 d)
     counted = rw (n.tid, n.core) (let one : num (passes (CommitOf u r) m) ≡ 1 = rw q (grind nats) in
-        omega (arith, one, live-some (CommitOf u r) (to_dir h.world c d) k m i))
+        omega (arith, live-some (CommitOf u r) (to_dir h.world c d) k m i))
 
 -- what the answer does: the marked lines have the commit's TID as their tag, and home words stay
 pub record Settled (sh : Shape) (ram : ℕ → ℕ) (h : History) (c d k : ℕ) (m : Msg) (v : World) : Type 0 where
@@ -111,7 +108,7 @@ applied-after h c d m v s y i t = go (c == y.core.0) refl
         num-same (is_applied (v.dirs d) y.tid.0) (is_applied (h.world.dirs d) y.tid.0) (omega (arith, o, net, one, then-one))
 
 -- so a word is for all as it was for the core
-pub value-after : (sh : Shape) (ram : ℕ → ℕ) (h : History) (c d k x : ℕ) (m : Msg) (v : World) → Settled sh ram h c d k m v
+value-after : (sh : Shape) (ram : ℕ → ℕ) (h : History) (c d k x : ℕ) (m : Msg) (v : World) → Settled sh ram h c d k m v
     → home_of sh x ≡ d → value_of sh ram v h.commits d None x ≡ value_of sh ram h.world h.commits d (Some c) x
 unfolding counts
 value-after sh ram h c d k x m v s e = value-alike sh.base ram h.commits (v.dirs d) None None (h.world.dirs d) (Some c) None x
@@ -148,7 +145,7 @@ pub mask-inside : (sh : Shape) (d l : ℕ) (ss : List Stored) {m : ℕ} → m �
 mask-inside sh d l ss e r = elim (tested (nat_lt l (lines sh))) [
   | inl q ↦ grind nats
   | inr q ↦ absurd (let z : 0 ≡ num (nat_lt 0 (stored_mask sh d ss l)) = rw q at (stored-line sh d ss l) in
-      let w : num (nat_lt 0 (stored_mask sh d ss l)) ≡ 1 = ap num (ap (nat_lt 0) (sym e) ∙ r) in omega (arith, z, w))
+      let w : num (nat_lt 0 (stored_mask sh d ss l)) ≡ 1 = ap num (ap (nat_lt 0) (sym e) ∙ r) in omega arith)
 ]
 
 -- a word of a line that isn't marked
@@ -166,7 +163,7 @@ unmarked-values sh ram h c d k x m v s e t r = quiet-keep v (record {
         s.answers.net (CopyWord x g) j d,
         unconsumed (j == c && d == d) (no-word (passes (CopyWord x g) m) refl),
       );
-  others = λ j u y. omega (arith, s.answers.net (CopyNot x u y) j d);
+  others = λ j u y. omega (arith, s.answers.net);
   value = unstored-value x s e t (unstored (stores_word sh.base t.settled.commit.stores x) refl);
 }) (s.known.values d x s.dir e)
   where
@@ -179,9 +176,7 @@ unmarked-values sh ram h c d k x m v s e t r = quiet-keep v (record {
     unstored : (b : Bool) → stores_word sh.base t.settled.commit.stores x ≡ b → b ≡ false
     unstored false q = refl
     unstored true q = absurd (let i : line_of x < lines sh = (s.known.inside t.settled.commit t.settled.noted).stored x q in
-        let y : names_line sh.base t.settled.commit.stores (line_of x) ≡ has_mark (h.world.dirs d).lines
-        (line_of x) = marked-line h (line_of x) i e t in let z : names_line sh.base t.settled.commit.stores (line_of x)
-        ≡ true = line-has (stores_word sh.base t.settled.commit.stores) x q in cc)
+        let y = marked-line h (line_of x) i e t in let z = line-has (stores_word sh.base t.settled.commit.stores) x q in cc)
 
 -- a word of a marked line
 
@@ -204,12 +199,12 @@ stored-copied : {sh : Shape} {ram : ℕ → ℕ} (h : History) (c d x : ℕ) →
 unfolding pair
 stored-copied {sh} h c d x b cl dl e t i r o q =
     let u : ℕ = tid_at h.world d in
-    let a : AboveOf sh.base h.commits c (line_of x) u (pair h.world c d) = b.above c d (line_of x) u cl dl i e o in
+    let a = b.above c d (line_of x) u cl dl i e o in
     let w : wrote_line sh.base h.commits c u (line_of x) ≡ true = writer-line h (line_of x) i e t ∙ r in
     let z : copies_with (line_of x) u (pair h.world c d) ≡ live (Commits u) (to_dir h.world c d) = rw w at a.one in
     let n = copy-has x u (wrote_mask sh.base h.commits c u (line_of x)) (pair h.world c d) (b.caches c) (wrote-has sh h c d x t q)
     a.framed a.sent in
-    omega (arith, z, n, t.sent)
+    omega arith
 
 full-has : (k : ℕ) → k < 8 → has full k ≡ true
 unfolding mask_of
@@ -218,7 +213,7 @@ full-has k i = has-mask_of (λ j. true) k i
 -- nothing is owed while the Commit is in flight
 unowed : {sh : Shape} {ram : ℕ → ℕ} {h : History} {c d : ℕ} → Known sh ram h → d < sh.dirs → TakenCommit sh h.commits h.world c d
     → (h.world.dirs d).owed ≡ 0
-unowed b dl t = grind (nats, t.settled.commit, applied-owed, b.stand, t.settled.noted, t.settled.stored, t.sent)
+unowed b dl t = grind (nats, applied-owed)
 
 -- a word that the commit didn't store has no copy with the line's old tag
 none-old : {sh : Shape} {ram : ℕ → ℕ} (h : History) {c : ℕ} (d j x : ℕ) → Known sh ram h → j < sh.cores → d < sh.dirs → home_of sh x ≡ d
@@ -227,10 +222,8 @@ none-old : {sh : Shape} {ram : ℕ → ℕ} (h : History) {c : ℕ} (d j x : ℕ
 unfolding pair stores_in
 none-old {sh} h d j x b jl dl e t i r q = elim (b.whole d (line_of x) (unowed b dl t) r) [
   | inl f ↦ absurd (let y = stored (sym (t.settled.marks (line_of x)) ∙ f) (stored-cases sh d n.stores (line_of x)) in cc)
-  | inr f ↦ let o : copies_with (line_of x) (tag_of h.world d x) (pair h.world j d) ≡ num
-      (is_this ((h.world.dirs d).lines.owner (line_of x)) j) = b.owned j d (line_of x) jl dl i e in
-      let z : num (is_this ((h.world.dirs d).lines.owner (line_of x)) j) ≡ 0 = rw f in
-      omega (arith, o, z, few-copies x (tag_of h.world d x) (pair h.world j d) (b.caches j))
+  | inr f ↦ let z : num (is_this ((h.world.dirs d).lines.owner (line_of x)) j) ≡ 0 = rw f in
+      omega (arith, few-copies x (tag_of h.world d x) (pair h.world j d) (b.caches j), b.owned j d (line_of x) jl dl i e)
 ]
   where
     n : Noted
@@ -239,7 +232,7 @@ none-old {sh} h d j x b jl dl e t i r q = elim (b.whole d (line_of x) (unowed b 
     stored : stored_mask sh d n.stores (line_of x) ≡ full
         → (stored_mask sh d n.stores (line_of x) ≡ mask_of (λ k. stores_word sh.base n.stores (word_at (line_of x) k)))
         ⊎ (stored_mask sh d n.stores (line_of x) ≡ 0) → stores_word sh.base n.stores x ≡ true
-    stored f (inr z) = absurd (let y : full ≡ 0 = sym f ∙ z in omega (arith, y))
+    stored f (inr z) = absurd (let y : full ≡ 0 = sym f ∙ z in omega arith)
     stored f (inl z) =
         let y : has (mask_of (λ k. stores_word sh.base n.stores (word_at (line_of x) k))) (place_of x) ≡ true =
         rw (sym z ∙ f) (full-has (place_of x) (omega arith)) in
@@ -284,7 +277,7 @@ marked-values sh ram h c d k x m v s e t r = record {
     -- a core without a copy of the line
     none : (j y z : ℕ) → j < sh.cores → tag_of h.world d x < y
         → cond (wrote_line sh.base h.commits j y (line_of x)) (live (Commits y) (to_dir h.world j d)) 0 ≡ 0 → CopiesHave x y z (pair v j d)
-    none j y z jl l o = have-still (pair v j d) (same-core j) (omega (arith, s.answers.net (CopyNot x y z) j d))
+    none j y z jl l o = have-still (pair v j d) (same-core j) (omega (arith, s.answers.net))
         refl (none-copied x y z (pair h.world j d) (b.caches j) ((b.above j d (line_of x) y jl s.dir i e l).one ∙ o))
 
     above : (j y : ℕ) → j < sh.cores → u < y → CopiesHave x y (value_of sh ram v h.commits d (Some j) x) (pair v j d)
@@ -293,12 +286,12 @@ marked-values sh ram h c d k x m v s e t r = record {
       where
         later : (0 < live (Commits y) (to_dir h.world j d)) ⊎ (live (Commits y) (to_dir h.world j d) ≤ 0)
             → live (Commits y) (to_dir h.world j d) ≡ 0
-        later (inr z) = omega (arith, z)
-        later (inl z) = absurd (let w : u ≡ y = b.served j d y jl s.dir (omega (arith, z)) in omega (arith, w, l))
+        later (inr z) = omega arith
+        later (inl z) = absurd (omega (arith, b.served j d y jl s.dir (omega arith)))
 
     copied : (j : ℕ) → j < sh.cores → (j ≡ c) ⊎ (j ≢ c) → CopiesHave x u new (pair v j d)
     copied j jl (inl q) = have-still (pair v j d) (same-core j)
-        (omega (arith, s.answers.net (CopyNot x u (value_of sh ram h.world h.commits d (Some j) x)) j d))
+        (omega (arith, s.answers.net))
         (rw q (value-after sh ram h c d k x m v s e)) ((b.values d x s.dir e).above j u jl old)
     copied j jl (inr q) = none j u new jl old (rw (other-writer sh h c j d (line_of x) q t))
 
@@ -307,21 +300,17 @@ marked-values sh ram h c d k x m v s e t r = record {
     at-home true q p = absurd (
         let z : word_copies x u (pair h.world c d) ≡ word_copies x u (pair v c d) =
         same-copies x u (pair h.world c d) (pair v c d) (same-core c)
-        (omega (
-          arith,
-          s.answers.net (CopyWord x u) c d,
-          unconsumed (c == c && d == d) (no-word (passes (CopyWord x u) m) refl),
-        )) in
+        (omega (arith, s.answers.net (CopyWord x u) c d, unconsumed (c == c && d == d) (no-word (passes (CopyWord x u) m) refl))) in
         omega (arith, z, p c s.core, stored-copied h c d x b s.core s.dir e t i r old q))
       where
         no-word : (b : Bool) → passes (CopyWord x u) m ≡ b → b ≡ false
         no-word false q = refl
         no-word true q = absurd (let o : num (passes (CopyWord x u) m) ≡ 1 = ap num q in
-            let z : num (passes (CopyOf (line_of x) u) m) ≡ 0 = ap num (s.copies (line_of x) u) in omega (arith, o, z, word-line x u m))
+            let z : num (passes (CopyOf (line_of x) u) m) ≡ 0 = ap num (s.copies (line_of x) u) in omega (arith, word-line))
     at-home false q p = s.words x ∙ (b.values d x s.dir e).at_home (λ j jl. none-old h d j x b jl s.dir e t i r q)
         ∙ sym (unstored-value x s e t q None)
 
-pub settled-values : (sh : Shape) (ram : ℕ → ℕ) (h : History) (c d k x : ℕ) (m : Msg) (v : World) → Settled sh ram h c d k m v
+settled-values : (sh : Shape) (ram : ℕ → ℕ) (h : History) (c d k x : ℕ) (m : Msg) (v : World) → Settled sh ram h c d k m v
     → home_of sh x ≡ d → ValuesAt sh ram v h.commits d x
 settled-values sh ram h c d k x m v s e = elim (tested (has_mark (h.world.dirs d).lines (line_of x))) [
   | inl r ↦ marked-values sh ram h c d k x m v s e t r
@@ -379,7 +368,7 @@ stays : {x : ℕ} {m : Msg} {s new : DirState} → NoCopy m → HomeBy s m x new
 stays n (Left e f) = e
 stays {x} {m} {s} n (Home e f) = absurd (let o : num (passes (CopyWord x (s.lines.tag (line_of x))) m) ≡ 1 = ap num e in
     let z : num (passes (CopyOf (line_of x) (s.lines.tag (line_of x))) m) ≡ 0 = ap num (n (line_of x) (s.lines.tag (line_of x))) in
-    omega (arith, o, z, word-line x (s.lines.tag (line_of x)) m))
+    omega (arith, word-line))
 
 takes : {sh : Shape} {ram : ℕ → ℕ} (h : History) (c d k : ℕ) (m : Msg) (s : DirState) (sends : Sends) → Known sh ram h → c < sh.cores
     → d < sh.dirs → FromCore h.world c d k m → CommitsStand sh (dir_takes h.world c d k s sends) h.commits
@@ -404,9 +393,9 @@ takes {sh} {ram} h c d k m s sends b cl dl i t f (Settles q g u n) =
     }) e)
 
 drops : {sh : Shape} {ram : ℕ → ℕ} (h : History) (c d k : ℕ) (m : Msg) → Known sh ram h → c < sh.cores → d < sh.dirs
-    → FromCore h.world c d k m → CommitsStand sh (dir_takes h.world c d k (h.world.dirs d) (λ dst. [])) h.commits
-    → Dropped (h.world.dirs d) c m → KeptValues sh ram (dir_takes h.world c d k (h.world.dirs d) (λ dst. [])) h.commits
-drops h c d k m b cl dl i t n = taken c d k (h.world.dirs d) (λ dst. []) b cl dl i t
+    → FromCore h.world c d k m → CommitsStand sh (dir_takes h.world c d k (h.world.dirs d) nothing) h.commits
+    → Dropped (h.world.dirs d) c m → KeptValues sh ram (dir_takes h.world c d k (h.world.dirs d) nothing) h.commits
+drops h c d k m b cl dl i t n = taken c d k (h.world.dirs d) nothing b cl dl i t
     (λ x e a r. dropped-values h c d k x m b cl dl e i a r n)
 
 asks : {sh : Shape} {ram : ℕ → ℕ} (h : History) (d : ℕ) (s : DirState) (sends : Sends) → Known sh ram h

@@ -7,12 +7,11 @@ use Names.{place_of, word_at, has, hit, Msg, Shape, IsCache, is_dirty, dirty_tag
 use Names.{CopyWord, passes, IsRising, Pair, is_this, stores_word, after_stores, counts, after_commits, word_copies, wrote, wrote_mask}
 use Names.{last_of, ◌+◌, map, nat_lt, nat_le, subst, order_of_commit, lines, seen, World, History, plain_start, copies_with}
 use Names.{settled_in_line, Commits, CopyOf, live, Carried, CarriedInMemory, Grant, pair, SeenFollows, is_settled, is_applied, MarkedCommit}
-use Names.{stores_at, value_at, CopiesHave, HomeWords, CopiesAbove, Ways, Committed, names_line, wrote_line, nats, home_of, to_dir}
-use Names.{grant_to, tested}
-use proofs.Copies.CopySends.{some-dirty, tag-of}
+use Names.{value_at, CopiesHave, HomeWords, CopiesAbove, Ways, Committed, names_line, wrote_line, nats, home_of, to_dir, grant_to, tested}
+use proofs.Copies.{some-dirty, tag-of}
 use proofs.Counts.{live-fewer}
-use proofs.Memory.CoreInMemory.{accesses_at_homes, line-has}
-use proofs.Order.SerialParts.{Each, all_stores, home-below, each-listed, serial-holds}
+use proofs.Memory.CoreHomes.{accesses_at_homes, line-has}
+use proofs.Order.{Each, all_stores, home-below, each-listed, serial-holds}
 use proofs.Tids.{numbered-least, granted-once, granted-at}
 use proofs.Values.ValueAt.{Greatest, seen-greatest, after_stores-other}
 use proofs.Values.WordCopies.{few-words, none-copied, few-copies, copy-has}
@@ -22,7 +21,7 @@ use proofs.Values.WordCopies.{few-words, none-copied, few-copies, copy-has}
 -- values
 
 -- where each commit that stored the word counts, its value is that after all of them
-pub after-all : (base : ℕ) (s : DirState) (c b : Option ℕ) (x : ℕ) (ns : List Noted) (y : ℕ)
+after-all : (base : ℕ) (s : DirState) (c b : Option ℕ) (x : ℕ) (ns : List Noted) (y : ℕ)
     → Each (λ n. (counts s c b n ≡ true) ⊎ (stores_word base n.stores x ≡ false)) ns
     → after_commits base s c b x ns y ≡ all_stores base x ns y
 unfolding after_commits all_stores Each
@@ -43,15 +42,14 @@ after-all base s c b x (n ∷ ns) y h = ap (after_commits base s c b x ns) (one 
 above-first : (last : ℕ) (ns : List Noted) (n : Noted) → IsRising last ns → (k : ℕ) → k < length ns → slice_index_or ns k n ≡ n
     → last < n.tid.0
 unfolding IsRising
-above-first last [] n r k l e = absurd (omega (arith, l))
+above-first last [] n r k l e = absurd (omega arith)
 above-first last (m ∷ ns) n r zero l e = let i : m ≡ n = e in let j : last < m.tid.0 = r.0 in rw i at j
-above-first last (m ∷ ns) n r (suc k) l e = let i : last < m.tid.0 = r.0 in let j : m.tid.0 < n.tid.0 =
-    above-first m.tid.0 ns n r.1 k (omega (arith, l)) e in omega (arith, i, j)
+above-first last (m ∷ ns) n r (suc k) l e = let i : last < m.tid.0 = r.0 in omega (arith, above-first m.tid.0 ns n r.1 k (omega arith) e)
 
 -- a TID has one commit
 pub one-commit : (last : ℕ) (ns : List Noted) (a b : Noted) → IsRising last ns → Contains ns a → Contains ns b → a.tid.0 ≡ b.tid.0 → a ≡ b
 unfolding IsRising
-one-commit last [] a b r i j e = absurd (omega (arith, i.1))
+one-commit last [] a b r i j e = absurd (omega arith)
 one-commit last (m ∷ ns) a b r i j e = go i.0 i.1 i.2 j.0 j.1 j.2 (λ k l. one-commit m.tid.0 ns a b r.1 k l e)
   where
     go : (k : ℕ) → k < suc (length ns) → slice_index_or (m ∷ ns) k a ≡ a → (n : ℕ) → n < suc (length ns) → slice_index_or (m ∷ ns) n b ≡ b
@@ -59,7 +57,7 @@ one-commit last (m ∷ ns) a b r i j e = go i.0 i.1 i.2 j.0 j.1 j.2 (λ k l. one
     go a k p b n q f = grind (nats, above-first)
 
 -- the commits that pass are below a TID
-pub last-under : (p : Noted → Bool) (t : ℕ) (ns : List Noted) → 1 ≤ t → Each (λ n. p n ≡ true → n.tid.0 < t) ns → last_of p ns < t
+last-under : (p : Noted → Bool) (t : ℕ) (ns : List Noted) → 1 ≤ t → Each (λ n. p n ≡ true → n.tid.0 < t) ns → last_of p ns < t
 unfolding last_of Each
 last-under p t [] l h = l
 last-under p t (n ∷ ns) l h = go (p n) h.0 (last-under p t ns l h.1)
@@ -68,10 +66,10 @@ last-under p t (n ∷ ns) l h = go (p n) h.0 (last-under p t ns l h.1)
     go a f i = grind nats
 
 -- a commit wrote the words that it stored
-pub wrote-word : (base : ℕ) (ns : List Noted) (n : Noted) (x : ℕ) → Contains ns n → stores_word base n.stores x ≡ true
+wrote-word : (base : ℕ) (ns : List Noted) (n : Noted) (x : ℕ) → Contains ns n → stores_word base n.stores x ≡ true
     → wrote base ns n.core.0 n.tid.0 x ≡ true
 unfolding wrote
-wrote-word base [] n x i s = absurd (omega (arith, i.1))
+wrote-word base [] n x i s = absurd (omega arith)
 wrote-word base (m ∷ ns) n x i s = go i.0 i.1 i.2 (λ k. wrote-word base ns n x k s)
   where
     c : (n.core.0 == n.core.0) ≡ true
@@ -101,7 +99,7 @@ wrote-none base (n ∷ ns) c t x h = rw (wrote-none base ns c t x h.1) (go (n.co
     go : (a b : Bool) → (n.tid.0 == t) ≡ b → ((a && (b && stores_word base n.stores x)) || false) ≡ false
     go a b q = grind nats
 
-pub mask-wrote : (base : ℕ) (ns : List Noted) (c t x : ℕ) → has (wrote_mask base ns c t (line_of x)) (place_of x) ≡ wrote base ns c t x
+mask-wrote : (base : ℕ) (ns : List Noted) (c t x : ℕ) → has (wrote_mask base ns c t (line_of x)) (place_of x) ≡ wrote base ns c t x
 unfolding wrote_mask
 mask-wrote base ns c t x = has-mask_of (λ k. wrote base ns c t (word_at (line_of x) k)) (place_of x) (omega arith)
     ∙ ap (wrote base ns c t) (word_at-own x)
@@ -119,7 +117,6 @@ unwritten-none {sh} {ns} {c} x {t} {v} h a w =
       arith,
       live-fewer (CopyWord x t) (CopyMask (line_of x) t (wrote_mask sh.base ns c t (line_of x)))
           (outside x t (wrote_mask sh.base ns c t (line_of x)) (mask-wrote sh.base ns c t x ∙ w)) v.out,
-      a.sent,
       framed (v.core.cache.dirty x) refl,
     )
   where
@@ -147,13 +144,13 @@ unwritten-none {sh} {ns} {c} x {t} {v} h a w =
 
 -- one of the first n has some, or none has
 search : (f : ℕ → ℕ) (n : ℕ) → ((c : ℕ) × (c < n) × (1 ≤ f c)) ⊎ ((c : ℕ) → c < n → f c ≡ 0)
-search f zero = inr (λ c l. absurd (omega (arith, l)))
+search f zero = inr (λ c l. absurd (omega arith))
 search f (suc n) = go (nat_le 1 (f n)) refl (search f n)
   where
     go : (b : Bool) → nat_le 1 (f n) ≡ b → ((c : ℕ) × (c < n) × (1 ≤ f c)) ⊎ ((c : ℕ) → c < n → f c ≡ 0)
         → ((c : ℕ) × (c < suc n) × (1 ≤ f c)) ⊎ ((c : ℕ) → c < suc n → f c ≡ 0)
     go true q r = inl (n, omega arith, grind nats)
-    go false q (inl r) = inl (r.0, omega (arith, r.1), r.2)
+    go false q (inl r) = inl (r.0, omega arith, r.2)
     go false q (inr r) = inr (λ c l. last c l (c == n) refl)
       where
         last : (c : ℕ) → c < suc n → (b : Bool) → (c == n) ≡ b → f c ≡ 0
@@ -193,15 +190,13 @@ applied-or-flying {sh} {gs} {ys} {h} x n k i s = elim (search (λ c. live (Commi
     d : ℕ
     d = home_of sh x
 
-    stored : stores_at sh d n.stores ≡ true
-    stored = (accesses_at_homes sh n.loads n.stores (k.inside.commits_stay_in_memory n i)).stored x s
-
     positive : 1 ≤ n.tid.0
     positive = numbered-least 1 gs (grant_to n.tid.0 n.core.0) k.carried.granted_tids_are_those_below_next.0
         (granted-at gs h.commits n k.carried.commits_are_of_granted_tids.1 i)
 
     committed : ys d n.tid.0 ≡ Committed
-    committed = k.carried.committed_tid_is_given_up_where_it_stored_nothing.stored n d i (home-below sh x k.dirs) ∙ rw stored
+    committed = k.carried.committed_tid_is_given_up_where_it_stored_nothing.stored n d i (home-below sh x k.dirs)
+        ∙ rw ((accesses_at_homes sh n.loads n.stores (k.inside.commits_stay_in_memory n i)).stored x s)
 
 -- its value, where all that stored it count
 all-value : {sh : Shape} {ram : ℕ → ℕ} {gs : List Grant} {ys : Ways} {ends : ℕ → ℕ} {h : History} (x : ℕ) (c : Option ℕ)
@@ -209,7 +204,7 @@ all-value : {sh : Shape} {ram : ℕ → ℕ} {gs : List Grant} {ys : Ways} {ends
     → ((n : Noted) → Contains h.commits n → stores_word sh.base n.stores x ≡ true → counts (at sh h.world x) c None n ≡ true)
     → value_at sh.base ram h.commits (at sh h.world x) c None x ≡ ends x
 unfolding value_at
-all-value x c k f = grind (nats, after-all, each-listed, k.words)
+all-value x c k f = grind (nats, after-all, each-listed)
 
 -- where all commits that stored the word are applied, and no copy is above its line's tag
 settled-word : {sh : Shape} {ram : ℕ → ℕ} {gs : List Grant} {ys : Ways} {ends : ℕ → ℕ} {h : History} {x : ℕ} → Known sh ram gs ys ends h
@@ -235,8 +230,9 @@ unfolding word_copies pair
 outside-word {sh} h x k out = settled-word k (λ n i s. absurd (out ((k.inside.commits_stay_in_memory n i).stored x s)))
     (λ c g l t. omega (
       arith,
-      few-words x g (to_dir h.world c (home_of sh x)),
-      sent c g (nat_le 1 (live (CopyOf (line_of x) g) (to_dir h.world c (home_of sh x)))) refl,
+      few-words,
+      sent c g
+          (nat_le 1 (live (CopyOf (line_of x) g) (to_dir h.world c (home_of sh x)))) refl,
       framed c g ((h.world.cores c).cache.dirty x) refl,
     ))
   where
@@ -262,11 +258,7 @@ quiet-word : {sh : Shape} {ram : ℕ → ℕ} {gs : List Grant} {ys : Ways} {end
 unfolding pair
 quiet-word {sh} h x k i z = settled-word k (λ n j s. applied n (applied-or-flying x n k j s))
     (λ c g l t. let y = few-copies x g (pair h.world c (home_of sh x)) (k.carried.frames_stand_in_their_sets c) in
-    omega (
-      arith,
-      y,
-      above-none x c g k i l t (still c g l (nat_le 1 (live (Commits g) (to_dir h.world c (home_of sh x)))) refl),
-    ))
+    omega (arith, above-none x c g k i l t (still c g l (nat_le 1 (live (Commits g) (to_dir h.world c (home_of sh x)))) refl)))
   where
     never : (c t : ℕ) → c < sh.cores → 1 ≤ live (Commits t) (to_dir h.world c (home_of sh x)) → ⊥
     never c t l f =
@@ -274,7 +266,7 @@ quiet-word {sh} h x k i z = settled-word k (λ n j s. applied n (applied-or-flyi
         (home-below sh x k.dirs) f in
         let y : live (Commits t) (to_dir h.world c (home_of sh x)) ≡ 0 =
         subst (λ t. live (Commits t) (to_dir h.world c (home_of sh x)) ≡ 0) e (z c l) in
-        omega (arith, f, y)
+        omega arith
 
     still : (c g : ℕ) → c < sh.cores → (b : Bool) → nat_le 1 (live (Commits g) (to_dir h.world c (home_of sh x))) ≡ b
         → live (Commits g) (to_dir h.world c (home_of sh x)) ≡ 0
@@ -325,7 +317,7 @@ other-word {sh} h x {n} k i f s = settled-word k (λ m j t. applied m j t (appli
         → nat_le 1 (live (Commits g) (to_dir h.world e (home_of sh x))) ≡ b → word_copies x g (pair h.world e (home_of sh x)) ≡ 0
     none e g l t false q = let y = few-copies x g (pair h.world e (home_of sh x)) (k.carried.frames_stand_in_their_sets e) in
         let z : live (Commits g) (to_dir h.world e (home_of sh x)) ≡ 0 = grind nats in
-        omega (arith, y, above-none x e g k i l t z)
+        omega (arith, above-none x e g k i l t z)
     none e g l t true q =
         let z : 1 ≤ live (Commits g) (to_dir h.world e (home_of sh x)) = grind nats in
         let y : (at sh h.world x).serving.serving ≡ g = k.carried.committing_tid_is_served e (home_of sh x) g l
@@ -365,7 +357,7 @@ coming-below {sh} {gs} h x c n k i f = subst (λ q. q < (at sh h.world x).servin
         let y : live (Commits (at sh h.world x).serving.serving) (to_dir h.world c (home_of sh x)) ≡ 0 =
         subst (λ t. live (Commits t) (to_dir h.world c (home_of sh x)) ≡ 0) e
         (subst (λ b. live (Commits m.tid.0) (to_dir h.world b (home_of sh x)) ≡ 0) q z) in
-        omega (arith, y, f.sent)
+        omega arith
 
     below : (m : Noted) → Contains h.commits m → settled_in_line sh h.world (home_of sh x) (line_of x) m ≡ true
         → m.tid.0 < (at sh h.world x).serving.serving
@@ -378,12 +370,12 @@ coming-below {sh} {gs} h x c n k i f = subst (λ q. q < (at sh h.world x).servin
         last z o true p b q = grind nats
         last z o false p true q = absurd (served m j (grind nats) z)
         last z o false p false q = absurd (let y : is_applied (at sh h.world x) m.tid.0 ≡ false = rw (p, q) in
-            let w : num (is_applied (at sh h.world x) m.tid.0) ≡ 0 = ap num y in omega (arith, o, w))
+            let w : num (is_applied (at sh h.world x) m.tid.0) ≡ 0 = ap num y in omega arith)
 
         go : (a : Bool) → (live (Commits m.tid.0) (to_dir h.world m.core.0 (home_of sh x)) == 0) ≡ a → (b : Bool)
             → names_line sh.base m.stores (line_of x) ≡ b → (a && b) ≡ true → m.tid.0 < (at sh h.world x).serving.serving
         go true p true q w = let z : live (Commits m.tid.0) (to_dir h.world m.core.0 (home_of sh x)) ≡ 0 =
-            grind nats in last z (omega (arith, z, stands m j q)) (nat_lt m.tid.0 (at sh h.world x).serving.serving) refl
+            grind nats in last z (omega (arith, stands)) (nat_lt m.tid.0 (at sh h.world x).serving.serving) refl
             (m.tid.0 == (at sh h.world x).serving.serving) refl
         go true p false q w = absurd (cc)
         go false p b q w = absurd (cc)
@@ -396,13 +388,12 @@ stored-word {sh} {ram} {ends} h x {c} {n} k i f s = record {
   none = λ e g l t. let y = few-copies x g (pair h.world e (home_of sh x)) (k.carried.frames_stand_in_their_sets e) in
       omega (
         arith,
-        y,
-        above-none x e g k i l (omega (arith, t, below))
+        above-none x e g k i l (omega (arith, below))
             (later e g l t (nat_le 1 (live (Commits g) (to_dir h.world e (home_of sh x)))) refl),
       );
   have = λ e l. have e l (nat_le 1 (live (Commits (at sh h.world x).serving.serving) (to_dir h.world e (home_of sh x)))) refl;
   line = omega (arith, below);
-  some = λ z. absurd (omega (arith, z c f.below, copied));
+  some = λ z. absurd (omega (arith, z, copied));
 }
   where
     below : (at sh h.world x).lines.tag (line_of x) < (at sh h.world x).serving.serving
@@ -452,8 +443,9 @@ stored-word {sh} {ram} {ends} h x {c} {n} k i f s = record {
       arith,
       f.sent,
       one,
-      copy-has x (at sh h.world x).serving.serving (wrote_mask sh.base h.commits c (at sh h.world x).serving.serving (line_of x))
-          (pair h.world c (home_of sh x)) (k.carried.frames_stand_in_their_sets c)
+      copy-has x (at sh h.world x).serving.serving
+          (wrote_mask sh.base h.commits c (at sh h.world x).serving.serving (line_of x)) (pair h.world c (home_of sh x))
+          (k.carried.frames_stand_in_their_sets c)
           (mask-wrote sh.base h.commits c (at sh h.world x).serving.serving x ∙ written) kept.framed kept.sent,
     )
 

@@ -2,23 +2,22 @@
 use Rattle.rules_tcc.specs.DirDeliver.{dir_commit}
 use Rattle.theorem_serial.proofs
 use proofs.Names
-use Names.{eq-self, ℕ, zero, suc, ◌+◌, ◌≡◌, ◌<◌, ◌≤◌, ◌⊎◌, Bool, true, cond, [], ◌∷◌, Option, Some, None, flat_map, arith, refl, inl, inr}
-use Names.{cases_eq, flat_map-append, num, line_of, those, hit, Msg, Inv, Kind, passes, among, is_below, dooms, ◌==◌, ◌&&◌, ◌||◌, not}
-use Names.{false, List, Contains, is_some, nat_lt, set, ap, sym, subst, ◌∙◌, true≢false, Noted, place_of, word_at, any_word, count_below}
-use Names.{has_mark, Core, Dir, Shape, lines, any_below-at, DirState, World, is_invalidated, invs_to, invalidations, Sends, History}
-use Names.{dir_takes, keeps_unmodified, holds_line, Commits, CommitOf, live, CommitsInMemory, Carried, Grant, Pair, pair, is_applied}
-use Names.{is_this, CommitsStand, stored_mask, stores_in, MarkedCommit, stores_word, counts, value_at, Ways, if◌then◌else◌, TidReq}
-use Names.{TidGrant, Fill, ProbeReply, Commit, DataReq, Answer, Waits, Drops, Asks, Takes, moved_on_if_settled, owned_by_committer}
+use Names.{nothing, eq-self, ℕ, zero, suc, ◌+◌, ◌≡◌, ◌<◌, ◌≤◌, ◌⊎◌, Bool, true, cond, [], ◌∷◌, Option, Some, None, flat_map, arith, refl}
+use Names.{inl, inr, cases_eq, flat_map-append, num, line_of, those, hit, Msg, Inv, Kind, passes, among, is_below, dooms, ◌==◌, ◌&&◌, ◌||◌}
+use Names.{not, false, List, Contains, is_some, nat_lt, set, ap, sym, subst, ◌∙◌, true≢false, Noted, place_of, word_at, any_word}
+use Names.{count_below, has_mark, Core, Dir, Shape, lines, any_below-at, DirState, World, is_invalidated, invs_to, invalidations, Sends}
+use Names.{History, dir_takes, keeps_unmodified, holds_line, Commits, CommitOf, live, CommitsInMemory, Carried, Grant, Pair, pair}
+use Names.{is_applied, is_this, CommitsStand, stored_mask, stores_in, MarkedCommit, stores_word, counts, value_at, Ways, if◌then◌else◌}
+use Names.{TidReq, TidGrant, Fill, ProbeReply, Commit, DataReq, Answer, Waits, Drops, Asks, Takes, moved_on_if_settled, owned_by_committer}
 use Names.{invalidation_count, dir_deliver, dir_asks, Uses, out_taken, EachUse, has-mask_of, CommitsLine, IsPassed, nats, home_of, tid_at}
 use Names.{to_dir, FromCore, grant_to, ◌≢◌}
 use proofs.Counts.{among-append, live-takes, dir-own, dir-other, either, AllPairs, pairs_dir, pairs_asks, asks-own, OfAnswer, differ}
 use proofs.Marks.MaskLaws.{same-commit}
 use proofs.Tids.{granted-once, granted-at, live-some}
 use proofs.Values.FramedWords.{dirs-taken}
-use proofs.Values.ValueAt.{value-alike, IsAlike}
-use proofs.Values.WordValues.{stored-at-home}
-use proofs.Views.ViewFacts.{IsSeen, applied-same, bound-own, solo-tid, solo-holds, solo-served}
-use proofs.Views.ViewPairs.{StaysOrDooms, ViewOf, view-answers, bound-out, view-out}
+use proofs.Values.ValueAt.{value-alike, IsAlike, stored-at-home}
+use proofs.Views.ViewFacts.{IsSeen, applied-same, bound-own, solo-tid, solo-holds, solo-served, StaysOrDooms, ViewOf, view-answers}
+use proofs.Views.ViewFacts.{bound-out, view-out}
 use proofs.Marks.CoreMarks.{stored-line}
 
 -- Where a directory takes a Commit, a use of a stored word by another core is doomed, unless the core's bound is below the commit.
@@ -27,7 +26,7 @@ use proofs.Marks.CoreMarks.{stored-line}
 among-those : (k : Kind) (g : ℕ → Msg) (p : ℕ → Bool) (l n : ℕ) → l < n → p l ≡ true
     → num (passes k (g l)) ≤ among k (flat_map (λ j. g j ∷ []) (those p n))
 unfolding among those
-among-those k g p l zero b e = absurd (omega (arith, b))
+among-those k g p l zero b e = absurd (omega arith)
 among-those k g p l (suc n) b e = rw flat_map-append (rw among-append (go (cases_eq l n) (λ q. among-those k g p l n q e)))
   where
     go : (l ≡ n) ⊎ (l ≢ n) → (l < n → num (passes k (g l)) ≤ among k (flat_map (λ j. g j ∷ []) (those p n)))
@@ -40,16 +39,16 @@ inv-dooms : (b : Option ℕ) (x l m u : ℕ) → is_below b u ≡ true → hit l
 unfolding passes
 inv-dooms a x l m u e h = grind nats
 
-pub sent-dooms : (b : Option ℕ) (x u n : ℕ) (f : ℕ → ℕ) (p : ℕ → Bool) → line_of x < n → p (line_of x) ≡ true
+sent-dooms : (b : Option ℕ) (x u n : ℕ) (f : ℕ → ℕ) (p : ℕ → Bool) → line_of x < n → p (line_of x) ≡ true
     → hit (line_of x) (f (line_of x)) x ≡ true → is_below b u ≡ true
     → 1 ≤ among (dooms b x) (flat_map (λ l. Inv l (f l) u ∷ []) (those p n))
 sent-dooms b x u n f p l e h i =
-    omega (arith, among-those (dooms b x) (λ l. Inv l (f l) u) p (line_of x) n l e, inv-dooms b x (line_of x) (f (line_of x)) u i h)
+    omega (arith, among-those (dooms b x) (λ l. Inv l (f l) u) p (line_of x) n l e, inv-dooms)
 
 -- What a directory's answer does to the values that cores see: only a Commit that it takes changes them, and this dooms.
 
 -- the Commits in flight to a directory where it takes a message
-pub commits-after : (w : World) (c d k t : ℕ) {m : Msg} (s : DirState) (sends : Sends) (j : ℕ) → FromCore w c d k m
+commits-after : (w : World) (c d k t : ℕ) {m : Msg} (s : DirState) (sends : Sends) (j : ℕ) → FromCore w c d k m
     → passes (Commits t) m ≡ false → live (Commits t) ((dir_takes w c d k s sends).net (Core j) (Dir d)) ≡ live (Commits t) (to_dir w j d)
 unfolding pair
 commits-after w c d k t {m} s sends j i f = either j c own other
@@ -57,7 +56,7 @@ commits-after w c d k t {m} s sends j i f = either j c own other
     here : live (Commits t) ((dir_takes w c d k s sends).net (Core c) (Dir d)) ≡ live (Commits t) (to_dir w c d)
     here = let p : num (passes (Commits t) m) ≡ 0 = ap num f in let z : live (Commits t) ((dir_takes w c d k s sends).net (Core c) (Dir d))
         ≡ live (Commits t) (set (to_dir w c d) k None) = ap (λ v. live (Commits t) v.out) (dir-own w c d k s sends) in
-        omega (arith, z, p, live-takes (Commits t) (to_dir w c d) k m i)
+        omega (arith, live-takes (Commits t) (to_dir w c d) k m i)
 
     own : j ≡ c → live (Commits t) ((dir_takes w c d k s sends).net (Core j) (Dir d)) ≡ live (Commits t) (to_dir w j d)
     own e = rw e here
@@ -71,7 +70,7 @@ unfolding counts
 counts-alike s r c b n e = rw e
 
 -- no Commit is taken: the values stay
-pub stays-value : (sh : Shape) (ram : ℕ → ℕ) (cs : List Noted) (w v : World) (j d x : ℕ) (b : Option ℕ) → CommitsInMemory sh cs
+stays-value : (sh : Shape) (ram : ℕ → ℕ) (cs : List Noted) (w v : World) (j d x : ℕ) (b : Option ℕ) → CommitsInMemory sh cs
     → CommitsStand sh w cs → CommitsStand sh v cs → d < sh.dirs → home_of sh x ≡ d
     → ((n : Noted) → live (Commits n.tid.0) (to_dir v n.core.0 d) ≡ live (Commits n.tid.0) (to_dir w n.core.0 d))
     → value_at sh.base ram cs (w.dirs d) (Some j) b x ≡ value_at sh.base ram cs (v.dirs d) (Some j) b x
@@ -121,7 +120,7 @@ holds-word v x r e =
     rw a
 
 -- each core sees the values that it saw, or the invalidation that it is sent dooms the use
-pub commit-value : {sh : Shape} {gs : List Grant} {ys : Ways} (ram : ℕ → ℕ) (h : History) → Carried sh gs ys h
+commit-value : {sh : Shape} {gs : List Grant} {ys : Ways} (ram : ℕ → ℕ) (h : History) → Carried sh gs ys h
     → CommitsInMemory sh h.commits → (v : World) → CommitsStand sh v h.commits → (c d u : ℕ) → Taken sh h.world c d u
     → ((n : Noted) → n.tid.0 ≢ u → live (Commits n.tid.0) (to_dir v n.core.0 d) ≡ live (Commits n.tid.0) (to_dir h.world n.core.0 d))
     → (j : ℕ) → StaysOrDooms sh ram h.commits j d (pair h.world j d) (v.dirs d) (invalidations sh (h.world.dirs d).lines c u (Core j))
@@ -216,16 +215,13 @@ commit-value {sh} {gs} ram h k mem v stand c d u t f j b jl dl bound x y e seen 
                 let o : b ≡ Some p.0 = bound-own k j d p.0 b jl (solo-holds p.1) bound in
                 let r = (solo-served k j d jl dl p.1).serving in
                 let l : nat_lt u p.0 ≡ true = rw o at q in
-                absurd (not-ahead p.0 l t.serving (omega (arith, r)))
+                absurd (not-ahead p.0 l t.serving (omega arith))
 
         valid : (b : Option ℕ) → is_below b u ≡ true → (is_some ((w.cores j).cache.value x) ≡ true) ⊎ IsPassed b (tid_at w d)
             → is_some ((w.cores j).cache.value x) ≡ true
         valid b q (inl a) = a
         valid None q (inr a) = absurd a
-        valid (Some z) q (inr a) = absurd (not-ahead z q t.serving (omega (arith, a)))
-
-        holds : holds_line (line_of x) (pair w j d) ≡ true
-        holds = holds-word (pair w j d) x read (valid b q (k.read_mark_is_valid_or_passed j d x b jl dl e bound read))
+        valid (Some z) q (inr a) = absurd (not-ahead z q t.serving (omega arith))
 
         sharer : ((w.dirs d).lines.sharers (line_of x) j ≡ true) ⊎ CommitsLine sh.base h.commits j (line_of x) (pair w j d)
             → (w.dirs d).lines.sharers (line_of x) j ≡ true
@@ -239,7 +235,8 @@ commit-value {sh} {gs} ram h k mem v stand c d u t f j b jl dl bound x y e seen 
         invalid = rw (
           is-lt j sh.cores jl,
           marked,
-          sharer ((k.holder_is_a_sharer j d (line_of x) jl dl inside e).shares holds),
+          sharer ((k.holder_is_a_sharer j d (line_of x) jl dl inside e).shares
+              (holds-word (pair w j d) x read (valid b q (k.read_mark_is_valid_or_passed j d x b jl dl e bound read)))),
           differ j c ne,
         )
 
@@ -302,7 +299,7 @@ plain-views sh ram cs vs w c d k m a mem st q h i f = go a
 
     go : (a : Answer) → OfAnswer w c d k (NearAfter sh ram cs vs) a
     go Waits = tt
-    go Drops = takes (w.dirs d) (λ dst. [])
+    go Drops = takes (w.dirs d) nothing
     go (Takes s sends) = takes s sends
     go (Asks s sends) = λ z. near-asks sh ram cs vs w d s sends q h (λ j b cl dl g x y e r. inl
         (rw (eq-self d) at (stays-value sh ram cs w (dir_asks w d s sends) j d x b mem st z dl e
@@ -350,7 +347,8 @@ commit-views {sh} ram vs h c d k u n y mem q near cl i =
               sent = omega (
                 arith,
                 counted,
-                live-some (CommitOf u (count_below (has_mark s.lines) (lines sh))) (to_dir w c d) k (Commit u n) i,
+                live-some (CommitOf u (count_below (has_mark s.lines) (lines sh))) (to_dir w c d) k
+                    (Commit u n) i,
               );
               commit = omega (arith, meant, live-some (Commits u) (to_dir w c d) k (Commit u n) i);
             })

@@ -3,39 +3,38 @@ use Rattle.rules_maps.specs.CacheLook.{reads_masked}
 use Rattle.theorem_serial.specs.KeepsViews.{KeepsViews}
 use Rattle.theorem_serial.proofs
 use proofs.Names
-use Names.{eq-self, hit-line, ℕ, ◌≡◌, ◌<◌, ◌≤◌, ◌⊎◌, ◌==◌, ◌&&◌, Bool, true, false, List, [], ◌++◌, Option, Some, None, IfSome, arith, refl}
-use Names.{sym, subst, ◌∙◌, inl, inr, put, Noted, Program, writes_at, Shape, CoreState, Phase, Running, AwaitTid, DoomedTid, Probing, Ready}
-use Names.{Overflowing, Solo, Halted, World, Out, core_exec, core_evict, History, core_moves, and_noted, insert_commit, Uses, Views}
-use Names.{uses_executed, InvWord, live, Carried, CarriedInMemory, Grant, holder, Pair, pair, after_move, may_commit, IsBound, is_applied}
-use Names.{has_tid, opens, waits_for_tid, RequestOf, stores_word, is_below, counts, value_at, dooms, UnmodifiedWords, Ways, nats, home_of}
-use Names.{IfSome_then, nat_lt, ap, num, hit, Core, Dir, Vendor, Msg, TidReq, TidGrant, Inv, in_flight, from_dir, grant, is_violated}
-use Names.{may_be_above, core_takes, vendor_gives, uses_delivered, Invs, passes, grant_taken, back_taken, hit-reads, line_of, home, Answer}
-use Names.{Waits, Drops, Asks, Takes, dir_deliver, Stepped, step, next_history, recorded, UsesStand, views_after, CarriedViews, granted_by}
-use Names.{IsDoomed, ViewedWords, HaltedUsesNone, sent_by, ways_after, to_core, FromDir, ◌≢◌, tested}
+use Names.{if_recorded, got, moved_by, taken_by, unnoted, eq-self, hit-line, ℕ, ◌≡◌, ◌<◌, ◌≤◌, ◌⊎◌, ◌==◌, ◌&&◌, Bool, true, false, List, []}
+use Names.{◌++◌, Option, Some, None, IfSome, arith, refl, sym, subst, ◌∙◌, inl, inr, put, Noted, Program, writes_at, Shape, CoreState}
+use Names.{Phase, Running, AwaitTid, DoomedTid, Probing, Ready, Overflowing, Solo, Halted, World, Out, core_exec, core_evict, History}
+use Names.{core_moves, and_noted, insert_commit, Uses, Views, uses_executed, InvWord, live, Carried, CarriedInMemory, Grant, holder, Pair}
+use Names.{pair, after_move, may_commit, IsBound, is_applied, has_tid, opens, waits_for_tid, RequestOf, stores_word, is_below, counts}
+use Names.{value_at, dooms, UnmodifiedWords, Ways, nats, home_of, IfSome_then, nat_lt, ap, num, hit, Core, Dir, Vendor, Msg, TidReq}
+use Names.{TidGrant, Inv, in_flight, from_dir, grant, is_violated, may_be_above, core_takes, vendor_gives, uses_delivered, Invs, passes}
+use Names.{grant_taken, back_taken, hit-reads, line_of, home, Answer, Waits, Drops, Asks, Takes, dir_deliver, Stepped, step, next_history}
+use Names.{UsesStand, CarriedViews, granted_by, IsDoomed, ViewedWords, HaltedUsesNone, sent_by, ways_after, to_core, FromDir, ◌≢◌, tested}
 use proofs.OneCore.{Acts, tid-ahead}
 use proofs.Serving.{grant-any, asking-none}
-use proofs.Memory.CoreInMemory.{marks_at_homes}
+use proofs.Memory.CoreHomes.{marks_at_homes}
 use proofs.Counts.{differ, either, pairs_move, new_uses, AllPairs, given, OfAnswer, event_cases, pairs_grant, pairs_back, pairs_vendor}
 use proofs.Values.ValueAt.{IsSilent, value-skip}
-use proofs.Views.ViewPairs.{Keeps, Exec, Goes, Commits, exec-view, used-each, each-append, evict-view, NearAt, ViewOf, view-empty}
-use proofs.Views.ViewPairs.{view-moves, Gets, grant-view, Spares, Back, Empties, Stays, back-view, view-takes, view-grants, view-other}
-use proofs.Views.ViewPairs.{view-given}
+use proofs.Views.ViewFacts.{Keeps, Exec, Goes, Commits_own, exec-view, used-each, each-append, evict-view, NearAt, ViewOf, view-empty}
+use proofs.Views.ViewFacts.{view-moves, Gets, grant-view, Spares, Back, Empties, Stays, back-view, view-takes, view-grants, view-other}
+use proofs.Views.ViewFacts.{view-given, bound-own, open-served, served-unapplied, solo-holds, solo-undoomed, each-one, solo-value, IsSeen}
+use proofs.Views.ViewFacts.{doomed-again, uses-seen, each-two, few-doom, value-bounded, listed-below, word-next}
 use proofs.Views.ViewDirs.{AllNear, AllSeen, NearAfter, answered-views}
-use proofs.Views.ViewFacts.{bound-own, open-served, served-unapplied, solo-holds, solo-undoomed, each-one, solo-value, IsSeen, doomed-again}
-use proofs.Views.ViewFacts.{uses-seen, each-two, few-doom, value-bounded, listed-below, word-next}
 use proofs.Tids.{live-some, granted_waits}
 
 -- What a core does, and what the vendor grants, leaves every core's view near: each used word has its value, or it is doomed.
 
 -- the views where one core's has changed
-pub put-own : (vs : Views) (c : ℕ) (us : Uses) → put vs c us c ≡ us
+put-own : (vs : Views) (c : ℕ) (us : Uses) → put vs c us c ≡ us
 put-own vs c us = rw (eq-self c)
 
 put-other : (vs : Views) (c j : ℕ) (us : Uses) → j ≢ c → put vs c us j ≡ vs j
 put-other vs c j us n = rw (differ j c n)
 
 -- a view that is near, and the others as they were
-pub near-put : (sh : Shape) (ram : ℕ → ℕ) (cs : List Noted) (vs : Views) (w : World) (c : ℕ) (us : Uses)
+near-put : (sh : Shape) (ram : ℕ → ℕ) (cs : List Noted) (vs : Views) (w : World) (c : ℕ) (us : Uses)
     → ((d : ℕ) → ViewOf sh ram cs us c d (pair w c d)) → ((j d : ℕ) → j ≢ c → ViewOf sh ram cs (vs j) j d (pair w j d))
     → AllNear sh ram cs (put vs c us) w
 near-put sh ram cs vs w c us f g j d = either j c
@@ -47,7 +46,7 @@ near-put sh ram cs vs w c us f g j d = either j c
 -- no TID is on its way to a core that runs
 running-bound : (v : Pair) (b : Option ℕ) → RequestOf v → v.core.phase ≡ Running → IsBound b v → b ≡ None
 unfolding holder waits_for_tid has_tid
-running-bound v a r e i = grind (nats, grant-any, v.grants)
+running-bound v a r e i = grind (nats, grant-any)
 
 not-halted : {q : Phase} → Acts q → q ≡ Halted → ⊥
 not-halted a e = rw e at a
@@ -115,7 +114,7 @@ silent-other {sh} h k m c d j t x n b cl dl ne ph tn cn st e = elim (tested (sto
       inl (rw (o, a) ((elim (is_below b n.tid.0) as (λ a. (a && false) ≡ false) [ true ↦ refl | false ↦ refl ])))
 ]
 
-pub exec-views : (sh : Shape) (p : Program) (gs : List Grant) (ys : Ways) (ram : ℕ → ℕ) (vs : Views) (h : History) → Carried sh gs ys h
+exec-views : (sh : Shape) (p : Program) (gs : List Grant) (ys : Ways) (ram : ℕ → ℕ) (vs : Views) (h : History) → Carried sh gs ys h
     → CarriedInMemory sh h → UnmodifiedWords sh ram h.world h.commits → AllNear sh ram h.commits vs h.world → (c : ℕ) → c < sh.cores
     → IfSome (core_exec sh p c (h.world.cores c))
     (λ o. AllNear sh ram (and_noted o.commit h.commits) (put vs c (uses_executed (Some o) (vs c) (new_uses sh p h.world c)))
@@ -173,10 +172,10 @@ exec-views sh p gs ys ram vs h k m um near c cl = IfSome_then (core_exec sh p c 
     kind : (o : Out) → Exec w_core c o → AllNear sh ram (and_noted o.commit h.commits) (put vs c (uses_executed (Some o) (vs c) new))
         (core_moves h.world c o)
     kind o (Goes a e q) = rw e (goes o a q)
-    kind o (Commits t n ph e tn cn st) = rw e (commits o t n ph tn cn st)
+    kind o (Commits_own t n ph e tn cn st) = rw e (commits o t n ph tn cn st)
 
 -- evictions
-pub evict-views : (sh : Shape) (ram : ℕ → ℕ) (vs : Views) (h : History) → AllNear sh ram h.commits vs h.world → (c x y : ℕ)
+evict-views : (sh : Shape) (ram : ℕ → ℕ) (vs : Views) (h : History) → AllNear sh ram h.commits vs h.world → (c x y : ℕ)
     → IfSome (core_evict sh x y (h.world.cores c)) (λ o. AllNear sh ram (and_noted o.commit h.commits) vs (core_moves h.world c o))
 unfolding pair core_moves
 evict-views sh ram vs h near c x y = IfSome_then (core_evict sh x y (h.world.cores c)) (evict-view sh x y (h.world.cores c)) (λ o a.
@@ -187,7 +186,7 @@ evict-views sh ram vs h near c x y = IfSome_then (core_evict sh x y (h.world.cor
 -- What a core takes from the vendor and from directories, and what the vendor grants, leaves every core's view near.
 
 -- a grant
-pub grant-views : {sh : Shape} {gs : List Grant} {ys : Ways} (ram : ℕ → ℕ) (vs : Views) (h : History) → Carried sh gs ys h
+grant-views : {sh : Shape} {gs : List Grant} {ys : Ways} (ram : ℕ → ℕ) (vs : Views) (h : History) → Carried sh gs ys h
     → AllNear sh ram h.commits vs h.world → ((c : ℕ) → (h.world.cores c).phase ≡ DoomedTid → vs c ≡ []) → (c k u : ℕ)
     → in_flight h.world.net Vendor (Core c) k ≡ Some (TidGrant u)
     → AllNear sh ram (and_noted (grant sh u (h.world.cores c)).commit h.commits) (put vs c (vs c))
@@ -254,14 +253,14 @@ unfolding passes
 spares h k' c d k x y m b cl dl i v g s = go m i v
   where
     other : (m : Msg) → num (passes Invs m) ≡ 0 → passes (dooms b x) m ≡ false
-    other m e = none-of (omega (arith, e, few-doom b x m))
+    other m e = none-of (omega (arith, few-doom))
 
     go : (m : Msg) → FromDir h.world d c k m → Spares (h.world.cores c) m → passes (dooms b x) m ≡ false
     go (Inv l n u) i v = spares-inv h k' c d k l n u x y b cl dl i v g s
     go m i v = other m refl
 
 -- a message of a directory
-pub back-views : (sh : Shape) (gs : List Grant) (ys : Ways) (ram : ℕ → ℕ) (vs : Views) (h : History) → Carried sh gs ys h
+back-views : (sh : Shape) (gs : List Grant) (ys : Ways) (ram : ℕ → ℕ) (vs : Views) (h : History) → Carried sh gs ys h
     → AllSeen vs h.world → AllNear sh ram h.commits vs h.world → ((c : ℕ) → (h.world.cores c).phase ≡ DoomedTid → vs c ≡ [])
     → (c d k : ℕ) (m : Msg) → FromDir h.world d c k m
     → IfSome (from_dir sh d (h.world.cores c) m)
@@ -305,7 +304,7 @@ back-views sh gs ys ram vs h y seen near dm c d k m i =
         (subst (λ z. AllNear sh ram h.commits (put vs c z) (core_takes h.world (Dir d) c k o)) (sym u) (stays o q f))
 
 -- the vendor grants
-pub vendor-views : {sh : Shape} {gs : List Grant} {ys : Ways} (ram : ℕ → ℕ) (vs : Views) (h : History) → Carried sh gs ys h
+vendor-views : {sh : Shape} {gs : List Grant} {ys : Ways} (ram : ℕ → ℕ) (vs : Views) (h : History) → Carried sh gs ys h
     → AllNear sh ram h.commits vs h.world → (c k : ℕ) → in_flight h.world.net (Core c) Vendor k ≡ Some TidReq
     → AllNear sh ram h.commits vs (vendor_gives h.world c k (given h.world c))
 unfolding pair
@@ -365,21 +364,20 @@ Keeping sh p ram h vs o = (gs : List Grant) (ys : Ways) → Carried sh gs ys (Af
 pub keeps_views : KeepsViews
 unfolding next_history
 keeps_views sh p entries ram gs ys views m h e k =
-    recording (step sh p h.world e) (event_cases sh p h.world views e (λ v x g. Keeping sh p ram h v)
-    (λ c l. each (core_exec sh p c (h.world.cores c)) (λ o. put views c (uses_executed (Some o) (views c) (new_uses sh p h.world c)))
-    (λ o. record { world = core_moves h.world c o; noted = o.commit })
-    (exec-views sh p gs ys ram views h k.carried k.carried_in_memory k.unmodified_word_is_current_or_inv_in_flight near c l))
-    (λ c x y l. each (core_evict sh x y (h.world.cores c)) (λ o. views) (λ o. record { world = core_moves h.world c o; noted = o.commit })
-    (evict-views sh ram views h near c x y)) (λ c i t q. after (put views c (views c))
-    (record { world = core_takes h.world Vendor c i (grant sh t (h.world.cores c)); noted = (grant sh t (h.world.cores c)).commit })
+    if_recorded _ h (step sh p h.world e) (λ o eq. got _ eq (event_cases sh p h.world views e (λ v x g. Keeping sh p ram h v)
+    (λ c o eq l. after (put views c (uses_executed (Some o) (views c) (new_uses sh p h.world c))) (moved_by h.world c o)
+    (got _ eq (exec-views sh p gs ys ram views h k.carried k.carried_in_memory k.unmodified_word_is_current_or_inv_in_flight near c l)))
+    (λ c x y o eq l. after views (moved_by h.world c o) (got _ eq (evict-views sh ram views h near c x y)))
+    (λ c i t q. after (put views c (views c))
+    (taken_by h.world Vendor c i (grant sh t (h.world.cores c)))
     (grant-views ram views h k.carried near doomed c i t q))
-    (λ c d i x q. each (from_dir sh d (h.world.cores c) x) (λ o. put views c (uses_delivered (h.world.cores c) x (views c)))
-    (λ o. record { world = core_takes h.world (Dir d) c i o; noted = o.commit })
-    (back-views sh gs ys ram views h k.carried seen near doomed c d i x q))
+    (λ c d i x o eq q. after (put views c (uses_delivered (h.world.cores c) x (views c))) (taken_by h.world (Dir d) c i o)
+    (got _ eq (back-views sh gs ys ram views h k.carried seen near doomed c d i x q)))
     (λ c d i x l y q. answered c d i (dir_deliver sh (h.world.dirs d) c x)
     (answered-views sh gs ys ram views h c d i x k.carried k.carried_in_memory.commits_stay_in_memory seen near l q))
-    (λ c i q. after views (record { world = vendor_gives h.world c i (given h.world c); noted = None })
+    (λ c i q. after views (unnoted (vendor_gives h.world c i (given h.world c)))
     (vendor-views ram views h k.carried near c i q)))
+    (gs ++ granted_by h.world e) (ways_after (sent_by sh p h.world e) ys))
   where
     near : AllNear sh ram h.commits views h.world
     near = to-pairs sh ram views h k.viewed_word_is_current_or_doomed k.no_view_after_the_halt
@@ -394,23 +392,9 @@ keeps_views sh p entries ram gs ys views m h e k =
     after : (vs : Views) (o : Stepped) → AllNear sh ram (and_noted o.noted h.commits) vs o.world → Keeping sh p ram h vs o
     after vs o a gs ys y q = from-pairs ram y q a
 
-    each : (x : Option Out) (f : Out → Views) (g : Out → Stepped)
-        → IfSome x (λ o. AllNear sh ram (and_noted (g o).noted h.commits) (f o) (g o).world)
-        → IfSome x (λ o. Keeping sh p ram h (f o) (g o))
-    each None f g a = tt
-    each (Some o) f g a = after (f o) (g o) a
-
     answered : (c d i : ℕ) (a : Answer) → OfAnswer h.world c d i (NearAfter sh ram h.commits views) a
-        → OfAnswer h.world c d i (λ v. Keeping sh p ram h views (record { world = v; noted = None })) a
+        → OfAnswer h.world c d i (λ v. Keeping sh p ram h views (unnoted v)) a
     answered c d i Waits f = tt
     answered c d i Drops f = λ gs ys y q. from-pairs ram y q (f y.commit_is_on_its_way_or_applied)
     answered c d i (Asks s sends) f = λ gs ys y q. from-pairs ram y q (f y.commit_is_on_its_way_or_applied)
     answered c d i (Takes s sends) f = λ gs ys y q. from-pairs ram y q (f y.commit_is_on_its_way_or_applied)
-
-    recording : (x : Option Stepped) → IfSome x (Keeping sh p ram h (views_after sh p h.world e views))
-        → IfSome (recorded h x) (λ g. Carried sh (gs ++ granted_by h.world e) (ways_after (sent_by sh p h.world e) ys) g
-        → CarriedViews sh p (views_after sh p h.world e views) g
-        → ViewedWords sh ram g.world g.commits (views_after sh p h.world e views)
-        × HaltedUsesNone g.world (views_after sh p h.world e views))
-    recording None a = tt
-    recording (Some o) a = a (gs ++ granted_by h.world e) (ways_after (sent_by sh p h.world e) ys)

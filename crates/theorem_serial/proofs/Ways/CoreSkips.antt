@@ -4,12 +4,12 @@ use Rattle.theorem_serial.proofs
 use proofs.Names
 use Names.{ℕ, zero, suc, ◌+◌, ◌≡◌, ◌≤◌, Bool, true, false, List, [], ◌∷◌, ◌==◌, ◌&&◌, Some, None, nat_lt, nat_le, if◌then◌else◌, arith}
 use Names.{refl, num, is_skipped, Msg, Shape, sum_below, World, Link, Kind, Resolves, Skips, Aborts, Commits, live, among, passes, Pair}
-use Names.{pair, share, sum_of, part, handled, ResolvedAt, Way, Untold, Skipped, Aborted, Committed, told_by, part_in, kept_in, WayAt, nats}
+use Names.{share, sum_of, part, handled, ResolvedAt, Way, Untold, Skipped, Aborted, Committed, told_by, part_in, kept_in, WayAt, nats}
 use Names.{tid_at, ◌<◌, count_below, Dir, Skip, Mark, Commit, WriteBack, home, lines, Cache, writes_at, Spilled, commit_sends, solo_sends}
 use Names.{solo_marks_or_skip, solo_write_backs, solo_writes_at, is_written, not, IfSome, sym, ◌⊎◌, inl, inr, Noted, Program, Outcome}
 use Names.{any_below, Fill, ProbeReply, DataReq, Inv, CoreState, Phase, Running, AwaitTid, DoomedTid, Probing, Ready, Overflowing, Solo}
 use Names.{Out, commit, committed_core, noted, phase_after_commit, core_exec, core_evict, grant, grant_in_phase, grant_sends, from_dir}
-use Names.{probing_or_ready, is_probed, ignored, all_replied, put, Words, OneCore, has_tid, live_way, commit_way, Local, solo_commit}
+use Names.{probing_or_ready, is_probed, all_replied, put, Words, OneCore, has_tid, live_way, commit_way, Local, solo_commit}
 use proofs.Counts.{among-append, among-flat_map_none}
 use proofs.OneCore.{Steady, did-steady, ignored-steady, fill-steady, data-steady, Hurt, Unhurt, Rolled, Doomed, Aborted as AbortsAll}
 use proofs.OneCore.{Gave_up, Invalidated, invalidate-cases, Replied, Ignored, Probed, Left_alone, reply-cases, steady-emptied, Acts}
@@ -27,18 +27,18 @@ one-said t m = grind nats
 among-said : (t : ℕ) (ms : List Msg) → among (Resolves t) ms ≡ among (Skips t) ms + among (Aborts t) ms + among (Commits t) ms
 unfolding among
 among-said t [] = refl
-among-said t (m ∷ ms) = omega (arith, one-said t m, among-said t ms)
+among-said t (m ∷ ms) = omega (arith, one-said, among-said t ms)
 
 live-said : (t : ℕ) (l : Link) → live (Resolves t) l ≡ live (Skips t) l + live (Aborts t) l + live (Commits t) l
 unfolding live
 live-said t [] = refl
 live-said t (None ∷ l) = live-said t l
-live-said t (Some m ∷ l) = omega (arith, one-said t m, live-said t l)
+live-said t (Some m ∷ l) = omega (arith, one-said, live-said t l)
 
 part-split : (sh : Shape) (d t : ℕ) (v : Pair)
     → part sh d t v ≡ part_in Untold sh d t v + part_in Skipped sh d t v + part_in Aborted sh d t v + part_in Committed sh d t v
 unfolding part part_in
-part-split sh d t v = omega (arith, live-said t v.out)
+part-split sh d t v = omega (arith, live-said)
 
 -- the sum of the cores' parts of a TID in a way
 abbrev pub parts_in : Way → Shape → World → (dir tid : ℕ) → ℕ
@@ -49,7 +49,7 @@ parts-split : (sh : Shape) (w : World) (d t n : ℕ)
     (part_in Aborted sh d t) n w d + sum_of (part_in Committed sh d t) n w d
 unfolding sum_below share
 parts-split sh w d t zero = refl
-parts-split sh w d t (suc n) = omega (arith, parts-split sh w d t n, part-split sh d t (pair w n d))
+parts-split sh w d t (suc n) = omega (arith, parts-split sh w d t n, part-split)
 
 -- where a TID is: by the ways
 pub resolved-split : (sh : Shape) (w : World) (d t : ℕ) → ResolvedAt sh w d t
@@ -57,7 +57,7 @@ pub resolved-split : (sh : Shape) (w : World) (d t : ℕ) → ResolvedAt sh w d 
     (nat_le w.next t) + (num (nat_lt t (tid_at w d)) + num (is_skipped (w.dirs d).serving t) + num
     ((t == tid_at w d) && nat_lt 0 (w.dirs d).owed)) ≡ 1
 unfolding handled
-resolved-split sh w d t r = omega (arith, r, parts-split sh w d t sh.cores)
+resolved-split sh w d t r = omega (arith, parts-split)
 
 -- what messages of its core add to and take from its places
 abbrev pub gained : List Msg → (tid : ℕ) → Way → ℕ
@@ -88,10 +88,10 @@ told-moved sh w v d t ms y e n h r k = go (nat_lt 0 (among (Skips t) ms)) refl (
     some k q = grind nats
 
     same : (z : Way) → among (Skips t) ms ≡ 0 → among (Aborts t) ms ≡ 0 → among (Commits t) ms ≡ 0 → WayAt sh w d t z → WayAt sh v d t z
-    same Untold a b c q = omega (arith, q, here Untold, h Untold, among-said t ms, a, b, c)
-    same Skipped a b c q = omega (arith, q, here Skipped, h Skipped, a)
-    same Aborted a b c q = omega (arith, q, here Aborted, h Aborted, b)
-    same Committed a b c q = omega (arith, q, here Committed, h Committed, c)
+    same Untold a b c q = omega (arith, here, h, among-said)
+    same Skipped a b c q = omega (arith, here Skipped, h Skipped)
+    same Aborted a b c q = omega (arith, here Aborted, h Aborted)
+    same Committed a b c q = omega (arith, here Committed, h Committed)
 
     -- what it was before, in numbers
     was : parts_in Untold sh w d t + parts_in Skipped sh w d t + parts_in Aborted sh w d t + parts_in Committed sh w d t + num
@@ -111,9 +111,9 @@ told-moved sh w v d t ms y e n h r k = go (nat_lt 0 (among (Skips t) ms)) refl (
 pub told-none : (ms : List Msg) (t : ℕ) (y : Way) → among (Resolves t) ms ≡ 0 → told_by ms t y ≡ y
 unfolding told_by
 told-none ms t y h =
-    let a : among (Skips t) ms ≡ 0 = omega (arith, h, among-said t ms) in
-    let b : among (Aborts t) ms ≡ 0 = omega (arith, h, among-said t ms) in
-    let c : among (Commits t) ms ≡ 0 = omega (arith, h, among-said t ms) in
+    let a : among (Skips t) ms ≡ 0 = omega (arith, among-said) in
+    let b : among (Aborts t) ms ≡ 0 = omega (arith, among-said) in
+    let c : among (Commits t) ms ≡ 0 = omega (arith, among-said) in
     rw (a, b, c)
 
 pub told-nothing : (t : ℕ) (y : Way) → told_by [] t y ≡ y
@@ -141,17 +141,17 @@ in-way sh w d t {y} {z} r h l = go y z h l
 
     go : (y z : Way) → WayAt sh w d t y → 1 ≤ parts_in z sh w d t → y ≡ z
     go Untold Untold h l = refl
-    go Untold Committed h l = absurd (omega (arith, h, l, was))
+    go Untold Committed h l = absurd (omega (arith, was))
     go Skipped Untold h l = absurd (omega (arith, h, l, was))
     go Skipped Skipped h l = refl
-    go Skipped Committed h l = absurd (omega (arith, h, l, was))
+    go Skipped Committed h l = absurd (omega (arith, was))
     go Aborted Untold h l = absurd (omega (arith, h, l, was))
     go Aborted Aborted h l = refl
-    go Aborted Committed h l = absurd (omega (arith, h, l, was))
+    go Aborted Committed h l = absurd (omega (arith, was))
     go Committed Untold h l = absurd (omega (arith, h, l, was))
     go Committed Committed h l = refl
-    go _ Skipped h l = absurd (omega (arith, h, l, was))
-    go _ Aborted h l = absurd (omega (arith, h, l, was))
+    go _ Skipped h l = absurd (omega (arith, was))
+    go _ Aborted h l = absurd (omega (arith, was))
 
 -- What each of a core's rules says of its TID: it skips it at directories where it writes nothing, and commits it where it has stored.
 
@@ -182,15 +182,15 @@ solo-said : (sh : Shape) (c : Cache) (sp : Spilled) (u d : ℕ) (k : Kind) → A
     ≡ (if solo_writes_at sh c sp d then num (passes k (Commit u (count_below (λ l. d == home sh l && is_written c sp l) (lines sh))))
     else num (passes k (Skip u)))
 unfolding solo_sends solo_marks_or_skip solo_write_backs among
-solo-said sh c sp u d k a l = grind (nats, among-flat_map_none, a.backs, a.marks, among-append)
+solo-said sh c sp u d k a l = grind (nats, among-flat_map_none, among-append)
 
-pub solo-told : (sh : Shape) (c : Cache) (sp : Spilled) (u d : ℕ) (y : Way) → d < sh.dirs
+solo-told : (sh : Shape) (c : Cache) (sp : Spilled) (u d : ℕ) (y : Way) → d < sh.dirs
     → told_by (solo_sends sh c sp u (Dir d)) u y ≡ (if solo_writes_at sh c sp d then Committed else Skipped)
 unfolding passes
 solo-told sh c sp u d y l = grind (nats, solo-said, skips-apart, aborts-apart, commits-apart, told-commit, told-skip)
 
 -- ready: where it writes nothing it has skipped before
-pub ready-told : (sh : Shape) (c : Cache) (u d : ℕ) → d < sh.dirs
+ready-told : (sh : Shape) (c : Cache) (u d : ℕ) → d < sh.dirs
     → told_by (commit_sends sh c u (Dir d)) u (if writes_at sh c d then Untold else Skipped)
     ≡ (if writes_at sh c d then Committed else Skipped)
 unfolding commit_sends told_by among passes
@@ -259,8 +259,8 @@ tells-committed sh id u s e h = tells-none (phase_after_commit s.ended) refl (sk
   told = λ d l. rw e (rw (← stored-written sh s.cache s.spilled s.stores d (rw e at h.words)) (ready-told sh s.cache u d l));
 })
 
-pub tells-exec : {sh : Shape} (p : Program) (c : ℕ) {s : CoreState} → OneCore sh s → IfSome (core_exec sh p c s) (λ o. Tells sh s o)
-tells-exec {sh} p c {s} h = each-exec sh p c s (λ o. Tells sh s o) go
+pub tells-exec : {sh : Shape} (p : Program) (c : ℕ) {s : CoreState} → OneCore sh s → IfSome (core_exec sh p c s) (Tells sh s)
+tells-exec {sh} p c {s} h = each-exec sh p c s (Tells sh s) go
   where
     go : (x : Did sh p c s) → Tells sh s (out x)
     go (Commits_now u e) = tells-committed sh c u s e h
@@ -269,8 +269,8 @@ tells-exec {sh} p c {s} h = each-exec sh p c s (λ o. Tells sh s o) go
     go (Ends_alone u l e f r i) = tells-alone sh c u s l e r h
     go x = tells-steady sh (did-steady x)
 
-pub tells-evict : (sh : Shape) (x y : ℕ) (s : CoreState) → IfSome (core_evict sh x y s) (λ o. Tells sh s o)
-tells-evict sh x y s = each-evict sh x y s (λ o. Tells sh s o) (λ k q u z. tells-steady sh (steady-emptied sh x y s k q u z))
+pub tells-evict : (sh : Shape) (x y : ℕ) (s : CoreState) → IfSome (core_evict sh x y s) (Tells sh s)
+tells-evict sh x y s = each-evict sh x y s (Tells sh s) (λ k q u z. tells-steady sh (steady-emptied sh x y s k q u z))
 
 -- a granted TID is skipped where nothing is written
 skips-granted : (sh : Shape) (c : Cache) (b : Bool) (u d t : ℕ) → d < sh.dirs
@@ -282,9 +282,6 @@ pub tells-grant : {sh : Shape} (u : ℕ) {s : CoreState} → Tells sh s (grant s
 unfolding grant
 tells-grant {sh} u {s} = go s.phase refl
   where
-    still : Tells sh s (ignored s)
-    still = tells-steady sh (ignored-steady s)
-
     go : (q : Phase) → s.phase ≡ q → Tells sh s (grant_in_phase sh u s q)
     go AwaitTid e = record {
       skips = λ d t l x. inr (skips-granted sh s.cache (any_below (is_probed sh s.cache) sh.dirs) u d t l x);
@@ -292,7 +289,7 @@ tells-grant {sh} u {s} = go s.phase refl
     }
     go DoomedTid e = tells-none Running refl (λ b t. refl) tt
     go (Overflowing None) e = tells-none (Overflowing (Some u)) refl (λ b t. refl) tt
-    go _ e = still
+    go _ e = tells-steady sh (ignored-steady s)
 
 tells-replied : (sh : Shape) (e u : ℕ) (s : CoreState) {o : Out} → Replied sh e u s o → Tells sh s o
 tells-replied sh e u s (Ignored q n) = rw q (tells-steady sh (ignored-steady s))
@@ -325,7 +322,7 @@ tells-hurt {sh} l s {o} i = go i.hurt
     go (AbortsAll u ph ph' ow se) = tells-none Running ph' (λ b t. refl) quiet
     go (Gave_up u ph ph' ow se) = tells-none Running ph' (λ b t. refl) quiet
 
-pub tells-back : (sh : Shape) (e : ℕ) (s : CoreState) (m : Msg) → IfSome (from_dir sh e s m) (λ o. Tells sh s o)
+pub tells-back : (sh : Shape) (e : ℕ) (s : CoreState) (m : Msg) → IfSome (from_dir sh e s m) (Tells sh s)
 tells-back sh e s (ProbeReply u v) = tells-replied sh e u s (reply-cases sh e u s)
 tells-back sh e s (Fill l ws) = tells-steady sh (fill-steady l ws s)
 tells-back sh e s (DataReq l) = tells-steady sh (data-steady sh l s)

@@ -1,15 +1,15 @@
 -- Every event keeps what the ways say of a core's TID, of a committed one, and of those on which cores have worked.
 use Rattle.theorem_serial.proofs
 use proofs.Names
-use Names.{ℕ, ◌≡◌, ◌<◌, ◌==◌, Option, Some, None, IfSome, if◌then◌else◌, refl, Program, Core, Dir, Vendor, Msg, TidGrant, Event, Shape}
-use Names.{World, in_flight, Sends, nothing, Out, core_exec, core_evict, from_dir, grant, Answer, Waits, dir_deliver, core_moves}
-use Names.{core_takes, dir_takes, dir_asks, vendor_gives, Stepped, step, KeptTids, sent_by, ◌≤◌, Bool, true, false, List, Contains, nat_lt}
-use Names.{arith, sym, ◌∙◌, ◌⊎◌, inl, inr, Noted, writes_at, Phase, Probing, Ready, Overflowing, Solo, and_noted, Grants, Resolves, Skips}
-use Names.{Aborts, Commits, among, passes, KeptCores, Grant, times, KeptOwners, pair, share, has_tid, opens, ResolvedAt, Way, Untold}
-use Names.{Skipped, Aborted, Committed, Ways, told_by, ways_after, part_in, WayAt, KeptWays, stores_at, live_way, KeptLive, commit_way}
-use Names.{KeptCommitted, ap, num, nats, ◌&&◌, ◌||◌, any_below, any_word, word_at, home, lines, reads_at, is_modified, any_below-at}
-use Names.{any_below-found, CoreState, DirState, commit, noted, Drops, Asks, Takes, Kept, OneCore, Reached, loads_word, LoadsMarked}
-use Names.{KeptLoads, loads_at, worked_at, KeptWorked, solo_commit, tid_at, ◌≢◌}
+use Names.{got, unnoted, ℕ, ◌≡◌, ◌<◌, ◌==◌, Option, Some, None, IfSome, if◌then◌else◌, refl, Program, Core, Dir, Vendor, Msg, TidGrant}
+use Names.{Event, Shape, World, in_flight, Sends, nothing, Out, core_exec, core_evict, from_dir, grant, Answer, Waits, dir_deliver}
+use Names.{core_moves, core_takes, dir_takes, dir_asks, vendor_gives, Stepped, step, KeptTids, sent_by, ◌≤◌, Bool, true, false, List}
+use Names.{Contains, nat_lt, arith, sym, ◌∙◌, ◌⊎◌, inl, inr, Noted, writes_at, Phase, Probing, Ready, Overflowing, Solo, and_noted, Grants}
+use Names.{Resolves, Skips, Aborts, Commits, among, passes, KeptCores, Grant, times, KeptOwners, pair, share, has_tid, opens, ResolvedAt}
+use Names.{Way, Untold, Skipped, Aborted, Committed, Ways, told_by, ways_after, part_in, WayAt, KeptWays, stores_at, live_way, KeptLive}
+use Names.{commit_way, KeptCommitted, ap, num, nats, ◌&&◌, ◌||◌, any_below, any_word, word_at, home, lines, reads_at, is_modified}
+use Names.{any_below-at, any_below-found, CoreState, DirState, commit, noted, Drops, Asks, Takes, Kept, OneCore, Reached, loads_word}
+use Names.{LoadsMarked, KeptLoads, loads_at, worked_at, KeptWorked, solo_commit, tid_at, ◌≢◌}
 use proofs.Counts.{OfAnswer, sent_cases, step_cases, total-le}
 use proofs.Serving.{core_of_grant, core_of_back, CommitsNoted, noted-exec, noted-evict, noted-grant, noted-back, times-noted, RisesBy}
 use proofs.Serving.{dir-rises}
@@ -31,30 +31,20 @@ pub data ByCore (sh : Shape) (w : World) (L : ℕ → Out → Type 0) (x : Sends
   Moved : (c : ℕ) (y : Out) → c < sh.cores → L c y → o.world.cores ≡ (λ j. if j == c then y.core else w.cores j) → x ≡ y.sends
       → o.noted ≡ y.commit → ByCore sh w L x o
 
-pub by_core : {sh : Shape} (p : Program) {w : World} (e : Event) (L : ℕ → Out → Type 0) → KeptTids sh w
-    → ((c : ℕ) → c < sh.cores → IfSome (core_exec sh p c (w.cores c)) (L c))
-    → ((c x y : ℕ) → c < sh.cores → IfSome (core_evict sh x y (w.cores c)) (L c))
+by_core : {sh : Shape} (p : Program) {w : World} (e : Event) (L : ℕ → Out → Type 0) → KeptTids sh w
+    → ((c : ℕ) (o : Out) → core_exec sh p c (w.cores c) ≡ Some o → c < sh.cores → L c o)
+    → ((c x y : ℕ) (o : Out) → core_evict sh x y (w.cores c) ≡ Some o → c < sh.cores → L c o)
     → ((c k t : ℕ) → c < sh.cores → in_flight w.net Vendor (Core c) k ≡ Some (TidGrant t) → L c (grant sh t (w.cores c)))
-    → ((c d : ℕ) (m : Msg) → c < sh.cores → IfSome (from_dir sh d (w.cores c) m) (L c))
+    → ((c d : ℕ) (m : Msg) (o : Out) → from_dir sh d (w.cores c) m ≡ Some o → c < sh.cores → L c o)
     → IfSome (step sh p w e) (ByCore sh w L (sent_by sh p w e))
 unfolding core_moves core_takes dir_takes dir_asks vendor_gives
 by_core {sh} p {w} e L z ex ev gr ba = sent_cases sh p w e (λ x g. ByCore sh w L x)
-    (λ c l. moved c l (core_exec sh p c (w.cores c)) (ex c l)) (λ c x y l. moved c l (core_evict sh x y (w.cores c)) (ev c x y l))
+    (λ c o eq l. Moved c o l (ex c o eq l) refl refl refl) (λ c x y o eq l. Moved c o l (ev c x y o eq l) refl refl refl)
     (λ c k t i. let l = core_of_grant c k z i in Moved c (grant sh t (w.cores c)) l (gr c k t l i) refl refl refl)
-    (λ c d k m i. let l = core_of_back c d k z i in taken c d k l (from_dir sh d (w.cores c) m) (ba c d m l))
+    (λ c d k m o eq i. let l = core_of_back c d k z i in Moved c o l (ba c d m o eq l) refl refl refl)
     (λ c d k m i. answered c d k (dir_deliver sh (w.dirs d) c m)) (λ c k i. Still refl refl refl)
   where
-    moved : (c : ℕ) → c < sh.cores → (a : Option Out) → IfSome a (L c)
-        → IfSome a (λ o. ByCore sh w L o.sends (record { world = core_moves w c o; noted = o.commit }))
-    moved c l None h = tt
-    moved c l (Some o) h = Moved c o l h refl refl refl
-
-    taken : (c d k : ℕ) → c < sh.cores → (a : Option Out) → IfSome a (L c)
-        → IfSome a (λ o. ByCore sh w L o.sends (record { world = core_takes w (Dir d) c k o; noted = o.commit }))
-    taken c d k l None h = tt
-    taken c d k l (Some o) h = Moved c o l h refl refl refl
-
-    answered : (c d k : ℕ) (a : Answer) → OfAnswer w c d k (λ v. ByCore sh w L nothing (record { world = v; noted = None })) a
+    answered : (c d k : ℕ) (a : Answer) → OfAnswer w c d k (λ v. ByCore sh w L nothing (unnoted v)) a
     answered c d k Waits = tt
     answered c d k _ = Still refl refl refl
 
@@ -69,7 +59,7 @@ pub record Speaks (sh : Shape) (w : World) (c : ℕ) (y : Out) : Type 0 where
 pub speaks : (sh : Shape) (w : World) (c : ℕ) (y : Out) → ((d t : ℕ) → d < sh.dirs → KeepsPart sh d t 0 (w.cores c) y)
     → Tells sh (w.cores c) y → CommitsNoted y → Speaks sh w c y
 unfolding part_in pair
-speaks sh w c y k h n = record { untold = λ d t l. omega (arith, k d t l); tells = h; noted = n }
+speaks sh w c y k h n = record { untold = λ d t l. omega (arith, k); tells = h; noted = n }
 
 pub grant-speaks : {sh : Shape} {w : World} (c k : ℕ) {u : ℕ} → KeptTids sh w → in_flight w.net Vendor (Core c) k ≡ Some (TidGrant u)
     → Speaks sh w c (grant sh u (w.cores c))
@@ -88,23 +78,22 @@ grant-speaks {sh} {w} c k {u} z i = record {
 pub step-speaks : {sh : Shape} (p : Program) {w : World} (e : Event) → KeptTids sh w → KeptCores sh w
     → IfSome (step sh p w e) (ByCore sh w (Speaks sh w) (sent_by sh p w e))
 step-speaks {sh} p {w} e z k = by_core p e (Speaks sh w) z
-    (λ c l. all c (core_exec sh p c (w.cores c)) (λ d t x. part-exec sh p c d t (w.cores c) x) (tells-exec p c (k c))
-    (noted-exec sh p c (w.cores c)))
-    (λ c x y l. all c (core_evict sh x y (w.cores c)) (λ d t a. part-evict sh x y d t (w.cores c)) (tells-evict sh x y (w.cores c))
-    (noted-evict sh x y (w.cores c))) (λ c i t l q. grant-speaks c i z q)
-    (λ c d m l. all c (from_dir sh d (w.cores c) m) (λ b t x. part-back sh d b t (w.cores c) m x) (tells-back sh d (w.cores c) m)
-    (noted-back sh d (w.cores c) m))
+    (λ c o eq l. all c o (λ d t x. got _ eq (part-exec sh p c d t (w.cores c) x)) (got _ eq (tells-exec p c (k c)))
+    (got _ eq (noted-exec sh p c (w.cores c))))
+    (λ c x y o eq l. all c o (λ d t a. got _ eq (part-evict sh x y d t (w.cores c))) (got _ eq (tells-evict sh x y (w.cores c)))
+    (got _ eq (noted-evict sh x y (w.cores c)))) (λ c i t l q. grant-speaks c i z q)
+    (λ c d m o eq l. all c o (λ b t x. got _ eq (part-back sh d b t (w.cores c) m x)) (got _ eq (tells-back sh d (w.cores c) m))
+    (got _ eq (noted-back sh d (w.cores c) m)))
   where
-    all : (c : ℕ) (a : Option Out) → ((d t : ℕ) → d < sh.dirs → IfSome a (λ o. KeepsPart sh d t 0 (w.cores c) o))
-        → IfSome a (λ o. Tells sh (w.cores c) o) → IfSome a (λ o. CommitsNoted o) → IfSome a (Speaks sh w c)
-    all c None q h n = tt
-    all c (Some o) q h n = speaks sh w c o q h n
+    all : (c : ℕ) (o : Out) → ((d t : ℕ) → d < sh.dirs → KeepsPart sh d t 0 (w.cores c) o) → Tells sh (w.cores c) o → CommitsNoted o
+        → Speaks sh w c o
+    all c o q h n = speaks sh w c o q h n
 
 -- a TID of which its core has a part is untold
 untold-part : (sh : Shape) (w : World) (c d t : ℕ) (y : Way) → c < sh.cores → 1 ≤ part_in Untold sh d t (pair w c d) → ResolvedAt sh w d t
     → WayAt sh w d t y → y ≡ Untold
 unfolding share
-untold-part sh w c d t y c' l r h = in-way sh w d t r h (omega (arith, l, total-le (share (part_in Untold sh d t) w d) sh.cores c c'))
+untold-part sh w c d t y c' l r h = in-way sh w d t r h (omega (arith, total-le (share (part_in Untold sh d t) w d) sh.cores c c'))
 
 -- a way that was told stays
 stays : (sh : Shape) (w : World) (c d t : ℕ) (ms : List Msg) (y : Way) → c < sh.cores
@@ -137,7 +126,7 @@ pub step-live-out : {sh : Shape} {gs hs : List Grant} (ys : Ways) {w : World} {c
 unfolding part_in pair
 step-live-out {sh} ys {w} {x} o z ow k h b z' ow' k' c d t cl dl has = elim (live-cases q written t has) [
   | inl a ↦ let n : num (opens q written t) ≡ 1 = ap num a.0 in
-      untold-part sh o.world c d t y cl (omega (arith, n)) (z'.resolved d t dl) (k' d t dl positive) ∙ sym a.1
+      untold-part sh o.world c d t y cl (omega arith) (z'.resolved d t dl) (k' d t dl positive) ∙ sym a.1
   | inr a ↦ skipped b a.0 ∙ sym a.1
 ]
   where
@@ -228,7 +217,7 @@ step-committed-out {sh} ys {w} {cs} z ow k lv h (Moved c s cl u f i n) =
     only : (d t : ℕ) → d < sh.dirs → told_by (s.sends (Dir d)) t (ys d t) ≡ Committed → 1 ≤ times t (and_noted s.commit cs)
     only d t l q = elim (told-committed (s.sends (Dir d)) t (ys d t) q) [
       | inl e ↦ omega (arith, h.only d t l e, times-noted t s.commit cs)
-      | inr e ↦ omega (arith, e, u.noted d t, times-noted t s.commit cs)
+      | inr e ↦ omega (arith, u.noted, times-noted)
     ]
 
 -- Every event keeps that a directory where a commit loaded or stored has reached its TID.
@@ -289,9 +278,9 @@ ready-works sh dirs id u s e h k r = λ d l w. rw e at ((r d).reached l (rw e (t
         go false p false q w = absurd (cc)
 
 exec-works : {sh : Shape} (p : Program) (dirs : ℕ → DirState) (c : ℕ) {s : CoreState} → OneCore sh s → LoadsMarked sh s
-    → AllReached sh dirs s → IfSome (core_exec sh p c s) (λ o. Works sh dirs o)
+    → AllReached sh dirs s → IfSome (core_exec sh p c s) (Works sh dirs)
 unfolding solo_commit noted
-exec-works {sh} p dirs c {s} h k r = each-exec sh p c s (λ o. Works sh dirs o) go
+exec-works {sh} p dirs c {s} h k r = each-exec sh p c s (Works sh dirs) go
   where
     go : (x : Did sh p c s) → Works sh dirs (out x)
     go (Ends_alone u o e f q i) = λ d l w. rw q at ((r d).reached l (rw q) ((r d).replied l (rw q)))
@@ -305,22 +294,20 @@ Later w v = (d : ℕ) → tid_at w d ≤ tid_at v d
 
 pub step-later : (sh : Shape) (p : Program) (w : World) (e : Event) → IfSome (step sh p w e) (λ o. Later w o.world)
 unfolding core_moves core_takes dir_takes dir_asks vendor_gives
-step-later sh p w e = step_cases sh p w e (λ g o. Later w o.world) (λ c l. moved c (core_exec sh p c (w.cores c)))
-    (λ c x y l. moved c (core_evict sh x y (w.cores c))) (λ c k t i d. omega arith) (λ c d k m i. taken c d k (from_dir sh d (w.cores c) m))
+step-later sh p w e = step_cases sh p w e (λ g o. Later w o.world) (λ c o eq l. moved c o)
+    (λ c x y o eq l. moved c o) (λ c k t i d. omega arith) (λ c d k m o eq i. taken c d k o)
     (λ c d k m i. answered c d k (dir_deliver sh (w.dirs d) c m) (dir-rises sh (w.dirs d) c m)) (λ c k i d. omega arith)
   where
-    moved : (c : ℕ) (a : Option Out) → IfSome a (λ o. Later w (core_moves w c o))
-    moved c None = tt
-    moved c (Some o) = λ d. omega arith
+    moved : (c : ℕ) (o : Out) → Later w (core_moves w c o)
+    moved c o = λ d. omega arith
 
-    taken : (c d k : ℕ) (a : Option Out) → IfSome a (λ o. Later w (core_takes w (Dir d) c k o))
-    taken c d k None = tt
-    taken c d k (Some o) = λ e. omega arith
+    taken : (c d k : ℕ) (o : Out) → Later w (core_takes w (Dir d) c k o)
+    taken c d k o = λ e. omega arith
 
     put : (e : ℕ) (s : DirState) → tid_at w e ≤ s.serving.serving → (d : ℕ) → tid_at w d ≤ (if d == e then s else w.dirs d).serving.serving
     put e s l d = grind nats
 
-    answered : (c d k : ℕ) (a : Answer) → RisesBy (w.dirs d) a → OfAnswer w c d k (λ v. Later w v) a
+    answered : (c d k : ℕ) (a : Answer) → RisesBy (w.dirs d) a → OfAnswer w c d k (Later w) a
     answered c d k Waits r = tt
     answered c d k Drops r = put d (w.dirs d) (omega arith)
     answered c d k (Asks s sends) r = put d s r.rises
@@ -355,19 +342,17 @@ pub step-loads : {sh : Shape} (p : Program) {w : World} (e : Event) → Kept sh 
     → IfSome (step sh p w e) (ByCore sh w (Loads sh w) (sent_by sh p w e))
 unfolding pair
 step-loads {sh} p {w} e z k h = by_core p e (Loads sh w) z.told.tids
-    (λ c l. both c (core_exec sh p c (w.cores c)) (loaded-exec p c (k c) (h c))
-    (exec-works p w.dirs c (k c) (h c) (λ d. (z.probes c d).core)))
-    (λ c x y l. quiet c (core_evict sh x y (w.cores c)) (loaded-evict sh x y (w.cores c) (h c)) (none-evict sh x y (w.cores c)))
+    (λ c o eq l. both c o (got _ eq (loaded-exec p c (k c) (h c)))
+    (got _ eq (exec-works p w.dirs c (k c) (h c) (λ d. (z.probes c d).core))))
+    (λ c x y o eq l. quiet c o (got _ eq (loaded-evict sh x y (w.cores c) (h c))) (got _ eq (none-evict sh x y (w.cores c))))
     (λ c i t l q. record { loads = loaded-grant sh t (w.cores c) (h c); works = rw (none-grant sh t (w.cores c)) tt })
-    (λ c d m l. quiet c (from_dir sh d (w.cores c) m) (loaded-back sh d (w.cores c) m (h c)) (none-back sh d (w.cores c) m))
+    (λ c d m o eq l. quiet c o (got _ eq (loaded-back sh d (w.cores c) m (h c))) (got _ eq (none-back sh d (w.cores c) m)))
   where
-    both : (c : ℕ) (a : Option Out) → IfSome a (λ o. LoadsMarked sh o.core) → IfSome a (λ o. Works sh w.dirs o) → IfSome a (Loads sh w c)
-    both c None x y = tt
-    both c (Some o) x y = record { loads = x; works = y }
+    both : (c : ℕ) (o : Out) → LoadsMarked sh o.core → Works sh w.dirs o → Loads sh w c o
+    both c o x y = record { loads = x; works = y }
 
-    quiet : (c : ℕ) (a : Option Out) → IfSome a (λ o. LoadsMarked sh o.core) → IfSome a (λ o. o.commit ≡ None) → IfSome a (Loads sh w c)
-    quiet c None x y = tt
-    quiet c (Some o) x y = record { loads = x; works = rw y tt }
+    quiet : (c : ℕ) (o : Out) → LoadsMarked sh o.core → o.commit ≡ None → Loads sh w c o
+    quiet c o x y = record { loads = x; works = rw y tt }
 
 pub loads-out : {sh : Shape} {w : World} {x : Sends} {o : Stepped} → KeptLoads sh w → ByCore sh w (Loads sh w) x o → KeptLoads sh o.world
 loads-out h (Still e i n) = rw e h
@@ -387,6 +372,6 @@ worked-out {sh} {w} cs {o} r h (Moved c s cl u f i n) = rw n (λ m d q l a. go m
         → Contains (and_noted b cs) m → m.tid.0 ≤ (tid_at o.world d)
     go m d l a None v q = omega (arith, h m d q l a, r d)
     go m d l a (Some b) v q = elim (inserted b m cs q) [
-      | inl e ↦ let y : m.tid.0 ≤ tid_at w d = rw e at (v d l (rw e a)) in omega (arith, y, r d)
+      | inl e ↦ let y : m.tid.0 ≤ tid_at w d = rw e at (v d l (rw e a)) in omega (arith, r)
       | inr k ↦ omega (arith, h m d k l a, r d)
     ]
