@@ -1,5 +1,5 @@
 -- What the proofs say often, in a word.
-use Rattle.std.specs.Prelude.{ℕ, ◌≡◌, Some, None, IfSome, List, Option, Bool, true, false}
+use Rattle.std.specs.Prelude.{ℕ, ◌≡◌, Some, None, IfSome, Option, Bool, true, false}
 use Rattle.std.proofs.Common.{arith, refl, subst, ◌⊎◌, inl, inr}
 use Rattle.std.proofs.lemmas.Bool.Decides.{nat_tests}
 use Rattle.rules_maps.specs.Nodes.{Core, Dir, Msg, Node}
@@ -55,7 +55,7 @@ pub tested : (b : Bool) → (b ≡ true) ⊎ (b ≡ false)
 tested true = inl refl
 tested false = inr refl
 
--- what holds of an answer, if any, holds of this one
+-- what holds of an answer, if there is one, holds of the one that there is
 pub got : {A : Type 0} (P : A → Type 0) {x : Option A} {a : A} → x ≡ Some a → IfSome x P → P a
 got P e h = subst (λ y. IfSome y P) e h
 

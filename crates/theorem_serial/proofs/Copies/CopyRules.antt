@@ -1,4 +1,4 @@
--- What a core's events do to the copies of a line: all keep them, but that a commit makes new ones.
+-- What a core's events do to the copies of a line: all keep them, but that a commit makes new ones; then the lines that commits wrote.
 use Rattle.rules_maps.proofs.Lemmas.{dirty-placed}
 use Rattle.theorem_serial.proofs
 use proofs.Names

@@ -1,4 +1,4 @@
--- What sending and taking do to the number of messages of a kind, and how many a rule sends.
+-- What sending and taking do to the number of messages of a kind, and how many a rule sends; then a step, by the kind of its event.
 use Rattle.rules_tcc.specs.VendorDeliver.{Granted}
 use Rattle.theorem_serial.proofs
 use proofs.Names

@@ -1,4 +1,5 @@
--- Every event keeps that of an asked line the request is in flight to the owner, or its words are on their way from the owner.
+-- Every event keeps that of an asked line the request is in flight to the owner, or its words are on their way from the owner; then
+-- sharers.
 use Rattle.theorem_serial.proofs
 use proofs.Names
 use Names.{got, nothing, eq-self, line_of-word_at, ℕ, ◌≡◌, ◌≤◌, ◌⊎◌, Bool, true, false, [], ◌∷◌, ◌==◌, Some, if◌then◌else◌, arith, refl}

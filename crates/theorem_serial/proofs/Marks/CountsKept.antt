@@ -1,4 +1,4 @@
--- Every event keeps that a Commit counts its Marks, and that none is in flight while acknowledgements are owed.
+-- Every event keeps that a Commit counts its Marks, and that none is in flight while acknowledgements are owed; then their masks.
 use Rattle.theorem_serial.proofs
 use proofs.Names
 use Names.{got, after_other_grant, awaits_replies, after_answer, count_below, CountsMarks, grant_taken, dir_deliver, ap, KeptCounted}

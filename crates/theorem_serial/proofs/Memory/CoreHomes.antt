@@ -1,4 +1,4 @@
--- What a core sends about lines goes to their homes, and names some word where it names words.
+-- What a core sends about lines goes to their homes, and names some word where it names words; then that it stays in memory.
 use Rattle.rules_tcc.specs.Sends.{write_back_of}
 use Rattle.rules_program.specs.Ram.{part}
 use Rattle.theorem_serial.proofs

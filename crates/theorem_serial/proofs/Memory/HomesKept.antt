@@ -1,4 +1,4 @@
--- Every event keeps that records and messages are at home.
+-- Every event keeps that records and messages are at home; then that all stay in memory.
 use Rattle.theorem_serial.proofs
 use proofs.Names
 use Names.{if_recorded, got, ℕ, ◌%◌, ◌≡◌, ◌<◌, Bool, true, false, not, List, [], ◌∷◌, ◌++◌, ◌==◌, ◌&&◌, Option, Some, None, IfSome, nat_lt}

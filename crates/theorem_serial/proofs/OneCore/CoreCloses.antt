@@ -1,4 +1,4 @@
--- What a core's events do to its checkpoint and its end: only an instruction commits.
+-- What a core's events do to its checkpoint and its end: only an instruction commits; then that each core stays consistent.
 use Rattle.theorem_attempt.specs.Follows.{Follows}
 use Rattle.rules_program.specs.Ram.{part}
 use Rattle.theorem_serial.proofs

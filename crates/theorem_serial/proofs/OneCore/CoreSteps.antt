@@ -1,4 +1,5 @@
--- What a core's rules leave alone: instructions as far as TIDs go, evictions, fills, data requests, invalidations.
+-- What a core's rules leave alone: instructions as far as TIDs go, evictions, fills, data requests, invalidations; then what a core asks
+-- for.
 use Rattle.theorem_serial.proofs
 use proofs.Names
 use Names.{ℕ, ◌≡◌, [], None, refl, Program, word_of, line_of, Dir, Vendor, Shape, CoreState, flush_line, Out, moves, Protocol, among}

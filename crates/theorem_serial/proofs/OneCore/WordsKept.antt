@@ -1,4 +1,4 @@
--- What each change of a cache or of the overflow buffer does to the words of an attempt.
+-- What each change of a cache or of the overflow buffer does to the words of an attempt; then the read marks.
 use Rattle.rules_maps.specs.CacheLook.{reads_masked}
 use Rattle.rules_program.specs.Ram.{part}
 use Rattle.theorem_serial.proofs

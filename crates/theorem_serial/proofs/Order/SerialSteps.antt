@@ -6,13 +6,13 @@ use Names.{order_of_commit, insert_commit, commits_touch, MarkedAtHomes, if◌th
 use Names.{TrappedWith, transaction, orders_core, stores_word, UsedAtHomes, plain_start, AlignedNeed, is_given_up, dir_deliver, CoresSerial}
 use Names.{map-append, HaltedWith, Invariants, may_commit, loads_word, core_evict, core_moves, core_takes, CoreSerial, IsSomeAnd, commit_of}
 use Names.{CoreState, end_after, CanInsert, writes_at, UsesStand, worked_at, in_flight, core_exec, and_noted, dir_takes, last_tid, HasEnded}
-use Names.{Inserted, IsMemory, Contains, reads_at, NeedFits, AllStand, asks_dir, live_way, TidGrant, from_dir, recorded, dir_asks, IsSerial}
+use Names.{Inserted, IsMemory, Contains, reads_at, NeedFits, AllStand, asks_dir, live_way, TidGrant, from_dir, dir_asks, IsSerial}
 use Names.{CoreEnd, Attempt, Outcome, Program, Aligned, Changes, line_of, is_solo, History, has_tid, EachUse, Stepped, Option, closed}
-use Names.{end_of, serial, Stores, Agrees, holder, tid_of, Untold, IfSome, Vendor, TidReq, Answer, false, subst, Noted, Plain, Order, Ended}
+use Names.{end_of, serial, Stores, Agrees, holder, tid_of, Untold, Vendor, TidReq, Answer, false, subst, Noted, Plain, Order, Ended}
 use Names.{begun, steps, Local, noted, Again, times, arith, Loads, Shape, Phase, Ready, World, Suits, Grant, grant, Waits, Drops, Takes}
 use Names.{true, List, ◌++◌, Some, None, refl, Halt, Trap, Goes, Bool, ◌==◌, ◌||◌, Need, home, Solo, Uses, Fits, pair, Ways, Core, Asks}
 use Names.{step, ◌≡◌, ◌≤◌, ◌≢◌, ◌∷◌, map, sym, ◌∙◌, Run, ◌<◌, ◌⊎◌, inl, inr, num, Out, Dir, Msg, ap, [], ℕ, nats, home_of, tid_at, FromCore}
-use Names.{FromDir, IfSome_then, grant_to}
+use Names.{FromDir, grant_to}
 use proofs.Counts.{given, OfAnswer, step_cases}
 use proofs.Memory.CoreHomes.{accesses_at_homes, marks_at_homes}
 use proofs.OneCore.{Gives, Closing, Leaves, Stays, Closes, exec-leaves, CheckpointStays, evict-stays, grant-stays, back-stays}

@@ -1,4 +1,4 @@
--- What a core sends that directories count: Commits, to those that have reached its TID, and acknowledgements.
+-- What a core sends that directories count: Commits, to those that have reached its TID, and acknowledgements; then what a core owes.
 use Rattle.rules_maps.specs.Words.{put}
 use Rattle.theorem_serial.proofs
 use proofs.Names

@@ -1,4 +1,4 @@
--- Each kind of event keeps who has which TID, and the list of commits.
+-- Each kind of event keeps who has which TID, and the list of commits; then the TID that is committing.
 use Rattle.theorem_serial.proofs
 use proofs.Names
 use Names.{got, nothing, Contains-append_right, Contains-append_cases, Contains-append_left, after_other_grant, slice_index_or}

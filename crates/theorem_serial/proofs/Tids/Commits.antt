@@ -1,4 +1,5 @@
--- A further commit in the list of commits, and a further grant; which commits are listed, and the greatest of their TIDs.
+-- A further commit in the list of commits, and a further grant; which commits are listed, and the greatest of their TIDs; then the TIDs of
+-- one core.
 use Rattle.theorem_serial.specs.Count.{Asks}
 use Rattle.theorem_serial.proofs
 use proofs.Names

@@ -1,7 +1,7 @@
 -- Every event keeps what is known of TIDs in flight, at cores and at directories.
 use Rattle.theorem_serial.proofs
 use proofs.Names
-use Names.{eq-self, ℕ, ◌+◌, ◌-◌, ◌≡◌, ◌<◌, ◌≤◌, Bool, true, false, ◌==◌, nat_lt, if◌then◌else◌, arith, refl, num, count_below, has_mark}
+use Names.{eq-self, ℕ, ◌+◌, ◌≡◌, ◌<◌, ◌≤◌, Bool, true, false, ◌==◌, nat_lt, if◌then◌else◌, arith, refl, num, count_below, has_mark}
 use Names.{Serving, advance, kept, is_skipped, Msg, Skip, Commit, Abort, Shape, lines, advance-rises, advance-past, advance-stops}
 use Names.{advance-keeps, kept-skips, DirState, Answer, Waits, Drops, Asks, Takes, dir_deliver, invalidation_count, Resolves, passes}
 use Names.{handled, nats, after_other_grant, slice_index_or, first_serving, waits_for_tid, vendor_start, vendor_gives, after_answer}

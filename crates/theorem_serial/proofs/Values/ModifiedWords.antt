@@ -1,4 +1,5 @@
--- What a core that may commit has made of a word: its stores over the word as the core sees it.
+-- What a core that may commit has made of a word: its stores over the word as the core sees it; then that frames and Fills keep their
+-- values.
 use Rattle.theorem_serial.specs.KeepsWords.{EventsKeepWords}
 use Rattle.theorem_attempt.proofs.Lemmas.{sees-modified}
 use Rattle.theorem_serial.proofs

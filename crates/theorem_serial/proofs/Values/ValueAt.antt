@@ -1,4 +1,4 @@
--- The value of a word by the commits, and the newest of its copies.
+-- The value of a word by the commits, and the newest of its copies; then the values at homes.
 use Rattle.theorem_serial.proofs
 use proofs.Names
 use Names.{ℕ, zero, suc, ◌≡◌, ◌<◌, ◌⊎◌, Bool, true, false, ◌==◌, ◌||◌, List, [], ◌∷◌, length, Contains, Option, slice_index_or, nat_lt}
@@ -6,7 +6,7 @@ use Names.{if◌then◌else◌, arith, refl, sym, ap, ◌∙◌, Noted, Stored, 
 use Names.{after_stores, counts, after_commits, value_at, nats, ◌+◌, ◌≤◌, not, ◌&&◌, ◌++◌, get_or, Some, None, unwrap_or, nat_le, flat_map}
 use Names.{inl, inr, flat_map-append, num, those, line_of, place_of, hit, Msg, WriteBack, Flush, Shape, World, Link, Copy, numbers, copy_of}
 use Names.{copies_on, copy_in, copies_of, copies, newest, home_copy, seen, CopyWord, CopyNot, live, passes, pair, is_this, word_copies}
-use Names.{CopiesHave, home_of, to_dir, home, Kind, Commits, CommitsInMemory, Pair, CommitsStand, stores_at, HomeWords, CopiesAbove}
+use Names.{CopiesHave, home_of, to_dir, Kind, Commits, CommitsInMemory, Pair, CommitsStand, stores_at, HomeWords, CopiesAbove}
 use Names.{names_line, IsCache, History, CommitsAreServed, copies_with, KeptTags, KeptAbove, KeptOwned, Invs, CopyOf, CopiesInMemory}
 use Names.{OwedInFlight, KeptNamed, MarksOfCommits, KeptWhole, KeptStored, is_applied, tid_at, FromCore, ◌≢◌}
 use proofs.Copies.{stored-home, Consumes}

@@ -1,4 +1,5 @@
--- The copies of a word: no more than those of its line, and those that leave a frame go home as they are.
+-- The copies of a word: no more than those of its line, and those that leave a frame go home as they are; then what a core's event does to
+-- them.
 use Rattle.rules_tcc.specs.Sends.{write_back_of}
 use Rattle.rules_maps.proofs.Lemmas.{dirty-placed, value-placed}
 use Rattle.theorem_serial.proofs

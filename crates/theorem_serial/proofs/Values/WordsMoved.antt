@@ -1,4 +1,5 @@
--- What a core's event does to the values of a word, where nothing is committed: its copies with the line's tag or a larger one stay.
+-- What a core's event does to the values of a word, where nothing is committed: its copies with the line's tag or a larger one stay; then
+-- that home words stay current.
 use Rattle.theorem_serial.specs.KeepsHomes.{EventsKeepHomes}
 use Rattle.theorem_serial.proofs
 use proofs.Names

@@ -1,4 +1,4 @@
--- What the proof on views asks of a state, and where a word keeps its value for a core.
+-- What the proof on views asks of a state, and where a word keeps its value for a core; then the views of pairs.
 use Rattle.theorem_serial.proofs
 use proofs.Names
 use Names.{ℕ, ◌≡◌, ◌<◌, ◌≤◌, ◌⊎◌, ◌==◌, Bool, true, false, List, [], ◌∷◌, Contains, Option, Some, None, is_some, arith, refl, ap, inl, inr}

@@ -1,4 +1,4 @@
--- Every event keeps that each TID is where its way puts it.
+-- Every event keeps that each TID is where its way puts it; then the ways of TIDs in every run.
 use Rattle.theorem_serial.proofs
 use proofs.Names
 use Names.{if_recorded, got, and_noted, eq-self, invalidation_count, if◌then◌else◌, advance-rises, dir_deliver, is_skipped, kept-skips}
