@@ -1,10 +1,10 @@
 -- A link over its fields: what its readers give, and what each change of the fields does to the list of what was sent.
-use Rattle.std.proofs.Common.{◌≡◌, ℕ, suc, ◌+◌, ◌-◌, ◌<◌, Bool, ⊎_elim, List, [], ◌∷◌, ◌++◌, length, get_or, set, map}
+use Rattle.std.proofs.Common.{◌≡◌, ℕ, suc, ◌+◌, ◌<◌, Bool, ⊎_elim, List, [], ◌∷◌, ◌++◌, length, get_or, set, map}
 use Rattle.std.proofs.Common.{Some, None, refl, ap, sym, subst, ◌∙◌, add-one, arith}
-use Rattle.std.specs.Prelude.{Option, option_map, slice_get, IfSome, IfNone}
+use Rattle.std.specs.Prelude.{Option, option_map, slice_get}
 use Rattle.std.specs.List.{remove, count_by}
 use Rattle.std.proofs.lemmas.Bool.{cases_lt}
-use Rattle.std.proofs.lemmas.List.{get_or_past, set-get_or, length-set}
+use Rattle.std.proofs.lemmas.List.{get_or_past, length-set}
 use Rattle.std.proofs.lemmas.Option.{slice_get-map, slice_get_within, get_or_from_slice_get}
 use Rattle.std.proofs.lemmas.List.Edits.{length-remove}
 use Rattle.machine_links.specs.declared.lane.Held.{Held}
@@ -43,9 +43,6 @@ found-held n ws l k i d kept at =
 
 pub missing-held : (n : ℕ) (ws : List Waiting) (l : Lane) (k : ℕ) → Kept n ws l → held_at ws k ≡ None → get_or l k None ≡ None
 missing-held n ws l k kept e = get-lane n ws l k kept ∙ e
-
-pub missing-set : (n : ℕ) (ws : List Waiting) (l : Lane) (k : ℕ) → Kept n ws l → held_at ws k ≡ None → l ≡ set l k None
-missing-set n ws l k kept e = sym (set-get_or l k None) ∙ ap (λ o. set l k o) (missing-held n ws l k kept e)
 
 below : (n : ℕ) (ws : List Waiting) (l : Lane) (k i : ℕ) (d : Waiting) → Kept n ws l → At ws k i → k < n
 below n ws l k i d kept at = let a = (rises-get 0 n ws i d kept.rising at.within).1 in let b : (get_or ws i d).seq ≡ k =
@@ -101,21 +98,16 @@ pushed n ws vs l h kept few e = rw add-one (subst (λ us. Kept (suc n) us (l ++ 
     count [] = omega arith
     count (u ∷ us) = omega (arith, count us)
 
--- one taken or not, and one marked
-pub record Took (n : ℕ) (vs : List Waiting) (l : Lane) (k : ℕ) (o : Option Held) : Type 0 where
-  pub kept : Kept n vs (set l k None)
-  pub given : o ≡ get_or l k None
+-- one taken out, and one marked
+pub taken-lane : (n : ℕ) (ws vs : List Waiting) (l : Lane) (k : ℕ) (was : Bool) → Kept n ws l → Taken ws vs k was
+    → Kept n vs (set l k None)
+taken-lane n ws vs l k was kept t = taken n ws vs l k t.at blank kept (record { within = t.within; own = t.own }) t.left
 
-pub took : (n : ℕ) (ws vs : List Waiting) (l : Lane) (k : ℕ) (o : Option Held) → Kept n ws l → IfSome o (λ h. Taken ws vs k h)
-    → IfNone o (held_at ws k ≡ None) → IfNone o (vs ≡ ws) → Took n vs l k o
-took n ws vs l k None kept t none same = record {
-  kept = subst (λ m. Kept n vs m) (missing-set n ws l k kept none) (subst (λ us. Kept n us l) (sym same) kept);
-  given = sym (missing-held n ws l k kept none);
-}
-took n ws vs l k (Some h) kept t none same = let at : At ws k t.at = record { within = t.within; own = t.own } in record {
-  kept = taken n ws vs l k t.at blank kept at t.left;
-  given = sym (found-held n ws l k t.at blank kept at ∙ ap Some (t.held blank));
-}
+pub was-taken : (n : ℕ) (ws vs : List Waiting) (l : Lane) (k : ℕ) (was : Bool) → Kept n ws l → Taken ws vs k was
+    → was ≡ is_marked (get_or l k None)
+unfolding is_marked
+was-taken n ws vs l k was kept t =
+    sym (ap is_marked (found-held n ws l k t.at blank kept (record { within = t.within; own = t.own })) ∙ t.was blank)
 
 pub marked-lane : (n : ℕ) (ws vs : List Waiting) (l : Lane) (k : ℕ) (b was : Bool) → Kept n ws l → Marked ws vs k b was
     → Kept n vs (set l k (marked_as b (get_or l k None)))

@@ -85,40 +85,40 @@ held-reached x y k d r some le =
     held-before x y k (held-low p.mid r.high y k p.right (omega arith))
 
 -- one taken out of a part
-pub taken-left : (x y v : List Waiting) (k : ℕ) (h : Held) → Taken x v k h → Taken (x ++ y) (v ++ y) k h
-taken-left x y v k h t = record {
+pub taken-left : (x y v : List Waiting) (k : ℕ) (m : Bool) → Taken x v k m → Taken (x ++ y) (v ++ y) k m
+taken-left x y v k m t = record {
   at = t.at;
   within = omega (arith, t.within, length-append x y);
   own = λ d. ap (λ w. w.seq) (get_or_append_left x y d t.at t.within) ∙ t.own d;
-  held = λ d. ap (λ w. w.held) (get_or_append_left x y d t.at t.within) ∙ t.held d;
+  was = λ d. ap (λ w. w.held.ready) (get_or_append_left x y d t.at t.within) ∙ t.was d;
   left = ap (λ z. z ++ y) t.left ∙ sym (remove-append_left x y t.at t.within);
 }
 
-pub taken-right : (x y v : List Waiting) (k : ℕ) (h : Held) → Taken y v k h → Taken (x ++ y) (x ++ v) k h
-taken-right x y v k h t =
+pub taken-right : (x y v : List Waiting) (k : ℕ) (m : Bool) → Taken y v k m → Taken (x ++ y) (x ++ v) k m
+taken-right x y v k m t =
     let back : length x + t.at - length x ≡ t.at = omega arith in
     record {
       at = length x + t.at;
       within = omega (arith, t.within, length-append x y);
       own = λ d. ap (λ w. w.seq) (get_or-append-add x y t.at d) ∙ t.own d;
-      held = λ d. ap (λ w. w.held) (get_or-append-add x y t.at d) ∙ t.held d;
+      was = λ d. ap (λ w. w.held.ready) (get_or-append-add x y t.at d) ∙ t.was d;
       left = ap (λ z. x ++ z) t.left
           ∙ sym (remove-append_right x y (length x) (length x + t.at) refl (omega arith) ∙ ap (λ n. x ++ remove y n) back);
     }
 
-pub taken-in : (xs : List (List Waiting)) (p : ℕ) (v : List Waiting) (k : ℕ) (h : Held) → Taken (get_or xs p []) v k h
-    → Taken (flat xs) (flat (set xs p v)) k h
+pub taken-in : (xs : List (List Waiting)) (p : ℕ) (v : List Waiting) (k : ℕ) (m : Bool) → Taken (get_or xs p []) v k m
+    → Taken (flat xs) (flat (set xs p v)) k m
 unfolding flat
-taken-in [] p v k h t = absurd (omega (arith, t.within))
-taken-in (x ∷ xs) zero v k h t = taken-left x (flat xs) v k h t
-taken-in (x ∷ xs) (suc p) v k h t = taken-right x (flat xs) (flat (set xs p v)) k h (taken-in xs p v k h t)
+taken-in [] p v k m t = absurd (omega (arith, t.within))
+taken-in (x ∷ xs) zero v k m t = taken-left x (flat xs) v k m t
+taken-in (x ∷ xs) (suc p) v k m t = taken-right x (flat xs) (flat (set xs p v)) k m (taken-in xs p v k m t)
 
-pub taken-read : (xs : List (List Waiting)) (p : ℕ) (x v : List Waiting) (k : ℕ) (h : Held) → p < length xs → x ≡ get_or xs p x
-    → Taken x v k h → Taken (flat xs) (flat (set xs p v)) k h
-taken-read xs p x v k h lt e t = taken-in xs p v k h (subst (λ y. Taken y v k h) (get_or_read xs p x lt e []) t)
+pub taken-read : (xs : List (List Waiting)) (p : ℕ) (x v : List Waiting) (k : ℕ) (m : Bool) → p < length xs → x ≡ get_or xs p x
+    → Taken x v k m → Taken (flat xs) (flat (set xs p v)) k m
+taken-read xs p x v k m lt e t = taken-in xs p v k m (subst (λ y. Taken y v k m) (get_or_read xs p x lt e []) t)
 
-pub length-taken : (old new : List Waiting) (k : ℕ) (h : Held) → Taken old new k h → length new + 1 ≡ length old
-length-taken old new k h t =
+pub length-taken : (old new : List Waiting) (k : ℕ) (m : Bool) → Taken old new k m → length new + 1 ≡ length old
+length-taken old new k m t =
     let a : length new ≡ length (remove old t.at) = ap length t.left in omega (arith, length-remove old t.at t.within, t.within)
 
 -- one marked in a part
@@ -172,10 +172,10 @@ length-marked old [] k b (Some was) m e = ap length (m.left blank) ∙ length-se
 length-marked old (w ∷ new) k b (Some was) m e = ap length (m.left w) ∙ length-set old m.at _
 
 -- of two parts
-pub taken-both : (x x2 y y2 : List Waiting) (k : ℕ) (o : Option Held) → x2 ≡ x → IfSome o (λ h. Taken y y2 k h)
-    → IfSome o (λ h. Taken (x ++ y) (x2 ++ y2) k h)
+pub taken-both : (x x2 y y2 : List Waiting) (k : ℕ) (o : Option Bool) → x2 ≡ x → IfSome o (λ m. Taken y y2 k m)
+    → IfSome o (λ m. Taken (x ++ y) (x2 ++ y2) k m)
 taken-both x x2 y y2 k None e t = tt
-taken-both x x2 y y2 k (Some h) e t = subst (λ z. Taken (x ++ y) (z ++ y2) k h) (sym e) (taken-right x y y2 k h t)
+taken-both x x2 y y2 k (Some m) e t = subst (λ z. Taken (x ++ y) (z ++ y2) k m) (sym e) (taken-right x y y2 k m t)
 
 pub marked-both : (x x2 y y2 : List Waiting) (k : ℕ) (b : Bool) (o : Option Bool) → x2 ≡ x → IfSome o (λ was. Marked y y2 k b was)
     → IfSome o (λ was. Marked (x ++ y) (x2 ++ y2) k b was)

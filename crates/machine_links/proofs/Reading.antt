@@ -1,15 +1,18 @@
 -- What is read of one link: its messages and marks by its lane.
-use Rattle.std.proofs.Common.{◌≡◌, ℕ, true, false, [], length, get_or, Option, Some, None, is_some, refl, ap, sym, ◌∙◌}
+use Rattle.std.proofs.Common.{◌≡◌, ℕ, true, false, [], length, get_or, ⊎_elim, Option, Some, None, is_some, refl, ap, sym, ◌∙◌}
+use Rattle.std.proofs.lemmas.Bool.{cases_Bool, false≢true}
 use Rattle.std.proofs.lemmas.List.{length-map}
 use Rattle.base_lemmas.proofs.Lemmas.{those-same}
 use Rattle.rules_maps.specs.Words.{those}
-use Rattle.rules_maps.specs.Nodes.{Node}
+use Rattle.rules_maps.specs.Nodes.{Node, Msg}
 use Rattle.tcc_msg.specs.Plain.{msg_of}
 use Rattle.rules_tcc.specs.Links.{in_flight}
 use Rattle.machine_links.specs.declared.lane.Held.{Held}
 use Rattle.machine_links.specs.Lane.{Lane, message, is_marked, is_waiting, numbers_of}
-use Rattle.machine_links.specs.Flights.{Flights, lane, net_of, is_ready}
+use Rattle.machine_links.specs.Places.{is_link}
+use Rattle.machine_links.specs.Flights.{Flights, lane_at, lane, net_of, is_ready}
 use Rattle.machine_links.proofs.Lanes.{in-flight}
+use Rattle.machine_links.proofs.Placing.{place-none}
 
 pub net-length : (f : Flights) (s d : Node) → length (net_of f s d) ≡ length (lane f s d)
 unfolding net_of
@@ -70,3 +73,19 @@ flies (Some h) e = refl
 pub marked-flies : (f : Flights) (s d : Node) (k : ℕ) → is_ready f s d k ≡ true → is_some (in_flight (net_of f) s d k) ≡ true
 unfolding is_ready
 marked-flies f s d k e = ap is_some (in-flight f s d k) ∙ flies (get_or (lane f s d) k None) e
+
+pub absent-unready : (f : Flights) (s d : Node) (k : ℕ) → in_flight (net_of f) s d k ≡ None → is_ready f s d k ≡ false
+absent-unready f s d k none = ⊎_elim
+    (λ on. absurd (false≢true (sym (ap is_some none) ∙ marked-flies f s d k on)))
+    (λ off. off) (cases_Bool (is_ready f s d k))
+
+-- what is in flight has a link
+pub flies-linked : (f : Flights) (s d : Node) (k : ℕ) (m : Msg) → in_flight (net_of f) s d k ≡ Some m → is_link f.cores f.dirs s d ≡ true
+unfolding lane
+flies-linked f s d k m fly = ⊎_elim
+    (λ yes. yes)
+    (λ off. absurd (none≢some m (flown-no_lane f s d k (ap (lane_at f.lanes) (place-none f.cores f.dirs s d off)) ∙ fly)))
+    (cases_Bool (is_link f.cores f.dirs s d))
+  where
+    none≢some : (m : Msg) → None ≡ Some m → ⊥
+    none≢some m e = cc

@@ -2,8 +2,8 @@
 use Rattle.std.proofs.Common.{◌≡◌, ℕ, ◌+◌, ◌-◌, ◌<◌, ◌≤◌, ◌==◌, Bool, true, false, ◌&&◌, if◌then◌else◌, List, [], map, length, get_or, set}
 use Rattle.std.proofs.Common.{Option, Some, None, IsSome, IsTrue, refl, ap, sym, subst, ◌∙◌, arith}
 use Rattle.std.specs.List.{count_by}
-use Rattle.std.proofs.lemmas.Bool.{false≢true, and_parts}
-use Rattle.std.proofs.lemmas.List.{length-map}
+use Rattle.std.proofs.lemmas.Bool.{false≢true, and_parts, eqb-true}
+use Rattle.std.proofs.lemmas.List.{length-map, set-get_or}
 use Rattle.rules_maps.specs.Words.{num}
 use Rattle.rules_maps.specs.Nodes.{Node, node_eq}
 use Rattle.rules_tcc.specs.Links.{in_flight, taking}
@@ -19,6 +19,7 @@ use Rattle.machine_links.proofs.Lanes.{Laned, laned-set, in-flight, mark-message
 use Rattle.machine_links.proofs.Counts.{Counted, counted-at, flying-at, counted-set, within, take-waiting, take-marked, mark-waiting}
 use Rattle.machine_links.proofs.Counts.{mark-marked}
 use Rattle.machine_links.proofs.Flown.{with_lanes, net-taken, net-kept, ready-changed}
+use Rattle.machine_links.proofs.Reading.{absent-unready}
 
 -- the lanes with what is counted
 pub record Stands (cs ds : ℕ) (ls : List Lane) (tree : List ℕ) (fl : ℕ) : Type 0 where
@@ -41,39 +42,69 @@ counted-below cs ds ls tree fl s d i stands at =
     let a : i < length ls = below cs ds ls tree fl s d i stands at in
     let b : length tree ≡ length ls = ap length stands.counted.counted ∙ length-map ls (count_by is_marked) in omega arith
 
+-- a message in flight is in its lane
+some-held : (o : Option Held) → IsSome (message o) → IsSome o
+unfolding message
+some-held None h = h
+some-held (Some x) h = refl
+
+pub flies-held : (f : Flights) (s d : Node) (k : ℕ) (l : Lane) → l ≡ lane f s d → IsSome (in_flight (net_of f) s d k)
+    → IsSome (get_or l k None)
+flies-held f s d k l e h =
+    some-held (get_or l k None) (subst (λ o. IsSome o) (in-flight f s d k ∙ ap (λ m. message (get_or m k None)) (sym e)) h)
+
+is : (o : Option Held) → IsSome o → (h : Held) × (o ≡ Some h)
+is None e = absurd (false≢true e)
+is (Some h) e = (h, refl)
+
+-- it is there with this mark
+pub record Found (l : Lane) (k : ℕ) (was : Bool) : Type 0 where
+  pub held : Held
+  pub there : get_or l k None ≡ Some held
+  pub mark : was ≡ held.ready
+
+pub found : (f : Flights) (s d : Node) (k : ℕ) (l : Lane) (was : Bool) → l ≡ lane f s d → IsSome (in_flight (net_of f) s d k)
+    → was ≡ is_marked (get_or l k None) → Found l k was
+unfolding is_marked
+found f s d k l was e fly mark =
+    let t = is (get_or l k None) (flies-held f s d k l e fly) in
+    record { held = t.0; there = t.1; mark = mark ∙ ap is_marked t.1 }
+
 -- taken
-pub taken-flying : (cs ds : ℕ) (ls : List Lane) (tree : List ℕ) (fl : ℕ) (s d : Node) (i k : ℕ) (l : Lane) (h : Held)
+pub taken-flying : (cs ds : ℕ) (ls : List Lane) (tree : List ℕ) (fl : ℕ) (s d : Node) (i k : ℕ) (l : Lane) (was : Bool)
     → Stands cs ds ls tree fl → place cs ds s d ≡ Some i
-    → l ≡ get_or ls i [] → Some h ≡ get_or l k None → 1 ≤ fl
-taken-flying cs ds ls tree fl s d i k l h stands at e f =
+    → l ≡ get_or ls i [] → Found l k was → 1 ≤ fl
+taken-flying cs ds ls tree fl s d i k l was stands at e t =
     let a : count_by is_waiting (get_or ls i []) ≤ fl = flying-at ls tree fl i stands.counted (below cs ds ls tree fl s d i stands at) in
     let b : count_by is_waiting l ≡ count_by is_waiting (get_or ls i []) = ap (count_by is_waiting) e in
-    omega (arith, take-waiting l k h (sym f))
+    omega (arith, take-waiting l k t.held t.there)
 
-pub taken-marked : (cs ds : ℕ) (ls : List Lane) (tree : List ℕ) (fl : ℕ) (s d : Node) (i k : ℕ) (l : Lane) (h : Held)
+pub taken-marked : (cs ds : ℕ) (ls : List Lane) (tree : List ℕ) (fl : ℕ) (s d : Node) (i k : ℕ) (l : Lane) (was : Bool)
     → Stands cs ds ls tree fl → place cs ds s d ≡ Some i
-    → l ≡ get_or ls i [] → Some h ≡ get_or l k None → num h.ready ≤ get_or tree i 0
-taken-marked cs ds ls tree fl s d i k l h stands at e f =
+    → l ≡ get_or ls i [] → Found l k was → num was ≤ get_or tree i 0
+taken-marked cs ds ls tree fl s d i k l was stands at e t =
     let a : get_or tree i 0 ≡ count_by is_marked (get_or ls i []) =
     counted-at ls tree fl i stands.counted (below cs ds ls tree fl s d i stands at) in
     let b : count_by is_marked l ≡ count_by is_marked (get_or ls i []) = ap (count_by is_marked) e in
-    omega (arith, take-marked l k h (sym f))
+    let c : num was ≡ num t.held.ready = ap num t.mark in
+    omega (arith, take-marked l k t.held t.there)
 
-pub taken-stands : (cs ds : ℕ) (ls : List Lane) (tree : List ℕ) (fl : ℕ) (s d : Node) (i k : ℕ) (l : Lane) (h : Held)
+pub taken-stands : (cs ds : ℕ) (ls : List Lane) (tree : List ℕ) (fl : ℕ) (s d : Node) (i k : ℕ) (l : Lane) (was : Bool)
     → Stands cs ds ls tree fl → place cs ds s d ≡ Some i
-    → l ≡ get_or ls i [] → Some h ≡ get_or l k None
-    → Stands cs ds (set ls i (set l k None)) (set tree i (get_or tree i 0 + num false - num h.ready)) (fl - 1)
-taken-stands cs ds ls tree fl s d i k l h stands at e f =
+    → l ≡ get_or ls i [] → Found l k was
+    → Stands cs ds (set ls i (set l k None)) (set tree i (get_or tree i 0 + num false - num was)) (fl - 1)
+taken-stands cs ds ls tree fl s d i k l was stands at e t =
     let w : i < length ls = below cs ds ls tree fl s d i stands at in
     let a : get_or tree i 0 ≡ count_by is_marked (get_or ls i []) = counted-at ls tree fl i stands.counted w in
     let b : count_by is_marked l ≡ count_by is_marked (get_or ls i []) = ap (count_by is_marked) e in
+    let c : num was ≡ num t.held.ready = ap num t.mark in
     let p : count_by is_waiting l ≡ count_by is_waiting (get_or ls i []) = ap (count_by is_waiting) e in
     let q : count_by is_waiting (get_or ls i []) ≤ fl = flying-at ls tree fl i stands.counted w in
-    let m : count_by is_marked (set l k None) + num h.ready ≡ count_by is_marked l = take-marked l k h (sym f) in
-    let n : count_by is_waiting (set l k None) + 1 ≡ count_by is_waiting l = take-waiting l k h (sym f) in
+    let m : count_by is_marked (set l k None) + num t.held.ready ≡ count_by is_marked l = take-marked l k t.held t.there in
+    let n : count_by is_waiting (set l k None) + 1 ≡ count_by is_waiting l = take-waiting l k t.held t.there in
     record {
       laned = laned-set cs ds ls s d i (set l k None) stands.laned at;
-      counted = counted-set ls tree fl (fl - 1) i (get_or tree i 0 + 0 - num h.ready) (set l k None) stands.counted w (omega arith)
+      counted = counted-set ls tree fl (fl - 1) i (get_or tree i 0 + 0 - num was) (set l k None) stands.counted w (omega arith)
           (omega arith);
     }
 
@@ -90,47 +121,31 @@ taken-ready cs ds ls tree fl s d i k l stands at e =
     ready-changed cs ds ls s d i k (set l k None) false (below cs ds ls tree fl s d i stands at) at
     (λ j. take-mark l k j ∙ ap (λ m. if j == k then false else is_marked (get_or m j None)) e)
 
--- nothing is taken where there is no link
-same-link : (f : Flights) (s d t e : Node) → (node_eq t s && node_eq e d) ≡ true → lane f s d ≡ [] → lane f t e ≡ []
-same-link f s d t e b none =
-    let p = and_parts (node_eq t s) (node_eq e d) b in
-    (λ i. lane f (node_eq-eq t s p.0 i) (node_eq-eq e d p.1 i)) ∙ none
-
-pub no_link-net : (f : Flights) (s d : Node) (k : ℕ) → lane f s d ≡ [] → net_of f ≡ taking (net_of f) s d k
-unfolding net_of
-no_link-net f s d k none = λ i t e. by t e (node_eq t s && node_eq e d) refl i
+-- nothing is taken where nothing has that number
+pub absent-net : (f : Flights) (s d : Node) (k : ℕ) → in_flight (net_of f) s d k ≡ None → net_of f ≡ taking (net_of f) s d k
+absent-net f s d k none = λ i t e. by t e (node_eq t s && node_eq e d) refl i
   where
     by : (t e : Node) (b : Bool) → (node_eq t s && node_eq e d) ≡ b
-        → map message (lane f t e) ≡ (if b then set (map message (lane f t e)) k None else map message (lane f t e))
-    by t e true q = let z : map message (lane f t e) ≡ [] = ap (map message) (same-link f s d t e q none) in z
-        ∙ sym (ap (λ m. set m k None) z)
+        → net_of f t e ≡ (if b then set (net_of f t e) k None else net_of f t e)
+    by t e true q =
+        let p = and_parts (node_eq t s) (node_eq e d) q in
+        let n : get_or (net_of f t e) k None ≡ None =
+        (λ i. get_or (net_of f (node_eq-eq t s p.0 i) (node_eq-eq e d p.1 i)) k None) ∙ none in
+        sym (ap (λ o. set (net_of f t e) k o) (sym n) ∙ set-get_or (net_of f t e) k None)
     by t e false q = refl
 
-pub no_link-ready : (f : Flights) (s d : Node) (k : ℕ) → lane f s d ≡ [] → is_ready f ≡ with_mark (is_ready f) s d k false
-unfolding is_ready with_mark is_marked
-no_link-ready f s d k none = λ i t e j. by t e j (node_eq t s) refl (node_eq e d) refl i
+pub absent-ready : (f : Flights) (s d : Node) (k : ℕ) → in_flight (net_of f) s d k ≡ None
+    → is_ready f ≡ with_mark (is_ready f) s d k false
+unfolding with_mark
+absent-ready f s d k none = λ i t e j. by t e j (node_eq t s) refl (node_eq e d) refl (j == k) refl i
   where
-    by : (t e : Node) (j : ℕ) (p : Bool) → node_eq t s ≡ p → (q : Bool) → node_eq e d ≡ q
-        → is_marked (get_or (lane f t e) j None) ≡ (if p && (q && j == k) then false else is_marked (get_or (lane f t e) j None))
-    by t e j true x true y = both (j == k) (ap (λ m. is_marked (get_or m j None)) (same-link f s d t e (λ i. x i && y i) none))
-      where
-        both : (b : Bool) → is_marked (get_or (lane f t e) j None) ≡ false
-            → is_marked (get_or (lane f t e) j None) ≡ (if b then false else is_marked (get_or (lane f t e) j None))
-        both true z = z
-        both false z = refl
-    by t e j true x false y = refl
-    by t e j false x q y = refl
-
--- marked
-some-held : (o : Option Held) → IsSome (message o) → IsSome o
-unfolding message
-some-held None h = h
-some-held (Some x) h = refl
-
-pub flies-held : (f : Flights) (s d : Node) (k : ℕ) (l : Lane) → l ≡ lane f s d → IsSome (in_flight (net_of f) s d k)
-    → IsSome (get_or l k None)
-flies-held f s d k l e h =
-    some-held (get_or l k None) (subst (λ o. IsSome o) (in-flight f s d k ∙ ap (λ m. message (get_or m k None)) (sym e)) h)
+    by : (t e : Node) (j : ℕ) (p : Bool) → node_eq t s ≡ p → (q : Bool) → node_eq e d ≡ q → (r : Bool) → (j == k) ≡ r
+        → is_ready f t e j ≡ (if p && (q && r) then false else is_ready f t e j)
+    by t e j true x true y true z =
+        (λ i. is_ready f (node_eq-eq t s x i) (node_eq-eq e d y i) (eqb-true j k z i)) ∙ absent-unready f s d k none
+    by t e j true x true y false z = refl
+    by t e j true x false y r z = refl
+    by t e j false x q y r z = refl
 
 pub place-lane : (cs ds : ℕ) (ls : List Lane) (s d : Node) (i : ℕ) → place cs ds s d ≡ Some i
     → lane (with_lanes cs ds ls) s d ≡ get_or ls i []
@@ -140,10 +155,6 @@ place-lane cs ds ls s d i at = ap (lane_at ls) at
 pub place-no_lane : (cs ds : ℕ) (ls : List Lane) (s d : Node) → place cs ds s d ≡ None → lane (with_lanes cs ds ls) s d ≡ []
 unfolding lane
 place-no_lane cs ds ls s d at = ap (lane_at ls) at
-
-is : (o : Option Held) → IsSome o → (h : Held) × (o ≡ Some h)
-is None e = absurd (false≢true e)
-is (Some h) e = (h, refl)
 
 -- by its mark before
 mark-counts : (l : Lane) (k : ℕ) (b : Bool) → IsSome (get_or l k None)

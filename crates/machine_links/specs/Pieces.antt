@@ -1,7 +1,6 @@
 -- The messages of a link in pieces, and what a call on a piece does to the list of all.
 use Rattle.std.specs.Prelude.{◌≡◌, ℕ, ◌<◌, Bool, List, [], ◌∷◌, ◌++◌, length, slice_index_or, slice_set}
 use Rattle.std.specs.List.{remove, count_by}
-use Rattle.machine_links.specs.declared.lane.Held.{Held}
 use Rattle.machine_links.specs.declared.lane.Waiting.{Waiting}
 use Rattle.machine_links.specs.Laid.{Rises}
 
@@ -28,12 +27,12 @@ pub record IsRest (xs : List (List Waiting)) (n : ℕ) : Type 0 where
   pub counted : n ≡ length (flat xs)
   pub full : AreFull xs
 
--- the message of that number was taken out
-pub record Taken (old new : List Waiting) (k : ℕ) (h : Held) : Type 0 where
+-- the message of that number, which had the mark m, was taken out
+pub record Taken (old new : List Waiting) (k : ℕ) (m : Bool) : Type 0 where
   pub at : ℕ
   pub within : at < length old
   pub own : (d : Waiting) → (slice_index_or old at d).seq ≡ k
-  pub held : (d : Waiting) → (slice_index_or old at d).held ≡ h
+  pub was : (d : Waiting) → (slice_index_or old at d).held.ready ≡ m
   pub left : new ≡ remove old at
 
 -- the message of that number had the mark m, and has the mark b

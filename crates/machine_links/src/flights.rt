@@ -22,12 +22,12 @@ use tcc_msg::{Msg, Name};
 /// each directory and to the vendor, and from each of these to each core. In a clause `net_of` makes of it the links of the rules, and
 /// `is_ready` the marks; only a message in flight is ever marked.
 ///
-/// Messages are not copied. On a link they stand in stretches of at most 256, none of them empty but the first. A call that names one
-/// finds its stretch by halves, and it in there, so with n messages in flight on a link it takes time in log n; `take` also moves
-/// those behind it in its stretch, and where that is empty then, the stretches behind that. A call that asks for the i-th of a link
-/// passes over the stretches before it: that takes time in n / 256, and more only where most messages of its stretches were taken and
-/// not the last ones. A change of a mark takes constant time once it is found, and `ready_at` goes with the number of links divided by
-/// 256, and through one link. Only `new` and `push` take memory.
+/// Only `take` copies a message. On a link they stand in stretches of at most 256, none of them empty but the first. A call that names one
+/// finds its stretch by halves, and it in there, so with n messages in flight on a link it takes time in log n; `take` and `discard`
+/// also move those behind it in its stretch, and where that is empty then, the stretches behind that. A call that asks for the i-th of
+/// a link passes over the stretches before it: that takes time in n / 256, and more only where most messages of its stretches were
+/// taken and not the last ones. A change of a mark takes constant time once it is found, and `ready_at` goes with the number of links
+/// divided by 256, and through one link. Only `new` and `push` take memory.
 #[derive(Debug, Drop)]
 pub struct InFlight {
     grid: Grid,
@@ -113,11 +113,21 @@ impl InFlight {
         self.flying == 0
     }
 
+    /// The message of that name with its mark; `None` exactly where it isn't in flight.
+    pub fn held(&self, name: Name) -> Option<&Held>
+        ensures message { option_map (λ h. msg_of h.now.msg) result
+            ≡ in_flight (net_of self.now) (node_of name.src) (node_of name.dst) name.seq }
+        ensures mark { IfSome result (λ h. h.now.ready ≡ is_ready self.now (node_of name.src) (node_of name.dst) name.seq) }
+    {
+        let held = self.lane(name.src, name.dst)?.get(name.seq)?;
+        Some(held)
+    }
+
     /// The message of that name; `None` exactly where it isn't in flight.
     pub fn get(&self, name: Name) -> Option<&Msg>
         ensures { option_map (λ m. msg_of m.now) result ≡ in_flight (net_of self.now) (node_of name.src) (node_of name.dst) name.seq }
     {
-        let held = self.lane(name.src, name.dst)?.get(name.seq)?;
+        let held = self.held(name)?;
         Some(&held.msg)
     }
 
@@ -125,11 +135,8 @@ impl InFlight {
     pub fn is_ready(&self, name: Name) -> bool
         ensures { result ≡ is_ready self.now (node_of name.src) (node_of name.dst) name.seq }
     {
-        match self.lane(name.src, name.dst) {
-            Some(lane) => match lane.get(name.seq) {
-                Some(held) => held.ready,
-                None => false,
-            },
+        match self.held(name) {
+            Some(held) => held.ready,
             None => false,
         }
     }
@@ -174,13 +181,25 @@ impl InFlight {
         ensures ready { is_ready self.new ≡ with_mark (is_ready self.old) (node_of name.src) (node_of name.dst) name.seq false }
         ensures unchanged { IfNone result (self.new ≡ self.old) }
     {
-        let at = self.grid.place(name.src, name.dst)?;
-        let held = self.lanes[at].take(name.seq)?;
+        let msg = *self.get(name)?;
+        self.discard(name, &msg);
+        Some(msg)
+    }
+
+    /// Takes the message of that name out, which is this one.
+    pub fn discard(&mut self, name: Name, msg: &Msg)
+        requires { in_flight (net_of self.old) (node_of name.src) (node_of name.dst) name.seq ≡ Some (msg_of msg.now) }
+        ensures cores { self.new.cores ≡ self.old.cores }
+        ensures dirs { self.new.dirs ≡ self.old.dirs }
+        ensures net { net_of self.new ≡ taking (net_of self.old) (node_of name.src) (node_of name.dst) name.seq }
+        ensures ready { is_ready self.new ≡ with_mark (is_ready self.old) (node_of name.src) (node_of name.dst) name.seq false }
+    {
+        let at = self.grid.link(name.src, name.dst);
+        let was = self.lanes[at].discard(name.seq);
         self.index
-            .unlist(entry_of(name.src, name.dst, name.seq, &held.msg));
+            .unlist(entry_of(name.src, name.dst, name.seq, msg));
         self.flying -= 1;
-        count_mark(&mut self.ready, at, held.ready, false);
-        Some(held.msg)
+        count_mark(&mut self.ready, at, was, false);
     }
 
     /// How many messages are in flight on a link. It takes constant time.

@@ -100,13 +100,28 @@ impl Lane {
         get(&self.front, &self.rest, seq)
     }
 
-    /// Takes the message of that number out; `None` exactly where it isn't in flight, and then nothing is changed. It
-    /// is found as by `get`; the messages behind it in its stretch are moved, and where none is left there, the stretches behind that.
+    /// Takes the message of that number out; `None` exactly where it isn't in flight, and then nothing is changed. It takes the time of
+    /// `discard`.
     pub fn take(&mut self, seq: u64) -> Option<Held>
         ensures given { result ≡ slice_index_or self.old seq None }
         ensures taken { self.new ≡ slice_set self.old seq None }
     {
-        take(&mut self.front, &mut self.rest, seq)
+        let held = *self.get(seq)?;
+        self.discard(seq);
+        Some(held)
+    }
+
+    /// Takes the message of that number out, and says whether it was marked. It is found as by `get`; the messages behind it in its
+    /// stretch are moved, and where none is left there, the stretches behind that.
+    pub fn discard(&mut self, seq: u64) -> bool
+        requires { IsSome (slice_index_or self.old seq None) }
+        ensures was { result ≡ is_marked (slice_index_or self.old seq None) }
+        ensures taken { self.new ≡ slice_set self.old seq None }
+    {
+        match discard(&mut self.front, &mut self.rest, seq) {
+            Some(was) => was,
+            None => unreachable!(),
+        }
     }
 
     /// Marks the message of that number, or takes its mark, and says whether it was marked. It is found as by `get`.
@@ -177,19 +192,19 @@ fn get<'a>(front: &'a Stretch, rest: &'a Rest, seq: u64) -> Option<&'a Held>
     }
 }
 
-// Takes the message of that number out.
-fn take(front: &mut Stretch, rest: &mut Rest, seq: u64) -> Option<Held>
+// Takes the message of that number out, and says whether it was marked.
+fn discard(front: &mut Stretch, rest: &mut Rest, seq: u64) -> Option<bool>
     requires { AreRising (front.old ++ rest.old) }
-    ensures some { IfSome result (λ h. Taken (front.old ++ rest.old) (front.new ++ rest.new) seq h) }
+    ensures some { IfSome result (λ was. Taken (front.old ++ rest.old) (front.new ++ rest.new) seq was) }
     ensures none { IfNone result (held_at (front.old ++ rest.old) seq ≡ None) }
     ensures unchanged { IfNone result (front.new ++ rest.new ≡ front.old ++ rest.old) }
 {
-    match front.take(seq) {
-        Some(held) => {
+    match front.discard(seq) {
+        Some(was) => {
             refill(front, rest);
-            Some(held)
+            Some(was)
         }
-        None => rest.take(seq),
+        None => rest.discard(seq),
     }
 }
 

@@ -85,17 +85,17 @@ impl Rest {
         get_in(&self.pieces, seq)
     }
 
-    /// Takes the message of that number out; `None` where there is none, and then nothing is changed.
-    pub(crate) fn take(&mut self, seq: u64) -> Option<Held>
+    /// Takes the message of that number out, and says whether it was marked; `None` where there is none, and then nothing is changed.
+    pub(crate) fn discard(&mut self, seq: u64) -> Option<bool>
         requires { AreRising self.old }
-        ensures some { IfSome result (λ h. Taken self.old self.new seq h) }
+        ensures some { IfSome result (λ was. Taken self.old self.new seq was) }
         ensures none { IfNone result (held_at self.old seq ≡ None) }
         ensures unchanged { IfNone result (self.new ≡ self.old) }
     {
-        match take_from(&mut self.pieces, seq) {
-            Some(held) => {
+        match discard_from(&mut self.pieces, seq) {
+            Some(was) => {
                 self.count -= 1;
-                Some(held)
+                Some(was)
             }
             None => None,
         }
@@ -183,10 +183,10 @@ fn get_in(pieces: &[Stretch], seq: u64) -> Option<&Held>
     }
 }
 
-fn take_from(pieces: &mut Vec<Stretch>, seq: u64) -> Option<Held>
+fn discard_from(pieces: &mut Vec<Stretch>, seq: u64) -> Option<bool>
     requires rising { AreRising (flat pieces.old.items) }
     requires full { AreFull pieces.old.items }
-    ensures some { IfSome result (λ h. Taken (flat pieces.old.items) (flat pieces.new.items) seq h) }
+    ensures some { IfSome result (λ was. Taken (flat pieces.old.items) (flat pieces.new.items) seq was) }
     ensures none { IfNone result (held_at (flat pieces.old.items) seq ≡ None) }
     ensures unchanged { IfNone result (flat pieces.new.items ≡ flat pieces.old.items) }
     ensures full { AreFull pieces.new.items }
@@ -195,9 +195,9 @@ fn take_from(pieces: &mut Vec<Stretch>, seq: u64) -> Option<Held>
     if at >= pieces.len() {
         return None;
     }
-    let held = pieces[at].take(seq)?;
+    let marked = pieces[at].discard(seq)?;
     drop_empty(pieces, at);
-    Some(held)
+    Some(marked)
 }
 
 // Drops this stretch, where it is empty.

@@ -1,7 +1,7 @@
 // A few messages of a link that follow each other, with the number of those that are marked.
 ghost use Rattle.std.specs.Prelude.{◌≡◌, ◌+◌, ◌-◌, ◌^◌, ◌<◌, ◌≤◌, [], ◌∷◌, ◌++◌, length, map, false, IsTrue, slice_index_or, slice_set};
 ghost use Rattle.std.specs.Prelude.{slice_get, Option, Some, None, OnOk, OnErr, IfOk, IfSome, IfNone, option_copied};
-ghost use Rattle.std.specs.List.{count_by, filter};
+ghost use Rattle.std.specs.List.{count_by, filter, remove};
 ghost use Rattle.std.specs.List.Sorted.{IsNonDecreasingBy};
 ghost use Rattle.rules_maps.specs.Words.{num};
 ghost use Rattle.machine_links.specs.Laid.{held_at};
@@ -96,17 +96,18 @@ impl Stretch {
         Some(&self.waiting[at].held)
     }
 
-    /// Takes the message of that number out; `None` where there is none, and then nothing is changed.
-    pub(crate) fn take(&mut self, seq: u64) -> Option<Held>
+    /// Takes the message of that number out, and says whether it was marked; `None` where there is none, and then nothing is changed.
+    pub(crate) fn discard(&mut self, seq: u64) -> Option<bool>
         requires { AreRising self.old }
-        ensures some { IfSome result (λ h. Taken self.old self.new seq h) }
+        ensures some { IfSome result (λ was. Taken self.old self.new seq was) }
         ensures none { IfNone result (held_at self.old seq ≡ None) }
         ensures unchanged { IfNone result (self.new ≡ self.old) }
     {
         let at = find(&self.waiting, seq)?;
-        let waiting = self.waiting.remove(at);
-        recount(&mut self.marked, waiting.held.ready, false);
-        Some(waiting.held)
+        let was = self.waiting[at].held.ready;
+        discard_at(&mut self.waiting, at);
+        recount(&mut self.marked, was, false);
+        Some(was)
     }
 
     /// Marks the message of that number, or takes its mark, and says whether it was marked; `None` where there is none.
@@ -181,6 +182,18 @@ fn search(waiting: &[Waiting], seq: u64) -> Option<usize>
     ensures absent { IfNone result (held_at waiting.now seq ≡ None) }
 {
     waiting.binary_search_by_key(&seq, |w| w.seq).ok()
+}
+
+// Takes the message at that place out. Most are the last of their stretch, and then none is moved.
+fn discard_at(waiting: &mut Vec<Waiting>, at: usize)
+    requires { at < length waiting.old.items }
+    ensures { waiting.new.items ≡ remove waiting.old.items at }
+{
+    if at + 1 == waiting.len() {
+        waiting.pop();
+    } else {
+        waiting.remove(at);
+    }
 }
 
 // Gives the message at that place this mark, and tells the one that it had.
