@@ -99,7 +99,7 @@ impl System {
         match self.cores.deliver(core, name.src, &msg, &mut self.out) {
             Err(error) => Err(refusal(error)),
             Ok(()) => {
-                self.flights.take(name);
+                self.flights.discard(name, &msg);
                 self.sender = NodeId::Core(core);
                 self.placed = 0;
                 self.events += 1;

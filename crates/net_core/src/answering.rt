@@ -13,12 +13,13 @@ use crate::looking::{look_again, looks};
 use crate::system::System;
 use crate::taking::{Step, StepError};
 use directory::Handled;
-use machine_links::InFlight;
+use machine_links::{Held, InFlight};
 use tcc_base::{CoreId, DirId, NodeId};
 use tcc_msg::{Msg, Name};
 
 /// Takes a message out, where its directory has consumed it.
-fn take_handled(flights: &mut InFlight, name: Name, handled: Handled)
+fn take_handled(flights: &mut InFlight, name: Name, msg: &Msg, handled: Handled)
+    requires { in_flight (net_of flights.old) (node_of name.src) (node_of name.dst) name.seq ≡ Some (msg_of msg.now) }
     ensures cores { flights.new.cores ≡ flights.old.cores }
     ensures dirs { flights.new.dirs ≡ flights.old.dirs }
     ensures net { net_of flights.new
@@ -28,7 +29,7 @@ fn take_handled(flights: &mut InFlight, name: Name, handled: Handled)
 {
     match handled {
         Handled::Handled | Handled::Dropped => {
-            flights.take(name);
+            flights.discard(name, msg);
         }
         Handled::Waits | Handled::Asked => {}
     }
@@ -41,42 +42,43 @@ impl System {
         requires settled { self.old.unsent ≡ [] }
         ensures { Answers self.old self.new (Deliver (node_of name.src) (node_of name.dst) name.seq) result }
     {
-        let Some(&msg) = self.flights.get(name) else {
+        let Some(&held) = self.flights.held(name) else {
             return Err(StepError::Refused);
         };
         match (name.src, name.dst) {
-            (_, NodeId::Core(core)) => self.deliver_to_core(core, name, msg),
-            (NodeId::Core(core), NodeId::Dir(dir)) => self.deliver_to_dir(core, dir, name, msg),
-            (NodeId::Core(core), NodeId::Vendor) => self.grant(core, name, msg),
+            (_, NodeId::Core(core)) => self.deliver_to_core(core, name, held.msg),
+            (NodeId::Core(core), NodeId::Dir(dir)) => self.deliver_to_dir(core, dir, name, held),
+            (NodeId::Core(core), NodeId::Vendor) => self.grant(core, name, held.msg),
             _ => Err(StepError::Refused),
         }
     }
 
-    /// A directory takes a message that is in flight to it, or asks for what it needs to take it.
+    /// A directory takes a message that is in flight to it, or asks for what it needs to take it. The mark says whether it does.
     fn deliver_to_dir(
         &mut self,
         core: CoreId,
         dir: DirId,
         name: Name,
-        msg: Msg,
+        held: Held,
     ) -> Result<Step, StepError>
         requires few { self.old.events < run_limit }
         requires settled { self.old.unsent ≡ [] }
         requires source { name.src ≡ NodeId.Core core }
         requires destination { name.dst ≡ NodeId.Dir dir }
-        requires flies { in_flight (net_of self.old.flights) (Core core.0) (Dir dir.0) name.seq ≡ Some (msg_of msg) }
+        requires flies { in_flight (net_of self.old.flights) (Core core.0) (Dir dir.0) name.seq ≡ Some (msg_of held.msg) }
+        requires mark { held.ready ≡ is_ready self.old.flights (Core core.0) (Dir dir.0) name.seq }
         ensures { Answers self.old self.new (Deliver (Core core.0) (Dir dir.0) name.seq) result }
     {
-        if !self.dirs.takes(dir, core, &msg) {
+        let before = self.dirs.serving(dir);
+        if !held.ready {
             return Err(StepError::Refused);
         }
         self.out.clear();
-        let before = self.dirs.serving(dir);
-        match self.dirs.deliver(dir, core, &msg, &mut self.out) {
+        match self.dirs.deliver(dir, core, &held.msg, &mut self.out) {
             Err(_) => Err(StepError::Memory),
             Ok(handled) => {
-                take_handled(&mut self.flights, name, handled);
-                let look = looks(&msg, handled, before, self.dirs.serving(dir));
+                take_handled(&mut self.flights, name, &held.msg, handled);
+                let look = looks(&held.msg, handled, before, self.dirs.serving(dir));
                 look_again(&mut self.flights, &self.dirs, dir, look);
                 self.sender = NodeId::Dir(dir);
                 self.placed = 0;
@@ -101,7 +103,7 @@ impl System {
         }
         let tid = self.vendor.grant();
         self.out.hand_out(NodeId::Core(core), Msg::TidGrant { tid });
-        self.flights.take(name);
+        self.flights.discard(name, &msg);
         self.sender = NodeId::Vendor;
         self.placed = 0;
         self.events += 1;

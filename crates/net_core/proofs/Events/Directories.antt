@@ -114,6 +114,15 @@ is-taken m c d k x w settled e =
     let b = (comes m c d k x w settled e).belongs in
     rw b (ap (λ s. is_taken (dir_deliver s (rule_dirs m d) c x)) w.dirs)
 
+-- and so says its mark; the same machine may be held by another name
+pub is-marked : (m s : Machine) (c d k : ℕ) (x : Msg) → m ≡ s → IsWhole m → s.unsent ≡ []
+    → in_flight (net_of s.flights) (Core c) (Dir d) k ≡ Some x → is_ready s.flights (Core c) (Dir d) k ≡ says_taken m c d x
+unfolding AreMarked
+is-marked m s c d k x e w settled fly =
+    let u = ap (λ y. y.unsent) e ∙ settled in
+    let f = ap (λ y. in_flight (net_of y.flights) (Core c) (Dir d) k) e ∙ fly in
+    ap (λ y. is_ready y.flights (Core c) (Dir d) k) (sym e) ∙ w.marked (Core c) (Dir d) k x f ∙ sym (is-taken m c d k x w u f)
+
 pub refused : (m : Machine) (c d k : ℕ) (x : Msg) → IsWhole m → m.unsent ≡ [] → in_flight (net_of m.flights) (Core c) (Dir d) k ≡ Some x
     → says_taken m c d x ≡ false → step_of m (Deliver (Core c) (Dir d) k) ≡ None
 refused m c d k x w settled e t = dir-step m c d k x w settled e

@@ -11,6 +11,6 @@ pub returns-in-Handled-clause-marks : goal.returns-in-Handled-clause-marks
 returns-in-Handled-clause-marks c = λ s d k m fly.
     let f = c.args.flights.now in
     let still = still-flies (net_of f) (node_of c.args.name.src) (node_of c.args.name.dst) c.args.name.seq s d k m
-    (subst (λ net. in_flight net s d k ≡ Some m) c.take.ensures.net fly) in
-    (λ i. c.take.ensures.ready i s d k)
+    (subst (λ net. in_flight net s d k ≡ Some m) c.discard.ensures.net fly) in
+    (λ i. c.discard.ensures.ready i s d k)
     ∙ with_mark-other (is_ready f) (node_of c.args.name.src) (node_of c.args.name.dst) c.args.name.seq false s d k still.apart

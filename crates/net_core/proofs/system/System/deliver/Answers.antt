@@ -13,18 +13,20 @@ returns-in_default c = (
   record { history = refl; events = refl; code = refl },
   subst (λ x. step_of x (Deliver (node_of c.args.name.src) (node_of c.args.name.dst) c.args.name.seq) ≡ None) c.self.view_is
       (absent (machine_of c.self.inside) (node_of c.args.name.src) (node_of c.args.name.dst) c.args.name.seq
-      (ap (λ x. x.unsent) c.self.view_is ∙ c.requires.settled) (sym c.in_default.ensures)),
+      (ap (λ x. x.unsent) c.self.view_is ∙ c.requires.settled) (sym c.in_default.ensures.message)),
 )
 
 -- it can't be in flight
 pub returns-in_default-2 : goal.returns-in_default-2
 returns-in_default-2 c = absurd (
     has-core (machine_of c.self.inside) c.args.name.src c.args.name.dst c.args.name.seq _ c.self.invariant
-    (ap (λ x. x.unsent) c.self.view_is ∙ c.requires.settled) c.in_default-2.not-Core-0 c.in_default-2.not-Core-1 (sym c.in-Some.ensures)
+    (ap (λ x. x.unsent) c.self.view_is ∙ c.requires.settled) c.in_default-2.not-Core-0 c.in_default-2.not-Core-1
+    (sym c.in-Some.ensures.message)
     )
 
 pub returns-in_default-2-2 : goal.returns-in_default-2-2
 returns-in_default-2-2 c = absurd (
     has-core (machine_of c.self.inside) c.args.name.src c.args.name.dst c.args.name.seq _ c.self.invariant
-    (ap (λ x. x.unsent) c.self.view_is ∙ c.requires.settled) c.in_default-2.not-Core-0 c.in_default-2.not-Core-1 (sym c.in-Some.ensures)
+    (ap (λ x. x.unsent) c.self.view_is ∙ c.requires.settled) c.in_default-2.not-Core-0 c.in_default-2.not-Core-1
+    (sym c.in-Some.ensures.message)
     )

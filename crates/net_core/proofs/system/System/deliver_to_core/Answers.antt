@@ -97,8 +97,14 @@ returns-in-Err c =
 
 -- ---- the message is taken
 
+pub discard-requires : goal.discard-requires
+discard-requires c =
+    (λ i. in_flight (net_of c.self.inside.flights) (node_of c.args.name.src) (node_of (c.requires.destination i)) c.args.name.seq)
+    ∙ ap (λ x. in_flight (net_of x.flights) (node_of c.args.name.src) (Core c.args.core.0) c.args.name.seq) c.self.view_is
+    ∙ c.requires.flies
+
 acts : (c : goal.After-self-in-Ok-2-1) → ActsFrom (machine_of c.self.inside)
-    (after_core c.self.inside c.deliver.new.self c.deliver.new.out c.take.new.self c.args.core)
+    (after_core c.self.inside c.deliver.new.self c.deliver.new.out c.discard.new.self c.args.core)
     c.args.core.0 c.clear.new.self c.deliver.new.out
 acts c = record {
   code = c.in-Ok.ensures.code;
@@ -114,16 +120,17 @@ acts c = record {
 
 -- the link that the message came on
 link : (c : goal.After-self-in-Ok-2-1)
-    → net_of c.take.new.self ≡ taking (net_of c.self.inside.flights) (node_of c.args.name.src) (Core c.args.core.0) c.args.name.seq
-link c = subst (λ d. net_of c.take.new.self ≡ taking (net_of c.self.inside.flights) (node_of c.args.name.src) (node_of d) c.args.name.seq)
-    c.requires.destination c.take.ensures.net
+    → net_of c.discard.new.self ≡ taking (net_of c.self.inside.flights) (node_of c.args.name.src) (Core c.args.core.0) c.args.name.seq
+link c =
+    subst (λ d. net_of c.discard.new.self ≡ taking (net_of c.self.inside.flights) (node_of c.args.name.src) (node_of d) c.args.name.seq)
+    c.requires.destination c.discard.ensures.net
 
 took : (c : goal.After-self-in-Ok-2-1) → Took (machine_of c.self.inside)
-    (after_core c.self.inside c.deliver.new.self c.deliver.new.out c.take.new.self c.args.core)
+    (after_core c.self.inside c.deliver.new.self c.deliver.new.out c.discard.new.self c.args.core)
     (event c.args.name.src c.args.core c.args.name.seq) Moved
 took c =
     let m = machine_of c.self.inside in
-    let n = after_core c.self.inside c.deliver.new.self c.deliver.new.out c.take.new.self c.args.core in
+    let n = after_core c.self.inside c.deliver.new.self c.deliver.new.out c.discard.new.self c.args.core in
     took-take m n (event c.args.name.src c.args.core c.args.name.seq) (node_of c.args.name.src) c.args.core.0 c.args.name.seq
     c.clear.new.self c.deliver.new.out Moved (rule m c.args.name.src c.args.core c.args.msg) (acts c) c.in-Ok.ensures.does (link c)
     (stepped m c.args.self.now c.args.name.src c.args.core c.args.name.seq c.args.msg c.self.invariant c.self.view_is
@@ -134,18 +141,18 @@ took c =
 pub invariant_of-self-in-Ok : goal.invariant_of-self-in-Ok
 invariant_of-self-in-Ok c =
     let m = machine_of c.self.inside in
-    let n = after_core c.self.inside c.deliver.new.self c.deliver.new.out c.take.new.self c.args.core in
+    let n = after_core c.self.inside c.deliver.new.self c.deliver.new.out c.discard.new.self c.args.core in
     took-whole m n (event c.args.name.src c.args.core c.args.name.seq) Moved c.self.invariant
-    (subst (λ m. m.events < run_limit) (sym c.self.view_is) c.requires.few) (took c) refl c.take.ensures.cores c.take.ensures.dirs
-    (subst (λ ds. AreMarked (settings_of m) ds c.take.new.self) (sym (same-dirs m n c.in-Ok.ensures.code refl))
-    (marks-taken (settings_of m) (dirs_of (first_ram (start_of m)) m.dirs) c.self.inside.flights c.take.new.self
+    (subst (λ m. m.events < run_limit) (sym c.self.view_is) c.requires.few) (took c) refl c.discard.ensures.cores c.discard.ensures.dirs
+    (subst (λ ds. AreMarked (settings_of m) ds c.discard.new.self) (sym (same-dirs m n c.in-Ok.ensures.code refl))
+    (marks-taken (settings_of m) (dirs_of (first_ram (start_of m)) m.dirs) c.self.inside.flights c.discard.new.self
     (node_of c.args.name.src) (Core c.args.core.0)
     c.args.name.seq (link c)
-    (subst (λ d. is_ready c.take.new.self ≡ with_mark (is_ready c.self.inside.flights) (node_of c.args.name.src)
+    (subst (λ d. is_ready c.discard.new.self ≡ with_mark (is_ready c.self.inside.flights) (node_of c.args.name.src)
     (node_of d) c.args.name.seq false)
-    c.requires.destination c.take.ensures.ready) c.self.invariant.marked))
+    c.requires.destination c.discard.ensures.ready) c.self.invariant.marked))
 
 pub returns-in-Ok : goal.returns-in-Ok
 returns-in-Ok c =
-    let n = after_core c.self.inside c.deliver.new.self c.deliver.new.out c.take.new.self c.args.core in
+    let n = after_core c.self.inside c.deliver.new.self c.deliver.new.out c.discard.new.self c.args.core in
     subst (λ x. Took x n (event c.args.name.src c.args.core c.args.name.seq) Moved) c.self.view_is (took c)

@@ -23,17 +23,11 @@ use Rattle.net_core.specs.declared.taking.Step.TheVariants.{Moved}
 use Rattle.net_core.proofs.Reaching.{nothing-left}
 use Rattle.net_core.proofs.Events.Kept.{StaysBut, stays-kept, stays-whole}
 use Rattle.net_core.proofs.Events.Directories.{ActsAt, acts-took, acts-whole, belongs-there, comes-at, enabled, now_at, refused, rule_dirs}
-use Rattle.net_core.proofs.Events.Directories.{says_taken, small-at}
+use Rattle.net_core.proofs.Events.Directories.{is-marked, says_taken, small-at}
 use Rattle.net_core.proofs.Events.Quiet.{quiet-after, taken-unseen}
 use Rattle.net_core.proofs.system.System.deliver_to_dir.Goals as goal
 
 -- ---- what is in flight belongs there
-
-pub takes-requires-clause-exists : goal.takes-requires-clause-exists
-takes-requires-clause-exists c = (comes-at _ _ _ _ _ _ c.self.view_is c.self.invariant c.requires.settled c.requires.flies).dir
-
-pub takes-requires-clause-core : goal.takes-requires-clause-core
-takes-requires-clause-core c = (comes-at _ _ _ _ _ _ c.self.view_is c.self.invariant c.requires.settled c.requires.flies).core
 
 pub serving-before-requires : goal.serving-before-requires
 serving-before-requires c = record {
@@ -51,16 +45,17 @@ deliver-requires-clause-tids c = small-at _ _ _ _ _ _ c.self.view_is c.self.inva
 
 -- ---- a refusal
 
-pub returns-then-not-takes : goal.returns-then-not-takes
-returns-then-not-takes c =
+pub returns-then-not-held : goal.returns-then-not-held
+returns-then-not-held c =
     let m = machine_of c.self.inside in
     let settled = ap (λ x. x.unsent) c.self.view_is ∙ c.requires.settled in
     let flies = ap (λ x. in_flight (net_of x.flights) (Core c.args.core.0) (Dir c.args.dir.0) c.args.name.seq) c.self.view_is
     ∙ c.requires.flies in (
       record { history = refl; events = refl; code = refl },
       subst (λ x. step_of x (Deliver (Core c.args.core.0) (Dir c.args.dir.0) c.args.name.seq) ≡ None) c.self.view_is
-          (refused m c.args.core.0 c.args.dir.0 c.args.name.seq (msg_of c.args.msg) c.self.invariant settled flies
-          (sym (c.takes.ensures (first_ram (start_of m))) ∙ c.if-not-takes.true)),
+          (refused m c.args.core.0 c.args.dir.0 c.args.name.seq (msg_of c.args.held.msg) c.self.invariant settled flies
+          (sym (c.requires.mark ∙ is-marked _ _ _ _ _ _ c.self.view_is c.self.invariant c.requires.settled c.requires.flies)
+          ∙ c.if-not-held.true)),
     )
 
 -- ---- no memory
@@ -93,8 +88,9 @@ returns-in-Err c =
     ∙ c.requires.flies in
     subst (λ x. Kept x n × (step_of x e ≢ None)) c.self.view_is (
       stays-kept m n (stays c),
-      enabled m c.args.core.0 c.args.dir.0 c.args.name.seq (msg_of c.args.msg) c.self.invariant settled flies
-          (sym (c.takes.ensures (first_ram (start_of m))) ∙ c.if-not-takes.false),
+      enabled m c.args.core.0 c.args.dir.0 c.args.name.seq (msg_of c.args.held.msg) c.self.invariant settled flies
+          (sym (c.requires.mark ∙ is-marked _ _ _ _ _ _ c.self.view_is c.self.invariant c.requires.settled c.requires.flies)
+          ∙ c.if-not-held.false),
     )
 
 -- ---- the event
@@ -104,6 +100,11 @@ serving-requires c = record {
   exists = subst (λ s. c.args.dir.0 < s.dirs) (sym c.in-Ok.ensures.settings)
       (comes-at _ _ _ _ _ _ c.self.view_is c.self.invariant c.requires.settled c.requires.flies).dir;
 }
+
+pub take_handled-requires : goal.take_handled-requires
+take_handled-requires c =
+    (λ i. in_flight (net_of c.self.inside.flights) (node_of (c.requires.source i)) (node_of (c.requires.destination i)) c.args.name.seq)
+    ∙ ap (λ x. in_flight (net_of x.flights) (Core c.args.core.0) (Dir c.args.dir.0) c.args.name.seq) c.self.view_is ∙ c.requires.flies
 
 pub look_again-requires-clause-exists : goal.look_again-requires-clause-exists
 look_again-requires-clause-exists c =
@@ -142,9 +143,9 @@ unseen c b y f =
     let ram = first_ram (start_of m) in
     let did = c.in-Ok.ensures.does in
     let look = c.looks-look.ensures
-    ∙ (λ i. looks c.in-Ok.handled (msg_of c.args.msg) (c.serving-before.ensures ram i) (c.serving.ensures ram i)) in
-    let same = quiet-after m.dirs.settings (rule_dirs m c.args.dir.0) (now_at m (after c) c.args.dir.0) c.args.core.0 (msg_of c.args.msg)
-    c.in-Ok.handled (sends_of did.sent) (did.answer ram) (λ q. λ i. (did.still q).0 ram i c.args.dir.0) in
+    ∙ (λ i. looks c.in-Ok.handled (msg_of c.args.held.msg) (c.serving-before.ensures ram i) (c.serving.ensures ram i)) in
+    let same = quiet-after m.dirs.settings (rule_dirs m c.args.dir.0) (now_at m (after c) c.args.dir.0) c.args.core.0
+    (msg_of c.args.held.msg) c.in-Ok.handled (sends_of did.sent) (did.answer ram) (λ q. λ i. (did.still q).0 ram i c.args.dir.0) in
     taken-unseen _ m.dirs.settings (rule_dirs m c.args.dir.0) (now_at m (after c) c.args.dir.0) b c.args.dir.0 y same
     (ap (λ l. is_seen l c.args.dir.0 y) (sym look) ∙ f)
 
@@ -169,7 +170,7 @@ here c b i y fly was =
     (cases_Bool (is_seen (look_of c.looks-look.result) d y))
 
 acts : (c : goal.After-self-in-Ok-2-1)
-    → ActsAt (machine_of c.self.inside) (after c) c.args.core.0 c.args.dir.0 c.args.name.seq (msg_of c.args.msg) c.in-Ok.handled
+    → ActsAt (machine_of c.self.inside) (after c) c.args.core.0 c.args.dir.0 c.args.name.seq (msg_of c.args.held.msg) c.in-Ok.handled
 acts c =
     let m = machine_of c.self.inside in
     let net = net_of c.self.inside.flights in
@@ -181,7 +182,7 @@ acts c =
       sender = refl;
       last = refl;
       acted = subst (λ xs. Acted c.args.dir.0 m.dirs c.deliver.new.self xs c.deliver.new.out.list.items c.in-Ok.handled
-          (λ s. dir_deliver m.dirs.settings s c.args.core.0 (msg_of c.args.msg))) c.clear.ensures c.in-Ok.ensures.does;
+          (λ s. dir_deliver m.dirs.settings s c.args.core.0 (msg_of c.args.held.msg))) c.clear.ensures c.in-Ok.ensures.does;
       net = c.look_again.ensures.net ∙ c.take_handled.ensures.net
           ∙ (λ j. if is_consumed c.in-Ok.handled
           then taking net (node_of (c.requires.source j)) (node_of (c.requires.destination j)) c.args.name.seq else net);
@@ -194,21 +195,24 @@ acts c =
       events = refl;
     }
 
-takes-it : (c : goal.After-self-in-Ok-2-1) → says_taken (machine_of c.self.inside) c.args.core.0 c.args.dir.0 (msg_of c.args.msg) ≡ true
-takes-it c = sym (c.takes.ensures (first_ram (start_of (machine_of c.self.inside)))) ∙ c.if-not-takes.false
+takes-it : (c : goal.After-self-in-Ok-2-1)
+    → says_taken (machine_of c.self.inside) c.args.core.0 c.args.dir.0 (msg_of c.args.held.msg) ≡ true
+takes-it c =
+    sym (c.requires.mark ∙ is-marked _ _ _ _ _ _ c.self.view_is c.self.invariant c.requires.settled c.requires.flies)
+    ∙ c.if-not-held.false
 
 flies : (c : goal.After-self-in-Ok-2-1)
-    → in_flight (net_of c.self.inside.flights) (Core c.args.core.0) (Dir c.args.dir.0) c.args.name.seq ≡ Some (msg_of c.args.msg)
+    → in_flight (net_of c.self.inside.flights) (Core c.args.core.0) (Dir c.args.dir.0) c.args.name.seq ≡ Some (msg_of c.args.held.msg)
 flies c =
     ap (λ x. in_flight (net_of x.flights) (Core c.args.core.0) (Dir c.args.dir.0) c.args.name.seq) c.self.view_is ∙ c.requires.flies
 
 pub invariant_of-self-in-Ok : goal.invariant_of-self-in-Ok
 invariant_of-self-in-Ok c =
-    acts-whole (machine_of c.self.inside) (after c) c.args.core.0 c.args.dir.0 c.args.name.seq (msg_of c.args.msg) c.in-Ok.handled
+    acts-whole (machine_of c.self.inside) (after c) c.args.core.0 c.args.dir.0 c.args.name.seq (msg_of c.args.held.msg) c.in-Ok.handled
     c.self.invariant (subst (λ m. m.events < run_limit) (sym c.self.view_is) c.requires.few) (flies c) (takes-it c) (acts c)
 
 pub returns-in-Ok : goal.returns-in-Ok
 returns-in-Ok c =
     subst (λ x. Took x (after c) (Deliver (Core c.args.core.0) (Dir c.args.dir.0) c.args.name.seq) Moved) c.self.view_is
-    (acts-took (machine_of c.self.inside) (after c) c.args.core.0 c.args.dir.0 c.args.name.seq (msg_of c.args.msg) c.in-Ok.handled
+    (acts-took (machine_of c.self.inside) (after c) c.args.core.0 c.args.dir.0 c.args.name.seq (msg_of c.args.held.msg) c.in-Ok.handled
     c.self.invariant (flies c) (takes-it c) (acts c))

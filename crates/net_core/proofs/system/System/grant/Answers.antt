@@ -61,10 +61,15 @@ pub grant-tid-requires : goal.grant-tid-requires
 grant-tid-requires c =
     next-small (machine_of c.self.inside) c.self.invariant (subst (λ x. x.events < run_limit) (sym c.self.view_is) c.requires.few)
 
+pub discard-requires : goal.discard-requires
+discard-requires c =
+    (λ i. in_flight (net_of c.self.inside.flights) (node_of (c.requires.source i)) (node_of (c.requires.destination i)) c.args.name.seq)
+    ∙ ap (λ x. in_flight (net_of x.flights) (Core c.args.core.0) Vendor c.args.name.seq) c.self.view_is ∙ c.requires.flies
+
 abbrev after : (c : goal.After-self-3-1) → Machine
 after c = machine_of (record c.self.inside {
   vendor = c.grant-tid.new.self;
-  flights = c.take.new.self;
+  flights = c.discard.new.self;
   sender = code_node.Vendor;
   out = c.hand_out.new.self;
   placed = 0;
@@ -83,13 +88,13 @@ gives c = record {
       ∙ ap (λ xs. xs ++ (code_node.Core c.args.core, code.TidGrant c.grant-tid.result) ∷ [])
       (c.reserve.ensures.unchanged ∙ c.clear.ensures));
   settled = ap (λ x. x.unsent) c.self.view_is ∙ c.requires.settled;
-  net = c.take.ensures.net
+  net = c.discard.ensures.net
       ∙ (λ i. taking (net_of c.self.inside.flights) (node_of (c.requires.source i)) (node_of (c.requires.destination i)) c.args.name.seq);
-  ready = c.take.ensures.ready
+  ready = c.discard.ensures.ready
       ∙ (λ i. with_mark (is_ready c.self.inside.flights) (node_of (c.requires.source i)) (node_of (c.requires.destination i))
       c.args.name.seq false);
-  flight_cores = c.take.ensures.cores;
-  flight_dirs = c.take.ensures.dirs;
+  flight_cores = c.discard.ensures.cores;
+  flight_dirs = c.discard.ensures.dirs;
   commits = refl;
   events = refl;
 }
