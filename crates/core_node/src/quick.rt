@@ -175,7 +175,7 @@ fn need_quickly(core: &mut Core, inst: &Inst, need: Need) -> bool
 
 /// Whether an instruction needs nothing, whatever the registers hold.
 #[tactic(auto, unfolding(rv_exec::specs::Effects::planned))]
-fn needs_nothing(inst: &Inst) -> bool
+pub(crate) fn needs_nothing(inst: &Inst) -> bool
     ensures { result ≡ true → (l : Local) → planned inst.now l ≡ Nothing }
 {
     match *inst {

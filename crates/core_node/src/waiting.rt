@@ -11,6 +11,7 @@ ghost use Rattle.spec_cache.specs.Look.{look_of};
 ghost use Rattle.core_node.specs.View.{awaited_of, core_of, IsCore};
 ghost use Rattle.core_node.specs.Waiting.{room_after};
 
+use crate::quick::needs_nothing;
 use crate::state::Core;
 use commit_engine::Phase;
 use rv_code::Code;
@@ -88,7 +89,12 @@ fn room_at_pc(core: &Core, code: &Code) -> Option<u16>
 {
     match code.inst(&core.state) {
         Err(_) => None,
-        Ok(inst) => room_at_need(core, code.plan(&inst, &core.state)),
+        Ok(inst) => {
+            if needs_nothing(&inst) {
+                return None;
+            }
+            room_at_need(core, code.plan(&inst, &core.state))
+        }
     }
 }
 

@@ -5,8 +5,8 @@ use Rattle.rules_tcc.specs.Useful.{room_for_need}
 use Rattle.core_node.specs.View.{core_of}
 use Rattle.core_node.proofs.waiting.room_at_pc.Goals as goal
 
-pub returns-in-Ok : goal.returns-in-Ok
+pub returns-else-needs_nothing : goal.returns-else-needs_nothing
 unfolding started
-returns-in-Ok c =
+returns-else-needs_nothing c =
     c.room_at_need.ensures ∙ ap (λ (n : Need). room_for_need c.args.core.now.config (core_of c.args.core.now) n) (c.plan.ensures.need
     ∙ sym c.in-Ok.ensures.need)
