@@ -68,12 +68,6 @@ pub(crate) fn execute_one(
     }
 }
 
-fn is_barred_by(free: bool, overflows: bool) -> bool
-    ensures { result ≡ (not free && overflows) }
-{
-    !free && overflows
-}
-
 /// A core that has gone alone has the bus.
 fn take_if(bus: &mut Bus, alone: bool, core: CoreId)
     ensures bus { bus_of bus.new ≡ (if alone then Alone core.0 else bus_of bus.old) }
@@ -92,7 +86,10 @@ impl Engine {
             && goes_alone (core_exec (bus_settings_of self.now) (bus_program_of self.now) core.0
             ((bus_world_of self.now).cores core.0))) }
     {
-        is_barred_by(self.bus.is_free(), self.cores.overflows(core))
+        if self.bus.is_free() {
+            return false;
+        }
+        self.cores.overflows(core)
     }
 
     /// An instruction of a core that runs or is alone, and doesn't end a transaction alone.
