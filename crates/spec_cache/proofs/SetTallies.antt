@@ -1,15 +1,16 @@
--- What is counted set by set, after one way changed.
-use Rattle.std.proofs.Common.{ℕ, suc, zero, ◌+◌, ◌*◌, ◌/◌, ◌%◌, ◌<◌, ◌≤◌, ◌≡◌, ◌≢◌, Bool, true, false, ◌&&◌, inl, inr, length, get_or, set}
-use Rattle.std.proofs.Common.{replicate, Option, None, nat_eq, sym, ◌∙◌, ap, arith, get_or-set_same, get_or-set_other}
+-- What is counted set by set, and block by block, after one way changed.
+use Rattle.std.proofs.Common.{ℕ, suc, zero, ◌+◌, ◌*◌, ◌/◌, ◌%◌, ◌<◌, ◌≤◌, ◌≡◌, ◌≢◌, Bool, true, false, ◌&&◌, inl, inr, List, length, get_or}
+use Rattle.std.proofs.Common.{set, replicate, Option, None, nat_eq, sym, ◌∙◌, ap, arith, get_or-set_same, get_or-set_other}
 use Rattle.std.proofs.lemmas.Bool.{cases_eq, eq-eqb, ne_eqb}
 use Rattle.std.proofs.lemmas.List.{length-replicate}
 use Rattle.std.proofs.lemmas.Nat.{div_below, div-mul-add}
+use Rattle.std.proofs.Math.Nat.{div-div-eq-div-mul}
 use Rattle.tcc_base.specs.Settings.{Settings}
 use Rattle.base_lemmas.proofs.Lemmas.{count_below-most, count_below-same}
 use Rattle.rules_maps.specs.Words.{num, count_below}
 use Rattle.spec_cache.specs.declared.frame.FrameView.{FrameView}
 use Rattle.spec_cache.specs.Held.{Held}
-use Rattle.spec_cache.specs.PerSet.{Counted, count_set, IsPerSet}
+use Rattle.spec_cache.specs.PerSet.{Counted, count_row, count_set, count_block, IsPerSet}
 use Rattle.spec_cache.specs.Tracked.{count_ways}
 use Rattle.spec_cache.proofs.Counted.{count_below-none, count_below-within}
 use Rattle.spec_cache.proofs.Forms.{get_or-none}
@@ -27,55 +28,76 @@ count_below-change p r (suc n) x b e = elim (cases_eq x n) [
   | inr d ↦ (let a = count_below-change p r n x (omega arith) e in let c : r n ≡ p n = e n (λ z. d (sym z)) in rw c (omega (arith, a)))
 ]
 
+-- the counts of rows of n ways, after way i changed
+module _ (q : Option FrameView → Bool) (fs : List (Option FrameView)) (i : ℕ) (o : Option FrameView) (inside : i < length fs) (n : ℕ)
+    (some : 1 ≤ n) where
+  here : i / n * n + i % n ≡ i
+  here = omega (arith, some)
+
+  place : i % n < n
+  place = omega (arith, some)
+
+  changed-here : count_row q (set fs i o) n (i / n) + num (q (get_or fs i None)) ≡ count_row q fs n (i / n) + num (q o)
+  changed-here =
+      let p : ℕ → Bool = λ y. q (get_or fs (i / n * n + y) None) in
+      let r : ℕ → Bool = λ y. q (get_or (set fs i o) (i / n * n + y) None) in
+      let was : p (i % n) ≡ q (get_or fs i None) = ap (λ x. q (get_or fs x None)) here in
+      let is : r (i % n) ≡ q o = ap (λ x. q (get_or (set fs i o) x None)) here ∙ ap q (get_or-set_same fs i o None inside) in
+      let e = count_below-change p r n (i % n) place
+      (λ k d. ap q (get_or-set_other fs i (i / n * n + k) o None (λ z. d (omega (arith, z, here))))) in
+      rw (← was, ← is) e
+
+  same-there : (s : ℕ) → s ≢ i / n → count_row q (set fs i o) n s ≡ count_row q fs n s
+  same-there s d =
+      count_below-same _ _ n
+      (λ y b. ap q (get_or-set_other fs i (s * n + y) o None (λ z. d (sym (div-mul-add s n y b) ∙ ap (λ x. x / n) z))))
+
+  -- a number of each row, shifted by the change
+  row-shifted : (xs ys : List ℕ) (s : ℕ)
+      → get_or ys s 0 + num (nat_eq s (i / n) && q (get_or fs i None)) ≡ get_or xs s 0 + num (nat_eq s (i / n) && q o)
+      → get_or xs s 0 ≡ count_row q fs n s → get_or ys s 0 ≡ count_row q (set fs i o) n s
+  row-shifted xs ys s e f = elim (cases_eq s (i / n)) [
+    | inl z ↦ (let c = changed-here in let g = rw (eq-eqb s (i / n) z) at e in
+        rw z (let f2 = rw z at f in let g2 = rw z at g in omega (arith, c, f2, g2)))
+    | inr d ↦ (let g = rw (ne_eqb s (i / n) d) at e in let c = same-there s d in omega (arith, c, f, g))
+  ]
+
+  row-some : q (get_or fs i None) ≡ true → 0 < count_row q fs n (i / n)
+  row-some t =
+      let r = count_below-within (λ y. q (get_or fs (i / n * n + y) None)) n (i % n) place (ap (λ x. q (get_or fs x None)) here ∙ t) in
+      omega (arith, r)
+
 module _ (q : Option FrameView → Bool) (h : Held) (ways : 1 ≤ h.config.ways) (few : h.config.ways ≤ 16)
     (whole : length h.frames ≡ h.config.sets * h.config.ways) where
-  module _ (i : ℕ) (o : Option FrameView) (inside : i < length h.frames) where
-    here : i / h.config.ways * h.config.ways + i % h.config.ways ≡ i
-    here = omega (arith, ways)
+  abbrev wide : ℕ
+  wide = h.config.ways * 32
 
-    place : i % h.config.ways < h.config.ways
-    place = omega (arith, ways)
+  some-wide : 1 ≤ wide
+  some-wide = omega (arith, ways)
+
+  module _ (i : ℕ) (o : Option FrameView) (inside : i < length h.frames) where
+    -- the block of a place is that of its set
+    block-of : i / h.config.ways / 32 ≡ i / wide
+    block-of = div-div-eq-div-mul i h.config.ways 32
 
     pub set_exists : i / h.config.ways < h.config.sets
     set_exists = div_below i h.config.ways h.config.sets ways (omega (arith, inside, whole))
 
-    elsewhere : (s y : ℕ) → y < h.config.ways → s * h.config.ways + y ≢ i
-        → get_or (set h.frames i o) (s * h.config.ways + y) None ≡ get_or h.frames (s * h.config.ways + y) None
-    elsewhere s y b n = get_or-set_other h.frames i (s * h.config.ways + y) o None n
-
-    changed-here : count_set q (record h { frames = set h.frames i o }) (i / h.config.ways) + num (q (get_or h.frames i None))
-        ≡ count_set q h (i / h.config.ways) + num (q o)
-    unfolding count_set
-    changed-here =
-        let p : ℕ → Bool = λ y. q (get_or h.frames (i / h.config.ways * h.config.ways + y) None) in
-        let r : ℕ → Bool = λ y. q (get_or (set h.frames i o) (i / h.config.ways * h.config.ways + y) None) in
-        let was : p (i % h.config.ways) ≡ q (get_or h.frames i None) = ap (λ x. q (get_or h.frames x None)) here in
-        let is : r (i % h.config.ways) ≡ q o = ap (λ x. q (get_or (set h.frames i o) x None)) here
-        ∙ ap q (get_or-set_same h.frames i o None inside) in
-        let e = count_below-change p r h.config.ways (i % h.config.ways) place
-        (λ k n. ap q (get_or-set_other h.frames i (i / h.config.ways * h.config.ways + k) o None (λ z. n (omega (arith, z, here))))) in
-        rw (← was, ← is) e
-
-    same-there : (s : ℕ) → s ≢ i / h.config.ways → count_set q (record h { frames = set h.frames i o }) s ≡ count_set q h s
-    unfolding count_set
-    same-there s n =
-        count_below-same _ _ h.config.ways
-        (λ y b. ap q (elsewhere s y b (λ z. n (sym (div-mul-add s h.config.ways y b) ∙ ap (λ x. x / h.config.ways) z))))
+    pub block-exists : h.config.sets ≤ 1024 → i / h.config.ways / 32 < 32
+    block-exists b = let e = set_exists in omega (arith, b, e)
 
     pub IsPerSet-set : (p r : Counted) → IsPerSet q h p → length r.counts ≡ length p.counts →
         ((s : ℕ) → get_or r.counts s 0 + num (nat_eq s (i / h.config.ways) && q (get_or h.frames i None)) ≡ get_or p.counts s 0 + num
         (nat_eq s (i / h.config.ways) && q o)) →
+        ((b : ℕ) → get_or r.blocks b 0 + num (nat_eq b (i / h.config.ways / 32) && q (get_or h.frames i None)) ≡ get_or p.blocks b 0 + num
+        (nat_eq b (i / h.config.ways / 32) && q o)) →
         r.all + num (q (get_or h.frames i None)) ≡ p.all + num (q o) → IsPerSet q (record h { frames = set h.frames i o }) r
-    unfolding count_ways
-    IsPerSet-set p r k l e a = record {
+    unfolding count_ways count_set count_block
+    IsPerSet-set p r k l e f a = record {
       sets = l ∙ k.sets;
-      each = λ s b. elim (cases_eq s (i / h.config.ways)) [
-        | inl z ↦ (let c = changed-here in let f = k.each s b in let g = rw (eq-eqb s (i / h.config.ways) z) at (e s) in
-            rw z (let f2 = rw z at f in let g2 = rw z at g in omega (arith, c, f2, g2)))
-        | inr n ↦ (let g = rw (ne_eqb s (i / h.config.ways) n) at (e s) in let f = k.each s b in let c = same-there s n in
-            omega (arith, c, f, g))
-      ];
-      all = (let c = count-set q h.frames i o inside in let f = k.all in omega (arith, c, f, a));
+      each = λ s b. row-shifted q h.frames i o inside h.config.ways ways p.counts r.counts s (e s) (k.each s b);
+      blocks = λ t b. row-shifted q h.frames i o inside wide some-wide p.blocks r.blocks t (rw block-of at (f t)) (k.blocks t b);
+      all = (let c = count-set q h.frames i o inside in let g = k.all in omega (arith, c, g, a));
     }
 
     module _ (p : Counted) (k : IsPerSet q h p) where
@@ -84,10 +106,15 @@ module _ (q : Option FrameView → Bool) (h : Held) (ways : 1 ≤ h.config.ways)
 
       pub shift-some : q (get_or h.frames i None) ≡ true → 0 < get_or p.counts (i / h.config.ways) 0
       unfolding count_set
-      shift-some t =
-          let r = count_below-within (λ y. q (get_or h.frames (i / h.config.ways * h.config.ways + y) None)) h.config.ways
-          (i % h.config.ways) place (ap (λ x. q (get_or h.frames x None)) here ∙ t) in
-          let e = k.each (i / h.config.ways) set_exists in omega (arith, r, e)
+      shift-some t = let r = row-some q h.frames i o inside h.config.ways ways t in let e = k.each (i / h.config.ways) set_exists in
+          omega (arith, r, e)
+
+      pub shift-some_block : h.config.sets ≤ 1024 → q (get_or h.frames i None) ≡ true → 0 < get_or p.blocks (i / h.config.ways / 32) 0
+      unfolding count_block
+      shift-some_block b t =
+          let r = row-some q h.frames i o inside wide some-wide t in
+          let e = k.blocks (i / h.config.ways / 32) (block-exists b) in
+          let f = rw block-of at e in rw block-of (omega (arith, r, f))
 
       pub shift-some_all : q (get_or h.frames i None) ≡ true → 0 < p.all
       unfolding count_ways
@@ -99,15 +126,22 @@ module _ (q : Option FrameView → Bool) (h : Held) (ways : 1 ≤ h.config.ways)
           let r = count_below-most (λ y. q (get_or h.frames (i / h.config.ways * h.config.ways + y) None)) h.config.ways in
           let e = k.each (i / h.config.ways) set_exists in omega (arith, r, e, few)
 
+      pub shift-few_block : h.config.sets ≤ 1024 → get_or p.blocks (i / h.config.ways / 32) 0 ≤ 512
+      unfolding count_block
+      shift-few_block b =
+          let r = count_below-most (λ y. q (get_or h.frames (i / h.config.ways / 32 * wide + y) None)) wide in
+          let e = k.blocks (i / h.config.ways / 32) (block-exists b) in omega (arith, r, e, few)
+
   pub shift-few_all : (p : Counted) → IsPerSet q h p → length h.frames ≤ 16384 → p.all ≤ 16384
   unfolding count_ways
   shift-few_all p k small = let r = count-most q h.frames in let e = k.all in omega (arith, r, e, small)
 
 pub IsPerSet-empty : (q : Option FrameView → Bool) → q None ≡ false → (s : Settings) (n : ℕ) →
-    IsPerSet q (record { config = s; frames = replicate n None }) (record { counts = replicate s.sets 0; all = 0 })
-unfolding count_set count_ways
+    IsPerSet q (record { config = s; frames = replicate n None }) (record { counts = replicate s.sets 0; blocks = replicate 32 0; all = 0 })
+unfolding count_set count_block count_ways
 IsPerSet-empty q none s n = record {
   sets = length-replicate s.sets 0;
   each = λ t b. zeros s.sets t ∙ sym (count_below-none _ s.ways (λ y. ap q (get_or-none n (t * s.ways + y)) ∙ none));
+  blocks = λ b l. zeros 32 b ∙ sym (count_below-none _ (s.ways * 32) (λ y. ap q (get_or-none n (b * (s.ways * 32) + y)) ∙ none));
   all = sym (count-none q n none);
 }

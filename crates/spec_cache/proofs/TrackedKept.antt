@@ -10,7 +10,7 @@ use Rattle.spec_cache.specs.declared.frame.FrameView.{FrameView}
 use Rattle.spec_cache.specs.Home.{reads_in, written_in}
 use Rattle.spec_cache.specs.Useful.{writes_in, dirty_way}
 use Rattle.spec_cache.specs.Held.{Held}
-use Rattle.spec_cache.specs.PerSet.{Counted, IsPerSet, count_set, idle_way, used_way}
+use Rattle.spec_cache.specs.PerSet.{Counted, IsPerSet, count_set, count_block, idle_way, used_way}
 use Rattle.spec_cache.specs.Tracked.{written_home, read_home, is_home, tag_of, AreAlike, IsTracked}
 use Rattle.spec_cache.proofs.Tallied.{recounted, writes-home, reads-home, count-none, map-none, zeros}
 use Rattle.spec_cache.proofs.SetTallies.{IsPerSet-empty}
@@ -41,7 +41,8 @@ module _ (h : Held) (ts ws rs : List ℕ) (n : ℕ) (idle used : Counted) (k : I
 pub IsTracked-empty : (s : Settings) → s.sets * s.ways ≤ 16384 →
     IsTracked (record { config = s; frames = replicate (s.sets * s.ways) None }) (replicate (s.sets * s.ways) 4294967295) (replicate 64 0)
     (replicate 64 0) 0
-    (record { counts = replicate s.sets 0; all = 0 }) (record { counts = replicate s.sets 0; all = 0 })
+    (record { counts = replicate s.sets 0; blocks = replicate 32 0; all = 0 })
+    (record { counts = replicate s.sets 0; blocks = replicate 32 0; all = 0 })
 IsTracked-empty s b = record {
   tags = map-none (s.sets * s.ways);
   written = λ d l. zeros 64 d ∙ sym (count-none (writes_in s.dirs d) (s.sets * s.ways) (unfold written_in in refl));
@@ -107,10 +108,12 @@ same-test q fs i o b e j = elim (cases_eq j i) [
 
 per-set-alike : (q : Option FrameView → Bool) (h : Held) (p : Counted) (i : ℕ) (o : Option FrameView) → i < length h.frames
     → q (get_or h.frames i None) ≡ q o → IsPerSet q h p → IsPerSet q (record h { frames = set h.frames i o }) p
-unfolding count_set
+unfolding count_set count_block
 per-set-alike q h p i o b e k = record {
   sets = k.sets;
   each = λ s l. k.each s l ∙ count_below-same _ _ h.config.ways (λ y m. same-test q h.frames i o b e (s * h.config.ways + y));
+  blocks = λ t l. k.blocks t l ∙ count_below-same _ _ (h.config.ways * 32)
+      (λ y m. same-test q h.frames i o b e (t * (h.config.ways * 32) + y));
   all = k.all ∙ count_below-same _ _ (length h.frames) (λ j m. same-test q h.frames i o b e j)
       ∙ ap (count_below (λ j. q (get_or (set h.frames i o) j None))) (sym (length-set h.frames i o));
 }

@@ -2,17 +2,19 @@
 use Rattle.std.proofs.Common.{ℕ, suc, zero, ◌+◌, ◌-◌, ◌*◌, ◌/◌, ◌%◌, ◌<◌, ◌≤◌, ◌≡◌, Bool, true, false, not, cond, ◌&&◌, ◌||◌, inl, inr}
 use Rattle.std.proofs.Common.{length, get_or, Option, Some, None, nat_eq, refl, sym, ◌∙◌, ap, arith}
 use Rattle.std.specs.Option.{option_map}
-use Rattle.std.proofs.lemmas.Bool.{false≢true, cases_eq, or_parts, eq-eqb, ne_eqb}
+use Rattle.std.specs.Prelude.{MatchBool, nat_lt}
+use Rattle.std.proofs.lemmas.Bool.{false≢true, cases_eq, or_parts, eq-eqb, ne_eqb, ltb-false}
+use Rattle.std.proofs.lemmas.List.{get_or_past}
 use Rattle.std.proofs.lemmas.Nat.{div-mul-add}
-use Rattle.std.proofs.Math.Nat.{mul-le-mul_right}
+use Rattle.std.proofs.Math.Nat.{mul-le-mul_right, div-div-eq-div-mul}
 use Rattle.base_lemmas.proofs.Lemmas.{count_below-most, count_below-same}
 use Rattle.rules_maps.specs.Words.{count_below}
 use Rattle.rules_maps.specs.CacheUse.{Wants, is_number, useful_ways}
 use Rattle.spec_cache.specs.declared.frame.FrameView.{FrameView}
-use Rattle.spec_cache.specs.Useful.{useful_in}
+use Rattle.spec_cache.specs.Useful.{useful_in, awaited_set}
 use Rattle.spec_cache.specs.Held.{Held, IsHeld, maps}
-use Rattle.spec_cache.specs.PerSet.{count_set, idle_way, used_way, IsNthWay}
-use Rattle.spec_cache.proofs.Counted.{count_below-zero}
+use Rattle.spec_cache.specs.PerSet.{count_set, count_block, idle_way, used_way, IsNthWay, useful_before, IsUsefulWay}
+use Rattle.spec_cache.proofs.Counted.{count_below-zero, count_below-none}
 use Rattle.spec_cache.proofs.Counts.{useful_counted, useful_nth, useful_more}
 
 -- the numbers below a sum
@@ -73,13 +75,12 @@ module _ (h : Held) (s : IsHeld h) (q : Wants) where
       → count_below in_way ((t + 1) * h.config.ways) + (left - m) ≡ k
   fewer_left t k left m e f b = let c = next_set t in omega (arith, c, e, f, b)
 
-  pub all_sets : (n t : ℕ) → t ≡ h.config.sets → n ≡ count_below in_way (t * h.config.ways) → n ≡ length (useful_ways h.config q (maps h))
-  all_sets n t e c = c ∙ ap (λ x. count_below in_way (x * h.config.ways)) e ∙ sym (useful_counted h s q)
+  none-useful : (t : ℕ) → useful_in q t None ≡ false
+  unfolding useful_in
+  none-useful t = refl
 
   pub nth_way : (t y k left : ℕ) → t < h.config.sets → count_below in_way (t * h.config.ways) + left ≡ k
-      → IsNthWay (useful_in q t) h t left y →
-      (k < length (useful_ways h.config q (maps h))) × (t < h.config.sets) × (y < h.config.ways)
-      × (get_or (useful_ways h.config q (maps h)) k 0 ≡ t * h.config.ways + y)
+      → IsNthWay (useful_in q t) h t left y → IsUsefulWay h q k (t, y)
   nth_way t y k left b c n =
       let i : ℕ = t * h.config.ways + y in
       let row : (t + 1) * h.config.ways ≤ h.config.sets * h.config.ways = mul-le-mul_right h.config.ways (omega (arith, b)) in
@@ -89,7 +90,12 @@ module _ (h : Held) (s : IsHeld h) (q : Wants) where
       let before : count_below in_way i ≡ k =
       count_below-plus in_way (t * h.config.ways) y ∙ ap (λ x. count_below in_way (t * h.config.ways) + x)
       (count_below-same _ _ y (λ z l. at_set t z (omega (arith, l, n.exists))) ∙ n.before) ∙ c in
-      (useful_more h s q i k inside here before, b, n.exists, useful_nth h s q i k inside here before)
+      record {
+        more = useful_more h s q i k inside here before;
+        set_exists = b;
+        way_exists = n.exists;
+        is = useful_nth h s q i k inside here before;
+      }
 
   -- a set of another line than the awaited one
   not_awaited : (o : Option ℕ) (l t : ℕ) → l % h.config.sets ≡ t → is_number (option_map (λ m. m % h.config.sets) o) t ≡ false
@@ -100,28 +106,85 @@ module _ (h : Held) (s : IsHeld h) (q : Wants) where
     | inr n ↦ ne_eqb m l n
   ]
 
-  -- a set that holds no line that is awaited, and where no room is wanted
-  module _ (t : ℕ) (e : (is_number q.room t || is_number (option_map (λ l. l % h.config.sets) q.awaited) t) ≡ false) where
-    plain-at : (y : ℕ) → y < h.config.ways → (o : Option FrameView) → get_or h.frames (t * h.config.ways + y) None ≡ o
-        → useful_in q t o ≡ cond q.alone (used_way o) (idle_way o)
-    plain-at y b None p = plain-none q t
-    plain-at y b (Some f) p =
-        let parts = or_parts (is_number q.room t) (is_number (option_map (λ l. l % h.config.sets) q.awaited) t) e in
-        plain-frame q t f (not_awaited q.awaited f.line.0 t (s.placed (t * h.config.ways + y) f p ∙ div-mul-add t h.config.ways y b)
-        parts.1) parts.0
+  -- the set holds no line that is awaited, and no room is wanted in it
+  abbrev pub IsPlain : ℕ → Type 0
+  IsPlain t = (is_number q.room t || is_number (awaited_set h.config.sets q) t) ≡ false
 
-    pub plain-set : cond q.alone (count_set used_way h t) (count_set idle_way h t) ≡ count_set (useful_in q t) h t
-    unfolding count_set
-    plain-set = go q.alone refl
-      where
-        go : (b : Bool) → q.alone ≡ b →
-            cond b (count_below (λ y. used_way (get_or h.frames (t * h.config.ways + y) None)) h.config.ways)
-            (count_below (λ y. idle_way (get_or h.frames (t * h.config.ways + y) None)) h.config.ways)
-            ≡ count_below (λ y. useful_in q t (get_or h.frames (t * h.config.ways + y) None)) h.config.ways
-        go true f =
-            count_below-same _ _ h.config.ways (λ y b. sym (plain-at y b (get_or h.frames (t * h.config.ways + y) None) refl ∙ (rw f refl)))
-        go false f =
-            count_below-same _ _ h.config.ways (λ y b. sym (plain-at y b (get_or h.frames (t * h.config.ways + y) None) refl ∙ (rw f refl)))
+  plain-at : (t : ℕ) → IsPlain t → (i : ℕ) → i / h.config.ways ≡ t → (o : Option FrameView) → get_or h.frames i None ≡ o
+      → useful_in q t o ≡ cond q.alone (used_way o) (idle_way o)
+  plain-at t e i d None p = plain-none q t
+  plain-at t e i d (Some f) p =
+      let parts = or_parts (is_number q.room t) (is_number (awaited_set h.config.sets q) t) e in
+      plain-frame q t f (not_awaited q.awaited f.line.0 t (s.placed i f p ∙ d) parts.1) parts.0
+
+  -- ways in a row whose sets are plain, by the numbers of their sets
+  plain-row : (set : ℕ → ℕ) (first n : ℕ) → ((y : ℕ) → y < n → IsPlain (set y)) → ((y : ℕ) → y < n → (first + y) / h.config.ways ≡ set y)
+      → cond q.alone (count_below (λ y. used_way (get_or h.frames (first + y) None)) n)
+      (count_below (λ y. idle_way (get_or h.frames (first + y) None)) n)
+      ≡ count_below (λ y. useful_in q (set y) (get_or h.frames (first + y) None)) n
+  plain-row set first n e d = go q.alone refl
+    where
+      way : (b : Bool) → q.alone ≡ b → (y : ℕ) → y < n → cond b (used_way (get_or h.frames (first + y) None))
+          (idle_way (get_or h.frames (first + y) None)) ≡ useful_in q (set y) (get_or h.frames (first + y) None)
+      way b f y l = sym (plain-at (set y) (e y l) (first + y) (d y l) (get_or h.frames (first + y) None) refl ∙ (rw f refl))
+
+      go : (b : Bool) → q.alone ≡ b →
+          cond b (count_below (λ y. used_way (get_or h.frames (first + y) None)) n)
+          (count_below (λ y. idle_way (get_or h.frames (first + y) None)) n)
+          ≡ count_below (λ y. useful_in q (set y) (get_or h.frames (first + y) None)) n
+      go true f = count_below-same _ _ n (way true f)
+      go false f = count_below-same _ _ n (way false f)
+
+  pub plain-set : (t : ℕ) → IsPlain t → cond q.alone (count_set used_way h t) (count_set idle_way h t) ≡ count_set (useful_in q t) h t
+  unfolding count_set
+  plain-set t e = plain-row (λ y. t) (t * h.config.ways) h.config.ways (λ y b. e) (λ y b. div-mul-add t h.config.ways y b)
+
+  -- ---- blocks of sets
+
+  abbrev wide : ℕ
+  wide = h.config.ways * 32
+
+  before-block : (b : ℕ) → useful_before h q (b * 32) ≡ count_below in_way (b * wide)
+  before-block b = let e : b * 32 * h.config.ways ≡ b * wide = grind arith in ap (count_below in_way) e
+
+  pub plain-block : (b : ℕ) → ((t : ℕ) → t / 32 ≡ b → IsPlain t) → (n : ℕ)
+      → n ≡ cond q.alone (count_block used_way h b) (count_block idle_way h b)
+      → useful_before h q ((b + 1) * 32) ≡ useful_before h q (b * 32) + n
+  unfolding count_block
+  plain-block b e n c =
+      let own : (y : ℕ) → y < wide → (b * wide + y) / h.config.ways / 32 ≡ b =
+      λ y l. div-div-eq-div-mul (b * wide + y) h.config.ways 32 ∙ div-mul-add b wide y l in
+      let row = plain-row (λ y. (b * wide + y) / h.config.ways) (b * wide) wide (λ y l. e _ (own y l)) (λ y l. refl) in
+      before-block (b + 1) ∙ ap (count_below in_way) (next_row b wide) ∙ count_below-plus in_way (b * wide) wide
+      ∙ ap (λ x. count_below in_way (b * wide) + x) (sym (c ∙ row)) ∙ ap (λ x. x + n) (sym (before-block b))
+
+  -- there are no ways past the last set
+  pub past-end : (t : ℕ) → h.config.sets ≤ t → useful_before h q t ≡ useful_before h q h.config.sets
+  past-end t b =
+      let m : ℕ = (t - h.config.sets) * h.config.ways in
+      let n : ℕ = h.config.sets * h.config.ways in
+      let parts : t ≡ h.config.sets + (t - h.config.sets) = omega (arith, b) in
+      let product : (x y : ℕ) → (x + y) * h.config.ways ≡ x * h.config.ways + y * h.config.ways = λ x y. grind arith in
+      let e : t * h.config.ways ≡ n + m = ap (λ x. x * h.config.ways) parts ∙ product h.config.sets (t - h.config.sets) in
+      let none : (j : ℕ) → in_way (n + j) ≡ false =
+      λ j. ap (useful_in q ((n + j) / h.config.ways)) (get_or_past h.frames (n + j) None (let w = s.filled_ways in omega (arith, w)))
+      ∙ none-useful ((n + j) / h.config.ways) in
+      let rest = count_below-none (λ j. in_way (n + j)) m none in
+      ap (count_below in_way) e ∙ count_below-plus in_way n m ∙ ap (λ x. count_below in_way n + x) rest ∙ omega arith
+
+  -- the sets of a block were gone over, as far as there are sets
+  pub block-done : (b t m e : ℕ) → m ≡ h.config.sets → MatchBool (nat_lt (b * 32 + 32) m) (e ≡ b * 32 + 32) (e ≡ m) → t ≡ e
+      → useful_before h q ((b + 1) * 32) ≡ useful_before h q t
+  block-done b t m e i d f = go (nat_lt (b * 32 + 32) m) refl d
+    where
+      go : (x : Bool) → nat_lt (b * 32 + 32) m ≡ x → MatchBool x (e ≡ b * 32 + 32) (e ≡ m)
+          → useful_before h q ((b + 1) * 32) ≡ useful_before h q t
+      go true l d = ap (useful_before h q) (omega (arith, d, f))
+      go false l d = past-end ((b + 1) * 32) (let z = ltb-false (b * 32 + 32) m l in omega (arith, z, i))
+          ∙ ap (useful_before h q) (sym (f ∙ d ∙ i))
+
+  pub all_blocks : (t : ℕ) → h.config.sets ≤ t → useful_before h q t ≡ length (useful_ways h.config q (maps h))
+  all_blocks t b = past-end t b ∙ sym (useful_counted h s q)
 
   pub few-in_set : (t : ℕ) → count_set (useful_in q t) h t ≤ 16
   unfolding count_set

@@ -46,13 +46,17 @@ abbrev pub other_set : Option ℕ → Option ℕ → Option ℕ
 other_set first None = None
 other_set first (Some s) = if is_number first s then None else Some s
 
+-- the set of the line that is awaited
+abbrev pub awaited_set : ℕ → Wants → Option ℕ
+awaited_set sets q = option_map (λ l. l % sets) q.awaited
+
 -- the set where room is wanted, where it exists
 abbrev pub room_set : ℕ → Wants → Option ℕ
 room_set sets q = set_below sets q.room
 
 -- the set of the line that is awaited, where no room is wanted there
 abbrev pub line_set : ℕ → Wants → Option ℕ
-line_set sets q = other_set (room_set sets q) (option_map (λ l. l % sets) q.awaited)
+line_set sets q = other_set (room_set sets q) (awaited_set sets q)
 
 -- the number of a set, where there is one
 abbrev pub in_set : (ℕ → ℕ) → Option ℕ → ℕ

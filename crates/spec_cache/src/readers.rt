@@ -1,6 +1,6 @@
 // What a core asks of its cache between its changes: single frames, and what all frames hold together.
-ghost use Rattle.std.specs.Prelude.{◌≡◌, ◌<◌, ◌≤◌, ◌+◌, ◌*◌, ◌&&◌, ◌||◌, ◌==◌, ℕ, Option, None, Some, MatchOption, IfOk, IfSome, OnOk};
-ghost use Rattle.std.specs.Prelude.{cond, length, get_or, map};
+ghost use Rattle.std.specs.Prelude.{◌≡◌, ◌<◌, ◌≤◌, ◌&&◌, ◌||◌, ◌==◌, ℕ, Option, None, Some, MatchOption, IfOk, IfSome, OnOk};
+ghost use Rattle.std.specs.Prelude.{cond, length, map};
 ghost use Rattle.std.specs.Option.{option_map};
 ghost use Rattle.rules_maps.specs.Words.{any_below, count_below, those};
 ghost use Rattle.rules_maps.specs.Shape.{lines, home, set_of};
@@ -12,7 +12,7 @@ ghost use Rattle.spec_cache.specs.Held.{maps};
 ghost use Rattle.spec_cache.specs.Home.{mark_of};
 ghost use Rattle.spec_cache.specs.MarkedSets.{has_marked};
 ghost use Rattle.spec_cache.specs.Useful.{wants_of, useful_in, in_set};
-ghost use Rattle.spec_cache.specs.PerSet.{count_set, idle_way, used_way, IsNthWay};
+ghost use Rattle.spec_cache.specs.PerSet.{count_set, idle_way, used_way};
 
 use crate::cache::SpecCache;
 use crate::frames::{line_of_word, place_of_word};
@@ -178,40 +178,8 @@ impl SpecCache {
         }
     }
 
-    /// The set and way of the `k`-th way that may be emptied with use, from 0, in the order of set and way; None exactly where
-    /// there are no more than `k`. Takes a step a set.
-    pub fn useful_way(&self, wants: Wants, k: usize) -> Option<(u16, u8)>
-        ensures { let all = useful_ways self.now.config (wants_of wants) (maps self.now) in
-            MatchOption result (length all ≤ k) (λ p. (k < length all) × (p.0 < self.now.config.sets) × (p.1 < self.now.config.ways)
-            × (get_or all k 0 ≡ p.0 * self.now.config.ways + p.1)) }
-    {
-        let sets = self.frames.config().sets();
-        let mut left = k;
-        for set in 0..sets {
-            let here = self.useful_in_set(wants, set as usize);
-            if left < here {
-                return Some((set, self.nth_in_set(wants, set as usize, left)));
-            }
-            left -= here;
-        }
-        None
-    }
-
-    /// How many ways of a set may be emptied with use.
-    fn useful_in_set(&self, wants: Wants, set: usize) -> usize
-        requires { set < self.now.config.sets }
-        ensures number { result ≡ count_set (useful_in (wants_of wants) set) self.now set }
-        ensures few { result ≤ 16 }
-    {
-        if wants.touches(set, self.frames.config().sets()) {
-            self.look_at_set(wants, set)
-        } else {
-            self.frames.useful_in_set(wants.alone, set)
-        }
-    }
-
-    /// The same, way by way.
-    fn look_at_set(&self, wants: Wants, set: usize) -> usize
+    /// How many ways of a set may be emptied with use, way by way.
+    pub(crate) fn look_at_set(&self, wants: Wants, set: usize) -> usize
         requires { set < self.now.config.sets }
         ensures number { result ≡ count_set (useful_in (wants_of wants) set) self.now set }
         ensures few { result ≤ 16 }
@@ -224,24 +192,5 @@ impl SpecCache {
             }
         }
         count
-    }
-
-    /// The `left`-th way of a set, from 0, that may be emptied with use, where there are more than `left`.
-    fn nth_in_set(&self, wants: Wants, set: usize, left: usize) -> u8
-        requires exists { set < self.now.config.sets }
-        requires more { left < count_set (useful_in (wants_of wants) set) self.now set }
-        ensures { IsNthWay (useful_in (wants_of wants) set) self.now set left result }
-    {
-        let ways = self.frames.config().ways();
-        let mut left = left;
-        for way in 0..ways {
-            if wants.finds(set, &self.frames.way(set * ways as usize + way as usize)) {
-                if left == 0 {
-                    return way;
-                }
-                left -= 1;
-            }
-        }
-        unreachable!()
     }
 }

@@ -8,7 +8,7 @@ ghost use Rattle.spec_cache.specs.Look.{loaded, StoresClean};
 ghost use Rattle.spec_cache.specs.Home.{reads_in};
 ghost use Rattle.spec_cache.specs.MarkedSets.{has_marked};
 ghost use Rattle.spec_cache.specs.Useful.{writes_in, dirty_way};
-ghost use Rattle.spec_cache.specs.PerSet.{idle_way, used_way, count_set};
+ghost use Rattle.spec_cache.specs.PerSet.{idle_way, used_way, count_set, count_block};
 ghost use Rattle.spec_cache.specs.Tracked.{count_ways};
 
 use crate::frame::{Change, FrameView};
@@ -81,6 +81,15 @@ impl SetFrames {
         ensures in_order { IsHeld self.now }
     {
         self.ways.useful_in_set(alone, set)
+    }
+
+    /// The same of a block of 32 sets.
+    pub(crate) fn useful_in_block(&self, alone: bool, block: usize) -> usize
+        requires { block < 32 }
+        ensures number { result ≡ cond alone (count_block used_way self.now block) (count_block idle_way self.now block) }
+        ensures in_order { IsHeld self.now }
+    {
+        self.ways.useful_in_block(alone, block)
     }
 
     /// The value of a word that is valid, where a mark would change nothing.

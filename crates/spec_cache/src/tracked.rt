@@ -4,7 +4,7 @@ ghost use Rattle.std.specs.Prelude.{IfOk, IfSome, cond, true, false};
 ghost use Rattle.spec_cache.specs.Frame.{holds_line};
 ghost use Rattle.spec_cache.specs.Home.{reads_in};
 ghost use Rattle.spec_cache.specs.Useful.{writes_in, dirty_way};
-ghost use Rattle.spec_cache.specs.PerSet.{idle_way, used_way, count_set};
+ghost use Rattle.spec_cache.specs.PerSet.{idle_way, used_way, count_set, count_block};
 ghost use Rattle.spec_cache.specs.Tracked.{count_ways};
 ghost use Rattle.spec_cache.specs.InPlace.{Hits, StoresAt};
 
@@ -241,6 +241,18 @@ impl Tracked {
             self.used.of(set)
         } else {
             self.idle.of(set)
+        }
+    }
+
+    /// The same of a block of 32 sets.
+    pub(crate) fn useful_in_block(&self, alone: bool, block: usize) -> usize
+        requires { block < 32 }
+        ensures { result ≡ cond alone (count_block used_way self.now block) (count_block idle_way self.now block) }
+    {
+        if alone {
+            self.used.of_block(block)
+        } else {
+            self.idle.of_block(block)
         }
     }
 }

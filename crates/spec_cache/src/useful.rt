@@ -1,12 +1,12 @@
 // Which ways of a cache may be emptied with use.
-ghost use Rattle.std.specs.Prelude.{◌≡◌, ◌<◌, ◌%◌, ◌&&◌, ◌||◌, not, Some, IfSome};
-ghost use Rattle.std.specs.Option.{option_map};
+ghost use Rattle.std.specs.Prelude.{◌≡◌, ◌<◌, ◌/◌, ◌&&◌, ◌||◌, ℕ, false, not, Some, IfSome};
 ghost use Rattle.rules_maps.specs.CacheUse.{is_number};
 ghost use Rattle.spec_cache.specs.PerSet.{idle_way, used_way};
 ghost use Rattle.spec_cache.specs.Useful.{wants_of, is_marked_frame, is_written_frame, useful_in, dirty_way, room_set as set_of_room};
-ghost use Rattle.spec_cache.specs.Useful.{line_set as set_of_line, other_set};
+ghost use Rattle.spec_cache.specs.Useful.{line_set as set_of_line, awaited_set as set_of_awaited, other_set};
 
 use crate::frame::FrameView;
+use crate::quotients::set_of;
 use tcc_base::LineAddr;
 
 /// What decides, beside the cache, which of its ways may be emptied with use.
@@ -35,29 +35,32 @@ impl Wants {
     fn wants_room(&self, set: usize) -> bool
         ensures { result ≡ is_number self.now.room set }
     {
-        match self.room {
-            None => false,
-            Some(room) => room as usize == set,
-        }
+        is_set(self.room, set)
     }
 
-    /// Whether a line is awaited or room is wanted in this set, of as many.
-    pub(crate) fn touches(&self, set: usize, sets: u16) -> bool
+    /// The set of the line that the core awaits, of as many.
+    pub(crate) fn awaited_set(&self, sets: u16) -> Option<u16>
         requires { 0 < sets }
-        ensures { result ≡ is_number self.now.room set || is_number (option_map (λ l. l % sets) (wants_of self.now).awaited) set }
-    {
-        self.wants_room(set) || self.awaits_in(set, sets)
-    }
-
-    /// Whether the line that the core awaits belongs to this set, of as many.
-    fn awaits_in(&self, set: usize, sets: u16) -> bool
-        requires { 0 < sets }
-        ensures { result ≡ is_number (option_map (λ l. l % sets) (wants_of self.now).awaited) set }
+        ensures { result ≡ set_of_awaited sets (wants_of self.now) }
     {
         match self.awaited {
-            None => false,
-            Some(line) => (line.0 % sets as u32) as usize == set,
+            Some(line) => Some(set_of(line.0, sets)),
+            None => None,
         }
+    }
+
+    /// Whether room is wanted in this set, or the awaited line is of this set.
+    pub(crate) fn touches(&self, line: Option<u16>, set: usize) -> bool
+        ensures { result ≡ (is_number self.now.room set || is_number line set) }
+    {
+        self.wants_room(set) || is_set(line, set)
+    }
+
+    /// Whether room is wanted in a set of this block of 32, or the awaited line is of one.
+    pub(crate) fn touches_block(&self, line: Option<u16>, block: u16) -> bool
+        ensures { result ≡ false → (set : ℕ) → set / 32 ≡ block → (is_number self.now.room set || is_number line set) ≡ false }
+    {
+        is_in_block(self.room, block) || is_in_block(line, block)
     }
 
     /// The set in which the core waits for room, of as many.
@@ -78,7 +81,7 @@ impl Wants {
         ensures exists { IfSome result (λ s. s < sets) }
     {
         match self.awaited {
-            Some(line) => other((line.0 % sets as u32) as u16, self.room_set(sets)),
+            Some(line) => other(set_of(line.0, sets), self.room_set(sets)),
             None => None,
         }
     }
@@ -124,6 +127,26 @@ fn other(set: u16, first: Option<u16>) -> Option<u16>
     match first {
         Some(other) => if other == set { None } else { Some(set) },
         None => Some(set),
+    }
+}
+
+/// Whether this is the set.
+fn is_set(this: Option<u16>, set: usize) -> bool
+    ensures { result ≡ is_number this set }
+{
+    match this {
+        None => false,
+        Some(this) => this as usize == set,
+    }
+}
+
+/// Whether the set is in this block of 32.
+fn is_in_block(this: Option<u16>, block: u16) -> bool
+    ensures { result ≡ false → (set : ℕ) → set / 32 ≡ block → is_number this set ≡ false }
+{
+    match this {
+        None => false,
+        Some(this) => this / 32 == block,
     }
 }
 

@@ -1,9 +1,7 @@
-use Rattle.std.proofs.Common.{◌≡◌, ◌+◌, ◌*◌, ◌/◌, get_or, None}
-use Rattle.rules_maps.specs.Words.{count_below}
-use Rattle.spec_cache.specs.Useful.{useful_in, wants_of}
+use Rattle.std.proofs.Common.{◌≡◌, ◌+◌, ◌*◌}
+use Rattle.spec_cache.specs.Useful.{wants_of}
+use Rattle.spec_cache.specs.PerSet.{useful_before}
 use Rattle.spec_cache.proofs.cache.SpecCache.useful_way.Given as goal
 
-abbrev pub invariant-loop-set : goal.invariant-loop-set
-invariant-loop-set l =
-    count_below (λ i. useful_in (wants_of l.wants) (i / l.self.config.ways) (get_or l.self.frames i None))
-    (l.set * l.self.config.ways) + l.left ≡ l.k
+abbrev pub invariant-loop-block : goal.invariant-loop-block
+invariant-loop-block l = useful_before l.self (wants_of l.wants) (l.block * 32) + l.left ≡ l.k

@@ -7,7 +7,8 @@ use Rattle.spec_cache.specs.Held.{Held}
 use Rattle.spec_cache.specs.PerSet.{idle_way, used_way}
 use Rattle.spec_cache.specs.Tracked.{written_home, read_home}
 use Rattle.spec_cache.proofs.Tallied.{written-below, read-below, written-some, read-some, counted-small, dirty-fits, dirty-enough}
-use Rattle.spec_cache.proofs.SetTallies.{IsPerSet-set, shift-exists, shift-some, shift-some_all, shift-few, shift-few_all}
+use Rattle.spec_cache.proofs.SetTallies.{IsPerSet-set, block-exists, shift-exists, shift-some, shift-some_block, shift-some_all}
+use Rattle.spec_cache.proofs.SetTallies.{shift-few, shift-few_block, shift-few_all}
 use Rattle.spec_cache.proofs.TrackedKept.{IsTracked-alike, IsTracked-set}
 use Rattle.spec_cache.proofs.tracked.Tracked.put.Goals as goal
 
@@ -77,6 +78,7 @@ shift-requires c =
     let old : c.way-old.result ≡ get_or c.self.inside.frames.items c.args.at None = rw (sym c.self.view_is) at c.way-old.ensures in
     let inside : c.args.at < length c.self.inside.frames.items = rw (sym c.self.view_is) at c.requires in
     let ways = c.ways.ensures.allowed.3 in
+    let sets = c.ways.ensures.allowed.2.1 in
     let test : c.is_idle.result ≡ true → idle_way (get_or c.self.inside.frames.items c.args.at None) ≡ true =
     λ t. sym (c.is_idle.ensures ∙ ap idle_way old) ∙ t in
     rw (c.set_at-set.ensures, c.ways.ensures.value) record {
@@ -84,10 +86,15 @@ shift-requires c =
           c.self.invariant.idle;
       some = λ t. shift-some idle_way h ways.0 ways.1 c.self.invariant.whole c.args.at c.args.frame inside c.self.inside.idle
           c.self.invariant.idle (test t);
+      block_exists = block-exists idle_way h ways.0 ways.1 c.self.invariant.whole c.args.at c.args.frame inside sets;
+      some_block = λ t. shift-some_block idle_way h ways.0 ways.1 c.self.invariant.whole c.args.at c.args.frame inside c.self.inside.idle
+          c.self.invariant.idle sets (test t);
       some_all = λ t. shift-some_all idle_way h ways.0 ways.1 c.self.invariant.whole c.args.at c.args.frame inside c.self.inside.idle
           c.self.invariant.idle (test t);
       few = shift-few idle_way h ways.0 ways.1 c.self.invariant.whole c.args.at c.args.frame inside c.self.inside.idle
           c.self.invariant.idle;
+      few_block = shift-few_block idle_way h ways.0 ways.1 c.self.invariant.whole c.args.at c.args.frame inside c.self.inside.idle
+          c.self.invariant.idle sets;
       few_all =
           shift-few_all idle_way h ways.0 ways.1 c.self.invariant.whole c.self.inside.idle c.self.invariant.idle c.self.invariant.small;
     }
@@ -98,6 +105,7 @@ shift-requires-2 c =
     let old : c.way-old.result ≡ get_or c.self.inside.frames.items c.args.at None = rw (sym c.self.view_is) at c.way-old.ensures in
     let inside : c.args.at < length c.self.inside.frames.items = rw (sym c.self.view_is) at c.requires in
     let ways = c.ways.ensures.allowed.3 in
+    let sets = c.ways.ensures.allowed.2.1 in
     let test : c.is_used.result ≡ true → used_way (get_or c.self.inside.frames.items c.args.at None) ≡ true =
     λ t. sym (c.is_used.ensures ∙ ap used_way old) ∙ t in
     rw (c.set_at-set.ensures, c.ways.ensures.value) record {
@@ -105,10 +113,15 @@ shift-requires-2 c =
           c.self.invariant.used;
       some = λ t. shift-some used_way h ways.0 ways.1 c.self.invariant.whole c.args.at c.args.frame inside c.self.inside.used
           c.self.invariant.used (test t);
+      block_exists = block-exists used_way h ways.0 ways.1 c.self.invariant.whole c.args.at c.args.frame inside sets;
+      some_block = λ t. shift-some_block used_way h ways.0 ways.1 c.self.invariant.whole c.args.at c.args.frame inside c.self.inside.used
+          c.self.invariant.used sets (test t);
       some_all = λ t. shift-some_all used_way h ways.0 ways.1 c.self.invariant.whole c.args.at c.args.frame inside c.self.inside.used
           c.self.invariant.used (test t);
       few = shift-few used_way h ways.0 ways.1 c.self.invariant.whole c.args.at c.args.frame inside c.self.inside.used
           c.self.invariant.used;
+      few_block = shift-few_block used_way h ways.0 ways.1 c.self.invariant.whole c.args.at c.args.frame inside c.self.inside.used
+          c.self.invariant.used sets;
       few_all =
           shift-few_all used_way h ways.0 ways.1 c.self.invariant.whole c.self.inside.used c.self.invariant.used c.self.invariant.small;
     }
@@ -137,10 +150,12 @@ invariant_of-self-2 c =
     let idle = IsPerSet-set idle_way h ways.0 ways.1 c.self.invariant.whole c.args.at c.args.frame inside c.self.inside.idle
     c.shift.new.self c.self.invariant.idle c.shift.ensures.sets
     (λ s. rw (← set, ← was_idle, ← c.is_idle-2.ensures) (c.shift.ensures.counts s))
+    (λ b. rw (← set, ← was_idle, ← c.is_idle-2.ensures) (c.shift.ensures.blocks b))
     (rw (← was_idle, ← c.is_idle-2.ensures) c.shift.ensures.all) in
     let used = IsPerSet-set used_way h ways.0 ways.1 c.self.invariant.whole c.args.at c.args.frame inside c.self.inside.used
     c.shift-2.new.self c.self.invariant.used c.shift-2.ensures.sets
     (λ s. rw (← set, ← was_used, ← c.is_used-2.ensures) (c.shift-2.ensures.counts s))
+    (λ b. rw (← set, ← was_used, ← c.is_used-2.ensures) (c.shift-2.ensures.blocks b))
     (rw (← was_used, ← c.is_used-2.ensures) c.shift-2.ensures.all) in
     IsTracked-set h c.self.inside.tags.items c.self.inside.written c.self.inside.read
     c.self.inside.dirty c.self.inside.idle c.self.inside.used c.self.invariant c.args.at c.args.frame
