@@ -219,6 +219,13 @@ module _ (h : Held) (s : IsHeld h) (q : Wants) where
       let y = mz ∙ ap (in_set kept) ll in
       omega (arith, p, u, v, x, y, az)
 
+-- all that is counted is useful where no line is awaited and no room is wanted
+pub plain-all : (h : Held) → IsHeld h → (q : Wants) → q.awaited ≡ None → q.room ≡ None → (n : ℕ)
+    → n ≡ cond q.alone (count_ways used_way h.frames) (count_ways idle_way h.frames) → n ≡ length (useful_ways h.config q (maps h))
+plain-all h s q a r n e =
+    let p = put_right_as h s q h.config.sets n 0 0 0 0 None None refl (rw r refl) tt (rw a refl) tt e refl refl refl refl in
+    omega (arith, p)
+
 few-of : (u : Option FrameView → Bool) (h : Held) → IsHeld h → (t : ℕ) → count_set u h t ≤ 16
 unfolding count_set
 few-of u h s t =

@@ -146,6 +146,17 @@ impl SpecCache {
     pub fn useful_count(&self, wants: Wants) -> usize
         ensures { result ≡ length (useful_ways self.now.config (wants_of wants) (maps self.now)) }
     {
+        if wants.is_plain() {
+            return self.frames.useful_ways(wants.alone);
+        }
+        self.useful_count_of_sets(wants)
+    }
+
+    /// The same where a line is awaited or room is wanted.
+    #[inline(never)]
+    fn useful_count_of_sets(&self, wants: Wants) -> usize
+        ensures { result ≡ length (useful_ways self.now.config (wants_of wants) (maps self.now)) }
+    {
         let sets = self.frames.config().sets();
         let room = wants.room_set(sets);
         let line = wants.line_set(sets);

@@ -1,5 +1,5 @@
 // Which ways of a cache may be emptied with use.
-ghost use Rattle.std.specs.Prelude.{◌≡◌, ◌<◌, ◌/◌, ◌&&◌, ◌||◌, ℕ, false, not, Some, IfSome};
+ghost use Rattle.std.specs.Prelude.{◌≡◌, ◌<◌, ◌/◌, ◌&&◌, ◌||◌, ℕ, true, false, not, Some, None, IfSome};
 ghost use Rattle.rules_maps.specs.CacheUse.{is_number};
 ghost use Rattle.spec_cache.specs.PerSet.{idle_way, used_way};
 ghost use Rattle.spec_cache.specs.Useful.{wants_of, is_marked_frame, is_written_frame, useful_in, dirty_way, room_set as set_of_room};
@@ -36,6 +36,14 @@ impl Wants {
         ensures { result ≡ is_number self.now.room set }
     {
         is_set(self.room, set)
+    }
+
+    /// Whether no line is awaited and no room is wanted.
+    pub(crate) fn is_plain(&self) -> bool
+        ensures line { result ≡ true → (wants_of self.now).awaited ≡ None }
+        ensures room { result ≡ true → self.now.room ≡ None }
+    {
+        self.awaited.is_none() && self.room.is_none()
     }
 
     /// The set of the line that the core awaits, of as many.
