@@ -1,4 +1,5 @@
 pub mod MaskLaws
+pub mod PowerLaws
 pub mod FrameChanges
 pub mod FrameKept
 pub mod FrameList

@@ -2,25 +2,14 @@
 // few steps, one by any number tens of them.
 ghost use Rattle.std.specs.Prelude.{◌≡◌, ◌/◌, ◌%◌, ◌<◌};
 
-/// The set of a line, of as many sets.
-pub(crate) fn set_of(line: u32, sets: u16) -> u16
-    requires { 0 < sets }
-    ensures { result ≡ line % sets }
+use tcc_base::Config;
+
+/// The set of a line: the last bits of its number, since the number of sets is a power of two.
+pub(crate) fn set_of(line: u32, config: &Config) -> u16
+    ensures { result ≡ line % config.now.sets }
 {
-    match sets {
-        1 => 0,
-        2 => (line % 2) as u16,
-        4 => (line % 4) as u16,
-        8 => (line % 8) as u16,
-        16 => (line % 16) as u16,
-        32 => (line % 32) as u16,
-        64 => (line % 64) as u16,
-        128 => (line % 128) as u16,
-        256 => (line % 256) as u16,
-        512 => (line % 512) as u16,
-        1024 => (line % 1024) as u16,
-        _ => (line % sets as u32) as u16,
-    }
+    let mask = config.sets() as u32 - 1;
+    (line & mask) as u16
 }
 
 /// The home of a line, of as many directories.

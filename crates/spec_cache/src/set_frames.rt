@@ -100,7 +100,7 @@ impl SetFrames {
         let line = line_of_word(w);
         let cfg = self.ways.config();
         let ways = cfg.ways() as usize;
-        let first = set_of(line.0, cfg.sets()) as usize * ways;
+        let first = set_of(line.0, &cfg) as usize * ways;
         self.ways
             .hit(first, first + ways, line, place_of_word(w), mark)
     }
@@ -113,7 +113,7 @@ impl SetFrames {
         let line = line_of_word(w);
         let cfg = self.ways.config();
         let ways = cfg.ways() as usize;
-        let first = set_of(line.0, cfg.sets()) as usize * ways;
+        let first = set_of(line.0, &cfg) as usize * ways;
         let place = place_of_word(w);
         self.ways
             .store_again(first, first + ways, line, place, value, mark_read)
@@ -153,7 +153,7 @@ impl Ways for SetFrames {
     fn find(&self, line: LineAddr) -> Option<(usize, FrameView)> {
         let cfg = self.ways.config();
         let ways = cfg.ways() as usize;
-        let first = set_of(line.0, cfg.sets()) as usize * ways;
+        let first = set_of(line.0, &cfg) as usize * ways;
         self.ways.find_in(first, first + ways, line)
     }
 

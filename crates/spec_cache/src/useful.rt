@@ -6,7 +6,6 @@ ghost use Rattle.spec_cache.specs.Useful.{wants_of, is_marked_frame, is_written_
 ghost use Rattle.spec_cache.specs.Useful.{line_set as set_of_line, awaited_set as set_of_awaited, other_set};
 
 use crate::frame::FrameView;
-use crate::quotients::set_of;
 use tcc_base::LineAddr;
 
 /// What decides, beside the cache, which of its ways may be emptied with use.
@@ -52,7 +51,7 @@ impl Wants {
         ensures { result ≡ set_of_awaited sets (wants_of self.now) }
     {
         match self.awaited {
-            Some(line) => Some(set_of(line.0, sets)),
+            Some(line) => Some((line.0 % sets as u32) as u16),
             None => None,
         }
     }
@@ -89,7 +88,7 @@ impl Wants {
         ensures exists { IfSome result (λ s. s < sets) }
     {
         match self.awaited {
-            Some(line) => other(set_of(line.0, sets), self.room_set(sets)),
+            Some(line) => other((line.0 % sets as u32) as u16, self.room_set(sets)),
             None => None,
         }
     }
