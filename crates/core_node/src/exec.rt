@@ -223,6 +223,7 @@ fn exec_unless_awaiting(
 }
 
 /// The commit of a transaction whose directories all serve its TID.
+#[inline(always)]
 pub(crate) fn commit_ready(
     core: &mut Core,
     tid: Tid,
@@ -303,7 +304,7 @@ fn exec_left(core: &mut Core, code: &Code, out: &mut Outgoing) -> Result<Execute
 }
 
 /// Executes, commits or does nothing. What can be done at once is done first, since most instructions can.
-#[inline]
+#[inline(always)]
 pub(crate) fn exec(core: &mut Core, code: &Code, out: &mut Outgoing) -> Result<Executed, CoreError>
     requires whole { IsCore core.old }
     requires counts { core.old.n < attempt_limit }

@@ -97,6 +97,7 @@ impl CoreNode {
     /// Takes a message. Blocked exactly where the rules know no such message to a core; after an error the core is as before
     /// and nothing is sent. The sender exists.
     #[tactic(auto, unfolding(rules_tcc::specs::CoreDeliver::core_deliver))]
+    #[inline(always)]
     pub fn deliver(&mut self, src: NodeId, msg: &Msg, out: &mut Outgoing) -> Result<(), CoreError>
         requires { IsKnown self.old.config src }
         ensures does { OnOk result
@@ -117,7 +118,7 @@ impl CoreNode {
     /// exactly where the rules don't allow it: in any other phase, while a line is awaited, and while the instruction waits for room.
     /// After an error the core is as before and nothing is sent. The attempt has fewer than 4,194,304 instructions. Takes constant time,
     /// but for a commit, which takes time in the cache's frames, and for one of a core that is alone also in the spilled lines.
-    #[inline]
+    #[inline(always)]
     pub fn exec(&mut self, code: &Code, out: &mut Outgoing) -> Result<Executed, CoreError>
         requires short { self.old.n < run_limit }
         requires same { code.now.settings ≡ self.old.config }
@@ -136,6 +137,7 @@ impl CoreNode {
 
     /// Empties a way: its dirty words go home and its modified words to the overflow buffer. Blocked exactly where the rules
     /// don't allow it; after an error the core is as before and nothing is sent.
+    #[inline(always)]
     pub fn evict(&mut self, set: u16, way: u8, out: &mut Outgoing) -> Result<(), CoreError>
         requires set_exists { set < self.old.config.sets }
         requires way_exists { way < self.old.config.ways }
@@ -194,6 +196,7 @@ impl CoreNode {
     }
 
     /// Whether the core may execute, and how many evictions are useful: `can_exec` and `useful_evicts` at the price of one.
+    #[inline(always)]
     pub fn uses(&self, code: &Code) -> (bool, usize)
         requires { code.now.settings ≡ self.now.config }
         ensures exec { result.0 ≡ is_some (core_exec self.now.config (program (started code.now)) self.now.id.0 (core_of self.now)) }

@@ -49,6 +49,7 @@ pub(crate) fn useful_evicts(core: &Core, code: &Code) -> usize
 }
 
 /// Whether the core may execute, and how many evictions are useful: where it waits for room is looked for once.
+#[inline(always)]
 pub(crate) fn uses(core: &Core, code: &Code) -> (bool, usize)
     requires whole { IsCore core.now }
     requires same { code.now.settings ≡ core.now.config }

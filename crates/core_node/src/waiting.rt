@@ -20,6 +20,7 @@ use spec_cache::Look;
 use tcc_base::{LineAddr, Size, WordAddr};
 
 /// The set of a cache's answer in which room is waited for.
+#[inline(always)]
 fn room_of(look: Look, alone: bool) -> Option<u16>
     ensures { result ≡ room_after (look_of look) alone }
 {
@@ -32,6 +33,7 @@ fn room_of(look: Look, alone: bool) -> Option<u16>
 }
 
 /// Where the core waits for room that wants this word.
+#[inline(always)]
 fn room_at_word(core: &Core, w: WordAddr) -> Option<u16>
     requires { IsCore core.now }
     ensures { result ≡ room_for_word core.now.config w.0 (core_of core.now) }
@@ -43,6 +45,7 @@ fn room_at_word(core: &Core, w: WordAddr) -> Option<u16>
 }
 
 /// Where the core waits for room that stores this whole word.
+#[inline(always)]
 fn room_at_store(core: &Core, w: WordAddr) -> Option<u16>
     requires { IsCore core.now }
     ensures { result ≡ room_for_store core.now.config w.0 (core_of core.now) }
@@ -56,6 +59,7 @@ fn room_at_store(core: &Core, w: WordAddr) -> Option<u16>
 
 /// Where the core waits for room whose instruction needs this.
 #[tactic(auto, unfolding(rules_program::specs::Ram::word_of))]
+#[inline(always)]
 pub(crate) fn room_at_need(core: &Core, need: Need) -> Option<u16>
     requires whole { IsCore core.now }
     requires served { IsServed core.now.config.base core.now.config.ram need }
@@ -82,6 +86,7 @@ pub(crate) fn room_at_need(core: &Core, need: Need) -> Option<u16>
 }
 
 /// Where the core waits for room that awaits no line.
+#[inline(always)]
 fn room_at_pc(core: &Core, code: &Code) -> Option<u16>
     requires whole { IsCore core.now }
     requires same { code.now.settings ≡ core.now.config }
@@ -99,6 +104,7 @@ fn room_at_pc(core: &Core, code: &Code) -> Option<u16>
 }
 
 /// The same of a core that may await a line.
+#[inline(always)]
 fn room_unless_awaiting(core: &Core, code: &Code) -> Option<u16>
     requires whole { IsCore core.now }
     requires same { code.now.settings ≡ core.now.config }

@@ -148,6 +148,7 @@ impl Directory {
     /// what is answered, with the state after and what was sent, in order and to each destination. `leaves` says which messages
     /// that wait need no look then. After an error the directory and what is sent are as before; want of memory can come where
     /// something is sent or a TID is skipped ahead.
+    #[inline(always)]
     pub fn deliver(
         &mut self,
         src: CoreId,

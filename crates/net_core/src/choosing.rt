@@ -21,6 +21,7 @@ impl System {
     /// The k-th useful event, from 0: `Exec` by core, `Evict` by core, set and way, `Deliver` by source, destination and number. `None`
     /// exactly where there are no more than k. The time goes with the numbers of cores and of links divided by 256, and with what is
     /// in flight on one link.
+    #[inline(always)]
     pub fn useful_at(&self, k: u64) -> Option<Event>
         requires { self.now.unsent ≡ [] }
         ensures { option_map event_of result ≡ slice_get (useful (settings_of self.now) (program_of self.now) (world_of self.now)) k }

@@ -92,6 +92,7 @@ impl System {
 
     /// Puts what was sent on its links, where there was no memory for it before. After want of memory some of it may stand there. What
     /// is in flight stays as it is. It takes constant time where there is nothing to put.
+    #[inline(always)]
     pub fn settle(&mut self) -> Result<(), NoMemory>
         ensures settled { OnOk result (self.new.unsent ≡ []) }
         ensures history { history_of self.new ≡ history_of self.old }
@@ -107,6 +108,7 @@ impl System {
     }
 
     /// The same, where there may be something to put.
+    #[inline(never)]
     fn place(&mut self) -> Result<(), NoMemory>
         ensures settled { OnOk result (self.new.unsent ≡ []) }
         ensures history { history_of self.new ≡ history_of self.old }

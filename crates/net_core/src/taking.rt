@@ -30,6 +30,7 @@ pub enum StepError {
 
 impl System {
     /// Makes room for what an event may note, and puts on its links what was sent before.
+    #[inline(always)]
     fn prepare(&mut self) -> bool
         ensures ready { IsTrue result → (self.new.unsent ≡ []) × (0 < self.new.room) }
         ensures kept { Kept self.old self.new }
@@ -56,6 +57,7 @@ impl System {
     ///
     /// An instruction or a message that hits one line costs a constant and the logarithm of what is in flight; what a directory handles
     /// costs in the messages that wait for it.
+    #[inline(always)]
     pub fn step(&mut self, e: Event) -> Result<Step, StepError>
         requires { self.old.events < run_limit }
         ensures next { OnOk result

@@ -101,6 +101,7 @@ impl Code {
 
     /// What an instruction needs at a core's state; a trap where its access lies outside RAM, 5 for a load and 7 for a store or
     /// an atomic memory operation. Constant time, takes no memory.
+    #[inline(always)]
     pub fn plan(&self, inst: &Inst, at: &State) -> Need
         ensures need { need_of result ≡ bounded (in_ram self.now.settings) (planned inst.now at.now) }
         ensures served { IsServed self.now.settings.base self.now.settings.ram result }
@@ -109,6 +110,7 @@ impl Code {
     }
 
     #[tactic(auto, unfolding(crate::specs::Machine::in_ram))]
+    #[inline(always)]
     fn bounded(&self, need: Need) -> Need
         requires { IsPlanned need }
         ensures need { need_of result ≡ bounded (in_ram self.now.settings) (need_of need) }

@@ -20,6 +20,7 @@ use tcc_base::{Reg, Size};
 /// store-conditional (reserved or not) or an atomic memory operation is none, and with 11 at an ECALL whose x17 is none of 0, 1
 /// and 93. Whether an access lies in RAM is the caller's to see, after this.
 #[tactic(auto, unfolding(crate::specs::Effects::planned))]
+#[inline(always)]
 pub fn plan(inst: &Inst, at: &State) -> Need
     ensures need { need_of result ≡ planned inst.now at.now }
     ensures planned { IsPlanned result }

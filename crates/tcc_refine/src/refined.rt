@@ -75,6 +75,7 @@ impl Refined {
     }
 
     /// Takes an event: `System::step`. Room in the list is made before.
+    #[inline(always)]
     pub fn step(&mut self, e: Event) -> Result<Step, StepError>
         requires { self.old.machine.events < run_limit }
         ensures next { OnOk result
@@ -104,6 +105,7 @@ impl Refined {
     }
 
     /// Puts what was sent on its links: `System::settle`.
+    #[inline(always)]
     pub fn settle(&mut self) -> Result<(), NoMemory>
         ensures settled { OnOk result (self.new.machine.unsent ≡ []) }
         ensures history { history_of self.new.machine ≡ history_of self.old.machine }
