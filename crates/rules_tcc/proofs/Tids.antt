@@ -4,8 +4,8 @@ use Rattle.std.proofs.Common.{refl, ap, ◌∙◌, arith}
 use Rattle.std.specs.Prelude.{IfSome}
 use Rattle.base_lemmas.proofs.Lemmas.{node_eq-refl}
 use Rattle.rules_program.specs.Program.{Local, Program}
-use Rattle.rules_maps.specs.Nodes.{Node, Core, Dir, Vendor, Msg, TidReq, TidGrant, LoadReq, Fill, Skip, Probe, ProbeReply, Mark, Commit}
-use Rattle.rules_maps.specs.Nodes.{Abort, WriteBack, Flush, DataReq, Inv, InvAck, Event, Exec, Evict, Deliver, node_eq}
+use Rattle.rules_maps.specs.Nodes.{Node, Core, Dir, Vendor, Msg, TidReq, TidGrant}
+use Rattle.rules_maps.specs.Nodes.{Event, Exec, Evict, Deliver, node_eq}
 use Rattle.rules_maps.specs.Shape.{Shape}
 use Rattle.rules_tcc.specs.State.{World, Link, start, vendor_start}
 use Rattle.rules_tcc.specs.Links.{in_flight, sent_all}
@@ -71,20 +71,7 @@ granted-gives w c k TidReq =
       counts = grant-counts w.next c (w.net Vendor (Core c)) (node_eq (Core c) (Core c))
           (node_eq-refl (Core c));
     }
-granted-gives w c k (TidGrant t) = tt
-granted-gives w c k (LoadReq l a) = tt
-granted-gives w c k (Fill l ws) = tt
-granted-gives w c k (Skip t) = tt
-granted-gives w c k (Probe t) = tt
-granted-gives w c k (ProbeReply t s) = tt
-granted-gives w c k (Mark l m t) = tt
-granted-gives w c k (Commit t n) = tt
-granted-gives w c k (Abort t) = tt
-granted-gives w c k (WriteBack l m ws g) = tt
-granted-gives w c k (Flush l m ws g) = tt
-granted-gives w c k (DataReq l) = tt
-granted-gives w c k (Inv l m t) = tt
-granted-gives w c k (InvAck l b) = tt
+granted-gives w c k _ = tt
 
 delivered-gives : (sh : Shape) (w : World) (src dst : Node) (k : ℕ) (m : Msg)
     → IfSome (delivered sh w src dst k m) (λ t. Gives w (Deliver src dst k) t.world)

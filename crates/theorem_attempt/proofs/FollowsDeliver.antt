@@ -7,8 +7,8 @@ use Rattle.rules_program.specs.Plain.{Outcome, Goes}
 use Rattle.rules_program.specs.Program.{Program}
 use Rattle.rules_maps.specs.Words.{line_of, place_of, any_below}
 use Rattle.rules_maps.specs.Masks.{hit}
-use Rattle.rules_maps.specs.Nodes.{Node, Core, Dir, Vendor, Msg, TidReq, TidGrant, LoadReq, Fill, Skip, Probe, ProbeReply, Mark, Commit}
-use Rattle.rules_maps.specs.Nodes.{Abort, WriteBack, Flush, DataReq, Inv, InvAck}
+use Rattle.rules_maps.specs.Nodes.{Node, Core, Dir, Vendor, Msg, TidGrant, Fill, ProbeReply}
+use Rattle.rules_maps.specs.Nodes.{DataReq, Inv}
 use Rattle.rules_maps.specs.Shape.{Shape}
 use Rattle.rules_maps.specs.Cache.{IsCache, is_marked}
 use Rattle.rules_maps.specs.CacheChange.{filled, invalidated, cleaned, evicted, read_cleared}
@@ -245,35 +245,12 @@ from_dir-follows sh p d s us (ProbeReply t serving) k a = reply_in_phase-follows
 from_dir-follows sh p d s us (Fill l ws) k a = fill-follows sh p l ws s us k a
 from_dir-follows sh p d s us (DataReq l) k a = request-follows sh p l s us a
 from_dir-follows sh p d s us (Inv l m t) k a = invalidate-follows sh p l m t s us k a
-from_dir-follows sh p d s us TidReq k a = tt
-from_dir-follows sh p d s us (TidGrant t) k a = tt
-from_dir-follows sh p d s us (LoadReq l x) k a = tt
-from_dir-follows sh p d s us (Skip t) k a = tt
-from_dir-follows sh p d s us (Probe t) k a = tt
-from_dir-follows sh p d s us (Mark l m t) k a = tt
-from_dir-follows sh p d s us (Commit t n) k a = tt
-from_dir-follows sh p d s us (Abort t) k a = tt
-from_dir-follows sh p d s us (WriteBack l m ws t) k a = tt
-from_dir-follows sh p d s us (Flush l m ws t) k a = tt
-from_dir-follows sh p d s us (InvAck l b) k a = tt
+from_dir-follows sh p d s us _ k a = tt
 
 from_vendor-follows : (sh : Shape) (p : Program) (s : CoreState) (us : Uses) (m : Msg) → Follows sh p s us
     → OutGoes sh p (uses_delivered s m us) (from_vendor sh s m)
 from_vendor-follows sh p s us (TidGrant t) a = grant-follows sh p t s us a
-from_vendor-follows sh p s us TidReq a = tt
-from_vendor-follows sh p s us (ProbeReply t serving) a = tt
-from_vendor-follows sh p s us (Fill l ws) a = tt
-from_vendor-follows sh p s us (DataReq l) a = tt
-from_vendor-follows sh p s us (Inv l m t) a = tt
-from_vendor-follows sh p s us (LoadReq l x) a = tt
-from_vendor-follows sh p s us (Skip t) a = tt
-from_vendor-follows sh p s us (Probe t) a = tt
-from_vendor-follows sh p s us (Mark l m t) a = tt
-from_vendor-follows sh p s us (Commit t n) a = tt
-from_vendor-follows sh p s us (Abort t) a = tt
-from_vendor-follows sh p s us (WriteBack l m ws t) a = tt
-from_vendor-follows sh p s us (Flush l m ws t) a = tt
-from_vendor-follows sh p s us (InvAck l b) a = tt
+from_vendor-follows sh p s us _ a = tt
 
 -- the attempt goes on, or it was violated and begins anew
 pub core_deliver-follows : (sh : Shape) (p : Program) (s : CoreState) (us : Uses) (src : Node) (m : Msg) → SoundCore sh s

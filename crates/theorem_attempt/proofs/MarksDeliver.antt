@@ -8,8 +8,8 @@ use Rattle.tcc_base.specs.Put.{put}
 use Rattle.base_lemmas.proofs.Lemmas.{and-left, hit-line, neither-right}
 use Rattle.rules_maps.specs.Words.{line_of, place_of, word_at, any_below, any_word}
 use Rattle.rules_maps.specs.Masks.{hit}
-use Rattle.rules_maps.specs.Nodes.{Node, Core, Dir, Vendor, Msg, TidReq, TidGrant, LoadReq, Fill, Skip, Probe, ProbeReply, Mark, Commit}
-use Rattle.rules_maps.specs.Nodes.{Abort, WriteBack, Flush, DataReq, Inv, InvAck}
+use Rattle.rules_maps.specs.Nodes.{Node, Core, Dir, Vendor, Msg, TidGrant, Fill, ProbeReply}
+use Rattle.rules_maps.specs.Nodes.{DataReq, Inv}
 use Rattle.rules_maps.specs.Shape.{Shape}
 use Rattle.rules_maps.specs.Cache.{Cache, is_marked}
 use Rattle.rules_maps.specs.CacheChange.{filled, invalidated, cleaned, evicted, rolled_back, read_cleared}
@@ -455,35 +455,12 @@ from_dir-fit sh d s us (ProbeReply t serving) k = reply_in_phase-fit sh d t s us
 from_dir-fit sh d s us (Fill l ws) k = fill-fit sh l ws s us k
 from_dir-fit sh d s us (DataReq l) k = request-fit sh l s us k
 from_dir-fit sh d s us (Inv l m t) k = invalidate-fit sh l m t s us k
-from_dir-fit sh d s us TidReq k = tt
-from_dir-fit sh d s us (TidGrant t) k = tt
-from_dir-fit sh d s us (LoadReq l x) k = tt
-from_dir-fit sh d s us (Skip t) k = tt
-from_dir-fit sh d s us (Probe t) k = tt
-from_dir-fit sh d s us (Mark l m t) k = tt
-from_dir-fit sh d s us (Commit t n) k = tt
-from_dir-fit sh d s us (Abort t) k = tt
-from_dir-fit sh d s us (WriteBack l m ws t) k = tt
-from_dir-fit sh d s us (Flush l m ws t) k = tt
-from_dir-fit sh d s us (InvAck l b) k = tt
+from_dir-fit sh d s us _ k = tt
 
 from_vendor-fit : (sh : Shape) (s : CoreState) (us : Uses) (m : Msg) → MarksFit sh s us
     → OutMarks sh (uses_delivered s m us) (from_vendor sh s m)
 from_vendor-fit sh s us (TidGrant t) k = grant-fit sh t s us k
-from_vendor-fit sh s us TidReq k = tt
-from_vendor-fit sh s us (ProbeReply t serving) k = tt
-from_vendor-fit sh s us (Fill l ws) k = tt
-from_vendor-fit sh s us (DataReq l) k = tt
-from_vendor-fit sh s us (Inv l m t) k = tt
-from_vendor-fit sh s us (LoadReq l x) k = tt
-from_vendor-fit sh s us (Skip t) k = tt
-from_vendor-fit sh s us (Probe t) k = tt
-from_vendor-fit sh s us (Mark l m t) k = tt
-from_vendor-fit sh s us (Commit t n) k = tt
-from_vendor-fit sh s us (Abort t) k = tt
-from_vendor-fit sh s us (WriteBack l m ws t) k = tt
-from_vendor-fit sh s us (Flush l m ws t) k = tt
-from_vendor-fit sh s us (InvAck l b) k = tt
+from_vendor-fit sh s us _ k = tt
 
 pub core_deliver-fit : (sh : Shape) (s : CoreState) (us : Uses) (src : Node) (m : Msg) → MarksFit sh s us
     → OutMarks sh (uses_delivered s m us) (core_deliver sh s src m)

@@ -8,8 +8,8 @@ use Rattle.tcc_base.specs.Put.{put}
 use Rattle.base_lemmas.proofs.Lemmas.{neither-left, neither-right}
 use Rattle.rules_program.specs.Program.{Local, Program}
 use Rattle.rules_maps.specs.Words.{line_of, word_at, any_word, any_below}
-use Rattle.rules_maps.specs.Nodes.{Node, Core, Dir, Vendor, Msg, TidReq, TidGrant, LoadReq, Fill, Skip, Probe, ProbeReply, Mark, Commit}
-use Rattle.rules_maps.specs.Nodes.{Abort, WriteBack, Flush, DataReq, Inv, InvAck, Event, Exec, Evict, Deliver}
+use Rattle.rules_maps.specs.Nodes.{Node, Core, Dir, Vendor, Msg, TidGrant, Fill, ProbeReply}
+use Rattle.rules_maps.specs.Nodes.{DataReq, Inv, Event, Exec, Evict, Deliver}
 use Rattle.rules_maps.specs.Shape.{Shape}
 use Rattle.rules_maps.specs.Cache.{Cache, is_marked, empty_cache}
 use Rattle.rules_maps.specs.CacheChange.{filled, invalidated, cleaned, evicted, rolled_back, read_cleared}
@@ -276,34 +276,11 @@ from_dir-sound sh d s (ProbeReply t serving) k = reply-sound sh d t s k
 from_dir-sound sh d s (Fill l ws) k = fill-sound sh l ws s k
 from_dir-sound sh d s (DataReq l) k = request-sound sh l s k
 from_dir-sound sh d s (Inv l m t) k = invalidate-sound sh l m t s k
-from_dir-sound sh d s TidReq k = tt
-from_dir-sound sh d s (TidGrant t) k = tt
-from_dir-sound sh d s (LoadReq l a) k = tt
-from_dir-sound sh d s (Skip t) k = tt
-from_dir-sound sh d s (Probe t) k = tt
-from_dir-sound sh d s (Mark l m t) k = tt
-from_dir-sound sh d s (Commit t n) k = tt
-from_dir-sound sh d s (Abort t) k = tt
-from_dir-sound sh d s (WriteBack l m ws t) k = tt
-from_dir-sound sh d s (Flush l m ws t) k = tt
-from_dir-sound sh d s (InvAck l b) k = tt
+from_dir-sound sh d s _ k = tt
 
 from_vendor-sound : (sh : Shape) (s : CoreState) (m : Msg) → SoundCore sh s → OutSound sh (from_vendor sh s m)
 from_vendor-sound sh s (TidGrant t) k = grant-sound sh t s k
-from_vendor-sound sh s TidReq k = tt
-from_vendor-sound sh s (ProbeReply t serving) k = tt
-from_vendor-sound sh s (Fill l ws) k = tt
-from_vendor-sound sh s (DataReq l) k = tt
-from_vendor-sound sh s (Inv l m t) k = tt
-from_vendor-sound sh s (LoadReq l a) k = tt
-from_vendor-sound sh s (Skip t) k = tt
-from_vendor-sound sh s (Probe t) k = tt
-from_vendor-sound sh s (Mark l m t) k = tt
-from_vendor-sound sh s (Commit t n) k = tt
-from_vendor-sound sh s (Abort t) k = tt
-from_vendor-sound sh s (WriteBack l m ws t) k = tt
-from_vendor-sound sh s (Flush l m ws t) k = tt
-from_vendor-sound sh s (InvAck l b) k = tt
+from_vendor-sound sh s _ k = tt
 
 pub core_deliver-sound : (sh : Shape) (s : CoreState) (src : Node) (m : Msg) → SoundCore sh s → OutSound sh (core_deliver sh s src m)
 unfolding core_deliver

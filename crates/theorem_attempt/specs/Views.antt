@@ -3,8 +3,8 @@
 use Rattle.std.specs.Prelude.{ℕ, Bool, true, false, cond, ◌&&◌, List, [], ◌∷◌, ◌++◌, Option, Some, None, is_some}
 use Rattle.tcc_base.specs.Put.{put}
 use Rattle.rules_program.specs.Program.{Program}
-use Rattle.rules_maps.specs.Nodes.{Node, Core, Dir, Vendor, Msg, TidReq, TidGrant, LoadReq, Fill, Skip, Probe, ProbeReply, Mark, Commit}
-use Rattle.rules_maps.specs.Nodes.{Abort, WriteBack, Flush, DataReq, Inv, InvAck, Event, Exec, Evict, Deliver}
+use Rattle.rules_maps.specs.Nodes.{Node, Core, Dir, Vendor, Msg}
+use Rattle.rules_maps.specs.Nodes.{Inv, Event, Exec, Evict, Deliver}
 use Rattle.rules_maps.specs.Shape.{Shape}
 use Rattle.rules_tcc.specs.State.{CoreState, Phase, Running, AwaitTid, DoomedTid, Probing, Ready, Overflowing, Solo, Halted, World}
 use Rattle.rules_tcc.specs.Attempt.{Out}
@@ -40,20 +40,7 @@ uses_violated b q us = cond (b && rolls_back q) [] us
 -- the uses after a message
 abbrev pub uses_delivered : CoreState → Msg → Uses → Uses
 uses_delivered s (Inv l m u) us = uses_violated (is_violated l m u s) s.phase us
-uses_delivered s TidReq us = us
-uses_delivered s (TidGrant t) us = us
-uses_delivered s (LoadReq l x) us = us
-uses_delivered s (Fill l ws) us = us
-uses_delivered s (Skip t) us = us
-uses_delivered s (Probe t) us = us
-uses_delivered s (ProbeReply t serving) us = us
-uses_delivered s (Mark l m t) us = us
-uses_delivered s (Commit t n) us = us
-uses_delivered s (Abort t) us = us
-uses_delivered s (WriteBack l m ws t) us = us
-uses_delivered s (Flush l m ws t) us = us
-uses_delivered s (DataReq l) us = us
-uses_delivered s (InvAck l b) us = us
+uses_delivered s _ us = us
 
 -- each core's view
 abbrev pub Views : Type 0

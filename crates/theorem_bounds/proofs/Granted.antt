@@ -107,16 +107,10 @@ out_granted sh h r c d k (Probe t) cl dl e g = granted_to sh h r c t ((r.carried
     (omega (arith, flies (Probes t) (h.world.net (Core c) (Dir d)) k (Probe t) e (eq-self t)))).0)
 out_granted sh h r c d k (Mark l m t) cl dl e g = granted_to sh h r c t (r.carried.marks_sent_are_in_flight_or_handled.0 c d t
     (flies (Marks t) (h.world.net (Core c) (Dir d)) k (Mark l m t) e (eq-self t)))
-out_granted sh h r c d k (LoadReq l a) cl dl e g = tt
-out_granted sh h r c d k (WriteBack l m ws u) cl dl e g = tt
-out_granted sh h r c d k (Flush l m ws u) cl dl e g = tt
-out_granted sh h r c d k (InvAck l b) cl dl e g = tt
-out_granted sh h r c d k TidReq cl dl e g = tt
-out_granted sh h r c d k (DataReq l) cl dl e g = tt
-out_granted sh h r c d k (Fill l ws) cl dl e g = tt
 out_granted sh h r c d k (TidGrant t) cl dl e g = absurd (cc)
 out_granted sh h r c d k (ProbeReply t s) cl dl e g = absurd (cc)
 out_granted sh h r c d k (Inv l m t) cl dl e g = absurd (cc)
+out_granted sh h r c d k _ cl dl e g = tt
 
 -- an invalidation is of the served TID, which was granted where a line is marked
 inv_granted : (sh : Shape) (h : History) (r : Reached sh h) (c d k l m t : ℕ) → c < sh.cores → d < sh.dirs
