@@ -1,7 +1,8 @@
--- What other crates may cite: all that rules compute with, the laws of useful events and of picked schedules, where merged logs lead,
--- and that equal nodes are one.
+-- What other crates may cite: all that rules compute with, what an eviction is, the laws of useful events and of picked schedules, where
+-- merged logs lead, and that equal nodes are one.
 pub use Rattle.rules_tcc.proofs.Acts.{if-step}
 unfoldable pub use Rattle.rules_tcc.proofs.Computed.{computed}
+pub use Rattle.rules_tcc.proofs.Evicts.{each-evict, emptied}
 pub use Rattle.rules_tcc.proofs.LocalStep.{begins}
 pub use Rattle.rules_tcc.proofs.Mailed.{node_eq-eq}
 pub use Rattle.rules_tcc.proofs.Merged.{merged-runs}

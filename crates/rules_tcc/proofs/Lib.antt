@@ -2,6 +2,7 @@ pub mod Acts
 pub mod Ordered
 pub mod Useful
 pub mod Done
+pub mod Evicts
 pub mod Tids
 pub mod Mailed
 pub mod LocalStep

@@ -1,5 +1,5 @@
 -- Evict and messages leave an attempt what it was, or begin it anew.
-use Rattle.std.proofs.Common.{◌≡◌, ℕ, Bool, true, false, not, cond, ◌&&◌, ◌||◌, List, [], get_or, Option, Some, None, is_some, refl, ap}
+use Rattle.std.proofs.Common.{◌≡◌, ℕ, Bool, true, false, not, cond, ◌&&◌, List, [], get_or, Option, Some, None, is_some, refl, ap}
 use Rattle.std.proofs.Common.{sym, subst}
 use Rattle.std.specs.Prelude.{IfSome, unwrap_or, ◌==◌, nat_lt}
 use Rattle.tcc_base.specs.Put.{put}
@@ -10,19 +10,20 @@ use Rattle.rules_maps.specs.Masks.{hit}
 use Rattle.rules_maps.specs.Nodes.{Node, Core, Dir, Vendor, Msg, TidGrant, Fill, ProbeReply}
 use Rattle.rules_maps.specs.Nodes.{DataReq, Inv}
 use Rattle.rules_maps.specs.Shape.{Shape}
-use Rattle.rules_maps.specs.Cache.{IsCache, is_marked}
+use Rattle.rules_maps.specs.Cache.{IsCache}
 use Rattle.rules_maps.specs.CacheChange.{filled, invalidated, cleaned, evicted, read_cleared}
 use Rattle.rules_maps.specs.Spilled.{spill_line, none_spilled}
 use Rattle.rules_maps.proofs.Lemmas.{value-evicted, modified-evicted, value-filled, modified-filled, value-invalidated}
 use Rattle.rules_maps.proofs.Lemmas.{modified-invalidated}
 use Rattle.rules_maps.proofs.Lemmas.{modified-rolled_back}
 use Rattle.rules_tcc.specs.State.{CoreState, Awaited, Phase, Running, AwaitTid, DoomedTid, Probing, Ready, Overflowing, Solo, Halted}
-use Rattle.rules_tcc.specs.Sends.{nothing, to, marks_for, write_back_line}
+use Rattle.rules_tcc.specs.Sends.{nothing, to, marks_for}
 use Rattle.rules_tcc.specs.Attempt.{Out, moves, is_solo, roll_back}
-use Rattle.rules_tcc.specs.CoreEvict.{is_awaited, evict_line, core_evict}
+use Rattle.rules_tcc.specs.CoreEvict.{core_evict}
 use Rattle.rules_tcc.specs.CoreDeliver.{ignored, grant_in_phase, grant, probing_or_ready, is_probed, replied, all_replied, reply_in_phase}
 use Rattle.rules_tcc.specs.CoreDeliver.{probe_reply, fill_awaited, fill, data_request, violated_in_phase, if_violated, staled}
 use Rattle.rules_tcc.specs.CoreDeliver.{words_invalidated, is_violated, acknowledged, invalidate, from_dir, from_vendor, core_deliver}
+use Rattle.rules_tcc.proofs.Lemmas.{each-evict}
 use Rattle.theorem_attempt.specs.Sound.{SoundCore}
 use Rattle.theorem_attempt.specs.Follows.{Uses, sees, HasEnded, EndFits, Follows}
 use Rattle.theorem_attempt.specs.Views.{uses_violated, uses_delivered}
@@ -47,23 +48,11 @@ evicted-seen sh x y l s e k ram v =
     at true false q (Some z) r = refl
     at false m q o r = refl
 
-evict_line-follows : (sh : Shape) (p : Program) (x y : ℕ) (s : CoreState) (us : Uses) (o : Option ℕ) → s.cache.at x y ≡ o → SoundCore sh s
-    → Follows sh p s us → IfSome (evict_line sh x y s o) (λ t. Follows sh p t.core us)
-evict_line-follows sh p x y s us None e k a = tt
-evict_line-follows sh p x y s us (Some l) e k a = at (is_awaited s.awaited l || (is_marked s.cache l && not (is_solo s.phase)))
-  where
-    at : (b : Bool)
-        → IfSome (cond b None (Some
-        (moves (record s { cache = evicted x y s.cache; spilled = spill_line l s.cache s.spilled })
-        (write_back_line sh s.cache l)))) (λ t. Follows sh p t.core us)
-    at true = tt
-    at false = follows-same sh p s us (evicted x y s.cache) (spill_line l s.cache s.spilled) s.awaited s.owing
-        (evicted-seen sh x y l s e k) a
-
 pub core_evict-follows : (sh : Shape) (p : Program) (x y : ℕ) (s : CoreState) (us : Uses) → SoundCore sh s → Follows sh p s us
     → IfSome (core_evict sh x y s) (λ t. Follows sh p t.core us)
-unfolding core_evict
-core_evict-follows sh p x y s us k a = evict_line-follows sh p x y s us (s.cache.at x y) refl k a
+core_evict-follows sh p x y s us k a = each-evict sh x y s (λ o. Follows sh p o.core us)
+    (λ l e n m. follows-same sh p s us (evicted x y s.cache) (spill_line l s.cache s.spilled) s.awaited s.owing
+    (evicted-seen sh x y l s e k) a)
 
 ends-in : (s : CoreState) (q : Phase) → s.phase ≡ q → EndFits s.phase s.ended → EndFits q s.ended
 ends-in s q e h = subst (λ (x : Phase). EndFits x s.ended) e h

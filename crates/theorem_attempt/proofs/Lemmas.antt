@@ -6,5 +6,5 @@ pub use Rattle.theorem_attempt.proofs.FollowsRun.{attempts-fit, start-follows}
 pub use Rattle.theorem_attempt.proofs.Marks.{SameBut, core_exec-fit, finished-same, none-used}
 pub use Rattle.theorem_attempt.proofs.MarksDeliver.{core_deliver-fit, core_evict-fit, hit-reads}
 pub use Rattle.theorem_attempt.proofs.Sound.{finished-sound}
-pub use Rattle.theorem_attempt.proofs.SoundDeliver.{core_deliver-sound, core_evict-sound, rolled-sound, start-sound}
+pub use Rattle.theorem_attempt.proofs.SoundDeliver.{core_deliver-sound, core_evict-sound, emptied-sound, rolled-sound, start-sound}
 pub use Rattle.theorem_attempt.proofs.SoundExec.{commit-sound, core_exec-sound, solo_commit-sound}

@@ -5,7 +5,7 @@ use Rattle.std.specs.Prelude.{IfSome, unwrap_or, ◌==◌, nat_lt}
 use Rattle.std.proofs.lemmas.Bool.{cases_Bool, cases_eq}
 use Rattle.std.proofs.lemmas.Bool.Decides.{nat_tests}
 use Rattle.tcc_base.specs.Put.{put}
-use Rattle.base_lemmas.proofs.Lemmas.{and-left, hit-line, neither-right}
+use Rattle.base_lemmas.proofs.Lemmas.{and-left, hit-line}
 use Rattle.rules_maps.specs.Words.{line_of, place_of, word_at, any_below, any_word}
 use Rattle.rules_maps.specs.Masks.{hit}
 use Rattle.rules_maps.specs.Nodes.{Node, Core, Dir, Vendor, Msg, TidGrant, Fill, ProbeReply}
@@ -14,17 +14,18 @@ use Rattle.rules_maps.specs.Shape.{Shape}
 use Rattle.rules_maps.specs.Cache.{Cache, is_marked}
 use Rattle.rules_maps.specs.CacheChange.{filled, invalidated, cleaned, evicted, rolled_back, read_cleared}
 use Rattle.rules_maps.specs.CacheLook.{reads_masked}
-use Rattle.rules_maps.specs.Spilled.{spill_line, none_spilled}
+use Rattle.rules_maps.specs.Spilled.{none_spilled}
 use Rattle.rules_maps.proofs.Lemmas.{any_below-at, value-evicted, read-evicted, modified-evicted, value-filled, read-filled}
 use Rattle.rules_maps.proofs.Lemmas.{modified-filled}
 use Rattle.rules_maps.proofs.Lemmas.{value-invalidated, read-invalidated, modified-invalidated, read-cleaned, read-rolled_back}
 use Rattle.rules_tcc.specs.State.{CoreState, Awaited, Phase, Running, AwaitTid, DoomedTid, Probing, Ready, Overflowing, Solo, Halted}
-use Rattle.rules_tcc.specs.Sends.{nothing, to, marks_for, write_back_line}
+use Rattle.rules_tcc.specs.Sends.{nothing, to, marks_for}
 use Rattle.rules_tcc.specs.Attempt.{Out, moves, is_solo, roll_back}
-use Rattle.rules_tcc.specs.CoreEvict.{is_awaited, evict_line, core_evict}
+use Rattle.rules_tcc.specs.CoreEvict.{core_evict}
 use Rattle.rules_tcc.specs.CoreDeliver.{ignored, grant_in_phase, grant, probing_or_ready, is_probed, replied, all_replied, reply_in_phase}
 use Rattle.rules_tcc.specs.CoreDeliver.{probe_reply, fill_awaited, fill, data_request, may_be_above, violated_in_phase, if_violated, staled}
 use Rattle.rules_tcc.specs.CoreDeliver.{words_invalidated, is_violated, acknowledged, invalidate, from_dir, from_vendor, core_deliver}
+use Rattle.rules_tcc.proofs.Lemmas.{each-evict}
 use Rattle.theorem_attempt.specs.Follows.{Uses}
 use Rattle.theorem_attempt.specs.Marks.{StillHas, UseStands, AllStand, UsesStand, OnlyUsed, awaits_in, owed_in, MarksFit}
 use Rattle.theorem_attempt.specs.Views.{uses_violated, uses_delivered}
@@ -99,44 +100,20 @@ evicted-reads x y l c e v h = at (l == line_of v) (sym (read-evicted x y c v l e
     at false q = q
 
 -- a core that is alone has no read marks to lose
-evicted-uses : (x y l : ℕ) (c : Cache) (us : Uses) (q : Phase) → c.at x y ≡ Some l → (is_marked c l && not (is_solo q)) ≡ false
+evicted-uses : (x y l : ℕ) (c : Cache) (us : Uses) (q : Phase) → c.at x y ≡ Some l → (is_marked c l ≡ false) ⊎ (is_solo q ≡ true)
     → UsesStand c us q → UsesStand (evicted x y c) us q
-evicted-uses x y l c us (Solo t) e m h = λ v. evicted-unread x y l c e v (h v)
-evicted-uses x y l c us Running e m h = uses-kept c (evicted x y c) us Running (evicted-stands x y l c e (grind (arith, nat_tests))) h
-evicted-uses x y l c us AwaitTid e m h = uses-kept c (evicted x y c) us AwaitTid (evicted-stands x y l c e (grind (arith, nat_tests))) h
-evicted-uses x y l c us DoomedTid e m h = h
-evicted-uses x y l c us (Probing t) e m h =
-    uses-kept c (evicted x y c) us (Probing t) (evicted-stands x y l c e (grind (arith, nat_tests))) h
-evicted-uses x y l c us (Ready t) e m h = uses-kept c (evicted x y c) us (Ready t) (evicted-stands x y l c e (grind (arith, nat_tests))) h
-evicted-uses x y l c us (Overflowing None) e m h =
-    uses-kept c (evicted x y c) us (Overflowing None) (evicted-stands x y l c e (grind (arith, nat_tests))) h
-evicted-uses x y l c us (Overflowing (Some t)) e m h =
-    uses-kept c (evicted x y c) us (Overflowing (Some t)) (evicted-stands x y l c e (grind (arith, nat_tests))) h
-evicted-uses x y l c us Halted e m h = h
-
-evict_line-fit : (sh : Shape) (x y : ℕ) (s : CoreState) (us : Uses) (o : Option ℕ) → s.cache.at x y ≡ o → MarksFit sh s us
-    → IfSome (evict_line sh x y s o) (λ t. MarksFit sh t.core us)
-evict_line-fit sh x y s us None e m = tt
-evict_line-fit sh x y s us (Some l) e m = at (is_awaited s.awaited l || (is_marked s.cache l && not (is_solo s.phase))) refl
-  where
-    at : (b : Bool) → (is_awaited s.awaited l || (is_marked s.cache l && not (is_solo s.phase))) ≡ b
-        → IfSome (cond b None (Some
-        (moves (record s { cache = evicted x y s.cache; spilled = spill_line l s.cache s.spilled })
-        (write_back_line sh s.cache l)))) (λ t. MarksFit sh t.core us)
-    at true q = tt
-    at false q =
-        record {
-          stand = evicted-uses x y l s.cache us s.phase e
-              (neither-right (is_awaited s.awaited l) (is_marked s.cache l && not (is_solo s.phase)) q) m.stand;
-          used = fewer-used s.cache (evicted x y s.cache) us (evicted-reads x y l s.cache e) m.used;
-          awaits = m.awaits;
-          owes = m.owes;
-        }
+evicted-uses x y l c us q e (inl u) h = uses-kept c (evicted x y c) us q (evicted-stands x y l c e u) h
+evicted-uses x y l c us (Solo t) e (inr i) h = λ v. evicted-unread x y l c e v (h v)
+evicted-uses x y l c us q e (inr i) h = absurd (cc)
 
 pub core_evict-fit : (sh : Shape) (x y : ℕ) (s : CoreState) (us : Uses) → MarksFit sh s us
     → IfSome (core_evict sh x y s) (λ t. MarksFit sh t.core us)
-unfolding core_evict
-core_evict-fit sh x y s us m = evict_line-fit sh x y s us (s.cache.at x y) refl m
+core_evict-fit sh x y s us m = each-evict sh x y s (λ o. MarksFit sh o.core us) (λ l e n u. record {
+  stand = evicted-uses x y l s.cache us s.phase e u m.stand;
+  used = fewer-used s.cache (evicted x y s.cache) us (evicted-reads x y l s.cache e) m.used;
+  awaits = m.awaits;
+  owes = m.owes;
+})
 
 stand-in : (s : CoreState) (us : Uses) (q : Phase) → s.phase ≡ q → UsesStand s.cache us s.phase → UsesStand s.cache us q
 stand-in s us q e h = subst (λ (x : Phase). UsesStand s.cache us x) e h

@@ -1,11 +1,10 @@
 -- Evict and messages keep what holds of a core, so every event of the machine does.
-use Rattle.std.proofs.Common.{◌≡◌, ℕ, ◌%◌, Bool, true, false, not, cond, ◌&&◌, ◌||◌, ⊎_elim, List, [], ◌∷◌, Option, Some, None, is_some}
-use Rattle.std.proofs.Common.{refl, ap, sym, ◌∙◌, subst, arith}
+use Rattle.std.proofs.Common.{◌≡◌, ℕ, ◌%◌, Bool, true, false, cond, ◌&&◌, ◌||◌, ◌⊎◌, inl, inr, ⊎_elim, List, [], ◌∷◌, Option, Some, None}
+use Rattle.std.proofs.Common.{is_some, refl, ap, sym, ◌∙◌, subst, arith}
 use Rattle.std.specs.Prelude.{IfSome, ◌==◌, nat_lt}
 use Rattle.std.proofs.lemmas.Bool.{cases_Bool, cases_eq}
 use Rattle.std.proofs.lemmas.Bool.Decides.{nat_tests}
 use Rattle.tcc_base.specs.Put.{put}
-use Rattle.base_lemmas.proofs.Lemmas.{neither-left, neither-right}
 use Rattle.rules_program.specs.Program.{Local, Program}
 use Rattle.rules_maps.specs.Words.{line_of, word_at, any_word, any_below}
 use Rattle.rules_maps.specs.Nodes.{Node, Core, Dir, Vendor, Msg, TidGrant, Fill, ProbeReply}
@@ -22,10 +21,10 @@ use Rattle.rules_maps.proofs.Lemmas.{read-rolled_back, modified-rolled_back, hel
 use Rattle.rules_tcc.specs.State.{CoreState, Awaited, Phase, Running, AwaitTid, DoomedTid, Probing, Ready, Overflowing, Solo, Halted, World}
 use Rattle.rules_tcc.specs.State.{core_start, start}
 use Rattle.rules_tcc.specs.Links.{in_flight}
-use Rattle.rules_tcc.specs.Sends.{nothing, to, marks_for, write_back_line}
+use Rattle.rules_tcc.specs.Sends.{nothing, to, marks_for}
 use Rattle.rules_tcc.specs.Attempt.{Out, moves, is_solo, roll_back}
 use Rattle.rules_tcc.specs.CoreExec.{core_exec}
-use Rattle.rules_tcc.specs.CoreEvict.{is_awaited, evict_line, core_evict}
+use Rattle.rules_tcc.specs.CoreEvict.{is_awaited, core_evict}
 use Rattle.rules_tcc.specs.CoreDeliver.{ignored, grant_in_phase, grant, probing_or_ready, is_probed, replied, all_replied}
 use Rattle.rules_tcc.specs.CoreDeliver.{ready_once_replied, solo_once_replied, reply_in_phase, probe_reply, fill_awaited, fill}
 use Rattle.rules_tcc.specs.CoreDeliver.{data_request, violated_in_phase, if_violated, staled, words_invalidated, is_violated, acknowledged}
@@ -36,7 +35,7 @@ use Rattle.rules_tcc.specs.Step.{Stepped, History, core_moves, core_takes, dir_t
 use Rattle.rules_tcc.specs.Step.{answered, if_vendor_gives, delivered, if_in_flight, names_nodes, happens, step, recorded, and_noted}
 use Rattle.rules_tcc.specs.Step.{next_history, and_then, run_from, run}
 use Rattle.theorem_attempt.specs.Sound.{AwaitsHeld, is_idle, SoundCore}
-use Rattle.rules_tcc.proofs.Lemmas.{if-step}
+use Rattle.rules_tcc.proofs.Lemmas.{if-step, each-evict, emptied}
 use Rattle.theorem_attempt.proofs.Sound.{OutSound}
 use Rattle.theorem_attempt.proofs.SoundExec.{core_exec-sound}
 
@@ -84,31 +83,23 @@ spill-apart x y l c sp e f v w i h = ⊎_elim
     let a = f v w i s in (modified-evicted x y c w l e ∙ grind (arith, nat_tests), dirty-evicted x y c w l e ∙ grind (arith, nat_tests)))
     (cases_eq l (line_of w))
 
-evict_line-sound : (sh : Shape) (x y : ℕ) (s : CoreState) (o : Option ℕ) → s.cache.at x y ≡ o → SoundCore sh s
-    → OutSound sh (evict_line sh x y s o)
-evict_line-sound sh x y s None e k = tt
-evict_line-sound sh x y s (Some l) e k = at (is_awaited s.awaited l || (is_marked s.cache l && not (is_solo s.phase))) refl
+pub emptied-sound : (sh : Shape) (x y l : ℕ) (s : CoreState) → s.cache.at x y ≡ Some l → is_awaited s.awaited l ≡ false
+    → (is_marked s.cache l ≡ false) ⊎ (is_solo s.phase ≡ true) → SoundCore sh s → SoundCore sh (emptied sh x y l s).core
+emptied-sound sh x y l s e n m k = record {
+  cache = evicted-keeps sh x y s.cache k.cache;
+  awaits = evicted-awaits x y l s.cache s.awaited e n k.awaits;
+  alone = λ i w. spill-none s.cache l s.spilled w (unmarked i m) (k.alone i w);
+  apart = spill-apart x y l s.cache s.spilled e k.apart;
+  unmarked = λ i w. let a = k.unmarked i w in
+      (read-evicted x y s.cache w l e ∙ grind (arith, nat_tests), modified-evicted x y s.cache w l e ∙ grind (arith, nat_tests));
+}
   where
-    at : (b : Bool) → (is_awaited s.awaited l || (is_marked s.cache l && not (is_solo s.phase))) ≡ b
-        → OutSound sh (cond b None
-        (Some (moves (record s { cache = evicted x y s.cache; spilled = spill_line l s.cache s.spilled })
-        (write_back_line sh s.cache l))))
-    at true q = tt
-    at false q =
-        let n = neither-left (is_awaited s.awaited l) (is_marked s.cache l && not (is_solo s.phase)) q in
-        let r = neither-right (is_awaited s.awaited l) (is_marked s.cache l && not (is_solo s.phase)) q in
-        record {
-          cache = evicted-keeps sh x y s.cache k.cache;
-          awaits = evicted-awaits x y l s.cache s.awaited e n k.awaits;
-          alone = λ i w. spill-none s.cache l s.spilled w (grind (arith, nat_tests)) (k.alone i w);
-          apart = spill-apart x y l s.cache s.spilled e k.apart;
-          unmarked = λ i w. let a = k.unmarked i w in
-              (read-evicted x y s.cache w l e ∙ grind (arith, nat_tests), modified-evicted x y s.cache w l e ∙ grind (arith, nat_tests));
-        }
+    unmarked : is_solo s.phase ≡ false → (is_marked s.cache l ≡ false) ⊎ (is_solo s.phase ≡ true) → is_marked s.cache l ≡ false
+    unmarked i (inl u) = u
+    unmarked i (inr a) = absurd (cc)
 
 pub core_evict-sound : (sh : Shape) (x y : ℕ) (s : CoreState) → SoundCore sh s → OutSound sh (core_evict sh x y s)
-unfolding core_evict
-core_evict-sound sh x y s k = evict_line-sound sh x y s (s.cache.at x y) refl k
+core_evict-sound sh x y s k = each-evict sh x y s (λ o. SoundCore sh o.core) (λ l e n m. emptied-sound sh x y l s e n m k)
 
 -- another phase in which the core has an attempt
 rephased : (sh : Shape) (s : CoreState) (q : Phase) (owing : ℕ → Bool) → is_idle q ≡ false → is_solo s.phase ≡ false → SoundCore sh s

@@ -9,7 +9,6 @@ use Rattle.rules_program.specs.Program.{Need, Nothing, Loads, Stores, Changes, P
 use Rattle.rules_program.specs.Ram.{word_of}
 use Rattle.rules_maps.specs.Words.{line_of, those, count_below}
 use Rattle.rules_maps.specs.Cache.{Cache, free_way, all_marked, modified_mask, is_modified, dirty_copy, written_lines, writes_at, reads_at}
-use Rattle.rules_maps.specs.Cache.{is_marked}
 use Rattle.rules_maps.specs.Nodes.{Dir, Vendor, Msg, TidReq, LoadReq, Fill, Skip, Probe, ProbeReply, Mark, Commit, Abort, WriteBack, Flush}
 use Rattle.rules_maps.specs.Nodes.{DataReq, Inv, InvAck, Tagged}
 use Rattle.rules_maps.specs.Shape.{Shape, home, lines, set_of}
@@ -21,13 +20,14 @@ use Rattle.rules_tcc.specs.Commit.{solo_marks_or_skip, solo_write_backs, solo_se
 use Rattle.rules_tcc.specs.CoreDeliver.{grant_sends, grant_in_phase, grant, replied, all_replied, ready_once_replied, solo_once_replied}
 use Rattle.rules_tcc.specs.CoreDeliver.{reply_in_phase, probe_reply, fill_awaited, fill, data_request, violated_in_phase, if_violated}
 use Rattle.rules_tcc.specs.CoreDeliver.{is_violated, words_invalidated, acknowledged, invalidate, from_dir, ignored}
-use Rattle.rules_tcc.specs.CoreEvict.{is_awaited, evict_line, core_evict}
+use Rattle.rules_tcc.specs.CoreEvict.{core_evict}
 use Rattle.rules_tcc.specs.CoreExec.{unless_awaiting, exec_in_phase, core_exec}
 use Rattle.rules_tcc.specs.Execute.{request_line, place, overflow, full_set, miss, with_read_mark, load_valid, load_spilled, load}
 use Rattle.rules_tcc.specs.Execute.{stored_in_buffer, stored_in_frame, word_store, marks_read, change_valid, change_spilled, partial_store}
 use Rattle.rules_tcc.specs.Execute.{end_transaction, execute_need, execute}
 use Rattle.rules_tcc.specs.Sends.{Sends, nothing, to, when, write_back_of, flush_of, write_back_line, flush_line, skip_all, probe_all}
 use Rattle.rules_tcc.specs.Sends.{abort_written, marks_for}
+use Rattle.rules_tcc.proofs.Lemmas.{each-evict}
 use Rattle.theorem_serial.specs.InMemory.{NeedInMemory, WordInMemory}
 use Rattle.theorem_bounds.specs.Bounds.{most_sent, AttemptCounted, CommitCounted}
 use Rattle.theorem_bounds.proofs.Outside.{is_inside, Inside, SendsInside, no-message, one-message, some, and-messages, when-messages, wider}
@@ -279,17 +279,7 @@ exec-keeps sh n p id s i k = go s.phase
 -- Evict
 
 pub evict-keeps : (sh : Shape) (n x y : ℕ) (s : CoreState) → AttemptCounted n s → IfSome (core_evict sh x y s) (Keeps sh n)
-unfolding core_evict
-evict-keeps sh n x y s k = go (s.cache.at x y)
-  where
-    unless : (b : Bool) (o : Out) → Keeps sh n o → IfSome (if b then None else Some o) (Keeps sh n)
-    unless true o f = tt
-    unless false o f = f
-
-    go : (o : Option ℕ) → IfSome (evict_line sh x y s o) (Keeps sh n)
-    go None = tt
-    go (Some l) = unless (is_awaited s.awaited l || (is_marked s.cache l && not (is_solo s.phase))) _
-        (still sh _ n _ _ (backs sh s.cache l) k)
+evict-keeps sh n x y s k = each-evict sh x y s (Keeps sh n) (λ l e u m. still sh _ n _ _ (backs sh s.cache l) k)
 
 -- messages
 

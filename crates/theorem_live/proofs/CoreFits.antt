@@ -8,7 +8,6 @@ use Rattle.rules_program.specs.Program.{Need, Nothing, Loads, Stores, Changes, P
 use Rattle.rules_program.specs.Ram.{word_of}
 use Rattle.rules_maps.specs.Words.{line_of, those, count_below}
 use Rattle.rules_maps.specs.Cache.{Cache, free_way, all_marked, modified_mask, is_modified, dirty_copy, written_lines, writes_at, reads_at}
-use Rattle.rules_maps.specs.Cache.{is_marked}
 use Rattle.rules_maps.specs.Nodes.{Core, Dir, Vendor, Msg, TidReq, LoadReq, Fill, Skip, Probe, ProbeReply, Mark, Commit, Abort, WriteBack}
 use Rattle.rules_maps.specs.Nodes.{Flush, DataReq, Inv, InvAck, Tagged}
 use Rattle.rules_maps.specs.Shape.{Shape, home, lines, set_of}
@@ -20,12 +19,13 @@ use Rattle.rules_tcc.specs.Commit.{solo_sends, solo_commit}
 use Rattle.rules_tcc.specs.CoreDeliver.{grant_sends, grant_in_phase, grant, reply_in_phase, probe_reply, fill_awaited, fill, data_request}
 use Rattle.rules_tcc.specs.CoreDeliver.{violated_in_phase, if_violated, is_violated, words_invalidated, acknowledged, invalidate, from_dir}
 use Rattle.rules_tcc.specs.CoreDeliver.{ignored}
-use Rattle.rules_tcc.specs.CoreEvict.{is_awaited, evict_line, core_evict}
+use Rattle.rules_tcc.specs.CoreEvict.{core_evict}
 use Rattle.rules_tcc.specs.CoreExec.{unless_awaiting, exec_in_phase, core_exec}
 use Rattle.rules_tcc.specs.Execute.{request_line, place, overflow, full_set, miss, load_valid, load_spilled, load, word_store, change_valid}
 use Rattle.rules_tcc.specs.Execute.{change_spilled, partial_store, end_transaction, execute_need, execute}
 use Rattle.rules_tcc.specs.Sends.{to, when, write_back_of, flush_of, write_back_line, flush_line, skip_all, probe_all, abort_written}
 use Rattle.rules_tcc.specs.Sends.{marks_for}
+use Rattle.rules_tcc.proofs.Lemmas.{each-evict}
 use Rattle.theorem_live.proofs.Strays.{strays, AllFit, strays-append, strays-none, strays-flat, strays-when, out_fits, ask_fits}
 use Rattle.theorem_live.proofs.Strays.{fit-nothing}
 use Rattle.theorem_live.proofs.Strays.{fit-then, fit-to, fit-dirs}
@@ -248,16 +248,7 @@ fit-exec sh p c s k = go s.phase
 -- Evict
 
 pub fit-evict : (sh : Shape) (c x y : ℕ) (s : CoreState) → IsCore sh c → IfSome (core_evict sh x y s) (Fit sh c)
-unfolding core_evict
-fit-evict sh c x y s k = go (s.cache.at x y)
-  where
-    unless : (b : Bool) (o : Out) → Fit sh c o → IfSome (if b then None else Some o) (Fit sh c)
-    unless true o f = tt
-    unless false o f = f
-
-    go : (o : Option ℕ) → IfSome (evict_line sh x y s o) (Fit sh c)
-    go None = tt
-    go (Some l) = unless (is_awaited s.awaited l || (is_marked s.cache l && not (is_solo s.phase))) _ (backs sh c s.cache l k)
+fit-evict sh c x y s k = each-evict sh x y s (Fit sh c) (λ l e n m. backs sh c s.cache l k)
 
 -- messages
 

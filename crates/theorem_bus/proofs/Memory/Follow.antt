@@ -1,23 +1,22 @@
 -- A core's attempt and memory: the attempt is what the plain machine does over a memory that has the words which it used, and memory has
 -- them, but for words of a packet that the core is still to take.
-use Rattle.std.specs.Prelude.{ℕ, ◌≡◌, ◌⊎◌, Bool, true, false, not, cond, ◌==◌, ◌&&◌, ◌||◌, [], ◌∷◌, ◌++◌, Option, Some, None, IfSome}
+use Rattle.std.specs.Prelude.{ℕ, ◌≡◌, ◌⊎◌, Bool, true, false, cond, ◌==◌, ◌&&◌, [], ◌∷◌, ◌++◌, Option, Some, None, IfSome}
 use Rattle.std.specs.Prelude.{unwrap_or, if◌then◌else◌}
 use Rattle.std.proofs.Common.{refl, sym, inl, inr, ◌∙◌}
 use Rattle.tcc_base.specs.declared.access.Size.TheVariants.{Byte, Half, Word}
 use Rattle.rules_maps.specs.Cache.{Cache, IsCache}
 use Rattle.rules_maps.specs.CacheChange.{evicted, read_cleared}
 use Rattle.rules_maps.specs.Shape.{Shape}
-use Rattle.rules_maps.specs.Spilled.{spill_line}
 use Rattle.rules_maps.specs.Words.{line_of}
 use Rattle.rules_maps.proofs.Lemmas.{modified-evicted, value-evicted}
 use Rattle.rules_program.specs.Plain.{Goes}
 use Rattle.rules_program.specs.Program.{Need, Loads, Stores, Changes, Program}
 use Rattle.rules_program.specs.Ram.{word_of}
-use Rattle.rules_tcc.specs.Attempt.{Out, moves, is_solo}
-use Rattle.rules_tcc.specs.CoreEvict.{is_awaited, evict_line, core_evict}
+use Rattle.rules_tcc.specs.Attempt.{Out, is_solo}
+use Rattle.rules_tcc.specs.CoreEvict.{core_evict}
 use Rattle.rules_tcc.specs.CoreExec.{core_exec}
-use Rattle.rules_tcc.specs.Sends.{write_back_line}
 use Rattle.rules_tcc.specs.State.{CoreState, Phase, Running, Overflowing, Solo}
+use Rattle.rules_tcc.proofs.Lemmas.{each-evict}
 use Rattle.theorem_attempt.specs.Follows.{Uses, Fits, Follows, EndFits, sees, used_in, used_at, used_by}
 use Rattle.theorem_attempt.specs.Marks.{AllStand, AttemptFits, MarksFit, UsesStand, owed_in}
 use Rattle.theorem_attempt.specs.Views.{uses_after}
@@ -222,21 +221,10 @@ evicted-coherent ram gone x y l c e k v g m z i =
 
 pub evict-follow : (sh : Shape) (n : ℕ) (p : Program) (ram : ℕ → ℕ) (gone : ℕ → Bool) (x y : ℕ) (s : CoreState) → Fine sh (in_memory sh) n s
     → Follow sh p ram gone s → IfSome (core_evict sh x y s) (λ o. Follow sh p ram gone o.core)
-unfolding core_evict
 evict-follow sh n p ram gone x y s k h = all (core_evict sh x y s) (core_evict-follows sh p x y s h.uses k.sound h.fits.follows)
-    (core_evict-fit sh x y s h.uses h.fits.marks) (caches (s.cache.at x y) refl)
+    (core_evict-fit sh x y s h.uses h.fits.marks) (each-evict sh x y s (λ o. Coherent ram gone o.core.cache)
+    (λ l e u m. evicted-coherent ram gone x y l s.cache e h.coherent))
   where
-    caches : (o : Option ℕ) → s.cache.at x y ≡ o → IfSome (evict_line sh x y s o) (λ o. Coherent ram gone o.core.cache)
-    caches None e = tt
-    caches (Some l) e = go (is_awaited s.awaited l || (Rattle.rules_maps.specs.Cache.is_marked s.cache l && not (is_solo s.phase)))
-      where
-        go : (b : Bool) → IfSome (if b then None else Some (moves (record s {
-          cache = evicted x y s.cache;
-          spilled = spill_line l s.cache s.spilled;
-        }) (write_back_line sh s.cache l))) (λ o. Coherent ram gone o.core.cache)
-        go true = tt
-        go false = evicted-coherent ram gone x y l s.cache e h.coherent
-
     all : (o : Option Out) → IfSome o (λ t. Follows sh p t.core h.uses) → IfSome o (λ t. MarksFit sh t.core h.uses)
         → IfSome o (λ t. Coherent ram gone t.core.cache) → IfSome o (λ t. Follow sh p ram gone t.core)
     all None a b c = tt

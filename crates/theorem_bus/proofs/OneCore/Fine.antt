@@ -1,24 +1,24 @@
 -- What holds of one core by itself between events, of a program whose accesses are to lines in a set: no line is awaited, no word is
 -- dirty, its cache is consistent and of those lines, and its attempt is counted.
-use Rattle.std.specs.Prelude.{ℕ, ◌+◌, ◌≡◌, Bool, true, false, not, ◌==◌, ◌&&◌, ◌||◌, ◌⊎◌, Option, Some, None, is_some, IfSome}
+use Rattle.std.specs.Prelude.{ℕ, ◌+◌, ◌≡◌, Bool, true, false, ◌==◌, ◌&&◌, ◌⊎◌, Option, Some, None, is_some, IfSome}
 use Rattle.std.specs.Prelude.{unwrap_or, if◌then◌else◌}
 use Rattle.std.proofs.Common.{refl, ap, sym, inl, inr, ◌∙◌}
 use Rattle.base_lemmas.proofs.Lemmas.{held_valued}
-use Rattle.rules_maps.specs.Cache.{Cache, is_marked}
-use Rattle.rules_maps.specs.CacheChange.{evicted, read_cleared}
+use Rattle.rules_maps.specs.Cache.{Cache}
+use Rattle.rules_maps.specs.CacheChange.{read_cleared}
 use Rattle.rules_maps.specs.Shape.{Shape}
 use Rattle.rules_maps.specs.Spilled.{spill_line}
 use Rattle.rules_maps.specs.Words.{line_of}
 use Rattle.rules_maps.proofs.Lemmas.{dirty-evicted, held-evicted, read_cleared-keeps}
 use Rattle.rules_program.specs.Program.{Program}
-use Rattle.rules_tcc.specs.Attempt.{Out, moves, is_solo}
-use Rattle.rules_tcc.specs.CoreEvict.{is_awaited, evict_line, core_evict}
+use Rattle.rules_tcc.specs.Attempt.{Out, is_solo}
+use Rattle.rules_tcc.specs.CoreEvict.{core_evict}
 use Rattle.rules_tcc.specs.CoreExec.{core_exec}
-use Rattle.rules_tcc.specs.Sends.{write_back_line}
 use Rattle.rules_tcc.specs.State.{CoreState, Awaited, Running, AwaitTid, Overflowing}
 use Rattle.theorem_attempt.specs.Sound.{AwaitsHeld, SoundCore}
 use Rattle.theorem_bounds.specs.Bounds.{AttemptCounted}
-use Rattle.theorem_attempt.proofs.Lemmas.{core_evict-sound, core_exec-sound}
+use Rattle.rules_tcc.proofs.Lemmas.{each-evict, emptied}
+use Rattle.theorem_attempt.proofs.Lemmas.{core_exec-sound, emptied-sound}
 use Rattle.theorem_bounds.proofs.Lemmas.{weak}
 use Rattle.rules_bus.specs.Exec.{with_line_of, line_at_hand, instruction, gone_alone}
 use Rattle.theorem_bus.proofs.OneCore.Did.{LineSet, How, Ran, Closed, Overflowed, NeedIn}
@@ -137,15 +137,23 @@ instruction-left sh M n p ram c s m k x = instructed sh M p ram c s (Left sh M n
 
 -- Evict
 
-evict_line-fine : (sh : Shape) (M : LineSet) (n x y : ℕ) (s : CoreState) (o : Option ℕ) → s.cache.at x y ≡ o → Fine sh M n s
-    → IfSome (evict_line sh x y s o) (λ t. SoundCore sh t.core) → IfSome (evict_line sh x y s o) (Left sh M n s)
+emptied-left : (sh : Shape) (M : LineSet) (n x y l : ℕ) (s : CoreState) → s.cache.at x y ≡ Some l → Fine sh M n s
+    → SoundCore sh (emptied sh x y l s).core → Left sh M n s (emptied sh x y l s)
 unfolding spill_line
-evict_line-fine sh M n x y s None e k q = tt
-evict_line-fine sh M n x y s (Some l) e k q = go (is_awaited s.awaited l || (is_marked s.cache l && not (is_solo s.phase))) q
+emptied-left sh M n x y l s e k q = record {
+  fine = record {
+    awaited = k.awaited;
+    clean = λ v. dirty-evicted x y s.cache v l e ∙ clean v (l == line_of v);
+    sound = q;
+    attempt = weak n s.n s.loads s.stores s.console k.attempt;
+    frames = λ j h. k.frames j (fewer j (j == l) (sym (held-evicted x y s.cache j l e) ∙ h));
+    spilled = λ v h. spilt v (l == line_of v) (s.cache.modified v) refl h;
+  };
+  ways = Stays refl;
+  quiet = refl;
+  saved = refl;
+}
   where
-    t : CoreState
-    t = record s { cache = evicted x y s.cache; spilled = spill_line l s.cache s.spilled }
-
     clean : (v : ℕ) (b : Bool) → (if b then None else s.cache.dirty v) ≡ None
     clean v true = refl
     clean v false = k.clean v
@@ -165,41 +173,12 @@ evict_line-fine sh M n x y s (Some l) e k q = go (is_awaited s.awaited l || (is_
     spilt v true false r h = k.spilled v h
     spilt v false m r h = k.spilled v h
 
-    go : (b : Bool) → IfSome (if b then None else Some (moves t (write_back_line sh s.cache l))) (λ t. SoundCore sh t.core)
-        → IfSome (if b then None else Some (moves t (write_back_line sh s.cache l))) (Left sh M n s)
-    go true q = tt
-    go false q = record {
-      fine = record {
-        awaited = k.awaited;
-        clean = λ v. dirty-evicted x y s.cache v l e ∙ clean v (l == line_of v);
-        sound = q;
-        attempt = weak n s.n s.loads s.stores s.console k.attempt;
-        frames = λ j h. k.frames j (fewer j (j == l) (sym (held-evicted x y s.cache j l e) ∙ h));
-        spilled = λ v h. spilt v (l == line_of v) (s.cache.modified v) refl h;
-      };
-      ways = Stays refl;
-      quiet = refl;
-      saved = refl;
-    }
-
 pub evict-left : (sh : Shape) (M : LineSet) (n x y : ℕ) (s : CoreState) → Fine sh M n s → IfSome (core_evict sh x y s) (Left sh M n s)
-unfolding core_evict
-evict-left sh M n x y s k = evict_line-fine sh M n x y s (s.cache.at x y) refl k (core_evict-sound sh x y s k.sound)
-
-evict_line-phase : (sh : Shape) (x y : ℕ) (s : CoreState) (o : Option ℕ) → IfSome (evict_line sh x y s o) (λ t. t.core.phase ≡ s.phase)
-evict_line-phase sh x y s None = tt
-evict_line-phase sh x y s (Some l) = go (is_awaited s.awaited l || (is_marked s.cache l && not (is_solo s.phase)))
-  where
-    go : (b : Bool) → IfSome (if b then None else Some (moves (record s {
-      cache = evicted x y s.cache;
-      spilled = spill_line l s.cache s.spilled;
-    }) (write_back_line sh s.cache l))) (λ t. t.core.phase ≡ s.phase)
-    go true = tt
-    go false = refl
+evict-left sh M n x y s k = each-evict sh x y s (Left sh M n s)
+    (λ l e u m. emptied-left sh M n x y l s e k (emptied-sound sh x y l s e u m k.sound))
 
 pub evict-phase : (sh : Shape) (x y : ℕ) (s : CoreState) → IfSome (core_evict sh x y s) (λ t. t.core.phase ≡ s.phase)
-unfolding core_evict
-evict-phase sh x y s = evict_line-phase sh x y s (s.cache.at x y)
+evict-phase sh x y s = each-evict sh x y s (λ t. t.core.phase ≡ s.phase) (λ l e u m. refl)
 
 -- the core has the bus
 pub alone-fine : (sh : Shape) (M : LineSet) (n t : ℕ) (s : CoreState) → Fine sh M n s → Fine sh M n (gone_alone t s)

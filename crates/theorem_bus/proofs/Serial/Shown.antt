@@ -1,19 +1,17 @@
 -- What is committed of a core stays where it doesn't commit: its checkpoint, and whether and how it has halted.
-use Rattle.std.specs.Prelude.{ℕ, ◌≡◌, Bool, true, false, not, ◌&&◌, ◌||◌, Option, Some, None, is_some, IfSome, if◌then◌else◌}
+use Rattle.std.specs.Prelude.{ℕ, ◌≡◌, Bool, true, false, ◌&&◌, Option, is_some, IfSome}
 use Rattle.std.proofs.Common.{refl, ap, sym, ◌∙◌, inl, inr, ◌⊎◌}
 use Rattle.tcc_base.specs.declared.access.CoreEnd.TheVariants.{Run}
-use Rattle.rules_maps.specs.Cache.{Cache, is_marked}
-use Rattle.rules_maps.specs.CacheChange.{evicted}
+use Rattle.rules_maps.specs.Cache.{Cache}
 use Rattle.rules_maps.specs.Shape.{Shape, lines}
-use Rattle.rules_maps.specs.Spilled.{spill_line}
 use Rattle.rules_maps.specs.Words.{any_word, word_at}
 use Rattle.rules_maps.proofs.Lemmas.{any_below-found}
 use Rattle.rules_program.specs.Plain.{Outcome, PlainCore}
 use Rattle.rules_program.specs.Program.{Program}
-use Rattle.rules_tcc.specs.Attempt.{moves, is_solo, roll_back}
-use Rattle.rules_tcc.specs.CoreEvict.{is_awaited, evict_line, core_evict}
-use Rattle.rules_tcc.specs.Sends.{write_back_line}
+use Rattle.rules_tcc.specs.Attempt.{is_solo, roll_back}
+use Rattle.rules_tcc.specs.CoreEvict.{core_evict}
 use Rattle.rules_tcc.specs.State.{CoreState, Phase, Running, Halted}
+use Rattle.rules_tcc.proofs.Lemmas.{each-evict}
 use Rattle.theorem_attempt.specs.Sound.{is_idle}
 use Rattle.theorem_serial.specs.Commits.{CoreSerial, end_after}
 use Rattle.rules_bus.specs.Exec.{gone_alone}
@@ -63,19 +61,7 @@ unfolding gone_alone
 alone-same p s t n x e = runs-same s (gone_alone n t) e (executes-runs p s x) refl
 
 pub evict-same : (sh : Shape) (x y : ℕ) (s : CoreState) → IfSome (core_evict sh x y s) (λ o. Same s o.core)
-unfolding core_evict
-evict-same sh x y s = go (s.cache.at x y)
-  where
-    at : (l : ℕ) (b : Bool) → IfSome (if b then None else Some (moves (record s {
-      cache = evicted x y s.cache;
-      spilled = spill_line l s.cache s.spilled;
-    }) (write_back_line sh s.cache l))) (λ o. Same s o.core)
-    at l true = tt
-    at l false = record { saved = refl; ended = refl }
-
-    go : (o : Option ℕ) → IfSome (evict_line sh x y s o) (λ o. Same s o.core)
-    go None = tt
-    go (Some l) = at l (is_awaited s.awaited l || (is_marked s.cache l && not (is_solo s.phase)))
+evict-same sh x y s = each-evict sh x y s (λ o. Same s o.core) (λ l e u m. record { saved = refl; ended = refl })
 
 -- where no word is marked read
 none-read : (sh : Shape) (f : ℕ → Option ℕ) (c : Cache) → ((v : ℕ) → c.read v ≡ false) → reads_some sh f c ≡ true → ⊥

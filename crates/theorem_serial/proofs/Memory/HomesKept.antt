@@ -20,7 +20,7 @@ use proofs.Memory.CoreHomes.{Homely, HomelyOut, homely-none, homely-those, homes
 use proofs.Memory.CoreHomes.{OutInMemory, same-memory, nothing-used, CoresInMemory, exec-memory, SendsInMemory, exec-sends, evict-sends}
 use proofs.Memory.CoreHomes.{grant-sent, back-sends}
 use proofs.Serving.{at-home, core_of_out}
-use proofs.OneCore.{step-cores, start-cores}
+use proofs.OneCore.{step-cores, start-cores, each-evict}
 use proofs.Tids.{inserted}
 
 -- what a directory knows is of lines at home there, and of cores that the machine has
@@ -301,18 +301,8 @@ unfolding evicted evicted_line
 evicted-frames x y c k e = grind nats
 
 pub evict-memory : (sh : Shape) (x y : ℕ) (s : CoreState) → CoreInMemory sh s → IfSome (core_evict sh x y s) (OutInMemory sh)
-unfolding core_evict
-evict-memory sh x y s k = go (s.cache.at x y)
-  where
-    one : (l : ℕ) (b : Bool)
-        → IfSome (if b then None else Some (moves (record s { cache = evicted x y s.cache; spilled = spill_line l s.cache s.spilled })
-        (write_back_line sh s.cache l))) (OutInMemory sh)
-    one l true = tt
-    one l false = (record { frames = λ m e. k.frames m (evicted-frames x y s.cache m e); accesses = k.accesses }, tt)
-
-    go : (a : Option ℕ) → IfSome (evict_line sh x y s a) (OutInMemory sh)
-    go None = tt
-    go (Some l) = one l (is_awaited s.awaited l || (is_marked s.cache l && not (is_solo s.phase)))
+evict-memory sh x y s k = each-evict sh x y s (OutInMemory sh)
+    (λ l e n m. (record { frames = λ j h. k.frames j (evicted-frames x y s.cache j h); accesses = k.accesses }, tt))
 
 pub grant-memory : (sh : Shape) (u : ℕ) (s : CoreState) → CoreInMemory sh s → OutInMemory sh (grant sh u s)
 unfolding grant

@@ -3,6 +3,7 @@
 use Rattle.rules_program.specs.Program.{unreserved}
 use Rattle.rules_program.specs.Ram.{part}
 use Rattle.rules_tcc.specs.Sends.{then_send}
+pub use Rattle.rules_tcc.proofs.Lemmas.{each-evict, emptied}
 use Rattle.theorem_serial.proofs
 use proofs.Names
 use Names.{◌∙◌, sym, one_more_instruction, ready_once_replied, solo_once_replied, violated_in_phase, words_invalidated, Kind}
@@ -10,16 +11,16 @@ use Names.{stored_in_buffer, probing_or_ready, any_below-found, stored_in_frame,
 use Names.{change_spilled, grant_in_phase, reply_in_phase, if◌then◌else◌, abort_written, partial_store, exec_in_phase, waits_for_tid}
 use Names.{read_cleared, none_spilled, request_line, load_spilled, [], change_valid, execute_need, fill_awaited, data_request, acknowledged}
 use Names.{is_modified, invalidated, is_some, rolled_back, Overflowing, solo_commit, probe_reply, all_replied, if_violated, is_violated}
-use Names.{TrappedWith, HaltedWith, ProbeReply, all_marked, spill_line, flush_line, is_running, load_valid, word_store, Program, marks_read}
-use Names.{core_evict, evict_line, is_awaited, invalidate, any_below, is_marked, writes_at, CoreState, DoomedTid, marks_for, roll_back}
+use Names.{TrappedWith, HaltedWith, ProbeReply, all_marked, flush_line, is_running, load_valid, word_store, Program, marks_read}
+use Names.{is_awaited, invalidate, any_below, writes_at, CoreState, DoomedTid, marks_for, roll_back}
 use Names.{core_exec, is_probed, store_of, any_word, free_way, AwaitTid, finished, new_word, overflow, full_set, from_dir, Nothing, Changes}
-use Names.{Outcome, load_of, word_of, line_of, DataReq, evicted, cleaned, Spilled, Awaited, Running, Probing, nothing, to_dirs, is_solo}
+use Names.{Outcome, load_of, word_of, line_of, DataReq, cleaned, Spilled, Awaited, Running, Probing, nothing, to_dirs, is_solo}
 use Names.{execute, replied, Bool, ignored, passes, Option, IfSome, nat_lt, Stored, Stores, Prints, InvAck, set_of, marked, stored, placed}
 use Names.{filled, commit, staled, among, false, arith, subst, Local, Loads, Halts, Traps, Ended, Abort, Shape, ap, lines, Cache, keeps}
 use Names.{holds, Phase, Ready, Sends, moves, place, grant, rests, true, List, ◌++◌, ◌==◌, to, ◌&&◌, ◌||◌, Some, None, refl, Load, Size}
 use Names.{Byte, Half, Word, Need, Ends, Goes, Fill, home, Solo, when, ℕ, miss, load, fill, ◌+◌, ◌*◌, ◌≡◌, not, ◌∷◌, inl, inr, put, Dir}
 use Names.{Msg, Inv, Out, ◌⊎◌, nats}
-use proofs.OneCore.Said.{Silent, Flushes, Empties, Requests, Wants, say, Aborts_all, Answers, Marks_at, Probes_all, Skips_all, Said}
+use proofs.OneCore.Said.{Silent, Flushes, Requests, Wants, say, Aborts_all, Answers, Marks_at, Probes_all, Skips_all, Said}
 use proofs.OneCore.Said.{Tells_alone, Tells_commit, Unheard, acked-quiet, quiet}
 
 -- what holds under a condition holds where the condition does
@@ -319,27 +320,6 @@ each-exec sh p c s P k = go s.phase refl
     go (Solo t) e = executes s.awaited refl (rw e tt)
     go (Ready t) e = k (Commits_now t e)
     go _ e = tt
-
--- Evict of line l
-abbrev pub emptied : Shape → (x y line : ℕ) → CoreState → Out
-emptied sh x y l s = moves (record s { cache = evicted x y s.cache; spilled = spill_line l s.cache s.spilled }) (say sh s (Empties l))
-
-pub each-evict : (sh : Shape) (x y : ℕ) (s : CoreState) (P : Out → Type 0)
-    → ((l : ℕ) → s.cache.at x y ≡ Some l → is_awaited s.awaited l ≡ false → (is_marked s.cache l ≡ false) ⊎ (is_solo s.phase ≡ true)
-    → P (emptied sh x y l s)) → IfSome (core_evict sh x y s) P
-unfolding core_evict
-each-evict sh x y s P k = go (s.cache.at x y) refl
-  where
-    kept : (l : ℕ) → s.cache.at x y ≡ Some l → (a m b : Bool) → is_awaited s.awaited l ≡ a → is_marked s.cache l ≡ m → is_solo s.phase ≡ b
-        → IfSome (if a || (m && not b) then None else Some (emptied sh x y l s)) P
-    kept l e false true true f g h = k l e f (inr h)
-    kept l e false false b f g h = k l e f (inl g)
-    kept l e false true false f g h = tt
-    kept l e true m b f g h = tt
-
-    go : (a : Option ℕ) → s.cache.at x y ≡ a → IfSome (evict_line sh x y s a) P
-    go None e = tt
-    go (Some l) e = kept l e (is_awaited s.awaited l) (is_marked s.cache l) (is_solo s.phase) refl refl refl
 
 -- messages: the TID that was asked for
 pub data Granted (sh : Shape) (t : ℕ) (s : CoreState) : Type 0 where
