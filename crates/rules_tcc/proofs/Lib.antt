@@ -3,6 +3,7 @@ pub mod Ordered
 pub mod Useful
 pub mod Done
 pub mod Evicts
+pub mod Gifts
 pub mod Tids
 pub mod Mailed
 pub mod LocalStep

@@ -4,7 +4,7 @@ use Rattle.std.proofs.Common.{refl, ap, ◌∙◌, arith}
 use Rattle.std.specs.Prelude.{IfSome}
 use Rattle.base_lemmas.proofs.Lemmas.{node_eq-refl}
 use Rattle.rules_program.specs.Program.{Local, Program}
-use Rattle.rules_maps.specs.Nodes.{Node, Core, Dir, Vendor, Msg, TidReq, TidGrant}
+use Rattle.rules_maps.specs.Nodes.{Node, Core, Dir, Vendor, Msg, TidGrant}
 use Rattle.rules_maps.specs.Nodes.{Event, Exec, Evict, Deliver, node_eq}
 use Rattle.rules_maps.specs.Shape.{Shape}
 use Rattle.rules_tcc.specs.State.{World, Link, start, vendor_start}
@@ -14,12 +14,13 @@ use Rattle.rules_tcc.specs.CoreExec.{core_exec}
 use Rattle.rules_tcc.specs.CoreEvict.{core_evict}
 use Rattle.rules_tcc.specs.CoreDeliver.{core_deliver}
 use Rattle.rules_tcc.specs.DirDeliver.{Answer, Waits, Drops, Asks, Takes, dir_deliver}
-use Rattle.rules_tcc.specs.VendorDeliver.{vendor_deliver}
+use Rattle.rules_tcc.specs.VendorDeliver.{Granted, vendor_deliver}
 use Rattle.rules_tcc.specs.Step.{Stepped, History, core_moves, core_takes, dir_takes, dir_asks, vendor_gives, if_core_moves, if_core_takes}
 use Rattle.rules_tcc.specs.Step.{answered, if_vendor_gives, delivered, if_in_flight, names_nodes, happens, step, recorded, and_noted}
 use Rattle.rules_tcc.specs.Step.{next_history, and_then, run_from, run}
 use Rattle.rules_tcc.specs.Laws.{tids_in, given_by, and_given, given, counting}
 use Rattle.rules_tcc.proofs.Acts.{if-step}
+use Rattle.rules_tcc.proofs.Gifts.{Gift, Gives_none, Gives_tid, each-ask, gift, gift_sends, giving, next_after}
 
 -- what the vendor gave in an event is what its number rose by
 pub record Gives (w : World) (e : Event) (v : World) : Type 0 where
@@ -62,16 +63,27 @@ grant-counts : (t c : ℕ) (old : Link) (b : Bool) → b ≡ true
 unfolding tids_in sent_all counting
 grant-counts t c old b e = let n : t + 1 - t ≡ 1 = omega arith in rw (e, n, drop-all old (Some (TidGrant t) ∷ []))
 
+no-grant-counts : (t : ℕ) (old : Link) → tids_in (drop (length old) (old ++ sent_all [])) ≡ counting t (t - t)
+unfolding tids_in sent_all counting
+no-grant-counts t old = let n : t - t ≡ 0 = omega arith in rw (n, drop-all old [])
+
+gift-gives : (w : World) (c k : ℕ) (g : Gift) → Gives w (Deliver (Core c) Vendor k) (vendor_gives w c k (giving g w.next c))
+unfolding vendor_gives next_after gift_sends
+gift-gives w c k Gives_tid = record {
+  rises = omega arith;
+  counts = grant-counts w.next c (w.net Vendor (Core c)) (node_eq (Core c) (Core c)) (node_eq-refl (Core c));
+}
+gift-gives w c k Gives_none = record { rises = omega arith; counts = no-grant-counts w.next (w.net Vendor (Core c)) }
+
 granted-gives : (w : World) (c k : ℕ) (m : Msg)
     → IfSome (if_vendor_gives w c k (vendor_deliver w.next c m)) (λ t. Gives w (Deliver (Core c) Vendor k) t.world)
-unfolding vendor_gives
-granted-gives w c k TidReq =
-    record {
-      rises = omega arith;
-      counts = grant-counts w.next c (w.net Vendor (Core c)) (node_eq (Core c) (Core c))
-          (node_eq-refl (Core c));
-    }
-granted-gives w c k _ = tt
+granted-gives w c k m = go (vendor_deliver w.next c m)
+    (each-ask w.next c (λ m g. Gives w (Deliver (Core c) Vendor k) (vendor_gives w c k g)) (λ a. gift-gives w c k (gift a)) m)
+  where
+    go : (g : Option Granted) → IfSome g (λ g. Gives w (Deliver (Core c) Vendor k) (vendor_gives w c k g))
+        → IfSome (if_vendor_gives w c k g) (λ t. Gives w (Deliver (Core c) Vendor k) t.world)
+    go None h = tt
+    go (Some g) h = h
 
 delivered-gives : (sh : Shape) (w : World) (src dst : Node) (k : ℕ) (m : Msg)
     → IfSome (delivered sh w src dst k m) (λ t. Gives w (Deliver src dst k) t.world)

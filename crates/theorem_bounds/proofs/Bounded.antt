@@ -1,21 +1,22 @@
 -- Every state that a run reaches is in bounds: from what the theorem's list says of it, and from what is counted along the run.
 use Rattle.std.specs.Prelude.{ℕ, ◌≡◌, ◌<◌, Bool, true, false, List, length, Option, Some, None, IfSome, is_some, nat_lt}
-use Rattle.std.proofs.Common.{refl}
-use Rattle.base_lemmas.proofs.Lemmas.{and-never}
+use Rattle.std.proofs.Common.{refl, subst, sym}
+use Rattle.base_lemmas.proofs.Lemmas.{and-never, and-right}
 use Rattle.rules_maps.specs.Cache.{Cache, IsCache}
-use Rattle.rules_maps.specs.Nodes.{Node, Core, Dir, Vendor, Event, Msg, TidReq, TidGrant}
+use Rattle.rules_maps.specs.Nodes.{Node, Core, Dir, Vendor, Event, Msg, TidGrant}
 use Rattle.rules_maps.specs.Shape.{Shape, lines}
 use Rattle.rules_maps.specs.Words.{line_of}
 use Rattle.rules_tcc.specs.Links.{in_flight}
 use Rattle.rules_tcc.specs.State.{CoreState, Awaited, start}
 use Rattle.rules_tcc.specs.Step.{History, run}
+use Rattle.rules_tcc.proofs.Lemmas.{request-bare}
 use Rattle.theorem_serial.specs.InMemory.{FramesInMemory, AttemptInMemory, WordInMemory}
 use Rattle.theorem_serial.specs.Invariants.{Carried, CarriedInMemory, first_state}
 use Rattle.theorem_serial.specs.Owners.{Grant, KeptOwners, grants_from}
 use Rattle.theorem_serial.specs.Ways.{Ways, first_ways, ways_from}
 use Rattle.theorem_serial.proofs.Lemmas.{runs_carry, runs_stay_in_memory, run-owners}
 use Rattle.theorem_live.specs.Fits.{KeptFits}
-use Rattle.rules_maps.specs.Messages.{fits, InBounds}
+use Rattle.rules_maps.specs.Messages.{fits, is_request, IsLine, WasGranted, InBounds}
 use Rattle.theorem_live.proofs.Lemmas.{links_fit}
 use Rattle.theorem_bounds.specs.Bounds.{CacheInMemory, CoreInBounds, IsBounded, RunsAreBounded}
 use Rattle.theorem_bounds.proofs.AtHome.{out-line, back-line}
@@ -68,8 +69,11 @@ core-bounded sh n h r m k c = record {
 
 ask-bounded : (sh : Shape) (next c : ℕ) (m : Msg) → fits sh (Core c) Vendor m ≡ true → InBounds sh next (Core c) Vendor m
 unfolding fits
-ask-bounded sh next c TidReq f = record { fits = f; line = tt; tid = tt }
-ask-bounded sh next c m f = absurd (and-never (nat_lt c sh.cores) f)
+ask-bounded sh next c m f = let b = request-bare m (and-right (nat_lt c sh.cores) (is_request m) f) in record {
+  fits = f;
+  line = subst (λ o. IfSome o (IsLine sh (Core c) Vendor)) (sym b.0) tt;
+  tid = subst (λ o. IfSome o (WasGranted next)) (sym b.1) tt;
+}
 
 grant-bounded : (sh : Shape) (h : History) → Reached sh h → (c i : ℕ) (m : Msg) → in_flight h.world.net Vendor (Core c) i ≡ Some m
     → fits sh Vendor (Core c) m ≡ true → InBounds sh h.world.next Vendor (Core c) m

@@ -5,7 +5,7 @@ use Rattle.std.proofs.Common.{arith, refl}
 use Rattle.tcc_base.specs.Put.{put}
 use Rattle.tcc_base.specs.declared.access.Commit.{Commit as Noted}
 use Rattle.rules_program.specs.Program.{Program, Local}
-use Rattle.rules_maps.specs.Nodes.{Node, Core, Dir, Vendor, Event, Exec, Evict, Deliver, Msg, TidReq, TidGrant}
+use Rattle.rules_maps.specs.Nodes.{Node, Core, Dir, Vendor, Event, Exec, Evict, Deliver, Msg, TidGrant}
 use Rattle.rules_maps.specs.Shape.{Shape}
 use Rattle.rules_tcc.specs.State.{CoreState, Link, World, core_start, vendor_start, start}
 use Rattle.rules_tcc.specs.Attempt.{Out}
@@ -14,11 +14,12 @@ use Rattle.rules_tcc.specs.CoreEvict.{core_evict}
 use Rattle.rules_tcc.specs.CoreExec.{core_exec}
 use Rattle.rules_tcc.specs.DirDeliver.{Answer, Waits, Drops, Asks, Takes, dir_deliver}
 use Rattle.rules_tcc.specs.Links.{in_flight, sending, taking}
-use Rattle.rules_tcc.specs.Sends.{Sends, to}
-use Rattle.rules_tcc.specs.VendorDeliver.{vendor_deliver}
+use Rattle.rules_tcc.specs.Sends.{Sends}
+use Rattle.rules_tcc.specs.VendorDeliver.{Granted, vendor_deliver}
 use Rattle.rules_tcc.specs.Step.{Stepped, core_moves, core_takes, dir_takes, dir_asks, vendor_gives, if_core_moves, if_core_takes, answered}
 use Rattle.rules_tcc.specs.Step.{if_vendor_gives, delivered, if_in_flight, names_nodes, happens, step, History, insert_commit, and_noted}
 use Rattle.rules_tcc.specs.Step.{recorded, next_history, and_then, run_from, run}
+use Rattle.rules_tcc.proofs.Lemmas.{Gift, Gives_none, Gives_tid, each-ask, gift, gift_sends, next_after}
 use Rattle.theorem_serial.specs.InMemory.{StaysInMemory}
 use Rattle.theorem_bounds.specs.Bounds.{most_sent, AttemptCounted, CommitCounted}
 use Rattle.theorem_bounds.proofs.Outside.{is_inside, SendsInside, LinksInside, link-none, link-wider, link-inside, sending-inside}
@@ -133,21 +134,34 @@ answers-keeps sh n w c d i (Takes s sends) k f = record {
   noted = tt;
 }
 
+-- what the vendor gives: a message at most, and the next TID rises by one at most
+gift-inside : (sh : Shape) (n c : ℕ) (g : Gift)
+    → SendsInside sh (most_sent sh) (gift_sends g n c) × (n ≤ next_after g n) × (next_after g n ≤ n + 1)
+unfolding gift_sends next_after is_inside
+gift-inside sh n c Gives_tid =
+    (to-inside sh _ (Core c) (TidGrant n ∷ []) (one-message sh _ (TidGrant n) (some sh) refl), omega arith, omega arith)
+gift-inside sh n c Gives_none = (nothing-inside sh _, omega arith, omega arith)
+
 gives-keeps : (sh : Shape) (n : ℕ) (w : World) (c i : ℕ) (m : Msg) → Within sh n w
     → IfSome (if_vendor_gives w c i (vendor_deliver w.next c m)) (Keeps sh n)
-unfolding vendor_gives is_inside
-gives-keeps sh n w c i TidReq k = record {
-  world = record {
-    links = sent sh n (taking w.net (Core c) Vendor i) Vendor (to (Core c) (TidGrant w.next ∷ []))
-        (taking-inside sh _ w.net (Core c) Vendor i k.links)
-        (to-inside sh _ (Core c) (TidGrant w.next ∷ []) (one-message sh _ (TidGrant w.next) (some sh) refl));
-    cores = later-cores n w k.cores;
-    least = omega arith;
-    most = omega (arith, k.most);
-  };
-  noted = tt;
-}
-gives-keeps sh n w c i m k = tt
+unfolding vendor_gives
+gives-keeps sh n w c i m k =
+    go (vendor_deliver w.next c m) (each-ask w.next c (λ m x. Given x) (λ a. gift-inside sh w.next c (gift a)) m)
+  where
+    Given : Granted → Type 0
+    Given x = SendsInside sh (most_sent sh) x.sends × (w.next ≤ x.next) × (x.next ≤ w.next + 1)
+
+    go : (x : Option Granted) → IfSome x Given → IfSome (if_vendor_gives w c i x) (Keeps sh n)
+    go None h = tt
+    go (Some x) h = record {
+      world = record {
+        links = sent sh n (taking w.net (Core c) Vendor i) Vendor x.sends (taking-inside sh _ w.net (Core c) Vendor i k.links) h.0;
+        cores = later-cores n w k.cores;
+        least = omega (arith, k.least, h.1);
+        most = omega (arith, k.most, h.2);
+      };
+      noted = tt;
+    }
 
 core-keeps : (sh : Shape) (n : ℕ) (w : World) (src : Node) (c : ℕ) (m : Msg) → Within sh n w → is_inside sh m ≡ true
     → IfSome (core_deliver sh (w.cores c) src m) (CoreKeeps sh (most_sent sh) n)

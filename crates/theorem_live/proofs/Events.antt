@@ -3,7 +3,7 @@ use Rattle.std.specs.Prelude.{ℕ, ◌≡◌, ◌<◌, ◌≤◌, Bool, true, fa
 use Rattle.std.proofs.Common.{arith, refl, sym, subst, ◌⊎◌, inl, inr}
 use Rattle.std.proofs.lemmas.Bool.Decides.{nat_tests}
 use Rattle.rules_program.specs.Program.{Program}
-use Rattle.rules_maps.specs.Nodes.{Node, Core, Dir, Vendor, Event, Exec, Evict, Deliver, Msg, TidReq, TidGrant, Fill, ProbeReply, DataReq}
+use Rattle.rules_maps.specs.Nodes.{Node, Core, Dir, Vendor, Event, Exec, Evict, Deliver, Msg, TidGrant, Fill, ProbeReply, DataReq}
 use Rattle.rules_maps.specs.Nodes.{Inv}
 use Rattle.rules_maps.specs.Shape.{Shape}
 use Rattle.rules_tcc.specs.State.{World}
@@ -13,10 +13,11 @@ use Rattle.rules_tcc.specs.CoreExec.{core_exec}
 use Rattle.rules_tcc.specs.CoreEvict.{core_evict}
 use Rattle.rules_tcc.specs.CoreDeliver.{core_deliver, from_dir, from_vendor}
 use Rattle.rules_tcc.specs.DirDeliver.{Answer, Waits, Drops, Asks, Takes, dir_deliver}
-use Rattle.rules_tcc.specs.VendorDeliver.{vendor_deliver}
+use Rattle.rules_tcc.specs.VendorDeliver.{Granted, vendor_deliver}
 use Rattle.rules_tcc.specs.Step.{if_core_moves, if_core_takes, answered, if_vendor_gives, delivered, is_node, names_nodes, happens, step}
 use Rattle.rules_tcc.specs.Step.{is_enabled}
 use Rattle.rules_tcc.specs.Useful.{is_of_use, is_useful, holds_written, is_this_set, room}
+use Rattle.rules_tcc.proofs.Lemmas.{request-taken}
 use Rattle.theorem_serial.specs.Count.{Kind, Asks as Requests, live, passes}
 use Rattle.rules_maps.specs.Messages.{goes_to_core, is_grant, is_request}
 use Rattle.theorem_live.specs.Progress.{spares, GoesOn, IsPlaced}
@@ -63,8 +64,11 @@ some_answered w c d k (Takes s sends) h = refl
 
 pub some_granted : (w : World) (c k : ℕ) (m : Msg) → is_request m ≡ true
     → is_some (if_vendor_gives w c k (vendor_deliver w.next c m)) ≡ true
-some_granted w c k TidReq h = refl
-some_granted w c k m h = absurd (cc)
+some_granted w c k m h = go (vendor_deliver w.next c m) (request-taken w.next c m h)
+  where
+    go : (x : Option Granted) → is_some x ≡ true → is_some (if_vendor_gives w c k x) ≡ true
+    go None e = absurd (cc)
+    go (Some x) e = refl
 
 -- useful events
 

@@ -5,7 +5,7 @@ use Rattle.std.proofs.lemmas.Bool.Decides.{nat_tests}
 use Rattle.tcc_base.specs.Put.{put}
 use Rattle.rules_program.specs.Program.{Program, Local}
 use Rattle.rules_maps.specs.Lines.{no_lines}
-use Rattle.rules_maps.specs.Nodes.{Node, Core, Dir, Vendor, Event, Exec, Evict, Deliver, Msg, TidReq, TidGrant}
+use Rattle.rules_maps.specs.Nodes.{Node, Core, Dir, Vendor, Event, Exec, Evict, Deliver, Msg, TidGrant}
 use Rattle.rules_maps.specs.Serving.{first_serving}
 use Rattle.rules_maps.specs.Shape.{Shape}
 use Rattle.rules_tcc.specs.State.{DirState, World, dir_start, start}
@@ -15,15 +15,16 @@ use Rattle.rules_tcc.specs.CoreEvict.{core_evict}
 use Rattle.rules_tcc.specs.CoreExec.{core_exec}
 use Rattle.rules_tcc.specs.DirDeliver.{Answer, Waits, Drops, Asks, Takes, dir_deliver}
 use Rattle.rules_tcc.specs.Links.{in_flight, taking}
-use Rattle.rules_tcc.specs.Sends.{to}
-use Rattle.rules_tcc.specs.VendorDeliver.{vendor_deliver}
+use Rattle.rules_tcc.specs.VendorDeliver.{Granted, vendor_deliver}
 use Rattle.rules_tcc.specs.Step.{Stepped, core_moves, core_takes, dir_takes, dir_asks, vendor_gives, if_core_moves, if_core_takes, answered}
 use Rattle.rules_tcc.specs.Step.{if_vendor_gives, delivered, if_in_flight, is_node, names_nodes, happens, step, History, and_noted}
 use Rattle.rules_tcc.specs.Step.{recorded, next_history, and_then, run_from, run}
+use Rattle.rules_tcc.proofs.Lemmas.{Gift, Gives_none, Gives_tid, each-ask, gift, gift_sends}
 use Rattle.theorem_live.specs.Fits.{KeptFits, LinksFitAlways}
 use Rattle.theorem_live.proofs.CoreFits.{IsCore, Fit, fit-exec, fit-evict, fit-grant, fit-back}
 use Rattle.theorem_live.proofs.DirFits.{KeptDir, FitAnswer, fit-answer}
-use Rattle.theorem_live.proofs.Strays.{LinksClean, link-none, link-fits, sending-clean, taking-clean, grant_fits, fit-to, fit-nothing}
+use Rattle.theorem_live.proofs.Strays.{AllFit, LinksClean, link-none, link-fits, sending-clean, taking-clean, grant_fits, fit-to}
+use Rattle.theorem_live.proofs.Strays.{fit-nothing}
 
 -- no message is on a link that it doesn't fit, and each directory keeps what it must
 record Clean (sh : Shape) (w : World) : Type 0 where
@@ -76,16 +77,23 @@ answers-clean sh w c d i (Takes s sends) k f = record {
   dirs = put-dir sh w d s k f.kept;
 }
 
+gift-fits : (sh : Shape) (n c : ℕ) (g : Gift) → c < sh.cores → AllFit sh Vendor (gift_sends g n c)
+unfolding gift_sends
+gift-fits sh n c Gives_tid l = fit-to sh Vendor (Core c) (TidGrant n ∷ []) (grant_fits sh c n l)
+gift-fits sh n c Gives_none l = fit-nothing sh Vendor
+
 gives-clean : (sh : Shape) (w : World) (c i : ℕ) (m : Msg) → Clean sh w → c < sh.cores
     → Keeps sh (if_vendor_gives w c i (vendor_deliver w.next c m))
 unfolding vendor_gives
-gives-clean sh w c i TidReq k l = record {
-  links = sending-clean sh (taking w.net (Core c) Vendor i) Vendor
-      (to (Core c) (TidGrant w.next ∷ [])) (taking-clean sh w.net (Core c) Vendor i k.links)
-      (fit-to sh Vendor (Core c) (TidGrant w.next ∷ []) (grant_fits sh c w.next l));
-  dirs = k.dirs;
-}
-gives-clean sh w c i m k l = tt
+gives-clean sh w c i m k l = go (vendor_deliver w.next c m)
+    (each-ask w.next c (λ m x. AllFit sh Vendor x.sends) (λ a. gift-fits sh w.next c (gift a) l) m)
+  where
+    go : (x : Option Granted) → IfSome x (λ x. AllFit sh Vendor x.sends) → Keeps sh (if_vendor_gives w c i x)
+    go None h = tt
+    go (Some x) h = record {
+      links = sending-clean sh (taking w.net (Core c) Vendor i) Vendor x.sends (taking-clean sh w.net (Core c) Vendor i k.links) h;
+      dirs = k.dirs;
+    }
 
 core-takes : (sh : Shape) (w : World) (src : Node) (c : ℕ) (m : Msg) → IsCore sh c → is_node sh src ≡ true
     → IfSome (core_deliver sh (w.cores c) src m) (Fit sh c)

@@ -130,7 +130,7 @@ pub use own.Owed.{KeptOwed, OwedAt, AtHomeOf}
 unfoldable pub use own.Owed.{due}
 pub use own.Owners.{Grant, granted_by, KeptOwners, SparesCommitter, LastGranted, then_grants, SparedOf, grant_for}
 unfoldable pub use own.Owners.{holder, times, grants_from, IsRising, AreGranted, IsNumbered}
-pub use own.Pairs.{Pair, after_move, after_answer, grant_taken, back_taken, out_taken, after_grant, after_other_grant, sum_of}
+pub use own.Pairs.{Pair, after_move, after_answer, grant_taken, back_taken, out_taken, sum_of}
 unfoldable pub use own.Pairs.{pair, share}
 pub use own.Partly.{KeptWhole, WhollyOrHome}
 pub use own.Probes.{may_commit, Reached, asks_dir, tid_of, KeptProbes, ReachedOf}

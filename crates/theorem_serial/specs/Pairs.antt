@@ -1,7 +1,7 @@
 -- The world as one core and one directory see it: their states, the links between them and to the vendor, and the next TID.
 -- Every event changes few of these pairs, and each invariant speaks of one pair or is a sum over the cores.
-use Rattle.std.specs.Prelude.{ℕ, ◌+◌, List, [], ◌∷◌, ◌++◌, set, None}
-use Rattle.rules_maps.specs.Nodes.{Core, Dir, Vendor, Msg, TidGrant}
+use Rattle.std.specs.Prelude.{ℕ, List, ◌++◌, set, None}
+use Rattle.rules_maps.specs.Nodes.{Core, Dir, Vendor, Msg}
 use Rattle.rules_tcc.specs.DirDeliver.{sum_below}
 use Rattle.rules_tcc.specs.State.{CoreState, DirState, World, Link}
 use Rattle.rules_tcc.specs.Links.{sent_all}
@@ -45,13 +45,6 @@ after_answer v s ms = record v { dir = s; back = v.back ++ sent_all ms }
 -- a message to the directory is consumed
 abbrev pub out_taken : Pair → ℕ → Pair
 out_taken v k = record v { out = set v.out k None }
-
--- the vendor has granted its next TID, to this core or to another
-abbrev pub after_grant : Pair → ℕ → Pair
-after_grant v k = record v { asks = set v.asks k None; grants = v.grants ++ sent_all (TidGrant v.next ∷ []); next = v.next + 1 }
-
-abbrev pub after_other_grant : Pair → Pair
-after_other_grant v = record v { next = v.next + 1 }
 
 -- the sum of a number of each core's pair with a directory
 unfoldable pub share : (Pair → ℕ) → World → (dir : ℕ) → (core : ℕ) → ℕ

@@ -1,18 +1,19 @@
 -- What a core sends is what its links carry: from counts of the messages that wouldn't be.
 use Rattle.std.specs.Prelude.{ℕ, zero, suc, ◌+◌, ◌≡◌, ◌<◌, ◌≤◌, ◌%◌, ◌==◌, ◌&&◌, not, Bool, true, false, List, [], ◌∷◌, length, get_or}
-use Rattle.std.specs.Prelude.{slice_index_or, All, Some, None, IfSome, nat_lt}
-use Rattle.std.proofs.Common.{arith, refl, ◌⊎◌, inl, inr}
+use Rattle.std.specs.Prelude.{◌^◌, slice_index_or, All, Some, None, IfSome, nat_lt}
+use Rattle.std.proofs.Common.{arith, refl, subst, sym, ◌⊎◌, inl, inr}
 use Rattle.std.proofs.lemmas.Bool.{cases_lt}
 use Rattle.std.proofs.lemmas.Bool.Decides.{nat_tests}
-use Rattle.base_lemmas.proofs.Lemmas.{and-never, in-memory, node_eq-refl}
-use Rattle.rules_maps.specs.Nodes.{Node, Core, Dir, Vendor, Msg, TidReq, LoadReq, Fill, Mark, WriteBack, Flush, DataReq, Inv, InvAck}
+use Rattle.base_lemmas.proofs.Lemmas.{and-right, in-memory, node_eq-refl}
+use Rattle.rules_maps.specs.Nodes.{Node, Core, Dir, Vendor, Msg, LoadReq, Fill, Mark, WriteBack, Flush, DataReq, Inv, InvAck}
 use Rattle.rules_maps.specs.Shape.{Shape, home, lines}
 use Rattle.rules_maps.specs.Words.{num}
 use Rattle.rules_tcc.specs.Links.{sent_all}
 use Rattle.rules_tcc.specs.Sends.{Sends}
+use Rattle.rules_tcc.proofs.Lemmas.{request-bare}
 use Rattle.theorem_serial.specs.Count.{Kind, CopyOf, LinesAway, among, passes}
 use Rattle.theorem_serial.proofs.Lemmas.{HomelyOut, SendsInMemory}
-use Rattle.rules_maps.specs.Messages.{fits, IsLine, line_named}
+use Rattle.rules_maps.specs.Messages.{fits, is_request, IsLine, WasGranted, line_named}
 use Rattle.theorem_live.proofs.Lemmas.{AllFit, strays_on, strays-none, link-fits, sending-clean}
 use Rattle.theorem_bounds.specs.Bounds.{most_sent}
 use Rattle.theorem_bounds.proofs.Lemmas.{is_inside, SendsInside, LinkInside, link-none, link-inside, sending-inside}
@@ -87,8 +88,11 @@ line-out sh c d m i z w = tt
 -- to the vendor only requests go
 to-vendor : (sh : Shape) (c : ℕ) (m : Msg) → fits sh (Core c) Vendor m ≡ true → IsCarried sh (Core c) Vendor m
 unfolding fits
-to-vendor sh c TidReq f = record { fits = f; line = tt; tid = tt }
-to-vendor sh c m f = absurd (and-never (nat_lt c sh.cores) f)
+to-vendor sh c m f = let b = request-bare m (and-right (nat_lt c sh.cores) (is_request m) f) in record {
+  fits = f;
+  line = subst (λ o. IfSome o (IsLine sh (Core c) Vendor)) (sym b.0) tt;
+  tid = subst (λ o. IfSome o (WasGranted (2 ^ 62))) (sym b.1) tt;
+}
 
 -- to other cores nothing does
 to-core : (sh : Shape) (c e : ℕ) (m : Msg) → fits sh (Core c) (Core e) m ≡ true → IsCarried sh (Core c) (Core e) m

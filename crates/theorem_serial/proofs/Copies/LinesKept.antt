@@ -9,7 +9,7 @@ use Names.{any_word, Cache, empty_cache, is_dirty, dirty_tag, dirty_mask, no_lin
 use Names.{KeptAbove, OwnedOf, KeptOwned, wrote, wrote_line, ◌≢◌, nothing, eq-self, ◌%◌, ◌⊎◌, Bool, not, cond, ◌∙◌, cases_lt, Core, Msg}
 use Names.{Inv, InvsAway, passes, ◌&&◌, nat_lt, Contains, cases_eq, has_mark, DirState, Sends, dir_takes, dir_asks, CopyOf, after_answer}
 use Names.{out_taken, is_applied, names_line, Program, Vendor, Event, grant, Answer, Waits, Drops, Asks, Takes, dir_deliver, core_takes}
-use Names.{step, grant_taken, back_taken, after_grant, after_other_grant, is_this, tid_at, to_core, FromCore, FromDir, tested}
+use Names.{step, grant_taken, back_taken, is_this, tid_at, to_core, FromCore, FromDir, tested}
 use proofs.Serving.{ofs-resolve, CommitsNoted, noted-exec, noted-evict, noted-grant, noted-back, commits_served, core_of_back}
 use proofs.Marks.AfterKept.{AfterStep, Stays as AfterStays, after-exec, after-evict, after-grant, after-back}
 use proofs.Copies.CopySends.{Conserves, frame_copy, frame_wrong}
@@ -23,6 +23,7 @@ use proofs.Tids.{positive-held, positive-committed, KeepsPart, part-exec, part-e
 use proofs.Copies.PairCopies.{LineCopies, copies-moved, NewCommit, copies-committed, line_copies, line_wrong, Answered, none-passes}
 use proofs.Copies.PairCopies.{still-similar, dropped-similar, came-similar, similar-copies, taken-copies, copies-lost}
 use proofs.Marks.DirRecords.{RecordStays, Records, Still, Came, Settles, Dropped, RecordsBy, dir-records, CountsMarked}
+use proofs.Counts.{gift, after_gift, after_other_gift}
 
 -- Every event keeps the copies of each line in memory: the owner's one with the line's tag, and those of commits on their way with a
 -- larger one.
@@ -417,9 +418,9 @@ step-lines sh p gs ys h e b = step_cases sh p h.world e (λ g o. KeptLines sh (a
     (λ l. got _ eq (copies-back sh l d (h.world.cores c) m (b.told.all.cores c).words.cache))
     (got _ eq (noted-back sh d (h.world.cores c) m)) (got _ eq (after-back sh d (h.world.cores c) m)))
     (λ c d k m i. answered c d k m i (dir_deliver sh (h.world.dirs d) c m) (dir-records sh (h.world.dirs d) c m))
-    (λ c k i. pairs_vendor (CopiesAt sh h.commits) h.world c k
-    (λ d l cl dl ll q. kept-copies (after_grant (pair h.world c d) k) refl refl refl (b.lines c d l cl dl ll q))
-    (λ j d n l jl dl ll q. kept-copies (after_other_grant (pair h.world j d)) refl refl refl (b.lines j d l jl dl ll q)))
+    (λ c k a i. pairs_vendor (CopiesAt sh h.commits) h.world c k a
+    (λ d l cl dl ll q. kept-copies (after_gift (pair h.world c d) k (gift a)) refl refl refl (b.lines c d l cl dl ll q))
+    (λ j d n l jl dl ll q. kept-copies (after_other_gift (pair h.world j d) (gift a)) refl refl refl (b.lines j d l jl dl ll q)))
   where
     moved : (c : ℕ) (o : Out) → ((l : ℕ) → InMemory sh l → Conserves sh l (h.world.cores c) o)
         → ((d t : ℕ) → d < sh.dirs → KeepsPart sh d t 0 (h.world.cores c) o) → Tells sh (h.world.cores c) o → CommitsNoted o

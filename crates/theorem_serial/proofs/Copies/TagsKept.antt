@@ -48,7 +48,7 @@ pub tag-step : (sh : Shape) (p : Program) (w : World) (e : Event) → IfSome (st
 unfolding core_moves core_takes vendor_gives dir_asks dir_takes
 tag-step sh p w e = step_cases sh p w e (λ g o. TagStep sh w o) (λ c o eq l. moved c o)
     (λ c x y o eq l. moved c o) (λ c k t i. Unheard refl) (λ c d k m o eq i. taken c d k o)
-    (λ c d k m i. answered c d k m i (dir_deliver sh (w.dirs d) c m) (dir-records sh (w.dirs d) c m)) (λ c k i. Unheard refl)
+    (λ c d k m i. answered c d k m i (dir_deliver sh (w.dirs d) c m) (dir-records sh (w.dirs d) c m)) (λ c k a i. Unheard refl)
   where
     moved : (c : ℕ) (o : Out) → TagStep sh w (moved_by w c o)
     moved c o = Unheard refl

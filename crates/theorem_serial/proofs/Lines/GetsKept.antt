@@ -6,12 +6,12 @@ use Names.{got, nothing, eq-self, line_of-word_at, ℕ, ◌≡◌, ◌≤◌, �
 use Names.{sym, ap, ◌∙◌, inl, inr, Core, Msg, DataReq, Shape, DirState, Sends, to, Answer, Asks, Takes, dir_deliver, CopyOf, DataOf, among}
 use Names.{passes, nats, ◌+◌, ◌<◌, ◌&&◌, List, None, IfSome, subst, Noted, Program, Local, num, line_of, word_at, cleaned, no_lines, Dir}
 use Names.{Vendor, Fill, ProbeReply, Inv, Event, home, lines, CoreState, World, start, dir_start, Out, from_dir, grant, data_request, Waits}
-use Names.{Drops, core_moves, core_takes, dir_takes, dir_asks, vendor_gives, and_noted, step, GetsOf, KeptGets, live, Pair, pair}
+use Names.{Drops, core_moves, core_takes, dir_takes, dir_asks, and_noted, step, GetsOf, KeptGets, live, Pair, pair}
 use Names.{after_move, back_taken, out_taken, after_answer, is_this, to_dir, to_core, FromCore, FromDir, tested, any_below, any_word}
 use Names.{empty_cache, core_start, KeptSharers, keeps_unmodified, holds_line, TidGrant, has_mark, cases_lt, in_flight, History, KeptNamed}
 use Names.{KeptLoading, KeptHomes, LoadingOf, SharerOf, Kind, Commits, GoneOf, AckOf, Acks, InvOf, InvsAway, FillOf, Grant, grant_taken}
-use Names.{after_grant, after_other_grant, is_applied, stores_at, Ways, tid_at}
-use proofs.Counts.{Outcome, Waiting, Spent, AsksOwner, TakesCommit, TakesCopy, outcome, among-to, live-sends, live-takes, given, back-own}
+use Names.{is_applied, stores_at, Ways, tid_at}
+use proofs.Counts.{Outcome, Waiting, Spent, AsksOwner, TakesCommit, TakesCopy, outcome, among-to, live-sends, live-takes, back-own}
 use proofs.Counts.{pairs_move, pairs_grant, pairs_back, pairs_dir, pairs_asks, pairs_vendor, OfAnswer, step_cases, none-taken, back-away}
 use proofs.Copies.{frame_copy, clean-frame, KeptLines, Before, LineCopies, of-line}
 use proofs.Marks.DirRecords.{RecordsBy, dir-records, Shares, SharesBy, dir-shares, NoCommit}
@@ -25,6 +25,7 @@ use proofs.Serving.{CommitsNoted, noted-exec, noted-evict, Served, served-exec, 
 use proofs.Serving.{clean-evict, clean-grant}
 use proofs.Tids.{KeepsPart, part-exec, part-evict, live-some}
 use proofs.Ways.{Tells, tells-exec, tells-evict, speaks, grant-speaks}
+use proofs.Counts.{gift, gives_to, after_gift, after_other_gift}
 
 -- What a directory's rules do to the lines of which it has asked the owner: it asks with a request, and a line that stays asked keeps its
 -- owner, whose words don't come by this message.
@@ -135,8 +136,8 @@ step-gets sh p w cs e h = step_cases sh p w e (λ g o. KeptLines sh (and_noted o
     (λ d l cl dl ll q. gets-moved c d l (pair w c d) (grant sh u (w.cores c)) (h c d l cl dl ll q)) at-pairs))
     (λ c d k m o eq i. taken c d k m i o (λ l q. got _ eq (asked-clean sh d l (w.cores c) m q)))
     (λ c d k m i. answered c d k m i (dir_deliver sh (w.dirs d) c m) (dir-records sh (w.dirs d) c m) (dir-gets sh (w.dirs d) c m))
-    (λ c k i n. from (vendor_gives w c k (given w c))
-    (pairs_vendor (GetsAt sh) w c k (h c) (λ j d r l cl dl ll q. h j d l cl dl ll q)))
+    (λ c k a i n. from (gives_to w c k a)
+    (pairs_vendor (GetsAt sh) w c k a (h c) (λ j d r l cl dl ll q. h j d l cl dl ll q)))
   where
     at-pairs : (c d : ℕ) → GetsAt sh c d (pair w c d)
     at-pairs c d l cl dl ll q = h c d l cl dl ll q
@@ -335,10 +336,10 @@ step-sharers sh p gs ys h e b ld hm rd t = step_cases sh p h.world e (λ g o. Ke
     (λ b l. got _ eq (acks-line sh d b l (h.world.cores c) m (not-away c d k m i)))
     (got _ eq (after-back sh d (h.world.cores c) m)))
     (λ c d k m i. answered c d k m i (dir_deliver sh (h.world.dirs d) c m) (dir-records sh (h.world.dirs d) c m)
-    (dir-shares sh (h.world.dirs d) c m)) (λ c k i n a. pairs_vendor (SharersAt sh h.commits) h.world c k
-    (λ d l cl dl ll q. same-sharers (after_grant (pair h.world c d) k) refl refl refl refl
+    (dir-shares sh (h.world.dirs d) c m)) (λ c k a i n b. pairs_vendor (SharersAt sh h.commits) h.world c k a
+    (λ d l cl dl ll q. same-sharers (after_gift (pair h.world c d) k (gift a)) refl refl refl refl
     (t c d l cl dl ll q)) (λ j d r l jl dl ll q. same-sharers
-    (after_other_grant (pair h.world j d)) refl refl refl refl (t j d l jl dl ll q)))
+    (after_other_gift (pair h.world j d) (gift a)) refl refl refl refl (t j d l jl dl ll q)))
   where
     moved : (c : ℕ) (o : Out) → ((l : ℕ) → 1 ≤ sh.dirs → Holds sh l (h.world.cores c) o)
         → ((d u : ℕ) → d < sh.dirs → KeepsPart sh d u 0 (h.world.cores c) o) → Tells sh (h.world.cores c) o → CommitsNoted o

@@ -67,7 +67,7 @@ step-loading sh p w e h = step_cases sh p w e (λ g o. KeptLoading sh o.world)
     (λ c d k m o eq i. taken c d k m i o
     (got _ eq (loads-back sh d (w.cores c) m (λ l. omega (arith, h c d l, live-some (FillOf l) (to_core w d c) k m i)))))
     (λ c d k m i. answered c d k m i (dir_deliver sh (w.dirs d) c m) (dir-fills sh (w.dirs d) c m))
-    (λ c k i. pairs_vendor P w c k (h c) (λ j d n l. h j d l))
+    (λ c k a i. pairs_vendor P w c k a (h c) (λ j d n l. h j d l))
   where
     P : ℕ → ℕ → Pair → Type 0
     P c d v = (l : ℕ) → LoadingOf sh d l v

@@ -201,7 +201,7 @@ step-after {sh} p {gs} {w} {cs} e y k g ld h = step_cases sh p w e (λ x o. Kept
     (λ c a b o eq l. moved c l o (got _ eq (after-evict sh c a b (w.cores c))) (got _ eq (holder-evict sh a b c (w.cores c))))
     (λ c i u q. granted c i u) (λ c d i m o eq q. taken c d i q o (got _ eq (after-back sh d (w.cores c) m)))
     (λ c d i m q. answered c d i m q (dir_deliver sh (w.dirs d) c m))
-    (λ c i q. pairs_vendor P w c i (λ d cl dl. record { last = (h c d cl dl).last; carried = (h c d cl dl).carried })
+    (λ c i a q. pairs_vendor P w c i a (λ d cl dl. record { last = (h c d cl dl).last; carried = (h c d cl dl).carried })
     (λ j d n cl dl. record { last = (h j d cl dl).last; carried = (h j d cl dl).carried }))
   where
     P : ℕ → ℕ → Pair → Type 0

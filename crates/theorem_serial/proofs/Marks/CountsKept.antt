@@ -1,8 +1,8 @@
 -- Every event keeps that a Commit counts its Marks, and that none is in flight while acknowledgements are owed; then their masks.
 use Rattle.theorem_serial.proofs
 use proofs.Names
-use Names.{got, after_other_grant, awaits_replies, after_answer, count_below, CountsMarks, grant_taken, dir_deliver, ap, KeptCounted}
-use Names.{after_grant, EmptyMarks, after_move, core_moves, core_takes, KeptOwners, false, back_taken, may_commit, writes_at, sum_below}
+use Names.{got, awaits_replies, after_answer, count_below, CountsMarks, grant_taken, dir_deliver, ap, KeptCounted}
+use Names.{EmptyMarks, after_move, core_moves, core_takes, KeptOwners, false, back_taken, may_commit, writes_at, sum_below}
 use Names.{marked_by, CountedOf, AnyCommit, dir_start, dir_takes, KeptMarks, KeptCores, cases_lt, has_mark, DirState, sent_all, Resolves}
 use Names.{CommitOf, marks_of, Contains, KeptTids, cases_eq, dir_asks, KeptTold, MarksOf, handled, arith, Program, nat_lt, MarkOf, passes}
 use Names.{nat_le, IfSome, TidReq, Commit, Answer, Shape, lines, among, ℕ, Grant, opens, World, share, subst, Noted, Local, Event, Phase}
@@ -20,6 +20,7 @@ use proofs.Marks.DirRecords.{Marked, Stays, MarkedBy, dir-marked, CountsMarked, 
 use proofs.Marks.MarksKept.{holds, open-untold, taken-less, empty-one, skip-unmarked, only-there, no-request, no-empty}
 use proofs.Marks.MarksKept.{taken-back as back-marks, kinds, marks-granted, has-granted, is-granted, falls}
 use proofs.Tids.{granted-once, granted_waits, live-some, is_mine}
+use proofs.Counts.{Gift, gift, after_gift, after_other_gift}
 
 -- How each kind of event keeps that a Commit counts its Marks, between a core and a directory.
 one-resolve : (t n : ℕ) (m : Msg) → num (passes (CommitOf t n) m) ≤ num (passes (Resolves t) m)
@@ -279,16 +280,16 @@ taken-back k h = record {
   settled = h.settled;
 }
 
-given-kept : {sh : Shape} {d t : ℕ} (k : ℕ) {v : Pair} → CountedOf sh d t v → CountedOf sh d t (after_grant v k)
+given-kept : {sh : Shape} {d t : ℕ} (k : ℕ) (g : Gift) {v : Pair} → CountedOf sh d t v → CountedOf sh d t (after_gift v k g)
 unfolding marks_of
-given-kept k h = record {
+given-kept k g h = record {
   counted = λ n dl x. record { each = (h.counted n dl x).each; sum = (h.counted n dl x).sum };
   settled = h.settled;
 }
 
-passed : {sh : Shape} {d t : ℕ} {v : Pair} → CountedOf sh d t v → CountedOf sh d t (after_other_grant v)
+passed : {sh : Shape} {d t : ℕ} (g : Gift) {v : Pair} → CountedOf sh d t v → CountedOf sh d t (after_other_gift v g)
 unfolding marks_of
-passed h = record {
+passed g h = record {
   counted = λ n dl x. record { each = (h.counted n dl x).each; sum = (h.counted n dl x).sum };
   settled = h.settled;
 }
@@ -315,8 +316,8 @@ step-counted {sh} p {gs} {w} e z y x a h = step_cases sh p w e (λ g o. KeptTold
     (dir-owes sh (w.dirs d) c m)
     (dir-due sh d (w.dirs d) c m (once_at c d k z.told i) (z.told.owed.at_home c d).marked (marks_home c d k z.told.owed i)
     (acks_owed c d k z.told.owed (core_of_out c d k z.told.tids i) i)))
-    (λ c k i n. pairs_vendor P w c k (λ d t cl. given-kept k (h c d t cl))
-    (λ j d q t cl. passed (h j d t cl)))
+    (λ c k a i n. pairs_vendor P w c k a (λ d t cl. given-kept k (gift a) (h c d t cl))
+    (λ j d q t cl. passed (gift a) (h j d t cl)))
   where
     P : ℕ → ℕ → Pair → Type 0
     P c d v = (t : ℕ) → c < sh.cores → CountedOf sh d t v
@@ -445,7 +446,7 @@ step-masks {sh} p {gs} {w} e z y b h = step_cases sh p w e (λ g o. KeptMasks sh
     (λ c d k m o eq i. taken c d k (core_of_back c d k z.told.tids i) o (λ e t l. got _ eq (marking-back sh d e t l (w.cores c) m))
     (λ e t l. got _ eq (masking-back sh d e t l (w.cores c) m)))
     (λ c d k m i. answered c d k i (dir_deliver sh (w.dirs d) c m) (dir-marked sh (w.dirs d) c m))
-    (λ c k i. pairs_vendor P w c k (h c) (λ j d n t l x r. h j d t l x r))
+    (λ c k a i. pairs_vendor P w c k a (h c) (λ j d n t l x r. h j d t l x r))
   where
     P : ℕ → ℕ → Pair → Type 0
     P c d v = (t l : ℕ) → c < sh.cores → d < sh.dirs → MaskedOf t l v
@@ -547,7 +548,7 @@ step-one-mark {sh} p {w} e z y b h = step_cases sh p w e (λ g o. OneMark sh o.w
     (granting sh u d t l (w.cores c) (granted_waits (pair w c d) k i (z.told.tids.requests c d))).marks (h c d t l x r))
     h) (λ c d k m o eq i. taken c d k (core_of_back c d k z.told.tids i) o (λ e t l. got _ eq (marking-back sh d e t l (w.cores c) m)))
     (λ c d k m i. answered c d k i (dir_deliver sh (w.dirs d) c m) (dir-marked sh (w.dirs d) c m))
-    (λ c k i. pairs_vendor P w c k (h c) (λ j d n t l x r. h j d t l x r))
+    (λ c k a i. pairs_vendor P w c k a (h c) (λ j d n t l x r. h j d t l x r))
   where
     P : ℕ → ℕ → Pair → Type 0
     P c d v = (t l : ℕ) → c < sh.cores → d < sh.dirs → marks_of t l v ≤ 1

@@ -4,9 +4,9 @@ use proofs.Names
 use Names.{got, nothing, eq-self, ℕ, ◌+◌, ◌≡◌, ◌<◌, ◌≤◌, true, false, List, ◌++◌, ◌==◌, ◌&&◌, Contains, Some, None, nat_lt, nat_le}
 use Names.{slice_index_or, arith, refl, ap, subst, ◌⊎◌, inl, inr, cases_eq, cases_lt, num, has_mark, Dir, Msg, TidGrant, Mark, Skip, Shape}
 use Names.{writes_at, DirState, Link, Out, sent_all, Grants, Resolves, Marks, MarkOf, EmptyMarks, Skips, live, among, passes, marks_of}
-use Names.{MarksOf, Grant, Pair, after_move, grant_taken, has_tid, opens, [], ◌∷◌, slice_set, ◌∙◌, Contains-append_left, Noted, Core}
+use Names.{MarksOf, Grant, Pair, after_move, grant_taken, has_tid, opens, [], slice_set, ◌∙◌, Contains-append_left, Noted, Core}
 use Names.{Vendor, CoreState, World, in_flight, Kind, AnyResolve, has_marked, marked_by, KeptMarks, holder, KeptOwners, pair, share}
-use Names.{after_answer, after_grant, after_other_grant, part, handled, KeptTids, KeptTold, IfSome, set, append-nil, Program, Local}
+use Names.{after_answer, part, handled, KeptTids, KeptTold, IfSome, set, append-nil, Program, Local}
 use Names.{no_lines, TidReq, Event, start, core_start, dir_start, Sends, grant, Answer, Waits, Drops, Asks, Takes, dir_deliver, core_moves}
 use Names.{core_takes, dir_takes, dir_asks, step, granted_by, back_taken, Kept, nats, tid_at, to_dir, FromCore, grant_to, ◌≢◌, tested}
 use proofs.Counts.{live-sends, live-takes, live-fewer, total-le, none-taken, pairs_move, pairs_grant, pairs_back, pairs_dir, pairs_asks}
@@ -16,6 +16,7 @@ use proofs.Marks.CoreMarks.{stores-writes}
 use proofs.Marks.DirRecords.{Marked, Stays, MarkedBy, dir-marked, marks-grow, marks-count}
 use proofs.Serving.{core_of_grant, core_of_back, grant-alone}
 use proofs.Tids.{granted-once, is_mine, not_mine, live-some, granted_waits}
+use proofs.Counts.{Ask, Gift, gift, gift_grants, gift-counts, after_gift, after_other_gift}
 
 -- How each kind of event keeps what is known of the Marks between a core and a directory.
 one-kind : (t l : ℕ) (m : Msg) → (num (passes (MarkOf t l) m) ≤ num (passes (Marks t) m))
@@ -194,25 +195,24 @@ marks-answered {sh} {gs} {j} {d} {t} {l} {v} m s ms k y less eqn skip has reache
     mine x = let n : num (has_tid v.core.phase t) ≡ 1 = ap num x in omega arith
 
 -- the vendor grants
-marks-given : (sh : Shape) (gs hs : List Grant) (c d t l k : ℕ) (v : Pair) → MarksOf sh gs c d t l v
-    → MarksOf sh (gs ++ hs) c d t l (after_grant v k)
-unfolding marks_of passes among
-marks-given sh gs hs c d t l k v h = record {
+marks-given : (sh : Shape) (gs hs : List Grant) (c d t l k : ℕ) (g : Gift) (v : Pair) → MarksOf sh gs c d t l v
+    → MarksOf sh (gs ++ hs) c d t l (after_gift v k g)
+unfolding marks_of
+marks-given sh gs hs c d t l k g v h = record {
   owner = λ x. Contains-append_left gs hs (grant_to t c) (h.owner x);
   words = h.words;
-  fresh = λ x. h.fresh (let b : num (nat_le v.next t) ≡ num (nat_le (v.next + 1) t) + num (v.next == t) = grind nats in
-      omega (arith, live-sends));
+  fresh = λ x. h.fresh (omega (arith, live-sends, gift-counts g v.next t));
   skipped = h.skipped;
   held = h.held;
 }
 
-marks-next : (sh : Shape) (gs hs : List Grant) (c d t l : ℕ) (v : Pair) → MarksOf sh gs c d t l v
-    → MarksOf sh (gs ++ hs) c d t l (after_other_grant v)
+marks-next : (sh : Shape) (gs hs : List Grant) (c d t l : ℕ) (g : Gift) (v : Pair) → MarksOf sh gs c d t l v
+    → MarksOf sh (gs ++ hs) c d t l (after_other_gift v g)
 unfolding marks_of
-marks-next sh gs hs c d t l v h = record {
+marks-next sh gs hs c d t l g v h = record {
   owner = λ x. Contains-append_left gs hs (grant_to t c) (h.owner x);
   words = h.words;
-  fresh = λ x. h.fresh (let b : num (nat_le (v.next + 1) t) ≤ num (nat_le v.next t) = grind nats in omega arith);
+  fresh = λ x. h.fresh (omega (arith, gift-counts g v.next t));
   skipped = h.skipped;
   held = h.held;
 }
@@ -365,17 +365,17 @@ step-marks {sh} p {gs} {w} e z y h = step_cases sh p w e (λ g o. KeptTold sh o.
     (λ x. granting sh u d x l (w.cores c) (granted_waits (pair w c d) k i (z.told.tids.requests c d))) (λ x. h c d x l)) h))
     (λ c d k m o eq i. taken c d k (core_of_back c d k z.told.tids i) o (λ b t l. got _ eq (marking-back sh d b t l (w.cores c) m)))
     (λ c d k m i. answered c d k i (dir_deliver sh (w.dirs d) c m) (dir-marked sh (w.dirs d) c m))
-    (λ c k i n. pairs_vendor (Q c) w c k (λ d t l. marks-given sh gs (new c) c d t l k (pair w c d) (h c d t l))
-    (λ j d n t l. marks-next sh gs (new c) j d t l (pair w j d) (h j d t l)))
+    (λ c k a i n. pairs_vendor (Q a c) w c k a (λ d t l. marks-given sh gs (new a c) c d t l k (gift a) (pair w c d) (h c d t l))
+    (λ j d n t l. marks-next sh gs (new a c) j d t l (gift a) (pair w j d) (h j d t l)))
   where
     P : ℕ → ℕ → Pair → Type 0
     P c d v = (t l : ℕ) → MarksOf sh gs c d t l v
 
-    new : ℕ → List Grant
-    new c = grant_to w.next c ∷ []
+    new : Ask → ℕ → List Grant
+    new a c = gift_grants (gift a) w.next c
 
-    Q : ℕ → ℕ → ℕ → Pair → Type 0
-    Q x c d v = (t l : ℕ) → MarksOf sh (gs ++ new x) c d t l v
+    Q : Ask → ℕ → ℕ → ℕ → Pair → Type 0
+    Q a x c d v = (t l : ℕ) → MarksOf sh (gs ++ new a x) c d t l v
 
     came : (c k u : ℕ) → in_flight w.net Vendor (Core c) k ≡ Some (TidGrant u)
         → 1 ≤ live (Grants u) (w.net Vendor (Core c)) + num (has_tid (w.cores c).phase u)

@@ -17,7 +17,8 @@ use proofs.Marks.MarksKept.{taken-less, is-mark}
 use proofs.OneCore.{fill-steady, data-steady, Invalidated, invalidate-cases, reply-cases}
 use proofs.Serving.{Clean, clean-hurt, clean-replied, clean-steady, CleanOut, clean-exec, clean-evict, clean-grant, Due, DueBy, dir-due}
 use proofs.Serving.{still-due, none-quiet, Quiet, core_of_out, once_at, marks_home, acks_owed, BackDue, back-due}
-use proofs.Tids.{only-one, unserved, live-some}
+use proofs.Tids.{unserved, live-some}
+use proofs.Counts.{Ask, gift, gift_grants, gift-is}
 
 -- What nodes send of invalidations and acknowledgements, line by line.
 
@@ -273,7 +274,7 @@ step-named {sh} p {w} e z g h = step_cases sh p w e (λ x o. KeptTold sh o.world
     (dir-owes sh (w.dirs d) c m)
     (dir-due sh d (w.dirs d) c m (once_at c d k z.told i) (z.told.owed.at_home c d).marked (marks_home c d k z.told.owed i)
     (acks_owed c d k z.told.owed (core_of_out c d k z.told.tids i) i)) (dir-names sh (w.dirs d) c m))
-    (λ c k i n. pairs_vendor P w c k (λ d l x y. record { one = (h c d l x y).one; mask = (h c d l x y).mask })
+    (λ c k a i n. pairs_vendor P w c k a (λ d l x y. record { one = (h c d l x y).one; mask = (h c d l x y).mask })
     (λ j d q l x y. record { one = (h j d l x y).one; mask = (h j d l x y).mask }))
   where
     P : ℕ → ℕ → Pair → Type 0
@@ -358,19 +359,21 @@ step-unacked {sh} p {gs} {w} e z y h = step_cases sh p w e (λ g o. KeptTold sh 
     (λ c d k m i. answered c d k i (dir_deliver sh (w.dirs d) c m)
     (dir-due sh d (w.dirs d) c m (once_at c d k z.told i) (z.told.owed.at_home c d).marked (marks_home c d k z.told.owed i)
     (acks_owed c d k z.told.owed (core_of_out c d k z.told.tids i) i)))
-    (λ c k i n. pairs_vendor (UnackedOf sh (gs ++ grant_to w.next c ∷ [])) w c k
-    (λ d l g. more c c d l (Contains-append_cases gs (one c) (grant_to (tid_at w d) c) g))
-    (λ j d q l g. more c j d l (Contains-append_cases gs (one c) (grant_to (tid_at w d) j) g)))
+    (λ c k a i n. pairs_vendor (UnackedOf sh (gs ++ new a c)) w c k a
+    (λ d l g. more a c c d l (Contains-append_cases gs (new a c) (grant_to (tid_at w d) c) g))
+    (λ j d q l g. more a c j d l (Contains-append_cases gs (new a c) (grant_to (tid_at w d) j) g)))
   where
     P : ℕ → ℕ → Pair → Type 0
     P = UnackedOf sh gs
 
-    one : ℕ → List Grant
-    one c = grant_to w.next c ∷ []
+    new : Ask → ℕ → List Grant
+    new a c = gift_grants (gift a) w.next c
 
-    more : (c j d : ℕ) → d < sh.dirs → Contains gs (grant_to (tid_at w d) j)
-        ⊎ Contains (one c) (grant_to (tid_at w d) j) → live Acks (to_dir w j d) ≡ 0
-    more c j d l a = grind (nats, next-unacked, only-one)
+    more : (a : Ask) (c j d : ℕ) → d < sh.dirs → Contains gs (grant_to (tid_at w d) j)
+        ⊎ Contains (new a c) (grant_to (tid_at w d) j) → live Acks (to_dir w j d) ≡ 0
+    more a c j d l (inl x) = h j d l x
+    more a c j d l (inr x) =
+        next-unacked sh w j d z.told l (sym (ap (λ r. r.tid) (gift-is (gift a) w.next c (grant_to (tid_at w d) j) x)))
 
     moved : (c : ℕ) (o : Out) → CleanOut sh o → KeptTold sh (core_moves w c o) → KeptUnacked sh (gs ++ []) (core_moves w c o)
     moved c o a = λ n. rw append-nil (pairs_move P w c o

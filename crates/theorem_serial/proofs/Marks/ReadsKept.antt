@@ -74,7 +74,7 @@ step-reads {sh} p {w} e z y ks s h = step_cases sh p w e (λ g o. KeptReads sh o
     (λ c k u i. pairs_grant P w c k (grant sh u (w.cores c)) (λ d b. read-kept sh d _ (reading-grant sh u (w.cores c)) (h c d b)) h)
     (λ c d k m o eq i. taken c d k o (λ a b. got _ eq (reads-back d a (tid_at w a) m (ks c) (admitted c d k m a b z.told y s i)
     (h c a b)))) (λ c d k m i. answered c d k (dir_deliver sh (w.dirs d) c m) (dir-rises sh (w.dirs d) c m))
-    (λ c k i. pairs_vendor P w c k (h c) (λ j d n. h j d))
+    (λ c k a i. pairs_vendor P w c k a (h c) (λ j d n. h j d))
   where
     P : ℕ → ℕ → Pair → Type 0
     P c d v = d < sh.dirs → ReadOf sh d v.dir.serving.serving v.core

@@ -1,9 +1,9 @@
 -- Every event keeps that a TID that commits has marked what its commit stored, also while acknowledgements of it are owed.
 use Rattle.theorem_serial.proofs
 use proofs.Names
-use Names.{got, num-most, after_other_grant, slice_index_or, if◌then◌else◌, modified_mask, insert_commit, SettledCommit, Contains}
+use Names.{got, num-most, slice_index_or, if◌then◌else◌, modified_mask, insert_commit, SettledCommit, Contains}
 use Names.{after_answer, MarkedCommit, wrong_marks, grant_taken, stored_mask, count_below, dir_deliver, EmptyMarks, KeptCounted}
-use Names.{after_grant, after_move, MarkedWith, core_moves, core_takes, KeptOwners, false, back_taken, KeptStored, writes_at, and_noted}
+use Names.{after_move, MarkedWith, core_moves, core_takes, KeptOwners, false, back_taken, KeptStored, writes_at, and_noted}
 use Names.{AnyCommit, dir_start, [], dir_takes, KeptMarks, KeptMasks, KeptCores, cases_lt, has_mark, DirState, sent_all, Resolves, MarkMask}
 use Names.{marks_of, MaskedOf, StoredOf, dir_asks, CommitOf, KeptTold, Commits, MarksOf, arith, Program, Option, length, nat_lt, MarkOf}
 use Names.{passes, IfSome, TidReq, Commit, Answer, Noted, Shape, among, ℕ, Grant, opens, subst, Local, Event, lines, World, start, Sends}
@@ -21,6 +21,7 @@ use proofs.Marks.DirRecords.{Marked, Stays, MarkedBy, dir-marked, CountsMarked, 
 use proofs.Marks.MarksKept.{open-untold, taken-less, empty-one, skip-unmarked, only-there, no-request, no-empty, taken-back as back-marks}
 use proofs.Marks.NamedKept.{marks-same}
 use proofs.Tids.{granted_waits, live-some}
+use proofs.Counts.{gift, after_gift, after_other_gift}
 
 -- How each kind of event keeps, between a core and a directory, that a Commit in flight is of a commit that stored what was marked.
 
@@ -333,8 +334,8 @@ step-stored {sh} p {gs} {w} {cs} e z y x a g q h = step_cases sh p w e
     (dir-owes sh (w.dirs d) c m)
     (dir-due sh d (w.dirs d) c m (once_at c d k z.told i) (z.told.owed.at_home c d).marked (marks_home c d k z.told.owed i)
     (acks_owed c d k z.told.owed (core_of_out c d k z.told.tids i) i)))
-    (λ c k i n. pairs_vendor (P None) w c k (λ d t. same-stored (after_grant (pair w c d) k) refl refl (h c d t))
-    (λ j d r t. same-stored (after_other_grant (pair w j d)) refl refl (h j d t)))
+    (λ c k a i n. pairs_vendor (P None) w c k a (λ d t. same-stored (after_gift (pair w c d) k (gift a)) refl refl (h c d t))
+    (λ j d r t. same-stored (after_other_gift (pair w j d) (gift a)) refl refl (h j d t)))
   where
     P : Option Noted → ℕ → ℕ → Pair → Type 0
     P n c d v = (t : ℕ) → StoredOf sh (and_noted n cs) c d t v

@@ -7,12 +7,12 @@ use Names.{DataReq, Inv, Shape, home, lines, DirState, World, start, dir_start, 
 use Names.{to, Answer, Waits, Drops, Asks, Takes, dir_deliver, invalidations, is_invalidated, invs_to, home_words, core_moves, core_takes}
 use Names.{dir_takes, step, IsUnknown, HomeOf, KeptHomes, LinesAway, NoWord, live, among, passes, Kept, Pair, pair, after_answer, out_taken}
 use Names.{nats, to_dir, to_core, FromCore, FromDir, ◌≢◌, moved_by, taken_by, unnoted, ready_once_replied, solo_once_replied}
-use Names.{violated_in_phase, words_invalidated, AccessesInMemory, AwaitTid, write_back_line, CommitsInMemory, grant_in_phase}
+use Names.{violated_in_phase, words_invalidated, AccessesInMemory, AwaitTid, CommitsInMemory, grant_in_phase}
 use Names.{reply_in_phase, StaysInMemory, read_cleared, evicted_line, fill_awaited, data_request, acknowledged, vendor_gives, next_history}
-use Names.{invalidated, rolled_back, Overflowing, probe_reply, all_replied, if_violated, is_violated, empty_cache, first_state, spill_line}
-use Names.{evict_line, is_awaited, invalidate, core_start, is_marked, CoreState, DoomedTid, marks_for, roll_back, KeptCores, and_noted}
-use Names.{Contains, dir_asks, recorded, and_then, run_from, cleaned, evicted, Awaited, Running, Probing, is_solo, ignored, replied}
-use Names.{Stepped, History, filled, Halted, CopyOf, Cache, Phase, Ready, moves, subst, Noted, ◌||◌, Solo, fill, ◌≤◌, ◌⊎◌, run}
+use Names.{invalidated, rolled_back, Overflowing, probe_reply, all_replied, if_violated, is_violated, empty_cache, first_state}
+use Names.{invalidate, core_start, CoreState, DoomedTid, marks_for, roll_back, KeptCores, and_noted}
+use Names.{Contains, dir_asks, recorded, and_then, run_from, cleaned, evicted, Awaited, Running, Probing, ignored, replied}
+use Names.{Stepped, History, filled, Halted, CopyOf, Cache, Phase, Ready, moves, subst, Noted, Solo, fill, ◌≤◌, ◌⊎◌, run}
 use proofs.Counts.{Outcome, AsksOwner, TakesSkip, TakesAbort, TakesProbe, TakesLoad, TakesMark, TakesCommit, TakesAck, TakesCopy, Wants}
 use proofs.Counts.{ToLoad, ToMark, outcome, live-sends, live-takes, none-taken, pairs_move, pairs_grant, pairs_back, pairs_dir, pairs_asks}
 use proofs.Counts.{pairs_vendor, OfAnswer, step_cases}
@@ -222,7 +222,7 @@ step-homes {sh} p {w} e z h = step_cases sh p w e (λ g o. KeptHomes sh o.world)
     (λ c d k m i. answered c d k m i (dir_deliver sh (w.dirs d) c m)
     (dir-homes sh d (w.dirs d) c m (core_of_out c d k z.told.tids i) (none-taken (LinesAway sh.dirs d) (to_dir w c d) k i (h c d 0).out)
     (lines-of sh d (pair w c d) (h c d))))
-    (λ c k i. pairs_vendor P w c k
+    (λ c k a i. pairs_vendor P w c k a
     (λ d l. home-again refl refl refl (h c d l))
     (λ j d n l. home-again refl refl refl (h j d l)))
   where
@@ -406,7 +406,7 @@ step-copies sh p w e a k h = step_cases sh p w e (λ g o. NoCopiesOutside sh o.w
     (λ c x y o eq l. moved c o (got _ eq (evict-sends sh x y (w.cores c) (a c).words.cache (k c).frames)))
     (λ c n t q. pairs_grant P w c n (grant sh t (w.cores c)) (sent c (grant sh t (w.cores c)) (grant-sent sh t (w.cores c))) h)
     (λ c d n m o eq q. taken c d n o (got _ eq (back-sends sh d (w.cores c) m (a c).words.cache (k c).frames)))
-    (λ c d n m q. answered c d n m q (dir_deliver sh (w.dirs d) c m)) (λ c n q. pairs_vendor P w c n (h c) (λ j d i. h j d))
+    (λ c d n m q. answered c d n m q (dir_deliver sh (w.dirs d) c m)) (λ c n a q. pairs_vendor P w c n a (h c) (λ j d i. h j d))
   where
     P : ℕ → ℕ → Pair → Type 0
     P c d v = (l t : ℕ) → lines sh ≤ l → live (CopyOf l t) v.out ≡ 0
@@ -453,7 +453,7 @@ step-memory sh p w e i k = step_cases sh p w e (λ g o. StepInMemory sh o)
     (λ c x y o eq l. moved c o (got _ eq (evict-memory sh x y (w.cores c) (k c))))
     (λ c n t q. let z = grant-memory sh t (w.cores c) (k c) in (put c z.0, z.1))
     (λ c d n m o eq q. taken c d n o (got _ eq (back-memory sh d (w.cores c) m (k c))))
-    (λ c d n m q. answered c d n (dir_deliver sh (w.dirs d) c m)) (λ c n q. (k, tt))
+    (λ c d n m q. answered c d n (dir_deliver sh (w.dirs d) c m)) (λ c n a q. (k, tt))
   where
     put : (c : ℕ) {s : CoreState} → CoreInMemory sh s → (j : ℕ) → CoreInMemory sh (if j == c then s else w.cores j)
     put c {s} h j = elim (j == c) as (λ b. CoreInMemory sh (if b then s else w.cores j)) [ true ↦ h | false ↦ k j ]

@@ -498,7 +498,7 @@ step-cores {sh} p w e k = step_cases sh p w e (λ g o. KeptCores sh o.world)
     (λ c x y o eq l. moved c o (got _ eq (evict_one sh x y (w.cores c) (k c))))
     (λ c i t q. put_one w c k (grant_one sh t (w.cores c) (k c)))
     (λ c d i m o eq q. (put_one w c k (got _ eq (back_one sh d (w.cores c) m (k c)))))
-    (λ c d i m q. answered c d i (dir_deliver sh (w.dirs d) c m)) (λ c i q. k)
+    (λ c d i m q. answered c d i (dir_deliver sh (w.dirs d) c m)) (λ c i a q. k)
   where
     moved : (c : ℕ) (o : Out) → OneCore sh o.core → KeptCores sh (core_moves w c o)
     moved c o h = put_one w c k h

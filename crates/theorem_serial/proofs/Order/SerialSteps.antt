@@ -8,12 +8,12 @@ use Names.{map-append, HaltedWith, Invariants, may_commit, loads_word, core_evic
 use Names.{CoreState, end_after, CanInsert, writes_at, UsesStand, worked_at, in_flight, core_exec, and_noted, dir_takes, last_tid, HasEnded}
 use Names.{Inserted, IsMemory, Contains, reads_at, NeedFits, AllStand, asks_dir, live_way, TidGrant, from_dir, dir_asks, IsSerial}
 use Names.{CoreEnd, Attempt, Outcome, Program, Aligned, Changes, line_of, is_solo, History, has_tid, EachUse, Stepped, Option, closed}
-use Names.{end_of, serial, Stores, Agrees, holder, tid_of, Untold, Vendor, TidReq, Answer, false, subst, Noted, Plain, Order, Ended}
+use Names.{end_of, serial, Stores, Agrees, holder, tid_of, Untold, Vendor, Answer, false, subst, Noted, Plain, Order, Ended}
 use Names.{begun, steps, Local, noted, Again, times, arith, Loads, Shape, Phase, Ready, World, Suits, Grant, grant, Waits, Drops, Takes}
 use Names.{true, List, ◌++◌, Some, None, refl, Halt, Trap, Goes, Bool, ◌==◌, ◌||◌, Need, home, Solo, Uses, Fits, pair, Ways, Core, Asks}
 use Names.{step, ◌≡◌, ◌≤◌, ◌≢◌, ◌∷◌, map, sym, ◌∙◌, Run, ◌<◌, ◌⊎◌, inl, inr, num, Out, Dir, Msg, ap, [], ℕ, nats, home_of, tid_at, FromCore}
 use Names.{FromDir, grant_to}
-use proofs.Counts.{given, OfAnswer, step_cases}
+use proofs.Counts.{OfAnswer, step_cases}
 use proofs.Memory.CoreHomes.{accesses_at_homes, marks_at_homes}
 use proofs.OneCore.{Gives, Closing, Leaves, Stays, Closes, exec-leaves, CheckpointStays, evict-stays, grant-stays, back-stays}
 use proofs.Order.InsertedOrders.{order_inserted, put-same, serial_again, serial-memory}
@@ -21,6 +21,7 @@ use proofs.Order.SerialParts.{before, behind, cut-inserted, behind-below, before
 use proofs.Order.SerialParts.{cut-joined, Each, each-listed, each-behind, each-both, each-then, behind-larger, orders-another, touch-none}
 use proofs.Order.SerialParts.{serial-cut, serial-holds, all_stores}
 use proofs.Tids.{numbered-least, granted-at}
+use proofs.Counts.{Ask, asking, gives_to}
 
 -- The transaction of a core that commits, inserted into the serial execution at its TID.
 
@@ -418,6 +419,6 @@ events_serial sh p entries ram gs ys views m h e u k =
         go (Asks s sends) = same (dir_asks h.world d s sends) refl
         go (Takes s sends) = same (dir_takes h.world c d n s sends) refl
 
-    gives : (c n : ℕ) → in_flight h.world.net (Core c) Vendor n ≡ Some TidReq
-        → After sh p entries ram h (unnoted (vendor_gives h.world c n (given h.world c)))
-    gives c n i = same (vendor_gives h.world c n (given h.world c)) refl
+    gives : (c n : ℕ) (a : Ask) → in_flight h.world.net (Core c) Vendor n ≡ Some (asking a)
+        → After sh p entries ram h (unnoted (gives_to h.world c n a))
+    gives c n a i = same (gives_to h.world c n a) refl

@@ -242,7 +242,7 @@ step-by {sh} p {w} e h = step_cases sh p w e (λ g o. NotedByCore sh o.noted)
     (λ c x y o eq l. noted-by sh c o.commit l (got _ eq (holder-evict sh x y c (w.cores c))).own)
     (λ c k t i. noted-by sh c (grant sh t (w.cores c)).commit (core_of_grant c k h.told.tids i) (holder-grant sh t c (w.cores c)).own)
     (λ c d k m o eq i. noted-by sh c o.commit (core_of_back c d k h.told.tids i) (got _ eq (holder-back sh d c (w.cores c) m)).own)
-    (λ c d k m i. answer c d k (dir_deliver sh (w.dirs d) c m)) (λ c k i. tt)
+    (λ c d k m i. answer c d k (dir_deliver sh (w.dirs d) c m)) (λ c k a i. tt)
   where
     answer : (c d k : ℕ) (a : Answer) → OfAnswer w c d k (λ v. NotedByCore sh None) a
     answer c d k Waits = tt

@@ -511,7 +511,7 @@ step-owing sh p w e k = step_cases sh p w e (λ g o. KeptOwing sh o.world)
     (λ c o eq l. moved c o (got _ eq (owing-exec p c (k c))))
     (λ c x y o eq l. moved c o (got _ eq (owing-evict x y (k c)))) (λ c i t q. put-owing w c k (owing-grant t (k c)))
     (λ c d i m o eq q. (put-owing w c k (got _ eq (owing-back d m (k c)))))
-    (λ c d i m q. answered c d i (dir_deliver sh (w.dirs d) c m)) (λ c i q. k)
+    (λ c d i m q. answered c d i (dir_deliver sh (w.dirs d) c m)) (λ c i a q. k)
   where
     moved : (c : ℕ) (o : Out) → OwingFits sh o.core → KeptOwing sh (core_moves w c o)
     moved c o h = put-owing w c k h

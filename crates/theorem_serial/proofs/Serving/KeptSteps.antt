@@ -5,11 +5,11 @@ use Names.{got, nothing, eq-self, ℕ, ◌+◌, ◌≡◌, ◌<◌, ◌≤◌, �
 use Names.{arith, refl, sym, ◌∙◌, ◌⊎◌, inl, inr, cases_lt, cases_eq, Local, num, no_lines, Core, Dir, Vendor, Msg, Fill, ProbeReply}
 use Names.{DataReq, Inv, Shape, home, CoreState, DirState, World, Link, start, dir_start, in_flight, sent_all, Sends, Out, from_dir}
 use Names.{core_moves, core_takes, dir_takes, dir_asks, vendor_gives, Invs, InvsNot, InvsAway, Acks, MarksAway, AnyResolve, Any, live}
-use Names.{among, passes, Pair, pair, after_move, grant_taken, back_taken, after_answer, out_taken, after_grant, after_other_grant, share}
+use Names.{among, passes, Pair, pair, after_move, grant_taken, back_taken, after_answer, out_taken, share}
 use Names.{KeptTids, due, OwedAt, AtHomeOf, KeptOwed, Running, core_start, RepliesAbove, Reached, ReachedOf, KeptProbes, Program, Serving}
 use Names.{Event, grant, Answer, Waits, Drops, Asks, Takes, dir_deliver, Stepped, step, Resolves, handled, KeptTold, Kept, nats, tid_at}
 use Names.{to_dir, to_core, FromCore, FromDir, IfSome_then, ◌≢◌}
-use proofs.Counts.{AnswersInside, dir-inside, live-sends, live-takes, total-le, total-zero, live-fewer, none-taken, differ, given}
+use proofs.Counts.{AnswersInside, dir-inside, live-sends, live-takes, total-le, total-zero, live-fewer, none-taken, differ}
 use proofs.Counts.{pairs_move, pairs_grant, pairs_back, pairs_dir, pairs_asks, pairs_vendor, sum_move, sum_grant, sum_back, sum_back_away}
 use proofs.Counts.{sum_dir, sum_dir_away, sum_asks_here, sum_asks_away, sum_vendor, OfAnswer, step_cases}
 use proofs.OneCore.{none-asked, asked-back, asked-exec, asked-evict, asked-grant}
@@ -18,6 +18,7 @@ use proofs.Serving.DirDue.{Due, nots-invs, at-home, DueBy, dir-due, still-due, R
 use proofs.Tids.{KeepsRequests, requests-exec, requests-evict, requests-back, KeepsPart, part-exec, part-evict, part-back, HandledBy}
 use proofs.Tids.{OnceAt, dir-handled, skipped-above, move-kept, grant-kept, back-kept, dir-kept, asks-kept, vendor-kept, start-kept}
 use proofs.Tids.{inside_from, any-one, live-some, once-there, no_sends}
+use proofs.Counts.{Ask, gift, gives_to, after_gift, after_other_gift}
 
 -- Each kind of event keeps what is owed equal to what is in flight.
 due-moved : {sh : Shape} (v : Pair) (o : Out) {d : ℕ} → Clean sh d (o.sends (Dir d)) → due (after_move v o d) + 0 ≡ due v + 0
@@ -247,12 +248,12 @@ asks-owed sh w e s sends h z u = record {
         (λ x. rw (eq-self e) at (none-due sh v e j s.serving.serving (z.inside j e).back here (rw (eq-self e) x)))
 
 -- the vendor grants
-vendor-owed : (sh : Shape) (w : World) (c k : ℕ) → KeptOwed sh w → c < sh.cores → KeptOwed sh (vendor_gives w c k (given w c))
+vendor-owed : (sh : Shape) (w : World) (c k : ℕ) (a : Ask) → KeptOwed sh w → c < sh.cores → KeptOwed sh (gives_to w c k a)
 unfolding vendor_gives due
-vendor-owed sh w c k h l = record {
-  owed = λ d. let p = sum_vendor due sh.cores w c k d 0 0 l refl (λ j n. refl) in omega (arith, h.owed);
-  at_home = pairs_vendor (λ c d v. AtHomeOf sh d v) w c k (λ d. next (after_grant (pair w c d) k) refl refl refl (h.at_home c d))
-      (λ j d n. next (after_other_grant (pair w j d)) refl refl refl (h.at_home j d));
+vendor-owed sh w c k a h l = record {
+  owed = λ d. let p = sum_vendor due sh.cores w c k a d 0 0 l refl (λ j n. refl) in omega (arith, h.owed);
+  at_home = pairs_vendor (λ c d v. AtHomeOf sh d v) w c k a (λ d. next (after_gift (pair w c d) k (gift a)) refl refl refl (h.at_home c d))
+      (λ j d n. next (after_other_gift (pair w j d) (gift a)) refl refl refl (h.at_home j d));
 }
   where
     next : {v : Pair} {d : ℕ} (x : Pair) → x.dir ≡ v.dir → x.out ≡ v.out → x.back ≡ v.back → AtHomeOf sh d v → AtHomeOf sh d x
@@ -348,8 +349,9 @@ asks-probes : (sh : Shape) (w : World) (e : ℕ) (s : DirState) (sends : Sends) 
 unfolding pair
 asks-probes sh w e s sends h u = pairs_asks (λ c d v. ReachedOf sh d v) w e s sends (λ j. reached-answered sh e (pair w j e) j u (h j e)) h
 
-vendor-probes : (sh : Shape) (w : World) (c k : ℕ) → KeptProbes sh w → KeptProbes sh (vendor_gives w c k (given w c))
-vendor-probes sh w c k h = pairs_vendor (λ c d v. ReachedOf sh d v) w c k (λ d. record { core = (h c d).core; replies = (h c d).replies })
+vendor-probes : (sh : Shape) (w : World) (c k : ℕ) (a : Ask) → KeptProbes sh w → KeptProbes sh (gives_to w c k a)
+vendor-probes sh w c k a h = pairs_vendor (λ c d v. ReachedOf sh d v) w c k a
+    (λ d. record { core = (h c d).core; replies = (h c d).replies })
     (λ j d n. record { core = (h j d).core; replies = (h j d).replies })
 
 start-probes : (sh : Shape) (entries : ℕ → Local) (ram : ℕ → ℕ) → KeptProbes sh (start entries ram)
@@ -439,7 +441,7 @@ step-told sh p w e h = step_cases sh p w e (λ g o. KeptTold sh o.world)
     (λ t x. dir-handled sh (w.dirs d) c m t (once_at c d k h i))
     (dir-due sh d (w.dirs d) c m (once_at c d k h i) (h.owed.at_home c d).marked (marks_home c d k h.owed i)
     (acks_owed c d k h.owed (core_of_out c d k h.tids i) i)))
-    (λ c k i. record { tids = vendor-kept sh w c k h.tids i; owed = vendor-owed sh w c k h.owed (core_of_ask c k h.tids i) })
+    (λ c k a i. record { tids = vendor-kept sh w c k a h.tids i; owed = vendor-owed sh w c k a h.owed (core_of_ask c k h.tids i) })
 
 step-probes : (sh : Shape) (p : Program) (w : World) (e : Event) → KeptProbes sh w → IfSome (step sh p w e) (λ o. KeptProbes sh o.world)
 unfolding pair
@@ -449,7 +451,7 @@ step-probes sh p w e h = step_cases sh p w e (λ g o. KeptProbes sh o.world)
     (λ c k t i. grant-probes sh w c k (grant sh t (w.cores c)) h (λ d. asked-grant t d (h c d).core))
     (λ c d k m o eq i. back-probes sh w d c k m o h i (λ e. got _ eq (asked-back d m (λ q. rw q (reply-low w d c k h i)) (h c e).core)))
     (λ c d k m i. answered c d k (dir_deliver sh (w.dirs d) c m) (dir-rises sh (w.dirs d) c m))
-    (λ c k i. vendor-probes sh w c k h)
+    (λ c k a i. vendor-probes sh w c k a h)
   where
     answered : (c d k : ℕ) (a : Answer) → RisesBy (w.dirs d) a → OfAnswer w c d k (KeptProbes sh) a
     answered c d k Waits r = tt

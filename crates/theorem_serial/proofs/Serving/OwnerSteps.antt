@@ -1,8 +1,8 @@
 -- Each kind of event keeps who has which TID, and the list of commits; then the TID that is committing.
 use Rattle.theorem_serial.proofs
 use proofs.Names
-use Names.{got, nothing, Contains-append_right, Contains-append_cases, Contains-append_left, after_other_grant, slice_index_or}
-use Names.{length-append, waits_for_tid, vendor_start, vendor_gives, dir_deliver, grant_taken, after_grant, LastGranted, append-nil}
+use Names.{got, nothing, Contains-append_right, Contains-append_cases, Contains-append_left, slice_index_or}
+use Names.{length-append, waits_for_tid, vendor_start, vendor_gives, dir_deliver, grant_taken, LastGranted, append-nil}
 use Names.{core_start, core_moves, core_takes, after_move, granted_by, IsNumbered, AreGranted, KeptOwners, in_flight, dir_takes, and_noted}
 use Names.{RequestOf, Contains, cases_eq, TidGrant, DirState, dir_asks, KeptTids, IsRising, AnyGrant, Program, has_tid, AsksTid, Option}
 use Names.{IfSome, nat_le, Vendor, TidReq, Answer, Grants, passes, sum_of, holder, false, arith, subst, Noted, Local, Event, Shape, World}
@@ -12,15 +12,18 @@ use Names.{grant_to, ◌≢◌, tested, eq-self, CommitsAreServed, SparesCommitt
 use Names.{CommittingOf, cases_order, Overflowing, back_taken, out_taken, CoreState, DoomedTid, Resolves, cases_lt, AwaitTid, sent_all}
 use Names.{KeptTold, SparedOf, Commits, handled, Running, Probing, nat_lt, Halted, Ready, part, Kept, Solo, Invs, Acks, due, tid_at, to_dir}
 use Names.{to_core, FromCore, FromDir}
-use proofs.Counts.{live-sends, live-takes, total-le, total-zero, total-same, live-fewer, OfAnswer, step_cases, given, pairs_move}
+use proofs.Counts.{live-sends, live-takes, total-le, total-zero, total-same, live-fewer, OfAnswer, step_cases, pairs_move}
 use proofs.Counts.{pairs_grant, pairs_back, pairs_vendor, sum_move, sum_grant, sum_back, sum_back_away, sum_vendor, pairs_dir, pairs_asks}
 use proofs.Serving.KeptSteps.{core_of_grant, core_of_back, core_of_ask, marks_home, acks_owed, invs-few, core_of_out, once_at}
-use proofs.Tids.{times-insert, insert-rising, insert-granted, granted-more, numbered-more, numbered-least, numbered-most, only-one}
+use proofs.Tids.{times-insert, insert-rising, insert-granted, granted-more, numbered-more, numbered-least, numbered-most}
 use proofs.Tids.{KeepsHolder, noted_tid, none, holder-exec, holder-evict, holder-grant, holder-back, granted-once}
 use proofs.Serving.CoreDue.{CommitsNoted, noted-exec, noted-evict, noted-grant, noted-back, Served, served-exec, served-evict, served-grant}
 use proofs.Serving.CoreDue.{served-back, fewer-commits}
 use proofs.Serving.DirDue.{Due, DueBy, dir-due, still-due, none-quiet, SparesOwn, SparesBy, dir-spares, Rises, RisesBy, dir-rises}
 use proofs.Serving.DirDue.{rises-still}
+use Names.{length}
+use proofs.Counts.{Ask, asking, Gift, gift, gift_of, next_after, gift_grants, per-gift, gift-counts, gift-tid}
+use proofs.Counts.{gift-is, gift-gives, gift-granted, asks-tid, gives_to, after_gift, after_other_gift}
 
 -- a core's part after its step
 pub holder-moved : (v : Pair) {o : Out} (d t : ℕ) {c : ℕ} → KeepsHolder c none v.core o
@@ -132,40 +135,50 @@ asks-owners : {sh : Shape} {gs : List Grant} {w : World} {cs : List Noted} (e : 
 unfolding dir_asks pair holder
 asks-owners e s sends h = same-owners h refl (λ t j d. refl)
 
--- the vendor grants a TID
-pub holder-given : (v : Pair) (k t : ℕ) → holder t (after_grant v k) + 0 ≡ holder t v + num (v.next == t)
-unfolding holder passes among
-holder-given v k t = omega (arith, live-sends)
-
-holder-next : (v : Pair) (t : ℕ) → holder t (after_other_grant v) ≡ holder t v
+-- the vendor gives
+pub holder-given : (v : Pair) (k t : ℕ) (g : Gift) → holder t (after_gift v k g) + 0 ≡ holder t v + among (Grants t) (gift_of g v.next)
 unfolding holder
-holder-next v t = refl
+holder-given v k t g = omega (arith, live-sends)
 
-vendor-owners : (sh : Shape) (gs : List Grant) (w : World) (cs : List Noted) (c k : ℕ) → KeptOwners sh gs w cs → c < sh.cores
-    → KeptOwners sh (gs ++ grant_to w.next c ∷ []) (vendor_gives w c k (given w c)) cs
+holder-next : (v : Pair) (t : ℕ) (g : Gift) → holder t (after_other_gift v g) ≡ holder t v
+unfolding holder
+holder-next v t g = refl
+
+-- a TID that the core has afterwards it had, or it was given
+pub had-or-given : (v : Pair) (k t : ℕ) (g : Gift) → 1 ≤ holder t (after_gift v k g)
+    → (1 ≤ holder t v) ⊎ (1 ≤ among (Grants t) (gift_of g v.next))
+had-or-given v k t g x = elim (cases_eq (holder t v) 0) [
+  | inl z ↦ inr (omega (arith, x, z, holder-given v k t g))
+  | inr n ↦ inl (omega arith)
+]
+
+numbered-gift : (g : Gift) (gs : List Grant) (n c : ℕ) → IsNumbered 1 gs → n ≡ length gs + 1
+    → IsNumbered 1 (gs ++ gift_grants g n c) × (next_after g n ≡ length (gs ++ gift_grants g n c) + 1)
+numbered-gift g gs n c h e = per-gift g n c (λ hs m. IsNumbered 1 (gs ++ hs) × (m ≡ length (gs ++ hs) + 1))
+    (numbered-more 1 gs (grant_to n c) h (omega arith), omega (arith, length-append gs (grant_to n c ∷ [])))
+    (rw append-nil h, rw append-nil e)
+
+vendor-owners : (sh : Shape) (gs : List Grant) (w : World) (cs : List Noted) (c k : ℕ) (a : Ask) → KeptOwners sh gs w cs → c < sh.cores
+    → KeptOwners sh (gs ++ gift_grants (gift a) w.next c) (gives_to w c k a) cs
 unfolding vendor_gives pair
-vendor-owners sh gs w cs c k h l = record {
-  once = λ t. let s = sum_vendor (holder t) sh.cores w c k 0 0 (num (w.next == t)) l (holder-given (pair w c 0) k t)
-      (λ j n. other t (pair w j 0)) in let b : num (nat_le w.next t) ≡ num (nat_le (w.next + 1) t) + num (w.next == t) =
-      grind nats in omega (arith, h.once);
-  held = pairs_vendor (HeldBy (gs ++ g ∷ [])) w c k (λ d t x. own d t x (cases_eq w.next t))
-      (λ j d n t x. Contains-append_left gs (g ∷ []) (grant_to t j) (h.held j d t (rw (sym (other t (pair w j d))) x)));
-  numbered = numbered-more 1 gs g h.numbered (omega arith);
-  next = omega (arith, h.next, length-append gs (g ∷ []));
-  granted = granted-more gs (g ∷ []) cs h.granted;
+vendor-owners sh gs w cs c k a h l = record {
+  once = λ t. let s = sum_vendor (holder t) sh.cores w c k a 0 0 (among (Grants t) (gift_of (gift a) w.next)) l
+      (holder-given (pair w c 0) k t (gift a)) (λ j n. holder-next (pair w j 0) t (gift a)) in
+      omega (arith, h.once, gift-counts (gift a) w.next t);
+  held = pairs_vendor (HeldBy (gs ++ new)) w c k a (λ d t x. own d t (had-or-given (pair w c d) k t (gift a) x))
+      (λ j d n t x. Contains-append_left gs new (grant_to t j) (h.held j d t (rw (sym (holder-next (pair w j d) t (gift a))) x)));
+  numbered = (numbered-gift (gift a) gs w.next c h.numbered h.next).0;
+  next = (numbered-gift (gift a) gs w.next c h.numbered h.next).1;
+  granted = granted-more gs new cs h.granted;
   rising = h.rising;
 }
   where
-    g : Grant
-    g = grant_to w.next c
+    new : List Grant
+    new = gift_grants (gift a) w.next c
 
-    other : (t : ℕ) (v : Pair) → holder t (after_other_grant v) ≡ holder t v
-    other t v = holder-next v t
-
-    own : (d t : ℕ) → 1 ≤ holder t (after_grant (pair w c d) k) → (w.next ≡ t) ⊎ (w.next ≢ t) → Contains (gs ++ g ∷ []) (grant_to t c)
-    own d t x (inl q) = rw (sym q) (Contains-append_right gs (g ∷ []) g (0, omega arith, refl))
-    own d t x (inr q) = let z : num (w.next == t) ≡ 0 = let b : (w.next == t) ≡ false = grind nats in rw b in
-        Contains-append_left gs (g ∷ []) (grant_to t c) (h.held c d t (omega (arith, holder-given)))
+    own : (d t : ℕ) → (1 ≤ holder t (pair w c d)) ⊎ (1 ≤ among (Grants t) (gift_of (gift a) w.next)) → Contains (gs ++ new) (grant_to t c)
+    own d t (inl x) = Contains-append_left gs new (grant_to t c) (h.held c d t x)
+    own d t (inr x) = Contains-append_right gs new (grant_to t c) (gift-granted (gift a) w.next c t x)
 
 share-start : (entries : ℕ → Local) (ram : ℕ → ℕ) (t j : ℕ) → share (holder t) (start entries ram) 0 j ≡ 0
 unfolding share holder start core_start pair live has_tid
@@ -191,7 +204,7 @@ step-owners {sh} p {gs} {w} {cs} e z h = step_cases sh p w e (λ g o. KeptOwners
     (λ c x y o eq l. moved c l o (got _ eq (holder-evict sh x y c (w.cores c))))
     (λ c k t i. rw append-nil (grant-owners w c k t h (core_of_grant c k z i) i (holder-grant sh t c (w.cores c))))
     (λ c d k m o eq i. backs c d k (core_of_back c d k z i) o (got _ eq (holder-back sh d c (w.cores c) m)))
-    (λ c d k m i. answered c d k (dir_deliver sh (w.dirs d) c m)) (λ c k i. vendor-owners sh gs w cs c k h (core_of_ask c k z i))
+    (λ c d k m i. answered c d k (dir_deliver sh (w.dirs d) c m)) (λ c k a i. vendor-owners sh gs w cs c k a h (core_of_ask c k z i))
   where
     moved : (c : ℕ) → c < sh.cores → (o : Out) → KeepsHolder c none (w.cores c) o
         → KeptOwners sh (gs ++ []) (core_moves w c o) (and_noted o.commit cs)
@@ -247,12 +260,12 @@ step-last {sh} p {gs} {w} e z y h = step_cases sh p w e (λ g o. LastGranted (gs
     (pairs_grant (LastOf gs) w c k (grant sh u (w.cores c)) (λ d t x q. h c d t x (omega
     (arith, q, holder-granted (pair w c d) d t k i (holder-grant sh u c (w.cores c))))) h))
     (λ c d k m o eq i. taken c d k o (got _ eq (holder-back sh d c (w.cores c) m)))
-    (λ c d k m i. answered c d k (dir_deliver sh (w.dirs d) c m)) (λ c k i. pairs_vendor (LastOf (gs ++ g c ∷ [])) w c k
-    (λ d t x q m. own c k d t x i q (Contains-append_cases gs (g c ∷ []) (grant_to x c) m))
-    (λ j d n t x q m. other c j d t x n q (Contains-append_cases gs (g c ∷ []) (grant_to x j) m)))
+    (λ c d k m i. answered c d k (dir_deliver sh (w.dirs d) c m)) (λ c k a i. pairs_vendor (LastOf (gs ++ new a c)) w c k a
+    (λ d t x q m. own c k a d t x i (had-or-given (pair w c d) k t (gift a) q) (Contains-append_cases gs (new a c) (grant_to x c) m))
+    (λ j d n t x q m. other a c j d t x n q (Contains-append_cases gs (new a c) (grant_to x j) m)))
   where
-    g : ℕ → Grant
-    g c = grant_to w.next c
+    new : Ask → ℕ → List Grant
+    new a c = gift_grants (gift a) w.next c
 
     moved : (c : ℕ) (o : Out) → KeepsHolder c none (w.cores c) o → LastGranted (gs ++ []) (core_moves w c o)
     moved c o k =
@@ -269,20 +282,27 @@ step-last {sh} p {gs} {w} e z y h = step_cases sh p w e (λ g o. LastGranted (gs
     answered c d i (Asks s sends) = rw append-nil (pairs_asks (LastOf gs) w d s sends (λ j. h j d) h)
     answered c d i (Takes s sends) = rw append-nil (pairs_dir (LastOf gs) w c d i s sends (h c d) (λ j n. h j d) h)
 
-    own : (c k d t x : ℕ) → in_flight w.net (Core c) Vendor k ≡ Some TidReq → 1 ≤ holder t (after_grant (pair w c d) k)
-        → Contains gs (grant_to x c) ⊎ Contains (g c ∷ []) (grant_to x c) → x ≤ t
-    own c k d t x i q m = one (cases_eq w.next t) m
-      where
-        one : (w.next ≡ t) ⊎ (w.next ≢ t) → Contains gs (grant_to x c) ⊎ Contains (g c ∷ []) (grant_to x c) → x ≤ t
-        one (inr a) m = let b : num (w.next == t) ≡ 0 = let f : (w.next == t) ≡ false = grind nats in ap num f in
-            absurd (omega (arith, holder-given (pair w c d) k t, (asking-none (pair w c d) k t i (z.requests c d)), q))
-        one (inl a) (inl m) = omega (arith, numbered-most 1 gs (grant_to x c) y.numbered m)
-        one (inl a) (inr m) = let f : w.next ≡ x = ap (λ r. r.tid) (only-one (g c) (grant_to x c) m) in omega arith
+    -- where a TID is given, the core had none
+    own : (c k : ℕ) (a : Ask) (d t x : ℕ) → in_flight w.net (Core c) Vendor k ≡ Some (asking a)
+        → (1 ≤ holder t (pair w c d)) ⊎ (1 ≤ among (Grants t) (gift_of (gift a) w.next))
+        → Contains gs (grant_to x c) ⊎ Contains (new a c) (grant_to x c) → x ≤ t
+    own c k a d t x i (inl q) (inl m) = h c d t x q m
+    own c k a d t x i (inl q) (inr m) =
+        absurd (omega (
+          arith,
+          asking-none (pair w c d) k t (i ∙ ap Some (asks-tid a (gift-gives (gift a) w.next c (grant_to x c) m)))
+              (z.requests c d),
+          q,
+        ))
+    own c k a d t x i (inr q) (inl m) =
+        omega (arith, (gift-tid (gift a) w.next t q).1, numbered-most 1 gs (grant_to x c) y.numbered m)
+    own c k a d t x i (inr q) (inr m) =
+        omega (arith, (gift-tid (gift a) w.next t q).1, ap (λ r. r.tid) (gift-is (gift a) w.next c (grant_to x c) m))
 
-    other : (c j d t x : ℕ) → j ≢ c → 1 ≤ holder t (after_other_grant (pair w j d)) → Contains gs (grant_to x j)
-        ⊎ Contains (g c ∷ []) (grant_to x j) → x ≤ t
-    other c j d t x n q (inl m) = h j d t x q m
-    other c j d t x n q (inr m) = absurd (n (sym (ap (λ r. r.core) (only-one (g c) (grant_to x j) m))))
+    other : (a : Ask) (c j d t x : ℕ) → j ≢ c → 1 ≤ holder t (after_other_gift (pair w j d) (gift a)) → Contains gs (grant_to x j)
+        ⊎ Contains (new a c) (grant_to x j) → x ≤ t
+    other a c j d t x n q (inl m) = h j d t x q m
+    other a c j d t x n q (inr m) = absurd (n (sym (ap (λ r. r.core) (gift-is (gift a) w.next c (grant_to x j) m))))
 
 -- Every event keeps that a Commit in flight is of the served TID, and that no invalidation goes to the core that committed.
 
@@ -313,7 +333,7 @@ step-committing {sh} p {w} e z h = step_cases sh p w e (λ g o. KeptCommitting o
     (served-grant sh t d (tid_at w d) (w.cores c)) (h c d)) h)
     (λ c d k m o eq i. taken c d k o (λ e. got _ eq (served-back sh d e (tid_at w e) (w.cores c) m)))
     (λ c d k m i. answered c d k m i (dir_deliver sh (w.dirs d) c m) (dir-rises sh (w.dirs d) c m))
-    (λ c k i. pairs_vendor P w c k (h c) (λ j d n. h j d))
+    (λ c k a i. pairs_vendor P w c k a (h c) (λ j d n. h j d))
   where
     P : ℕ → ℕ → Pair → Type 0
     P c d v = CommittingOf v
@@ -453,25 +473,26 @@ next-quiet sh w d j k l e = elim (cases_eq (w.dirs d).owed 0) [
   | inr n ↦ let r = k.tids.resolved d (tid_at w d) l in absurd (grind nats)
 ]
 
-vendor-spared : (sh : Shape) (gs : List Grant) (w : World) (c k : ℕ) → SparesCommitter sh gs w → KeptTold sh w
-    → SparesCommitter sh (gs ++ grant_to w.next c ∷ []) (vendor_gives w c k (given w c))
+vendor-spared : (sh : Shape) (gs : List Grant) (w : World) (c k : ℕ) (a : Ask) → SparesCommitter sh gs w → KeptTold sh w
+    → SparesCommitter sh (gs ++ gift_grants (gift a) w.next c) (gives_to w c k a)
 unfolding pair
-vendor-spared sh gs w c k h z = pairs_vendor (SparedOf sh (gs ++ g ∷ [])) w c k
+vendor-spared sh gs w c k a h z = pairs_vendor (SparedOf sh (gs ++ new)) w c k a
     (λ d. record {
-      owner = λ t l. Contains-append_left gs (g ∷ []) (grant_to t c) ((h c d).owner t l);
-      own = λ l a. own c d l (Contains-append_cases gs (g ∷ []) (grant_to (tid_at w d) c) a);
+      owner = λ t l. Contains-append_left gs new (grant_to t c) ((h c d).owner t l);
+      own = λ l x. own c d l (Contains-append_cases gs new (grant_to (tid_at w d) c) x);
     })
     (λ j d n. record {
-      owner = λ t l. Contains-append_left gs (g ∷ []) (grant_to t j) ((h j d).owner t l);
-      own = λ l a. own j d l (Contains-append_cases gs (g ∷ []) (grant_to (tid_at w d) j) a);
+      owner = λ t l. Contains-append_left gs new (grant_to t j) ((h j d).owner t l);
+      own = λ l x. own j d l (Contains-append_cases gs new (grant_to (tid_at w d) j) x);
     })
   where
-    g : Grant
-    g = grant_to w.next c
+    new : List Grant
+    new = gift_grants (gift a) w.next c
 
     own : (j d : ℕ) → d < sh.dirs → Contains gs (grant_to (tid_at w d) j)
-        ⊎ Contains (g ∷ []) (grant_to (tid_at w d) j) → live Invs (to_core w d j) ≡ 0
-    own j d l a = grind (nats, next-quiet, only-one)
+        ⊎ Contains new (grant_to (tid_at w d) j) → live Invs (to_core w d j) ≡ 0
+    own j d l (inl x) = (h j d).own l x
+    own j d l (inr x) = next-quiet sh w d j z l (sym (ap (λ r. r.tid) (gift-is (gift a) w.next c (grant_to (tid_at w d) j) x)))
 
 -- every event, where all else is kept
 core-spared : {sh : Shape} {gs : List Grant} {w : World} {cs : List Noted} (c t : ℕ) {got : ℕ → ℕ} {o : Out} → KeptOwners sh gs w cs
@@ -508,7 +529,7 @@ step-spared {sh} p {gs} {w} e z y h = step_cases sh p w e (λ g o. KeptTold sh o
     (λ c d k m i. answered c d k i (dir_deliver sh (w.dirs d) c m)
     (dir-due sh d (w.dirs d) c m (once_at c d k z.told i) (z.told.owed.at_home c d).marked (marks_home c d k z.told.owed i)
     (acks_owed c d k z.told.owed (core_of_out c d k z.told.tids i) i)) (dir-spares sh (w.dirs d) c m))
-    (λ c k i n. vendor-spared sh gs w c k h z.told)
+    (λ c k a i n. vendor-spared sh gs w c k a h z.told)
   where
     noted : (c t : ℕ) (o : Out) → KeepsHolder c none (w.cores c) o → 1 ≤ noted_tid t o.commit → Contains gs (grant_to t c)
     noted c t o k l = core-spared c t y k refl l

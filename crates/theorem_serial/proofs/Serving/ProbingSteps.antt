@@ -2,13 +2,13 @@
 use Rattle.theorem_serial.specs.Probing.{ProbingOf, KeptProbing}
 use Rattle.theorem_serial.proofs
 use proofs.Names
-use Names.{got, nothing, Contains-append_left, after_other_grant, slice_index_or, if◌then◌else◌, after_answer, probe_reply, dir_deliver}
-use Names.{Overflowing, all_replied, grant_taken, after_grant, append-nil, ProbeReply, core_moves, core_takes, granted_by, KeptOwners}
+use Names.{got, nothing, Contains-append_left, slice_index_or, if◌then◌else◌, after_answer, probe_reply, dir_deliver}
+use Names.{Overflowing, all_replied, grant_taken, append-nil, ProbeReply, core_moves, core_takes, granted_by, KeptOwners}
 use Names.{after_move, back_taken, CoreState, in_flight, marks_for, dir_takes, out_taken, KeptCores, Contains, cases_eq, TidGrant, sent_all}
 use Names.{from_dir, DirState, Program, DataReq, ignored, Replies, Probing, has_tid, OneCore, IfSome, Vendor, Answer, Grants, Probes}
 use Names.{passes, holder, nat_le, arith, Noted, Local, Event, Shape, World, start, grant, Waits, Drops, Takes, among, Grant, false, subst}
 use Names.{Phase, Ready, Sends, ◌==◌, List, ◌++◌, Some, None, refl, Core, Fill, Asks, step, live, Kept, Pair, pair, Bool, true, Solo, ◌+◌}
-use Names.{◌≡◌, ◌≤◌, ◌∷◌, sym, ◌⊎◌, inl, inr, num, Dir, Msg, Inv, Out, ◌∙◌, put, [], ap, ℕ, nats, to_dir, to_core, FromCore, FromDir}
+use Names.{◌≡◌, ◌≤◌, sym, ◌⊎◌, inl, inr, num, Dir, Msg, Inv, Out, ◌∙◌, put, [], ap, ℕ, nats, to_dir, to_core, FromCore, FromDir}
 use Names.{grant_to, ◌≢◌}
 use proofs.Counts.{live-sends, live-takes, pairs_move, pairs_grant, pairs_back, pairs_dir, pairs_asks, pairs_vendor, OfAnswer, step_cases}
 use proofs.OneCore.{fill-steady, data-steady, invalidate-cases, Replied, Ignored, Probed, Left_alone, reply-cases}
@@ -17,6 +17,7 @@ use proofs.Serving.KeptSteps.{core_of_grant}
 use proofs.Serving.OwnerSteps.{grant-alone}
 use proofs.Tids.{Unprobed, unprobed-steady, unprobed-exec, unprobed-evict, unprobed-hurt, granted, none-marks, none-to, Granted}
 use proofs.Tids.{granted_waits, live-some, is_mine, not_mine}
+use proofs.Counts.{Ask, Gift, gift, gift_grants, gift-counts, after_gift, after_other_gift}
 
 -- Every event keeps that a probe or reply in flight is of a TID that was granted to its core.
 
@@ -68,14 +69,14 @@ step-probed {sh} p {gs} {w} e z y h = step_cases sh p w e (λ g o. KeptProbed (g
     (λ c k u i. rw append-nil (pairs_grant P w c k (grant sh u (w.cores c)) (λ d t x. mine c d k u t i x (cases_eq u t)) h))
     (λ c d k m o eq i. taken c d k m i o (got _ eq (back-quiet sh d (w.cores c) m)))
     (λ c d k m i. answered c d k m i (dir_deliver sh (w.dirs d) c m) (dir-replies sh (w.dirs d) c m))
-    (λ c k i. pairs_vendor (λ j d v. ProbedOf (gs ++ grant_to w.next c ∷ []) j v) w c k (λ d t x. more c c t (h c d t x))
-    (λ j d n t x. more c j t (h j d t x)))
+    (λ c k a i. pairs_vendor (λ j d v. ProbedOf (gs ++ gift_grants (gift a) w.next c) j v) w c k a
+    (λ d t x. more a c c t (h c d t x)) (λ j d n t x. more a c j t (h j d t x)))
   where
     P : ℕ → ℕ → Pair → Type 0
     P c d v = ProbedOf gs c v
 
-    more : (c j t : ℕ) → Contains gs (grant_to t j) → Contains (gs ++ grant_to w.next c ∷ []) (grant_to t j)
-    more c j t q = Contains-append_left gs (grant_to w.next c ∷ []) (grant_to t j) q
+    more : (a : Ask) (c j t : ℕ) → Contains gs (grant_to t j) → Contains (gs ++ gift_grants (gift a) w.next c) (grant_to t j)
+    more a c j t q = Contains-append_left gs (gift_grants (gift a) w.next c) (grant_to t j) q
 
     mine : (c d k u t : ℕ) → in_flight w.net Vendor (Core c) k ≡ Some (TidGrant u)
         → 1 ≤ live (Probes t) (to_dir w c d ++ sent_all ((grant sh u (w.cores c)).sends (Dir d))) + live (Replies t)
@@ -268,17 +269,15 @@ probing-exchanged {v} s ms t k m i n h = record {
 }
 
 -- the vendor grants
-probing-given : (v : Pair) (k d t : ℕ) → ProbingOf d t v → ProbingOf d t (after_grant v k)
-unfolding passes among
-probing-given v k d t h = record {
-  fresh = λ l. h.fresh (let b : num (nat_le v.next t) ≡ num (nat_le (v.next + 1) t) + num (v.next == t) = grind nats in
-      omega (arith, live-sends));
+probing-given : (v : Pair) (k d t : ℕ) (g : Gift) → ProbingOf d t v → ProbingOf d t (after_gift v k g)
+probing-given v k d t g h = record {
+  fresh = λ l. h.fresh (omega (arith, live-sends, gift-counts g v.next t));
   held = h.held;
 }
 
-probing-next : {v : Pair} {d : ℕ} (t : ℕ) → ProbingOf d t v → ProbingOf d t (after_other_grant v)
-probing-next {v} t h = record {
-  fresh = λ l. h.fresh (let b : num (nat_le (v.next + 1) t) ≤ num (nat_le v.next t) = grind nats in omega arith);
+probing-next : {v : Pair} {d : ℕ} (t : ℕ) (g : Gift) → ProbingOf d t v → ProbingOf d t (after_other_gift v g)
+probing-next {v} t g h = record {
+  fresh = λ l. h.fresh (omega (arith, gift-counts g v.next t));
   held = h.held;
 }
 
@@ -313,7 +312,8 @@ step-probing {sh} p {w} e z y x h = step_cases sh p w e (λ g o. KeptProbing o.w
     (granted sh u (w.cores c) (granted_waits (pair w c d) k i (z.told.tids.requests c d))) (h c d u) (h c d t)) h)
     (λ c d k m o eq i. got _ eq (taken c d k m i))
     (λ c d k m i. answered c d k m i (dir_deliver sh (w.dirs d) c m) (dir-replies sh (w.dirs d) c m))
-    (λ c k i. pairs_vendor P w c k (λ d t. probing-given (pair w c d) k d t (h c d t)) (λ j d n t. probing-next t (h j d t)))
+    (λ c k a i. pairs_vendor P w c k a (λ d t. probing-given (pair w c d) k d t (gift a) (h c d t))
+    (λ j d n t. probing-next t (gift a) (h j d t)))
   where
     P : ℕ → ℕ → Pair → Type 0
     P c d v = (t : ℕ) → ProbingOf d t v

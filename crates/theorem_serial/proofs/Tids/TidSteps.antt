@@ -4,16 +4,17 @@ use proofs.Names
 use Names.{eq-self, ℕ, ◌+◌, ◌≡◌, ◌<◌, ◌≤◌, Bool, true, false, ◌==◌, nat_lt, if◌then◌else◌, arith, refl, num, count_below, has_mark}
 use Names.{Serving, advance, kept, is_skipped, Msg, Skip, Commit, Abort, Shape, lines, advance-rises, advance-past, advance-stops}
 use Names.{advance-keeps, kept-skips, DirState, Answer, Waits, Drops, Asks, Takes, dir_deliver, invalidation_count, Resolves, passes}
-use Names.{handled, nats, after_other_grant, slice_index_or, first_serving, waits_for_tid, vendor_start, vendor_gives, after_answer}
-use Names.{first-skips, grant_taken, after_grant, core_start, core_moves, core_takes, after_move, back_taken, ResolvedAt, dir_start}
+use Names.{handled, nats, slice_index_or, first_serving, waits_for_tid, vendor_start, vendor_gives, after_answer}
+use Names.{first-skips, grant_taken, core_start, core_moves, core_takes, after_move, back_taken, ResolvedAt, dir_start}
 use Names.{in_flight, sum_below, dir_takes, out_taken, RequestOf, cases_lt, cases_eq, no_lines, TidGrant, dir_asks, AnyGrant, InsideOf}
-use Names.{KeptTids, AsksTid, nat_le, Vendor, TidReq, Grants, subst, Local, World, start, Sends, grant, among, share, opens, List, Some}
+use Names.{KeptTids, AsksTid, nat_le, Vendor, Grants, subst, Local, World, start, Sends, grant, among, share, opens, List, Some}
 use Names.{None, Core, Link, Kind, live, Pair, pair, part, sym, ◌⊎◌, inl, inr, Dir, Out, Any, [], to_dir, to_core, FromCore, FromDir, ◌≢◌}
 use proofs.Counts.{Outcome, Waiting, Spent, TakesSkip, TakesAbort, TakesCommit, TakesAck, TakesCopy, IsSpent, SkipPassed, AbortPassed}
 use proofs.Counts.{CopyPassed, outcome, live-sends, live-takes, total-le, total-zero, sum_back_away, pairs_vendor, sum_dir_away}
 use proofs.Counts.{pairs_grant, pairs_move, pairs_back, pairs_asks, sum_vendor, pairs_dir, sum_grant, sum_move, sum_back, sum_asks, sum_dir}
-use proofs.Counts.{differ, given}
+use proofs.Counts.{differ}
 use proofs.Tids.Commits.{KeepsRequests, requests-grant, KeepsPart, part-grant}
+use proofs.Counts.{Ask, asking, Gift, gift, gift_of, gift-counts, asks-once, gives_to, after_gift, after_other_gift}
 
 -- What a directory's rules do to the TIDs that it has handled.
 
@@ -258,20 +259,21 @@ part-same : (sh : Shape) (d t : ℕ) (v : Pair) (s : DirState) (ms : List Msg) �
 unfolding part
 part-same sh d t v s ms = refl
 
-part-next : (sh : Shape) (d t : ℕ) (v : Pair) → part sh d t (after_other_grant v) ≡ part sh d t v
+part-next : (sh : Shape) (d t : ℕ) (v : Pair) (g : Gift) → part sh d t (after_other_gift v g) ≡ part sh d t v
 unfolding part
-part-next sh d t v = refl
+part-next sh d t v g = refl
 
-part-given : (sh : Shape) (d t : ℕ) (v : Pair) (k : ℕ) → part sh d t (after_grant v k) + 0 ≡ part sh d t v + num (v.next == t)
-unfolding part passes among
-part-given sh d t v k = omega (arith, live-sends)
+part-given : (sh : Shape) (d t : ℕ) (v : Pair) (k : ℕ) (g : Gift)
+    → part sh d t (after_gift v k g) + 0 ≡ part sh d t v + among (Grants t) (gift_of g v.next)
+unfolding part
+part-given sh d t v k g = omega (arith, live-sends)
 
-request-given : (v : Pair) (k : ℕ) → slice_index_or v.asks k None ≡ Some TidReq → RequestOf v → RequestOf (after_grant v k)
-unfolding passes among
-request-given v k e r = omega (arith, live-sends, live-takes AsksTid v.asks k TidReq e)
+request-given : (v : Pair) (k : ℕ) (a : Ask) → slice_index_or v.asks k None ≡ Some (asking a) → RequestOf v
+    → RequestOf (after_gift v k (gift a))
+request-given v k a e r = omega (arith, r, live-sends, live-takes AsksTid v.asks k (asking a) e, asks-once a v.next)
 
-inside-next : {sh : Shape} {j : ℕ} {v : Pair} → InsideOf sh j v → InsideOf sh j (after_other_grant v)
-inside-next i = record { out = i.out; back = i.back; asks = i.asks; grants = i.grants; owners = i.owners }
+inside-next : {sh : Shape} {j : ℕ} {v : Pair} (g : Gift) → InsideOf sh j v → InsideOf sh j (after_other_gift v g)
+inside-next g i = record { out = i.out; back = i.back; asks = i.asks; grants = i.grants; owners = i.owners }
 
 start-handled : (t : ℕ) → num (nat_le 1 t) + handled first_serving 0 t ≡ 1
 unfolding handled first_serving
@@ -337,21 +339,21 @@ asks-kept sh w e s sends h q ow hd = record {
         let b : (d == e) ≡ true = rw n (eq-self e) in
         rw b (omega (arith, h.resolved))
 
--- the vendor grants a TID
-pub vendor-kept : (sh : Shape) (w : World) (c k : ℕ) → KeptTids sh w → in_flight w.net (Core c) Vendor k ≡ Some TidReq
-    → KeptTids sh (vendor_gives w c k (given w c))
+-- the vendor gives
+pub vendor-kept : (sh : Shape) (w : World) (c k : ℕ) (a : Ask) → KeptTids sh w → in_flight w.net (Core c) Vendor k ≡ Some (asking a)
+    → KeptTids sh (gives_to w c k a)
 unfolding pair vendor_gives
-vendor-kept sh w c k h i =
+vendor-kept sh w c k a h i =
     let l : c < sh.cores = inside_from sh c (live Any (w.net (Core c) Vendor)) (h.inside c 0).asks (any-one (w.net (Core c) Vendor) k i) in
     record {
-      inside = pairs_vendor (λ c d v. InsideOf sh c v) w c k (λ d. within sh c _ l (h.inside c d).owners)
-          (λ j d n. inside-next (h.inside j d));
-      requests = pairs_vendor (λ c d v. RequestOf v) w c k (λ d. request-given (pair w c d) k i (h.requests c d)) (λ j d n. h.requests j d);
+      inside = pairs_vendor (λ c d v. InsideOf sh c v) w c k a (λ d. within sh c _ l (h.inside c d).owners)
+          (λ j d n. inside-next (gift a) (h.inside j d));
+      requests = pairs_vendor (λ c d v. RequestOf v) w c k a (λ d. request-given (pair w c d) k a i (h.requests c d))
+          (λ j d n. h.requests j d);
       resolved = λ d t x.
-          let p = sum_vendor (part sh d t) sh.cores w c k d 0 (num (w.next == t)) l (part-given sh d t (pair w c d) k)
-          (λ j n. part-next sh d t (pair w j d)) in
-          let b : num (nat_le w.next t) ≡ num (nat_le (w.next + 1) t) + num (w.next == t) = grind nats in
-          omega (arith, h.resolved);
+          let p = sum_vendor (part sh d t) sh.cores w c k a d 0 (among (Grants t) (gift_of (gift a) w.next)) l
+          (part-given sh d t (pair w c d) k (gift a)) (λ j n. part-next sh d t (pair w j d) (gift a)) in
+          omega (arith, h.resolved, gift-counts (gift a) w.next t);
     }
 
 pub start-kept : (sh : Shape) (entries : ℕ → Local) (ram : ℕ → ℕ) → KeptTids sh (start entries ram)

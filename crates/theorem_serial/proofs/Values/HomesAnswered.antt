@@ -9,7 +9,7 @@ use Names.{word_copies, CopiesHave, names_line, wrote, wrote_line, wrote_mask, s
 use Names.{Drops, Asks, Takes, dir_takes, dir_asks, vendor_gives, Uses, Invariants, Grant, CommitsStand, Ways, nats, home_of, tid_at}
 use Names.{to_dir, FromCore, ◌≢◌, tested}
 use proofs.Copies.{marked-line, writer-line, other-writer, commit-passes, tag-below, applied-owed, TakenCommit, takes-consumes, wrote-at}
-use proofs.Counts.{num-same, given, OfAnswer}
+use proofs.Counts.{num-same, OfAnswer}
 use proofs.Marks.DirRecords.{NoCopy, RecordStays, Records, Still, Came, Settles, Dropped, RecordsBy, CountsMarked}
 use proofs.Marks.MaskLaws.{same-commit}
 use proofs.Marks.CoreMarks.{stored-line, stored-cases}
@@ -19,6 +19,7 @@ use proofs.Values.WordCopies.{HomeBy, Left, Home, WordsBy, none-copied, copy-has
 use proofs.Values.ValueAt.{same-copies, value-alike, rising-above, Known, Answers, unconsumed, value_of, tag_of, ValuesAt, have-still}
 use proofs.Values.ValueAt.{same-value, stored-at-home, quiet-keep, taken-values, dropped-values, away-values, KeptValues, values-of}
 use proofs.Values.ValueAt.{same-values, SameCommits}
+use proofs.Counts.{Ask, gives_to}
 
 -- A Commit that a directory handles keeps the values of each word: its core's copies have the stored words as they are from now on for
 -- all, and the words of a marked line that it didn't store are at home.
@@ -429,8 +430,8 @@ answered h c d k (Asks s sends) b cl dl i r f = λ t. asks h d s sends b t f r
 answered h c d k {m} (Takes s sends) b cl dl i r f = λ t. takes h c d k m s sends b cl dl i t f r
 
 -- the vendor's grant
-pub granted : {sh : Shape} {ram : ℕ → ℕ} (h : History) (c k : ℕ) → Known sh ram h
-    → KeptValues sh ram (vendor_gives h.world c k (given h.world c)) h.commits
+pub granted : {sh : Shape} {ram : ℕ → ℕ} (h : History) (c k : ℕ) (a : Ask) → Known sh ram h
+    → KeptValues sh ram (gives_to h.world c k a) h.commits
 unfolding vendor_gives
-granted h c k b e x el q = same-values (vendor_gives h.world c k (given h.world c)) refl refl
+granted h c k a b e x el q = same-values (gives_to h.world c k a) refl refl
     (λ l j. rw (and-false (j == c))) (b.values e x el q)

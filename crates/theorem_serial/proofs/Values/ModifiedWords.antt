@@ -14,7 +14,7 @@ use Names.{Waits, Drops, Asks, Takes, dir_takes, dir_asks, KeptAfter, KeptOwned,
 use Names.{live, among, passes, CommitsInMemory, LoadsInMemory, is_this, CommitsStand, stores_at, word_copies, HomeWords, last_of, to_dir}
 use Names.{to_core, FromCore, ◌≢◌, tested, nat_lt, get_or, Dir, Vendor, Fill, Commit, Event, home, Awaited, Out, noted, grant, is_awaited}
 use Names.{dir_deliver, Stepped, step, next_history, and_noted, insert_commit, core_moves, core_takes, LoadingOf, LinesAway, InvWord}
-use Names.{executes, Pair, after_move, back_taken, grant_taken, after_grant, after_other_grant, UnmodifiedWords, FilledWords, FromDir}
+use Names.{executes, Pair, after_move, back_taken, grant_taken, UnmodifiedWords, FilledWords, FromDir}
 use proofs.Memory.CoreHomes.{marks_at_homes, accesses_at_homes}
 use proofs.OneCore.{follows-in}
 use proofs.Order.{serial-memory, home-below, agrees-before, value-before, before, behind, cut-joined, SerialCut, Holds, serial-cut}
@@ -30,6 +30,7 @@ use proofs.Values.WordCopies.{few-copies}
 use proofs.Values.FramedCores.{no-fill, held-fades, held-quietly, held-invalid, held-filled, held-elsewhere, Coming, Quiet}
 use proofs.Values.FramedCores.{Takes as TakesWords, Brings, OnlyFades, comes-back, fading-grant, Closing, Framing, Stays, Closes}
 use proofs.Values.FramedCores.{fades-same, fading, framing-exec, fading-evict}
+use proofs.Counts.{gift, after_gift, after_other_gift}
 
 -- the home of a word that the core stored serves its TID, and is owed nothing
 opens-may : (t : ℕ) (q : Phase) (b : Bool) → May t q → (is_solo q ≡ false → b ≡ true) → opens q b t ≡ true
@@ -458,8 +459,8 @@ step-held {sh} p {ram} m h e u k held = node_cases sh p w e (λ s g o. R o)
     (λ c n t i after. granted c n (grant sh t (w.cores c)) (fading-grant sh t (w.cores c)))
     (λ c d n a o eq i. (come c d n i o (got _ eq (comes-back sh d (w.cores c) a))))
     answered
-    (λ c n i after. pairs_vendor P w c n (λ d x cl dl q. same (after_grant (pair w c d) n) refl refl (held c d x cl dl q))
-    (λ j d r x cl dl q. same (after_other_grant (pair w j d)) refl refl (held j d x cl dl q)))
+    (λ c n a i after. pairs_vendor P w c n a (λ d x cl dl q. same (after_gift (pair w c d) n (gift a)) refl refl (held c d x cl dl q))
+    (λ j d r x cl dl q. same (after_other_gift (pair w j d) (gift a)) refl refl (held j d x cl dl q)))
   where
     w : World
     w = h.world

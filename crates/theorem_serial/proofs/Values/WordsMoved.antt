@@ -420,7 +420,7 @@ step-values {sh} p {entries} {ram} {gs} {ys} {views} m h e u k = node_cases sh p
     (λ c d n a o eq i. taken c d n i o (got _ eq (back-stays sh d (w.cores c) a))
     (λ y. got _ eq (words-back sh y d (w.cores c) a (b.caches c))))
     (λ c d n a cl dl i. answered h c d n (dir_deliver sh (w.dirs d) c a) b cl dl i (dir-records sh (w.dirs d) c a)
-    (λ x. dir-words sh x (w.dirs d) c a)) (λ c n i s. granted h c n b)
+    (λ x. dir-words sh x (w.dirs d) c a)) (λ c n a i s. granted h c n a b)
   where
     w : World
     w = h.world

@@ -9,7 +9,7 @@ use Names.{slice_index_or, Noted, DirState, Commits, is_this, CommitsStand, stor
 use Names.{to_core, grant_to, tested, line_of, word_of, moves, solo_commit, ◌++◌, IfSome, sym, ◌∙◌, Byte, Half, Program, Need, Loads}
 use Names.{Stores, Changes, any_below, Inv, CoreState, Running, AwaitTid, Out, commit, noted, core_exec, core_evict, grant, grant_in_phase}
 use Names.{probing_or_ready, is_probed, from_dir, is_violated, used_in, used_at, used_by, uses_delivered, rolls_back, waits_for_tid, cond}
-use Names.{rests, ◌&&◌, after_other_grant, after_answer, grant_taken, after_grant, after_move, back_taken, out_taken, TidGrant, sent_all}
+use Names.{rests, ◌&&◌, after_answer, grant_taken, after_move, back_taken, out_taken, TidGrant, sent_all}
 use Names.{Grants, among, Pair, ◌≢◌}
 use proofs.Counts.{live-fewer, total-le, live-sends, live-takes}
 use proofs.Tids.{numbered-least, numbered-most, granted-at, tid-probing}
@@ -18,7 +18,8 @@ use proofs.OneCore.{Acts, Buffers, Commits_now, Did, Ends_alone, Ends_run, Finds
 use proofs.OneCore.{Room_wanted, after_end, each-exec, out, Heard, Hurt_alone, Hurt_none, Hurt_probing, Hurt_running, Hurt_waiting}
 use proofs.OneCore.{Last_probing, Last_room, each-back, each-evict, heard, message, Flushes, Requests, Silent, say}
 use proofs.OneCore.Said.{Said}
-use proofs.Serving.{holder-given}
+use proofs.Serving.{had-or-given, holder-given}
+use proofs.Counts.{Gift, Gives_tid, gift-tid, after_gift, after_other_gift}
 
 -- What the proof on views asks of a state: the bound of a core, directories that serve an open TID, and what dooms a viewed word.
 
@@ -535,28 +536,31 @@ pub view-out : {sh : Shape} {ram : ℕ → ℕ} {cs : List Noted} {us : Uses} {c
     → ViewOf sh ram cs us c d (out_taken v k)
 view-out k {v} y = record { near = λ b cl dl g. y.near b cl dl (bound-out b v k g); halted = y.halted }
 
--- the vendor grants
-pub view-other : {sh : Shape} {ram : ℕ → ℕ} {cs : List Noted} {us : Uses} {c d : ℕ} {v : Pair} → ViewOf sh ram cs us c d v
-    → ViewOf sh ram cs us c d (after_other_grant v)
+-- the vendor gives
+pub view-other : {sh : Shape} {ram : ℕ → ℕ} {cs : List Noted} {us : Uses} {c d : ℕ} {v : Pair} (g : Gift) → ViewOf sh ram cs us c d v
+    → ViewOf sh ram cs us c d (after_other_gift v g)
 unfolding holder
-view-other {v} y = record { near = λ b cl dl g. y.near b cl dl (bound-other b g); halted = y.halted }
+view-other {v} g y = record { near = λ b cl dl x. y.near b cl dl (bound-other b x); halted = y.halted }
   where
-    bound-other : (b : Option ℕ) → IsBound b (after_other_grant v) → IsBound b v
+    bound-other : (b : Option ℕ) → IsBound b (after_other_gift v g) → IsBound b v
     bound-other None h = h
     bound-other (Some t) h = h
 
--- to a core that has no TID: its view is as near at the new bound as it was at none
-pub view-given : {sh : Shape} {ram : ℕ → ℕ} {cs : List Noted} {us : Uses} (c d k : ℕ) {v : Pair} → ((t : ℕ) → holder t v ≡ 0)
+-- a TID to a core that has none: its view is as near at the new bound as it was at none
+pub view-given : {sh : Shape} {ram : ℕ → ℕ} {cs : List Noted} {us : Uses} (c d k : ℕ) (g : Gift) {v : Pair}
+    → (g ≡ Gives_tid → (t : ℕ) → holder t v ≡ 0)
     → (c < sh.cores → d < sh.dirs → (x y : ℕ) → NearAt sh ram cs c d None v x y → NearAt sh ram cs c d (Some v.next) v x y)
-    → ViewOf sh ram cs us c d v → ViewOf sh ram cs us c d (after_grant v k)
-view-given {sh} {ram} {cs} {us} c d k {v} z f y = record { near = near; halted = y.halted }
+    → ViewOf sh ram cs us c d v → ViewOf sh ram cs us c d (after_gift v k g)
+view-given {sh} {ram} {cs} {us} c d k g {v} z f y = record { near = near; halted = y.halted }
   where
-    is-next : (t : ℕ) → 1 ≤ num (v.next == t) → v.next ≡ t
-    is-next t h = grind nats
+    given : (t : ℕ) → c < sh.cores → d < sh.dirs → (g ≡ Gives_tid) × (v.next ≡ t) → EachUse (NearAt sh ram cs c d (Some t) v) us
+    given t cl dl e = let n : v.next ≡ t = e.1 in
+        rw (← n) (each-one (NearAt sh ram cs c d None v) (NearAt sh ram cs c d (Some v.next) v) us (f cl dl) (y.near None cl dl (z e.0)))
 
-    near : (b : Option ℕ) → c < sh.cores → d < sh.dirs → IsBound b (after_grant v k) → EachUse (NearAt sh ram cs c d b (after_grant v k)) us
-    near None cl dl g = let o : num (v.next == v.next) ≡ 1 = grind nats in
-        absurd (omega (arith, g v.next, holder-given))
-    near (Some t) cl dl g =
-        let e : v.next ≡ t = is-next t (omega (arith, holder-given, z)) in
-        rw (← e) (each-one (NearAt sh ram cs c d None v) (NearAt sh ram cs c d (Some v.next) v) us (f cl dl) (y.near None cl dl z))
+    near : (b : Option ℕ) → c < sh.cores → d < sh.dirs → IsBound b (after_gift v k g)
+        → EachUse (NearAt sh ram cs c d b (after_gift v k g)) us
+    near None cl dl x = y.near None cl dl (λ t. omega (arith, x t, holder-given v k t g))
+    near (Some t) cl dl x = elim (had-or-given v k t g x) [
+      | inl i ↦ y.near (Some t) cl dl i
+      | inr i ↦ given t cl dl (gift-tid g v.next t i)
+    ]

@@ -8,14 +8,14 @@ use Names.{◌++◌, Option, Some, None, IfSome, arith, refl, sym, subst, ◌∙
 use Names.{Phase, Running, AwaitTid, DoomedTid, Probing, Ready, Overflowing, Solo, Halted, World, Out, core_exec, core_evict, History}
 use Names.{core_moves, and_noted, insert_commit, Uses, Views, uses_executed, InvWord, live, Carried, CarriedInMemory, Grant, holder, Pair}
 use Names.{pair, after_move, may_commit, IsBound, is_applied, has_tid, opens, waits_for_tid, RequestOf, stores_word, is_below, counts}
-use Names.{value_at, dooms, UnmodifiedWords, Ways, nats, home_of, IfSome_then, nat_lt, ap, num, hit, Core, Dir, Vendor, Msg, TidReq}
-use Names.{TidGrant, Inv, in_flight, from_dir, grant, is_violated, may_be_above, core_takes, vendor_gives, uses_delivered, Invs, passes}
+use Names.{value_at, dooms, UnmodifiedWords, Ways, nats, home_of, IfSome_then, nat_lt, ap, num, hit, Core, Dir, Vendor, Msg}
+use Names.{TidGrant, Inv, in_flight, from_dir, grant, is_violated, may_be_above, core_takes, uses_delivered, Invs, passes}
 use Names.{grant_taken, back_taken, hit-reads, line_of, home, Answer, Waits, Drops, Asks, Takes, dir_deliver, Stepped, step, next_history}
 use Names.{UsesStand, CarriedViews, granted_by, IsDoomed, ViewedWords, HaltedUsesNone, sent_by, ways_after, to_core, FromDir, ◌≢◌, tested}
 use proofs.OneCore.{Acts, tid-ahead}
 use proofs.Serving.{grant-any, asking-none}
 use proofs.Memory.CoreHomes.{marks_at_homes}
-use proofs.Counts.{differ, either, pairs_move, new_uses, AllPairs, given, OfAnswer, event_cases, pairs_grant, pairs_back, pairs_vendor}
+use proofs.Counts.{differ, either, pairs_move, new_uses, AllPairs, OfAnswer, event_cases, pairs_grant, pairs_back, pairs_vendor}
 use proofs.Values.ValueAt.{IsSilent, value-skip}
 use proofs.Views.ViewFacts.{Keeps, Exec, Goes, Commits_own, exec-view, used-each, each-append, evict-view, NearAt, ViewOf, view-empty}
 use proofs.Views.ViewFacts.{view-moves, Gets, grant-view, Spares, Back, Empties, Stays, back-view, view-takes, view-grants, view-other}
@@ -23,6 +23,7 @@ use proofs.Views.ViewFacts.{view-given, bound-own, open-served, served-unapplied
 use proofs.Views.ViewFacts.{doomed-again, uses-seen, each-two, few-doom, value-bounded, listed-below, word-next}
 use proofs.Views.ViewDirs.{AllNear, AllSeen, NearAfter, answered-views}
 use proofs.Tids.{live-some, granted_waits}
+use proofs.Counts.{Ask, asking, gift, asks-tid, gives_to}
 
 -- What a core does, and what the vendor grants, leaves every core's view near: each used word has its value, or it is doomed.
 
@@ -303,14 +304,16 @@ back-views sh gs ys ram vs h y seen near dm c d k m i =
     kind o (Stays e u q f) = subst (λ z. AllNear sh ram (and_noted z h.commits) (put vs c us) (core_takes h.world (Dir d) c k o)) (sym e)
         (subst (λ z. AllNear sh ram h.commits (put vs c z) (core_takes h.world (Dir d) c k o)) (sym u) (stays o q f))
 
--- the vendor grants
+-- the vendor gives
 vendor-views : {sh : Shape} {gs : List Grant} {ys : Ways} (ram : ℕ → ℕ) (vs : Views) (h : History) → Carried sh gs ys h
-    → AllNear sh ram h.commits vs h.world → (c k : ℕ) → in_flight h.world.net (Core c) Vendor k ≡ Some TidReq
-    → AllNear sh ram h.commits vs (vendor_gives h.world c k (given h.world c))
+    → AllNear sh ram h.commits vs h.world → (c k : ℕ) (a : Ask)
+    → in_flight h.world.net (Core c) Vendor k ≡ Some (asking a) → AllNear sh ram h.commits vs (gives_to h.world c k a)
 unfolding pair
-vendor-views {sh} ram vs h y near c k i = pairs_vendor (λ j d v. ViewOf sh ram h.commits (vs j) j d v) h.world c k (λ d. view-given c d k
-    (λ t. asking-none (pair h.world c d) k t i (y.one_tid_request_or_grant c d)) (λ cl dl x z f e. one d cl dl x z (f e)) (near c d))
-    (λ j d n. view-other (near j d))
+vendor-views {sh} ram vs h y near c k a i = pairs_vendor (λ j d v. ViewOf sh ram h.commits (vs j) j d v) h.world c k a
+    (λ d. view-given c d k (gift a)
+    (λ e t. asking-none (pair h.world c d) k t (i ∙ ap Some (asks-tid a e)) (y.one_tid_request_or_grant c d))
+    (λ cl dl x z f e. one d cl dl x z (f e)) (near c d))
+    (λ j d n. view-other (gift a) (near j d))
   where
     one : (d : ℕ) → c < sh.cores → d < sh.dirs → (x z : ℕ) → (z ≡ value_at sh.base ram h.commits (h.world.dirs d) (Some c) None x)
         ⊎ (1 ≤ live (InvWord x) (pair h.world c d).back)
@@ -375,8 +378,8 @@ keeps_views sh p entries ram gs ys views m h e k =
     (got _ eq (back-views sh gs ys ram views h k.carried seen near doomed c d i x q)))
     (λ c d i x l y q. answered c d i (dir_deliver sh (h.world.dirs d) c x)
     (answered-views sh gs ys ram views h c d i x k.carried k.carried_in_memory.commits_stay_in_memory seen near l q))
-    (λ c i q. after views (unnoted (vendor_gives h.world c i (given h.world c)))
-    (vendor-views ram views h k.carried near c i q)))
+    (λ c i a q. after views (unnoted (gives_to h.world c i a))
+    (vendor-views ram views h k.carried near c i a q)))
     (gs ++ granted_by h.world e) (ways_after (sent_by sh p h.world e) ys))
   where
     near : AllNear sh ram h.commits views h.world

@@ -42,7 +42,7 @@ by_core {sh} p {w} e L z ex ev gr ba = sent_cases sh p w e (λ x g. ByCore sh w 
     (λ c o eq l. Moved c o l (ex c o eq l) refl refl refl) (λ c x y o eq l. Moved c o l (ev c x y o eq l) refl refl refl)
     (λ c k t i. let l = core_of_grant c k z i in Moved c (grant sh t (w.cores c)) l (gr c k t l i) refl refl refl)
     (λ c d k m o eq i. let l = core_of_back c d k z i in Moved c o l (ba c d m o eq l) refl refl refl)
-    (λ c d k m i. answered c d k (dir_deliver sh (w.dirs d) c m)) (λ c k i. Still refl refl refl)
+    (λ c d k m i. answered c d k (dir_deliver sh (w.dirs d) c m)) (λ c k a i. Still refl refl refl)
   where
     answered : (c d k : ℕ) (a : Answer) → OfAnswer w c d k (λ v. ByCore sh w L nothing (unnoted v)) a
     answered c d k Waits = tt
@@ -296,7 +296,7 @@ pub step-later : (sh : Shape) (p : Program) (w : World) (e : Event) → IfSome (
 unfolding core_moves core_takes dir_takes dir_asks vendor_gives
 step-later sh p w e = step_cases sh p w e (λ g o. Later w o.world) (λ c o eq l. moved c o)
     (λ c x y o eq l. moved c o) (λ c k t i d. omega arith) (λ c d k m o eq i. taken c d k o)
-    (λ c d k m i. answered c d k (dir_deliver sh (w.dirs d) c m) (dir-rises sh (w.dirs d) c m)) (λ c k i d. omega arith)
+    (λ c d k m i. answered c d k (dir_deliver sh (w.dirs d) c m) (dir-rises sh (w.dirs d) c m)) (λ c k a i d. omega arith)
   where
     moved : (c : ℕ) (o : Out) → Later w (core_moves w c o)
     moved c o = λ d. omega arith

@@ -6,8 +6,8 @@ use Names.{false, DirState, Resolves, Serving, advance, Commits, nat_lt, InvAck,
 use Names.{Skips, Bool, true, ◌==◌, ◌&&◌, refl, kept, Skip, Asks, ◌+◌, ◌-◌, ◌≡◌, ◌<◌, ◌≤◌, num, Msg, nats, List, Option, Some, None, IfSome}
 use Names.{nat_le, slice_index_or, sym, subst, ◌⊎◌, inl, inr, cases_eq, Program, Local, Core, Dir, Vendor, TidGrant, Event, World, start}
 use Names.{core_start, vendor_start, in_flight, Sends, nothing, Out, grant, Waits, Drops, sum_below, core_moves, core_takes, dir_takes}
-use Names.{dir_asks, vendor_gives, step, live, among, Pair, pair, after_move, grant_taken, back_taken, after_answer, out_taken, after_grant}
-use Names.{after_other_grant, share, opens, ResolvedAt, Kept, KeptTold, Way, Untold, Skipped, Aborted, Committed, Ways, told_by, ways_after}
+use Names.{dir_asks, vendor_gives, step, live, among, Pair, pair, after_move, grant_taken, back_taken, after_answer, out_taken}
+use Names.{share, opens, ResolvedAt, Kept, KeptTold, Way, Untold, Skipped, Aborted, Committed, Ways, told_by, ways_after}
 use Names.{sent_by, first_ways, part_in, kept_in, WayAt, KeptWays, FromCore, ◌≢◌, [], ◌∷◌, ◌++◌, append_assoc, append-nil, History}
 use Names.{recorded, next_history, and_then, run_from, run, KeptAll, KeptRun, Grant, granted_by, then_grants, grants_from, has_tid}
 use Names.{loads_word, then_ways, ways_from, AlwaysTold, zero, suc, ap, Phase, holder, sum_of, is_untold, is_given_up, UntoldWhereOpen}
@@ -15,7 +15,7 @@ use Names.{UntoldIsLive, Settled, WaysFit, AllWaysFit, given_up_by, GivenUpOnce,
 use Names.{CommitsAreServed, times, SmallerAreResolved, SmallerAreGivenUp, WorkIsReached, worked_at, tid_at, to_dir, IfSome_then}
 use Names.{first_state}
 use proofs.Counts.{Outcome, Waiting, Spent, AsksOwner, TakesSkip, TakesAbort, TakesCommit, TakesAck, outcome, live-sends, live-takes}
-use proofs.Counts.{total-zero, differ, given, sum_move, sum_grant, sum_back, sum_back_away, sum_dir, sum_dir_away, sum_asks, sum_vendor}
+use proofs.Counts.{total-zero, differ, sum_move, sum_grant, sum_back, sum_back_away, sum_dir, sum_dir_away, sum_asks, sum_vendor}
 use proofs.Counts.{OfAnswer, sent_cases, total-le, num-one}
 use proofs.Tids.{OnceAt, unserved, advance-count, granted_waits, KeepsPart, part-exec, part-evict, part-grant, part-back, positive-granted}
 use proofs.Tids.{skipped-above}
@@ -24,6 +24,8 @@ use proofs.Ways.CoreSkips.{parts_in, resolved-split, gained, lost, told-moved, t
 use proofs.Run.AllInvariants.{step-all, all-at-start}
 use proofs.Ways.ToldSteps.{ByCore, Speaks, step-speaks, step-live-out, step-committed-out, Loads, step-loads, step-later, loads-out}
 use proofs.Ways.ToldSteps.{worked-out}
+use Names.{Grants}
+use proofs.Counts.{Ask, Gift, gift, gift_of, gift-counts, gives_to, after_gift, after_other_gift}
 
 -- What a directory keeps as skipped is a TID of which a Skip or an Abort came, and it is owed acknowledgements only for one whose
 -- Commit came.
@@ -221,33 +223,32 @@ way-asks sh w e s sends d t y f g h = elim (cases_eq d e) [
     sum : parts_in y sh (dir_asks w e s sends) d t ≡ parts_in y sh w d t
     sum = sum_asks (part_in y sh d t) (λ j. 0) sh.cores w e s sends d (λ j. part-still sh d t (pair w j d) s (sends (Core j)) y)
 
--- the vendor grants a TID
-part-next : (sh : Shape) (d t : ℕ) (v : Pair) (z : Way) → part_in z sh d t (after_other_grant v) ≡ part_in z sh d t v
+-- the vendor gives
+part-next : (sh : Shape) (d t : ℕ) (v : Pair) (g : Gift) (z : Way) → part_in z sh d t (after_other_gift v g) ≡ part_in z sh d t v
 unfolding part_in
-part-next sh d t v a = grind nats
+part-next sh d t v g z = grind nats
 
 -- what is on its way now, and was not granted before
-abbrev given_to : (next tid : ℕ) → Way → ℕ
-given_to n t Untold = num (n == t)
-given_to n t _ = 0
+abbrev given_to : Gift → (next tid : ℕ) → Way → ℕ
+given_to g n t Untold = among (Grants t) (gift_of g n)
+given_to g n t _ = 0
 
-part-given : (sh : Shape) (d t k : ℕ) (v : Pair) (z : Way)
-    → part_in z sh d t (after_grant v k) + 0 ≡ part_in z sh d t v + given_to v.next t z
-unfolding part_in passes among
-part-given sh d t k v a = grind (nats, live-sends)
+part-given : (sh : Shape) (d t k : ℕ) (v : Pair) (g : Gift) (z : Way)
+    → part_in z sh d t (after_gift v k g) + 0 ≡ part_in z sh d t v + given_to g v.next t z
+unfolding part_in
+part-given sh d t k v g z = grind (nats, live-sends)
 
-way-vendor : (sh : Shape) (w : World) (c k d t : ℕ) (y : Way) → c < sh.cores → WayAt sh w d t y
-    → WayAt sh (vendor_gives w c k (given w c)) d t y
+way-vendor : (sh : Shape) (w : World) (c k : ℕ) (a : Ask) (d t : ℕ) (y : Way) → c < sh.cores → WayAt sh w d t y
+    → WayAt sh (gives_to w c k a) d t y
 unfolding pair vendor_gives kept_in
-way-vendor sh w c k d t y l h = go y h
+way-vendor sh w c k a d t y l h = go y h
   where
-    sum : (z : Way) → parts_in z sh (vendor_gives w c k (given w c)) d t + 0 ≡ parts_in z sh w d t + given_to w.next t z
-    sum z = sum_vendor (part_in z sh d t) sh.cores w c k d 0 (given_to w.next t z) l (part-given sh d t k (pair w c d) z)
-        (λ j n. part-next sh d t (pair w j d) z)
+    sum : (z : Way) → parts_in z sh (gives_to w c k a) d t + 0 ≡ parts_in z sh w d t + given_to (gift a) w.next t z
+    sum z = sum_vendor (part_in z sh d t) sh.cores w c k a d 0 (given_to (gift a) w.next t z) l
+        (part-given sh d t k (pair w c d) (gift a) z) (λ j n. part-next sh d t (pair w j d) (gift a) z)
 
-    go : (z : Way) → WayAt sh w d t z → WayAt sh (vendor_gives w c k (given w c)) d t z
-    go Untold q = let b : num (nat_le w.next t) ≡ num (nat_le (w.next + 1) t) + num (w.next == t) = grind nats in
-        omega (arith, sum)
+    go : (z : Way) → WayAt sh w d t z → WayAt sh (gives_to w c k a) d t z
+    go Untold q = omega (arith, sum, gift-counts (gift a) w.next t)
     go m q = omega (arith, sum)
 
 -- every event
@@ -262,7 +263,7 @@ step-ways {sh} p ys {w} e z h = sent_cases sh p w e (λ x g o. KeptTold sh o.wor
     (h d t x y)) (λ c d k m o eq i. taken c d k (core_of_back c d k z.told.tids i) o
     (λ b t x. got _ eq (part-back sh d b t (w.cores c) m x)))
     (λ c d k m i. answered c d k m i (dir_deliver sh (w.dirs d) c m) (λ t. dir-heard sh (w.dirs d) c m t (once_at c d k z.told i)))
-    (λ c k i n d t x y. rw (told-nothing t (ys d t)) (way-vendor sh w c k d t (ys d t) (core_of_ask c k z.told.tids i) (h d t x y)))
+    (λ c k a i n d t x y. rw (told-nothing t (ys d t)) (way-vendor sh w c k a d t (ys d t) (core_of_ask c k z.told.tids i) (h d t x y)))
   where
     moved : (c : ℕ) → c < sh.cores → (o : Out) → ((d t : ℕ) → d < sh.dirs → KeepsPart sh d t 0 (w.cores c) o)
         → KeptTold sh (core_moves w c o) → KeptWays sh (ways_after o.sends ys) (core_moves w c o)
