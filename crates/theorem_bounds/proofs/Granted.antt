@@ -6,8 +6,8 @@ use Rattle.std.proofs.lemmas.Bool.Decides.{nat_tests}
 use Rattle.tcc_base.specs.declared.access.Commit.{Commit as Noted}
 use Rattle.base_lemmas.proofs.Lemmas.{eq-self}
 use Rattle.rules_maps.specs.Lines.{has_mark}
-use Rattle.rules_maps.specs.Nodes.{Core, Dir, Vendor, Msg, TidReq, TidGrant, LoadReq, Fill, Skip, Probe, ProbeReply, Mark, Commit, Abort}
-use Rattle.rules_maps.specs.Nodes.{WriteBack, Flush, DataReq, Inv, InvAck}
+use Rattle.rules_maps.specs.Nodes.{Core, Dir, Vendor, Msg, TidGrant, Fill, Skip, Probe, ProbeReply, Mark, Commit, Abort}
+use Rattle.rules_maps.specs.Nodes.{DataReq, Inv}
 use Rattle.rules_maps.specs.Shape.{Shape}
 use Rattle.rules_maps.specs.Words.{num}
 use Rattle.rules_tcc.specs.State.{Link, World}
