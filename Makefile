@@ -16,6 +16,7 @@ check:
 	release/check
 	.ci/boundaries
 	.ci/layout
+	bench/wrong_bodies.sh --read
 	docs/check
 	share/make --check
 	examples/check

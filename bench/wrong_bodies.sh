@@ -1,0 +1,187 @@
+#!/usr/bin/env bash
+# Tries the wrong bodies of bench/wrong_bodies, beside those that `rt ci` tries (must-fail/ of the crates). There the edits of a crate cost
+# another proof of it; here each costs that of one function and of what it calls. So the edits of crates that are dear to prove stand here.
+#
+# Usage: bench/wrong_bodies.sh [--read] [CRATE[/EDIT]]..
+#
+# An edit, bench/wrong_bodies/CRATE/EDIT.edit, is one of must-fail/ with a line 'only: ' more, which names the function that must not be
+# proved with it, and, where the prover names the clause that fails, a line 'clause: '. It is tried on a copy of the crate, over the
+# libraries that `rt ci` has left in the out/ folders of the crates below it; nothing is built. The function must be proved by the same
+# check without the edit. An edit is refused, or not refused, or not tried: it can't be applied, what it makes of a text can't be read, a
+# library isn't there, or the prover came to no answer. The status is 0 where all are refused, 1 where one isn't refused, and else 2.
+# --read only says which can't be applied, and needs no prover.
+set -eu
+cd "$(dirname "$0")/.."
+exec python3 - "$@" <<'END'
+import importlib.util, os, pathlib, re, shutil, subprocess, sys, tempfile, threading, time
+from concurrent.futures import ThreadPoolExecutor
+
+sys.dont_write_bytecode = True
+ROOT, EDITS, PARTS = pathlib.Path.cwd(), pathlib.Path("bench/wrong_bodies"), ("src", "specs", "proofs")
+# the memory that a check is given, in bytes: few take more than half of it
+MEMORY = 3_000_000_000
+REFUSED, MISSED, UNTRIED = "refused", "NOT REFUSED", "NOT TRIED"
+# an error with such words is of a text that can't be read, as is one that names no goal
+UNREAD = re.compile(r"is not in scope|has no field|is no name|operand is missing|expected the end|cannot continue")
+GOAL = re.compile(r": error: `([\w-]+)`|it is not proved that [^`]*\(`([\w-]+)`\)")
+
+
+class Untried(Exception):
+    """Why an edit can't be tried."""
+
+
+class Edit:
+    """A wrong body: the texts that it changes, the function that must refuse it, and the clause of its contract."""
+
+    def __init__(self, path):
+        self.crate, self.name = path.parent.name, f"{path.parent.name}/{path.stem}"
+        self.texts, self.only, self.clause = {}, "", ""
+        try:
+            self.read(path.read_text())
+        except (OSError, ValueError) as error:
+            raise Untried(f"it can't be read: {error}")
+        if not self.texts or not self.only.startswith(f"{self.crate}::"):
+            raise Untried("it changes nothing, or names no function of its crate")
+
+    def read(self, text):
+        file = old = ""
+        for line in text.splitlines():
+            key, _, said = line.partition(": ")
+            if key == "file":
+                file = said.strip()
+                self.texts.setdefault(file, (ROOT / "crates" / self.crate / file).read_text())
+            elif key == "old":
+                old = said
+            elif key in ("new", "new:"):
+                if not old or self.texts[file].count(old) != 1:
+                    raise Untried(f"an old text isn't once in {file}")
+                self.texts[file], old = self.texts[file].replace(old, said), ""
+            elif key in ("only", "clause"):
+                setattr(self, key, said.strip())
+
+
+def kit():
+    """The part of the kit's `rt` that knows with what words a crate is checked."""
+    page = subprocess.run(["rt", "doc"], capture_output=True, text=True, check=True).stdout.strip()
+    spec = importlib.util.spec_from_file_location("rtlib", pathlib.Path(page).parent / "bin" / "rtlib.py")
+    made = sys.modules["rtlib"] = importlib.util.module_from_spec(spec)
+    spec.loader.exec_module(made)
+    return made
+
+
+def check(crate, texts, functions, kept, room):
+    """Checks functions of the crate, with these texts in place of its own, over what kept holds: the status, and the lines said."""
+    copy = pathlib.Path(tempfile.mkdtemp(dir=room))
+    for part in PARTS:
+        if os.path.isdir(f"{crate.folder}/{part}"):
+            shutil.copytree(f"{crate.folder}/{part}", copy / part)
+    for file, text in texts.items():
+        (copy / file).write_text(text)
+    flags = ["--jobs", "1", *[word for it in functions for word in ("--only", it)]]
+    words = [rtlib.RATTLE, "check", *crate.words(flags, keeps=False), "--incremental", kept]
+    ran = subprocess.run(words, cwd=copy, stdin=subprocess.DEVNULL, stdout=subprocess.PIPE, stderr=subprocess.STDOUT, errors="replace")
+    shutil.rmtree(copy)
+    return ran.returncode, ran.stdout.rstrip("\n").split("\n")
+
+
+def verdict_on(function, lines):
+    return next((it.partition(": ")[2] for it in lines if it.startswith(f"fn {function}: ")), "")
+
+
+def is_unread(line, changed):
+    """Whether the line says that a text which a false statement would leave readable can't be read."""
+    at = re.match(r"(?:\./)?(\S+?):\d+:\d+: error: (`[^`]*`: )?(.*)", line)
+    if not at or at[1] not in changed and not at[1].startswith(("src/", "specs/")):
+        return False
+    return not at[2] or bool(UNREAD.search(re.sub(r"`[^`]*`", "", at[3])))
+
+
+def judged(edit, status, lines):
+    """What the check with an edit came to, and why."""
+    said, unread = verdict_on(edit.only, lines), next((it for it in lines if is_unread(it, edit.texts)), "")
+    if unread:
+        return UNTRIED, unread
+    if status == 0 and said == "proved":
+        return MISSED, f"{edit.only} is proved"
+    if status != 1 or not lines[-1].startswith("only=") or not said.startswith(("not proved", "no proof")) or "it calls" in said:
+        return UNTRIED, f"the check ended with {status}: {said or lines[-1]}"
+    goals = [one or other for it in lines for one, other in GOAL.findall(it)]
+    if edit.clause and not any(it.startswith("returns") and it.endswith(f"-clause-{edit.clause}") for it in goals):
+        return MISSED, f"{edit.only} is not proved, but not for the clause {edit.clause}: {' '.join(goals)}"
+    return REFUSED, f"{edit.only}, {'clause ' + edit.clause if edit.clause else ' '.join(goals[:1])}"
+
+
+def stop_without_libraries(crate):
+    for it in crate.below():
+        if not os.path.isdir(it.rlib) or os.path.exists(f"{os.path.dirname(it.rlib)}/stamp") and not it.is_built():
+            raise Untried(f"the library {it.name} isn't there, or isn't of its sources: rt ci builds it")
+
+
+def try_crate(crate, edits, room):
+    """Tries the edits of a crate, and gives what each came to, and why."""
+    kept, over = f"{room}/kept", f"{room}/over"
+    os.mkdir(kept)
+    began = time.monotonic()
+    status, lines = check(crate, {}, sorted({it.only for it in edits}), kept, room)
+    tell(f"{crate.name}: its functions alone, {time.monotonic() - began:.0f} s")
+    for edit in edits:
+        said, began = verdict_on(edit.only, lines), time.monotonic()
+        if status or said != "proved":
+            yield edit, UNTRIED, f"without it the check ended with {status}: {edit.only}: {said or lines[-1]}"
+            continue
+        shutil.copytree(kept, over)
+        result, why = judged(edit, *check(crate, edit.texts, [edit.only], over, room))
+        shutil.rmtree(over)
+        yield edit, result, f"{why}, {time.monotonic() - began:.0f} s"
+
+
+def tell(text):
+    with printing:
+        print(text, flush=True)
+
+
+def try_named(name):
+    """Tries the edits of the crate of that name, and counts what they came to."""
+    left = len(wanted[name])
+    try:
+        crate = rtlib.Crate(f"{ROOT}/crates/{name}", str(ROOT), {})
+        stop_without_libraries(crate)
+        with tempfile.TemporaryDirectory(prefix="wrong-bodies-") as room:
+            for edit, result, why in try_crate(crate, wanted[name], room):
+                tell(f"{edit.name}: {result}: {why}")
+                counts[result].append(edit.name)
+                left -= 1
+    except (Exception, SystemExit) as error:
+        tell(f"{name}: {UNTRIED}: {error if isinstance(error, Untried) else repr(error)}")
+    counts[UNTRIED] += [name] * left
+
+
+def at_once():
+    """How many checks have room side by side."""
+    free = int(re.search(r"MemAvailable:\s+(\d+)", pathlib.Path("/proc/meminfo").read_text())[1]) * 1024
+    return max(1, min(len(os.sched_getaffinity(0)), free // MEMORY))
+
+
+asked, counts, printing, wanted = sys.argv[1:], {REFUSED: [], MISSED: [], UNTRIED: []}, threading.Lock(), {}
+reads_alone = "--read" in asked
+asked, unknown = {*asked} - {"--read"}, {*asked} - {"--read"}
+for path in sorted(EDITS.glob("*/*.edit")):
+    names = {path.parent.name, f"{path.parent.name}/{path.stem}"}
+    if asked and not names & asked:
+        continue
+    unknown -= names
+    try:
+        wanted.setdefault(path.parent.name, []).append(Edit(path))
+    except Untried as error:
+        tell(f"{path.parent.name}/{path.stem}: {UNTRIED}: {error}")
+        counts[UNTRIED].append(path.stem)
+if unknown:
+    print(f"usage: bench/wrong_bodies.sh [--read] [CRATE[/EDIT]].. ({' '.join(sorted(unknown))}: no such edit)", file=sys.stderr)
+    sys.exit(2)
+if not reads_alone:
+    rtlib = kit()
+    with ThreadPoolExecutor(at_once()) as lanes:
+        list(lanes.map(try_named, [it for it in wanted if wanted[it]]))
+    tell(f"wrong bodies: {len(counts[REFUSED])} refused, {len(counts[MISSED])} not refused, {len(counts[UNTRIED])} not tried")
+sys.exit(1 if counts[MISSED] else 2 if counts[UNTRIED] else 0)
+END
