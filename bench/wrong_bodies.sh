@@ -102,7 +102,7 @@ def judged(edit, status, lines):
     said, unread = verdict_on(edit.only, lines), next((it for it in lines if is_unread(it, edit.texts)), "")
     if unread:
         return UNTRIED, unread
-    if status == 0 and said == "proved":
+    if status == 0 and said.startswith("proved"):
         return MISSED, f"{edit.only} is proved"
     if status != 1 or not lines[-1].startswith("only=") or not said.startswith(("not proved", "no proof")) or "it calls" in said:
         return UNTRIED, f"the check ended with {status}: {said or lines[-1]}"
@@ -127,7 +127,7 @@ def try_crate(crate, edits, room):
     tell(f"{crate.name}: its functions alone, {time.monotonic() - began:.0f} s")
     for edit in edits:
         said, began = verdict_on(edit.only, lines), time.monotonic()
-        if status or said != "proved":
+        if status or not said.startswith("proved"):
             yield edit, UNTRIED, f"without it the check ended with {status}: {edit.only}: {said or lines[-1]}"
             continue
         shutil.copytree(kept, over)
