@@ -1,16 +1,18 @@
 #!/usr/bin/env bash
 # Tries the wrong bodies of bench/wrong_bodies, beside those that `rt ci` tries (must-fail/ of the crates). There the edits of a crate cost
-# another proof of it; here each costs that of one function and of what it calls. So the edits of crates that are dear to prove stand here.
+# another proof of it; here they cost that of the functions that refuse them and of what these call. So the edits of crates that are dear
+# to prove stand here.
 #
 # Usage: bench/wrong_bodies.sh [--read] [CRATE[/EDIT]]..
 #
-# An edit, bench/wrong_bodies/CRATE/EDIT.edit, is one of must-fail/ with a line 'only: ' more, which names the function that must not be
-# proved with it, and, where the prover names the clause that fails, a line 'clause: '. It is tried on a copy of the crate, over the
-# libraries that `rt ci` has left in the out/ folders of the crates below it; nothing is built. The function must be proved by the same
-# check without the edit. An edit is refused, or not refused, or not tried: it can't be applied, what it makes of a text can't be read, a
-# library isn't there, or the prover came to no answer. The status is 0 where all are refused, 1 where one isn't refused, and else 2; but
-# with another kit than that of release/, whose words may be others, an edit that isn't tried is told and is no fault. --read only says
-# which can't be applied, and needs no prover.
+# An edit, bench/wrong_bodies/CRATE/EDIT.edit, is one of must-fail/ with two lines more: 'only: ' names the function that must not be proved
+# with it, and 'clause: ' the clause of its contract that fails, or 'goal: ' what fails where that isn't a clause with a name, as the prover
+# calls it. The edits of a crate are tried at once, on a copy of it, over the libraries that `rt ci` has left in the out/ folders of the
+# crates below it; nothing is built. Those of one function are tried one after another, and so is what isn't refused beside others, alone.
+# An edit is refused where the prover names that clause or goal of that function; or not refused; or not tried: it can't be applied, what it
+# makes of a text can't be read, a library isn't there, or the prover came to no answer. The status is 0 where all are refused, 1 where one
+# isn't, and else 2; but with another kit than that of release/, whose words may be others, an edit that isn't tried is told and is no fault.
+# --read only says which can't be applied, and needs no prover.
 set -eu
 cd "$(dirname "$0")/.."
 exec python3 - "$@" <<'END'
@@ -24,7 +26,7 @@ MEMORY = 3_000_000_000
 REFUSED, MISSED, UNTRIED = "refused", "NOT REFUSED", "NOT TRIED"
 # an error with such words is of a text that can't be read, as is one that names no goal
 UNREAD = re.compile(r"is not in scope|has no field|is no name|operand is missing|expected the end|cannot continue")
-GOAL = re.compile(r": error: `([\w-]+)`|it is not proved that [^`]*\(`([\w-]+)`\)")
+GOAL = re.compile(r"(?<=: error: `)[\w-]+(?=`)|(?<=\(`)[\w-]+(?=`\))|(?<=did not prove `)[\w-]+(?=`)")
 
 
 class Untried(Exception):
@@ -32,17 +34,19 @@ class Untried(Exception):
 
 
 class Edit:
-    """A wrong body: the texts that it changes, the function that must refuse it, and the clause of its contract."""
+    """A wrong body: what it changes in which files, the function that must refuse it, and the goal that must fail."""
 
     def __init__(self, path):
         self.crate, self.name = path.parent.name, f"{path.parent.name}/{path.stem}"
-        self.texts, self.only, self.clause = {}, "", ""
+        self.changes, self.only, self.clause, self.goal = [], "", "", ""
         try:
             self.read(path.read_text())
         except (OSError, ValueError) as error:
             raise Untried(f"it can't be read: {error}")
-        if not self.texts or not self.only.startswith(f"{self.crate}::"):
-            raise Untried("it changes nothing, or names no function of its crate")
+        if not self.changes or not self.only.startswith(f"{self.crate}::") or bool(self.clause) == bool(self.goal):
+            raise Untried("it changes nothing, names no function of its crate, or not one clause or goal")
+        if self.applied({}) is None:
+            raise Untried("an old text isn't once in its file")
 
     def read(self, text):
         file = old = ""
@@ -50,15 +54,32 @@ class Edit:
             key, _, said = line.partition(": ")
             if key == "file":
                 file = said.strip()
-                self.texts.setdefault(file, (ROOT / "crates" / self.crate / file).read_text())
             elif key == "old":
                 old = said
             elif key in ("new", "new:"):
-                if not old or self.texts[file].count(old) != 1:
-                    raise Untried(f"an old text isn't once in {file}")
-                self.texts[file], old = self.texts[file].replace(old, said), ""
-            elif key in ("only", "clause"):
+                self.changes.append((file, old, said))
+            elif key in ("only", "clause", "goal"):
                 setattr(self, key, said.strip())
+
+    def applied(self, texts):
+        """These texts of the crate, by their files, with the edit; None: they haven't what it changes, just once."""
+        made = dict(texts)
+        for file, old, new in self.changes:
+            if file not in made:
+                made[file] = (ROOT / "crates" / self.crate / file).read_text()
+            if not old or made[file].count(old) != 1:
+                return None
+            made[file] = made[file].replace(old, new)
+        return made
+
+    def changes_specs(self):
+        return any(file.startswith("specs/") for file, _, _ in self.changes)
+
+    def is_refused_by(self, goals):
+        """Whether the goal that must fail is among these."""
+        if self.clause:
+            return any(it.startswith("returns") and it.endswith(f"-clause-{self.clause}") for it in goals)
+        return self.goal in goals
 
 
 def kit():
@@ -86,7 +107,20 @@ def check(crate, texts, functions, kept, room):
 
 
 def verdict_on(function, lines):
-    return next((it.partition(": ")[2] for it in lines if it.startswith(f"fn {function}: ")), "")
+    """What is said of the function, and its goals that aren't proved."""
+    folder = f"proofs/{'/'.join(function.split('::')[1:])}/"
+    goals, notes = set(), []
+    for line in lines:
+        if line.startswith("fn "):
+            name, _, said = line[3:].partition(": ")
+            if name == function:
+                return said, goals.union(*map(GOAL.findall, [*notes, said]))
+            notes = []
+        elif line.startswith("note: src/"):
+            notes.append(line)
+        elif folder in line.partition(": ")[0]:
+            goals.update(GOAL.findall(line))
+    return "", goals
 
 
 def is_unread(line, changed):
@@ -97,19 +131,18 @@ def is_unread(line, changed):
     return not at[2] or bool(UNREAD.search(re.sub(r"`[^`]*`", "", at[3])))
 
 
-def judged(edit, status, lines):
-    """What the check with an edit came to, and why."""
-    said, unread = verdict_on(edit.only, lines), next((it for it in lines if is_unread(it, edit.texts)), "")
+def judged(edit, texts, status, lines):
+    """What the check with an edit, which made these texts, came to, and why."""
+    (said, goals), unread = verdict_on(edit.only, lines), next((it for it in lines if is_unread(it, texts)), "")
     if unread:
         return UNTRIED, unread
-    if status == 0 and said.startswith("proved"):
+    if said.startswith("proved"):
         return MISSED, f"{edit.only} is proved"
-    if status != 1 or not lines[-1].startswith("only=") or not said.startswith(("not proved", "no proof")) or "it calls" in said:
+    if status != 1 or not lines[-1].startswith("only=") or not said.startswith(("not proved", "no proof")):
         return UNTRIED, f"the check ended with {status}: {said or lines[-1]}"
-    goals = [one or other for it in lines for one, other in GOAL.findall(it)]
-    if edit.clause and not any(it.startswith("returns") and it.endswith(f"-clause-{edit.clause}") for it in goals):
-        return MISSED, f"{edit.only} is not proved, but not for the clause {edit.clause}: {' '.join(goals)}"
-    return REFUSED, f"{edit.only}, {'clause ' + edit.clause if edit.clause else ' '.join(goals[:1])}"
+    if not edit.is_refused_by(goals):
+        return MISSED, f"{edit.only} is not proved, but not for {edit.clause or edit.goal}: {' '.join(sorted(goals)) or said}"
+    return REFUSED, f"{edit.only}, {'clause ' + edit.clause if edit.clause else edit.goal}"
 
 
 def stop_without_libraries(crate):
@@ -118,22 +151,35 @@ def stop_without_libraries(crate):
             raise Untried(f"the library {it.name} isn't there, or isn't of its sources: rt ci builds it")
 
 
+def rounds(edits):
+    """The edits with the texts that they make, those together that can be tried at once: of different functions, and of no definition."""
+    for edit in edits:
+        if edit.changes_specs():
+            yield [edit], edit.applied({})
+    edits = [it for it in edits if not it.changes_specs()]
+    while edits:
+        texts, at_once = {}, []
+        for edit in edits:
+            made = None if edit.only in [it.only for it in at_once] else edit.applied(texts)
+            if made is not None:
+                texts = made
+                at_once.append(edit)
+        yield at_once, texts
+        edits = [it for it in edits if it not in at_once]
+
+
 def try_crate(crate, edits, room):
     """Tries the edits of a crate, and gives what each came to, and why."""
-    kept, over = f"{room}/kept", f"{room}/over"
+    kept = f"{room}/kept"
     os.mkdir(kept)
-    began = time.monotonic()
-    status, lines = check(crate, {}, sorted({it.only for it in edits}), kept, room)
-    tell(f"{crate.name}: its functions alone, {time.monotonic() - began:.0f} s")
-    for edit in edits:
-        said, began = verdict_on(edit.only, lines), time.monotonic()
-        if status or not said.startswith("proved"):
-            yield edit, UNTRIED, f"without it the check ended with {status}: {edit.only}: {said or lines[-1]}"
-            continue
-        shutil.copytree(kept, over)
-        result, why = judged(edit, *check(crate, edit.texts, [edit.only], over, room))
-        shutil.rmtree(over)
-        yield edit, result, f"{why}, {time.monotonic() - began:.0f} s"
+    for at_once, texts in rounds(edits):
+        answer = check(crate, texts, [it.only for it in at_once], kept, room)
+        for edit in at_once:
+            result, why = judged(edit, texts, *answer)
+            if result != REFUSED and len(at_once) > 1:
+                alone = edit.applied({})
+                result, why = judged(edit, alone, *check(crate, alone, [edit.only], kept, room))
+            yield edit, result, why
 
 
 def tell(text):
@@ -147,11 +193,13 @@ def try_named(name):
     try:
         crate = rtlib.Crate(f"{ROOT}/crates/{name}", str(ROOT), {})
         stop_without_libraries(crate)
+        began = time.monotonic()
         with tempfile.TemporaryDirectory(prefix="wrong-bodies-") as room:
             for edit, result, why in try_crate(crate, wanted[name], room):
                 tell(f"{edit.name}: {result}: {why}")
                 counts[result].append(edit.name)
                 left -= 1
+        tell(f"{name}: {time.monotonic() - began:.0f} s")
     except (Exception, SystemExit) as error:
         tell(f"{name}: {UNTRIED}: {error if isinstance(error, Untried) else repr(error)}")
     counts[UNTRIED] += [name] * left

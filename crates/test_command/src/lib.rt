@@ -1,22 +1,5 @@
-// Tests of what is read and written, which are files and outputs, reports, schedules, lists of orders, workloads, and why messages wait;
-// of what the command's words ask for; and of the whole program; by their public calls.
+// Tests of the whole program, by its public calls.
 #![tactic(auto)]
 
 #[cfg(test)]
-mod files;
-#[cfg(test)]
-mod orders;
-#[cfg(test)]
-mod outputs;
-#[cfg(test)]
 mod program;
-#[cfg(test)]
-mod reports;
-#[cfg(test)]
-mod schedules;
-#[cfg(test)]
-mod settings;
-#[cfg(test)]
-mod waiting;
-#[cfg(test)]
-mod workloads;
