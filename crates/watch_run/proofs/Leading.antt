@@ -1,5 +1,5 @@
 -- Where the events of a run lead to from what was loaded.
-use Rattle.std.proofs.Common.{◌≡◌, ◌↔◌, Bool, List, IsTrue, Some, ap, sym, subst, ◌∙◌}
+use Rattle.std.proofs.Common.{ℕ, ◌≡◌, ◌↔◌, Bool, List, IsTrue, Some, ap, sym, subst, ◌∙◌}
 use Rattle.image_load.specs.Contents.{Contents, started}
 use Rattle.image_load.specs.Start.{Start}
 use Rattle.rv_code.specs.Machine.{program}
@@ -14,7 +14,7 @@ use Rattle.rules_tcc.specs.Step.{History, run, run_from}
 use Rattle.net_core.specs.Machine.{Machine, history_of, program_of, settings_of, start_of, world_of}
 use Rattle.watch_count.specs.Counts.{Counts, nothing_counted, run_counted}
 use Rattle.watch_run.specs.Going.{Went}
-use Rattle.watch_run.specs.Looked.{counts_of_run, run_facts}
+use Rattle.watch_run.specs.Looked.{IsCounted, counts_of_run, run_facts}
 use Rattle.watch_run.specs.Written.{LeadsTo}
 
 -- the start of a machine is that of what was loaded, and its state the first one
@@ -56,3 +56,9 @@ unfolding counts_of_run started
 counted-first c m es fs before counts s f e b =
     e ∙ (λ i. run_counted (run_facts (s.code i).settings (program (started (s.code i))) (f i) (s.first i))
     ((b ∙ ap (λ k. nothing_counted k.settings.cores) s.code) i))
+
+-- and it is counted to the same end
+pub counted-there : (c : Contents) (m : Machine) (es fs : List Event) (done : Bool) (events : ℕ) (counts : Counts) → StartsAt c m
+    → es ≡ fs → IsCounted (start_of m) es done events counts → IsCounted (started c) fs done events counts
+counted-there c m es fs done events counts s e h =
+    subst (λ k. IsCounted (started k) fs done events counts) s.code (subst (λ xs. IsCounted (start_of m) xs done events counts) e h)

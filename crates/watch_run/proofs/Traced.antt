@@ -14,7 +14,7 @@ use Rattle.rules_maps.specs.Nodes.{Event}
 use Rattle.rules_tcc.specs.Seen.{IsDone}
 use Rattle.rules_tcc.specs.State.{World}
 use Rattle.tcc_world.specs.Faults.{Rose}
-use Rattle.net_core.specs.Machine.{Machine, history_of, settings_of, world_of}
+use Rattle.net_core.specs.Machine.{Machine, history_of, settings_of, start_of, world_of}
 use Rattle.watch_trace.specs.Text.{head_text, tail_text}
 use Rattle.watch_trace.proofs.Lemmas.{trace-parts}
 use Rattle.watch_changes.specs.Text.{shown_from, shows, states_text}
@@ -180,3 +180,15 @@ ended-broken c m n shown held now es fs x o Output f allowed s e is none w p l (
   inr (ended-cut c m n shown held now es fs x o.before.bytes o.after.bytes done k allowed s e is none w p done_is short cut),
   rose-later f o.before.faults o.after.faults l rose,
 )
+
+-- ---- the trace of a machine at its start is that of what was loaded
+
+pub traced-there : (c : Contents) (m : Machine) (shown : Shown) (es fs : List Event) (x y : Option (List ℕ)) (done : Bool) → StartsAt c m
+    → es ≡ fs → IsTraced (start_of m) shown es x y done → IsTraced (started c) shown fs x y done
+traced-there c m shown es fs x y done s e h =
+    subst (λ k. IsTraced (started k) shown fs x y done) s.code (subst (λ xs. IsTraced (start_of m) shown xs x y done) e h)
+
+pub broken-there : (c : Contents) (m : Machine) (shown : Shown) (es fs : List Event) (o : Written) (b : Broken) → StartsAt c m
+    → es ≡ fs → IsTraceBroken (start_of m) shown es o b → IsTraceBroken (started c) shown fs o b
+broken-there c m shown es fs o b s e h =
+    subst (λ k. IsTraceBroken (started k) shown fs o b) s.code (subst (λ xs. IsTraceBroken (start_of m) shown xs o b) e h)

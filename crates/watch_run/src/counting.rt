@@ -2,7 +2,7 @@
 ghost use Rattle.std.specs.Prelude.{◌≡◌, ◌+◌, ◌<◌, ◌≤◌, [], IfOk, OnOk, length, map};
 ghost use Rattle.image_load.specs.Contents.{started};
 ghost use Rattle.net_core.specs.Machine.{history_of, program_of, settings_of, start_of, world_of};
-ghost use Rattle.rules_riscv.specs.Starting.{world_at_start};
+ghost use Rattle.rules_riscv.specs.Starting.{at_start, world_at_start};
 ghost use Rattle.tcc_msg.specs.Plain.{event_of};
 ghost use Rattle.watch.specs.Happened.{actor as plain_actor, happened};
 ghost use Rattle.watch.specs.Plain.{fact_of};
@@ -10,6 +10,7 @@ ghost use Rattle.watch_count.specs.Counts.{event_counted, run_counted};
 ghost use Rattle.watch_run.specs.Going.{Took, Went};
 ghost use Rattle.watch_run.specs.Looked.{IsCounted, run_facts};
 ghost use Rattle.tcc_base.specs.Limits.{run_limit};
+ghost use Rattle.tcc_base.specs.Settings.{IsAllowed};
 
 use crate::events::{Events, settings_are_allowed};
 use image_load::Loaded;
@@ -81,6 +82,31 @@ fn count_events<E: Events>(
     Ok(())
 }
 
+/// Counts what the events that are to come do in the run of a machine that has taken no event yet.
+fn count_from_start<E: Events>(
+    alloc: Global,
+    system: &mut System,
+    events: &mut E,
+    most: u32,
+) -> Result<Counted, NoMemory>
+    requires allowed { IsAllowed (settings_of system.old) }
+    requires first { history_of system.old ≡ at_start (start_of system.old) }
+    requires none { system.old.events ≡ 0 }
+    requires settled { system.old.unsent ≡ [] }
+    requires few { most ≤ run_limit }
+    requires enough { length (E.coming events.old (start_of system.old) (world_of system.old)) ≤ most }
+    ensures { IfOk result (λ c. IsCounted (start_of system.old)
+        (E.coming events.old (start_of system.old) (world_of system.old)) c.done c.events c.counts) }
+{
+    let mut counts = Counts::new(alloc, system.config())?;
+    count_events(alloc, system, events, most, &mut counts)?;
+    Ok(Counted {
+        counts,
+        done: system.done(),
+        events: system.events(),
+    })
+}
+
 /// Counts what the events that are to come do in the run from what was loaded, at most so many. The time is that of the events, and a
 /// constant for each fact of an event; the memory is that of the machine and of the tables.
 pub fn count<E: Events>(
@@ -96,11 +122,5 @@ pub fn count<E: Events>(
 {
     settings_are_allowed(loaded.config());
     let mut system = System::start(alloc, loaded)?;
-    let mut counts = Counts::new(alloc, system.config())?;
-    count_events(alloc, &mut system, events, most, &mut counts)?;
-    Ok(Counted {
-        counts,
-        done: system.done(),
-        events: system.events(),
-    })
+    count_from_start(alloc, &mut system, events, most)
 }

@@ -2,13 +2,14 @@
 ghost use Rattle.std.specs.Prelude.{◌≡◌, ◌+◌, ◌<◌, ◌≤◌, ℕ, [], IfErr, IfOk, OnErr, OnOk, length, string_bytes, take};
 ghost use Rattle.std.specs.Io.KnownBytes.{Appends};
 ghost use Rattle.image_load.specs.Contents.{started};
-ghost use Rattle.net_core.specs.Machine.{settings_of, start_of, world_of};
-ghost use Rattle.rules_riscv.specs.Starting.{world_at_start};
+ghost use Rattle.net_core.specs.Machine.{history_of, settings_of, start_of, world_of};
+ghost use Rattle.rules_riscv.specs.Starting.{at_start, world_at_start};
 ghost use Rattle.tcc_world.specs.Faults.{Rose};
 ghost use Rattle.watch_run.specs.Going.{Went};
 ghost use Rattle.watch_run.specs.Telling.{lines_from};
 ghost use Rattle.watch_run.specs.Written.{IsEndCut, IsEnded, IsPut, IsStopped, IsTraceBroken, IsTraced};
 ghost use Rattle.tcc_base.specs.Limits.{run_limit};
+ghost use Rattle.tcc_base.specs.Settings.{IsAllowed};
 
 use crate::events::{Events, settings_are_allowed};
 use crate::telling::{Shown, begin, event};
@@ -129,6 +130,38 @@ fn end_trace<O: Sink>(
     }
 }
 
+/// Writes the trace of the run of a machine that has taken no event yet.
+fn trace_from_start<E: Events, O: Sink>(
+    alloc: Global,
+    system: &mut System,
+    events: &mut E,
+    most: u32,
+    shown: Shown,
+    out: &mut O,
+) -> Result<bool, Broken>
+    requires allowed { IsAllowed (settings_of system.old) }
+    requires first { history_of system.old ≡ at_start (start_of system.old) }
+    requires none { system.old.events ≡ 0 }
+    requires settled { system.old.unsent ≡ [] }
+    requires few { most ≤ run_limit }
+    requires enough { length (E.coming events.old (start_of system.old) (world_of system.old)) ≤ most }
+    ensures traced { IfOk result (IsTraced (start_of system.old) shown
+        (E.coming events.old (start_of system.old) (world_of system.old)) (O.page out.old).bytes (O.page out.new).bytes) }
+    ensures broken { IfErr result (IsTraceBroken (start_of system.old) shown
+        (E.coming events.old (start_of system.old) (world_of system.old))
+        (record { before = O.page out.old; after = O.page out.new })) }
+{
+    let mut held = String::new(alloc);
+    match push_head(&mut held, system.config(), shown.from) {
+        Ok(()) => {}
+        Err(_) => return Err(Broken::Memory),
+    }
+    match trace_events(alloc, system, events, most, shown, &mut held, out) {
+        Ok(()) => end_trace(alloc, system, &mut held, out),
+        Err(broken) => Err(broken),
+    }
+}
+
 /// Writes the trace of the run from what was loaded by the events that are to come, at most so many: what each event of the window did,
 /// and with records all of them where the window begins, and what each event changed. Whether the run is done then.
 ///
@@ -153,17 +186,8 @@ pub fn trace<E: Events, O: Sink>(
         (record { before = O.page out.old; after = O.page out.new })) }
 {
     settings_are_allowed(loaded.config());
-    let mut system = match System::start(alloc, loaded) {
-        Ok(system) => system,
-        Err(NoMemory) => return Err(Broken::Memory),
-    };
-    let mut held = String::new(alloc);
-    match push_head(&mut held, system.config(), shown.from) {
-        Ok(()) => {}
-        Err(_) => return Err(Broken::Memory),
-    }
-    match trace_events(alloc, &mut system, events, most, shown, &mut held, out) {
-        Ok(()) => end_trace(alloc, &system, &mut held, out),
-        Err(broken) => Err(broken),
+    match System::start(alloc, loaded) {
+        Ok(mut system) => trace_from_start(alloc, &mut system, events, most, shown, out),
+        Err(NoMemory) => Err(Broken::Memory),
     }
 }
