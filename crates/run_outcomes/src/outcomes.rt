@@ -223,6 +223,19 @@ fn note(explored: &Exploration, tell: Tell, groups: &mut Groups, k: usize) -> Re
     }
 }
 
+/// Counts all states in which all cores have ended, by what they tell.
+fn note_ends(explored: &Exploration, tell: Tell, groups: &mut Groups) -> Result<(), NoMemory>
+    requires { AreGroups tell explored.now.states groups.old 0 }
+    ensures { OnOk result (AreGroups tell explored.now.states groups.new (length explored.now.states)) }
+{
+    for k in 0..explored.len() {
+        if is_end(explored.state(k)) {
+            note(explored, tell, groups, k)?;
+        }
+    }
+    Ok(())
+}
+
 /// The results among the states that were found: states in which all cores have ended, those that tell the same taken together. Each
 /// stands for the first of them. Where all states were found, and so `done` is true, every serial execution of the program after
 /// which all cores have ended tells one of these results, in whatever order the cores took turns.
@@ -245,11 +258,7 @@ pub fn tell_results(alloc: Global, explored: &Exploration, tell: Tell) -> Result
         counts: List::new(alloc),
         chains: Chains::new(alloc),
     };
-    for k in 0..explored.len() {
-        if is_end(explored.state(k)) {
-            note(explored, tell, &mut groups, k)?;
-        }
-    }
+    note_ends(explored, tell, &mut groups)?;
     Ok(Results {
         firsts: groups.firsts,
         counts: groups.counts,

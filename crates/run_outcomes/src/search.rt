@@ -89,6 +89,33 @@ fn first_cores(alloc: Global, loaded: &Loaded) -> Result<List<CoreState>, NoMemo
     Ok(cores)
 }
 
+/// The program's start, as the one state that is found without a transaction.
+fn first_table(alloc: Global, loaded: &Loaded) -> Result<Table, NoMemory>
+    ensures found { IfOk result (AreFound loaded.now) }
+    ensures one { IfOk result (λ table. length table ≡ 1) }
+{
+    let cores = first_cores(alloc, loaded)?;
+    let mut table = Table::new(alloc);
+    table.add_first(Snapshot {
+        cores,
+        changes: List::new(alloc),
+    })?;
+    Ok(table)
+}
+
+/// What stands in the place of the transaction that leads to the start.
+fn first_ways(alloc: Global) -> Result<List<Way>, NoMemory>
+    ensures { IfOk result (λ ways. length ways ≡ 1) }
+{
+    let mut ways = List::new(alloc);
+    ways.push(Way {
+        from: 0,
+        core: CoreId(0),
+        n: 0,
+    })?;
+    Ok(ways)
+}
+
 /// The next transaction of a core of a state.
 fn next_in(
     executor: &mut Executor,
@@ -160,19 +187,9 @@ impl Search {
         ensures tried { IfOk result (λ s. (longest : ℕ)
             → AreTried s.executor s.table longest 0 None s.transactions s.endless s.endless_at) }
     {
+        let table = first_table(alloc, loaded)?;
+        let ways = first_ways(alloc)?;
         let executor = Executor::new(alloc, loaded)?;
-        let cores = first_cores(alloc, loaded)?;
-        let mut table = Table::new(alloc);
-        table.add_first(Snapshot {
-            cores,
-            changes: List::new(alloc),
-        })?;
-        let mut ways = List::new(alloc);
-        ways.push(Way {
-            from: 0,
-            core: CoreId(0),
-            n: 0,
-        })?;
         Ok(Search {
             alloc,
             executor,

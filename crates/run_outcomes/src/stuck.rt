@@ -2,7 +2,7 @@
 ghost use Rattle.std.specs.Prelude.{◌≡◌, ℕ, ◌≤◌, ◌<◌, [], ◌∷◌, ◌++◌, IfOk, OnOk, IfSome, IfNone, IsTrue};
 ghost use Rattle.std.specs.Prelude.{false, length, map, slice_index_or};
 ghost use Rattle.run_outcomes.specs.Chains.{AreChained};
-ghost use Rattle.run_outcomes.specs.Edges.{edge_at};
+ghost use Rattle.run_outcomes.specs.Edges.{AreAllEdges, AreEdges, edge_at};
 ghost use Rattle.run_outcomes.specs.Explored.{AreFound};
 ghost use Rattle.run_outcomes.specs.HowMany.{HowMany, IsFirst, or_first};
 ghost use Rattle.run_outcomes.specs.Stuck.{AreMarks, CanEnd, CannotEnd, left_over, with_mark};
@@ -138,6 +138,21 @@ fn settle(explored: &Exploration, chains: &Chains, marks: &mut Marks) -> Result<
     Ok(())
 }
 
+/// Marks the states from which an end is reached.
+fn mark_all(alloc: Global, explored: &Exploration, marks: &mut Marks) -> Result<(), NoMemory>
+    requires { AreMarks explored.now.loaded explored.now.states explored.now.edges 0 (length explored.now.states) marks.old }
+    ensures marks { OnOk result (AreMarks explored.now.loaded explored.now.states explored.now.edges (length explored.now.states)
+        (length explored.now.states) marks.new) }
+    ensures none { OnOk result (marks.new.waiting ≡ []) }
+    ensures found { AreFound explored.now.loaded explored.now.states }
+    ensures right { AreEdges explored.now.loaded explored.now.states explored.now.edges }
+    ensures all { IsTrue explored.now.done → AreAllEdges explored.now.loaded explored.now.states explored.now.edges }
+{
+    let chains = chain_targets(alloc, explored.edges())?;
+    mark_ends(explored, marks)?;
+    settle(explored, &chains, marks)
+}
+
 fn first_of(first: Option<usize>, k: usize) -> Option<usize>
     ensures { result ≡ or_first first k }
 {
@@ -171,9 +186,7 @@ pub fn tell_stuck(alloc: Global, explored: &Exploration) -> Result<Stuck, NoMemo
     ensures count { IfOk result (λ s. HowMany (CannotEnd explored.now.loaded explored.now.states) (length explored.now.states) s.count) }
     ensures first { IfOk result (λ s. IsFirst (CannotEnd explored.now.loaded explored.now.states) (length explored.now.states) s.first) }
 {
-    let chains = chain_targets(alloc, explored.edges())?;
     let mut marks = no_marks(alloc, explored.len())?;
-    mark_ends(explored, &mut marks)?;
-    settle(explored, &chains, &mut marks)?;
+    mark_all(alloc, explored, &mut marks)?;
     Ok(tell_unmarked(&marks.marked.items))
 }

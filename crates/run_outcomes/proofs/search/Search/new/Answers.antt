@@ -1,13 +1,14 @@
-use Rattle.std.proofs.Common.{◌∙◌, refl}
-use Rattle.run_outcomes.proofs.Added.{first-found}
+use Rattle.std.proofs.Common.{sym, arith, ◌∙◌}
 use Rattle.run_outcomes.proofs.Tried.{none-tried}
 use Rattle.run_outcomes.proofs.search.Search.new.Goals as goal
 
 pub returns-clause-found : goal.returns-clause-found
-returns-clause-found c =
-    rw c.in_ok-executor.ensures
-    (first-found c.args.loaded.now c.in_ok-cores.cores c.add_first.new.self c.in_ok-cores.ensures.length c.in_ok-cores.ensures.each
-    (c.in_ok-add_first.ensures ∙ rw (c.new-table.ensures, c.new-2.ensures) refl))
+returns-clause-found c = rw c.in_ok-executor.ensures c.in_ok-table.ensures.found
+
+pub returns-clause-led : goal.returns-clause-led
+returns-clause-led c =
+    let one = c.in_ok-table.ensures.one in
+    record { counted = c.in_ok-ways.ensures ∙ sym one; led = λ k more less. absurd (omega (arith, more, less, one)) }
 
 pub returns-clause-tried : goal.returns-clause-tried
 returns-clause-tried c = λ longest. none-tried _ _ longest
