@@ -1,12 +1,12 @@
 // The serial execution of the commits that a report lists.
-ghost use Rattle.std.specs.Prelude.{◌≡◌, ◌/◌, true, IfErr, IfOk, map};
+ghost use Rattle.std.specs.Prelude.{◌≡◌, ◌/◌, ◌<◌, true, All, IfErr, IfOk, map};
 ghost use Rattle.std.specs.List.{range_with_len};
 ghost use Rattle.std.specs.String.{string_bytes};
 ghost use Rattle.image_load.specs.Contents.{started};
 ghost use Rattle.report_text.specs.Plain.{shown_core};
 ghost use Rattle.rv_plain.specs.PlainState.{plain_of};
 ghost use Rattle.tcc_cli.specs.Failing.{IsListRefused};
-ghost use Rattle.tcc_cli.specs.Lists.{IsExecuted, list_text};
+ghost use Rattle.tcc_cli.specs.Lists.{AreExecuted, AreRefused, IsExecuted, list_text};
 
 use crate::laid::{Laid, settings_are_allowed};
 use crate::refusal::Refusal;
@@ -15,7 +15,7 @@ use crate::schedules::of_text;
 use image_load::Loaded;
 use report_text::{CoreShown, Ending, ShownWords, serial_report};
 use rv_plain::Plain;
-use serial_tool::{read_orders, run_orders};
+use serial_tool::{Executed, Listed, read_orders, run_orders};
 use std::alloc::Global;
 use std::marker::Model;
 use tcc_base::{Commit, Config, CoreId, LineAddr, List, NoMemory, WordAddr};
@@ -108,22 +108,49 @@ fn text<'a>(
     serial_report(alloc, &ending)
 }
 
+/// The text of the plain machine that has executed a list.
+fn tell_executed<'a>(
+    alloc: Global,
+    loaded: &Loaded,
+    executed: &Executed,
+) -> Result<Finished, Refusal<'a>>
+    requires { executed.now.machine.loaded ≡ loaded.now }
+    ensures done { IfOk result (λ f. f.done ≡ true) }
+    ensures text { IfOk result (λ f. string_bytes f.text
+        ≡ list_text (started loaded.now) executed.now.commits (plain_of executed.now.machine)) }
+    ensures memory { IfErr result (λ why. why ≡ Refusal.Memory) }
+{
+    match text(alloc, loaded, &executed.machine, &executed.commits) {
+        Ok(text) => Ok(Finished { done: true, text }),
+        Err(NoMemory) => Err(Refusal::Memory),
+    }
+}
+
+/// The serial execution of the orders of a list, from what was loaded.
+fn execute_orders<'a>(
+    alloc: Global,
+    loaded: &Loaded,
+    orders: &[Listed],
+) -> Result<Finished, Refusal<'a>>
+    requires { All (λ l. l.order.core.0 < loaded.now.settings.cores) orders.now }
+    ensures done { IfOk result (λ f. f.done ≡ true) }
+    ensures executed { IfOk result (λ f. AreExecuted (started loaded.now) orders.now (string_bytes f.text)) }
+    ensures refused { IfErr result (AreRefused (started loaded.now) orders.now) }
+{
+    match run_orders(alloc, loaded, orders) {
+        Ok(executed) => tell_executed(alloc, loaded, &executed),
+        Err(fault) => Err(of_text(fault)),
+    }
+}
+
 /// The serial execution of the list that a file holds, from what was loaded; or the line at which the list is refused.
 pub fn execute<'a>(alloc: Global, loaded: &Loaded, bytes: &[u8]) -> Result<Finished, Refusal<'a>>
     ensures done { IfOk result (λ f. f.done ≡ true) }
     ensures executed { IfOk result (λ f. IsExecuted (started loaded.now) bytes.now (string_bytes f.text)) }
     ensures refused { IfErr result (IsListRefused (started loaded.now) bytes.now) }
 {
-    let orders = match read_orders(alloc, bytes, loaded.config()) {
-        Ok(orders) => orders,
-        Err(fault) => return Err(of_text(fault)),
-    };
-    let executed = match run_orders(alloc, loaded, &orders) {
-        Ok(executed) => executed,
-        Err(fault) => return Err(of_text(fault)),
-    };
-    match text(alloc, loaded, &executed.machine, &executed.commits) {
-        Ok(text) => Ok(Finished { done: true, text }),
-        Err(NoMemory) => Err(Refusal::Memory),
+    match read_orders(alloc, bytes, loaded.config()) {
+        Ok(orders) => execute_orders(alloc, loaded, &orders),
+        Err(fault) => Err(of_text(fault)),
     }
 }

@@ -11,10 +11,9 @@ use tcc_base::NoMemory;
 use tcc_world::Sink;
 use text_outcomes::{Broken, Table, write_table};
 
-/// What a search has come to.
+/// The results among the states that a search has found, and from how many of these no end can be reached.
 #[derive(Debug, Drop)]
-struct Searched {
-    explored: Exploration,
+struct Told {
     results: Results,
     stuck: Stuck,
 }
@@ -42,37 +41,30 @@ fn stuck_states(alloc: Global, explored: &Exploration) -> Result<Stuck, NoMemory
     tell_stuck(alloc, explored)
 }
 
-/// The states within the limits, and the results among them.
-fn search(alloc: Global, loaded: &Loaded, limits: Limits, tell: Tell) -> Result<Searched, NoMemory>
-    requires { 1 ≤ limits.states }
-    ensures loaded { IfOk result (λ s. s.explored.loaded ≡ loaded.now) }
-    ensures searched { IfOk result (λ s. AreSearched limits s.explored) }
-    ensures results { IfOk result (λ s. AreResults tell s.explored s.results) }
-    ensures stuck { IfOk result (λ s. AreStuck s.explored s.stuck) }
+/// What is told of the states that were found.
+fn tell_found(alloc: Global, explored: &Exploration, tell: Tell) -> Result<Told, NoMemory>
+    ensures results { IfOk result (λ t. AreResults tell explored.now t.results) }
+    ensures stuck { IfOk result (λ t. AreStuck explored.now t.stuck) }
 {
-    let explored = explore(alloc, loaded, limits)?;
-    let results = tell_results(alloc, &explored, tell)?;
-    let stuck = stuck_states(alloc, &explored)?;
-    Ok(Searched {
-        explored,
-        results,
-        stuck,
-    })
+    let stuck = stuck_states(alloc, explored)?;
+    let results = tell_results(alloc, explored, tell)?;
+    Ok(Told { results, stuck })
 }
 
-/// Writes the table of what was searched: whether the search is done.
-fn write_searched<'a, O: Sink>(
+/// Writes the table of the states that were found and of what is told of them: whether the search is done.
+fn write_told<'a, O: Sink>(
     alloc: Global,
     loaded: &Loaded,
     limits: Limits,
     tell: Tell,
-    searched: &Searched,
+    explored: &Exploration,
+    told: &Told,
     out: &mut O,
 ) -> Result<bool, Refusal<'a>>
-    requires loaded { searched.now.explored.loaded ≡ loaded.now }
-    requires searched { AreSearched limits searched.now.explored }
-    requires results { AreResults tell searched.now.explored searched.now.results }
-    requires stuck { AreStuck searched.now.explored searched.now.stuck }
+    requires loaded { explored.now.loaded ≡ loaded.now }
+    requires searched { AreSearched limits explored.now }
+    requires results { AreResults tell explored.now told.now.results }
+    requires stuck { AreStuck explored.now told.now.stuck }
     ensures told { IfOk result (IsTableTold (started loaded.now) limits tell
         (record { before = O.page out.old; after = O.page out.new })) }
     ensures stopped { IfErr result (IsTableStopped (started loaded.now) limits tell
@@ -80,14 +72,36 @@ fn write_searched<'a, O: Sink>(
 {
     let table = Table {
         loaded,
-        explored: &searched.explored,
-        results: &searched.results,
-        stuck: searched.stuck,
+        explored,
+        results: &told.results,
+        stuck: told.stuck,
         tell,
     };
     match write_table(alloc, &table, out) {
-        Ok(()) => Ok(searched.results.done),
+        Ok(()) => Ok(told.results.done),
         Err(broken) => Err(of_broken(broken)),
+    }
+}
+
+/// Tells the results among the states that were found, and writes their table: whether the search is done.
+fn write_found<'a, O: Sink>(
+    alloc: Global,
+    loaded: &Loaded,
+    limits: Limits,
+    tell: Tell,
+    explored: &Exploration,
+    out: &mut O,
+) -> Result<bool, Refusal<'a>>
+    requires loaded { explored.now.loaded ≡ loaded.now }
+    requires searched { AreSearched limits explored.now }
+    ensures told { IfOk result (IsTableTold (started loaded.now) limits tell
+        (record { before = O.page out.old; after = O.page out.new })) }
+    ensures stopped { IfErr result (IsTableStopped (started loaded.now) limits tell
+        (record { before = O.page out.old; after = O.page out.new })) }
+{
+    match tell_found(alloc, explored, tell) {
+        Ok(told) => write_told(alloc, loaded, limits, tell, explored, &told, out),
+        Err(NoMemory) => Err(Refusal::Memory),
     }
 }
 
@@ -105,8 +119,8 @@ pub fn write_outcomes<'a, O: Sink>(
     ensures stopped { IfErr result (IsTableStopped (started loaded.now) limits tell
         (record { before = O.page out.old; after = O.page out.new })) }
 {
-    match search(alloc, loaded, limits, tell) {
-        Ok(searched) => write_searched(alloc, loaded, limits, tell, &searched, out),
+    match explore(alloc, loaded, limits) {
+        Ok(explored) => write_found(alloc, loaded, limits, tell, &explored, out),
         Err(NoMemory) => Err(Refusal::Memory),
     }
 }
