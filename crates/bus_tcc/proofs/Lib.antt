@@ -20,6 +20,7 @@ mod Published
 mod ByPhase
 mod Numbers
 mod Ones
+mod Halves
 mod Using
 mod Counting
 mod Enabling

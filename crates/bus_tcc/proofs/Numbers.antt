@@ -29,6 +29,22 @@ count-more t n b count e q =
     by true = omega (arith, e, length-append (filter t (numbers n)) (n ∷ []))
     by false = omega (arith, e, length-append (filter t (numbers n)) [])
 
+-- the more numbers, the more pass
+grown : (t : ℕ → Bool) (n i : ℕ) → n ≤ i → length (filter t (numbers n)) ≤ length (filter t (numbers i))
+grown t n zero l = let z : n ≡ zero = omega (arith, l) in rw z (omega arith)
+grown t n (suc i) l = elim (cases_eq n (suc i)) [
+  | inl q ↦ rw q (omega arith)
+  | inr m ↦ (let h = grown t n i (omega arith) in
+      rw (one-more t i) (omega (arith, h, length-append (filter t (numbers i)) (cond (t i) (i ∷ []) []))))
+]
+
+-- one before which fewer pass stands before the end
+pub before-end : (t : ℕ → Bool) (i n k : ℕ) → length (filter t (numbers i)) ≡ k → k < length (filter t (numbers n)) → i < n
+before-end t i n k e l = elim (cases_lt i n) [
+  | inl q ↦ q
+  | inr q ↦ absurd (omega (arith, e, l, grown t n i q))
+]
+
 pub count-most : (t : ℕ → Bool) (n : ℕ) → length (filter t (numbers n)) ≤ n
 unfolding those
 count-most t zero = omega arith

@@ -10,7 +10,7 @@ use Rattle.rules_maps.specs.Words.{num}
 use Rattle.rules_tcc.specs.Seen.{numbers}
 use Rattle.bus_tcc.proofs.Numbers.{count-more, none-counted}
 
-bit-ones : (d : ℕ) → d < 2 → count_ones d ≡ num (1 == d)
+pub bit-ones : (d : ℕ) → d < 2 → count_ones d ≡ num (1 == d)
 unfolding lib.Count.ones
 bit-ones zero h = refl
 bit-ones (suc zero) h = refl

@@ -7,6 +7,7 @@ pub mod Committing
 pub mod Ending
 pub mod Left
 pub mod Packets
+pub mod Seeking
 pub mod Storing
 pub mod Taking
 pub mod Whole

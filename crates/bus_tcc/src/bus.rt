@@ -10,6 +10,7 @@ ghost use Rattle.bus_tcc.specs.Packets.{lines_on};
 ghost use Rattle.rules_bus.specs.Useful.{is_packet};
 ghost use Rattle.bus_tcc.specs.Machine.{bus_of, is_free};
 
+use crate::seeking::nth_one;
 use commit_engine::DirSet;
 use tcc_base::{CoreId, DirId, List, Tagged};
 
@@ -76,21 +77,16 @@ impl CoreSet {
         self.bits_below(count).count_ones() as u8
     }
 
-    /// The k-th of them, from 0; None exactly where there are no more than k. Takes time in this number.
+    /// The k-th of them, from 0; None exactly where there are no more than k. It takes constant time.
     pub fn nth_below(self, count: u8, k: u64) -> Option<CoreId>
         requires { count ≤ 64 }
         ensures { option_map number_of result ≡ slice_get (filter (has self.bits) (numbers count)) k }
     {
-        let mut left = k;
-        for core in 0..count {
-            if self.contains(CoreId(core)) {
-                if left == 0 {
-                    return Some(CoreId(core));
-                }
-                left -= 1;
-            }
+        let below = u64::from(self.count_below(count));
+        if k >= below {
+            return None;
         }
-        None
+        Some(CoreId(nth_one(self.bits, k)))
     }
 }
 
@@ -155,7 +151,7 @@ impl Bus {
         }
     }
 
-    /// The k-th of them, from 0; None exactly where there are no more than k. Takes time in this number.
+    /// The k-th of them, from 0; None exactly where there are no more than k. It takes constant time.
     pub fn left_at(&self, count: u8, k: u64) -> Option<CoreId>
         requires { count ≤ 64 }
         ensures { option_map number_of result ≡ slice_get (filter (is_left (bus_of self.now)) (numbers count)) k }

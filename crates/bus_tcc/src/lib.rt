@@ -14,6 +14,7 @@ mod event;
 mod exec;
 mod publishing;
 mod readers;
+mod seeking;
 mod step;
 mod storing;
 mod system;
