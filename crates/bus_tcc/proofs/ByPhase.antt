@@ -1,7 +1,6 @@
 -- What a machine does of which a core executes, by the core's phase.
-use Rattle.std.proofs.Common.{◌≡◌, ℕ, ◌<◌, ◌≤◌, Bool, true, false, Option, Some, None, Err, refl, ap, sym, ◌∙◌, arith}
-use Rattle.std.specs.Prelude.{nat_lt, if◌then◌else◌}
-use Rattle.std.proofs.lemmas.Bool.Decides.{nat_tests}
+use Rattle.std.proofs.Common.{◌≡◌, ℕ, ◌<◌, Bool, true, false, Option, Some, None, is_some, Err, refl, ap, sym, ◌∙◌, inl, inr}
+use Rattle.std.proofs.lemmas.Bool.{cases_lt}
 use Rattle.rules_maps.specs.Shape.{Shape}
 use Rattle.rules_program.specs.Program.{Need, Nothing, Loads, Stores, Changes, Prints, Ends, Halts, Traps, Program}
 use Rattle.rules_tcc.specs.Attempt.{finished, is_solo}
@@ -14,13 +13,13 @@ use Rattle.core_node.specs.AtHand.{ends_by, executes}
 use Rattle.rules_bus.specs.Commit.{BusStepped, bus_commit}
 use Rattle.rules_bus.specs.Exec.{exec_alone, bus_exec_in_phase, goes_on, instruction}
 use Rattle.rules_bus.specs.State.{BusWorld, Exec}
-use Rattle.rules_bus.specs.Step.{bus_names, bus_step}
 use Rattle.bus_tcc.specs.Ending.{CommitsBy, at_commit}
 use Rattle.bus_tcc.specs.Whole.{IsBusWhole}
 use Rattle.bus_tcc.specs.Answers.{Answers, bus_step_of}
 use Rattle.bus_tcc.specs.Machine.{BusMachine, bus_history_of, bus_program_of, bus_settings_of, bus_world_of}
 use Rattle.bus_tcc.specs.declared.event.BusError.TheVariants.{Refused}
 use Rattle.bus_tcc.proofs.Bounds.{bounded}
+use Rattle.bus_tcc.proofs.Enabling.{no-exec}
 use Rattle.bus_tcc.proofs.Endings.{alone-commits}
 use Rattle.bus_tcc.proofs.Events.{bank_in}
 use Rattle.bus_tcc.proofs.Published.{exec-step}
@@ -160,12 +159,19 @@ pub solo-so : (m n : BusMachine) (c : ℕ) (s : CoreState) (p : Phase) (b d : Bo
     → b ≡ is_solo p → b ≡ d → is_solo ((bus_world_of n).cores c).phase ≡ d
 solo-so m n c s p b d e q h i j = ap is_solo (at-phase m n c s p e q h) ∙ sym i ∙ j
 
--- ---- a core that doesn't exist
+-- ---- whether it may
 
-pub no-exec : (m : BusMachine) (k c : ℕ) → k ≡ (bus_settings_of m).cores → k ≤ c → Answers m m (Exec c) (Err Refused)
-unfolding bus_step bus_names
-no-exec m k c e l = (record { history = refl; events = refl; code = refl }, by (nat_lt c m.code.settings.cores) refl _)
+-- a core that may execute exists
+pub exists-so : (m : BusMachine) (c : ℕ) → is_some (bus_step_of m (Exec c)) ≡ true → c < (bus_settings_of m).cores
+exists-so m c e = elim (cases_lt c (bus_settings_of m).cores) [
+  | inl l ↦ l
+  | inr l ↦ absurd (let bad : false ≡ true = sym (ap is_some (no-exec m c (bus_settings_of m).cores refl l)) ∙ e in cc)
+]
+
+-- one that may not is refused
+pub refused-so : (m : BusMachine) (c : ℕ) → is_some (bus_step_of m (Exec c)) ≡ false → Answers m m (Exec c) (Err Refused)
+refused-so m c e = (record { history = refl; events = refl; code = refl }, by (bus_step_of m (Exec c)) e)
   where
-    by : (b : Bool) → nat_lt c m.code.settings.cores ≡ b → (o : Option BusStepped) → (if b then o else None) ≡ None
-    by true q o = let i : c < m.code.settings.cores = grind (arith, nat_tests) in absurd (omega (arith, i, e, l))
-    by false q o = refl
+    by : (o : Option BusStepped) → is_some o ≡ false → o ≡ None
+    by None q = refl
+    by (Some x) q = cc

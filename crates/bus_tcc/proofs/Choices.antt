@@ -23,7 +23,7 @@ use Rattle.bus_tcc.specs.Chosen.{bus_useful_of}
 use Rattle.bus_tcc.specs.Left.{is_left}
 use Rattle.bus_tcc.specs.Machine.{BusMachine, bus_event_of, bus_of, bus_program_of, bus_settings_of, bus_world_of, is_free}
 use Rattle.bus_tcc.specs.Parts.{CountedIn, evicts_of, execs_of, takes_of}
-use Rattle.bus_tcc.specs.Uses.{exec_count, may_exec, room_ways, ways_in, loose_ways}
+use Rattle.bus_tcc.specs.Uses.{counts_taken, exec_count, may_exec, room_ways, ways_in, loose_ways}
 use Rattle.bus_tcc.specs.Whole.{IsBusWhole}
 use Rattle.bus_tcc.specs.declared.counts.Counts.{Counts}
 use Rattle.bus_tcc.specs.declared.event.BusEvent.{BusEvent as CodeEvent}
@@ -76,7 +76,9 @@ exec-lengths m n free h e = by free e
     by : (b : Bool) → b ≡ is_free (bus_world_of m).bus
         → AreLengths (λ c. one (may_of m c) (Exec c)) (bus_settings_of m).cores (chosen b n)
     by true q = (h.places.free, λ c l. (h.each c l).free ∙ same true c q)
-    by false q = (h.places.taken, λ c l. (h.each c l).taken ∙ same false c q)
+    by false q =
+        let asked = subst (λ f. counts_taken (bus_settings_of m) f ≡ true) q refl in
+        (h.places.taken, λ c l. (h.each c l).taken asked ∙ same false c q)
 
 -- the counts of executions, as the code has them
 pub record ExecCounts (m : BusMachine) (n : Counts) (counts : List ℕ) : Type 0 where

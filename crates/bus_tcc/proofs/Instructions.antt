@@ -215,16 +215,6 @@ refused-execution A m n c core_error.Blocked o s b is free = (stays-kept m n s, 
 refused-execution A m n c core_error.Memory o s b is free =
     (stays-kept m n s, λ q. goes-some (bus_world_of m) c o b free (sym is ∙ q))
 
-pub barred-free : (f o : Bool) → (not f && o) ≡ false → o ≡ true → f ≡ true
-barred-free true o e q = refl
-barred-free false true e q = cc
-barred-free false false e q = cc
-
-pub barred-so : (f o : Bool) → (not f && o) ≡ true → (f ≡ false) × (o ≡ true)
-barred-so true o e = cc
-barred-so false true e = (refl, refl)
-barred-so false false e = cc
-
 abbrev pub after_execution : Inside → CoresData → CodeBus → BusMachine
 after_execution s b bus = record (machine_of s) { code = b.code; cores = b.cores; bus = bus; events = s.events + 1 }
 
@@ -235,57 +225,32 @@ ran-so o None t alone mid new e h a n = subst (λ q. Leaves q mid) e h
 ran-so o (Some q) t alone mid new e h a n =
     let same : mid ≡ q.core = subst (λ y. Leaves y mid) e h in (a ∙ ap (λ s. overflows s.phase) same, n ∙ ap (gone_if alone t) same)
 
--- whether a core would take a bus that isn't free
-abbrev pub barred : BusMachine → (core : ℕ) → Bool
-barred m c =
-    not (is_free (bus_of m.bus)) && goes_alone (core_exec (bus_settings_of m) (bus_program_of m) c (cores_of (bank_in m) c))
-
 -- an instruction of the machine
 abbrev pub instruction_of : BusMachine → (core : ℕ) → Option Out
 instruction_of m c = instruction (bus_settings_of m) (bus_program_of m) (word_in m.ram) c (cores_of (bank_in m) c)
 
-alone-so : (m : BusMachine) (c : ℕ) → IsBusWhole m → c < (bus_settings_of m).cores → executes (cores_of (bank_in m) c).phase ≡ true
-    → goes_alone (instruction_of m c) ≡ goes_alone (core_exec (bus_settings_of m) (bus_program_of m) c (cores_of (bank_in m) c))
-alone-so m c w l e =
-    instruction-alone (bus_settings_of m) (bus_program_of m) m.ram c (cores_of (bank_in m) c) e (core-bounded m w c l).awaited
-
--- where it isn't barred the bus is free for one that takes it
-pub free-where : (m : BusMachine) (c : ℕ) → IsBusWhole m → c < (bus_settings_of m).cores → executes (cores_of (bank_in m) c).phase ≡ true
-    → barred m c ≡ false → goes_alone (instruction_of m c) ≡ true → is_free (bus_of m.bus) ≡ true
-free-where m c w l e b q = barred-free (is_free (bus_of m.bus)) _ b (sym (alone-so m c w l e) ∙ q)
-
-pub barred-where : (m : BusMachine) (c : ℕ) → IsBusWhole m → c < (bus_settings_of m).cores → executes (cores_of (bank_in m) c).phase ≡ true
-    → barred m c ≡ true → goes_on (bus_world_of m) c (instruction_of m c) ≡ None
+-- where a core may take the bus it is free
+pub free-where : (m : BusMachine) (c : ℕ) (o : Option Out) → is_some (bus_step_of m (Exec c)) ≡ true
+    → bus_step_of m (Exec c) ≡ goes_on (bus_world_of m) c o → goes_alone o ≡ true → is_free (bus_of m.bus) ≡ true
 unfolding bus_world_of
-barred-where m c w l e b =
-    let q = barred-so (is_free (bus_of m.bus)) _ b in goes-barred (bus_world_of m) c _ (alone-so m c w l e ∙ q.1) q.0
+free-where m c o e g q = by (is_free (bus_of m.bus)) refl
+  where
+    by : (b : Bool) → is_free (bus_of m.bus) ≡ b → b ≡ true
+    by true r = refl
+    by false r = absurd (let bad : false ≡ true = sym (ap is_some (g ∙ goes-barred (bus_world_of m) c o q r)) ∙ e in cc)
 
 -- what is asked of a machine of which a core executes
 pub record Asked (m : BusMachine) (c : ℕ) : Type 0 where
   pub few : m.events < run_limit
   pub exists : c < (bus_settings_of m).cores
+  pub enabled : is_some (bus_step_of m (Exec c)) ≡ true
   pub runs : executes (cores_of (bank_in m) c).phase ≡ true
   pub goes_on : bus_step_of m (Exec c) ≡ goes_on (bus_world_of m) c (instruction_of m c)
 
 pub asked-of : (m : BusMachine) (c : ℕ) → m.events < run_limit → c < (bus_settings_of m).cores
-    → executes ((bus_world_of m).cores c).phase ≡ true
+    → is_some (bus_step_of m (Exec c)) ≡ true → executes ((bus_world_of m).cores c).phase ≡ true
     → bus_step_of m (Exec c)
     ≡ goes_on (bus_world_of m) c (instruction (bus_settings_of m) (bus_program_of m) (bus_world_of m).ram c ((bus_world_of m).cores c))
     → Asked m c
 unfolding bus_world_of
-asked-of m c f l e g = record { few = f; exists = l; runs = e; goes_on = g }
-
-pub barred-answers : (m : BusMachine) (c : ℕ) → IsBusWhole m → Asked m c → barred m c ≡ true
-    → Answers m m (Exec c) (Err Refused)
-barred-answers m c w a b = (record { history = refl; events = refl; code = refl }, a.goes_on ∙ barred-where m c w a.exists a.runs b)
-
-barred-is : (m : BusMachine) (c : ℕ) (b : Bool)
-    → b ≡ (not (is_free (bus_world_of m).bus) && goes_alone (core_exec (bus_settings_of m) (bus_program_of m) c ((bus_world_of m).cores c)))
-    → b ≡ barred m c
-unfolding bus_world_of
-barred-is m c b e = e
-
-pub barred-as : (m n : BusMachine) (c : ℕ) (b d : Bool) → m ≡ n
-    → b ≡ (not (is_free (bus_world_of n).bus) && goes_alone (core_exec (bus_settings_of n) (bus_program_of n) c ((bus_world_of n).cores c)))
-    → b ≡ d → barred m c ≡ d
-barred-as m n c b d same e q = ap (λ x. barred x c) same ∙ sym (barred-is n c b e) ∙ q
+asked-of m c f l a e g = record { few = f; exists = l; enabled = a; runs = e; goes_on = g }

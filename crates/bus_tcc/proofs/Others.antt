@@ -1,7 +1,9 @@
 -- An event changes no core but the one that it names.
-use Rattle.std.proofs.Common.{◌≡◌, ◌≢◌, ℕ, Bool, true, false, Option, Some, None, Result, Ok, Err, refl, ap, sym, ◌∙◌, subst}
-use Rattle.std.specs.Prelude.{IfSome, if◌then◌else◌}
+use Rattle.std.proofs.Common.{◌≡◌, ◌≢◌, ℕ, ◌<◌, Bool, true, false, not, Option, Some, None, Result, Ok, Err, refl, ap, sym, ◌∙◌, subst}
+use Rattle.std.proofs.Common.{arith}
+use Rattle.std.specs.Prelude.{IfSome, ◌==◌, ◌&&◌, ◌||◌, if◌then◌else◌, nat_lt}
 use Rattle.std.proofs.lemmas.Bool.{ne_eqb}
+use Rattle.std.proofs.lemmas.Bool.Decides.{nat_tests}
 use Rattle.image_load.specs.Contents.{started}
 use Rattle.rv_code.specs.Machine.{program}
 use Rattle.tcc_base.specs.Put.{put}
@@ -16,9 +18,9 @@ use Rattle.rules_bus.specs.State.{Bus, BusEvent, BusWorld, Exec, Evict, Take, Fr
 use Rattle.rules_bus.specs.Step.{BusHistory, bus_happens, bus_names, bus_next, bus_step, if_evicted, recorded}
 use Rattle.rules_bus.specs.Take.{bus_take, take_from}
 use Rattle.bus_tcc.specs.Answers.{Answers, Kept}
-use Rattle.bus_tcc.specs.Machine.{BusMachine, bus_history_of, bus_program_of, bus_settings_of, bus_world_of}
+use Rattle.bus_tcc.specs.Machine.{BusMachine, bus_history_of, bus_program_of, bus_settings_of, bus_world_of, is_free}
 use Rattle.bus_tcc.specs.Parts.{CountedBut, CountedIn, core_named}
-use Rattle.bus_tcc.specs.Uses.{AreCountedBut}
+use Rattle.bus_tcc.specs.Uses.{AreCountedBut, counts_taken}
 use Rattle.bus_tcc.specs.declared.counts.Counts.{Counts}
 use Rattle.bus_tcc.specs.declared.event.BusError.{BusError}
 use Rattle.bus_tcc.specs.declared.event.BusError.TheVariants.{Memory, Refused}
@@ -117,20 +119,57 @@ next-keeps sh p h k e q = by (bus_step sh p h.world e) (step-keeps sh p h.world 
         cores_in None j = k.world.cores j
         cores_in (Some x) j = x.world.cores j
 
--- the machine's code, and its other cores, are as before
+-- ---- an event that happens names a core of the machine
+
+names-core : (sh : Shape) (e : BusEvent) → bus_names sh e ≡ true → core_named e < sh.cores
+unfolding bus_names
+names-core sh (Exec c) q = grind (arith, nat_tests)
+names-core sh (Take c) q = grind (arith, nat_tests)
+names-core sh (Evict c x y) q = by (nat_lt c sh.cores) refl _ q
+  where
+    by : (b : Bool) → nat_lt c sh.cores ≡ b → (d : Bool) → (b && d) ≡ true → c < sh.cores
+    by true r d a = grind (arith, nat_tests)
+    by false r d a = cc
+
+next-names : (sh : Shape) (p : Program) (h k : BusHistory) (e : BusEvent) → bus_next sh p h e ≡ Some k → bus_names sh e ≡ true
+unfolding bus_next bus_step
+next-names sh p h k e q = by (bus_names sh e) q
+  where
+    by : (b : Bool) → recorded h (if b then bus_happens sh p h.world e else None) ≡ Some k → b ≡ true
+    by true r = refl
+    by false r = cc
+
+-- where there is another core, executions while the bus isn't free are counted
+two-cores : (sh : Shape) (f : Bool) (j c : ℕ) → j < sh.cores → c < sh.cores → j ≢ c → counts_taken sh f ≡ true
+two-cores sh f j c l i m = rw (ne_eqb sh.cores 1 (λ q. m (omega (arith, q, l, i)))) (by f)
+  where
+    by : (b : Bool) → (not b || true) ≡ true
+    by true = refl
+    by false = refl
+
+-- the machine's code, and its other cores, are as before, and of these no more is counted
 pub record Leaves (m n : BusMachine) (core : ℕ) : Type 0 where
   pub code : n.code ≡ m.code
   pub cores : (j : ℕ) → j ≢ core → (bus_world_of n).cores j ≡ (bus_world_of m).cores j
+  pub taken : (j : ℕ) → j < (bus_settings_of m).cores → j ≢ core → counts_taken (bus_settings_of m) (is_free (bus_world_of n).bus) ≡ true
+      → counts_taken (bus_settings_of m) (is_free (bus_world_of m).bus) ≡ true
 
 kept-leaves : (m n : BusMachine) (c : ℕ) → Kept m n → Leaves m n c
 unfolding bus_history_of
-kept-leaves m n c k = record { code = k.code; cores = λ j i. ap (λ h. h.world.cores j) k.history }
+kept-leaves m n c k = record {
+  code = k.code;
+  cores = λ j i. ap (λ h. h.world.cores j) k.history;
+  taken = λ j l i e. subst (λ h. counts_taken (bus_settings_of m) (is_free h.world.bus) ≡ true) k.history e;
+}
 
 leaves : (m n : BusMachine) (e : BusEvent) (r : Result BusStep BusError) → Answers m n e r → Leaves m n (core_named e)
 unfolding bus_history_of
 leaves m n e (Ok told) a = record {
   code = a.code;
   cores = next-keeps (bus_settings_of m) (bus_program_of m) (bus_history_of m) (bus_history_of n) e a.next;
+  taken = λ j l i q. two-cores (bus_settings_of m) (is_free (bus_world_of m).bus) j (core_named e) l
+      (names-core (bus_settings_of m) e
+      (next-names (bus_settings_of m) (bus_program_of m) (bus_history_of m) (bus_history_of n) e a.next)) i;
 }
 leaves m n e (Err Refused) a = kept-leaves m n (core_named e) a.0
 leaves m n e (Err Memory) a = kept-leaves m n (core_named e) a.0
@@ -140,5 +179,7 @@ pub still-counted : (m n : BusMachine) (e : BusEvent) (r : Result BusStep BusErr
     → CountedBut n (core_named e) k
 still-counted m n e r k a h =
     let l = leaves m n e r a in
-    subst (λ x. AreCountedBut x.settings (program (started x)) (core_named e) (bus_world_of n).cores k) (sym l.code)
-    (others-counted (bus_settings_of m) (bus_program_of m) (bus_world_of m).cores (bus_world_of n).cores (core_named e) k l.cores h)
+    subst (λ x. AreCountedBut x.settings (program (started x)) (is_free (bus_world_of n).bus) (core_named e) (bus_world_of n).cores k)
+    (sym l.code)
+    (others-counted (bus_settings_of m) (bus_program_of m) (is_free (bus_world_of m).bus) (is_free (bus_world_of n).bus)
+    (bus_world_of m).cores (bus_world_of n).cores (core_named e) k l.cores l.taken h)

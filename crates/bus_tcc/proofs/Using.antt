@@ -7,8 +7,8 @@ use Rattle.std.proofs.lemmas.Option.{slice_get-map}
 use Rattle.tcc_base.specs.declared.names.Tid.{Tid}
 use Rattle.rules_maps.specs.Shape.{Shape}
 use Rattle.rules_program.specs.Program.{Program}
-use Rattle.rules_tcc.specs.State.{CoreState, Phase}
-use Rattle.rules_tcc.specs.Useful.{room}
+use Rattle.rules_tcc.specs.State.{CoreState, Phase, AwaitTid}
+use Rattle.rules_tcc.specs.Useful.{room, room_in_phase}
 use Rattle.commit_engine.specs.Engine.{phase_of}
 use Rattle.commit_engine.specs.declared.phase.Phase.TheVariants as code
 use Rattle.theorem_bus.proofs.Lemmas.{room-below}
@@ -23,6 +23,11 @@ pub at-overflowing : (sh : Shape) (p : Program) (free : Bool) (c : ℕ) (s : Cor
     → phase_of (code.Overflowing o) ≡ s.phase → false ≡ may_exec sh p free c s
 at-overflowing sh p free c s None e = at-phase sh p free c s (phase_of (code.Overflowing None)) e
 at-overflowing sh p free c s (Some t) e = at-phase sh p free c s (phase_of (code.Overflowing (Some t))) e
+
+-- a core that waits for the bus waits for no room
+pub no-ways : (sh : Shape) (p : Program) (s : CoreState) → AwaitTid ≡ s.phase → 0 ≡ length (room_ways sh p s)
+unfolding room_ways room
+no-ways sh p s e = ap (λ q. length (ways_in sh s (room_in_phase sh p s q))) e
 
 -- the ways of the set in which a core waits for room
 pub ways-at : (sh : Shape) (p : Program) (s : CoreState) (o : Option ℕ) → o ≡ room sh p s → ways_in sh s o ≡ room_ways sh p s

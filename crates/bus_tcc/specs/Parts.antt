@@ -10,11 +10,11 @@ use Rattle.bus_tcc.specs.declared.counts.Counts.{Counts}
 
 -- these are the counts of the machine's cores
 abbrev pub CountedIn : BusMachine → Counts → Type 0
-CountedIn m n = AreCounted (bus_settings_of m) (bus_program_of m) (bus_world_of m).cores n
+CountedIn m n = AreCounted (bus_settings_of m) (bus_program_of m) (is_free (bus_world_of m).bus) (bus_world_of m).cores n
 
 -- these are the counts of all its cores but one
 abbrev pub CountedBut : BusMachine → (core : ℕ) → Counts → Type 0
-CountedBut m c n = AreCountedBut (bus_settings_of m) (bus_program_of m) c (bus_world_of m).cores n
+CountedBut m c n = AreCountedBut (bus_settings_of m) (bus_program_of m) (is_free (bus_world_of m).bus) c (bus_world_of m).cores n
 
 abbrev pub core_named : BusEvent → ℕ
 core_named (Exec c) = c

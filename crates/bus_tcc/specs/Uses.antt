@@ -1,6 +1,6 @@
 -- What each core may do next, by itself, and the counts of that by core.
 use Rattle.std.specs.Prelude.{ℕ, ◌≡◌, ◌≢◌, ◌<◌, Bool, true, false, not, ◌&&◌, ◌||◌, List, [], map, filter, length, get_or, Option, Some}
-use Rattle.std.specs.Prelude.{None, is_some, if◌then◌else◌}
+use Rattle.std.specs.Prelude.{None, is_some, ◌==◌, if◌then◌else◌}
 use Rattle.rules_maps.specs.Shape.{Shape}
 use Rattle.rules_program.specs.Program.{Program}
 use Rattle.rules_tcc.specs.CoreEvict.{core_evict}
@@ -46,18 +46,22 @@ pub record HavePlaces (sh : Shape) (n : Counts) : Type 0 where
   pub taken : length n.taken ≡ sh.cores
   pub ways : length n.ways ≡ sh.cores
 
+-- Executions while the bus isn't free are counted, but not for a single core while it is: no other core can take the bus.
+abbrev pub counts_taken : Shape → (bus_free : Bool) → Bool
+counts_taken sh f = not f || not (sh.cores == 1)
+
 -- the counts of one core
-pub record IsCounted (sh : Shape) (p : Program) (n : Counts) (core : ℕ) (s : CoreState) : Type 0 where
+pub record IsCounted (sh : Shape) (p : Program) (bus_free : Bool) (n : Counts) (core : ℕ) (s : CoreState) : Type 0 where
   pub free : get_or n.free core 0 ≡ exec_count sh p true core s
-  pub taken : get_or n.taken core 0 ≡ exec_count sh p false core s
+  pub taken : counts_taken sh bus_free ≡ true → get_or n.taken core 0 ≡ exec_count sh p false core s
   pub ways : get_or n.ways core 0 ≡ way_count sh p s
 
 -- the counts by core
-pub record AreCounted (sh : Shape) (p : Program) (cores : ℕ → CoreState) (n : Counts) : Type 0 where
+pub record AreCounted (sh : Shape) (p : Program) (bus_free : Bool) (cores : ℕ → CoreState) (n : Counts) : Type 0 where
   pub places : HavePlaces sh n
-  pub each : (c : ℕ) → c < sh.cores → IsCounted sh p n c (cores c)
+  pub each : (c : ℕ) → c < sh.cores → IsCounted sh p bus_free n c (cores c)
 
 -- the same of all cores but one
-pub record AreCountedBut (sh : Shape) (p : Program) (core : ℕ) (cores : ℕ → CoreState) (n : Counts) : Type 0 where
+pub record AreCountedBut (sh : Shape) (p : Program) (bus_free : Bool) (core : ℕ) (cores : ℕ → CoreState) (n : Counts) : Type 0 where
   pub places : HavePlaces sh n
-  pub each : (c : ℕ) → c < sh.cores → c ≢ core → IsCounted sh p n c (cores c)
+  pub each : (c : ℕ) → c < sh.cores → c ≢ core → IsCounted sh p bus_free n c (cores c)

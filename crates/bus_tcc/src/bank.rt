@@ -15,8 +15,7 @@ ghost use Rattle.bus_tcc.specs.Machine.{word_in};
 ghost use Rattle.bus_tcc.specs.Taking.{took};
 ghost use Rattle.tcc_base.specs.Limits.{run_limit};
 ghost use Rattle.tcc_base.specs.Put.{put};
-ghost use Rattle.core_node.specs.AtHand.{ends_by, executes, goes_alone};
-ghost use Rattle.rules_tcc.specs.CoreExec.{core_exec};
+ghost use Rattle.core_node.specs.AtHand.{ends_by, executes};
 ghost use Rattle.rv_code.specs.Machine.{program};
 
 use crate::commit::{Written, commit_one};
@@ -68,15 +67,6 @@ impl BusBank {
         ensures state { core_of result.now ≡ cores_of self.now core.0 }
     {
         &self.cores.items[core.0 as usize]
-    }
-
-    /// Whether an execution would make the core wait to go on alone.
-    pub fn overflows(&self, core: CoreId) -> bool
-        requires { core.0 < self.now.code.settings.cores }
-        ensures { result ≡ goes_alone
-            (core_exec self.now.code.settings (program (started self.now.code)) core.0 (cores_of self.now core.0)) }
-    {
-        self.core(core).overflows(&self.code)
     }
 
     /// A core empties a way: `CoreNode::evict` for the core of that number.

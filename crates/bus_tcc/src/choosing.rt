@@ -15,8 +15,8 @@ use crate::useful::way_at;
 use tcc_base::CoreId;
 
 impl Engine {
-    /// Whether a core executes or commits.
-    fn allows_exec(&self, counts: &Counts, core: CoreId) -> bool
+    /// Whether a core executes or commits. It takes constant time.
+    pub(crate) fn allows_exec(&self, counts: &Counts, core: CoreId) -> bool
         requires { CountedIn self.now counts.now }
         ensures { result ≡ is_some (bus_step_of self.now (Exec core.0)) }
     {
@@ -81,6 +81,7 @@ impl Engine {
         counts.ways.total()
     }
 
+    #[inline(never)]
     fn evict_at(&self, counts: &Counts, k: u64) -> Option<BusEvent>
         requires { CountedIn self.now counts.now }
         ensures { option_map bus_event_of result ≡ slice_get (evicts_of self.now) k }

@@ -1,11 +1,10 @@
 // A core executes one instruction, with its line from memory.
-ghost use Rattle.std.specs.Prelude.{◌≡◌, ◌<◌, ◌&&◌, [], not, true, if◌then◌else◌, None, IfOk, OnErr};
+ghost use Rattle.std.specs.Prelude.{◌≡◌, ◌<◌, [], true, if◌then◌else◌, is_some, None, IfOk, OnErr};
 ghost use Rattle.rules_bus.specs.Exec.{goes_on, instruction};
 ghost use Rattle.rules_bus.specs.State.{Alone, Exec};
-ghost use Rattle.core_node.specs.AtHand.{executes, goes_alone};
-ghost use Rattle.rules_tcc.specs.CoreExec.{core_exec};
+ghost use Rattle.core_node.specs.AtHand.{executes};
 ghost use Rattle.bus_tcc.specs.Answers.{Answers, bus_step_of};
-ghost use Rattle.bus_tcc.specs.Machine.{bus_of, bus_program_of, bus_settings_of, bus_world_of, is_free, word_in};
+ghost use Rattle.bus_tcc.specs.Machine.{bus_of, bus_program_of, bus_settings_of, bus_world_of, word_in};
 ghost use Rattle.bus_tcc.specs.Packets.{lines_on};
 ghost use Rattle.tcc_base.specs.Limits.{run_limit};
 ghost use Rattle.image_load.specs.Contents.{started};
@@ -79,32 +78,17 @@ fn take_if(bus: &mut Bus, alone: bool, core: CoreId)
 }
 
 impl Engine {
-    /// Whether a core would take the bus, and that isn't free.
-    fn is_barred(&self, core: CoreId) -> bool
-        requires { core.0 < (bus_settings_of self.now).cores }
-        ensures { result ≡ (not (is_free (bus_world_of self.now).bus)
-            && goes_alone (core_exec (bus_settings_of self.now) (bus_program_of self.now) core.0
-            ((bus_world_of self.now).cores core.0))) }
-    {
-        if self.bus.is_free() {
-            return false;
-        }
-        self.cores.overflows(core)
-    }
-
     /// An instruction of a core that runs or is alone, and doesn't end a transaction alone.
     pub(crate) fn execute(&mut self, core: CoreId) -> Result<BusStep, BusError>
         requires few { self.old.events < run_limit }
         requires exists { core.0 < (bus_settings_of self.old).cores }
+        requires enabled { is_some (bus_step_of self.old (Exec core.0)) ≡ true }
         requires executes { executes ((bus_world_of self.old).cores core.0).phase ≡ true }
         requires goes_on { bus_step_of self.old (Exec core.0) ≡ goes_on (bus_world_of self.old) core.0
             (instruction (bus_settings_of self.old) (bus_program_of self.old) (bus_world_of self.old).ram core.0
             ((bus_world_of self.old).cores core.0)) }
         ensures { Answers self.old self.new (Exec core.0) result }
     {
-        if self.is_barred(core) {
-            return Err(BusError::Refused);
-        }
         self.out.clear();
         match self
             .cores

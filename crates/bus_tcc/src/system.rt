@@ -60,12 +60,13 @@ fn core_of(event: BusEvent) -> CoreId
 }
 
 /// Counts a core of the machine anew, where there is such a core.
+#[inline(always)]
 fn renew(engine: &Engine, counts: &mut Counts, core: CoreId)
     requires { CountedBut engine.now core.0 counts.old }
     ensures { CountedIn engine.now counts.new }
 {
     if core.0 < engine.config().cores() {
-        counts.renew(core, engine.bank());
+        counts.renew(core, engine.bank(), engine.bus().is_free());
     }
 }
 
@@ -79,7 +80,7 @@ impl BusSystem {
         ensures events { IfOk result (λ m. m.events ≡ 0) }
     {
         let engine = Engine::start(alloc, loaded)?;
-        let counts = Counts::new(alloc, engine.bank())?;
+        let counts = Counts::new(alloc, engine.bank(), engine.bus().is_free())?;
         Ok(BusSystem { engine, counts })
     }
 
@@ -88,11 +89,12 @@ impl BusSystem {
     ///
     /// Takes constant time, but for a commit, which takes time in the lines that it writes and in the cache's frames, a core that goes
     /// alone or begins anew, which takes time in the cache's frames, and a Take, which takes time in the packet's lines.
+    #[inline(always)]
     pub fn step(&mut self, event: BusEvent) -> Result<BusStep, BusError>
         requires { self.old.events < run_limit }
         ensures { Answers self.old self.new (bus_event_of event) result }
     {
-        let done = self.engine.step(event);
+        let done = self.engine.step(&self.counts, event);
         renew(&self.engine, &mut self.counts, core_of(event));
         done
     }

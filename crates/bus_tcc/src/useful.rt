@@ -24,29 +24,32 @@ use tcc_base::{List, NoMemory};
 pub(crate) struct MayDo {
     /// It may execute while the bus is free.
     pub free: bool,
-    /// It may execute while it isn't.
+    /// It may execute while it isn't, where that is asked.
     pub taken: bool,
     /// How many ways can be emptied of the set in which it waits for room.
     pub ways: u32,
 }
 
-/// Whether a core that runs and can execute goes on without the bus.
-fn goes_on(core: &CoreNode, code: &Code, can: bool) -> bool
+/// Whether a core that runs and can execute goes on without the bus, where that is asked.
+fn goes_on(core: &CoreNode, code: &Code, can: bool, asked: bool) -> bool
     requires { code.now.settings ≡ core.now.config }
-    ensures { result ≡ (can && not (goes_alone (core_exec core.now.config (program (started code.now)) core.now.id.0 (core_of core.now)))) }
+    ensures { asked ≡ true
+        → result ≡ (can && not (goes_alone (core_exec core.now.config (program (started code.now)) core.now.id.0 (core_of core.now)))) }
 {
-    can && !core.overflows(code)
+    asked && can && !core.overflows(code)
 }
 
-/// Whether a core may execute where the bus is free, and where it isn't, if it can at all. It takes the bus only where that is free.
-fn may_exec(core: &CoreNode, code: &Code, can: bool) -> (bool, bool)
+/// Whether a core may execute where the bus is free, and where that is asked where it isn't, if it can at all. It takes the bus only
+/// where that is free.
+fn may_exec(core: &CoreNode, code: &Code, can: bool, asked: bool) -> (bool, bool)
     requires same { code.now.settings ≡ core.now.config }
     requires can { can ≡ is_some (core_exec core.now.config (program (started code.now)) core.now.id.0 (core_of core.now)) }
     ensures free { result.0 ≡ may core.now.config (program (started code.now)) true core.now.id.0 (core_of core.now) }
-    ensures taken { result.1 ≡ may core.now.config (program (started code.now)) false core.now.id.0 (core_of core.now) }
+    ensures taken { asked ≡ true
+        → result.1 ≡ may core.now.config (program (started code.now)) false core.now.id.0 (core_of core.now) }
 {
     match core.phase() {
-        Phase::Running => (can, goes_on(core, code, can)),
+        Phase::Running => (can, goes_on(core, code, can, asked)),
         Phase::Solo(_) => (can, can),
         Phase::AwaitTid => (true, false),
         Phase::DoomedTid => (false, false),
@@ -104,19 +107,41 @@ fn way_count(core: &CoreNode, code: &Code, waits: Option<u16>) -> u32
 }
 
 /// What the core may do next: its next instruction is looked up once, and once more where it runs and can execute.
-pub(crate) fn uses(core: &CoreNode, code: &Code) -> MayDo
+#[inline(never)]
+fn uses_of_next(core: &CoreNode, code: &Code, asked: bool) -> MayDo
     requires sets { 0 < core.now.config.sets }
     requires same { code.now.settings ≡ core.now.config }
     ensures free { result.free ≡ may core.now.config (program (started code.now)) true core.now.id.0 (core_of core.now) }
-    ensures taken { result.taken ≡ may core.now.config (program (started code.now)) false core.now.id.0 (core_of core.now) }
+    ensures taken { asked ≡ true
+        → result.taken ≡ may core.now.config (program (started code.now)) false core.now.id.0 (core_of core.now) }
     ensures ways { result.ways ≡ ways_of core.now.config (program (started code.now)) (core_of core.now) }
 {
     let (can, waits) = core.outlook(code);
-    let (free, taken) = may_exec(core, code, can);
+    let (free, taken) = may_exec(core, code, can, asked);
     MayDo {
         free,
         taken,
         ways: way_count(core, code, waits),
+    }
+}
+
+/// What the core may do next, where the bus isn't free only if that is asked. One that waits for the bus looks at no instruction.
+#[inline(always)]
+pub(crate) fn uses(core: &CoreNode, code: &Code, asked: bool) -> MayDo
+    requires sets { 0 < core.now.config.sets }
+    requires same { code.now.settings ≡ core.now.config }
+    ensures free { result.free ≡ may core.now.config (program (started code.now)) true core.now.id.0 (core_of core.now) }
+    ensures taken { asked ≡ true
+        → result.taken ≡ may core.now.config (program (started code.now)) false core.now.id.0 (core_of core.now) }
+    ensures ways { result.ways ≡ ways_of core.now.config (program (started code.now)) (core_of core.now) }
+{
+    match core.phase() {
+        Phase::AwaitTid => MayDo {
+            free: true,
+            taken: false,
+            ways: 0,
+        },
+        _ => uses_of_next(core, code, asked),
     }
 }
 
@@ -147,8 +172,7 @@ impl BusSystem {
     }
 
     /// The k-th useful event, from 0: `Exec` by core, `Evict` by core, set and way, `Take` by core. `None` exactly where there are no
-    /// more than k. The time goes with the logarithm of the number of cores, for an `Evict` also with the ways of a set, and for a
-    /// `Take` with the number of cores.
+    /// more than k. The time goes with the logarithm of the number of cores, and for an `Evict` also with the ways of a set.
     pub fn useful_at(&self, k: u64) -> Option<BusEvent>
         ensures { option_map bus_event_of result ≡ slice_get (bus_useful_of self.now) k }
     {

@@ -6,4 +6,4 @@ use Rattle.bus_tcc.proofs.Counting.{AreCountedTo}
 use Rattle.bus_tcc.proofs.counts.Counts.renew_all.Given as goal
 
 abbrev pub invariant-loop-c : goal.invariant-loop-c
-invariant-loop-c l = AreCountedTo l.fn.bank.code.settings (program (started l.fn.bank.code)) (cores_of l.fn.bank) l.c l.self
+invariant-loop-c l = AreCountedTo l.fn.bank.code.settings (program (started l.fn.bank.code)) l.fn.bus_free (cores_of l.fn.bank) l.c l.self

@@ -1,26 +1,26 @@
 -- A core executes.
-use Rattle.std.proofs.Common.{◌<◌, true, false, ap, sym, ◌∙◌, subst}
+use Rattle.std.proofs.Common.{◌<◌, true, false, sym, ◌∙◌, subst}
 use Rattle.commit_engine.specs.Engine.{phase_of}
 use Rattle.core_node.specs.View.{core_of}
 use Rattle.bus_tcc.specs.Inside.{machine_of}
 use Rattle.bus_tcc.specs.Machine.{bus_settings_of}
-use Rattle.bus_tcc.proofs.ByPhase.{no-exec, solo-so}
+use Rattle.bus_tcc.proofs.ByPhase.{exists-so, refused-so, solo-so}
 use Rattle.bus_tcc.proofs.engine.Engine.exec.Goals as goal
 
-pub returns-then-core-cores : goal.returns-then-core-cores
-returns-then-core-cores c =
-    no-exec c.args.self.now c.cores.result c.args.core.0 (c.cores.ensures.value ∙ ap (λ s. s.cores) c.config.ensures)
-    c.if-core-cores.true
+pub returns-then-not-allows_exec : goal.returns-then-not-allows_exec
+returns-then-not-allows_exec c = refused-so c.args.self.now c.args.core.0 (sym c.allows_exec.ensures ∙ c.if-not-allows_exec.true)
 
 pub core-requires : goal.core-requires
 core-requires c =
-    subst (λ k. c.args.core.0 < k)
-    (c.cores.ensures.value ∙ ap (λ s. s.cores) c.config.ensures ∙ ap (λ x. (bus_settings_of x).cores) (sym c.self.view_is))
-    c.if-core-cores.false
+    subst (λ m. c.args.core.0 < (bus_settings_of m).cores) (sym c.self.view_is)
+    (exists-so c.args.self.now c.args.core.0 (sym c.allows_exec.ensures ∙ c.if-not-allows_exec.false))
 
 pub exec_alone-requires-clause-exists : goal.exec_alone-requires-clause-exists
 exec_alone-requires-clause-exists c =
-    subst (λ k. c.args.core.0 < k) (c.cores.ensures.value ∙ ap (λ s. s.cores) c.config.ensures) c.if-core-cores.false
+    exists-so c.args.self.now c.args.core.0 (sym c.allows_exec.ensures ∙ c.if-not-allows_exec.false)
+
+pub exec_alone-requires-clause-enabled : goal.exec_alone-requires-clause-enabled
+exec_alone-requires-clause-enabled c = sym c.allows_exec.ensures ∙ c.if-not-allows_exec.false
 
 pub exec_alone-requires-clause-alone : goal.exec_alone-requires-clause-alone
 exec_alone-requires-clause-alone c =
@@ -29,7 +29,10 @@ exec_alone-requires-clause-alone c =
 
 pub exec_together-requires-clause-exists : goal.exec_together-requires-clause-exists
 exec_together-requires-clause-exists c =
-    subst (λ k. c.args.core.0 < k) (c.cores.ensures.value ∙ ap (λ s. s.cores) c.config.ensures) c.if-core-cores.false
+    exists-so c.args.self.now c.args.core.0 (sym c.allows_exec.ensures ∙ c.if-not-allows_exec.false)
+
+pub exec_together-requires-clause-enabled : goal.exec_together-requires-clause-enabled
+exec_together-requires-clause-enabled c = sym c.allows_exec.ensures ∙ c.if-not-allows_exec.false
 
 pub exec_together-requires-clause-together : goal.exec_together-requires-clause-together
 exec_together-requires-clause-together c =

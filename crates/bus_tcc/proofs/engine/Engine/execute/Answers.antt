@@ -1,5 +1,5 @@
 -- A core executes.
-use Rattle.std.proofs.Common.{Bool, true, false, refl, sym, subst, Err}
+use Rattle.std.proofs.Common.{Bool, refl, sym, subst, Err}
 use Rattle.rules_bus.specs.Exec.{instruction}
 use Rattle.rules_bus.specs.State.{Exec}
 use Rattle.machine_cores.specs.Bank.{cores_of}
@@ -8,31 +8,20 @@ use Rattle.bus_tcc.specs.Answers.{Answers, Took}
 use Rattle.bus_tcc.specs.Bank.{ExecutedAt}
 use Rattle.bus_tcc.specs.Inside.{machine_of}
 use Rattle.bus_tcc.specs.Machine.{BusMachine, bus_program_of, bus_settings_of, word_in}
-use Rattle.bus_tcc.specs.declared.event.BusError.TheVariants.{Refused}
 use Rattle.bus_tcc.specs.declared.event.BusStep.TheVariants.{Moved}
 use Rattle.bus_tcc.proofs.Bounds.{core-bounded, short-attempt}
 use Rattle.bus_tcc.proofs.Events.{StaysBut, after_none, bank_in, stays-whole}
-use Rattle.bus_tcc.proofs.Instructions.{Asked, HasExecuted, after_execution, asked-of, barred-answers, barred-as, executed-took}
+use Rattle.bus_tcc.proofs.Instructions.{Asked, HasExecuted, after_execution, asked-of, executed-took}
 use Rattle.bus_tcc.proofs.Instructions.{executed-whole}
 use Rattle.bus_tcc.proofs.Instructions.{free-where, instruction_of, refused-execution}
 use Rattle.bus_tcc.proofs.engine.Engine.execute.Goals as goal
-
-pub returns-then-is_barred : goal.returns-then-is_barred
-returns-then-is_barred c =
-    let m = machine_of c.self.inside in
-    let n = c.args.core.0 in
-    let a = subst (λ x. Asked x n) (sym c.self.view_is)
-    (asked-of c.args.self.now n c.requires.few c.requires.exists c.requires.executes c.requires.goes_on) in
-    subst (λ x. Answers x x (Exec n) (Err Refused)) c.self.view_is
-    (barred-answers m n c.self.invariant a
-    (barred-as m c.args.self.now n c.is_barred.result true c.self.view_is c.is_barred.ensures c.if-is_barred.true))
 
 pub execute-requires : goal.execute-requires
 execute-requires c =
     let m = machine_of c.self.inside in
     let n = c.args.core.0 in
     let a = subst (λ x. Asked x n) (sym c.self.view_is)
-    (asked-of c.args.self.now n c.requires.few c.requires.exists c.requires.executes c.requires.goes_on) in
+    (asked-of c.args.self.now n c.requires.few c.requires.exists c.requires.enabled c.requires.executes c.requires.goes_on) in
     record {
       exists = a.exists;
       short = short-attempt m c.self.invariant a.few n a.exists;
@@ -62,15 +51,14 @@ returns-in-Err c =
     let n = c.args.core.0 in
     let k = after_none c.self.inside c.execute.new.self in
     let a = subst (λ x. Asked x n) (sym c.self.view_is)
-    (asked-of c.args.self.now n c.requires.few c.requires.exists c.requires.executes c.requires.goes_on) in
-    let b = barred-as m c.args.self.now n c.is_barred.result false c.self.view_is c.is_barred.ensures c.if-is_barred.false in
+    (asked-of c.args.self.now n c.requires.few c.requires.exists c.requires.enabled c.requires.executes c.requires.goes_on) in
     subst (λ x. Answers x k (Exec n) (Err c.refusal.result)) c.self.view_is
     (subst (λ r. Answers m k (Exec n) (Err r)) (sym c.refusal.ensures)
     (refused-execution Bool m k n c.in-Err.error (instruction_of m n) (stays c)
     (subst (λ ws. IsBlocked {A = Bool} (Err c.in-Err.error)
     (instruction (bus_settings_of m) (bus_program_of m) (word_in ws) n (cores_of (bank_in m) n))) c.words_of.ensures
     c.in-Err.ensures.blocked)
-    a.goes_on (free-where m n c.self.invariant a.exists a.runs b)))
+    a.goes_on (free-where m n (instruction_of m n) a.enabled a.goes_on)))
 
 -- ---- an execution
 
@@ -93,13 +81,12 @@ took c =
     let m = machine_of c.self.inside in
     let n = c.args.core.0 in
     let a = subst (λ x. Asked x n) (sym c.self.view_is)
-    (asked-of c.args.self.now n c.requires.few c.requires.exists c.requires.executes c.requires.goes_on) in
-    let b = barred-as m c.args.self.now n c.is_barred.result false c.self.view_is c.is_barred.ensures c.if-is_barred.false in
+    (asked-of c.args.self.now n c.requires.few c.requires.exists c.requires.enabled c.requires.executes c.requires.goes_on) in
     executed-took m (after c) n c.in-Ok.alone (instruction_of m n) (executed c) a.goes_on
     (subst (λ ws. ExecutedAt c.in-Ok.alone m.next
     (instruction (bus_settings_of m) (bus_program_of m) (word_in ws) n (cores_of (bank_in m) n)) n (bank_in m) (bank_in (after c)))
     c.words_of.ensures c.in-Ok.ensures.does)
-    (free-where m n c.self.invariant a.exists a.runs b)
+    (free-where m n (instruction_of m n) a.enabled a.goes_on)
 
 pub invariant_of-self-in-Ok : goal.invariant_of-self-in-Ok
 invariant_of-self-in-Ok c =
