@@ -1,9 +1,10 @@
 // What a node answers to a step, and how it is printed.
+use crate::text::{push_address, push_byte, push_hex, push_number};
 use directory::Cause;
 use std::alloc::AllocError;
 use tcc_base::{Commit, Load, Stored};
 
-#[derive(Debug, Drop)]
+#[derive(Drop)]
 pub enum Answer {
     /// A core: an instruction is done.
     Stepped,
@@ -45,20 +46,67 @@ impl Answer {
             _ => true,
         }
     }
+
+    /// How it is printed; a commit and what is waited for stand behind it.
+    fn word(&self) -> &'static str {
+        match self {
+            Answer::Stepped => "stepped",
+            Answer::Asked => "asked",
+            Answer::Committed(_) => "committed",
+            Answer::Blocked => "blocked",
+            Answer::Emptied => "emptied",
+            Answer::Taken => "taken",
+            Answer::Handled => "handled",
+            Answer::Waits(_) => "waits",
+            Answer::AsksOwner => "asks the owner",
+            Answer::Dropped => "dropped",
+            Answer::Foreign => "foreign",
+            Answer::Granted => "granted",
+            Answer::Nothing => "no such node, way or message",
+            Answer::Contradicts => "two calls contradict each other",
+            Answer::Memory => "no memory",
+        }
+    }
+
+    /// Whether it agrees with what was said before: that the event is allowed, or that it isn't.
+    pub fn agrees(&self, allowed: bool) -> bool {
+        match self {
+            Answer::Memory => true,
+            Answer::Blocked => !allowed,
+            _ => allowed,
+        }
+    }
+}
+
+/// A load or a store: its kind, address, number of bytes and value.
+fn push_access(
+    text: &mut String,
+    kind: &str,
+    addr: u32,
+    bytes: u32,
+    value: u32,
+) -> Result<(), AllocError> {
+    push_address(text, kind, addr)?;
+    push_number(text, " ", u64::from(bytes))?;
+    push_hex(text, " ", value)
 }
 
 fn push_loads(text: &mut String, loads: &[Load]) -> Result<(), AllocError> {
     for load in loads {
-        let bytes = load.size.bytes();
-        write!(text, ", load {:08x} {bytes} {:x}", load.addr, load.value)?;
+        push_access(text, ", load ", load.addr, load.size.bytes(), load.value)?;
     }
     Ok(())
 }
 
 fn push_stores(text: &mut String, stores: &[Stored]) -> Result<(), AllocError> {
     for store in stores {
-        let bytes = store.size.bytes();
-        write!(text, ", store {:08x} {bytes} {:x}", store.addr, store.value)?;
+        push_access(
+            text,
+            ", store ",
+            store.addr,
+            store.size.bytes(),
+            store.value,
+        )?;
     }
     Ok(())
 }
@@ -69,56 +117,52 @@ fn push_console(text: &mut String, console: &[u8]) -> Result<(), AllocError> {
     }
     text.push_str(", console ")?;
     for byte in console {
-        write!(text, "{byte:02x}")?;
+        push_byte(text, "", *byte)?;
     }
     Ok(())
 }
 
 fn push_commit(text: &mut String, commit: &Commit) -> Result<(), AllocError> {
-    let (tid, core) = (commit.tid.0, commit.core.0);
-    write!(
-        text,
-        "committed tid {tid} of core {core}, done {}",
-        commit.n
-    )?;
+    push_number(text, " tid ", commit.tid.0)?;
+    push_number(text, " of core ", u64::from(commit.core.0))?;
+    push_number(text, ", done ", u64::from(commit.n))?;
     push_loads(text, commit.loads.items.as_slice())?;
     push_stores(text, commit.stores.items.as_slice())?;
     push_console(text, commit.console.items.as_slice())
 }
 
+/// What a message waits for: a TID or a line, with the text before it and behind it.
+fn push_between(
+    text: &mut String,
+    before: &str,
+    number: u64,
+    after: &str,
+) -> Result<(), AllocError> {
+    push_number(text, before, number)?;
+    text.push_str(after)
+}
+
 fn push_cause(text: &mut String, cause: Cause) -> Result<(), AllocError> {
     match cause {
-        Cause::Turn(tid) => write!(text, "waits until tid {} is served", tid.0),
-        Cause::Done(tid) => write!(text, "waits until tid {} is passed", tid.0),
-        Cause::Line(line) => write!(text, "waits for a change of line {}", line.0),
-        Cause::Served(line) => {
-            write!(
-                text,
-                "waits for a change of line {} or of the tid that is served",
-                line.0
-            )
-        }
-        Cause::Marks => write!(text, "waits for a change of the marked lines"),
+        Cause::Turn(tid) => push_between(text, " until tid ", tid.0, " is served"),
+        Cause::Done(tid) => push_between(text, " until tid ", tid.0, " is passed"),
+        Cause::Line(line) => push_number(text, " for a change of line ", u64::from(line.0)),
+        Cause::Served(line) => push_between(
+            text,
+            " for a change of line ",
+            u64::from(line.0),
+            " or of the tid that is served",
+        ),
+        Cause::Marks => text.push_str(" for a change of the marked lines"),
     }
 }
 
 /// Appends the answer.
 pub fn push_answer(text: &mut String, answer: &Answer) -> Result<(), AllocError> {
+    text.push_str(answer.word())?;
     match answer {
-        Answer::Stepped => text.push_str("stepped"),
-        Answer::Asked => text.push_str("asked"),
         Answer::Committed(commit) => push_commit(text, commit),
-        Answer::Blocked => text.push_str("blocked"),
-        Answer::Emptied => text.push_str("emptied"),
-        Answer::Taken => text.push_str("taken"),
-        Answer::Handled => text.push_str("handled"),
         Answer::Waits(cause) => push_cause(text, *cause),
-        Answer::AsksOwner => text.push_str("asks the owner"),
-        Answer::Dropped => text.push_str("dropped"),
-        Answer::Foreign => text.push_str("foreign"),
-        Answer::Granted => text.push_str("granted"),
-        Answer::Nothing => text.push_str("no such node, way or message"),
-        Answer::Contradicts => text.push_str("two calls contradict each other"),
-        Answer::Memory => text.push_str("no memory"),
+        _ => Ok(()),
     }
 }

@@ -12,7 +12,7 @@ use crate::steps::{Step, read_step};
 use crate::words::Words;
 use tcc_base::Config;
 
-#[derive(Clone, Copy, Debug, PartialEq, Eq)]
+#[derive(Clone, Copy)]
 pub enum Line {
     Text,
     Machine(Config),
@@ -39,22 +39,32 @@ fn machine_line(from: &mut Words<'_>) -> Line {
     }
 }
 
-fn step_line(from: &mut Words<'_>, shown: bool) -> Line {
-    match read_step(from) {
+fn step_line(word: &str, from: &mut Words<'_>, shown: bool) -> Line {
+    match read_step(word, from) {
         Some(step) if from.is_at_end() => Line::Step { step, shown },
         _ => Line::Unknown,
     }
 }
 
-/// What a line says.
-pub fn read_line(line: &str) -> Line {
-    let mut words = Words::of(line);
+fn short_line(from: &mut Words<'_>) -> Line {
+    match from.word() {
+        Some(word) => step_line(word, from, false),
+        None => Line::Unknown,
+    }
+}
+
+fn line_of(words: &mut Words<'_>) -> Line {
     match words.word() {
         None | Some("#") => Line::Text,
-        Some("machine") => machine_line(&mut words),
+        Some("machine") => machine_line(words),
         Some("image") => Line::Image,
         Some("row") => Line::Row,
-        Some("+") => step_line(&mut words, false),
-        _ => step_line(&mut Words::of(line), true),
+        Some("+") => short_line(words),
+        Some(word) => step_line(word, words, true),
     }
+}
+
+/// What a line says.
+pub fn read_line(line: &str) -> Line {
+    line_of(&mut Words::of(line))
 }

@@ -13,14 +13,15 @@ mod steps;
 mod tested_core;
 mod tested_dir;
 mod tested_vendor;
+mod text;
 mod words;
 
 use running::{OutOfMemory, Table};
 use std::io::{self, BufRead, BufReader};
 
-fn main(rt: HostRuntime) -> io::Result<()> {
+/// Runs the lines of standard input, up to the first for which there is no memory.
+fn run(rt: &HostRuntime, table: &mut Table) -> io::Result<()> {
     let alloc = rt.alloc();
-    let mut table = Table::new(alloc);
     for line in BufReader::new(alloc, rt.reader())?.lines(alloc) {
         let line = line?;
         match table.run(line.as_str()) {
@@ -29,4 +30,9 @@ fn main(rt: HostRuntime) -> io::Result<()> {
         }
     }
     Ok(())
+}
+
+fn main(rt: HostRuntime) -> io::Result<()> {
+    let mut table = Table::new(rt.alloc());
+    run(&rt, &mut table)
 }

@@ -1,4 +1,5 @@
 // Messages as words, both ways: a kind and its fields, in the order of `Msg`'s documentation.
+use crate::text::{push_byte, push_hex, push_number};
 use crate::words::Words;
 use std::alloc::AllocError;
 use tcc_base::{LineAddr, Mask, NodeId, Tid};
@@ -106,18 +107,18 @@ fn read_inv_ack(from: &mut Words<'_>) -> Option<Msg> {
 pub fn read_msg(from: &mut Words<'_>) -> Option<Msg> {
     match from.word()? {
         "tid-req" => Some(Msg::TidReq),
-        "tid-grant" => from.tid().map(|tid| Msg::TidGrant { tid }),
+        "tid-grant" => Some(Msg::TidGrant { tid: from.tid()? }),
         "load-req" => read_load_req(from),
         "fill" => read_fill(from),
-        "skip" => from.tid().map(|tid| Msg::Skip { tid }),
-        "probe" => from.tid().map(|tid| Msg::Probe { tid }),
+        "skip" => Some(Msg::Skip { tid: from.tid()? }),
+        "probe" => Some(Msg::Probe { tid: from.tid()? }),
         "probe-reply" => read_reply(from),
         "mark" => read_mark(from),
         "commit" => read_commit(from),
-        "abort" => from.tid().map(|tid| Msg::Abort { tid }),
+        "abort" => Some(Msg::Abort { tid: from.tid()? }),
         "write-back" => read_write_back(from),
         "flush" => read_flush(from),
-        "data-req" => from.line().map(|line| Msg::DataReq { line }),
+        "data-req" => Some(Msg::DataReq { line: from.line()? }),
         "inv" => read_inv(from),
         "inv-ack" => read_inv_ack(from),
         _ => None,
@@ -126,17 +127,36 @@ pub fn read_msg(from: &mut Words<'_>) -> Option<Msg> {
 
 pub fn push_node(text: &mut String, node: NodeId) -> Result<(), AllocError> {
     match node {
-        NodeId::Core(core) => write!(text, "c{}", core.0),
-        NodeId::Dir(dir) => write!(text, "d{}", dir.0),
-        NodeId::Vendor => write!(text, "v"),
+        NodeId::Core(core) => push_number(text, "c", u64::from(core.0)),
+        NodeId::Dir(dir) => push_number(text, "d", u64::from(dir.0)),
+        NodeId::Vendor => text.push_str("v"),
     }
 }
 
 fn push_words(text: &mut String, words: &[u32; 8]) -> Result<(), AllocError> {
     for word in words {
-        write!(text, " {word:x}")?;
+        push_hex(text, " ", *word)?;
     }
     Ok(())
+}
+
+/// A kind with two numbers.
+fn push_two(text: &mut String, kind: &str, first: u64, second: u64) -> Result<(), AllocError> {
+    push_number(text, kind, first)?;
+    push_number(text, " ", second)
+}
+
+/// A kind with words of a line, and the TID of their commit.
+fn push_some(
+    text: &mut String,
+    kind: &str,
+    line: LineAddr,
+    mask: Mask,
+    tid: Tid,
+) -> Result<(), AllocError> {
+    push_number(text, kind, u64::from(line.0))?;
+    push_byte(text, " ", mask.0)?;
+    push_number(text, " ", tid.0)
 }
 
 fn push_home(
@@ -147,46 +167,49 @@ fn push_home(
     words: &[u32; 8],
     tag: Tid,
 ) -> Result<(), AllocError> {
-    write!(text, "{kind} {} {:02x}", line.0, mask.0)?;
+    push_number(text, kind, u64::from(line.0))?;
+    push_byte(text, " ", mask.0)?;
     push_words(text, words)?;
-    write!(text, " {}", tag.0)
+    push_number(text, " ", tag.0)
+}
+
+fn push_fill(text: &mut String, line: LineAddr, words: &[u32; 8]) -> Result<(), AllocError> {
+    push_number(text, "fill ", u64::from(line.0))?;
+    push_words(text, words)
+}
+
+fn push_ack(text: &mut String, line: LineAddr, keeps: bool) -> Result<(), AllocError> {
+    push_number(text, "inv-ack ", u64::from(line.0))?;
+    text.push_str(if keeps { " keeps" } else { " drops" })
 }
 
 /// Appends the words of a message.
 pub fn push_msg(text: &mut String, msg: &Msg) -> Result<(), AllocError> {
     match msg {
-        Msg::TidReq => write!(text, "tid-req"),
-        Msg::TidGrant { tid } => write!(text, "tid-grant {}", tid.0),
-        Msg::LoadReq { line, after } => write!(text, "load-req {} {}", line.0, after.0),
-        Msg::Fill { line, words } => {
-            write!(text, "fill {}", line.0)?;
-            push_words(text, words)
-        }
-        Msg::Skip { tid } => write!(text, "skip {}", tid.0),
-        Msg::Probe { tid } => write!(text, "probe {}", tid.0),
-        Msg::ProbeReply { tid, serving } => write!(text, "probe-reply {} {}", tid.0, serving.0),
-        Msg::Mark { line, mask, tid } => {
-            write!(text, "mark {} {:02x} {}", line.0, mask.0, tid.0)
-        }
-        Msg::Commit { tid, count } => write!(text, "commit {} {count}", tid.0),
-        Msg::Abort { tid } => write!(text, "abort {}", tid.0),
+        Msg::TidReq => text.push_str("tid-req"),
+        Msg::TidGrant { tid } => push_number(text, "tid-grant ", tid.0),
+        Msg::LoadReq { line, after } => { push_two(text, "load-req ", u64::from(line.0), after.0) }
+        Msg::Fill { line, words } => push_fill(text, *line, words),
+        Msg::Skip { tid } => push_number(text, "skip ", tid.0),
+        Msg::Probe { tid } => push_number(text, "probe ", tid.0),
+        Msg::ProbeReply { tid, serving } => push_two(text, "probe-reply ", tid.0, serving.0),
+        Msg::Mark { line, mask, tid } => push_some(text, "mark ", *line, *mask, *tid),
+        Msg::Commit { tid, count } => push_two(text, "commit ", tid.0, u64::from(*count)),
+        Msg::Abort { tid } => push_number(text, "abort ", tid.0),
         Msg::WriteBack {
             mask,
             line,
             words,
             tag,
-        } => push_home(text, "write-back", *line, *mask, words, *tag),
+        } => push_home(text, "write-back ", *line, *mask, words, *tag),
         Msg::Flush {
             mask,
             line,
             words,
             tag,
-        } => push_home(text, "flush", *line, *mask, words, *tag),
-        Msg::DataReq { line } => write!(text, "data-req {}", line.0),
-        Msg::Inv { line, mask, tid } => write!(text, "inv {} {:02x} {}", line.0, mask.0, tid.0),
-        Msg::InvAck { line, keeps } => {
-            let word = if *keeps { "keeps" } else { "drops" };
-            write!(text, "inv-ack {} {word}", line.0)
-        }
+        } => push_home(text, "flush ", *line, *mask, words, *tag),
+        Msg::DataReq { line } => push_number(text, "data-req ", u64::from(line.0)),
+        Msg::Inv { line, mask, tid } => push_some(text, "inv ", *line, *mask, *tid),
+        Msg::InvAck { line, keeps } => push_ack(text, *line, *keeps),
     }
 }

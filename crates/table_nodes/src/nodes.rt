@@ -13,14 +13,14 @@ use tcc_base::{CoreId, DirId, NoMemory, NodeId};
 use tcc_msg::{Msg, Name, Outgoing};
 
 /// A message that was sent; once it is consumed, it is gone.
-#[derive(Clone, Copy, Debug, PartialEq, Eq)]
+#[derive(Clone, Copy)]
 pub struct Posted {
     pub name: Name,
     pub msg: Msg,
     pub gone: bool,
 }
 
-#[derive(Debug, Drop)]
+#[derive(Drop)]
 pub struct Nodes {
     cores: Vec<TestedCore>,
     dirs: Vec<TestedDir>,
@@ -29,27 +29,38 @@ pub struct Nodes {
 }
 
 impl Nodes {
-    /// All nodes as they start, and no message.
-    pub fn start(alloc: Global, loaded: Loaded) -> Result<Nodes, NoMemory> {
-        let config = *loaded.config();
-        let mut dirs = Vec::new(alloc);
-        for number in 0..config.dirs() {
-            if let Some(dir) = TestedDir::start(alloc, &loaded, DirId(number))? {
-                dirs.push(dir).map_err(|_| NoMemory)?;
-            }
-        }
-        let code = Code::new(alloc, loaded)?;
-        let mut cores = Vec::new(alloc);
-        for number in 0..config.cores() {
-            let core = TestedCore::start(alloc, &code, CoreId(number))?;
-            cores.push(core).map_err(|_| NoMemory)?;
-        }
-        Ok(Nodes {
-            cores,
-            dirs,
+    /// No cores and no directories.
+    pub fn new(alloc: Global) -> Nodes {
+        Nodes {
+            cores: Vec::new(alloc),
+            dirs: Vec::new(alloc),
             vendor: TestedVendor::start(),
             posted: Vec::new(alloc),
-        })
+        }
+    }
+
+    /// All nodes as they start, and no message, in place of those that are there.
+    pub fn start(&mut self, alloc: Global, loaded: Loaded) -> Result<(), NoMemory> {
+        self.dirs.clear();
+        self.cores.clear();
+        self.vendor = TestedVendor::start();
+        self.posted.clear();
+        self.start_dirs(alloc, &loaded)?;
+        self.start_cores(alloc, &Code::new(alloc, loaded)?)
+    }
+
+    fn start_dirs(&mut self, alloc: Global, loaded: &Loaded) -> Result<(), NoMemory> {
+        for number in 0..loaded.config().dirs() {
+            TestedDir::start(&mut self.dirs, alloc, loaded, DirId(number))?;
+        }
+        Ok(())
+    }
+
+    fn start_cores(&mut self, alloc: Global, code: &Code) -> Result<(), NoMemory> {
+        for number in 0..code.config().cores() {
+            TestedCore::start(&mut self.cores, alloc, code.copy(alloc)?, CoreId(number))?;
+        }
+        Ok(())
     }
 
     /// Appends a node with its state.
@@ -110,10 +121,12 @@ impl Nodes {
 
     /// The message of this name that isn't gone.
     fn find(&self, name: Name) -> Option<Msg> {
-        self.posted
-            .iter()
-            .find(|posted| posted.name == name && !posted.gone)
-            .map(|posted| posted.msg)
+        for posted in self.posted.iter() {
+            if posted.name == name && !posted.gone {
+                return Some(posted.msg);
+            }
+        }
+        None
     }
 
     fn remove(&mut self, name: Name) {

@@ -1,19 +1,20 @@
 // A table that is run line by line.
 ghost use Rattle.std.specs.Prelude.{◌≤◌, length};
 
-use crate::answers::push_answer;
+use crate::answers::{Answer, push_answer};
 use crate::lines::{Line, read_line};
 use crate::messages::{push_msg, push_node};
 use crate::nodes::Nodes;
 use crate::steps::Step;
+use crate::text::push_number;
 use crate::words::Words;
 use image_load::{Loaded, load, raw};
 use std::alloc::{AllocError, Global};
 use tcc_base::{Config, List, NoMemory, NodeId};
-use tcc_msg::Outgoing;
+use tcc_msg::{Msg, Name, Outgoing};
 
 /// Out of memory: the table can't go on.
-#[derive(Clone, Copy, Debug, PartialEq, Eq)]
+#[derive(Clone, Copy)]
 pub struct OutOfMemory;
 
 impl From<AllocError> for OutOfMemory {
@@ -29,12 +30,14 @@ impl From<NoMemory> for OutOfMemory {
 }
 
 /// The machine of the rows, and the row that is on its way.
-#[derive(Debug, Drop)]
+#[derive(Drop)]
 pub struct Table {
     alloc: Global,
     config: Option<Config>,
     images: Vec<List<u8>>,
-    nodes: Option<Nodes>,
+    nodes: Nodes,
+    /// Whether a row has begun, and its machine could be made.
+    has_nodes: bool,
     /// The node whose state was printed last in this row.
     last: Option<NodeId>,
 }
@@ -68,7 +71,8 @@ impl Table {
             alloc,
             config: None,
             images: Vec::new(alloc),
-            nodes: None,
+            nodes: Nodes::new(alloc),
+            has_nodes: false,
             last: None,
         }
     }
@@ -76,46 +80,50 @@ impl Table {
     /// Runs the next line, and gives what is to be printed.
     pub fn run(&mut self, line: &str) -> Result<String, OutOfMemory> {
         let mut text = String::new(self.alloc);
-        match read_line(line) {
-            Line::Text => write!(text, "{line}\n")?,
-            Line::Machine(config) => self.begin_machine(config, line, &mut text)?,
-            Line::Image => self.add_image(line, &mut text)?,
-            Line::Row => self.begin_row(line, &mut text)?,
-            Line::Step { step, shown } => self.step(step, shown, line, &mut text)?,
-            Line::Unknown => write!(text, "? {line}\n")?,
-        }
+        self.append(line, &mut text)?;
         Ok(text)
     }
 
-    fn begin_machine(
-        &mut self,
-        config: Config,
-        line: &str,
-        text: &mut String,
-    ) -> Result<(), OutOfMemory> {
+    fn append(&mut self, line: &str, text: &mut String) -> Result<(), OutOfMemory> {
+        match read_line(line) {
+            Line::Text => push_line(text, "", line),
+            Line::Machine(config) => {
+                self.begin_machine(config);
+                push_line(text, "", line)
+            }
+            Line::Image => {
+                self.add_image(line)?;
+                push_line(text, "", line)
+            }
+            Line::Row => {
+                self.begin_row()?;
+                push_line(text, "", line)
+            }
+            Line::Step { step, shown } => self.step(step, shown, line, text),
+            Line::Unknown => push_line(text, "? ", line),
+        }
+    }
+
+    fn begin_machine(&mut self, config: Config) {
         self.config = Some(config);
         self.images.clear();
-        self.nodes = None;
-        write!(text, "{line}\n")?;
-        Ok(())
+        self.has_nodes = false;
     }
 
-    fn add_image(&mut self, line: &str, text: &mut String) -> Result<(), OutOfMemory> {
+    fn add_image(&mut self, line: &str) -> Result<(), OutOfMemory> {
         let items = image_bytes(self.alloc, line)?;
-        self.images.push(List { items }).map_err(|_| OutOfMemory)?;
-        write!(text, "{line}\n")?;
-        Ok(())
+        self.images.push(List { items }).map_err(|_| OutOfMemory)
     }
 
-    fn begin_row(&mut self, line: &str, text: &mut String) -> Result<(), OutOfMemory> {
+    fn begin_row(&mut self) -> Result<(), NoMemory> {
         self.last = None;
-        self.nodes = None;
-        write!(text, "{line}\n")?;
+        self.has_nodes = false;
         let Some(config) = self.config else {
             return Ok(());
         };
         if let Some(loaded) = loaded(self.alloc, &config, self.images.as_slice()) {
-            self.nodes = Some(Nodes::start(self.alloc, loaded)?);
+            self.nodes.start(self.alloc, loaded)?;
+            self.has_nodes = true;
         }
         Ok(())
     }
@@ -127,20 +135,35 @@ impl Table {
         line: &str,
         text: &mut String,
     ) -> Result<(), OutOfMemory> {
-        let Some(nodes) = &mut self.nodes else {
-            write!(text, "? {line}\n")?;
-            return Ok(());
-        };
-        if shown {
-            let before = self.last != Some(step.node());
-            show_step(self.alloc, nodes, step, before, line, text)?;
-            self.last = Some(step.node());
-        } else {
-            note_step(self.alloc, nodes, step, line, text)?;
-            self.last = None;
+        if !self.has_nodes {
+            return push_line(text, "? ", line);
         }
-        Ok(())
+        let node = step.node();
+        if !shown {
+            self.last = None;
+            return note_step(self.alloc, &mut self.nodes, step, line, text);
+        }
+        if self.last != Some(node) {
+            push_state(&self.nodes, node, text)?;
+        }
+        self.last = Some(node);
+        show_step(self.alloc, &mut self.nodes, step, line, text)
     }
+}
+
+/// Appends a line, behind a mark.
+fn push_line(text: &mut String, mark: &str, line: &str) -> Result<(), OutOfMemory> {
+    text.push_str(mark)?;
+    text.push_str(line)?;
+    text.push_str("\n")?;
+    Ok(())
+}
+
+/// Appends the line of a node's state.
+fn push_state(nodes: &Nodes, node: NodeId, text: &mut String) -> Result<(), AllocError> {
+    text.push_str("  ")?;
+    nodes.push_state(text, node)?;
+    text.push_str("\n")
 }
 
 /// Does a step, and says what it answers and how many messages it sends.
@@ -153,11 +176,25 @@ fn note_step(
 ) -> Result<(), OutOfMemory> {
     let mut out = Outgoing::new(alloc);
     let answer = nodes.act(step, &mut out);
-    write!(text, "{line}: ")?;
-    push_answer(text, &answer)?;
-    write!(text, ", sends {}\n", out.len())?;
+    note_answer(nodes, step.node(), &answer, &out, line, text)
+}
+
+/// Keeps what a node sent, and says what it answered and how many messages it sent.
+fn note_answer(
+    nodes: &mut Nodes,
+    src: NodeId,
+    answer: &Answer,
+    out: &Outgoing,
+    line: &str,
+    text: &mut String,
+) -> Result<(), OutOfMemory> {
+    text.push_str(line)?;
+    text.push_str(": ")?;
+    push_answer(text, answer)?;
+    push_number(text, ", sends ", out.len() as u64)?;
+    text.push_str("\n")?;
     for (dst, msg) in out.list.iter() {
-        let _ = nodes.post(step.node(), *dst, *msg)?;
+        let _ = nodes.post(src, *dst, *msg)?;
     }
     Ok(())
 }
@@ -167,24 +204,29 @@ fn show_step(
     alloc: Global,
     nodes: &mut Nodes,
     step: Step,
-    before: bool,
     line: &str,
     text: &mut String,
 ) -> Result<(), OutOfMemory> {
-    if before {
-        text.push_str("  ")?;
-        nodes.push_state(text, step.node())?;
-        text.push_str("\n")?;
-    }
     let mut out = Outgoing::new(alloc);
     let answer = nodes.act(step, &mut out);
-    write!(text, "{line}\n  ")?;
-    push_answer(text, &answer)?;
+    show_answer(nodes, step.node(), &answer, &mut out, line, text)
+}
+
+/// Shows what a node answered, what it sent, which is kept, and its state.
+fn show_answer(
+    nodes: &mut Nodes,
+    node: NodeId,
+    answer: &Answer,
+    out: &mut Outgoing,
+    line: &str,
+    text: &mut String,
+) -> Result<(), OutOfMemory> {
+    text.push_str(line)?;
+    text.push_str("\n  ")?;
+    push_answer(text, answer)?;
     text.push_str("\n")?;
-    push_sent(nodes, step.node(), &mut out, text)?;
-    text.push_str("  ")?;
-    nodes.push_state(text, step.node())?;
-    text.push_str("\n")?;
+    push_sent(nodes, node, out, text)?;
+    push_state(nodes, node, text)?;
     Ok(())
 }
 
@@ -198,11 +240,17 @@ fn push_sent(
     out.list.sort_by_key(|sent| sent.0)?;
     for (dst, msg) in out.list.iter() {
         let name = nodes.post(src, *dst, *msg)?;
-        text.push_str("  to ")?;
-        push_node(text, *dst)?;
-        write!(text, " as {}: ", name.seq)?;
-        push_msg(text, msg)?;
-        text.push_str("\n")?;
+        push_posted(text, name, msg)?;
     }
     Ok(())
+}
+
+/// Appends the line of a message that was sent.
+fn push_posted(text: &mut String, name: Name, msg: &Msg) -> Result<(), AllocError> {
+    text.push_str("  to ")?;
+    push_node(text, name.dst)?;
+    push_number(text, " as ", name.seq)?;
+    text.push_str(": ")?;
+    push_msg(text, msg)?;
+    text.push_str("\n")
 }

@@ -5,6 +5,7 @@ ghost use Rattle.dir_lines.specs.Home.{IsAtHome};
 use crate::tested_core::TestedCore;
 use crate::tested_dir::TestedDir;
 use crate::tested_vendor::TestedVendor;
+use crate::text::{push_address, push_byte, push_hex, push_number};
 use commit_engine::Phase;
 use directory::LineState;
 use reg_checkpoint::Check;
@@ -13,17 +14,26 @@ use spec_cache::FrameView;
 use std::alloc::AllocError;
 use tcc_base::{LineAddr, Mask, Reg, Tid, WordAddr};
 
-fn push_phase(text: &mut String, phase: Phase) -> Result<(), AllocError> {
+/// The word of a phase, and its TID where it has one.
+fn phase_words(phase: Phase) -> (&'static str, Option<Tid>) {
     match phase {
-        Phase::Running => text.push_str("running"),
-        Phase::AwaitTid => text.push_str("await-tid"),
-        Phase::DoomedTid => text.push_str("doomed-tid"),
-        Phase::Probing(tid) => write!(text, "probing {}", tid.0),
-        Phase::Ready(tid) => write!(text, "ready {}", tid.0),
-        Phase::Overflowing(None) => text.push_str("overflowing"),
-        Phase::Overflowing(Some(tid)) => write!(text, "overflowing {}", tid.0),
-        Phase::Solo(tid) => write!(text, "solo {}", tid.0),
-        Phase::Halted => text.push_str("halted"),
+        Phase::Running => ("running", None),
+        Phase::AwaitTid => ("await-tid", None),
+        Phase::DoomedTid => ("doomed-tid", None),
+        Phase::Probing(tid) => ("probing", Some(tid)),
+        Phase::Ready(tid) => ("ready", Some(tid)),
+        Phase::Overflowing(tid) => ("overflowing", tid),
+        Phase::Solo(tid) => ("solo", Some(tid)),
+        Phase::Halted => ("halted", None),
+    }
+}
+
+fn push_phase(text: &mut String, phase: Phase) -> Result<(), AllocError> {
+    let (word, tid) = phase_words(phase);
+    text.push_str(word)?;
+    match tid {
+        Some(tid) => push_number(text, " ", tid.0),
+        None => Ok(()),
     }
 }
 
@@ -31,48 +41,67 @@ fn push_end(text: &mut String, end: Outcome) -> Result<(), AllocError> {
     match end {
         Outcome::Goes => Ok(()),
         Outcome::Ended => text.push_str(", ended"),
-        Outcome::Halted(code) => write!(text, ", halt {code}"),
-        Outcome::Trapped(code) => write!(text, ", trap {code}"),
+        Outcome::Halted(code) => push_number(text, ", halt ", u64::from(code)),
+        Outcome::Trapped(code) => push_number(text, ", trap ", u64::from(code)),
     }
 }
 
 /// The pc and the registers that aren't 0, as the last commit left them.
 fn push_check(text: &mut String, check: &Check) -> Result<(), AllocError> {
-    write!(text, "; from {:08x}", check.pc())?;
+    push_address(text, "; from ", check.pc())?;
     for number in 1..32 {
         if let Some(reg) = Reg::new(number) {
-            let value = check.regs().get(reg);
-            if value != 0 {
-                write!(text, " x{number}={value:x}")?;
-            }
+            push_reg(text, number, check.regs().get(reg))?;
         }
     }
     Ok(())
 }
 
+/// A register, where it isn't 0.
+fn push_reg(text: &mut String, number: u8, value: u32) -> Result<(), AllocError> {
+    if value == 0 {
+        return Ok(());
+    }
+    push_number(text, " x", u64::from(number))?;
+    push_hex(text, "=", value)
+}
+
+/// A mask behind its name, where it isn't empty.
 fn push_mask(text: &mut String, name: &str, mask: Mask) -> Result<(), AllocError> {
     if mask.0 == 0 {
         return Ok(());
     }
-    write!(text, " {name} {:02x}", mask.0)
+    push_byte(text, name, mask.0)
 }
 
-/// A frame with its valid words, and - for the others.
+/// What a frame holds.
 fn push_frame(text: &mut String, frame: &FrameView) -> Result<(), AllocError> {
+    push_valid(text, frame)?;
+    push_mask(text, " read ", frame.read)?;
+    push_mask(text, " modified ", frame.modified)?;
+    if frame.dirty.0 == 0 {
+        return Ok(());
+    }
+    push_mask(text, " dirty ", frame.dirty)?;
+    push_number(text, " of tid ", frame.tag.0)
+}
+
+/// The words of a frame, and - for those that aren't valid.
+fn push_valid(text: &mut String, frame: &FrameView) -> Result<(), AllocError> {
     for (place, word) in frame.words.iter().enumerate() {
         if frame.valid.0 >> place & 1 == 1 {
-            write!(text, " {word:x}")?;
+            push_hex(text, " ", *word)?;
         } else {
             text.push_str(" -")?;
         }
     }
-    push_mask(text, "read", frame.read)?;
-    push_mask(text, "modified", frame.modified)?;
-    push_mask(text, "dirty", frame.dirty)?;
-    if frame.dirty.0 != 0 {
-        write!(text, " of tid {}", frame.tag.0)?;
-    }
     Ok(())
+}
+
+/// A way of a set.
+fn push_place(text: &mut String, before: &str, set: u16, way: u8) -> Result<(), AllocError> {
+    push_number(text, before, u64::from(set))?;
+    push_number(text, ".", u64::from(way))
 }
 
 fn push_way(text: &mut String, core: &TestedCore, set: u16, way: u8) -> Result<(), AllocError>
@@ -85,7 +114,9 @@ fn push_way(text: &mut String, core: &TestedCore, set: u16, way: u8) -> Result<(
         } else {
             " stays"
         };
-        write!(text, "; {set}.{way}{stays}: line {}", frame.line.0)?;
+        push_place(text, "; ", set, way)?;
+        text.push_str(stays)?;
+        push_number(text, ": line ", u64::from(frame.line.0))?;
         push_frame(text, &frame)?;
     }
     Ok(())
@@ -107,11 +138,11 @@ fn push_useful(text: &mut String, core: &TestedCore) -> Result<(), AllocError> {
         text.push_str(", can execute")?;
     }
     if let Some(set) = core.core.waits_for_room(&core.code) {
-        write!(text, ", waits for room in set {set}")?;
+        push_number(text, ", waits for room in set ", u64::from(set))?;
     }
     for k in 0..core.core.useful_evicts(&core.code) {
         if let Some((set, way)) = core.core.useful_evict(&core.code, k) {
-            write!(text, ", may empty {set}.{way}")?;
+            push_place(text, ", may empty ", set, way)?;
         }
     }
     Ok(())
@@ -120,8 +151,8 @@ fn push_useful(text: &mut String, core: &TestedCore) -> Result<(), AllocError> {
 /// Appends a core's state.
 pub fn push_core(text: &mut String, core: &TestedCore) -> Result<(), AllocError> {
     push_phase(text, core.core.phase())?;
-    let (done, printed) = (core.core.instructions(), core.core.console_len());
-    write!(text, ", done {done}, printed {printed}")?;
+    push_number(text, ", done ", u64::from(core.core.instructions()))?;
+    push_number(text, ", printed ", core.core.console_len() as u64)?;
     push_end(text, core.core.ended())?;
     push_useful(text, core)?;
     if core.core.any_dirty() {
@@ -137,7 +168,7 @@ fn push_home_words(text: &mut String, dir: &TestedDir, line: LineAddr) -> Result
 {
     for k in 0..8 {
         let word = dir.dir.word(WordAddr(8 * line.0 + k));
-        write!(text, " {word:x}")?;
+        push_hex(text, " ", word)?;
     }
     Ok(())
 }
@@ -156,22 +187,22 @@ fn push_line(text: &mut String, dir: &TestedDir, line: LineAddr) -> Result<(), A
     if mark == Mask(0) && owner.is_none() && !asked && tag == Tid(0) {
         return Ok(());
     }
-    write!(text, "; line {}", line.0)?;
+    push_number(text, "; line ", u64::from(line.0))?;
     push_home_words(text, dir, line)?;
-    push_mask(text, "mark", mark)?;
+    push_mask(text, " mark ", mark)?;
     if let Some(owner) = owner {
-        write!(text, " owner c{}", owner.0)?;
+        push_number(text, " owner c", u64::from(owner.0))?;
     }
     if asked {
         text.push_str(" asked")?;
     }
-    write!(text, " tag {}", tag.0)
+    push_number(text, " tag ", tag.0)
 }
 
 /// Appends a directory's state.
 pub fn push_dir(text: &mut String, dir: &TestedDir) -> Result<(), AllocError> {
-    let (serving, marked) = (dir.dir.serving(), dir.dir.marked_lines());
-    write!(text, "serving {}, marked {marked}", serving.0)?;
+    push_number(text, "serving ", dir.dir.serving().0)?;
+    push_number(text, ", marked ", u64::from(dir.dir.marked_lines()))?;
     for line in 0..dir.config.words() / 8 {
         if dir.has_line(LineAddr(line)) {
             push_line(text, dir, LineAddr(line))?;
@@ -182,5 +213,5 @@ pub fn push_dir(text: &mut String, dir: &TestedDir) -> Result<(), AllocError> {
 
 /// Appends the vendor's state.
 pub fn push_vendor(text: &mut String, vendor: &TestedVendor) -> Result<(), AllocError> {
-    write!(text, "granted {}", vendor.granted)
+    push_number(text, "granted ", vendor.granted)
 }

@@ -5,7 +5,7 @@ use tcc_base::{CoreId, NodeId};
 use tcc_msg::{Msg, Name};
 
 /// What one node does.
-#[derive(Clone, Copy, Debug, PartialEq, Eq)]
+#[derive(Clone, Copy)]
 pub enum Step {
     /// `e CORE`: the core executes.
     Exec(CoreId),
@@ -49,12 +49,12 @@ fn read_hand(src: NodeId, from: &mut Words<'_>) -> Option<Step> {
     Some(Step::Hand(src, dst, msg))
 }
 
-/// The step that begins here.
-pub fn read_step(from: &mut Words<'_>) -> Option<Step> {
-    match from.word()? {
-        "e" => from.core().map(Step::Exec),
+/// The step that begins with this word.
+pub fn read_step(word: &str, from: &mut Words<'_>) -> Option<Step> {
+    match word {
+        "e" => Some(Step::Exec(from.core()?)),
         "x" => read_evict(from),
         "d" => read_deliver(from),
-        word => read_hand(node(word)?, from),
+        _ => read_hand(node(word)?, from),
     }
 }

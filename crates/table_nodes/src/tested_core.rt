@@ -9,7 +9,7 @@ use std::alloc::Global;
 use tcc_base::{CoreId, NoMemory, NodeId};
 use tcc_msg::{Msg, Outgoing};
 
-#[derive(Debug, Drop)]
+#[derive(Drop)]
 pub struct TestedCore {
     pub code: Code,
     pub core: CoreNode,
@@ -36,23 +36,25 @@ fn executed(done: Result<Executed, CoreError>) -> Answer {
     }
 }
 
-/// The answer, where what was said before agrees that the event is allowed.
+/// The answer, where it agrees with what was said before.
 fn agreed(allowed: bool, answer: Answer) -> Answer {
-    match answer {
-        Answer::Memory => answer,
-        Answer::Blocked if allowed => Answer::Contradicts,
-        Answer::Blocked => answer,
-        _ if !allowed => Answer::Contradicts,
-        _ => answer,
+    if answer.agrees(allowed) {
+        answer
+    } else {
+        Answer::Contradicts
     }
 }
 
 impl TestedCore {
-    /// A core as it starts. It keeps a copy of the program.
-    pub fn start(alloc: Global, code: &Code, id: CoreId) -> Result<TestedCore, NoMemory> {
-        let code = code.copy(alloc)?;
+    /// Appends a core as it starts, which keeps the program.
+    pub fn start(
+        cores: &mut Vec<TestedCore>,
+        alloc: Global,
+        code: Code,
+        id: CoreId,
+    ) -> Result<(), NoMemory> {
         let core = CoreNode::start(alloc, code.config(), id, code.entry(id))?;
-        Ok(TestedCore { code, core })
+        cores.push(TestedCore { code, core }).map_err(|_| NoMemory)
     }
 
     pub fn exec(&mut self, out: &mut Outgoing) -> Answer {

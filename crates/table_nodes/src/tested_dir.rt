@@ -11,7 +11,7 @@ use std::alloc::Global;
 use tcc_base::{Config, CoreId, DirId, LineAddr, NoMemory};
 use tcc_msg::{Msg, Outgoing};
 
-#[derive(Debug, Drop)]
+#[derive(Drop)]
 pub struct TestedDir {
     pub config: Config,
     pub id: DirId,
@@ -31,15 +31,34 @@ fn has_small_tids(msg: &Msg) -> bool
     }
 }
 
+/// What an answer is called that agrees with what was said before: whether the message is taken, and what it waits for.
+fn agreed(done: Result<Handled, DirError>, takes: bool, cause: Option<Cause>) -> Answer {
+    match (done, takes, cause) {
+        (Ok(Handled::Handled), true, None) => Answer::Handled,
+        (Ok(Handled::Asked), true, None) => Answer::AsksOwner,
+        (Ok(Handled::Dropped), true, None) => Answer::Dropped,
+        (Ok(Handled::Waits), false, Some(cause)) => Answer::Waits(cause),
+        (Err(DirError::Foreign), false, None) => Answer::Foreign,
+        (Err(DirError::Memory), _, _) => Answer::Memory,
+        _ => Answer::Contradicts,
+    }
+}
+
 impl TestedDir {
-    /// A directory as it starts.
-    pub fn start(alloc: Global, loaded: &Loaded, id: DirId) -> Result<Option<TestedDir>, NoMemory> {
+    /// Appends the directory of this number as it starts, where the machine has it.
+    pub fn start(
+        dirs: &mut Vec<TestedDir>,
+        alloc: Global,
+        loaded: &Loaded,
+        id: DirId,
+    ) -> Result<(), NoMemory> {
         let config = *loaded.config();
         if id.0 >= config.dirs() {
-            return Ok(None);
+            return Ok(());
         }
         let dir = Directory::start(alloc, &config, loaded, id)?;
-        Ok(Some(TestedDir { config, id, dir }))
+        dirs.push(TestedDir { config, id, dir })
+            .map_err(|_| NoMemory)
     }
 
     /// Whether the line exists and is at home here.
@@ -78,14 +97,6 @@ impl TestedDir {
         }
         let takes = self.dir.takes(src, msg);
         let cause = self.cause(src, msg);
-        match (self.dir.deliver(src, msg, out), takes, cause) {
-            (Ok(Handled::Handled), true, None) => Answer::Handled,
-            (Ok(Handled::Asked), true, None) => Answer::AsksOwner,
-            (Ok(Handled::Dropped), true, None) => Answer::Dropped,
-            (Ok(Handled::Waits), false, Some(cause)) => Answer::Waits(cause),
-            (Err(DirError::Foreign), false, None) => Answer::Foreign,
-            (Err(DirError::Memory), _, _) => Answer::Memory,
-            _ => Answer::Contradicts,
-        }
+        agreed(self.dir.deliver(src, msg, out), takes, cause)
     }
 }

@@ -7,7 +7,7 @@ use tcc_base::NodeId;
 use tcc_msg::{Msg, Outgoing};
 use tid_vendor::{MAX_GRANTS, Vendor};
 
-#[derive(Debug, Drop)]
+#[derive(Drop)]
 pub struct TestedVendor {
     vendor: Vendor,
     pub granted: u64,

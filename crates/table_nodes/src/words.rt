@@ -38,15 +38,15 @@ impl<'a> Words<'a> {
     }
 
     pub fn core(&mut self) -> Option<CoreId> {
-        small(self.word()?).map(CoreId)
+        Some(CoreId(self.way()?))
     }
 
     pub fn tid(&mut self) -> Option<Tid> {
-        self.number().map(Tid)
+        Some(Tid(self.number()?))
     }
 
     pub fn line(&mut self) -> Option<LineAddr> {
-        self.count().map(LineAddr)
+        Some(LineAddr(self.count()?))
     }
 
     /// A number below 2^32.
@@ -66,7 +66,7 @@ impl<'a> Words<'a> {
 
     /// A mask, in hexadecimal digits.
     pub fn mask(&mut self) -> Option<Mask> {
-        u8::try_from(self.hex()?).ok().map(Mask)
+        Some(Mask(u8::try_from(self.hex()?).ok()?))
     }
 
     /// The eight words of a line, in hexadecimal digits.
@@ -113,10 +113,10 @@ pub fn node(word: &str) -> Option<NodeId> {
         return Some(NodeId::Vendor);
     }
     if let Some(core) = word.strip_prefix('c') {
-        return small(core).map(|number| NodeId::Core(CoreId(number)));
+        return Some(NodeId::Core(CoreId(small(core)?)));
     }
     if let Some(dir) = word.strip_prefix('d') {
-        return small(dir).map(|number| NodeId::Dir(DirId(number)));
+        return Some(NodeId::Dir(DirId(small(dir)?)));
     }
     None
 }
