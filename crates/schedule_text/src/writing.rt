@@ -2,7 +2,7 @@
 ghost use Rattle.std.specs.Prelude.{◌≡◌, ◌++◌, OnOk, IfOk, string_bytes};
 ghost use Rattle.std.specs.List.{flat_map};
 ghost use Rattle.schedule_text.specs.WellFormed.{IsWellFormed};
-ghost use Rattle.schedule_text.specs.Grammar.{version_of, version_line, config_line, node_word, event_line, end_line, text_of};
+ghost use Rattle.schedule_text.specs.Grammar.{version_line, config_line, node_word, event_line, end_line, text_of};
 
 use crate::events::{put_event, put_node};
 use crate::lines::version_needed;
@@ -11,8 +11,9 @@ use std::alloc::{AllocError, Global};
 use tcc_base::{Config, NoMemory, NodeId};
 use tcc_msg::Event;
 
+/// Appends the first line, with the version. After want of memory a part of it may stand there.
 #[tactic(auto, unfolding(crate::specs::Grammar::version_line))]
-fn push_version(text: &mut String, version: u64) -> Result<(), AllocError>
+pub fn push_version(text: &mut String, version: u64) -> Result<(), AllocError>
     ensures { OnOk result (string_bytes text.new ≡ string_bytes text.old ++ version_line version) }
 {
     write!(text, "tcc-schedule {version}\n")
@@ -73,8 +74,9 @@ fn push_events(text: &mut String, events: &[Event]) -> Result<(), AllocError>
     Ok(())
 }
 
+/// Appends the last line, with the number of events. After want of memory a part of it may stand there.
 #[tactic(auto, unfolding(crate::specs::Grammar::end_line))]
-fn push_end(text: &mut String, count: usize) -> Result<(), AllocError>
+pub fn push_end(text: &mut String, count: u64) -> Result<(), AllocError>
     ensures { OnOk result (string_bytes text.new ≡ string_bytes text.old ++ end_line count) }
 {
     write!(text, "end {count}\n")
@@ -87,7 +89,7 @@ fn text_or_error(alloc: Global, config: &Config, events: &[Event]) -> Result<Str
     push_version(&mut text, version_needed(config))?;
     push_config(&mut text, config)?;
     push_events(&mut text, events)?;
-    push_end(&mut text, events.len())?;
+    push_end(&mut text, events.len() as u64)?;
     Ok(text)
 }
 
