@@ -7,11 +7,8 @@ use Rattle.tcc_cli.specs.Comes.{Comes}
 use Rattle.tcc_cli.specs.Commands.{files_of, machine_of, start_from}
 use Rattle.tcc_cli.specs.Following.{RanFollowing}
 use Rattle.tcc_cli.specs.Images.{start_of}
-use Rattle.tcc_cli.specs.Runs.{RunsTo}
-use Rattle.tcc_msg.specs.declared.event.Event.{Event}
-use Rattle.rules_tcc.specs.Step.{History}
 use Rattle.tcc_cli.specs.Phased.{IsPhasePicked, RanInPhases}
-use Rattle.tcc_cli.specs.Schedules.{IsRecorded, Ran}
+use Rattle.tcc_cli.specs.Schedules.{IsRecorded}
 use Rattle.tcc_words.specs.declared.command.Command.{Command}
 use Rattle.tcc_words.specs.declared.command.Command.TheVariants.{Follow, Phases}
 use Rattle.tcc_words.specs.declared.command.Machine.{Machine}
@@ -20,20 +17,7 @@ pub start_settings : (raw : Bool) (s : Settings) (files : List (List ℕ)) → (
 unfolding start_of image_load.start
 start_settings raw s files = refl
 
--- a machine that was run and of which a text was made
-pub ran-so : {A E : Type 0} (s : Start) (IsSchedule : List Event → Type 0) (text_of_end : Bool → ℕ → History → List ℕ) (es : List Event)
-    (h : History) (done : A → Bool) (text : A → List ℕ) (x : Result A E) → IsSchedule es → IfOk x (λ f. RunsTo s es (done f) h)
-    → IfOk x (λ f. text f ≡ text_of_end (done f) (length es) h) → IfOk x (λ f. Ran s IsSchedule text_of_end (done f) (text f))
-ran-so s IsSchedule text_of_end es h done text (Ok f) is runs told = record {
-  events = es;
-  ends = h;
-  schedule = is;
-  runs = runs;
-  text_is = told;
-}
-ran-so s IsSchedule text_of_end es h done text (Err e) is runs told = tt
-
--- and a run by phases
+-- a run by phases
 pub phased-comes : {A E : Type 0} (c : Command) (machine : Machine) (images : List (List ℕ)) (steps seed : ℕ) (keep : Option (List ℕ))
     (x : Result A E) (done : A → Bool) (text : A → List ℕ) (s : Start) (settings : Settings) (tells : Bool)
     (told : List ℕ → Option (List ℕ)) (files : List (List ℕ)) → c ≡ Phases machine images steps seed keep → s ≡ start_from c files

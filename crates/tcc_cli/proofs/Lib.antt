@@ -14,6 +14,7 @@ mod Machines
 mod Naming
 mod Numbered
 mod OnBus
+mod PickedRuns
 mod Pieces
 mod Refusing
 mod Shown

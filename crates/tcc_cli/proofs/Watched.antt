@@ -1,6 +1,6 @@
 -- What was counted or traced of a run, as what is told of it.
 use Rattle.std.proofs.Common.{◌≡◌, ℕ, ◌≤◌, Bool, true, false, List, [], ◌∷◌, Option}
-use Rattle.std.proofs.Common.{None, Result, Ok, Err, IfErr, IfOk, IsTrue, ◌↔◌, length, map}
+use Rattle.std.proofs.Common.{Result, Ok, Err, IfErr, IfOk, IsTrue, ◌↔◌, length, map}
 use Rattle.std.proofs.Common.{inl, inr, refl, sym, ap, ◌∙◌, subst, arith, if◌then◌else◌, drop}
 use Rattle.image_load.specs.Start.{Start}
 use Rattle.rand_pcg.specs.Lcg.{Lcg}
@@ -11,7 +11,8 @@ use Rattle.tcc_base.specs.Settings.{Settings}
 use Rattle.tcc_world.specs.Page.{Written}
 use Rattle.std.proofs.lemmas.List.{length-map}
 use Rattle.tcc_cli.specs.Looks.{IsTraceStopped, IsTraceTold, LookedAt, broken_refusal, view_text}
-use Rattle.tcc_cli.specs.Runs.{RunsBy, RunsTo, picked_by}
+use Rattle.tcc_cli.specs.Runs.{EndsBy, RunsBy, picked_by}
+use Rattle.tcc_cli.specs.Schedules.{HasTaken}
 use Rattle.tcc_cli.specs.declared.refusal.Refusal.{Refusal}
 use Rattle.tcc_cli.specs.declared.refusal.Refusal.TheVariants as why
 use Rattle.rules_maps.specs.Nodes.{Event}
@@ -22,6 +23,7 @@ use Rattle.rules_tcc.specs.Laws.{PickedEnds}
 use Rattle.rules_tcc.specs.Picked.{picked}
 use Rattle.rules_tcc.specs.Seen.{IsDone}
 use Rattle.rules_tcc.specs.Step.{History}
+use Rattle.net_core.specs.Machine.{Machine, history_of}
 use Rattle.tcc_words.specs.declared.command.View.TheVariants.{Count, State}
 use Rattle.watch_count.specs.Counts.{Counts}
 use Rattle.watch_count.specs.Csv.{csv_text}
@@ -106,18 +108,18 @@ listed-so f at xs ys e q = ap (λ n. map f (drop n xs)) e ∙ ap (map f) (whole 
     whole (z ∷ zs) = refl
 
 -- the state of a run's end, and its text
-pub state-so : {A E : Type 0} (s : Start) (code : List Listed) (events : ℕ) (h : History) (done : A → Bool)
-    (text : A → List ℕ) (x : Result A E) → IfOk x (λ f. RunsTo s code (done f) h)
-    → IfOk x (λ f. text f ≡ state_text s (done f) (length code) h)
-    → IfOk x (λ f. LookedAt s (λ fs. fs ≡ map event_of code) (view_text (State events) None s) (done f) (text f))
-state-so s code events h done text (Ok f) runs told = record {
-  events = map event_of code;
-  ends = h;
-  are = refl;
-  runs = runs;
-  text_is = told ∙ ap (λ n. state_text s (done f) n h) (sym (length-map code event_of));
+pub state-so : {A E : Type 0} (s : Start) (P : List Listed → Type 0) (Are : List Event → Type 0) (events : ℕ) (seed : Option (ℕ × ℕ))
+    (m : Machine) (done : A → Bool) (text : A → List ℕ) (x : Result A E) → (t : HasTaken s P m) → Are (map event_of t.taken)
+    → IfOk x (λ f. EndsBy s (done f) (history_of m)) → IfOk x (λ f. text f ≡ state_text s (done f) m.events (history_of m))
+    → IfOk x (λ f. LookedAt s Are (view_text (State events) seed s) (done f) (text f))
+state-so s P Are events seed m done text (Ok f) t are ends told = record {
+  events = map event_of t.taken;
+  ends = history_of m;
+  are = are;
+  runs = ends (map event_of t.taken) t.is_run;
+  text_is = told ∙ ap (λ n. state_text s (done f) n (history_of m)) (sym t.count ∙ sym (length-map t.taken event_of));
 }
-state-so s code events h done text (Err e) runs told = tt
+state-so s P Are events seed m done text (Err e) t are ends told = tt
 
 told-by : (s : Start) (These Those : List Event → Type 0) (shown : Shown) (o : Written) (done : Bool)
     → ((es : List Event) → These es → Those es)

@@ -36,6 +36,10 @@ pub record RunsBy (s : Start) (es : List rules.Event) (done : Bool) (h : History
 abbrev pub RunsTo : Start → List Event → Bool → History → Type 0
 RunsTo s es done h = RunsBy s (map event_of es) done h
 
+-- by whichever events that lead here
+abbrev pub EndsBy : Start → Bool → History → Type 0
+EndsBy s done h = (es : List rules.Event) → IsRun s es h → RunsBy s es done h
+
 -- what is committed, as the plain machine that executed the commits
 abbrev pub shown : Start → History → Shown
 shown s h = shown_plain s.settings.cores s.settings.base (s.settings.ram / 4) s.word h.commits (committed s h)

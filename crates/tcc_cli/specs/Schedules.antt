@@ -1,11 +1,12 @@
 -- Where a schedule comes from, what it leads to, and the text of that.
 use Rattle.std.specs.Prelude.{ℕ, Bool, List, map, length, ◌≡◌, ◌≢◌, ◌+◌, ◌⊎◌, Option, Some, None, if◌then◌else◌}
 use Rattle.image_load.specs.Start.{Start}
+use Rattle.net_core.specs.Machine.{Machine, history_of}
 use Rattle.schedule_text.specs.Faults.{IsFirstFault}
 use Rattle.schedule_text.specs.Grammar.{text_of}
 use Rattle.schedule_text.specs.WellFormed.{IsWellFormed}
 use Rattle.tcc_base.specs.Settings.{Settings}
-use Rattle.tcc_cli.specs.Runs.{RunsTo, picked_by}
+use Rattle.tcc_cli.specs.Runs.{IsRun, RunsTo, picked_by}
 use Rattle.tcc_msg.specs.Plain.{event_of}
 use Rattle.tcc_msg.specs.declared.event.Event.{Event}
 use Rattle.tcc_msg.specs.declared.event.Schedule.{Schedule}
@@ -44,6 +45,13 @@ IsPicked s seed steps es = map event_of es ≡ picked_by s seed steps
 abbrev pub IsMade : (threads : Option ℕ) → Start → (seed steps : ℕ) → List Event → Type 0
 IsMade None s seed steps es = IsPicked s seed steps es
 IsMade (Some n) s seed steps es = IsJoined s steps es
+
+-- a machine that took such a schedule from this start on, and may keep no list of it
+pub record HasTaken (s : Start) (IsSchedule : List Event → Type 0) (m : Machine) : Type 0 where
+  pub taken : List Event
+  pub schedule : IsSchedule taken
+  pub is_run : IsRun s (map event_of taken) (history_of m)
+  pub count : length taken ≡ m.events
 
 -- A run by such a schedule, from this start, with its end and the text of that. The headline: see `RunsTo`.
 pub record Ran (s : Start) (IsSchedule : List Event → Type 0) (text_of_end : Bool → ℕ → History

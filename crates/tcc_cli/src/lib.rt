@@ -12,6 +12,7 @@ mod looks;
 mod on_bus;
 mod outcomes;
 mod phases;
+mod picking;
 mod process;
 mod records;
 mod refusal;

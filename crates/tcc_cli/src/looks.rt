@@ -5,17 +5,20 @@ ghost use Rattle.image_load.specs.Contents.{started};
 ghost use Rattle.net_core.specs.Machine.{history_of};
 ghost use Rattle.tcc_cli.specs.Failing.{IsUntraced};
 ghost use Rattle.tcc_cli.specs.Looks.{ArePicked, AreFirst, IsFirstRefused, LookedAt, most_of as plain_most_of, view_text};
-ghost use Rattle.tcc_cli.specs.Runs.{RunsTo};
+ghost use Rattle.tcc_cli.specs.Runs.{EndsBy};
 ghost use Rattle.tcc_msg.specs.Plain.{event_of};
 ghost use Rattle.watch_count.specs.Csv.{csv_text};
 ghost use Rattle.watch_count.specs.Text.{count_text};
 ghost use Rattle.watch_state.specs.Text.{state_text};
 ghost use Rattle.tcc_base.specs.Limits.{run_limit};
 
+use crate::laid::settings_are_allowed;
+use crate::picking::pick;
 use crate::refusal::Refusal;
 use crate::reports::Finished;
-use crate::schedules::{pick, run_first};
+use crate::schedules::run_first;
 use image_load::Loaded;
+use net_core::System;
 use rules_tcc::a_picked_schedule_is_a_run;
 use std::alloc::Global;
 use tcc_base::{Config, NoMemory};
@@ -89,16 +92,15 @@ fn count_listed(
 }
 
 /// The state of a machine as it stands, which began with what was loaded.
-fn state_of(alloc: Global, loaded: &Loaded, refined: &Refined) -> Result<Finished, NoMemory>
-    requires code { refined.now.machine.cores.code ≡ loaded.now }
-    requires settled { refined.now.machine.unsent ≡ [] }
-    ensures runs { IfOk result (λ f. RunsTo (started loaded.now) refined.now.taken f.done (history_of refined.now.machine)) }
-    ensures text { IfOk result (λ f. string_bytes f.text
-        ≡ state_text (started loaded.now) f.done (length refined.now.taken) (history_of refined.now.machine)) }
+fn state_of(alloc: Global, loaded: &Loaded, system: &System) -> Result<Finished, NoMemory>
+    requires code { system.now.cores.code ≡ loaded.now }
+    requires settled { system.now.unsent ≡ [] }
+    ensures runs { IfOk result (λ f. EndsBy (started loaded.now) f.done (history_of system.now)) }
+    ensures text { IfOk result (λ f. string_bytes f.text ≡ state_text (started loaded.now) f.done system.now.events (history_of system.now)) }
 {
-    let system = refined.system();
+    settings_are_allowed(loaded.config());
     let done = system.done();
-    let text = state(alloc, done, refined.taken().len() as u64, system)?;
+    let text = state(alloc, done, system.events(), system)?;
     Ok(Finished { done, text })
 }
 
@@ -116,10 +118,11 @@ fn look_at_taken(
     ensures { IfOk result (λ f. LookedAt (started loaded.now) (λ es. es ≡ map event_of refined.now.taken)
         (view_text view None (started loaded.now)) f.done (string_bytes f.text)) }
 {
+    let taken = refined.taken();
     match view {
         View::Trace { .. } => unreachable!(),
-        View::Count { csv } => count_listed(alloc, loaded, refined.taken(), csv),
-        View::State { .. } => state_of(alloc, loaded, refined),
+        View::Count { csv } => count_listed(alloc, loaded, taken, csv),
+        View::State { .. } => state_of(alloc, loaded, refined.system()),
     }
 }
 
@@ -151,8 +154,8 @@ pub fn look_by_seed(
         View::Trace { .. } => unreachable!(),
         View::Count { csv } => count_picked(alloc, loaded, seed, steps, csv),
         View::State { events } => {
-            let refined = pick(alloc, loaded, seed, steps.min(events))?;
-            state_of(alloc, loaded, &refined)
+            let system = pick(alloc, loaded, seed, steps.min(events))?;
+            state_of(alloc, loaded, &system)
         }
     }
 }

@@ -1,5 +1,5 @@
 // The file that a run is recorded in.
-ghost use Rattle.std.specs.Prelude.{◌≡◌, ◌≢◌, ◌≤◌, ℕ, List as Seq, IfErr, IfOk, OnOk, Some, length};
+ghost use Rattle.std.specs.Prelude.{◌≡◌, ◌≢◌, ◌≤◌, ℕ, List as Seq, IfErr, IfOk, None, OnOk, Some, if◌then◌else◌, length};
 ghost use Rattle.schedule_text.specs.Grammar.{text_of};
 ghost use Rattle.schedule_text.specs.WellFormed.{IsWellFormed};
 ghost use Rattle.tcc_cli.specs.Failing.{IsNotWritten};
@@ -26,6 +26,25 @@ fn schedule_text(alloc: Global, refined: &Refined) -> Result<Vec<u8>, NoMemory>
     write(alloc, refined.system().config(), refined.taken())
 }
 
+/// Writes the text of a schedule to the file of this name.
+pub fn write_record<'a, F: Store>(
+    alloc: Global,
+    name: &'a Text,
+    text: &[u8],
+    files: &mut F,
+) -> Result<(), Refusal<'a>>
+    ensures stored { OnOk result ((F.disk files.new).contents name.now ≡ (if (F.disk files.old).tells then Some text.now else None)) }
+    ensures failed { IfErr result (IsNotWritten (Some name.now) (record { before = F.disk files.old; after = F.disk files.new })) }
+    ensures others { (n : Seq ℕ) → n ≢ name.now → (F.disk files.new).contents n ≡ (F.disk files.old).contents n }
+    ensures reads { (n : Seq ℕ) → (F.disk files.new).failed_reads n ≡ (F.disk files.old).failed_reads n }
+{
+    match files.write(alloc, name.items.as_str(), text) {
+        Ok(()) => Ok(()),
+        Err(StoreError::Failed) => Err(Refusal::Store(name.items.as_str())),
+        Err(StoreError::Memory) => Err(Refusal::Memory),
+    }
+}
+
 /// Writes the schedule that a machine took to the file of this name, where there is one.
 pub fn record<'a, F: Store>(
     alloc: Global,
@@ -47,9 +66,5 @@ pub fn record<'a, F: Store>(
         Ok(text) => text,
         Err(NoMemory) => return Err(Refusal::Memory),
     };
-    match files.write(alloc, name.items.as_str(), &text) {
-        Ok(()) => Ok(()),
-        Err(StoreError::Failed) => Err(Refusal::Store(name.items.as_str())),
-        Err(StoreError::Memory) => Err(Refusal::Memory),
-    }
+    write_record(alloc, name, &text, files)
 }

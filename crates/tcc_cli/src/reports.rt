@@ -5,10 +5,10 @@ ghost use Rattle.image_load.specs.Contents.{started};
 ghost use Rattle.theorem_riscv.specs.Given.{committed};
 ghost use Rattle.rules_tcc.specs.Seen.{seen};
 ghost use Rattle.net_core.specs.Machine.{history_of, settings_of, start_of, world_of};
-ghost use Rattle.tcc_cli.specs.Runs.{RunsTo, run_text, summary_text};
+ghost use Rattle.tcc_cli.specs.Runs.{EndsBy, RunsTo, run_text, summary_text};
 ghost use Rattle.text_why.specs.Text.{why_text};
 
-use crate::laid::Laid;
+use crate::laid::{Laid, settings_are_allowed};
 use image_load::Loaded;
 use net_core::{SeenRam, System};
 use reg_checkpoint::Check;
@@ -84,15 +84,15 @@ impl<'a> ShownCores for Cores<'a> {
     }
 }
 
-/// The report of a machine as it stands, which began with what was loaded.
-pub fn report_of(alloc: Global, loaded: &Loaded, refined: &Refined) -> Result<Finished, NoMemory>
-    requires code { refined.now.machine.cores.code ≡ loaded.now }
-    requires settled { refined.now.machine.unsent ≡ [] }
-    ensures runs { IfOk result (λ f. RunsTo (started loaded.now) refined.now.taken f.done (history_of refined.now.machine)) }
+/// The report of a machine as it stands, which began with what was loaded: of the run by any events that led there.
+pub fn machine_report(alloc: Global, loaded: &Loaded, system: &System) -> Result<Finished, NoMemory>
+    requires code { system.now.cores.code ≡ loaded.now }
+    requires settled { system.now.unsent ≡ [] }
+    ensures runs { IfOk result (λ f. EndsBy (started loaded.now) f.done (history_of system.now)) }
     ensures text { IfOk result (λ f. string_bytes f.text
-        ≡ run_text (started loaded.now) f.done (length refined.now.taken) (history_of refined.now.machine)) }
+        ≡ run_text (started loaded.now) f.done system.now.events (history_of system.now)) }
 {
-    let system = refined.system();
+    settings_are_allowed(loaded.config());
     let done = system.done();
     let shown = Cores { system };
     let consoles = consoles(alloc, &shown)?;
@@ -105,32 +105,44 @@ pub fn report_of(alloc: Global, loaded: &Loaded, refined: &Refined) -> Result<Fi
         ram: &Committed { ram },
         loaded: &Laid { loaded },
     };
-    let text = report(alloc, done, refined.taken().len() as u64, &ending)?;
+    let text = report(alloc, done, system.events(), &ending)?;
     Ok(Finished { done, text })
+}
+
+/// The report of a machine with the list of its events, as it stands, which began with what was loaded.
+pub fn report_of(alloc: Global, loaded: &Loaded, refined: &Refined) -> Result<Finished, NoMemory>
+    requires code { refined.now.machine.cores.code ≡ loaded.now }
+    requires settled { refined.now.machine.unsent ≡ [] }
+    ensures runs { IfOk result (λ f. RunsTo (started loaded.now) refined.now.taken f.done (history_of refined.now.machine)) }
+    ensures text { IfOk result (λ f. string_bytes f.text
+        ≡ run_text (started loaded.now) f.done (length refined.now.taken) (history_of refined.now.machine)) }
+{
+    refined.taken();
+    machine_report(alloc, loaded, refined.system())
 }
 
 /// The summary of a workload's run as it stands, which began with what was loaded.
 pub fn summary_of(
     alloc: Global,
     loaded: &Loaded,
-    refined: &Refined,
+    system: &System,
     work: Work,
     number: u32,
 ) -> Result<Finished, NoMemory>
-    requires code { refined.now.machine.cores.code ≡ loaded.now }
-    requires settled { refined.now.machine.unsent ≡ [] }
-    ensures runs { IfOk result (λ f. RunsTo (started loaded.now) refined.now.taken f.done (history_of refined.now.machine)) }
+    requires code { system.now.cores.code ≡ loaded.now }
+    requires settled { system.now.unsent ≡ [] }
+    ensures runs { IfOk result (λ f. EndsBy (started loaded.now) f.done (history_of system.now)) }
     ensures text { IfOk result (λ f. string_bytes f.text
-        ≡ summary_text (started loaded.now) work number f.done (length refined.now.taken) (history_of refined.now.machine)) }
+        ≡ summary_text (started loaded.now) work number f.done system.now.events (history_of system.now)) }
 {
-    let system = refined.system();
+    settings_are_allowed(loaded.config());
     let done = system.done();
     let ram = system.seen_ram(alloc)?;
     let trial = Trial {
         work,
         number,
         done,
-        events: refined.taken().len() as u64,
+        events: system.events(),
         commits: system.commits().len(),
         ram: &Committed { ram },
         loaded: &Laid { loaded },

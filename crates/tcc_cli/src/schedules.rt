@@ -1,91 +1,20 @@
-// The machine after a schedule: one that a seed picks or threads make, or one that a file holds.
-ghost use Rattle.std.specs.Prelude.{◌≡◌, ◌≤◌, [], IfErr, IfOk, IfSome, length, map};
+// The machine after a schedule that a file holds.
+ghost use Rattle.std.specs.Prelude.{◌≡◌, ◌≤◌, [], IfErr, IfOk, length, map};
 ghost use Rattle.image_load.specs.Contents.{started};
 ghost use Rattle.tcc_cli.specs.Failing.{HasLine, IsReadFault, IsScheduleRefused, replay_refusal, text_refusal};
 ghost use Rattle.tcc_cli.specs.Looks.{AreFirst, IsFirstRefused};
-ghost use Rattle.tcc_cli.specs.Runs.{picked_by};
-ghost use Rattle.tcc_cli.specs.Schedules.{IsMade, IsScheduleOf};
+ghost use Rattle.tcc_cli.specs.Schedules.{IsScheduleOf};
 ghost use Rattle.tcc_msg.specs.Plain.{event_of};
 ghost use Rattle.tcc_base.specs.Limits.{run_limit};
 
 use crate::refusal::Refusal;
-use apart_run::run_threads;
 use image_load::Loaded;
-use rules_tcc::a_picked_schedule_is_a_run;
 use schedule_text::{TextFault, read};
 use std::alloc::Global;
-use std::sync::Wait;
-use std::thread::Threads;
-use tcc_base::{Config, NoMemory};
+use tcc_base::Config;
 use tcc_msg::Schedule;
-use tcc_pick::Chooser;
 use tcc_refine::Refined;
 use tcc_replay::{ReplayFault, replay};
-use tcc_workers::WorkPlan;
-use tcc_world::Gate;
-
-/// How the events of a run come about: at most so many, by a seed, on so many host threads or on none. A thread's turn has at most `batch`
-/// acts of its node.
-#[derive(Clone, Copy, Debug)]
-pub struct RunPlan {
-    pub steps: u64,
-    pub seed: u64,
-    pub threads: Option<u8>,
-    pub batch: u16,
-}
-
-/// The machine after a run. With host threads it may wait for them.
-pub fn run_by<R: Threads + Wait + Sync, G: Gate + Sync>(
-    rt: &R,
-    alloc: Global,
-    loaded: &Loaded,
-    plan: RunPlan,
-    gate: &G,
-) -> Result<Refined, NoMemory>
-    requires few { plan.steps ≤ run_limit }
-    requires threads { IfSome plan.threads (λ t. (1 ≤ t) × (t ≤ 16)) }
-    requires batch { (1 ≤ plan.batch) × (plan.batch ≤ 1024) }
-    ensures code { IfOk result (λ r. r.machine.cores.code ≡ loaded.now) }
-    ensures made { IfOk result (λ r. IsMade plan.threads (started loaded.now) plan.seed plan.steps r.taken) }
-    ensures few { IfOk result (λ r. length r.taken ≤ plan.steps) }
-    ensures settled { IfOk result (λ r. r.machine.unsent ≡ []) }
-{
-    let RunPlan {
-        steps,
-        seed,
-        threads,
-        batch,
-    } = plan;
-    match threads {
-        None => pick(alloc, loaded, seed, steps),
-        Some(threads) => run_threads(
-            rt,
-            alloc,
-            loaded,
-            &WorkPlan {
-                threads,
-                steps,
-                seed,
-                batch,
-            },
-            gate,
-        ),
-    }
-}
-
-/// The machine after at most so many events that a seed picks.
-pub fn pick(alloc: Global, loaded: &Loaded, seed: u64, steps: u64) -> Result<Refined, NoMemory>
-    requires few { steps ≤ run_limit }
-    ensures code { IfOk result (λ r. r.machine.cores.code ≡ loaded.now) }
-    ensures picked { IfOk result (λ r. map event_of r.taken ≡ picked_by (started loaded.now) seed steps) }
-    ensures few { IfOk result (λ r. length r.taken ≤ steps) }
-    ensures settled { IfOk result (λ r. r.machine.unsent ≡ []) }
-{
-    a_picked_schedule_is_a_run();
-    let mut refined = Refined::start(alloc, loaded)?;
-    Chooser::new(seed).run(&mut refined, steps as u32)?;
-    Ok(refined)
-}
 
 /// The schedule that a file holds, with these settings; or the first line at fault.
 fn schedule_in(alloc: Global, config: &Config, bytes: &[u8]) -> Result<Schedule, TextFault>

@@ -1,5 +1,6 @@
 -- The proofs of this crate.
 pub mod Lemmas
 mod Chosen
+mod Noted
 mod Picked
 mod Took

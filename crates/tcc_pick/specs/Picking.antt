@@ -1,8 +1,10 @@
--- Events of a schedule that a machine has taken and listed.
-use Rattle.std.specs.Prelude.{ℕ, ◌+◌, ◌≡◌, List, ◌++◌, length, map, Some}
+-- Events of a schedule that a machine has taken, with a list of them or without one.
+use Rattle.std.specs.Prelude.{ℕ, ◌+◌, ◌≡◌, List, [], ◌++◌, length, map, Some}
+use Rattle.std.specs.List.{flat_map}
 use Rattle.rand_pcg.specs.Lcg.{Lcg}
 use Rattle.rules_maps.specs.Nodes.{Event}
 use Rattle.tcc_msg.specs.Plain.{event_of}
+use Rattle.tcc_msg.specs.declared.event.Event.{Event as Listed}
 use Rattle.rules_tcc.specs.Picked.{picked}
 use Rattle.rules_tcc.specs.Step.{run_from}
 use Rattle.net_core.specs.Machine.{Machine, history_of, program_of, settings_of, world_of}
@@ -26,3 +28,17 @@ pub record TookSome (old new : Refined) (es : List Event) : Type 0 where
   pub left : List Event
   pub parts : es ≡ firsts ++ left
   pub took : TookAll old new firsts
+
+-- a machine with a list of events
+abbrev pub listing : Machine → List Listed → Refined
+listing m taken = record { machine = m; taken = taken }
+
+-- the machine took these events without a list of them, and what each adds was written down behind what stood there
+pub record NotedAll (old new : Machine) (es : List Event) (line : Listed → List ℕ) (before after : List ℕ) : Type 0 where
+  pub taken : List Listed
+  pub took : TookAll (listing old []) (listing new taken) es
+  pub noted : after ≡ before ++ flat_map line taken
+
+-- it took the first ones of these
+abbrev pub TookFirst : (old new : Machine) → List Event → Type 0
+TookFirst old new es = (taken : List Listed) × TookSome (listing old []) (listing new taken) es

@@ -6,10 +6,11 @@ ghost use Rattle.tcc_msg.specs.Plain.{event_of};
 ghost use Rattle.rules_tcc.specs.Picked.{chosen};
 ghost use Rattle.rules_tcc.specs.Useful.{useful};
 ghost use Rattle.net_core.specs.Machine.{program_of, settings_of, world_of};
-ghost use Rattle.tcc_pick.specs.Picking.{TookAll, TookSome, picks};
+ghost use Rattle.tcc_pick.specs.Picking.{NotedAll, TookFirst, picks};
 ghost use Rattle.tcc_pick.specs.Words.{after_words, seeded};
 ghost use Rattle.tcc_base.specs.Limits.{run_limit};
 
+use crate::recorder::Recorder;
 use net_core::System;
 use rand_core::SeedableRng;
 use rand_core::utils::NextWord;
@@ -17,7 +18,6 @@ use rand_pcg::Lcg64Xsh32;
 use std::marker::Model;
 use tcc_base::NoMemory;
 use tcc_msg::Event;
-use tcc_refine::Refined;
 
 /// A chooser of events. In a clause it is its generator.
 #[derive(Drop)]
@@ -62,26 +62,34 @@ impl Chooser {
     }
 
     /// The machine takes the events that the next words pick, so many at most, or fewer where none is useful any more: one word is drawn
-    /// for each. After want of memory it has taken the first of them, and a word may be drawn for the event at which memory ran out.
+    /// for each, and the recorder is told of it. No list of them is kept. After want of memory the machine has taken the first of them, a
+    /// word may be drawn for the event at which memory ran out, and a part of what the last one adds may be written down.
     ///
-    /// The time is that of the events, each by `next` and `Refined::step`.
-    pub fn run(&mut self, refined: &mut Refined, steps: u32) -> Result<(), NoMemory>
-        requires { refined.old.machine.events + steps ≤ run_limit }
-        ensures took { OnOk result (TookAll refined.old refined.new (picks steps self.old refined.old.machine)) }
-        ensures settled { OnOk result (refined.new.machine.unsent ≡ []) }
-        ensures drawn { OnOk result (self.new ≡ after_words (length (picks steps self.old refined.old.machine)) self.old) }
-        ensures stopped { OnErr result (TookSome refined.old refined.new (picks steps self.old refined.old.machine)) }
+    /// The time is that of the events, each by `next`, `System::step` and `Recorder::note`.
+    pub fn run<R: Recorder>(
+        &mut self,
+        system: &mut System,
+        steps: u32,
+        recorder: &mut R,
+    ) -> Result<(), NoMemory>
+        requires { system.old.events + steps ≤ run_limit }
+        ensures took { OnOk result (NotedAll system.old system.new (picks steps self.old system.old)
+            R.line (R.bytes recorder.old) (R.bytes recorder.new)) }
+        ensures settled { OnOk result (system.new.unsent ≡ []) }
+        ensures drawn { OnOk result (self.new ≡ after_words (length (picks steps self.old system.old)) self.old) }
+        ensures stopped { OnErr result (TookFirst system.old system.new (picks steps self.old system.old)) }
     {
         for _ in 0..steps {
-            refined.settle()?;
-            let Some(e) = self.next(refined.system()) else {
+            system.settle()?;
+            let Some(e) = self.next(system) else {
                 return Ok(());
             };
-            match refined.step(e) {
+            match system.step(e) {
                 Ok(_) => {}
                 Err(_) => return Err(NoMemory),
             }
+            recorder.note(&e)?;
         }
-        refined.settle()
+        system.settle()
     }
 }

@@ -2,5 +2,7 @@
 #![tactic(auto)]
 
 mod chooser;
+mod recorder;
 
 pub use chooser::Chooser;
+pub use recorder::{Recorder, Unrecorded};

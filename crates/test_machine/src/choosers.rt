@@ -1,12 +1,14 @@
 // Machines of two cores and two directories that run by a seed, with ample memory.
+ghost use Rattle.std.specs.Prelude.{[]};
+
 use crate::loading::{STORES_SEVEN_AND_HALTS, loaded};
 use image_load::Loaded;
 use net_core::System;
 use std::alloc::Global;
 use std::test::Fail;
+use tcc_base::NoMemory;
 use tcc_msg::Event;
-use tcc_pick::Chooser;
-use tcc_refine::Refined;
+use tcc_pick::{Chooser, Recorder};
 
 /// What a core's number stands for where there is none.
 const NONE: u8 = 255;
@@ -19,7 +21,9 @@ struct State {
     useful: u64,
     /// Whether one more event is chosen.
     goes_on: bool,
-    /// The cores of the first events, which execute.
+    /// How many events were told.
+    told: u64,
+    /// The cores of the first of them, which execute.
     first: [u8; 5],
     /// The cores of the commits, by rising TID.
     commits: [u8; 5],
@@ -33,13 +37,25 @@ fn executes(e: &Event) -> u8 {
     }
 }
 
-/// The first events of a machine.
-fn first_events(taken: &[Event]) -> [u8; 5] {
-    let mut first = [NONE; 5];
-    for (core, e) in first.iter_mut().zip(taken) {
-        *core = executes(e);
+/// What was told of a machine's events.
+#[derive(Clone, Copy, Debug)]
+struct Told {
+    count: u64,
+    first: [u8; 5],
+}
+
+impl Recorder for Told {
+    ghost bytes = { λ _. [] };
+
+    ghost line = { λ _. [] };
+
+    fn note(&mut self, event: &Event) -> Result<(), NoMemory> {
+        if self.count < 5 {
+            self.first[self.count as usize] = executes(event);
+        }
+        self.count = self.count.saturating_add(1);
+        Ok(())
     }
-    first
 }
 
 /// The cores of a machine's first commits.
@@ -52,30 +68,34 @@ fn committers(system: &System) -> [u8; 5] {
 }
 
 /// Calls a chooser so often, each time for so many events at most, and tells where the machine is then.
-fn observe(refined: &mut Refined, seed: u64, calls: &[u8]) -> Result<State, Fail> {
+fn observe(system: &mut System, seed: u64, calls: &[u8]) -> Result<State, Fail> {
     let mut chooser = Chooser::new(seed);
+    let mut told = Told {
+        count: 0,
+        first: [NONE; 5],
+    };
     for &steps in calls {
-        if refined.system().events() > 999 {
+        if system.events() > 999 {
             return Err("the machine took more events than it was asked for")?;
         }
-        chooser.run(refined, u32::from(steps))?;
+        chooser.run(system, u32::from(steps), &mut told)?;
     }
-    refined.settle()?;
-    let system = refined.system();
+    system.settle()?;
     Ok(State {
         events: system.events(),
         done: system.done(),
         useful: system.useful_count(),
         goes_on: chooser.next(system).is_some(),
-        first: first_events(refined.taken()),
+        told: told.count,
+        first: told.first,
         commits: committers(system),
     })
 }
 
 /// The state after such calls from the machine's start.
 fn state_after(alloc: Global, loaded: &Loaded, seed: u64, calls: &[u8]) -> Result<State, Fail> {
-    let mut refined = Refined::start(alloc, loaded)?;
-    observe(&mut refined, seed, calls)
+    let mut system = System::start(alloc, loaded)?;
+    observe(&mut system, seed, calls)
 }
 
 /// Calls of a seed's chooser, and what comes of them.
@@ -93,6 +113,7 @@ fn a_seed_decides_what_comes(rt: HostRuntime) -> Result<(), Fail> {
         done: true,
         useful: 0,
         goes_on: false,
+        told: 44,
         first: [1, 1, 1, 0, 1],
         commits: [1, 0, 1, 0, NONE],
     };
@@ -110,6 +131,7 @@ fn a_seed_decides_what_comes(rt: HostRuntime) -> Result<(), Fail> {
                 done: false,
                 useful: 1,
                 goes_on: true,
+                told: 43,
                 ..ended
             },
         },
@@ -123,6 +145,7 @@ fn a_seed_decides_what_comes(rt: HostRuntime) -> Result<(), Fail> {
             calls: &[100],
             state: State {
                 events: 45,
+                told: 45,
                 first: [0, 0, 1, 1, 0],
                 commits: [0, 1, 0, 1, NONE],
                 ..ended

@@ -1,12 +1,12 @@
 // Runs of a workload by picked schedules.
-ghost use Rattle.std.specs.Prelude.{◌+◌, ◌≤◌};
+ghost use Rattle.std.specs.Prelude.{◌≤◌};
 ghost use Rattle.tcc_base.specs.Limits.{run_limit};
 
 use image_load::{LoadFault, Loaded, load, raw};
 use net_core::System;
 use std::alloc::Global;
 use tcc_base::{Config, List, NoMemory};
-use tcc_pick::Chooser;
+use tcc_pick::{Chooser, Unrecorded};
 use work_gen::{Work, workload};
 
 /// A workload on a machine, and how often it is run.
@@ -51,29 +51,12 @@ fn loaded(alloc: Global, task: &Task) -> Result<Loaded, NoMemory> {
     loaded.map_err(|_: LoadFault| NoMemory)
 }
 
-/// The machine takes so many events at most, or fewer where none is useful any more. It keeps no list of them, so that what is timed
-/// is the machine alone.
-fn take(chooser: &mut Chooser, system: &mut System, steps: u32) -> Result<(), NoMemory>
-    requires { system.old.events + steps ≤ run_limit }
-{
-    for _ in 0..steps {
-        system.settle()?;
-        let Some(e) = chooser.next(system) else {
-            return Ok(());
-        };
-        if system.step(e).is_err() {
-            return Err(NoMemory);
-        }
-    }
-    system.settle()
-}
-
 /// A run from the start, of so many events at most.
 fn run(alloc: Global, loaded: &Loaded, seed: u64, steps: u32) -> Result<End, NoMemory>
     requires { steps ≤ run_limit }
 {
     let mut system = System::start(alloc, loaded)?;
-    take(&mut Chooser::new(seed), &mut system, steps)?;
+    Chooser::new(seed).run(&mut system, steps, &mut Unrecorded)?;
     Ok(End {
         events: system.events(),
         done: system.done(),

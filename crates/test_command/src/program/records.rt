@@ -94,6 +94,43 @@ fn records_are_replayed_to_the_same_report(rt: HostRuntime) -> Result<(), Fail> 
     Ok(())
 }
 
+/// Runs by a seed that are recorded, the same without a record, and their image.
+const ALIKE: [(&str, &str, &[u32]); 4] = [
+    (
+        "run --raw --cores 2 --record s a",
+        "run --raw --cores 2 a",
+        COUNT,
+    ),
+    (
+        "run --raw --cores 2 --steps 30 --seed 5 --record s a",
+        "run --raw --cores 2 --steps 30 --seed 5 a",
+        COUNT,
+    ),
+    (
+        "run --raw --steps 0 --record s a",
+        "run --raw --steps 0 a",
+        HALT,
+    ),
+    (
+        "run --raw --cores 2 --sets 1 --ways 1 --seed 3 --record s a",
+        "run --raw --cores 2 --sets 1 --ways 1 --seed 3 a",
+        TWO_LINES,
+    ),
+];
+
+#[test]
+fn a_record_changes_no_report(rt: HostRuntime) -> Result<(), Fail> {
+    for (recorded, bare, image) in ALIKE {
+        let files = [("a", Held::Image(image))];
+        let one = call(&rt, rt.alloc(), recorded, &over(&files))?;
+        let other = call(&rt, rt.alloc(), bare, &over(&files))?;
+        assert_eq!(rt; one.status, other.status, "{bare}");
+        assert_eq!(rt; one.out.as_slice(), other.out.as_slice(), "{bare}");
+        assert_eq!(rt; other.record, None);
+    }
+    Ok(())
+}
+
 /// The only run of a program that halts, on one core and one directory.
 const HALTED: &str =
     "tcc-schedule 1 / cores 1 dirs 1 sets 16 ways 2 base 2147483648 ram 65536 / e 0 / e 0 / d c0 v 0 / d v c0 0 / d c0 d0 0 /

@@ -1,47 +1,18 @@
--- The report shows what is committed.
-use Rattle.std.proofs.Common.{◌≡◌, ◌∙◌, ◌/◌, ap, length}
+-- The events that led there are the machine's list.
 use Rattle.image_load.specs.Contents.{started}
-use Rattle.report_text.specs.Text.{report_text}
-use Rattle.theorem_riscv.specs.Given.{committed}
-use Rattle.rules_tcc.specs.Seen.{seen}
-use Rattle.net_core.specs.Machine.{history_of, settings_of, start_of, world_of}
-use Rattle.tcc_cli.specs.Runs.{run_text, shown}
-use Rattle.tcc_cli.proofs.Machines.{done-here, runs-to}
+use Rattle.std.specs.String.{string_bytes}
+use Rattle.tcc_cli.specs.Runs.{run_text}
+use Rattle.tcc_cli.proofs.Machines.{has-list, runs-here, text-here}
 use Rattle.tcc_cli.proofs.reports.report_of.Goals as goal
-
-same : (c : goal.After-drop-consoles-inside-2)
-    → report_text c.done-done.result (length c.taken.result.now) (record {
-      commits = c.commits.result.now;
-      cores = c.deref.result.now;
-      base = c.base.result;
-      count = (settings_of c.in_ok-ram.ram).ram / 4;
-      ram = seen (settings_of c.in_ok-ram.ram) (world_of c.in_ok-ram.ram);
-      loaded = (started c.args.loaded.now).word;
-    })
-    ≡ run_text (started c.args.loaded.now) c.done-done.result (length c.args.refined.now.taken) (history_of c.args.refined.now.machine)
-unfolding run_text committed history_of started
-same c =
-    let m = c.args.refined.now.machine in
-    let is = c.system-system.ensures.machine in
-    let read : c.in_ok-ram.ram ≡ m = c.in_ok-ram.ensures ∙ is in
-    let code = c.requires.code in
-    λ i. report_text c.done-done.result (length (c.taken.ensures.taken i)) (record {
-      commits = (c.commits.ensures ∙ ap (λ n. n.commits) is) i;
-      cores = (c.deref.ensures.value ∙ c.cores-2.view_is ∙ c.in_ok-cores.ensures
-          ∙ ap (λ n. (shown (start_of n) (history_of n)).cores) is ∙ ap (λ k. (shown (started k) (history_of m)).cores) code) i;
-      base = (c.base.ensures.value ∙ ap (λ s. s.base) c.config.ensures ∙ ap (λ n. (settings_of n).base) is
-          ∙ ap (λ k. k.settings.base) code) i;
-      count = (ap (λ n. (settings_of n).ram / 4) read ∙ ap (λ k. k.settings.ram / 4) code) i;
-      ram = (ap (λ n. seen (settings_of n) (world_of n)) read ∙ ap (λ k. seen k.settings (world_of m)) code) i;
-      loaded = (started c.args.loaded.now).word;
-    })
 
 pub returns-clause-runs : goal.returns-clause-runs
 returns-clause-runs c =
-    runs-to c.args.refined.now c.args.loaded.now c.done-done.result c.taken.ensures.refined c.requires.code
-    (done-here c.args.refined.now c.system-system.result.now c.args.loaded.now c.done-done.result c.system-system.ensures.machine
-    c.requires.code
-    c.done-done.ensures)
+    runs-here (started c.args.loaded.now) c.args.refined.now c.system.result.now (λ f. f.done) c.machine_report.result
+    c.system.ensures.machine (has-list c.args.refined.now c.args.loaded.now c.taken.ensures.refined c.requires.code)
+    c.machine_report.ensures.runs
 
 pub returns-clause-text : goal.returns-clause-text
-returns-clause-text c = c.in_ok-text.ensures ∙ same c
+returns-clause-text c =
+    text-here (started c.args.loaded.now) (run_text (started c.args.loaded.now)) c.args.refined.now c.system.result.now (λ f. f.done)
+    (λ f. string_bytes f.text) c.machine_report.result c.system.ensures.machine c.taken.ensures.refined.count
+    c.machine_report.ensures.text

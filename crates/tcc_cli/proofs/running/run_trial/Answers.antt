@@ -1,8 +1,7 @@
 -- What was picked, and its summary.
 use Rattle.image_load.specs.Contents.{started}
-use Rattle.net_core.specs.Machine.{history_of}
 use Rattle.std.specs.String.{string_bytes}
-use Rattle.tcc_cli.proofs.Comes.{ran-so}
+use Rattle.tcc_cli.proofs.Machines.{ran-here}
 use Rattle.tcc_cli.specs.Runs.{summary_text}
 use Rattle.tcc_cli.specs.Schedules.{IsPicked}
 use Rattle.tcc_cli.proofs.running.run_trial.Goals as goal
@@ -10,6 +9,5 @@ use Rattle.tcc_cli.proofs.running.run_trial.Goals as goal
 pub returns : goal.returns
 returns c =
     let s = started c.args.loaded.now in
-    let r = c.in_ok-refined.refined in
-    ran-so s (IsPicked s c.args.seed c.args.steps) (summary_text s c.args.work c.args.number) r.taken (history_of r.machine) (λ f. f.done)
-    (λ f. string_bytes f.text) c.summary_of.result c.in_ok-refined.ensures.picked c.summary_of.ensures.runs c.summary_of.ensures.text
+    ran-here s (IsPicked s c.args.seed c.args.steps) (summary_text s c.args.work c.args.number) c.in_ok-system.system (λ f. f.done)
+    (λ f. string_bytes f.text) c.summary_of.result c.in_ok-system.ensures.taken c.summary_of.ensures.runs c.summary_of.ensures.text

@@ -1,52 +1,87 @@
--- The event that the next word picks is taken, or the call ends.
-use Rattle.std.proofs.Common.{◌+◌, ◌∙◌, OnOk, Ok, Err, Result, ap, arith, sym, subst}
-use Rattle.tcc_pick.proofs.Picked.{Ended, Going, chosen_at, going-ends, going-more, going-none, going-same, going-stops}
+-- The event that the next word picks is taken and written down, or the call ends.
+use Rattle.std.proofs.Common.{◌+◌, ◌∙◌, OnErr, OnOk, Ok, Err, Result, ap, arith, sym, subst}
+use Rattle.tcc_pick.proofs.Noted.{Noting, noting-ends, noting-first, noting-more, noting-none, noting-one, noting-same, noting-stops}
 use Rattle.tcc_pick.proofs.chooser.Chooser.run.Goals as goal
 
 pub loop-init : goal.loop-init
-loop-init c = going-none c.args.refined.now c.args.self.now c.args.steps c.requires
+loop-init g c =
+    noting-none c.args.system.now c.args.self.now c.args.steps g.R.Recorder.line (g.R.Recorder.bytes c.args.recorder.now) c.requires
 
--- what the word chooses for the machine that was read, it chooses for this one
 pub loop-preserved : goal.loop-preserved
-loop-preserved c =
-    let put = c.in_ok-settle.ensures in
+loop-preserved g c =
+    let put = c.settle.ensures in
     let did = c.in-Ok.ensures in
-    let settled = going-same c.settle.new.self c.loop.invariant
-    (record { history = put.history; taken = put.taken; events = put.events; code = put.code }) in
-    let choice = ap (chosen_at c.loop.self) (sym c.system.ensures.machine) ∙ sym c.in-Some.ensures.chosen in
-    subst (λ g. Going c.args.refined.now c.step.new.self c.args.self.now g c.args.steps (c.loop.counter + 1)) (sym c.in-Some.ensures.drawn)
-    (going-more c.step.new.self c.in-Some.e settled c.loop-test.true choice
-    (record { next = did.next; taken = did.taken; events = did.counted; code = did.code }))
+    let settled = noting-same c.settle.new.self c.loop.invariant
+    (record { history = put.history; events = put.events; code = ap (λ k. k.code) put.cores }) in
+    subst (λ w. Noting c.args.system.now c.step.new.self c.args.self.now w c.args.steps (c.loop.counter + 1) g.R.Recorder.line
+    (g.R.Recorder.bytes c.args.recorder.now) (g.R.Recorder.bytes c.note.new.self)) (sym c.in-Some.ensures.drawn)
+    (noting-more c.step.new.self c.in-Some.e _ settled c.loop-test.true (sym c.in-Some.ensures.chosen)
+    (record { next = did.next; events = did.counted; code = did.code }) c.in_ok-note.ensures)
 
 -- no event is useful
-stops : (c : goal.In_default) → Ended c.args.refined.now c.settle.new.self c.args.self.now c.loop.self c.args.steps
-stops c =
-    let put = c.in_ok-settle.ensures in
-    let settled = going-same c.settle.new.self c.loop.invariant
-    (record { history = put.history; taken = put.taken; events = put.events; code = put.code }) in
-    let choice = ap (chosen_at c.loop.self) (sym c.system.ensures.machine) ∙ sym c.in_default.ensures.chosen in
-    going-stops settled c.loop-test.true choice
-
 pub returns-in_default-clause-took : goal.returns-in_default-clause-took
-returns-in_default-clause-took c = (stops c).took
+returns-in_default-clause-took g c =
+    let put = c.settle.ensures in
+    let settled = noting-same c.settle.new.self c.loop.invariant
+    (record { history = put.history; events = put.events; code = ap (λ k. k.code) put.cores }) in
+    (noting-stops settled c.loop-test.true (sym c.in_default.ensures.chosen)).took
 
 pub returns-in_default-clause-drawn : goal.returns-in_default-clause-drawn
-returns-in_default-clause-drawn c = c.in_default.ensures.drawn ∙ (stops c).drawn
-
--- all words are drawn
-ends : (c : goal.After-settle-2) → Ended c.args.refined.now c.settle-2.new.self c.args.self.now c.loop.self c.args.steps
-ends c =
-    let put = c.settle-2.ensures in
-    going-ends (going-same c.settle-2.new.self c.loop.invariant
-    (record { history = put.history; taken = put.taken; events = put.events; code = put.code }))
-    (omega (arith, c.loop-test.false, c.loop.auto.counter-end))
+returns-in_default-clause-drawn g c =
+    let put = c.settle.ensures in
+    let settled = noting-same c.settle.new.self c.loop.invariant
+    (record { history = put.history; events = put.events; code = ap (λ k. k.code) put.cores }) in
+    c.in_default.ensures.drawn ∙ (noting-stops settled c.loop-test.true (sym c.in_default.ensures.chosen)).drawn
 
 on-ok : {E P : Type 0} (r : Result (Unit {0}) E) → P → OnOk r P
 on-ok (Ok x) p = p
 on-ok (Err e) p = tt
 
+on-err : {A E P : Type 0} (r : Result A E) → P → OnErr r P
+on-err (Ok x) p = tt
+on-err (Err e) p = p
+
+-- all words are drawn
 pub returns-clause-took : goal.returns-clause-took
-returns-clause-took c = on-ok c.settle-2.result (ends c).took
+returns-clause-took g c =
+    let put = c.settle-2.ensures in
+    let settled = noting-same c.settle-2.new.self c.loop.invariant
+    (record { history = put.history; events = put.events; code = ap (λ k. k.code) put.cores }) in
+    on-ok c.settle-2.result (noting-ends settled (omega (arith, c.loop-test.false, c.loop.auto.counter-end))).took
 
 pub returns-clause-drawn : goal.returns-clause-drawn
-returns-clause-drawn c = on-ok c.settle-2.result (ends c).drawn
+returns-clause-drawn g c =
+    let put = c.settle-2.ensures in
+    let settled = noting-same c.settle-2.new.self c.loop.invariant
+    (record { history = put.history; events = put.events; code = ap (λ k. k.code) put.cores }) in
+    on-ok c.settle-2.result (noting-ends settled (omega (arith, c.loop-test.false, c.loop.auto.counter-end))).drawn
+
+-- memory ran out
+pub returns-in_err-settle-clause-stopped : goal.returns-in_err-settle-clause-stopped
+returns-in_err-settle-clause-stopped g c =
+    let put = c.settle.ensures in
+    on-err _ (noting-first c.settle.new.self c.loop.invariant
+    (record { history = put.history; events = put.events; code = ap (λ k. k.code) put.cores }))
+
+pub returns-in-Err-clause-stopped : goal.returns-in-Err-clause-stopped
+returns-in-Err-clause-stopped g c =
+    let put = c.settle.ensures in
+    let did = c.in-Err.ensures in
+    let settled = noting-same c.settle.new.self c.loop.invariant
+    (record { history = put.history; events = put.events; code = ap (λ k. k.code) put.cores }) in
+    noting-first c.step.new.self settled (record { history = did.unchanged; events = did.counted; code = did.code })
+
+pub returns-in_err-note-clause-stopped : goal.returns-in_err-note-clause-stopped
+returns-in_err-note-clause-stopped g c =
+    let put = c.settle.ensures in
+    let did = c.in-Ok.ensures in
+    let settled = noting-same c.settle.new.self c.loop.invariant
+    (record { history = put.history; events = put.events; code = ap (λ k. k.code) put.cores }) in
+    on-err _ (noting-one c.step.new.self c.in-Some.e settled c.loop-test.true (sym c.in-Some.ensures.chosen)
+    (record { next = did.next; events = did.counted; code = did.code }))
+
+pub returns-clause-stopped : goal.returns-clause-stopped
+returns-clause-stopped g c =
+    let put = c.settle-2.ensures in
+    on-err c.settle-2.result (noting-first c.settle-2.new.self c.loop.invariant
+    (record { history = put.history; events = put.events; code = ap (λ k. k.code) put.cores }))
