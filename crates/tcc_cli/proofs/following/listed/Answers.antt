@@ -1,8 +1,9 @@
 -- What the list names, and why it is refused.
 use Rattle.std.proofs.Common.{◌∙◌, ap, sym}
+use Rattle.image_load.specs.Contents.{started}
 use Rattle.rv_plain.specs.PlainState.{plain_of}
 use Rattle.tcc_cli.proofs.Followed.{was-listed}
-use Rattle.tcc_cli.proofs.Executed.{list-read, list-stuck, list-unread}
+use Rattle.tcc_cli.proofs.Executed.{list-read, list-stuck, list-unread, orders-stuck}
 use Rattle.tcc_cli.proofs.following.listed.Goals as goal
 
 pub returns-in-Err-clause-refused : goal.returns-in-Err-clause-refused
@@ -13,9 +14,9 @@ returns-in-Err-clause-refused c =
 pub returns-in-Err-run_orders-clause-refused : goal.returns-in-Err-run_orders-clause-refused
 returns-in-Err-run_orders-clause-refused c =
     list-stuck c.args.loaded.now c.config.result.now.cores c.args.bytes.now c.in-Ok.listed.items c.deref.result.now
-    c.in-Err-run_orders.fault
     c.of_text-in-Err-run_orders.result (ap (λ s. s.cores) c.config.ensures) c.in-Ok.ensures.found c.deref.ensures.value
-    c.in-Err-run_orders.ensures.fault c.of_text-in-Err-run_orders.ensures
+    (orders-stuck (started c.args.loaded.now) c.deref.result.now c.in-Err-run_orders.fault c.of_text-in-Err-run_orders.result
+    c.in-Err-run_orders.ensures.fault c.of_text-in-Err-run_orders.ensures)
 
 pub returns-in-Ok-orders_of-clause-listed : goal.returns-in-Ok-orders_of-clause-listed
 returns-in-Ok-orders_of-clause-listed c =
