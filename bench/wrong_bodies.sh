@@ -7,9 +7,10 @@
 #
 # An edit, bench/wrong_bodies/CRATE/EDIT.edit, is one of must-fail/ with two lines more: 'only: ' names the function that must not be proved
 # with it, and 'clause: ' the clause of its contract that fails, or 'goal: ' what fails where that isn't a clause with a name, as the prover
-# calls it. The edits of a crate are tried at once, on a copy of it, over the libraries that `rt ci` has left in the out/ folders of the
-# crates below it; nothing is built. Those of one function are tried one after another, and so is what isn't refused beside others, alone.
-# An edit is refused where the prover names that clause or goal of that function; or not refused; or not tried: it can't be applied, what it
+# calls it. An edit with neither is told what failed, and the function must be proved by the same check without it. The edits of a crate
+# are tried at once, on a copy of it, over the libraries that `rt ci` has left in the out/ folders of the crates below it; nothing is built.
+# Those of one function are tried one after another, and so is what isn't refused beside others, alone. An edit is refused where the prover
+# names that clause or goal of that function, if it has one; or not refused; or not tried: it can't be applied, what it
 # makes of a text can't be read, a library isn't there, or the prover came to no answer. The status is 0 where all are refused, 1 where one
 # isn't, and else 2; but with another kit than that of release/, whose words may be others, an edit that isn't tried is told and is no fault.
 # --read only says which can't be applied, and needs no prover.
@@ -43,8 +44,8 @@ class Edit:
             self.read(path.read_text())
         except (OSError, ValueError) as error:
             raise Untried(f"it can't be read: {error}")
-        if not self.changes or not self.only.startswith(f"{self.crate}::") or bool(self.clause) == bool(self.goal):
-            raise Untried("it changes nothing, names no function of its crate, or not one clause or goal")
+        if not self.changes or not self.only.startswith(f"{self.crate}::") or self.clause and self.goal:
+            raise Untried("it changes nothing, names no function of its crate, or both a clause and a goal")
         if self.applied({}) is None:
             raise Untried("an old text isn't once in its file")
 
@@ -75,11 +76,15 @@ class Edit:
     def changes_specs(self):
         return any(file.startswith("specs/") for file, _, _ in self.changes)
 
+    def is_named(self):
+        """Whether it says what must fail."""
+        return bool(self.clause or self.goal)
+
     def is_refused_by(self, goals):
-        """Whether the goal that must fail is among these."""
+        """Whether what must fail is among these goals."""
         if self.clause:
             return any(it.startswith("returns") and it.endswith(f"-clause-{self.clause}") for it in goals)
-        return self.goal in goals
+        return not self.goal or self.goal in goals
 
 
 def kit():
@@ -138,11 +143,12 @@ def judged(edit, texts, status, lines):
         return UNTRIED, unread
     if said.startswith("proved"):
         return MISSED, f"{edit.only} is proved"
-    if status != 1 or not lines[-1].startswith("only=") or not said.startswith(("not proved", "no proof")):
+    only_calls = not edit.is_named() and "it calls" in said
+    if status != 1 or not lines[-1].startswith("only=") or not said.startswith(("not proved", "no proof")) or only_calls:
         return UNTRIED, f"the check ended with {status}: {said or lines[-1]}"
     if not edit.is_refused_by(goals):
         return MISSED, f"{edit.only} is not proved, but not for {edit.clause or edit.goal}: {' '.join(sorted(goals)) or said}"
-    return REFUSED, f"{edit.only}, {'clause ' + edit.clause if edit.clause else edit.goal}"
+    return REFUSED, f"{edit.only}, {'clause ' + edit.clause if edit.clause else edit.goal or ' '.join(sorted(goals))}"
 
 
 def stop_without_libraries(crate):
@@ -172,6 +178,11 @@ def try_crate(crate, edits, room):
     """Tries the edits of a crate, and gives what each came to, and why."""
     kept = f"{room}/kept"
     os.mkdir(kept)
+    unnamed = sorted({it.only for it in edits if not it.is_named()})
+    lines = check(crate, {}, unnamed, kept, room)[1] if unnamed else []
+    for it in unnamed:
+        if not verdict_on(it, lines)[0].startswith("proved"):
+            raise Untried(f"without an edit {it} isn't proved: {lines[-1]}")
     for at_once, texts in rounds(edits):
         answer = check(crate, texts, [it.only for it in at_once], kept, room)
         for edit in at_once:
