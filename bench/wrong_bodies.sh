@@ -7,13 +7,13 @@
 #
 # An edit, bench/wrong_bodies/CRATE/EDIT.edit, is one of must-fail/ with two lines more: 'only: ' names the function that must not be proved
 # with it, and 'clause: ' the clause of its contract that fails, or 'goal: ' what fails where that isn't a clause with a name, as the prover
-# calls it. An edit with neither is told what failed, and the function must be proved by the same check without it. The edits of a crate
-# are tried at once, on a copy of it, over the libraries that `rt ci` has left in the out/ folders of the crates below it; nothing is built.
+# calls it. An edit with neither is told what failed, and the function must be proved by the same check without it. The edits of a crate are
+# tried at once, on a copy of it, over the libraries that `rt ci` has left in the out/ folders of the crates below it; nothing is built.
 # Those of one function are tried one after another, and so is what isn't refused beside others, alone. An edit is refused where the prover
-# names that clause or goal of that function, if it has one; or not refused; or not tried: it can't be applied, what it
-# makes of a text can't be read, a library isn't there, or the prover came to no answer. The status is 0 where all are refused, 1 where one
-# isn't, and else 2; but with another kit than that of release/, whose words may be others, an edit that isn't tried is told and is no fault.
-# --read only says which can't be applied, and needs no prover.
+# names that clause or goal of that function, if it has one; or not refused; or not tried: it can't be applied, what it makes of a text
+# can't be read, a library isn't there, or the prover came to no answer. The status is 0 where all are refused, 1 where one isn't, and else
+# 2; but with another kit than that of release/, whose words may be others, an edit that isn't tried is told and is no fault. --read only
+# says which can't be applied, and needs no prover.
 set -eu
 cd "$(dirname "$0")/.."
 exec python3 - "$@" <<'END'
