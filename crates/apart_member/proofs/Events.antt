@@ -11,7 +11,7 @@ use Rattle.tcc_base.specs.declared.names.NodeId.{NodeId}
 use Rattle.tcc_base.specs.declared.names.NodeId.TheVariants as code_node
 use Rattle.tcc_base.specs.declared.names.Tid.{Tid}
 use Rattle.rules_maps.specs.Bridge.{node_of}
-use Rattle.rules_maps.specs.Nodes.{Node, Core, Dir, Vendor, Event, Exec, Evict, Deliver, Msg, TidGrant, TidReq, node_eq}
+use Rattle.rules_maps.specs.Nodes.{Node, Core, Event, Exec, Evict, Deliver, Msg, TidGrant, TidReq, node_eq}
 use Rattle.tcc_msg.specs.Plain.{sends_of}
 use Rattle.tcc_msg.specs.declared.msg.Msg.{Msg as CodeMsg}
 use Rattle.tcc_msg.specs.declared.msg.Msg.TheVariants as code

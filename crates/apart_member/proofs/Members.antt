@@ -9,16 +9,15 @@ use Rattle.tcc_base.specs.Limits.{run_limit}
 use Rattle.tcc_base.specs.declared.names.NodeId.{NodeId}
 use Rattle.base_lemmas.proofs.Lemmas.{node_eq-refl}
 use Rattle.rules_maps.specs.Bridge.{node_of}
-use Rattle.rules_maps.specs.Nodes.{Node, Core, Event, Msg, node_eq}
+use Rattle.rules_maps.specs.Nodes.{Node, Event, Msg, node_eq}
 use Rattle.rules_maps.specs.Shape.{Shape}
 use Rattle.tcc_msg.specs.Plain.{msg_of, sends_of}
 use Rattle.tcc_msg.specs.declared.msg.Msg.{Msg as CodeMsg}
 use Rattle.rules_tcc.specs.Step.{is_node}
-use Rattle.core_node.specs.View.{core_of}
 use Rattle.theorem_apart.specs.Apart.{ActsInBounds, NodeInBounds}
-use Rattle.theorem_apart.proofs.Lemmas.{attempt_short, next_few, riscv_nodes_stay}
+use Rattle.theorem_apart.proofs.Lemmas.{next_few, riscv_nodes_stay}
 use Rattle.rules_apart.specs.Carried.{IsCarried}
-use Rattle.apart_member.specs.Acting.{Acts, ActsAs, IsShort, MayDo, PartMayDo}
+use Rattle.apart_member.specs.Acting.{Acts, ActsAs, HasNext, MayDo, PartMayDo}
 use Rattle.apart_member.specs.Data.{MemberData, kind_state, node_at, state_of}
 use Rattle.apart_member.specs.DataInside.{IsMember}
 use Rattle.apart_member.specs.Placed.{IsPlaced}
@@ -27,11 +26,11 @@ use Rattle.apart_member.specs.declared.kind.MemberKind.TheVariants as kind
 
 -- ---- before the event
 
-is-short : (sh : Shape) (done : ℕ) (ram : ℕ → ℕ) (k : MemberKind) → done < run_limit
-    → NodeInBounds sh done (node_of (node_at k)) (kind_state ram k) → IsShort k
-is-short sh done ram (kind.Core id core) few b = attempt_short sh done id.0 (core_of core) few b
-is-short sh done ram (kind.Directory id dir) few b = tt
-is-short sh done ram (kind.Vendor next) few b = next_few sh done next few b
+has-next : (sh : Shape) (done : ℕ) (ram : ℕ → ℕ) (k : MemberKind) → done < run_limit
+    → NodeInBounds sh done (node_of (node_at k)) (kind_state ram k) → HasNext k
+has-next sh done ram (kind.Core id core) few b = tt
+has-next sh done ram (kind.Directory id dir) few b = tt
+has-next sh done ram (kind.Vendor next) few b = next_few sh done next few b
 
 pub may-act : (m : MemberData) (k : Contents) (e : Event) (x : Option Msg) → k ≡ m.code → IsMember m → MayDo m e x
     → m.done < run_limit → PartMayDo k m.kind e x
@@ -41,7 +40,7 @@ may-act m k e x same w a few = subst (λ c. PartMayDo c m.kind e x) (sym same) (
   names = a.names;
   enabled = a.enabled;
   carried = a.carried;
-  short = is-short m.code.settings m.done (first_ram (started m.code)) m.kind few
+  next = has-next m.code.settings m.done (first_ram (started m.code)) m.kind few
       (subst (λ n. NodeInBounds m.code.settings m.done (node_of n) (state_of m)) w.named w.bounded);
 })
 

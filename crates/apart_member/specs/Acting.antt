@@ -1,5 +1,5 @@
 -- What a node does in one event, against the rules of its kind.
-use Rattle.std.specs.Prelude.{ℕ, ◌≡◌, ◌<◌, ◌≤◌, true, false, Bool, List, Option, Some, is_some}
+use Rattle.std.specs.Prelude.{ℕ, ◌≡◌, ◌≤◌, true, false, Bool, List, Option, Some, is_some}
 use Rattle.std.specs.List.{All}
 use Rattle.image_load.specs.Contents.{Contents, started}
 use Rattle.rv_code.specs.Machine.{program}
@@ -15,7 +15,6 @@ use Rattle.rules_tcc.specs.Local.{Acted, NodeState, AtDir, act, answer_acted, at
 use Rattle.rules_tcc.specs.Sends.{Sends}
 use Rattle.rules_tcc.specs.State.{DirState}
 use Rattle.rules_tcc.specs.Step.{names_nodes}
-use Rattle.core_node.specs.View.{core_of}
 use Rattle.directory.specs.Gives.{is_taken}
 use Rattle.directory.specs.declared.handled.Handled.{Handled}
 use Rattle.directory.specs.declared.handled.Handled.TheVariants.{Handled as Done, Waits, Asked, Dropped}
@@ -73,11 +72,11 @@ consumes Dropped = true
 consumes Asked = false
 consumes Waits = false
 
--- its counts have room for one more
-abbrev pub IsShort : MemberKind → Type 0
-IsShort (kind.Core id core) = (core_of core).n < run_limit
-IsShort (kind.Directory id dir) = Unit {0}
-IsShort (kind.Vendor next) = next ≤ run_limit
+-- a vendor has a TID to give
+abbrev pub HasNext : MemberKind → Type 0
+HasNext (kind.Core id core) = Unit {0}
+HasNext (kind.Directory id dir) = Unit {0}
+HasNext (kind.Vendor next) = next ≤ run_limit
 
 -- so a part may do an event of the member
 pub record PartMayDo (code : Contents) (m : MemberKind) (e : Event) (x : Option Msg) : Type 0 where
@@ -85,4 +84,4 @@ pub record PartMayDo (code : Contents) (m : MemberKind) (e : Event) (x : Option 
   pub names : names_nodes code.settings e ≡ true
   pub enabled : is_some (happens_at code (kind_state (first_ram (started code)) m) e x) ≡ true
   pub carried : BringsCarried code.settings e x
-  pub short : IsShort m
+  pub next : HasNext m

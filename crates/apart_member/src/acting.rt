@@ -41,7 +41,6 @@ fn act_core(
     requires at { at_node (event_of event) ≡ Core core.old.id.0 }
     requires names { names_nodes core.old.config (event_of event) ≡ true }
     requires enabled { is_some (happens_at code.now (AtCore (core_of core.old)) (event_of event) (option_map msg_of msg)) ≡ true }
-    requires short { (core_of core.old).n < run_limit }
     requires empty { out.old.list.items ≡ [] }
     ensures acts { IfOk result
         (ActsAs code.now (AtCore (core_of core.old)) (AtCore (core_of core.new)) (event_of event)

@@ -1,9 +1,8 @@
 -- What the laws say of a machine.
-use Rattle.std.proofs.Common.{◌≡◌, ℕ, ◌<◌, ◌≤◌, length, Some, subst, arith}
+use Rattle.std.proofs.Common.{◌≡◌, ℕ, ◌<◌, length, Some, subst}
 use Rattle.image_load.specs.Contents.{Contents, started}
 use Rattle.rv_code.specs.Machine.{program}
 use Rattle.std.specs.Prelude.{List}
-use Rattle.tcc_base.specs.Limits.{run_limit}
 use Rattle.tcc_base.specs.Settings.{IsAllowed}
 use Rattle.rules_bus.specs.State.{BusEvent}
 use Rattle.rules_bus.specs.Step.{BusHistory, bus_run}
@@ -28,10 +27,3 @@ pub core-bounded : (m : BusMachine) → IsBusWhole m → (c : ℕ) → c < (bus_
     → BusCoreInBounds (bus_settings_of m) m.events (cores_of (bank_in m) c)
 unfolding bus_history_of bus_world_of
 core-bounded m w c l = (bounded m w).cores c l
-
--- an attempt is short where few events were taken
-pub short-attempt : (m : BusMachine) → IsBusWhole m → m.events < run_limit → (c : ℕ) → c < (bus_settings_of m).cores
-    → (cores_of (bank_in m) c).n < run_limit
-short-attempt m w few c l =
-    let most : (cores_of (bank_in m) c).n ≤ m.events = (core-bounded m w c l).attempt.instructions in
-    omega (arith, most, few)

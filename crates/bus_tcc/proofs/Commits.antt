@@ -12,9 +12,8 @@ use Rattle.rules_maps.specs.CacheChange.{committed, words_dropped}
 use Rattle.rules_maps.specs.Shape.{Shape, lines}
 use Rattle.rules_maps.specs.Words.{any_below, line_of, or_else, those}
 use Rattle.rules_tcc.specs.Attempt.{is_solo}
-use Rattle.rules_tcc.specs.Commit.{commit, committed_core, is_written, solo_commit, written_mask}
+use Rattle.rules_tcc.specs.Commit.{commit, committed_core, is_written, solo_commit}
 use Rattle.rules_tcc.specs.State.{CoreState}
-use Rattle.commit_engine.specs.Solo.{solo_list}
 use Rattle.rules_bus.specs.Commit.{all_clean, commit_out, wrote_some, written_words}
 use Rattle.core_node.specs.AtHand.{line_told, lines_told, words_in}
 use Rattle.bus_tcc.specs.Cleaning.{cleaned_by}

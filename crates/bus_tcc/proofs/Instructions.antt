@@ -1,9 +1,8 @@
 -- An instruction with its line at hand, and what the machine is after it.
-use Rattle.std.proofs.Common.{◌≡◌, ◌≢◌, ℕ, ◌+◌, ◌<◌, Bool, true, false, not, ◌&&◌, List, [], length, Option, Some, None, Err, refl, ap, sym}
+use Rattle.std.proofs.Common.{◌≡◌, ◌≢◌, ℕ, ◌+◌, ◌<◌, Bool, true, false, ◌&&◌, List, [], length, Option, Some, None, Err, refl, ap, sym}
 use Rattle.std.proofs.Common.{◌∙◌, subst, arith}
 use Rattle.std.specs.Prelude.{◌==◌, ◌||◌, get_or, is_some, unwrap_or, if◌then◌else◌, Contains}
 use Rattle.std.proofs.lemmas.Bool.Decides.{nat_tests}
-use Rattle.tcc_base.specs.Limits.{run_limit}
 use Rattle.tcc_base.specs.Put.{put}
 use Rattle.tcc_base.specs.declared.access.Size.TheVariants.{Byte, Half, Word}
 use Rattle.base_lemmas.proofs.Lemmas.{has-full}
@@ -38,9 +37,7 @@ use Rattle.bus_tcc.specs.declared.bus.Bus.{Bus as CodeBus}
 use Rattle.bus_tcc.specs.declared.engine.Engine.TheInside.{Inside}
 use Rattle.bus_tcc.specs.Packets.{lines_on}
 use Rattle.bus_tcc.specs.Whole.{IsBusWhole}
-use Rattle.bus_tcc.specs.declared.event.BusError.TheVariants.{Refused}
 use Rattle.bus_tcc.specs.declared.event.BusStep.TheVariants.{Moved}
-use Rattle.bus_tcc.proofs.Bounds.{core-bounded}
 use Rattle.bus_tcc.proofs.Events.{StaysBut, bank_in, stays-kept, took-by, took-whole, world-is}
 use Rattle.bus_tcc.proofs.PacketLines.{unless-in-order}
 
@@ -241,16 +238,15 @@ free-where m c o e g q = by (is_free (bus_of m.bus)) refl
 
 -- what is asked of a machine of which a core executes
 pub record Asked (m : BusMachine) (c : ℕ) : Type 0 where
-  pub few : m.events < run_limit
   pub exists : c < (bus_settings_of m).cores
   pub enabled : is_some (bus_step_of m (Exec c)) ≡ true
   pub runs : executes (cores_of (bank_in m) c).phase ≡ true
   pub goes_on : bus_step_of m (Exec c) ≡ goes_on (bus_world_of m) c (instruction_of m c)
 
-pub asked-of : (m : BusMachine) (c : ℕ) → m.events < run_limit → c < (bus_settings_of m).cores
+pub asked-of : (m : BusMachine) (c : ℕ) → c < (bus_settings_of m).cores
     → is_some (bus_step_of m (Exec c)) ≡ true → executes ((bus_world_of m).cores c).phase ≡ true
     → bus_step_of m (Exec c)
     ≡ goes_on (bus_world_of m) c (instruction (bus_settings_of m) (bus_program_of m) (bus_world_of m).ram c ((bus_world_of m).cores c))
     → Asked m c
 unfolding bus_world_of
-asked-of m c f l a e g = record { few = f; exists = l; enabled = a; runs = e; goes_on = g }
+asked-of m c l a e g = record { exists = l; enabled = a; runs = e; goes_on = g }

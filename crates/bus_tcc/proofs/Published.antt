@@ -11,7 +11,7 @@ use Rattle.tcc_base.specs.declared.access.Commit.{Commit as Noted}
 use Rattle.rules_maps.specs.Shape.{Shape, lines}
 use Rattle.rules_maps.specs.Words.{any_below, line_of, or_else}
 use Rattle.rules_tcc.specs.Attempt.{is_solo}
-use Rattle.rules_tcc.specs.Commit.{commit, noted}
+use Rattle.rules_tcc.specs.Commit.{noted}
 use Rattle.rules_tcc.specs.State.{CoreState, Phase, AwaitTid}
 use Rattle.rules_tcc.specs.Step.{insert_commit}
 use Rattle.machine_commits.specs.Rising.{HasNone}
@@ -112,14 +112,13 @@ commit-step m c l e f = waiting-step m c l e ∙ free-so (bus_of m.bus) _ f
 -- ---- what is asked of a machine of which a core commits
 
 pub record Waits (m : BusMachine) (c : ℕ) : Type 0 where
-  pub few : m.events < run_limit
   pub exists : c < (bus_settings_of m).cores
   pub waits : (cores_of (bank_in m) c).phase ≡ AwaitTid
 
-pub waits-of : (m : BusMachine) (c : ℕ) → m.events < run_limit → c < (bus_settings_of m).cores
+pub waits-of : (m : BusMachine) (c : ℕ) → c < (bus_settings_of m).cores
     → ((bus_world_of m).cores c).phase ≡ AwaitTid → Waits m c
 unfolding bus_world_of
-waits-of m c f l e = record { few = f; exists = l; waits = e }
+waits-of m c l e = record { exists = l; waits = e }
 
 pub free-is : (m : BusMachine) (b d : Bool) → b ≡ is_free (bus_of m.bus) → b ≡ d → is_free (bus_of m.bus) ≡ d
 free-is m b d e q = sym e ∙ q
@@ -159,16 +158,15 @@ busy-answers m c a f = (record { history = refl; events = refl; code = refl }, b
 -- ---- what is asked of a machine of which a core commits now
 
 pub record Commits (m : BusMachine) (c : ℕ) : Type 0 where
-  pub few : m.events < run_limit
   pub exists : c < (bus_settings_of m).cores
   pub may : CommitsBy (bus_program_of m) m.next (cores_of (bank_in m) c) (cores_of (bank_in m) c).phase
   pub step : bus_step_of m (Exec c) ≡ Some (commit_of m c (at_commit (bus_program_of m) (cores_of (bank_in m) c)))
 
-pub commits-of : (m : BusMachine) (c : ℕ) → m.events < run_limit → c < (bus_settings_of m).cores
+pub commits-of : (m : BusMachine) (c : ℕ) → c < (bus_settings_of m).cores
     → (let s = (bus_world_of m).cores c in CommitsBy (bus_program_of m) (bus_world_of m).next s s.phase)
     → bus_step_of m (Exec c) ≡ Some (commit_of m c (at_commit (bus_program_of m) ((bus_world_of m).cores c))) → Commits m c
 unfolding bus_world_of
-commits-of m c f l k e = record { few = f; exists = l; may = k; step = e }
+commits-of m c l k e = record { exists = l; may = k; step = e }
 
 pub wanting-answers : (m n : BusMachine) (c : ℕ) → Commits m c → StaysBut m n → Answers m n (Exec c) (Err Memory)
 wanting-answers m n c a s = (stays-kept m n s, λ q. let is = sym a.step ∙ q in absurd (cc))

@@ -13,7 +13,6 @@ ghost use Rattle.bus_tcc.specs.Bank.{Acted, ExecutedAt};
 ghost use Rattle.bus_tcc.specs.Ending.{CommitsBy, at_commit};
 ghost use Rattle.bus_tcc.specs.Machine.{word_in};
 ghost use Rattle.bus_tcc.specs.Taking.{took};
-ghost use Rattle.tcc_base.specs.Limits.{run_limit};
 ghost use Rattle.tcc_base.specs.Put.{put};
 ghost use Rattle.core_node.specs.AtHand.{ends_by, executes};
 ghost use Rattle.rv_code.specs.Machine.{program};
@@ -98,7 +97,6 @@ impl BusBank {
         out: &mut Outgoing,
     ) -> Result<bool, CoreError>
         requires exists { core.0 < self.old.code.settings.cores }
-        requires short { (cores_of self.old core.0).n < run_limit }
         requires executes { executes (cores_of self.old core.0).phase ≡ true }
         requires idle { (cores_of self.old core.0).awaited ≡ None }
         ensures does { IfOk result
@@ -136,7 +134,6 @@ impl BusBank {
         out: &mut Outgoing,
     ) -> Result<Written, CoreError>
         requires exists { core.0 < self.old.code.settings.cores }
-        requires short { (cores_of self.old core.0).n < run_limit }
         requires idle { (cores_of self.old core.0).awaited ≡ None }
         requires commits { CommitsBy (program (started self.old.code)) tid.0 (cores_of self.old core.0) (cores_of self.old core.0).phase }
         requires can { CanCommit self.old.code.settings (cores_of self.old core.0) }

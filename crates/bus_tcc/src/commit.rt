@@ -42,7 +42,6 @@ pub(crate) fn commit_one(
     out: &mut Outgoing,
 ) -> Result<Written, CoreError>
     requires small { lines core.old.config < 536870911 }
-    requires short { core.old.n < run_limit }
     requires same { code.now.settings ≡ core.old.config }
     requires idle { (core_of core.old).awaited ≡ None }
     requires commits { CommitsBy (program (started code.now)) tid.0 (core_of core.old) (core_of core.old).phase }

@@ -1,5 +1,5 @@
 // The commit point of a core: it waits for the bus, or is alone and executes the instruction that ends its transaction.
-ghost use Rattle.std.specs.Prelude.{◌≡◌, ◌<◌, true, None, Some, IfOk, OnOk, OnErr};
+ghost use Rattle.std.specs.Prelude.{◌≡◌, true, None, Some, IfOk, OnOk, OnErr};
 ghost use Rattle.image_load.specs.Contents.{started};
 ghost use Rattle.rv_code.specs.Machine.{program};
 ghost use Rattle.rules_bus.specs.Commit.{commit_out};
@@ -7,7 +7,6 @@ ghost use Rattle.core_node.specs.Answers.{IsMemory};
 ghost use Rattle.core_node.specs.View.{core_of};
 ghost use Rattle.rules_tcc.specs.Attempt.{is_solo};
 ghost use Rattle.bus_tcc.specs.Ending.{CommitsBy, at_commit};
-ghost use Rattle.tcc_base.specs.Limits.{run_limit};
 
 use core_node::{CoreError, CoreNode, Executed};
 use rv_code::Code;
@@ -22,7 +21,6 @@ fn execute_end(
     tid: Tid,
     out: &mut Outgoing,
 ) -> Result<Commit, CoreError>
-    requires short { core.old.n < run_limit }
     requires same { code.now.settings ≡ core.old.config }
     requires idle { (core_of core.old).awaited ≡ None }
     requires alone { is_solo (core_of core.old).phase ≡ true }
@@ -54,7 +52,6 @@ pub(crate) fn end(
     tid: Tid,
     out: &mut Outgoing,
 ) -> Result<Commit, CoreError>
-    requires short { core.old.n < run_limit }
     requires same { code.now.settings ≡ core.old.config }
     requires idle { (core_of core.old).awaited ≡ None }
     requires commits { CommitsBy (program (started code.now)) tid.0 (core_of core.old) (core_of core.old).phase }

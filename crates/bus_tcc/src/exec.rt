@@ -47,7 +47,6 @@ pub(crate) fn execute_one(
     tid: Tid,
     out: &mut Outgoing,
 ) -> Result<bool, CoreError>
-    requires short { core.old.n < run_limit }
     requires same { code.now.settings ≡ core.old.config }
     requires executes { executes (core_of core.old).phase ≡ true }
     requires idle { (core_of core.old).awaited ≡ None }

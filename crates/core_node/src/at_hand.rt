@@ -243,7 +243,7 @@ fn change_with_line(
     Ok(())
 }
 
-/// The instruction that fills its word's line with these words.
+/// The instruction that fills its word's line with these words. In an attempt that is as long as can be counted it finds no memory.
 fn execute_with_line(
     core: &mut Core,
     inst: &Inst,
@@ -253,7 +253,6 @@ fn execute_with_line(
     out: &mut Outgoing,
 ) -> Result<(), CoreError>
     requires whole { IsCore core.old }
-    requires counts { core.old.n < attempt_limit }
     requires served { IsServed core.old.config.base core.old.config.ram need }
     requires exists { line_of w.0 < lines core.old.config }
     requires fills { need_fills core.old.config (core_of core.old) (need_of need) ≡ Some w.0 }
@@ -264,6 +263,9 @@ fn execute_with_line(
     ensures stays { Stays core.old core.new }
     ensures unchanged { OnErr result (core_of core.new ≡ core_of core.old) }
 {
+    if core.n == u32::MAX {
+        return Err(CoreError::Memory);
+    }
     match need {
         Need::Load { .. } => load_with_line(core, inst, need, w, words),
         _ => {
@@ -276,7 +278,6 @@ fn execute_with_line(
 /// An execution as the rules have it.
 fn exec_plainly(core: &mut Core, code: &Code, out: &mut Outgoing) -> Result<(), CoreError>
     requires whole { IsCore core.old }
-    requires counts { core.old.n < attempt_limit }
     requires same { code.now.settings ≡ core.old.config }
     ensures does { OnOk result
         (Leaves (core_exec core.old.config (program (started code.now)) core.old.id.0 (core_of core.old)) (core_of core.new)) }
@@ -298,7 +299,6 @@ pub(crate) fn exec_from(
     out: &mut Outgoing,
 ) -> Result<(), CoreError>
     requires whole { IsCore core.old }
-    requires counts { core.old.n < attempt_limit }
     requires same { code.now.settings ≡ core.old.config }
     requires executes { executes (phase_of core.old.phase) ≡ true }
     requires idle { core.old.awaited ≡ None }

@@ -15,7 +15,6 @@ ghost use Rattle.rules_tcc.specs.State.{Running, Solo};
 ghost use Rattle.core_node.specs.Answers.{IsBlocked, IsMemory};
 ghost use Rattle.core_node.specs.AtHand.{Leaves, ends_by, executes, goes_alone, line_at, lines_told, ready};
 ghost use Rattle.core_node.specs.View.{core_of, IsCore, Stays};
-ghost use Rattle.tcc_base.specs.Limits.{run_limit};
 
 use crate::at_hand::{ends, exec_from};
 use crate::delivering::CoreError;
@@ -131,14 +130,14 @@ impl CoreNode {
 
     /// Executes one instruction of a core that runs or is alone and awaits no line. Where it reads a word that isn't spilled, all words of
     /// its line that aren't valid come from memory, whose words these are. Blocked exactly where it waits for room. After an error the
-    /// core is as before. The attempt has fewer than 4,194,304 instructions.
+    /// core is as before. In an attempt of 2^32 - 1 instructions, which is as long as can be counted, one that the rules allow finds no
+    /// memory.
     pub fn exec_from(
         &mut self,
         code: &Code,
         ram: &[u32],
         out: &mut Outgoing,
     ) -> Result<(), CoreError>
-        requires short { self.old.n < run_limit }
         requires same { code.now.settings ≡ self.old.config }
         requires executes { executes (core_of self.old).phase ≡ true }
         requires idle { (core_of self.old).awaited ≡ None }

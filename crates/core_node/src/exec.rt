@@ -13,7 +13,6 @@ ghost use Rattle.rules_maps.specs.Shape.{lines};
 ghost use Rattle.rules_maps.specs.Words.{line_of};
 ghost use Rattle.rules_program.specs.Ram.{word_of};
 ghost use Rattle.rules_tcc.specs.Attempt.{finished};
-ghost use Rattle.rules_tcc.specs.Useful.{room_for_need};
 ghost use Rattle.rv_code.specs.Served.{Lies, IsServed};
 ghost use Rattle.rv_exec.specs.Needs.{need_of};
 ghost use Rattle.rv_exec.specs.Running.{alone};
@@ -27,7 +26,7 @@ use crate::finishing::finish;
 use crate::loading::load;
 use crate::quick::exec_quickly;
 use crate::state::Core;
-use crate::waiting::room_at_need;
+use crate::waiting::{room_at_need, room_at_pc};
 use commit_engine::Phase;
 use rv_code::Code;
 use rv_decode::Inst;
@@ -114,14 +113,12 @@ fn go_on(core: &mut Core, inst: &Inst, need: Need, out: &mut Outgoing) -> Result
     }
 }
 
-/// The error of an execution that finds no memory: it is blocked where the rules have no event anyway.
-fn error_of(core: &Core, need: Need) -> CoreError
-    requires whole { IsCore core.now }
-    requires served { IsServed core.now.config.base core.now.config.ram need }
-    ensures { result ≡ (if is_some (room_for_need core.now.config (core_of core.now) (need_of need)) then CoreError.Blocked
-        else CoreError.Memory) }
+/// The error of an execution that finds no memory, by the set in which the core waits for room: where it waits it is blocked anyway, since
+/// the rules have no event then.
+fn error_of(waits: Option<u16>) -> CoreError
+    ensures { result ≡ (if is_some waits then CoreError.Blocked else CoreError.Memory) }
 {
-    match room_at_need(core, need) {
+    match waits {
         Some(_) => CoreError::Blocked,
         None => CoreError::Memory,
     }
@@ -143,7 +140,7 @@ fn proceed(
         core.old core.new out.old out.new result }
 {
     let Ok(()) = make_room(out, 1) else {
-        return Err(error_of(core, need));
+        return Err(error_of(room_at_need(core, need)));
     };
     match go_on(core, inst, need, out) {
         Ok(()) => Ok(None),
@@ -185,15 +182,18 @@ pub enum Executed {
     Committed(Commit),
 }
 
-/// The instruction at pc, or the trap that fetching it is.
+/// The instruction at pc, or the trap that fetching it is. An attempt of 2^32 - 1 instructions is as long as can be counted: what the rules
+/// allow finds no memory then.
 fn exec_here(core: &mut Core, code: &Code, out: &mut Outgoing) -> Result<Option<Commit>, CoreError>
     requires whole { IsCore core.old }
-    requires counts { core.old.n < attempt_limit }
     requires same { code.now.settings ≡ core.old.config }
     ensures { IsExecution
         (execute_rule core.old.config (program (started code.now)) core.old.id.0 (core_of core.old))
         core.old core.new out.old out.new result }
 {
+    if core.n == u32::MAX {
+        return Err(error_of(room_at_pc(core, code)));
+    }
     match code.inst(&core.state) {
         Err(trap) => stop(core, Outcome::Trapped(trap), out),
         Ok(inst) => {
@@ -210,7 +210,6 @@ fn exec_unless_awaiting(
     out: &mut Outgoing,
 ) -> Result<Option<Commit>, CoreError>
     requires whole { IsCore core.old }
-    requires counts { core.old.n < attempt_limit }
     requires same { code.now.settings ≡ core.old.config }
     ensures { IsExecution
         (unless_awaiting core.old.config (program (started code.now)) core.old.id.0 (core_of core.old) (awaited_of core.old.awaited))
@@ -242,7 +241,6 @@ pub(crate) fn commit_ready(
 #[tactic(auto, unfolding(rules_tcc::specs::CoreExec::core_exec, crate::specs::View::core_of))]
 fn exec_any(core: &mut Core, code: &Code, out: &mut Outgoing) -> Result<Option<Commit>, CoreError>
     requires whole { IsCore core.old }
-    requires counts { core.old.n < attempt_limit }
     requires same { code.now.settings ≡ core.old.config }
     ensures { IsExecution
         (core_exec core.old.config (program (started code.now)) core.old.id.0 (core_of core.old))
@@ -288,7 +286,6 @@ fn told(core: &Core, noted: Option<Commit>) -> Executed
 #[inline(never)]
 fn exec_left(core: &mut Core, code: &Code, out: &mut Outgoing) -> Result<Executed, CoreError>
     requires whole { IsCore core.old }
-    requires counts { core.old.n < attempt_limit }
     requires same { code.now.settings ≡ core.old.config }
     ensures does { OnOk result
         (Happened (core_exec core.old.config (program (started code.now)) core.old.id.0 (core_of core.old)) out.old core.new out.new) }
@@ -307,7 +304,6 @@ fn exec_left(core: &mut Core, code: &Code, out: &mut Outgoing) -> Result<Execute
 #[inline(always)]
 pub(crate) fn exec(core: &mut Core, code: &Code, out: &mut Outgoing) -> Result<Executed, CoreError>
     requires whole { IsCore core.old }
-    requires counts { core.old.n < attempt_limit }
     requires same { code.now.settings ≡ core.old.config }
     ensures does { OnOk result
         (Happened (core_exec core.old.config (program (started code.now)) core.old.id.0 (core_of core.old)) out.old core.new out.new) }

@@ -20,7 +20,6 @@ ghost use Rattle.core_node.specs.Executing.{TellsOfEvent};
 ghost use Rattle.core_node.specs.Useful.{useful_evicts as useful_pairs};
 ghost use Rattle.core_node.specs.View.{core_of, IsKnown, Stays};
 ghost use Rattle.core_node.specs.Answers.{Happened, IsBlocked};
-ghost use Rattle.tcc_base.specs.Limits.{run_limit};
 
 use crate::delivering::{CoreError, from_dir, from_vendor};
 use crate::evicting::{can_evict, evict};
@@ -116,11 +115,11 @@ impl CoreNode {
 
     /// Executes one instruction of a core that runs or is alone, or commits a transaction whose directories all serve its TID. Blocked
     /// exactly where the rules don't allow it: in any other phase, while a line is awaited, and while the instruction waits for room.
-    /// After an error the core is as before and nothing is sent. The attempt has fewer than 4,194,304 instructions. Takes constant time,
-    /// but for a commit, which takes time in the cache's frames, and for one of a core that is alone also in the spilled lines.
+    /// After an error the core is as before and nothing is sent. An attempt of 2^32 - 1 instructions is as long as can be counted: an
+    /// instruction that the rules allow then finds no memory. Takes constant time, but for a commit, which takes time in the cache's
+    /// frames, and for one of a core that is alone also in the spilled lines.
     #[inline(always)]
     pub fn exec(&mut self, code: &Code, out: &mut Outgoing) -> Result<Executed, CoreError>
-        requires short { self.old.n < run_limit }
         requires same { code.now.settings ≡ self.old.config }
         ensures does { OnOk result
             (Happened (core_exec self.old.config (program (started code.now)) self.old.id.0 (core_of self.old)) out.old self.new

@@ -212,18 +212,17 @@ fn here_quickly(core: &mut Core, code: &Code) -> bool
     }
 }
 
-/// Executes an instruction at once, where it can. Says whether it did.
+/// Executes an instruction at once, where it can and may be counted. Says whether it did.
 #[tactic(auto, unfolding(rules_tcc::specs::CoreExec::core_exec, crate::specs::View::core_of))]
 pub(crate) fn exec_quickly(core: &mut Core, code: &Code) -> bool
     requires whole { IsCore core.old }
-    requires counts { core.old.n < attempt_limit }
     requires same { code.now.settings ≡ core.old.config }
     ensures does { AtOnce result (core_exec core.old.config (program (started code.now)) core.old.id.0 (core_of core.old))
         (core_of core.old) (core_of core.new) }
     ensures done { result ≡ true → asks (core_of core.new) ≡ false }
     ensures stays { Stays core.old core.new }
 {
-    if core.awaited.is_some() {
+    if core.n == u32::MAX || core.awaited.is_some() {
         return false;
     }
     match core.phase {

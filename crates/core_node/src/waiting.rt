@@ -87,7 +87,7 @@ pub(crate) fn room_at_need(core: &Core, need: Need) -> Option<u16>
 
 /// Where the core waits for room that awaits no line.
 #[inline(always)]
-fn room_at_pc(core: &Core, code: &Code) -> Option<u16>
+pub(crate) fn room_at_pc(core: &Core, code: &Code) -> Option<u16>
     requires whole { IsCore core.now }
     requires same { code.now.settings ≡ core.now.config }
     ensures { result ≡ room_for_need core.now.config (core_of core.now) ((program (started code.now)).need core.now.state) }

@@ -12,7 +12,6 @@ ghost use Rattle.core_node.specs.Executing.{TellsOfEvent};
 ghost use Rattle.core_node.specs.View.{IsKnown};
 ghost use Rattle.machine_cores.specs.Acted.{Acted};
 ghost use Rattle.machine_cores.specs.Bank.{cores_of};
-ghost use Rattle.tcc_base.specs.Limits.{run_limit};
 
 use crate::bank::CoreBank;
 use crate::counting::recount;
@@ -24,7 +23,6 @@ impl CoreBank {
     /// A core executes: `CoreNode::exec` for the core of that number.
     pub fn exec(&mut self, core: CoreId, out: &mut Outgoing) -> Result<Executed, CoreError>
         requires exists { core.0 < self.old.code.settings.cores }
-        requires short { (cores_of self.old core.0).n < run_limit }
         ensures does { OnOk result
             (Acted (core_exec self.old.code.settings (program (started self.old.code)) core.0 (cores_of self.old core.0)) core.0
             self.old self.new out.old out.new) }

@@ -58,9 +58,6 @@ impl TestedCore {
     }
 
     pub fn exec(&mut self, out: &mut Outgoing) -> Answer {
-        if self.core.instructions() >= 4_194_304 {
-            return Answer::Nothing;
-        }
         let allowed = self.core.can_exec(&self.code);
         agreed(allowed, executed(self.core.exec(&self.code, out)))
     }

@@ -1,7 +1,5 @@
 // A bank of two cores.
-ghost use Rattle.std.specs.Prelude.{◌≡◌, ◌<◌, ℕ, IfOk};
-ghost use Rattle.machine_cores.specs.Bank.{cores_of};
-ghost use Rattle.tcc_base.specs.Limits.{run_limit};
+ghost use Rattle.std.specs.Prelude.{◌≡◌, IfOk};
 
 use crate::loading::code_of;
 use core_node::Executed;
@@ -13,8 +11,7 @@ use tcc_msg::{Event, Msg, Outgoing};
 
 // Two cores that begin with this image.
 fn begun(alloc: Global, image: &[u32]) -> Result<CoreBank, Fail>
-    ensures cores { IfOk result (λ b. b.code.settings.cores ≡ 2) }
-    ensures short { IfOk result (λ b. (c : ℕ) → (cores_of b c).n < run_limit) }
+    ensures { IfOk result (λ b. b.code.settings.cores ≡ 2) }
 {
     Ok(CoreBank::start(alloc, code_of(alloc, 2, 1, image)?)?)
 }

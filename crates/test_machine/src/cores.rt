@@ -112,14 +112,11 @@ enum Done {
     Failed,
 }
 
-// Executes one instruction of a short attempt.
+// Executes one instruction.
 fn exec(core: &mut CoreNode, code: &Code, out: &mut Outgoing) -> Done
     requires { code.now.settings ≡ core.old.config }
     ensures { core.new.config ≡ core.old.config }
 {
-    if core.instructions() >= 4_194_304 {
-        return Done::Failed;
-    }
     match core.exec(code, out) {
         Ok(Executed::Stepped) => Done::Stepped,
         Ok(Executed::Asked) => Done::Asked,

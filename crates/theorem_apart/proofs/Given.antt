@@ -8,9 +8,8 @@ use Rattle.tcc_base.specs.Settings.{IsAllowed}
 use Rattle.base_lemmas.proofs.Lemmas.{and-both}
 use Rattle.rules_maps.specs.Nodes.{Node, Core, Dir, Vendor, Event, Msg, TidReq}
 use Rattle.rules_maps.specs.Shape.{Shape}
-use Rattle.rules_tcc.specs.Local.{NodeState, AtCore, AtVendor, Acted, at_node, act}
+use Rattle.rules_tcc.specs.Local.{NodeState, AtVendor, Acted, at_node, act}
 use Rattle.rules_tcc.specs.Sends.{Sends}
-use Rattle.rules_tcc.specs.State.{CoreState}
 use Rattle.rules_tcc.specs.Step.{names_nodes}
 use Rattle.rules_maps.specs.Messages.{fits, WasGranted, tid_named}
 use Rattle.theorem_bounds.proofs.Lemmas.{fits_out, fits_back}
@@ -20,11 +19,6 @@ use Rattle.theorem_apart.specs.Brought.{JoinsNodes, BroughtToDir}
 use Rattle.theorem_apart.specs.Laws.{BringsCarried}
 use Rattle.theorem_apart.proofs.Stays.{riscv_nodes_stay}
 use Rattle.theorem_serial.proofs.Lemmas.{is-lt}
-
--- a core's attempt has room for one more instruction
-pub attempt_short : (sh : Shape) (done c : ℕ) (s : CoreState) → done < run_limit → NodeInBounds sh done (Core c) (AtCore s)
-    → s.n < run_limit
-attempt_short sh done c s l k = omega (arith, l, k.bounds.attempt.instructions)
 
 -- the vendor has a TID to give
 pub next_few : (sh : Shape) (done next : ℕ) → done < run_limit → NodeInBounds sh done Vendor (AtVendor next) → next ≤ run_limit

@@ -101,9 +101,6 @@ impl Runner {
 
     /// Executes once, and says whether a transaction committed. A core that can't go on counts as one that did.
     fn exec(&mut self) -> Result<bool, NoMemory> {
-        if self.core.instructions() >= 4_194_304 {
-            return Ok(true);
-        }
         let committed = match self.core.exec(&self.code, &mut self.out) {
             Ok(Executed::Committed(commit)) => {
                 self.sum = self.sum.wrapping_add(u64::from(commit.n));

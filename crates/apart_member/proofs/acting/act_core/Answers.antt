@@ -3,14 +3,9 @@ use Rattle.std.proofs.Common.{ap}
 use Rattle.std.specs.Option.{option_map}
 use Rattle.rules_maps.specs.Bridge.{node_of}
 use Rattle.tcc_msg.specs.Plain.{event_of, msg_of}
-use Rattle.core_node.specs.View.{core_of}
 use Rattle.apart_member.proofs.Events.{deliver-did, evict-did, exec-did, known, source-there, way-there}
 use Rattle.apart_member.proofs.acting.act_core.Goals as goal
 use Rattle.apart_member.proofs.acting.act_core.Goals.{in-Ok, in-Err}
-
-pub exec-requires-clause-short : goal.exec-requires-clause-short
-unfolding core_of
-exec-requires-clause-short c = c.requires.short
 
 pub evict-requires-clause-set_exists : goal.evict-requires-clause-set_exists
 evict-requires-clause-set_exists c =

@@ -1,5 +1,5 @@
 -- The one that is sought is in one of two halves.
-use Rattle.std.proofs.Common.{◌≡◌, ◌+◌, ◌*◌, ◌%◌, ◌^◌, ◌<◌, refl, ap, ◌∙◌, arith}
+use Rattle.std.proofs.Common.{◌%◌, ◌<◌, refl, ap, ◌∙◌, arith}
 use Rattle.std.specs.Prelude.{count_ones}
 use Rattle.bus_tcc.proofs.Halves.{high-half, low-half, one-shifted}
 use Rattle.bus_tcc.proofs.seeking.half.Goals as goal

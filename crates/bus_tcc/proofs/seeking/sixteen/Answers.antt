@@ -1,5 +1,4 @@
 -- The low sixteen, where no other bit is set, else a quarter.
-use Rattle.std.proofs.Common.{◌<◌}
 use Rattle.bus_tcc.proofs.Halves.{low-bits}
 use Rattle.bus_tcc.proofs.seeking.sixteen.Goals as goal
 

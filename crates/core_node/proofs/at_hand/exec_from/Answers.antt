@@ -17,7 +17,6 @@ pub execute_with_line-requires : goal.execute_with_line-requires
 execute_with_line-requires c =
     record {
       whole = c.requires.whole;
-      counts = c.requires.counts;
       served = subst (λ s. IsServed s.base s.ram c.plan-need.result) c.requires.same c.plan-need.ensures.served;
       exists = c.in-Some.ensures.exists;
       fills = sym c.in-Some.ensures.word;

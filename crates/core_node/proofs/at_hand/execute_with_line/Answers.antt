@@ -3,29 +3,30 @@ use Rattle.core_node.specs.View.{core_of}
 use Rattle.core_node.proofs.Lined.{change-leaves, filling-goes-on, filling-word, load-leaves, on-ok, served-aligned}
 use Rattle.core_node.proofs.at_hand.execute_with_line.Goals as goal
 
-pub load_with_line-requires : goal.load_with_line-requires
-load_with_line-requires c =
+pub load_with_line-requires-clause-goes_on : goal.load_with_line-requires-clause-goes_on
+load_with_line-requires-clause-goes_on c =
     let k = c.args.core.now in
-    record {
-      whole = c.requires.whole;
-      counts = c.requires.counts;
-      goes_on = filling-goes-on k.config (core_of k) c.args.need c.args.w.0 c.requires.fills;
-      exists = c.requires.exists;
-      fills = filling-word k.config (core_of k) c.args.need c.args.w.0 c.requires.fills;
-    }
+    filling-goes-on k.config (core_of k) c.args.need c.args.w.0 c.requires.fills
 
-pub change_with_line-requires : goal.change_with_line-requires
-change_with_line-requires c =
+pub load_with_line-requires-clause-fills : goal.load_with_line-requires-clause-fills
+load_with_line-requires-clause-fills c =
     let k = c.args.core.now in
-    record {
-      whole = c.requires.whole;
-      counts = c.requires.counts;
-      goes_on = filling-goes-on k.config (core_of k) c.args.need c.args.w.0 c.requires.fills;
-      aligned = served-aligned k.config.base k.config.ram c.args.need c.requires.served;
-      exists = c.requires.exists;
-      fills = filling-word k.config (core_of k) c.args.need c.args.w.0 c.requires.fills;
-      room = c.in_ok-make_room-in_default.ensures.room;
-    }
+    filling-word k.config (core_of k) c.args.need c.args.w.0 c.requires.fills
+
+pub change_with_line-requires-clause-goes_on : goal.change_with_line-requires-clause-goes_on
+change_with_line-requires-clause-goes_on c =
+    let k = c.args.core.now in
+    filling-goes-on k.config (core_of k) c.args.need c.args.w.0 c.requires.fills
+
+pub change_with_line-requires-clause-aligned : goal.change_with_line-requires-clause-aligned
+change_with_line-requires-clause-aligned c =
+    let k = c.args.core.now in
+    served-aligned k.config.base k.config.ram c.args.need c.requires.served
+
+pub change_with_line-requires-clause-fills : goal.change_with_line-requires-clause-fills
+change_with_line-requires-clause-fills c =
+    let k = c.args.core.now in
+    filling-word k.config (core_of k) c.args.need c.args.w.0 c.requires.fills
 
 pub returns-in-Load-clause-does : goal.returns-in-Load-clause-does
 returns-in-Load-clause-does c =

@@ -1,4 +1,4 @@
-use Rattle.std.proofs.Common.{rules, refl}
+use Rattle.std.proofs.Common.{ℕ, Option, not, is_some, ap, sym, ◌∙◌, rules, refl}
 use Rattle.rv_exec.specs.Needs.{need_of}
 use Rattle.rv_exec.specs.Running.{alone}
 use Rattle.core_node.specs.View.{core_of}
@@ -14,7 +14,8 @@ returns-in_default c =
       does = tt;
       noted = tt;
       blocked =
-          blocked_room _ _ c.error_of.result (need_or_room k.config (alone c.args.inst.now) k.id.0 (core_of k) (need_of c.args.need))
+          blocked_room _ _ c.error_of.result (need_or_room k.config (alone c.args.inst.now) k.id.0 (core_of k) (need_of c.args.need)
+          ∙ ap (λ (r : Option ℕ). not (is_some r)) (sym c.room_at_need.ensures))
           c.error_of.ensures;
       stays = record { config = refl; id = refl; whole = c.requires.whole };
       unchanged = refl;

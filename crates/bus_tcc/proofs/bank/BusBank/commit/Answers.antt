@@ -1,14 +1,11 @@
 -- A core commits.
-use Rattle.std.proofs.Common.{◌≡◌, ◌<◌, None, ap, sym, subst, arith}
-use Rattle.tcc_base.specs.Limits.{run_limit}
-use Rattle.core_node.specs.View.{core_of}
+use Rattle.std.proofs.Common.{◌≡◌, ◌<◌, None, sym, subst, arith}
 use Rattle.rules_maps.specs.Shape.{lines}
 use Rattle.bus_tcc.proofs.Banks.{acted-unchanged, acted-whole, here, own-config, state-here}
 use Rattle.bus_tcc.proofs.BankCommits.{bank-can, bank-commits, bank-may, bank-wrote}
 use Rattle.bus_tcc.proofs.bank.BusBank.commit.Goals as goal
 
 pub commit_one-requires : goal.commit_one-requires
-unfolding core_of
 commit_one-requires c =
     let h = here _ c.self.inside _ c.args.core.0 _ c.self-inside.view_is c.self.invariant c.self.view_is c.requires.exists
     c.index_mut.ensures.value in
@@ -16,7 +13,6 @@ commit_one-requires c =
     let most = h.whole.allowed.4.1 in
     record {
       small = subst (λ s. lines s < 536870911) (sym own) (omega (arith, most));
-      short = subst (λ x. x < run_limit) (sym (ap (λ x. x.n) (state-here _ _ _ _ h))) c.requires.short;
       same = sym own;
       idle = subst (λ s. s.awaited ≡ None) (sym (state-here _ _ _ _ h)) c.requires.idle;
       commits = bank-may c.args.tid.0 _ _ _ _ h c.requires.commits;

@@ -1,18 +1,9 @@
 -- A core executes.
-use Rattle.std.proofs.Common.{◌≡◌, ◌<◌, None, true, ap, sym, subst}
-use Rattle.tcc_base.specs.Limits.{run_limit}
+use Rattle.std.proofs.Common.{◌≡◌, None, true, sym, subst}
 use Rattle.core_node.specs.Answers.{IsBlocked}
 use Rattle.core_node.specs.AtHand.{executes}
-use Rattle.core_node.specs.View.{core_of}
 use Rattle.bus_tcc.proofs.Banks.{acted-unchanged, acted-whole, executed-does, here, own-config, same-instruction, state-here}
 use Rattle.bus_tcc.proofs.bank.BusBank.execute.Goals as goal
-
-pub execute_one-requires-clause-short : goal.execute_one-requires-clause-short
-unfolding core_of
-execute_one-requires-clause-short c =
-    let h = here _ c.self.inside _ c.args.core.0 _ c.self-inside.view_is c.self.invariant c.self.view_is c.requires.exists
-    c.index_mut.ensures.value in
-    subst (λ x. x < run_limit) (sym (ap (λ x. x.n) (state-here _ _ _ _ h))) c.requires.short
 
 pub execute_one-requires-clause-same : goal.execute_one-requires-clause-same
 execute_one-requires-clause-same c =

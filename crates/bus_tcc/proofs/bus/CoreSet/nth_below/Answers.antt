@@ -1,5 +1,5 @@
 -- The bit that is set and has so many set ones below it.
-use Rattle.std.proofs.Common.{◌≡◌, ◌<◌, None, refl, sym, arith, length}
+use Rattle.std.proofs.Common.{◌≡◌, ◌<◌, refl, sym, arith, length}
 use Rattle.std.specs.Prelude.{filter}
 use Rattle.std.proofs.lemmas.Option.{slice_get_past}
 use Rattle.rules_maps.specs.Masks.{has}

@@ -9,7 +9,7 @@ use Rattle.bus_tcc.specs.Bank.{ExecutedAt}
 use Rattle.bus_tcc.specs.Inside.{machine_of}
 use Rattle.bus_tcc.specs.Machine.{BusMachine, bus_program_of, bus_settings_of, word_in}
 use Rattle.bus_tcc.specs.declared.event.BusStep.TheVariants.{Moved}
-use Rattle.bus_tcc.proofs.Bounds.{core-bounded, short-attempt}
+use Rattle.bus_tcc.proofs.Bounds.{core-bounded}
 use Rattle.bus_tcc.proofs.Events.{StaysBut, after_none, bank_in, stays-whole}
 use Rattle.bus_tcc.proofs.Instructions.{Asked, HasExecuted, after_execution, asked-of, executed-took}
 use Rattle.bus_tcc.proofs.Instructions.{executed-whole}
@@ -21,10 +21,9 @@ execute-requires c =
     let m = machine_of c.self.inside in
     let n = c.args.core.0 in
     let a = subst (λ x. Asked x n) (sym c.self.view_is)
-    (asked-of c.args.self.now n c.requires.few c.requires.exists c.requires.enabled c.requires.executes c.requires.goes_on) in
+    (asked-of c.args.self.now n c.requires.exists c.requires.enabled c.requires.executes c.requires.goes_on) in
     record {
       exists = a.exists;
-      short = short-attempt m c.self.invariant a.few n a.exists;
       executes = a.runs;
       idle = (core-bounded m c.self.invariant n a.exists).awaited;
     }
@@ -51,7 +50,7 @@ returns-in-Err c =
     let n = c.args.core.0 in
     let k = after_none c.self.inside c.execute.new.self in
     let a = subst (λ x. Asked x n) (sym c.self.view_is)
-    (asked-of c.args.self.now n c.requires.few c.requires.exists c.requires.enabled c.requires.executes c.requires.goes_on) in
+    (asked-of c.args.self.now n c.requires.exists c.requires.enabled c.requires.executes c.requires.goes_on) in
     subst (λ x. Answers x k (Exec n) (Err c.refusal.result)) c.self.view_is
     (subst (λ r. Answers m k (Exec n) (Err r)) (sym c.refusal.ensures)
     (refused-execution Bool m k n c.in-Err.error (instruction_of m n) (stays c)
@@ -81,7 +80,7 @@ took c =
     let m = machine_of c.self.inside in
     let n = c.args.core.0 in
     let a = subst (λ x. Asked x n) (sym c.self.view_is)
-    (asked-of c.args.self.now n c.requires.few c.requires.exists c.requires.enabled c.requires.executes c.requires.goes_on) in
+    (asked-of c.args.self.now n c.requires.exists c.requires.enabled c.requires.executes c.requires.goes_on) in
     executed-took m (after c) n c.in-Ok.alone (instruction_of m n) (executed c) a.goes_on
     (subst (λ ws. ExecutedAt c.in-Ok.alone m.next
     (instruction (bus_settings_of m) (bus_program_of m) (word_in ws) n (cores_of (bank_in m) n)) n (bank_in m) (bank_in (after c)))

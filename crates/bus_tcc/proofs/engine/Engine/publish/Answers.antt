@@ -18,7 +18,7 @@ use Rattle.bus_tcc.specs.Machine.{BusMachine, bus_program_of, bus_settings_of, w
 use Rattle.bus_tcc.specs.declared.commit.Written.{Written}
 use Rattle.bus_tcc.specs.declared.event.BusError.TheVariants.{Memory}
 use Rattle.bus_tcc.specs.declared.event.BusStep.TheVariants.{Committed}
-use Rattle.bus_tcc.proofs.Bounds.{core-bounded, short-attempt}
+use Rattle.bus_tcc.proofs.Bounds.{core-bounded}
 use Rattle.bus_tcc.proofs.Events.{StaysBut, bank_in, stays-whole}
 use Rattle.bus_tcc.proofs.Published.{Commits, HasPublished, can-commit, commits-of, failed-answers, new-tid, next-fits}
 use Rattle.bus_tcc.proofs.Published.{published-took, published-whole, room-only, wanting-answers}
@@ -35,7 +35,7 @@ returns-in_default c =
     let m = machine_of c.self.inside in
     let n = c.args.core.0 in
     let a = subst (λ x. Commits x n) (sym c.self.view_is)
-    (commits-of c.args.self.now n c.requires.few c.requires.exists c.requires.may c.requires.commits) in
+    (commits-of c.args.self.now n c.requires.exists c.requires.may c.requires.commits) in
     let k = record m { commits = c.reserve.new.self.list; room = c.reserve.new.self.room } in
     subst (λ x. Answers x k (Exec n) (Err Memory)) c.self.view_is
     (wanting-answers m k n a (room-only m c.reserve.new.self.list c.reserve.new.self.room c.reserve.ensures.unchanged))
@@ -47,10 +47,9 @@ commit-requires c =
     let m = machine_of c.self.inside in
     let n = c.args.core.0 in
     let a = subst (λ x. Commits x n) (sym c.self.view_is)
-    (commits-of c.args.self.now n c.requires.few c.requires.exists c.requires.may c.requires.commits) in
+    (commits-of c.args.self.now n c.requires.exists c.requires.may c.requires.commits) in
     record {
       exists = a.exists;
-      short = short-attempt m c.self.invariant a.few n a.exists;
       idle = (core-bounded m c.self.invariant n a.exists).awaited;
       commits = a.may;
       can = can-commit m n c.self.invariant a.exists;
@@ -83,7 +82,7 @@ returns-in-Err c =
     let m = machine_of c.self.inside in
     let n = c.args.core.0 in
     let a = subst (λ x. Commits x n) (sym c.self.view_is)
-    (commits-of c.args.self.now n c.requires.few c.requires.exists c.requires.may c.requires.commits) in
+    (commits-of c.args.self.now n c.requires.exists c.requires.may c.requires.commits) in
     subst (λ x. Answers x (after_err c) (Exec n) (Err c.refusal.result)) c.self.view_is
     (subst (λ r. Answers m (after_err c) (Exec n) (Err r)) (sym c.refusal.ensures)
     (failed-answers Written m (after_err c) n c.in-Err.error a (stays c) c.in-Err.ensures.cause))
@@ -150,7 +149,7 @@ took c =
     let m = machine_of c.self.inside in
     let n = c.args.core.0 in
     let a = subst (λ x. Commits x n) (sym c.self.view_is)
-    (commits-of c.args.self.now n c.requires.few c.requires.exists c.requires.may c.requires.commits) in
+    (commits-of c.args.self.now n c.requires.exists c.requires.may c.requires.commits) in
     published-took m (after c) n (attempt c) c.in-Ok-commit.field-0 c.self.invariant (published c) a.step
 
 pub invariant_of-self-in-Ok-commit : goal.invariant_of-self-in-Ok-commit

@@ -1,26 +1,17 @@
 -- A core executes.
-use Rattle.std.proofs.Common.{ap, sym, subst}
-use Rattle.tcc_base.specs.Limits.{run_limit}
+use Rattle.std.proofs.Common.{sym, subst}
 use Rattle.tcc_base.specs.Settings.{IsAllowed}
 use Rattle.core_node.specs.Answers.{IsBlocked}
-use Rattle.std.specs.Prelude.{◌<◌, IfOk}
-use Rattle.core_node.specs.View.{core_of}
+use Rattle.std.specs.Prelude.{IfOk}
 use Rattle.core_node.specs.Executing.{TellsOfEvent}
-use Rattle.machine_cores.proofs.Banks.{acted-config, acted-does, acted-unchanged, acted-whole, here, own-config, same-exec, state-here}
+use Rattle.machine_cores.proofs.Banks.{acted-config, acted-does, acted-unchanged, acted-whole, here, own-config, same-exec}
 use Rattle.machine_cores.proofs.bank.CoreBank.exec.Goals as goal
 
-pub exec-done-requires-clause-short : goal.exec-done-requires-clause-short
-unfolding core_of
-exec-done-requires-clause-short c =
+pub exec-done-requires : goal.exec-done-requires
+exec-done-requires c =
     let h = here _ c.self.inside _ c.args.core.0 _ c.self-inside.view_is c.self.invariant c.self.view_is c.requires.exists
     c.index_mut.ensures.value in
-    subst (λ x. x < run_limit) (sym (ap (λ x. x.n) (state-here _ _ _ _ h))) c.requires.short
-
-pub exec-done-requires-clause-same : goal.exec-done-requires-clause-same
-exec-done-requires-clause-same c =
-    let h = here _ c.self.inside _ c.args.core.0 _ c.self-inside.view_is c.self.invariant c.self.view_is c.requires.exists
-    c.index_mut.ensures.value in
-    sym (own-config _ _ _ _ h)
+    record { same = sym (own-config _ _ _ _ h) }
 
 pub recount-requires-clause-allowed : goal.recount-requires-clause-allowed
 recount-requires-clause-allowed c =
