@@ -11,6 +11,7 @@ use Rattle.theorem_bounds.proofs.Lemmas.{riscv_bounded_after}
 use Rattle.theorem_live.specs.Progress.{DoneWhereNoneUseful, EachGoesOn}
 use Rattle.rules_maps.specs.Nodes.{Event}
 use Rattle.rules_tcc.specs.Step.{History, run}
+use Rattle.net_core.specs.Forgotten.{with_forgotten}
 use Rattle.net_core.specs.Machine.{Machine, history_of, settings_of}
 use Rattle.net_core.specs.Reached.{Reached}
 use Rattle.live_core.specs.Reached.{IsLive, KeepsItsEnd}
@@ -41,9 +42,10 @@ pub live : (m : Machine) → Reached m → IsAllowed (settings_of m) → RiscvNe
 unfolding history_of
 live m r k stuck on =
     let c = m.cores.code in
+    let h : History = with_forgotten r.gone (history_of m) in
     record {
-      done = done-after c r.taken (history_of m) k r.reaches stuck;
-      goes_on = goes-on-after c r.taken (history_of m) k r.reaches on;
-      ends = ends-after c r.taken (history_of m) k r.reaches;
-      messages = (bounded-after c r.taken (history_of m) k r.reaches).messages;
+      done = done-after c r.taken h k r.reaches stuck;
+      goes_on = goes-on-after c r.taken h k r.reaches on;
+      ends = ends-after c r.taken h k r.reaches;
+      messages = (bounded-after c r.taken h k r.reaches).messages;
     }

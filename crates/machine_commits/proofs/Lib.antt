@@ -1,3 +1,4 @@
 pub mod Lemmas
+mod Forgetting
 mod Places
 mod Printed

@@ -5,6 +5,7 @@ ghost use Rattle.tcc_base.specs.declared.access.Commit.{Commit};
 ghost use Rattle.rules_program.specs.Cores.{printed};
 ghost use Rattle.rules_tcc.specs.Step.{insert_commit};
 ghost use Rattle.machine_commits.specs.Rising.{Rising, HasNone};
+ghost use Rattle.machine_commits.specs.Forgetting.{Forgets};
 
 use std::alloc::Global;
 use std::marker::Model;
@@ -81,6 +82,14 @@ impl CommitList {
             Ok(()) => {}
             Err(_) => unreachable!(),
         }
+    }
+
+    /// Forgets the first commits: all those of TIDs below this one. It takes no memory, and its time goes with the number of commits.
+    pub fn forget_before(&mut self, tid: Tid)
+        ensures forgets { Forgets tid.0 self.old.list self.new.list }
+        ensures rising { Rising self.old.list }
+    {
+        self.commits.retain(|commit| tid.0 <= commit.tid.0);
     }
 
     /// The bytes that the commits of one core printed, in the order of the commits. Its time goes with the number of all commits

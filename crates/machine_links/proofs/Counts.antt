@@ -1,9 +1,10 @@
 -- How many messages of a lane are marked and in flight, after one of them has changed, and the sums over all lanes.
-use Rattle.std.proofs.Common.{◌≡◌, ℕ, suc, zero, ◌+◌, ◌<◌, ◌≤◌, Bool, List, [], ◌∷◌, ◌++◌, map, length, get_or, set, Some, None}
-use Rattle.std.proofs.Common.{ap, sym, ◌∙◌, arith}
+use Rattle.std.proofs.Common.{◌≡◌, ℕ, suc, zero, ◌+◌, ◌<◌, ◌≤◌, Bool, List, [], ◌∷◌, ◌++◌, map, length, get_or, set, Option, Some, None}
+use Rattle.std.proofs.Common.{ap, sym, ◌∙◌, true, false, arith}
+use Rattle.std.specs.Prelude.{sum}
 use Rattle.std.specs.List.{count_by, sum_by}
 use Rattle.std.proofs.lemmas.List.{map-set, get_or-map}
-use Rattle.std.proofs.lemmas.List.Sums.{sum_by-set, sum_by_push, get_or-le-sum_by}
+use Rattle.std.proofs.lemmas.List.Sums.{sum_by-set, sum_by_push, sum_by-le-sum_by, sum-map, get_or-le-sum_by}
 use Rattle.rules_maps.specs.Words.{num}
 use Rattle.machine_links.specs.declared.lane.Held.{Held}
 use Rattle.machine_links.specs.Lane.{Lane, is_marked, is_waiting, marked_as}
@@ -69,6 +70,24 @@ counted-at ls tree fl i c h = ap (λ t. get_or t i 0) c.counted ∙ get_or-map (
 pub flying-at : (ls : List Lane) (tree : List ℕ) (fl i : ℕ) → Counted ls tree fl → i < length ls → count_by is_waiting (get_or ls i []) ≤ fl
 flying-at ls tree fl i c h = let a : count_by is_waiting (get_or ls i []) ≤ sum_by (count_by is_waiting) ls =
     get_or-le-sum_by (count_by is_waiting) ls i [] h in omega (arith, c.flying)
+
+-- only what is in flight is marked
+marked-waiting : (x : Option Held) → num (is_marked x) ≤ num (is_waiting x)
+unfolding is_marked is_waiting
+marked-waiting None = omega arith
+marked-waiting (Some h) = most h.ready
+  where
+    most : (b : Bool) → num b ≤ 1
+    most true = omega arith
+    most false = omega arith
+
+pub marked-most : (ls : List Lane) (tree : List ℕ) (fl : ℕ) → Counted ls tree fl → sum tree ≤ fl
+marked-most ls tree fl c =
+    let a : sum_by (count_by is_marked) ls ≤ sum_by (count_by is_waiting) ls =
+    sum_by-le-sum_by (count_by is_marked) (count_by is_waiting) ls
+    (λ l. sum_by-le-sum_by (λ x. num (is_marked x)) (λ x. num (is_waiting x)) l marked-waiting) in
+    let b : sum tree ≡ sum_by (count_by is_marked) ls = ap sum c.counted ∙ sum-map (count_by is_marked) ls in
+    omega (arith, a, b, c.flying)
 
 -- a lane with another count
 pub counted-set : (ls : List Lane) (tree : List ℕ) (fl new i n : ℕ) (l : Lane) → Counted ls tree fl → i < length ls

@@ -1,5 +1,5 @@
 -- The fields of the messages in flight, and what always holds of them.
-use Rattle.std.specs.Prelude.{ℕ, ◌≡◌, ◌*◌, ◌≤◌, false, [], map, length, slice_index_or}
+use Rattle.std.specs.Prelude.{ℕ, ◌≡◌, ◌*◌, ◌^◌, ◌≤◌, false, [], map, length, slice_index_or}
 use Rattle.std.specs.List.{count_by, sum_by}
 use Rattle.machine_links.specs.declared.flights.InFlight.TheInside.{Inside}
 use Rattle.machine_links.specs.Lane.{is_marked, is_waiting}
@@ -14,7 +14,7 @@ abbrev pub pair_count : (cores dirs : ℕ) → ℕ
 pair_count cs ds = node_count cs ds * node_count cs ds
 
 -- there is a lane for each pair of nodes, and nothing on it where they have no link; the marked ones are counted by place, and
--- all in flight together; and those that are about something are listed
+-- all in flight together, of which there are few; and those that are about something are listed
 pub record IsFlights (f : Inside) : Type 0 where
   pub cores : f.grid.cores ≤ 64
   pub dirs : f.grid.dirs ≤ 64
@@ -23,4 +23,5 @@ pub record IsFlights (f : Inside) : Type 0 where
       → slice_index_or f.lanes.items i [] ≡ []
   pub counted : f.ready ≡ map (count_by is_marked) f.lanes.items
   pub flying : f.flying ≡ sum_by (count_by is_waiting) f.lanes.items
+  pub few : f.flying ≤ 2 ^ 48
   pub listed : AllListed (net_of (flights_of f)) f.index

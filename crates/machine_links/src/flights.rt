@@ -18,6 +18,9 @@ use std::marker::Model;
 use tcc_base::{NoMemory, NodeId};
 use tcc_msg::{Msg, Name};
 
+/// The most messages that are in flight at once: more than memory has room for, and their number fits beside others.
+pub const MAX_FLYING: u64 = 281_474_976_710_656;
+
 /// The messages in flight of a machine, each with a mark that says whether it may be delivered. There is a link from each core to
 /// each directory and to the vendor, and from each of these to each core. In a clause `net_of` makes of it the links of the rules, and
 /// `is_ready` the marks; only a message in flight is ever marked.
@@ -153,7 +156,7 @@ impl InFlight {
             (length (net_of self.old (node_of src) (node_of dst))) ready) }
         ensures unchanged { OnErr result (self.new ≡ self.old) }
     {
-        if self.flying == u64::MAX {
+        if self.flying >= MAX_FLYING {
             return Err(NoMemory);
         }
         let at = self.grid.link(src, dst);
@@ -263,6 +266,7 @@ impl InFlight {
     /// How many messages are marked: all deliveries that may happen. It takes constant time.
     pub fn ready_count(&self) -> usize
         ensures count { result ≡ length (ready_list self.now) }
+        ensures few { result ≤ MAX_FLYING }
         ensures only { (src dst : Node) (k : ℕ) → IsTrue (is_ready self.now src dst k) → IsSome (in_flight (net_of self.now) src dst k) }
     {
         self.ready.total() as usize

@@ -9,6 +9,6 @@ mod rest;
 mod stretch;
 mod subject;
 
-pub use flights::InFlight;
+pub use flights::{InFlight, MAX_FLYING};
 pub use lane::{Held, Lane, Waiting};
 pub use subject::{Entry, Subject};

@@ -1,8 +1,10 @@
 -- What other crates may cite: that what a machine has come to is in bounds, that one more event leads on from there, that a commit has a
--- new TID, which events are enabled, and the parts of the list of useful events.
-pub use Rattle.net_core.proofs.Reaching.{after-all, in-bounds, reached-on, reached-same, run-on, settled-net, whole-bounded}
+-- new TID, which commits were forgotten, which events are enabled, and the parts of the list of useful events.
+pub use Rattle.net_core.proofs.Running.{after-all, next-forgotten, run-on}
+pub use Rattle.net_core.proofs.Reaching.{full_history, in-bounds, reached-on, reached-same, settled-net, whole-bounded}
 pub use Rattle.net_core.proofs.Events.Kept.{new-tid, length-taking}
 pub use Rattle.net_core.proofs.Events.Runs.{answers-after, took-after, one-more, same-code}
+pub use Rattle.net_core.proofs.Gone.{forgot-passed}
 pub use Rattle.net_core.proofs.Useful.Enabled.{absent-refused, evict-enabled, evict-refused, exec-enabled, exec-refused, flying-enabled}
 pub use Rattle.net_core.proofs.Useful.Enabled.{answered-some}
 pub use Rattle.net_core.proofs.Useful.Listed.{of-use, useful-parts, one-listed}

@@ -1,11 +1,11 @@
 -- What a machine that the rules have led to keeps to, and that it is still one after one more event.
-use Rattle.std.proofs.Common.{◌≡◌, ℕ, zero, suc, ◌+◌, ◌^◌, ◌<◌, ◌≤◌, Bool, true, false, ◌&&◌, List, [], ◌∷◌, ◌++◌, length, Option}
-use Rattle.std.proofs.Common.{Some, None, refl, ap, sym, ◌∙◌, subst, arith}
+use Rattle.std.proofs.Common.{◌≡◌, ℕ, zero, suc, ◌+◌, ◌^◌, ◌<◌, ◌≤◌, Bool, true, false, ◌&&◌, List, [], ◌∷◌, ◌++◌, length, Some}
+use Rattle.std.proofs.Common.{refl, ap, sym, ◌∙◌, subst, arith}
 use Rattle.std.specs.Prelude.{nat_lt, IfSome, drop}
 use Rattle.image_load.specs.Contents.{Contents, started}
 use Rattle.rv_code.specs.Machine.{program}
 use Rattle.rules_riscv.specs.Starting.{world_at_start}
-use Rattle.tcc_base.specs.Limits.{run_limit}
+use Rattle.net_core.specs.Limits.{machine_limit}
 use Rattle.tcc_base.specs.Settings.{Settings, IsAllowed}
 use Rattle.base_lemmas.proofs.Lemmas.{and-left, at_home, one-longer}
 use Rattle.rules_maps.specs.Messages.{fits, goes_to_dir, goes_to_core, InBounds, IsLine, WasGranted, line_named, tid_named}
@@ -13,42 +13,21 @@ use Rattle.rules_maps.specs.Bridge.{node_of}
 use Rattle.rules_maps.specs.Nodes.{Node, Core, Dir, Vendor, Event, Msg, TidReq, TidGrant, LoadReq, Fill, Skip, Probe, ProbeReply, Mark}
 use Rattle.rules_maps.specs.Nodes.{Commit, Abort, WriteBack, Flush, DataReq, Inv, InvAck}
 use Rattle.tcc_msg.specs.Plain.{sends_of}
-use Rattle.rules_program.specs.Program.{Program}
 use Rattle.rules_tcc.specs.Links.{in_flight, sending}
-use Rattle.rules_tcc.specs.State.{World}
-use Rattle.rules_tcc.specs.Step.{History, and_then, next_history, run, run_from}
+use Rattle.rules_tcc.specs.Step.{History, next_history, run}
 use Rattle.theorem_bounds.specs.Bounds.{IsBounded}
 use Rattle.theorem_bounds.proofs.Lemmas.{riscv_bounded_after}
 use Rattle.directory.specs.Foreign.{is_foreign, HasSmallTids}
 use Rattle.machine_links.specs.Flights.{net_of}
 use Rattle.net_core.specs.Delivery.{AllMayGo, MayGo}
+use Rattle.net_core.specs.Forgotten.{with_forgotten}
 use Rattle.net_core.specs.Machine.{Machine, history_of, program_of, settings_of, start_of, world_of}
 use Rattle.net_core.specs.Reached.{Reached}
 use Rattle.net_core.specs.Whole.{IsWhole}
 use Rattle.net_core.proofs.Links.Placing.{sending-none}
+use Rattle.net_core.proofs.Running.{next-forgotten, run-on}
 
 -- ---- one more event
-
-pub after-all : (sh : Settings) (p : Program) (e : Event) (es : List Event) (h : History)
-    → run_from sh p (es ++ e ∷ []) h ≡ and_then (λ g. next_history sh p g e) (run_from sh p es h)
-unfolding run_from
-after-all sh p e [] h = last (next_history sh p h e)
-  where
-    last : (o : Option History) → and_then (λ g. Some g) o ≡ o
-    last None = refl
-    last (Some g) = refl
-after-all sh p e (x ∷ es) h = go (next_history sh p h x) (after-all sh p e es)
-  where
-    go : (o : Option History) →
-        ((g : History) → run_from sh p (es ++ e ∷ []) g ≡ and_then (λ f. next_history sh p f e) (run_from sh p es g))
-        → and_then (run_from sh p (es ++ e ∷ [])) o ≡ and_then (λ g. next_history sh p g e) (and_then (run_from sh p es) o)
-    go None rest = refl
-    go (Some g) rest = rest g
-
-pub run-on : (sh : Settings) (p : Program) (w : World) (es : List Event) (e : Event) (h : History) → run sh p w es ≡ Some h
-    → run sh p w (es ++ e ∷ []) ≡ next_history sh p h e
-unfolding run
-run-on sh p w es e h r = after-all sh p e es (record { world = w; commits = [] }) ∙ ap (and_then (λ g. next_history sh p g e)) r
 
 -- the machine after one more event of the rules
 pub reached-on : (m n : Machine) (e : Event) → Reached m →
@@ -56,20 +35,28 @@ pub reached-on : (m n : Machine) (e : Event) → Reached m →
     → n.events ≡ m.events + 1 → n.cores.code ≡ m.cores.code → Reached n
 reached-on m n e r step count code = record {
   taken = r.taken ++ e ∷ [];
+  gone = r.gone;
   count = one-longer r.taken e ∙ ap (λ k. k + 1) r.count ∙ sym count;
-  reaches = subst (λ c. run c.settings (program (started c)) (world_at_start (started c)) (r.taken ++ e ∷ []) ≡ Some (history_of n))
-      (sym code)
-      (run-on (settings_of m) (program_of m) (world_at_start (start_of m)) r.taken e (history_of m) r.reaches ∙ step);
+  reaches = subst (λ c. run c.settings (program (started c)) (world_at_start (started c)) (r.taken ++ e ∷ [])
+      ≡ Some (with_forgotten r.gone (history_of n))) (sym code)
+      (run-on (settings_of m) (program_of m) (world_at_start (start_of m)) r.taken e (with_forgotten r.gone (history_of m)) r.reaches
+      ∙ next-forgotten m.cores.code r.taken r.gone (history_of m) (history_of n) e r.reaches step);
 }
 
 -- the same state held in another way
 pub reached-same : (m n : Machine) → Reached m → history_of n ≡ history_of m → n.events ≡ m.events → n.cores.code ≡ m.cores.code → Reached n
 reached-same m n r same count code = record {
   taken = r.taken;
+  gone = r.gone;
   count = r.count ∙ sym count;
-  reaches = subst (λ c. run c.settings (program (started c)) (world_at_start (started c)) r.taken ≡ Some (history_of n)) (sym code)
-      (r.reaches ∙ ap (λ h. Some h) (sym same));
+  reaches = subst (λ c. run c.settings (program (started c)) (world_at_start (started c)) r.taken
+      ≡ Some (with_forgotten r.gone (history_of n))) (sym code)
+      (r.reaches ∙ ap (λ h. Some (with_forgotten r.gone h)) (sym same));
 }
+
+-- what it has come to, with the commits that it has forgotten
+abbrev pub full_history : (m : Machine) → IsWhole m → History
+full_history m w = with_forgotten w.reached.gone (history_of m)
 
 -- ---- what is in bounds
 
@@ -78,8 +65,8 @@ bounded-after : (c : Contents) (es : List Event) (h : History) → IsAllowed c.s
 unfolding started
 bounded-after c es h k e = riscv_bounded_after (started c) es h k e
 
-pub whole-bounded : (m : Machine) (w : IsWhole m) → IsBounded (settings_of m) w.reached.taken (history_of m)
-whole-bounded m w = bounded-after m.cores.code w.reached.taken (history_of m) w.allowed w.reached.reaches
+pub whole-bounded : (m : Machine) (w : IsWhole m) → IsBounded (settings_of m) w.reached.taken (full_history m w)
+whole-bounded m w = bounded-after m.cores.code w.reached.taken (full_history m w) w.allowed w.reached.reaches
 
 -- what is in flight is in bounds
 pub in-bounds : (m : Machine) → IsWhole m → (src dst : Node) (k : ℕ) (x : Msg) → in_flight (world_of m).net src dst k ≡ Some x
@@ -144,14 +131,14 @@ unfolding AllMayGo
 reached-may-go m w src dst k x e = may-go (settings_of m) (world_of m).next src dst x (in-bounds m w src dst k x e)
 
 -- a TID in a message is small
-pub small-tids : (m : Machine) → IsWhole m → m.events < run_limit → (src dst : Node) (k : ℕ) (x : Msg)
+pub small-tids : (m : Machine) → IsWhole m → m.events < machine_limit → (src dst : Node) (k : ℕ) (x : Msg)
     → in_flight (world_of m).net src dst k ≡ Some x → HasSmallTids x
 unfolding history_of
 small-tids m w few src dst k x e =
     let b = whole-bounded m w in
     go x (in-bounds m w src dst k x e).tid b.next_most
   where
-    small : (t next n : ℕ) → n < run_limit → WasGranted next t → next ≤ n + 1 → t < 2 ^ 62
+    small : (t next n : ℕ) → n < machine_limit → WasGranted next t → next ≤ n + 1 → t < 2 ^ 62
     small t next n f g h = omega (arith, g.1)
 
     go : (x : Msg) → IfSome (tid_named x) (WasGranted (world_of m).next) → (world_of m).next ≤ length w.reached.taken + 1 → HasSmallTids x

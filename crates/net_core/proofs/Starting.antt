@@ -8,10 +8,12 @@ use Rattle.tcc_msg.specs.Plain.{sends_of}
 use Rattle.rules_tcc.specs.Links.{sending}
 use Rattle.rules_tcc.specs.State.{dir_start, start, vendor_start}
 use Rattle.rules_tcc.specs.Step.{run, run_from}
+use Rattle.machine_commits.specs.Forgetting.{merged}
 use Rattle.machine_cores.specs.Bank.{cores_of, first_core}
 use Rattle.machine_dirs.specs.Bank.{dirs_of}
 use Rattle.machine_links.specs.Flights.{net_of}
 use Rattle.net_core.specs.Delivery.{AreMarked}
+use Rattle.net_core.specs.Forgotten.{with_forgotten}
 use Rattle.net_core.specs.Machine.{Machine, history_of, settings_of, start_of, world_of}
 use Rattle.net_core.specs.Reached.{Reached}
 use Rattle.rules_riscv.specs.Starting.{at_start}
@@ -51,8 +53,13 @@ unfolding AreMarked
 none-marked m net src dst k x fly = let gone : None ≡ Some x = subst (λ f. get_or (f src dst) k None ≡ Some x) net fly in absurd (cc)
 
 reached-first : (m : Machine) → history_of m ≡ at_start (start_of m) → m.events ≡ 0 → Reached m
-unfolding run run_from
-reached-first m history events = record { taken = []; count = sym events; reaches = ap (λ h. Some h) (sym history) }
+unfolding run run_from merged
+reached-first m history events = record {
+  taken = [];
+  gone = [];
+  count = sym events;
+  reaches = ap (λ h. Some (with_forgotten [] h)) (sym history);
+}
 
 pub first-whole : (c : Contents) (m : Machine) → IsFirst c m → IsWhole m
 first-whole c m f = record {

@@ -1,5 +1,7 @@
 -- What the contracts of this crate cite.
+pub mod Limits
 pub mod Machine
+pub mod Forgotten
 pub mod Reached
 pub mod Delivery
 pub mod Whole

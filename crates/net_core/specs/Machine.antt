@@ -25,7 +25,7 @@ pub record Machine : Type 0 where
   pub sender : NodeId  -- who sent last
   pub unsent : List (NodeId × Msg)  -- what it sent that doesn't stand on its links yet; it is in flight all the same
   pub last : List (NodeId × Msg)  -- what the last event sent, in order; nothing behind a call that failed
-  pub commits : List Commit
+  pub commits : List Commit  -- those that are kept
   pub room : ℕ  -- for so many more commits
   pub events : ℕ  -- how many events were taken
 
@@ -47,6 +47,6 @@ world_of m = record {
   net = sending (net_of m.flights) (node_of m.sender) (sends_of m.unsent);
 }
 
--- the state and the commits so far
+-- the state and the commits so far, but for those that were forgotten
 unfoldable pub history_of : Machine → History
 history_of m = record { world = world_of m; commits = m.commits }

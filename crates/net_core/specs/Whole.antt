@@ -1,7 +1,7 @@
 -- What always holds of a machine.
 use Rattle.std.specs.Prelude.{◌≡◌, ◌≤◌}
 use Rattle.image_load.specs.Start.{first_ram}
-use Rattle.tcc_base.specs.Limits.{run_limit}
+use Rattle.net_core.specs.Limits.{machine_limit}
 use Rattle.tcc_base.specs.Settings.{IsAllowed}
 use Rattle.machine_dirs.specs.Bank.{dirs_of}
 use Rattle.net_core.specs.Machine.{Machine, start_of, settings_of}
@@ -14,5 +14,5 @@ pub record IsWhole (m : Machine) : Type 0 where
   pub flight_cores : m.flights.cores ≡ (settings_of m).cores
   pub flight_dirs : m.flights.dirs ≡ (settings_of m).dirs
   pub reached : Reached m
-  pub few : m.events ≤ run_limit
+  pub few : m.events ≤ machine_limit
   pub marked : AreMarked (settings_of m) (dirs_of (first_ram (start_of m)) m.dirs) m.flights

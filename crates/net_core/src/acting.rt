@@ -6,7 +6,7 @@ ghost use Rattle.tcc_msg.specs.Plain.{msg_of};
 ghost use Rattle.rules_tcc.specs.Links.{in_flight};
 ghost use Rattle.machine_links.specs.Flights.{net_of};
 ghost use Rattle.net_core.specs.Answers.{Answers, refusal_of};
-ghost use Rattle.tcc_base.specs.Limits.{run_limit};
+ghost use Rattle.net_core.specs.Limits.{machine_limit};
 
 use crate::system::System;
 use crate::taking::{Step, StepError};
@@ -34,7 +34,7 @@ pub(crate) fn has_way(config: &Config, core: CoreId, set: u16, way: u8) -> bool
 impl System {
     /// A core executes.
     pub(crate) fn exec(&mut self, core: CoreId) -> Result<Step, StepError>
-        requires few { self.old.events < run_limit }
+        requires few { self.old.events < machine_limit }
         requires settled { self.old.unsent ≡ [] }
         requires room { 0 < self.old.room }
         ensures { Answers self.old self.new (Exec core.0) result }
@@ -63,7 +63,7 @@ impl System {
 
     /// A core empties a way.
     pub(crate) fn evict(&mut self, core: CoreId, set: u16, way: u8) -> Result<Step, StepError>
-        requires few { self.old.events < run_limit }
+        requires few { self.old.events < machine_limit }
         requires settled { self.old.unsent ≡ [] }
         ensures { Answers self.old self.new (Evict core.0 set way) result }
     {
@@ -89,7 +89,7 @@ impl System {
         name: Name,
         msg: Msg,
     ) -> Result<Step, StepError>
-        requires few { self.old.events < run_limit }
+        requires few { self.old.events < machine_limit }
         requires settled { self.old.unsent ≡ [] }
         requires destination { name.dst ≡ NodeId.Core core }
         requires flies { in_flight (net_of self.old.flights) (node_of name.src) (Core core.0) name.seq ≡ Some (msg_of msg) }

@@ -7,7 +7,7 @@ ghost use Rattle.rules_tcc.specs.Links.{in_flight, taking};
 ghost use Rattle.machine_links.specs.Flights.{is_ready, net_of};
 ghost use Rattle.net_core.specs.Answers.{Answers};
 ghost use Rattle.net_core.specs.Delivery.{is_consumed};
-ghost use Rattle.tcc_base.specs.Limits.{run_limit};
+ghost use Rattle.net_core.specs.Limits.{machine_limit};
 
 use crate::looking::{look_again, looks};
 use crate::system::System;
@@ -38,7 +38,7 @@ fn take_handled(flights: &mut InFlight, name: Name, msg: &Msg, handled: Handled)
 impl System {
     /// The message of that name is delivered.
     pub(crate) fn deliver(&mut self, name: Name) -> Result<Step, StepError>
-        requires few { self.old.events < run_limit }
+        requires few { self.old.events < machine_limit }
         requires settled { self.old.unsent ≡ [] }
         ensures { Answers self.old self.new (Deliver (node_of name.src) (node_of name.dst) name.seq) result }
     {
@@ -61,7 +61,7 @@ impl System {
         name: Name,
         held: Held,
     ) -> Result<Step, StepError>
-        requires few { self.old.events < run_limit }
+        requires few { self.old.events < machine_limit }
         requires settled { self.old.unsent ≡ [] }
         requires source { name.src ≡ NodeId.Core core }
         requires destination { name.dst ≡ NodeId.Dir dir }
@@ -90,7 +90,7 @@ impl System {
 
     /// The vendor takes a request that is in flight to it, and sends the next TID.
     fn grant(&mut self, core: CoreId, name: Name, msg: Msg) -> Result<Step, StepError>
-        requires few { self.old.events < run_limit }
+        requires few { self.old.events < machine_limit }
         requires settled { self.old.unsent ≡ [] }
         requires source { name.src ≡ NodeId.Core core }
         requires destination { name.dst ≡ NodeId.Vendor }

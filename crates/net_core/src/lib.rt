@@ -8,6 +8,7 @@ mod choosing;
 mod copies;
 mod enabling;
 mod flying;
+mod forgetting;
 mod looking;
 mod nodes;
 mod noting;

@@ -31,7 +31,7 @@ impl System {
         self.cores.code()
     }
 
-    /// The commits so far, by rising TID. It takes constant time.
+    /// The commits so far, by rising TID, but for those that `forget` forgot. It takes constant time.
     pub fn commits(&self) -> &[Commit]
         ensures { result.now ≡ self.now.commits }
     {
@@ -79,7 +79,8 @@ impl System {
         self.cores.ended(core)
     }
 
-    /// The bytes that a core's commits printed, one after another. Its time goes with the number of commits and of these bytes.
+    /// The bytes that a core's commits printed, one after another, but for those that `forget` forgot. Its time goes with the number of
+    /// commits and of these bytes.
     pub fn console(&self, alloc: Global, core: CoreId) -> Result<List<u8>, NoMemory>
         ensures { IfOk result (λ bytes. bytes ≡ printed core.0 self.now.commits) }
     {

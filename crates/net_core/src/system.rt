@@ -19,7 +19,7 @@ use tcc_msg::Outgoing;
 use tid_vendor::Vendor;
 
 /// The machine. In a clause `history_of` makes of it the state of the rules with the commits so far, which some list of events leads to
-/// from the start: `events` says so.
+/// from the start, where those that `forget` dropped stand in their places: `events` says so.
 ///
 /// A message is in flight from the event that sends it. Where there was no memory to put it on its link it stands in a list of its own
 /// until there is; `settle` puts it there, and each event does so first.

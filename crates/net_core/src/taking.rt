@@ -5,7 +5,7 @@ ghost use Rattle.tcc_msg.specs.Plain.{event_of, sends_of};
 ghost use Rattle.rules_tcc.specs.Step.{next_history};
 ghost use Rattle.net_core.specs.Answers.{Answers, IsSent, Kept, Ran, StoppedAt, acts_in, step_of, tid_noted, tid_told};
 ghost use Rattle.net_core.specs.Machine.{history_of, program_of, settings_of, world_of};
-ghost use Rattle.tcc_base.specs.Limits.{run_limit};
+ghost use Rattle.net_core.specs.Limits.{machine_limit};
 
 use crate::system::System;
 use tcc_base::Tid;
@@ -40,7 +40,7 @@ impl System {
 
     /// Takes an event, where all that was sent stands on its links and there is room for a commit.
     fn take(&mut self, e: Event) -> Result<Step, StepError>
-        requires few { self.old.events < run_limit }
+        requires few { self.old.events < machine_limit }
         requires settled { self.old.unsent ≡ [] }
         requires room { 0 < self.old.room }
         ensures { Answers self.old self.new (event_of e) result }
@@ -59,7 +59,7 @@ impl System {
     /// costs in the messages that wait for it.
     #[inline(always)]
     pub fn step(&mut self, e: Event) -> Result<Step, StepError>
-        requires { self.old.events < run_limit }
+        requires { self.old.events < machine_limit }
         ensures next { OnOk result
             (next_history (settings_of self.old) (program_of self.old) (history_of self.old) (event_of e) ≡ Some (history_of self.new)) }
         ensures told { IfOk result (λ s. tid_told s ≡ tid_noted (step_of self.old (event_of e))) }
@@ -89,7 +89,7 @@ impl System {
     /// Takes the events one after another. Where one isn't taken its number, from 0, is answered with the cause, and those before it
     /// have been taken.
     pub fn run(&mut self, events: &[Event]) -> Result<(), (u64, StepError)>
-        requires { self.old.events + length events.now ≤ run_limit }
+        requires { self.old.events + length events.now ≤ machine_limit }
         ensures ran { OnOk result (Ran self.old self.new (length events.now) events.now) }
         ensures stopped { IfErr result (λ f. StoppedAt self.old self.new f.0 events.now f.1) }
         ensures counted { OnOk result (self.new.events ≡ self.old.events + length events.now) }

@@ -8,7 +8,7 @@ ghost use Rattle.net_core.specs.Answers.{step_of, tid_noted, tid_told};
 ghost use Rattle.net_core.specs.Machine.{history_of, program_of, settings_of};
 ghost use Rattle.tcc_phase.specs.Answers.{Ran, StoppedAt, cause_of, next_of};
 ghost use Rattle.tcc_phase.specs.Requests.{asker};
-ghost use Rattle.tcc_base.specs.Limits.{run_limit};
+ghost use Rattle.net_core.specs.Limits.{machine_limit};
 
 use crate::system::PhaseSystem;
 use net_core::{Step, StepError, System};
@@ -72,7 +72,7 @@ impl PhaseSystem {
     /// cores and of commits with greater TIDs, and for each late core in the logarithm of what is in flight. An instruction of a late core
     /// takes that logarithm, and where it sends the core's request also time in the number of requests that are held back.
     pub fn step(&mut self, e: Event) -> Result<Step, StepError>
-        requires { self.old.refined.machine.events < run_limit }
+        requires { self.old.refined.machine.events < machine_limit }
         ensures next { OnOk result (next_of self.old.refined.machine (event_of e) ≡ Some (history_of self.new.refined.machine)) }
         ensures told { IfOk result (λ s. tid_told s ≡ tid_noted (step_of self.old.refined.machine (event_of e))) }
         ensures refused { IsErrOf result StepError.Refused ↔ (next_of self.old.refined.machine (event_of e) ≡ None) }
@@ -101,7 +101,7 @@ impl PhaseSystem {
     /// Takes the events one after another. Where one isn't taken its number, from 0, is answered with the cause, and those before it
     /// have been taken.
     pub fn run(&mut self, events: &[Event]) -> Result<(), (u64, StepError)>
-        requires { self.old.refined.machine.events + length events.now ≤ run_limit }
+        requires { self.old.refined.machine.events + length events.now ≤ machine_limit }
         ensures ran { OnOk result (Ran self.old.refined.machine self.new.refined.machine (length events.now) events.now) }
         ensures stopped { IfErr result (λ f. StoppedAt self.old.refined.machine self.new.refined.machine f.0 events.now f.1) }
         ensures counted { OnOk result (self.new.refined.machine.events ≡ self.old.refined.machine.events + length events.now) }

@@ -2,7 +2,7 @@
 ghost use Rattle.std.specs.Prelude.{◌≡◌, ◌+◌, ◌<◌, ◌≤◌, ◌↔◌, ◌++◌, [], ◌∷◌, IfErr, IfOk, IsErrOf, None, OnErr, OnOk, Some, is_ok};
 ghost use Rattle.std.specs.Prelude.{length, take, if◌then◌else◌};
 ghost use Rattle.image_load.specs.Contents.{started};
-ghost use Rattle.tcc_base.specs.Limits.{run_limit};
+ghost use Rattle.net_core.specs.Limits.{machine_limit};
 ghost use Rattle.tcc_base.specs.Settings.{IsAllowed};
 ghost use Rattle.tcc_msg.specs.Plain.{event_of};
 ghost use Rattle.rules_tcc.specs.Step.{next_history};
@@ -77,7 +77,7 @@ impl Refined {
     /// Takes an event: `System::step`. Room in the list is made before.
     #[inline(always)]
     pub fn step(&mut self, e: Event) -> Result<Step, StepError>
-        requires { self.old.machine.events < run_limit }
+        requires { self.old.machine.events < machine_limit }
         ensures next { OnOk result
             (next_history (settings_of self.old.machine) (program_of self.old.machine) (history_of self.old.machine) (event_of e)
             ≡ Some (history_of self.new.machine)) }

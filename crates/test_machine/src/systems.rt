@@ -1,6 +1,6 @@
 // Whole machines: from raw images, by events, to what the commits leave.
 ghost use Rattle.std.specs.Prelude.{◌≡◌, ◌≤◌, ◌+◌, length, IfOk};
-ghost use Rattle.tcc_base.specs.Limits.{run_limit};
+ghost use Rattle.net_core.specs.Limits.{machine_limit};
 
 use crate::events::{C0, C1, D0, D1, V, event, events, name};
 use crate::loading::{STORE_AND_COPY, STORES_24, STORES_SEVEN_AND_HALTS, begun};
@@ -100,7 +100,7 @@ const SECOND: Option<Listed> = Some(Listed(2, 1, 3, None));
 
 // What a machine comes to by these events, or before the one that it doesn't take.
 fn run(system: &mut System, events: &[Event]) -> Played
-    requires { system.old.events + length events.now ≤ run_limit }
+    requires { system.old.events + length events.now ≤ machine_limit }
 {
     let run = system.run(events);
     come_to(system, run)
@@ -108,7 +108,7 @@ fn run(system: &mut System, events: &[Event]) -> Played
 
 // The same of a machine of two cores that begins with these images.
 fn play(alloc: Global, dirs: u64, images: [&[u32]; 2], events: &[Event]) -> Result<Played, Fail>
-    requires { length events.now ≤ run_limit }
+    requires { length events.now ≤ machine_limit }
 {
     let mut system = begun(alloc, 2, dirs, images)?;
     Ok(run(&mut system, events))
@@ -175,6 +175,21 @@ fn the_useful_events_lead_to_the_end(rt: HostRuntime) -> Result<(), Fail> {
     Ok(())
 }
 
+// How many commits a machine of one core and one directory keeps at its end, and when it has forgotten what it may.
+fn kept(alloc: Global, image: &[u32]) -> Result<[usize; 2], Fail> {
+    let mut system = begun(alloc, 1, 1, [image, &[]])?;
+    let _ = take_all(&mut system);
+    let all = system.commits().len();
+    system.forget();
+    Ok([all, system.commits().len()])
+}
+
+#[test]
+fn commits_that_the_directory_has_passed_are_forgotten(rt: HostRuntime) -> Result<(), Fail> {
+    assert_eq!(rt; kept(rt.alloc(), &STORES_SEVEN_AND_HALTS)?, [2, 0]);
+    Ok(())
+}
+
 // After these events: the useful events, and whether each of those that are asked for is one.
 type Useful = (List<Event>, [Option<bool>; 3]);
 
@@ -184,7 +199,7 @@ fn useful_after(
     events: &[Event],
     asked: [Event; 3],
 ) -> Result<Useful, Fail>
-    requires { system.old.events + length events.now ≤ run_limit }
+    requires { system.old.events + length events.now ≤ machine_limit }
 {
     let _ = system.run(events);
     let told = [
@@ -202,7 +217,7 @@ fn told_after(
     events: &[Event],
     asked: [Event; 3],
 ) -> Result<Useful, Fail>
-    requires { length events.now ≤ run_limit }
+    requires { length events.now ≤ machine_limit }
 {
     let mut system = begun(alloc, 2, 2, images)?;
     useful_after(alloc, &mut system, events, asked)
@@ -226,7 +241,7 @@ fn useful_events_are_told_from_others(rt: HostRuntime) -> Result<(), Fail> {
 
 // What is known at a directory, and of a line, after these events where they are taken.
 fn run_to_known(system: &mut System, events: &[Event], dir: u8, line: u32) -> Option<Known>
-    requires { system.old.events + length events.now ≤ run_limit }
+    requires { system.old.events + length events.now ≤ machine_limit }
 {
     if system.run(events).is_err() {
         return None;
@@ -242,7 +257,7 @@ fn known_after(
     dir: u8,
     line: u32,
 ) -> Result<Option<Known>, Fail>
-    requires { length events.now ≤ run_limit }
+    requires { length events.now ≤ machine_limit }
 {
     let mut system = begun(alloc, 2, 2, images)?;
     Ok(run_to_known(&mut system, events, dir, line))
@@ -370,7 +385,7 @@ fn run_to_ram(
     events: &[Event],
     line: u32,
 ) -> Result<Option<[u32; 8]>, Fail>
-    requires { system.old.events + length events.now ≤ run_limit }
+    requires { system.old.events + length events.now ≤ machine_limit }
 {
     let _ = system.run(events);
     ram_line(alloc, system, line)
@@ -384,7 +399,7 @@ fn ram_after(
     events: &[Event],
     line: u32,
 ) -> Result<Option<[u32; 8]>, Fail>
-    requires { length events.now ≤ run_limit }
+    requires { length events.now ≤ machine_limit }
 {
     let mut system = begun(alloc, 2, dirs, images)?;
     run_to_ram(alloc, &mut system, events, line)

@@ -1,6 +1,6 @@
 // A machine in the middle of a violation: which messages wait and why, and what is found to happen next.
 ghost use Rattle.std.specs.Prelude.{◌≤◌, ◌+◌, length};
-ghost use Rattle.tcc_base.specs.Limits.{run_limit};
+ghost use Rattle.net_core.specs.Limits.{machine_limit};
 
 use crate::events::{C0, C1, D0, D1, V, event, events, name};
 use crate::loading::{STORE_AND_COPY, begun};
@@ -48,7 +48,7 @@ type Told = ([Option<Reason>; 4], [Option<Event>; 3]);
 
 // The same after these events; nothing where one of them isn't enabled.
 fn run(system: &mut System, events: &[Event]) -> Option<Told>
-    requires { system.old.events + length events.now ≤ run_limit }
+    requires { system.old.events + length events.now ≤ machine_limit }
 {
     if system.run(events).is_err() {
         return None;
@@ -64,7 +64,7 @@ fn run(system: &mut System, events: &[Event]) -> Option<Told>
 
 // The same of two cores and two directories that begin with a store and a copy of what it stores.
 fn told_after(alloc: Global, events: &[Event]) -> Result<Told, Fail>
-    requires { length events.now ≤ run_limit }
+    requires { length events.now ≤ machine_limit }
 {
     let mut system = begun(alloc, 2, 2, STORE_AND_COPY)?;
     let told = run(&mut system, events).ok_or("an event isn't enabled")?;

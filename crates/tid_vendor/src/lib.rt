@@ -6,8 +6,8 @@ ghost use Rattle.std.specs.Prelude.{◌≡◌, ℕ, ◌+◌, ◌≤◌};
 use std::marker::Model;
 use tcc_base::Tid;
 
-/// How many TIDs a vendor gives at most: as many as a schedule may have events.
-pub const MAX_GRANTS: u64 = 4_194_304;
+/// How many TIDs a vendor gives at most, 2^40: as many as a machine takes events.
+pub const MAX_GRANTS: u64 = 1_099_511_627_776;
 
 /// A counter of TIDs (Chafi et al., "A Scalable, Non-blocking Approach to Transactional Memory", HPCA 2007:
 /// the TID vendor). In a clause it is the TID that it gives next.

@@ -18,7 +18,7 @@ ghost use Rattle.watch.specs.Messages.{taken, tid_in as tid_of_phase, violated, 
 ghost use Rattle.watch.specs.Plain.{fact_of};
 ghost use Rattle.watch_machine.specs.Telling.{SawMessage, commit_told, told_of};
 ghost use Rattle.watch_machine.specs.Watched.{WatchedNode};
-ghost use Rattle.tcc_base.specs.Limits.{run_limit};
+ghost use Rattle.net_core.specs.Limits.{machine_limit};
 
 use crate::answering::{Became, what_became};
 use crate::commits::tell_commit;
@@ -254,7 +254,7 @@ pub(crate) fn watch_core(
     msg: Msg,
     facts: &mut List<Fact>,
 ) -> Result<(), StepError>
-    requires few { system.old.events < run_limit }
+    requires few { system.old.events < machine_limit }
     requires empty { facts.old ≡ [] }
     requires flies { in_flight (world_of system.old).net (node_of name.src) (Core id.0) name.seq ≡ Some (msg_of msg) }
     requires destination { name.dst ≡ NodeId.Core id }
@@ -309,7 +309,7 @@ pub(crate) fn watch_dir(
     msg: Msg,
     facts: &mut List<Fact>,
 ) -> Result<(), StepError>
-    requires few { system.old.events < run_limit }
+    requires few { system.old.events < machine_limit }
     requires empty { facts.old ≡ [] }
     requires flies { in_flight (world_of system.old).net (Core core.0) (Dir dir.0) name.seq ≡ Some (msg_of msg) }
     requires source { name.src ≡ NodeId.Core core }
@@ -349,7 +349,7 @@ pub(crate) fn watch_vendor(
     msg: Msg,
     facts: &mut List<Fact>,
 ) -> Result<(), StepError>
-    requires few { system.old.events < run_limit }
+    requires few { system.old.events < machine_limit }
     requires empty { facts.old ≡ [] }
     requires flies { in_flight (world_of system.old).net (Core core.0) Vendor name.seq ≡ Some (msg_of msg) }
     requires source { name.src ≡ NodeId.Core core }

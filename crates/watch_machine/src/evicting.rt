@@ -9,7 +9,7 @@ ghost use Rattle.watch.specs.Happened.{phase_fact};
 ghost use Rattle.watch.specs.Plain.{fact_of};
 ghost use Rattle.watch_machine.specs.Telling.{commit_told};
 ghost use Rattle.watch_machine.specs.Watched.{WatchedNode};
-ghost use Rattle.tcc_base.specs.Limits.{run_limit};
+ghost use Rattle.net_core.specs.Limits.{machine_limit};
 
 use crate::commits::tell_commit;
 use crate::moving::tell_phase;
@@ -50,7 +50,7 @@ pub(crate) fn watch_evict(
     way: u8,
     facts: &mut List<Fact>,
 ) -> Result<(), StepError>
-    requires few { system.old.events < run_limit }
+    requires few { system.old.events < machine_limit }
     requires empty { facts.old ≡ [] }
     requires enabled { step_of system.old (Evict id.0 set way) ≢ None }
     ensures { WatchedNode system.old system.new (Evict id.0 set way) facts.new result }

@@ -13,7 +13,7 @@ ghost use Rattle.watch.specs.Plain.{fact_of};
 ghost use Rattle.watch_core.specs.Seen.{Saw};
 ghost use Rattle.watch_machine.specs.Telling.{commit_told};
 ghost use Rattle.watch_machine.specs.Watched.{WatchedNode};
-ghost use Rattle.tcc_base.specs.Limits.{run_limit};
+ghost use Rattle.net_core.specs.Limits.{machine_limit};
 
 use crate::commits::tell_commit;
 use crate::moving::tell_phase;
@@ -97,7 +97,7 @@ pub(crate) fn watch_exec(
     id: CoreId,
     facts: &mut List<Fact>,
 ) -> Result<(), StepError>
-    requires few { system.old.events < run_limit }
+    requires few { system.old.events < machine_limit }
     requires empty { facts.old ≡ [] }
     requires enabled { step_of system.old (Exec id.0) ≢ None }
     ensures { WatchedNode system.old system.new (Exec id.0) facts.new result }

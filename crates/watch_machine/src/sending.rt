@@ -7,7 +7,7 @@ ghost use Rattle.rules_tcc.specs.Step.{is_node};
 ghost use Rattle.watch.specs.Plain.{fact_of};
 ghost use Rattle.watch_machine.specs.Rising.{Rises, each_told, place_of as plain_place_of};
 ghost use Rattle.watch_machine.specs.Telling.{Advances, HasRoomFor, last_facts, last_to, numbered_from};
-ghost use Rattle.tcc_base.specs.Limits.{run_limit};
+ghost use Rattle.net_core.specs.Limits.{machine_limit};
 
 use live_core::machines_are_live;
 use net_core::{Step, StepError, System, node_at, node_count};
@@ -17,7 +17,7 @@ use watch::Fact;
 
 /// Takes an event, and puts on its links what it sent.
 pub(crate) fn advance(system: &mut System, e: Event) -> Result<Step, StepError>
-    requires { system.old.events < run_limit }
+    requires { system.old.events < machine_limit }
     ensures { Advances system.old system.new (event_of e) result }
 {
     let step = system.step(e)?;

@@ -5,7 +5,7 @@ ghost use Rattle.rules_maps.specs.Nodes.{Deliver};
 ghost use Rattle.tcc_msg.specs.Plain.{event_of};
 ghost use Rattle.watch.specs.Happened.{actor as plain_actor};
 ghost use Rattle.watch_machine.specs.Watched.{Watched, WatchedNode};
-ghost use Rattle.tcc_base.specs.Limits.{run_limit};
+ghost use Rattle.net_core.specs.Limits.{machine_limit};
 
 use crate::delivering::{watch_core, watch_dir, watch_vendor};
 use crate::evicting::watch_evict;
@@ -35,7 +35,7 @@ pub fn actor(e: Event) -> NodeId
 /// The time is that of the event, with a constant for each fact, and a pass over the machine's nodes for an event that sends several
 /// messages which don't go to different nodes in their order.
 pub fn watch(system: &mut System, e: Event, facts: &mut List<Fact>) -> Result<(), StepError>
-    requires few { system.old.events < run_limit }
+    requires few { system.old.events < machine_limit }
     ensures { Watched system.old system.new (event_of e) facts.new result }
 {
     watch_node(system, e, facts)?;
@@ -48,7 +48,7 @@ pub fn watch(system: &mut System, e: Event, facts: &mut List<Fact>) -> Result<()
 /// As `watch`, but what the event sent isn't told; it is what `last_sent` of the machine gives. This is for those to whom the numbers of
 /// messages and the order of their destinations don't matter. The time is that of the event, with a constant for each fact.
 pub fn watch_node(system: &mut System, e: Event, facts: &mut List<Fact>) -> Result<(), StepError>
-    requires few { system.old.events < run_limit }
+    requires few { system.old.events < machine_limit }
     ensures { WatchedNode system.old system.new (event_of e) facts.new result }
 {
     facts.items.clear();
@@ -71,7 +71,7 @@ pub fn watch_node(system: &mut System, e: Event, facts: &mut List<Fact>) -> Resu
 
 /// A message is delivered, if there is one of this name and its node takes it.
 fn watch_delivery(system: &mut System, name: Name, facts: &mut List<Fact>) -> Result<(), StepError>
-    requires few { system.old.events < run_limit }
+    requires few { system.old.events < machine_limit }
     requires empty { facts.old ≡ [] }
     ensures { WatchedNode system.old system.new (Deliver (node_of name.src) (node_of name.dst) name.seq) facts.new result }
 {

@@ -1,12 +1,12 @@
 -- The machine after an event of a core: what the rules say of it, and what the core's own answer says.
-use Rattle.std.proofs.Common.{◌≡◌, ℕ, ◌+◌, ◌<◌, ◌≤◌, ◌⊎◌, inl, inr, length, Bool, true, false, ◌&&◌, []}
+use Rattle.std.proofs.Common.{◌≡◌, ℕ, ◌+◌, ◌<◌, ◌⊎◌, inl, inr, Bool, true, false, ◌&&◌, []}
 use Rattle.std.proofs.Common.{Option, Some, None, refl, ap, sym, ◌∙◌, subst, arith}
 use Rattle.std.specs.Prelude.{nat_lt, Err, if◌then◌else◌}
 use Rattle.std.specs.Option.{option_map}
 use Rattle.std.proofs.lemmas.Bool.{lt-ltb}
 use Rattle.std.proofs.lemmas.Bool.Decides.{nat_tests}
 use Rattle.image_load.specs.Start.{first_ram}
-use Rattle.tcc_base.specs.Limits.{run_limit}
+use Rattle.net_core.specs.Limits.{machine_limit}
 use Rattle.tcc_base.specs.Settings.{Settings}
 use Rattle.machine_commits.specs.Rising.{HasNone}
 use Rattle.tcc_base.specs.declared.access.Commit.{Commit}
@@ -42,12 +42,12 @@ use Rattle.net_core.specs.Answers.{Answers, Took, acts_in, refusal_of, step_of, 
 use Rattle.net_core.specs.Delivery.{AreMarked}
 use Rattle.net_core.specs.Inside.{machine_of}
 use Rattle.net_core.specs.declared.system.System.TheInside.{Inside}
-use Rattle.net_core.specs.Machine.{Machine, history_of, program_of, settings_of, start_of, world_of}
+use Rattle.net_core.specs.Machine.{Machine, program_of, settings_of, start_of, world_of}
 use Rattle.net_core.specs.Whole.{IsWhole}
 use Rattle.net_core.specs.declared.taking.Step.{Step}
 use Rattle.net_core.specs.declared.taking.Step.TheVariants.{Moved}
 use Rattle.net_core.specs.declared.taking.Step.TheVariants as step_told
-use Rattle.net_core.proofs.Reaching.{in-bounds, settled-net, whole-bounded}
+use Rattle.net_core.proofs.Reaching.{in-bounds, settled-net}
 use Rattle.net_core.proofs.Events.Kept.{StaysBut, as-many, as-many_taken, new-tid, same-dirs, stays-kept, took-by, took-whole, world-is}
 
 -- ---- how a system stands after a call of its cores
@@ -231,7 +231,7 @@ marks-stay m n w code dirs flights =
     subst (λ f. AreMarked (settings_of m) (dirs_of (first_ram (start_of n)) n.dirs) f) (sym flights)
     (subst (λ ds. AreMarked (settings_of m) ds m.flights) (sym (same-dirs m n code dirs)) w.marked)
 
-pub move-whole : (m n : Machine) (e : Event) (t : Step) (c : ℕ) (before out : Outgoing) → IsWhole m → m.events < run_limit
+pub move-whole : (m n : Machine) (e : Event) (t : Step) (c : ℕ) (before out : Outgoing) → IsWhole m → m.events < machine_limit
     → ActsFrom m n c before out
     → Took m n e t → n.flights ≡ m.flights → IsWhole n
 move-whole m n e t c before out w short a k flights = took-whole m n e t w short k (ap (λ d. d.settings) a.dirs) (ap (λ f. f.cores) flights)
@@ -262,15 +262,6 @@ unnoted-as m n None c before out a u e = absurd a
 unnoted-as m n (Some o) c before out a u e = (e ∙ ap (λ x. and_noted x m.commits) (sym u), ap (option_map (λ c. c.tid)) (sym u))
 
 -- ---- executions
-
--- an attempt is short where few events were taken
-pub short-attempt : (m : Machine) (c : ℕ) → IsWhole m → m.events < run_limit → (cores_of m.cores c).n < run_limit
-unfolding history_of world_of
-short-attempt m c w few =
-    let b = (whole-bounded m w).cores c in
-    let most : (cores_of m.cores c).n ≤ length w.reached.taken = b.attempt.instructions in
-    let count : length w.reached.taken ≡ m.events = w.reached.count in
-    omega (arith, most, count, few)
 
 -- what an execution told without a commit
 pub told-unnoted : (o : Option Out) (e : Executed) → TellsOfEvent e o → (e ≡ done.Stepped) ⊎ (e ≡ done.Asked) → Unnoted o

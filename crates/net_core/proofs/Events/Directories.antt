@@ -5,7 +5,7 @@ use Rattle.std.proofs.lemmas.Bool.{lt-ltb}
 use Rattle.std.proofs.lemmas.Bool.Decides.{nat_tests}
 use Rattle.image_load.specs.Contents.{started}
 use Rattle.image_load.specs.Start.{first_ram}
-use Rattle.tcc_base.specs.Limits.{run_limit}
+use Rattle.net_core.specs.Limits.{machine_limit}
 use Rattle.tcc_base.specs.Put.{put}
 use Rattle.tcc_base.specs.Settings.{Settings}
 use Rattle.theorem_bounds.proofs.Lemmas.{fits_out}
@@ -71,10 +71,10 @@ comes-at m s c d k x e w settled fly =
     comes m c d k x w (ap (λ y. y.unsent) e ∙ settled) (ap (λ y. in_flight (net_of y.flights) (Core c) (Dir d) k) e ∙ fly)
 
 -- its TID is small
-pub small-at : (m s : Machine) (c d k : ℕ) (x : Msg) → m ≡ s → IsWhole m → s.events < run_limit → s.unsent ≡ []
+pub small-at : (m s : Machine) (c d k : ℕ) (x : Msg) → m ≡ s → IsWhole m → s.events < machine_limit → s.unsent ≡ []
     → in_flight (net_of s.flights) (Core c) (Dir d) k ≡ Some x → HasSmallTids x
 small-at m s c d k x e w few settled fly =
-    small-tids m w (subst (λ y. y.events < run_limit) (sym e) few) (Core c) (Dir d) k x
+    small-tids m w (subst (λ y. y.events < machine_limit) (sym e) few) (Core c) (Dir d) k x
     (ap (λ net. in_flight net (Core c) (Dir d) k) (settled-net m (ap (λ y. y.unsent) e ∙ settled))
     ∙ ap (λ y. in_flight (net_of y.flights) (Core c) (Dir d) k) e ∙ fly)
 
@@ -325,7 +325,7 @@ marks-after m n c d k x h w a s e i y fly = marked-at m n c d k x h s e i y w a
     (stays h (net_of m.flights) c d k s e i y (subst (λ g. in_flight g s e i ≡ Some y) a.net fly)) fly
 
 -- and the machine is whole
-pub acts-whole : (m n : Machine) (c d k : ℕ) (x : Msg) (h : Handled) → IsWhole m → m.events < run_limit
+pub acts-whole : (m n : Machine) (c d k : ℕ) (x : Msg) (h : Handled) → IsWhole m → m.events < machine_limit
     → in_flight (net_of m.flights) (Core c) (Dir d) k ≡ Some x → says_taken m c d x ≡ true → ActsAt m n c d k x h → IsWhole n
 acts-whole m n c d k x h w few e t a =
     took-whole m n (Deliver (Core c) (Dir d) k) Moved w few (acts-took m n c d k x h w e t a) a.settings a.flight_cores a.flight_dirs

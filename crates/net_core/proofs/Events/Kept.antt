@@ -1,36 +1,33 @@
 -- The machine after an event of one node.
-use Rattle.std.proofs.Common.{◌≡◌, ℕ, ◌+◌, ◌<◌, ◌≤◌, Bool, true, false, List, [], ◌∷◌, ◌++◌, length, Some, None, refl}
+use Rattle.std.proofs.Common.{◌≡◌, ℕ, ◌+◌, ◌<◌, ◌≤◌, Bool, true, false, List, [], ◌++◌, length, Some, None, refl}
 use Rattle.std.proofs.Common.{ap, sym, ◌∙◌, subst, arith, length-set}
-use Rattle.std.specs.Prelude.{nat_lt, ◌==◌, ◌&&◌, slice_set, if◌then◌else◌}
-use Rattle.std.proofs.lemmas.Bool.Decides.{nat_tests}
+use Rattle.std.specs.Prelude.{◌&&◌, slice_set, if◌then◌else◌}
 use Rattle.image_load.specs.Contents.{started}
 use Rattle.image_load.specs.Start.{first_ram}
-use Rattle.theorem_riscv.specs.Given.{TidsOf, grants_of}
-use Rattle.rules_riscv.specs.Starting.{world_at_start}
-use Rattle.theorem_riscv.proofs.Lemmas.{committed_tids_were_granted_once}
-use Rattle.tcc_base.specs.Limits.{run_limit}
+use Rattle.net_core.specs.Limits.{machine_limit}
 use Rattle.tcc_base.specs.declared.access.Commit.{Commit}
 use Rattle.base_lemmas.proofs.Lemmas.{node_eq-refl}
 use Rattle.rules_maps.specs.Bridge.{node_of}
 use Rattle.rules_maps.specs.Nodes.{Node, Event, node_eq}
-use Rattle.rules_maps.specs.Words.{num}
 use Rattle.tcc_msg.specs.Plain.{sends_of}
 use Rattle.rules_tcc.specs.Links.{sending, sent_all, taking}
 use Rattle.rules_tcc.specs.Sends.{Sends}
 use Rattle.rules_tcc.specs.State.{Link, World}
-use Rattle.rules_tcc.specs.Step.{History, Stepped, and_noted, insert_commit, next_history, recorded, run}
-use Rattle.theorem_serial.specs.Owners.{times}
+use Rattle.rules_tcc.specs.Step.{Stepped, and_noted, next_history, recorded}
 use Rattle.machine_commits.specs.Rising.{HasNone}
+use Rattle.machine_commits.proofs.Lemmas.{none-merged}
 use Rattle.machine_cores.specs.Bank.{cores_of}
 use Rattle.machine_dirs.specs.Bank.{dirs_of}
 use Rattle.machine_links.specs.Flights.{net_of}
 use Rattle.net_core.specs.Answers.{IsSent, Kept, Took, acts_in, step_of, tid_noted, tid_told}
 use Rattle.net_core.specs.Delivery.{AreMarked}
+use Rattle.net_core.specs.Forgotten.{with_forgotten}
 use Rattle.net_core.specs.Machine.{Machine, history_of, program_of, settings_of, start_of, world_of}
 use Rattle.net_core.specs.Reached.{Reached}
 use Rattle.net_core.specs.Whole.{IsWhole}
 use Rattle.net_core.specs.declared.taking.Step.{Step}
-use Rattle.net_core.proofs.Reaching.{reached-on, reached-same, run-on, settled-net}
+use Rattle.net_core.proofs.Reaching.{reached-on, reached-same, settled-net}
+use Rattle.net_core.proofs.Running.{new-among}
 
 pub world-is : (n : Machine) (v : World) → cores_of n.cores ≡ v.cores → dirs_of (first_ram (start_of n)) n.dirs ≡ v.dirs → n.next ≡ v.next
     → sending (net_of n.flights) (node_of n.sender) (sends_of n.unsent) ≡ v.net → world_of n ≡ v
@@ -102,7 +99,7 @@ took-by m n e o t s w cs told events code h = record {
 }
 
 -- and the machine is whole
-pub took-whole : (m n : Machine) (e : Event) (t : Step) → IsWhole m → m.events < run_limit → Took m n e t
+pub took-whole : (m n : Machine) (e : Event) (t : Step) → IsWhole m → m.events < machine_limit → Took m n e t
     → n.dirs.settings ≡ m.dirs.settings → n.flights.cores ≡ m.flights.cores → n.flights.dirs ≡ m.flights.dirs
     → AreMarked (settings_of m) (dirs_of (first_ram (start_of n)) n.dirs) n.flights → IsWhole n
 took-whole m n e t w short k settings cores dirs marked = record {
@@ -153,7 +150,7 @@ stays-whole m n w s =
       flight_cores = ap (λ f. f.cores) s.flights ∙ w.flight_cores ∙ ap (λ c. c.settings.cores) (sym s.code);
       flight_dirs = ap (λ f. f.dirs) s.flights ∙ w.flight_dirs ∙ ap (λ c. c.settings.dirs) (sym s.code);
       reached = reached-same m n w.reached k.history k.events k.code;
-      few = subst (λ x. x ≤ run_limit) (sym k.events) w.few;
+      few = subst (λ x. x ≤ machine_limit) (sym k.events) w.few;
       marked = subst (λ c. AreMarked c.settings (dirs_of (first_ram (start_of n)) n.dirs) n.flights) (sym s.code)
           (subst (λ f. AreMarked (settings_of m) (dirs_of (first_ram (start_of n)) n.dirs) f) (sym s.flights)
           (subst (λ ds. AreMarked (settings_of m) ds m.flights) (sym (same-dirs_but m n s)) w.marked));
@@ -161,46 +158,13 @@ stays-whole m n w s =
 
 -- ---- one commit more
 
-times-insert : (t : ℕ) (c : Commit) (cs : List Commit) → times t (insert_commit c cs) ≡ num (c.tid.0 == t) + times t cs
-unfolding times insert_commit
-times-insert t c [] = refl
-times-insert t c (d ∷ ds) = by (nat_lt c.tid.0 d.tid.0) (times-insert t c ds)
-  where
-    by : (b : Bool) → times t (insert_commit c ds) ≡ num (c.tid.0 == t) + times t ds
-        → times t (if b then c ∷ d ∷ ds else d ∷ insert_commit c ds) ≡ num (c.tid.0 == t) + (num (d.tid.0 == t) + times t ds)
-    by true e = refl
-    by false e = omega (arith, e)
-
-none-among : (t : ℕ) (cs : List Commit) → times t cs ≡ 0 → HasNone t cs
-unfolding times HasNone
-none-among t [] e = tt
-none-among t (c ∷ cs) e = (λ q. other q, none-among t cs (omega (arith, e)))
-  where
-    other : c.tid.0 ≡ t → ⊥
-    other q = let same : (c.tid.0 == t) ≡ true = grind (arith, nat_tests) in
-        let one : num (c.tid.0 == t) ≡ 1 = rw same refl in absurd (omega (arith, e, one))
-
 -- a commit that an event notes has a TID that no commit before it has
 pub new-tid : (m : Machine) (e : Event) (o : Stepped) (c : Commit) → Reached m → step_of m e ≡ Some o → o.noted ≡ Some c
     → HasNone c.tid.0 m.commits
-unfolding next_history history_of started
+unfolding history_of
 new-tid m e o c r s noted =
-    let h : History = record { world = o.world; commits = insert_commit c m.commits } in
-    let there : next_history (settings_of m) (program_of m) (history_of m) e ≡ Some h =
-    ap (recorded (record { world = world_of m; commits = m.commits })) s
-    ∙ ap (λ n. Some (record { world = o.world; commits = and_noted n m.commits })) noted in
-    let es : List Event = r.taken ++ e ∷ [] in
-    let all : run (settings_of m) (program_of m) (world_at_start (start_of m)) es ≡ Some h =
-    run-on (settings_of m) (program_of m) (world_at_start (start_of m)) r.taken e (history_of m) r.reaches ∙ there in
-    let t : TidsOf (grants_of (start_of m) es) h.commits = rw all at (committed_tids_were_granted_once (start_of m) es) in
-    let once : times c.tid.0 (insert_commit c m.commits) ≤ 1 = t.once c.tid.0 in
-    let sum : times c.tid.0 (insert_commit c m.commits) ≡ num (c.tid.0 == c.tid.0) + times c.tid.0 m.commits =
-    times-insert c.tid.0 c m.commits in
-    let own : num (c.tid.0 == c.tid.0) ≡ 1 = one c.tid.0 in
-    none-among c.tid.0 m.commits (omega (arith, once, sum, own))
-  where
-    one : (t : ℕ) → num (t == t) ≡ 1
-    one t = let same : (t == t) ≡ true = grind (arith, nat_tests) in rw same refl
+    (none-merged c.tid.0 r.gone m.commits
+    (new-among m.cores.code r.taken (with_forgotten r.gone (history_of m)) e o c r.reaches s noted)).1
 
 -- ---- room for a commit
 

@@ -15,7 +15,7 @@ use Rattle.net_core.specs.Machine.{Machine, history_of, program_of, settings_of,
 use Rattle.net_core.specs.declared.taking.Step.{Step}
 use Rattle.net_core.specs.declared.taking.StepError.{StepError}
 use Rattle.net_core.specs.declared.taking.StepError.TheVariants.{Refused, Memory}
-use Rattle.net_core.proofs.Reaching.{after-all}
+use Rattle.net_core.proofs.Running.{after-all}
 
 -- ---- the state is as before
 

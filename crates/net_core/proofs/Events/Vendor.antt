@@ -3,7 +3,7 @@ use Rattle.std.proofs.Common.{◌≡◌, ◌≢◌, ℕ, ◌+◌, ◌<◌, ◌�
 use Rattle.std.proofs.Common.{subst, arith}
 use Rattle.std.specs.Prelude.{nat_lt, if◌then◌else◌}
 use Rattle.image_load.specs.Start.{first_ram}
-use Rattle.tcc_base.specs.Limits.{run_limit}
+use Rattle.net_core.specs.Limits.{machine_limit}
 use Rattle.tcc_base.specs.Settings.{Settings}
 use Rattle.tcc_base.specs.declared.names.CoreId.{CoreId}
 use Rattle.tcc_base.specs.declared.names.NodeId.{NodeId}
@@ -87,7 +87,7 @@ pub grant-enabled : (m : Machine) (c k : ℕ) (x : Msg) → IsWhole m → in_fli
 grant-enabled m c k x w e = λ q. let s = grant-step m c k x w e in absurd (cc)
 
 -- there is a TID to give
-pub next-small : (m : Machine) → IsWhole m → m.events < run_limit → m.next ≤ run_limit
+pub next-small : (m : Machine) → IsWhole m → m.events < machine_limit → m.next ≤ machine_limit
 unfolding history_of world_of
 next-small m w few = let b = whole-bounded m w in let n = b.next_most in let c = w.reached.count in omega (arith, n, c)
 
@@ -139,7 +139,7 @@ gives-took m n c k x w g e =
       as_many = λ dst. as-many_taken m n (Core c) Vendor k Vendor dst g.settled g.net;
     })
 
-pub gives-whole : (m n : Machine) (c k : ℕ) (x : Msg) → IsWhole m → m.events < run_limit → GivesTo m n c k
+pub gives-whole : (m n : Machine) (c k : ℕ) (x : Msg) → IsWhole m → m.events < machine_limit → GivesTo m n c k
     → in_flight (net_of m.flights) (Core c) Vendor k ≡ Some x → IsWhole n
 gives-whole m n c k x w short g e =
     let code = ap (λ x. x.code) g.cores in

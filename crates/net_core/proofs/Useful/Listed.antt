@@ -1,15 +1,12 @@
 -- The useful events of a machine: what its cores may do, and then the messages that are marked.
-use Rattle.std.proofs.Common.{◌≡◌, ℕ, suc, ◌+◌, ◌*◌, ◌^◌, ◌<◌, ◌≤◌, Bool, true, false, ◌&&◌, List, [], ◌∷◌, ◌++◌, map, take}
+use Rattle.std.proofs.Common.{◌≡◌, ℕ, suc, ◌+◌, ◌*◌, ◌<◌, ◌≤◌, Bool, true, false, ◌&&◌, List, [], ◌∷◌, ◌++◌, map, take}
 use Rattle.std.proofs.Common.{length, length-append, Option, Some, None, is_some, refl, ap, sym, ◌∙◌, subst, arith}
 use Rattle.std.specs.Prelude.{slice_get}
 use Rattle.std.specs.List.{filter, flat_map}
 use Rattle.std.proofs.lemmas.List.Elements.{filter-append}
 use Rattle.std.proofs.lemmas.List.{length-map, map-append}
-use Rattle.std.proofs.lemmas.Nat.{mul-le}
-use Rattle.tcc_base.specs.Limits.{run_limit}
 use Rattle.base_lemmas.proofs.Lemmas.{and-true, get-front, those-most}
-use Rattle.theorem_bounds.proofs.Lemmas.{link_short}
-use Rattle.rules_maps.specs.Nodes.{Node, Core, Dir, Vendor, Event, Exec, Evict, Deliver, Msg}
+use Rattle.rules_maps.specs.Nodes.{Node, Event, Exec, Evict, Deliver, Msg}
 use Rattle.rules_maps.specs.Words.{those}
 use Rattle.tcc_msg.specs.Plain.{event_of}
 use Rattle.tcc_msg.specs.declared.event.Event.{Event as CodeEvent}
@@ -23,15 +20,15 @@ use Rattle.machine_cores.specs.Uses.{evict_events, exec_events}
 use Rattle.machine_cores.proofs.Lemmas.{evicts-fit, get-right, numbers-length}
 use Rattle.core_node.specs.Useful.{useful_evicts}
 use Rattle.core_node.proofs.Lemmas.{useful-evicts, useful-execs}
-use Rattle.machine_links.specs.Flights.{Flights, is_ready, net_of, nodes_of, ready_list, ready_on}
+use Rattle.machine_links.specs.Flights.{is_ready, net_of, ready_list}
 use Rattle.machine_links.proofs.Lemmas.{Agrees, marked-flies, ready-delivers}
 use Rattle.net_core.specs.Answers.{step_of}
 use Rattle.net_core.specs.Delivery.{AreMarked}
-use Rattle.net_core.specs.Machine.{Machine, history_of, program_of, settings_of, world_of}
+use Rattle.net_core.specs.Machine.{Machine, program_of, settings_of, world_of}
 use Rattle.net_core.specs.Whole.{IsWhole}
 use Rattle.net_core.proofs.Useful.Enabled.{absent-refused, flying-enabled}
 use Rattle.net_core.proofs.Prefixes.{took-more}
-use Rattle.net_core.proofs.Reaching.{settled-net, whole-bounded}
+use Rattle.net_core.proofs.Reaching.{settled-net}
 
 -- ---- those of a machine
 
@@ -122,59 +119,11 @@ evicts-most m h =
     subst (λ n. length (evicts_of m) ≤ n * 4294967296) (numbers-length s.cores)
     (flat-most (λ c. map (λ q. Evict c q.0 q.1) (found c)) 4294967296 (numbers s.cores) each)
 
-nodes-many : (f : Flights) → length (nodes_of f) ≡ f.cores + f.dirs + 1
-unfolding nodes_of
-nodes-many f =
-    length-append (map Core (numbers f.cores)) (map Dir (numbers f.dirs) ++ Vendor ∷ [])
-    ∙ omega (
-      arith,
-      length-append (map Dir (numbers f.dirs)) (Vendor ∷ []),
-      length-map (numbers f.cores) Core,
-      length-map (numbers f.dirs) Dir,
-      numbers-length f.cores,
-      numbers-length f.dirs,
-    )
-
-link-most : (m : Machine) → IsWhole m → m.unsent ≡ [] → (src dst : Node) → length (net_of m.flights src dst) ≤ 8796093022208
-unfolding history_of
-link-most m h e src dst =
-    let few : length h.reached.taken ≤ run_limit = rw h.reached.count h.few in
-    let short = link_short (settings_of m) h.reached.taken (history_of m) src dst h.allowed (whole-bounded m h) few in
-    subst (λ net. length (net src dst) ≤ 8796093022208) (settled-net m e) (weaker (length ((world_of m).net src dst)) short)
-  where
-    weaker : (n : ℕ) → n < 2 ^ 43 → n ≤ 8796093022208
-    weaker n l = omega (arith, l)
-
-ready-most : (m : Machine) → IsWhole m → m.unsent ≡ [] → length (ready_list m.flights) ≤ 129 * (129 * 8796093022208)
-unfolding ready_list ready_on
-ready-most m h e =
-    let f = m.flights in
-    let on : (src dst : Node) → length (ready_on f src dst) ≤ 8796093022208 = λ src dst.
-    omega (
-      arith,
-      length-map (those (is_ready f src dst) (length (net_of f src dst))) (Deliver src dst),
-      those-most (is_ready f src dst) (length (net_of f src dst)),
-      link-most m h e src dst,
-    ) in
-    let many : length (nodes_of f) ≤ 129 = omega (arith, nodes-many f, h.flight_cores, h.flight_dirs, h.allowed.0.1, h.allowed.1.1) in
-    let from : (src : Node) → length (flat_map (ready_on f src) (nodes_of f)) ≤ 129 * 8796093022208 = λ src.
-    omega (
-      arith,
-      flat-most (ready_on f src) 8796093022208 (nodes_of f) (on src),
-      mul-le (length (nodes_of f)) 8796093022208 129 8796093022208 many (omega arith),
-    ) in
-    omega (
-      arith,
-      flat-most (λ src. flat_map (ready_on f src) (nodes_of f)) (129 * 8796093022208) (nodes_of f) from,
-      mul-le (length (nodes_of f)) (129 * 8796093022208) 129 (129 * 8796093022208) many (omega arith),
-    )
-
--- these are the numbers of each kind, and they are small
+-- these are the numbers of each kind, and those of the cores are small
 pub record Tells (m : Machine) (a b r : ℕ) : Type 0 where
   pub all : a + b + r ≡ length (useful (settings_of m) (program_of m) (world_of m))
   pub execs : a ≤ 64
   pub evicts : b ≤ 274877906944
-  pub ready : r ≤ 146375783982563328
 
 useful-tells : (m : Machine) → IsWhole m → m.unsent ≡ []
     → Tells m (length (execs_of m)) (length (evicts_of m)) (length (ready_list m.flights))
@@ -187,7 +136,6 @@ useful-tells m h e = record {
   );
   execs = omega (arith, execs-most m, h.allowed.0.1);
   evicts = omega (arith, evicts-most m h, h.allowed.0.1);
-  ready = omega (arith, ready-most m h e);
 }
 
 -- as the code knows them

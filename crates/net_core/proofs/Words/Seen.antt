@@ -23,7 +23,7 @@ use Rattle.net_core.specs.Machine.{Machine, history_of, settings_of, start_of, w
 use Rattle.net_core.specs.Whole.{IsWhole}
 use Rattle.net_core.proofs.Words.Newest.{newest-append}
 use Rattle.net_core.proofs.Words.Places.{newest-none}
-use Rattle.net_core.proofs.Reaching.{settled-net}
+use Rattle.net_core.proofs.Reaching.{full_history, settled-net}
 
 -- ---- caches
 
@@ -36,7 +36,7 @@ caches-after c es h e n =
 -- the cores of a whole machine have caches
 pub whole-caches : (m : Machine) → IsWhole m → (n : ℕ) → IsCache (settings_of m) (cores_of m.cores n).cache
 unfolding history_of world_of
-whole-caches m w n = caches-after m.cores.code w.reached.taken (history_of m) w.reached.reaches n
+whole-caches m w n = caches-after m.cores.code w.reached.taken (full_history m w) w.reached.reaches n
 
 -- ---- the cores one by one
 

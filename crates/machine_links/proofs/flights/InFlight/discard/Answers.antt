@@ -122,6 +122,7 @@ invariant_of-self c =
       unlinked = laned.unlinked;
       counted = c.count_mark.ensures ∙ (after.counted.counted ∙ ap (map (count_by is_marked)) (sym items));
       flying = after.counted.flying ∙ ap (sum_by (count_by is_waiting)) (sym items);
+      few = let few = c.self.invariant.few in omega (arith, few);
       listed = subst (λ n. AllListed n c.unlist.new.self)
           (sym (ap (λ ls. net_of (with_lanes i.grid.cores i.grid.dirs ls)) items
           ∙ taken-net i.grid.cores i.grid.dirs i.lanes.items i.ready i.flying s d c.link-at.result k c.index_mut.result.now stands at e))

@@ -1,5 +1,5 @@
 -- Every lane is empty.
-use Rattle.std.proofs.Common.{◌≡◌, ◌∙◌, sym, ap, subst, map}
+use Rattle.std.proofs.Common.{◌≡◌, ◌∙◌, sym, ap, subst, map, arith}
 use Rattle.std.specs.List.{count_by, sum_by}
 use Rattle.machine_links.specs.Lane.{is_marked, is_waiting}
 use Rattle.machine_links.specs.Flights.{net_of, is_ready, lane}
@@ -24,6 +24,7 @@ invariant_of-result c =
       unlinked = laned.unlinked;
       counted = c.in_ok-new.ensures ∙ ((blank-counted n).counted ∙ ap (map (count_by is_marked)) (sym items));
       flying = (blank-counted n).flying ∙ ap (sum_by (count_by is_waiting)) (sym items);
+      few = omega arith;
       listed = none-listed _ _ (ap (λ ls. net_of (with_lanes cs ds ls)) items ∙ blank-net cs ds n);
     }
 

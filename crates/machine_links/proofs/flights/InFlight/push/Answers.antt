@@ -85,6 +85,7 @@ invariant_of-self-in-Ok c =
       unlinked = laned.unlinked;
       counted = c.count_mark.ensures ∙ (after.counted.counted ∙ ap (map (count_by is_marked)) (sym items));
       flying = after.counted.flying ∙ ap (sum_by (count_by is_waiting)) (sym items);
+      few = omega arith;
       listed = subst (λ n. AllListed n c.list.new.self)
           (sym (ap (λ ls. net_of (with_lanes cs ds ls)) items
           ∙ sent-net cs ds i.lanes.items i.ready i.flying s c.args.dst c.link-at.result c.index_mut.result.now held stands at e

@@ -116,6 +116,7 @@ invariant_of-self c =
           ∙ (ap (λ b. set i.ready c.in-Some.at (get_or i.ready c.in-Some.at 0 + num c.args.ready - num b)) c.set_ready-was.ensures.was
           ∙ (after.counted.counted ∙ ap (map (count_by is_marked)) (sym items)));
       flying = after.counted.flying ∙ ap (sum_by (count_by is_waiting)) (sym items);
+      few = c.self.invariant.few;
       listed = subst (λ n. AllListed n i.index)
           (sym (ap (λ ls. net_of (with_lanes i.grid.cores i.grid.dirs ls)) items
           ∙ marked-net i.grid.cores i.grid.dirs i.lanes.items i.ready i.flying s d c.in-Some.at c.args.seq c.index_mut.result.now

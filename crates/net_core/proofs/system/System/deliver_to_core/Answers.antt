@@ -2,7 +2,7 @@
 use Rattle.std.proofs.Common.{◌≡◌, ◌∙◌, ◌<◌, ap, refl, sym, subst, Err, Some, Option, ℕ, [], false}
 use Rattle.rules_maps.specs.Bridge.{node_of}
 use Rattle.image_load.specs.Start.{first_ram}
-use Rattle.tcc_base.specs.Limits.{run_limit}
+use Rattle.net_core.specs.Limits.{machine_limit}
 use Rattle.tcc_base.specs.declared.names.CoreId.{CoreId}
 use Rattle.tcc_base.specs.declared.names.NodeId.{NodeId}
 use Rattle.rules_maps.specs.Nodes.{Core, Deliver, Event, Node, Msg}
@@ -143,7 +143,7 @@ invariant_of-self-in-Ok c =
     let m = machine_of c.self.inside in
     let n = after_core c.self.inside c.deliver.new.self c.deliver.new.out c.discard.new.self c.args.core in
     took-whole m n (event c.args.name.src c.args.core c.args.name.seq) Moved c.self.invariant
-    (subst (λ m. m.events < run_limit) (sym c.self.view_is) c.requires.few) (took c) refl c.discard.ensures.cores c.discard.ensures.dirs
+    (subst (λ m. m.events < machine_limit) (sym c.self.view_is) c.requires.few) (took c) refl c.discard.ensures.cores c.discard.ensures.dirs
     (subst (λ ds. AreMarked (settings_of m) ds c.discard.new.self) (sym (same-dirs m n c.in-Ok.ensures.code refl))
     (marks-taken (settings_of m) (dirs_of (first_ram (start_of m)) m.dirs) c.self.inside.flights c.discard.new.self
     (node_of c.args.name.src) (Core c.args.core.0)

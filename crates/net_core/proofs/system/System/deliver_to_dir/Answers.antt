@@ -2,7 +2,7 @@
 use Rattle.std.proofs.Common.{◌≡◌, ◌≢◌, ◌∙◌, ◌+◌, ◌<◌, ℕ, ⊎_elim, ap, refl, sym, subst, true, false, Some, None}
 use Rattle.std.proofs.lemmas.Bool.{cases_Bool}
 use Rattle.std.specs.Prelude.{if◌then◌else◌}
-use Rattle.tcc_base.specs.Limits.{run_limit}
+use Rattle.net_core.specs.Limits.{machine_limit}
 use Rattle.tcc_base.specs.declared.names.NodeId.TheVariants as code_node
 use Rattle.rules_maps.specs.Bridge.{node_of}
 use Rattle.rules_maps.specs.Nodes.{Core, Dir, Deliver, Msg}
@@ -209,7 +209,7 @@ flies c =
 pub invariant_of-self-in-Ok : goal.invariant_of-self-in-Ok
 invariant_of-self-in-Ok c =
     acts-whole (machine_of c.self.inside) (after c) c.args.core.0 c.args.dir.0 c.args.name.seq (msg_of c.args.held.msg) c.in-Ok.handled
-    c.self.invariant (subst (λ m. m.events < run_limit) (sym c.self.view_is) c.requires.few) (flies c) (takes-it c) (acts c)
+    c.self.invariant (subst (λ m. m.events < machine_limit) (sym c.self.view_is) c.requires.few) (flies c) (takes-it c) (acts c)
 
 pub returns-in-Ok : goal.returns-in-Ok
 returns-in-Ok c =

@@ -1,7 +1,7 @@
 -- A core empties a way.
 use Rattle.std.proofs.Common.{◌∙◌, ap, refl, sym, subst, Err}
 use Rattle.std.specs.Prelude.{◌<◌}
-use Rattle.tcc_base.specs.Limits.{run_limit}
+use Rattle.net_core.specs.Limits.{machine_limit}
 use Rattle.rules_maps.specs.Nodes.{Evict}
 use Rattle.net_core.specs.Answers.{Answers, Took}
 use Rattle.net_core.specs.Inside.{machine_of}
@@ -75,7 +75,7 @@ took c =
 pub invariant_of-self-in-Ok : goal.invariant_of-self-in-Ok
 invariant_of-self-in-Ok c =
     move-whole (machine_of c.self.inside) _ (Evict c.args.core.0 c.args.set c.args.way) Moved c.args.core.0 c.clear.new.self c.evict.new.out
-    c.self.invariant (subst (λ m. m.events < run_limit) (sym c.self.view_is) c.requires.few) (acts c) (took c) refl
+    c.self.invariant (subst (λ m. m.events < machine_limit) (sym c.self.view_is) c.requires.few) (acts c) (took c) refl
 
 pub returns-in-Ok : goal.returns-in-Ok
 returns-in-Ok c =

@@ -1,6 +1,6 @@
 -- A core executes.
 use Rattle.std.proofs.Common.{◌≡◌, ◌∙◌, ◌≤◌, ◌<◌, ap, refl, sym, subst, arith, Err, ℕ, Option}
-use Rattle.tcc_base.specs.Limits.{run_limit}
+use Rattle.net_core.specs.Limits.{machine_limit}
 use Rattle.tcc_base.specs.Settings.{Settings}
 use Rattle.rules_maps.specs.Nodes.{Exec}
 use Rattle.rules_tcc.specs.Attempt.{Out}
@@ -17,7 +17,7 @@ use Rattle.net_core.specs.declared.taking.Step.TheVariants as step_told
 use Rattle.net_core.proofs.Reaching.{nothing-left}
 use Rattle.net_core.proofs.Events.Kept.{StaysBut, stays-whole}
 use Rattle.net_core.proofs.Events.Cores.{ActsFrom, after_core, after_none, commit-new, exec-step_in, move-whole, no-exec, noted-as}
-use Rattle.net_core.proofs.Events.Cores.{refused-move, short-attempt, told-unnoted, took-move, unnoted-as}
+use Rattle.net_core.proofs.Events.Cores.{refused-move, told-unnoted, took-move, unnoted-as}
 use Rattle.net_core.proofs.system.System.exec.Goals as goal
 
 beyond : (s t : Settings) (c n : ℕ) → s ≡ t → n ≡ s.cores → n ≤ c → c < t.cores → ⊥
@@ -30,11 +30,6 @@ returns-then-core-cores c = (
       (beyond c.config.result.now (settings_of c.args.self.now) c.args.core.0 c.cores.result c.config.ensures
       c.cores.ensures.value c.if-core-cores.true),
 )
-
-pub exec-requires-clause-short : goal.exec-requires-clause-short
-exec-requires-clause-short c =
-    short-attempt (machine_of c.self.inside) c.args.core.0 c.self.invariant
-    (subst (λ m. m.events < run_limit) (sym c.self.view_is) c.requires.few)
 
 -- ---- a refusal
 
@@ -114,7 +109,7 @@ took-commit c =
 pub invariant_of-self-in-Committed : goal.invariant_of-self-in-Committed
 invariant_of-self-in-Committed c =
     move-whole (machine_of c.self.inside) _ (Exec c.args.core.0) (step_told.Committed c.in-Committed.commit.tid) c.args.core.0
-    c.clear.new.self c.exec.new.out c.self.invariant (subst (λ m. m.events < run_limit) (sym c.self.view_is) c.requires.few)
+    c.clear.new.self c.exec.new.out c.self.invariant (subst (λ m. m.events < machine_limit) (sym c.self.view_is) c.requires.few)
     (committed c) (took-commit c) refl
 
 pub returns-in-Committed : goal.returns-in-Committed
@@ -154,7 +149,7 @@ took c =
 pub invariant_of-self-in-Stepped : goal.invariant_of-self-in-Stepped
 invariant_of-self-in-Stepped c =
     move-whole (machine_of c.self.inside) _ (Exec c.args.core.0) step_told.Moved c.args.core.0
-    c.clear.new.self c.exec.new.out c.self.invariant (subst (λ m. m.events < run_limit) (sym c.self.view_is) c.requires.few)
+    c.clear.new.self c.exec.new.out c.self.invariant (subst (λ m. m.events < machine_limit) (sym c.self.view_is) c.requires.few)
     (acts c) (took c) refl
 
 pub returns-in-Stepped : goal.returns-in-Stepped

@@ -6,7 +6,7 @@ use Rattle.tcc_msg.specs.Plain.{msg_of}
 use Rattle.tcc_msg.specs.declared.msg.Msg.TheVariants as code
 use Rattle.tcc_msg.specs.declared.outgoing.Outgoing.{Outgoing}
 use Rattle.rules_tcc.specs.Links.{in_flight, taking}
-use Rattle.tcc_base.specs.Limits.{run_limit}
+use Rattle.net_core.specs.Limits.{machine_limit}
 use Rattle.tcc_base.specs.declared.names.NodeId.TheVariants as code_node
 use Rattle.machine_links.specs.Flights.{is_ready, net_of, with_mark}
 use Rattle.net_core.specs.Answers.{Kept, Took, step_of}
@@ -59,7 +59,7 @@ returns-then-is_err c =
 
 pub grant-tid-requires : goal.grant-tid-requires
 grant-tid-requires c =
-    next-small (machine_of c.self.inside) c.self.invariant (subst (λ x. x.events < run_limit) (sym c.self.view_is) c.requires.few)
+    next-small (machine_of c.self.inside) c.self.invariant (subst (λ x. x.events < machine_limit) (sym c.self.view_is) c.requires.few)
 
 pub discard-requires : goal.discard-requires
 discard-requires c =
@@ -107,7 +107,7 @@ flies c =
 pub invariant_of-self-2 : goal.invariant_of-self-2
 invariant_of-self-2 c =
     gives-whole (machine_of c.self.inside) (after c) c.args.core.0 c.args.name.seq (msg_of c.args.msg) c.self.invariant
-    (subst (λ m. m.events < run_limit) (sym c.self.view_is) c.requires.few) (gives c) (flies c)
+    (subst (λ m. m.events < machine_limit) (sym c.self.view_is) c.requires.few) (gives c) (flies c)
 
 pub returns : goal.returns
 returns c =

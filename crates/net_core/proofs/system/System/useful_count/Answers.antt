@@ -15,7 +15,7 @@ overflow_add-result c =
     omega (arith, few.execs, few.evicts)
 
 pub overflow_add-result-2 : goal.overflow_add-result-2
-overflow_add-result-2 c = omega (arith, (tells c).execs, (tells c).evicts, (tells c).ready)
+overflow_add-result-2 c = omega (arith, (tells c).execs, (tells c).evicts, c.ready_count.ensures.few)
 
 pub returns : goal.returns
 returns c = (tells c).all
