@@ -1,4 +1,4 @@
--- The totals as two rows for a table: the names, and the numbers.
+-- The totals as rows of a table: the names, and the numbers.
 use Rattle.std.specs.Prelude.{ℕ, List, ◌++◌, Bool, true, false, Option, Some, None, codes}
 use Rattle.std.specs.Fmt.{decimal}
 use Rattle.tcc_base.specs.Settings.{Settings}
@@ -64,8 +64,16 @@ core_cells c = attempts_cells c ++ instructions_cells c ++ accesses_cells c ++ e
 unfoldable pub messages_cells : MessageCounts → List ℕ
 messages_cells m = cell m.sent ++ cell m.took ++ cell m.dropped ++ cell m.asked ++ cell (in_flight m)
 
--- both rows, of the numbers of all cores and of all kinds of message
-unfoldable pub csv_text : Settings → (seed : Option (ℕ × ℕ)) → (done : Bool) → (events : ℕ) → Counts → List ℕ
-csv_text s seed done events c =
-    names ++ newline ++ codes "1" ++ settings_cells s ++ seed_cells seed ++ end_cell done ++ cell events
+-- the row of the names
+unfoldable pub names_row : List ℕ
+names_row = names ++ newline
+
+-- the row of the numbers of all cores and of all kinds of message
+unfoldable pub csv_row : Settings → (seed : Option (ℕ × ℕ)) → (done : Bool) → (events : ℕ) → Counts → List ℕ
+csv_row s seed done events c =
+    codes "1" ++ settings_cells s ++ seed_cells seed ++ end_cell done ++ cell events
     ++ core_cells (all_cores c.cores) ++ messages_cells (all_messages c.messages) ++ newline
+
+-- both rows
+unfoldable pub csv_text : Settings → (seed : Option (ℕ × ℕ)) → (done : Bool) → (events : ℕ) → Counts → List ℕ
+csv_text s seed done events c = names_row ++ csv_row s seed done events c

@@ -1,6 +1,6 @@
 // The rows of the table that `--csv` asks for, each number with the comma that stands before it.
 ghost use Rattle.std.specs.Prelude.{◌≡◌, ◌++◌, OnOk, string_bytes};
-ghost use Rattle.watch_count.specs.Csv.{names, table_names, cell, settings_cells, seed_cells, end_cell, attempts_cells, instructions_cells};
+ghost use Rattle.watch_count.specs.Csv.{names, names_row, table_names, cell, settings_cells, seed_cells, end_cell, attempts_cells, instructions_cells};
 ghost use Rattle.watch_count.specs.Csv.{accesses_cells, evictions_cells, phases_cells, core_cells, messages_cells};
 
 use crate::messages::MessageCounts;
@@ -28,12 +28,21 @@ pub fn push_table_names(text: &mut String) -> Result<(), AllocError>
 }
 
 /// The names of the columns.
-pub(crate) fn push_names(text: &mut String) -> Result<(), AllocError>
+fn push_names(text: &mut String) -> Result<(), AllocError>
     ensures { OnOk result (string_bytes text.new ≡ string_bytes text.old ++ names) }
 {
     text.push_str("tcc-count,cores,dirs,sets,ways,base,ram,seed,steps,end,events")?;
     push_table_names(text)?;
     text.push_str(",messages_sent,messages_took,messages_dropped,messages_asked,messages_flight")
+}
+
+/// Appends the row of the names of the columns. After want of memory a part of it may stand there.
+#[tactic(auto, unfolding(crate::specs::Csv::names_row))]
+pub fn push_csv_names(text: &mut String) -> Result<(), AllocError>
+    ensures { OnOk result (string_bytes text.new ≡ string_bytes text.old ++ names_row) }
+{
+    push_names(text)?;
+    text.push_str("\n")
 }
 
 /// Appends a number and the comma that stands before it. After want of memory a part of it may stand there.

@@ -15,13 +15,13 @@ ghost use Rattle.watch_count.specs.Places.{no_conflict, conflict_of as plain_con
 ghost use Rattle.watch_count.specs.Sizes.{core_size, messages_size, line_size, conflict_size, weight as plain_weight};
 ghost use Rattle.watch_count.specs.Text.{count_text, entry_conflict, entry_line, tables_text};
 ghost use Rattle.watch_count.specs.Totals.{all_cores as plain_all_cores};
-ghost use Rattle.watch_count.specs.Csv.{core_cells, csv_text};
+ghost use Rattle.watch_count.specs.Csv.{core_cells, csv_row, csv_text};
 ghost use Rattle.watch_count.specs.Counts.{core_taking, core_of as plain_core_of, changed, changed_if, message_sent};
 ghost use Rattle.watch_count.specs.Counts.{kept_changed, kept_changed_if, conflict_cmp};
 ghost use Rattle.watch_count.specs.Counts.{nothing_counted, counted, event_begun, event_counted};
 
 use crate::cells::{
-    push_cell, push_core_cells, push_end_cell, push_messages_cells, push_names, push_seed,
+    push_cell, push_core_cells, push_csv_names, push_end_cell, push_messages_cells, push_seed,
     push_settings,
 };
 use crate::kept::KeptCore;
@@ -272,7 +272,7 @@ impl Counts {
     }
 
     /// An event of this node, with its facts. It fails for want of memory, and where a number could come above 2^56, to which no run of
-    /// fewer than 2^24 events comes whose facts are fewer than a million each. Some of the facts may be counted then and others not, so
+    /// 2^40 events comes whose events have at most 10,000 facts on average. Some of the facts may be counted then and others not, so
     /// the counts are of no use any more. Takes constant time for each fact, but for the logarithm of the lines and conflicts so far.
     pub fn event(&mut self, actor: NodeId, facts: &[Fact]) -> Result<(), NoMemory>
         ensures { OnOk result (self.new ≡ event_counted (node_of actor) (map fact_of facts.now) self.old) }
@@ -386,8 +386,8 @@ impl Counts {
         push_events(text, events)
     }
 
-    #[tactic(auto, unfolding(crate::specs::Csv::csv_text))]
-    fn push_totals(
+    #[tactic(auto, unfolding(crate::specs::Csv::csv_row))]
+    fn push_row(
         &self,
         text: &mut String,
         config: &Config,
@@ -395,10 +395,9 @@ impl Counts {
         done: bool,
         events: u64,
     ) -> Result<(), AllocError>
-        ensures { OnOk result (string_bytes text.new ≡ string_bytes text.old ++ csv_text config.now seed done events self.now) }
+        ensures { OnOk result (string_bytes text.new ≡ string_bytes text.old ++ csv_row config.now seed done events self.now) }
     {
-        push_names(text)?;
-        text.push_str("\n1")?;
+        text.push_str("1")?;
         push_settings(text, config)?;
         push_seed(text, seed)?;
         push_end_cell(text, done)?;
@@ -424,9 +423,24 @@ impl Counts {
             .map_err(|_| NoMemory)
     }
 
-    /// Appends the totals as two rows for a table: the names of the columns, and the settings, the seed and the number of steps where
-    /// the run has them, how it ended, and the numbers of all cores and of all kinds of message. After want of memory a part of it may
-    /// stand there.
+    /// Appends the totals as a row of a table: the settings, the seed and the number of steps where the run has them, how it ended, and the
+    /// numbers of all cores and of all kinds of message. After want of memory a part of it may stand there.
+    pub fn push_csv_row(
+        &self,
+        text: &mut String,
+        config: &Config,
+        seed: Option<(u64, u64)>,
+        done: bool,
+        events: u64,
+    ) -> Result<(), NoMemory>
+        ensures { OnOk result (string_bytes text.new ≡ string_bytes text.old ++ csv_row config.now seed done events self.now) }
+    {
+        self.push_row(text, config, seed, done, events)
+            .map_err(|_| NoMemory)
+    }
+
+    /// Appends the row of the names of the columns, and `push_csv_row`. After want of memory a part of them may stand there.
+    #[tactic(auto, unfolding(crate::specs::Csv::csv_text))]
     pub fn push_csv(
         &self,
         text: &mut String,
@@ -437,7 +451,7 @@ impl Counts {
     ) -> Result<(), NoMemory>
         ensures { OnOk result (string_bytes text.new ≡ string_bytes text.old ++ csv_text config.now seed done events self.now) }
     {
-        self.push_totals(text, config, seed, done, events)
-            .map_err(|_| NoMemory)
+        push_csv_names(text).map_err(|_| NoMemory)?;
+        self.push_csv_row(text, config, seed, done, events)
     }
 }

@@ -14,7 +14,7 @@ mod texts;
 mod totals;
 mod worked;
 
-pub use cells::{push_cell, push_end_cell, push_seed, push_table_names};
+pub use cells::{push_cell, push_csv_names, push_end_cell, push_seed, push_table_names};
 pub use counts::Counts;
 pub use messages::MessageCounts;
 pub use places::{Conflict, ConflictCounts, LineCounts};

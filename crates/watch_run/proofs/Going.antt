@@ -10,7 +10,7 @@ use Rattle.net_core.specs.Machine.{Machine, history_of, program_of, settings_of}
 use Rattle.watch_trace.proofs.Lemmas.{run-more}
 use Rattle.watch_run.specs.Going.{Took, Went}
 
-none-left : (xs ys : List Event) → length (xs ++ ys) ≤ length xs → ys ≡ []
+pub none-left : (xs ys : List Event) → length (xs ++ ys) ≤ length xs → ys ≡ []
 none-left [] [] h = refl
 none-left [] (y ∷ ys) h = absurd (omega (arith, h))
 none-left (x ∷ xs) ys h = none-left xs ys (omega (arith, h))

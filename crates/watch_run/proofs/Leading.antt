@@ -11,10 +11,10 @@ use Rattle.rules_maps.specs.Nodes.{Event}
 use Rattle.rules_tcc.specs.Seen.{IsDone}
 use Rattle.rules_tcc.specs.State.{World}
 use Rattle.rules_tcc.specs.Step.{History, run, run_from}
-use Rattle.net_core.specs.Machine.{Machine, history_of, program_of, settings_of, start_of, world_of}
-use Rattle.watch_count.specs.Counts.{Counts, nothing_counted, run_counted}
+use Rattle.net_core.specs.Machine.{Machine, history_of, settings_of, start_of, world_of}
+use Rattle.watch_count.specs.Counts.{Counts}
 use Rattle.watch_run.specs.Going.{Went}
-use Rattle.watch_run.specs.Looked.{IsCounted, counts_of_run, run_facts}
+use Rattle.watch_run.specs.Looked.{HasCounted, IsCounted}
 use Rattle.watch_run.specs.Written.{LeadsTo}
 
 -- the start of a machine is that of what was loaded, and its state the first one
@@ -48,16 +48,28 @@ leads c m n es done allowed s w is =
       serial = serial-of c es (history_of n) allowed ran;
     }
 
--- what is counted of the run of a machine at its start is what is counted of the run from there
-pub counted-first : (c : Contents) (m : Machine) (es fs : List Event) (before counts : Counts) → StartsAt c m → es ≡ fs
-    → counts ≡ run_counted (run_facts (settings_of m) (program_of m) es (history_of m)) before
-    → before ≡ nothing_counted (settings_of m).cores → counts ≡ counts_of_run (started c) fs
-unfolding counts_of_run started
-counted-first c m es fs before counts s f e b =
-    e ∙ (λ i. run_counted (run_facts (s.code i).settings (program (started (s.code i))) (f i) (s.first i))
-    ((b ∙ ap (λ k. nothing_counted k.settings.cores) s.code) i))
+-- where a count led
+pub leads-counted : (c : Contents) (es : List Event) (m : Machine) (counts : Counts) (done : Bool) → IsAllowed c.settings
+    → (h : HasCounted c es m counts) → (IsTrue done ↔ IsDone (settings_of m) (world_of m)) → LeadsTo (started c) es done h.ends
+unfolding history_of started
+leads-counted c es m counts done allowed h is = record {
+  is_run = h.ran;
+  is_done = subst (λ w. IsTrue done ↔ IsDone c.settings w) h.kept.world
+      (subst (λ k. IsTrue done ↔ IsDone k.settings (world_of m)) h.code is);
+  serial = serial-of c es h.ends allowed h.ran;
+}
 
--- and it is counted to the same end
+pub is-counted : (c : Contents) (es : List Event) (m : Machine) (counts : Counts) (done : Bool) (events : ℕ) → IsAllowed c.settings
+    → HasCounted c es m counts → (IsTrue done ↔ IsDone (settings_of m) (world_of m)) → events ≡ m.events
+    → IsCounted (started c) es done events counts
+is-counted c es m counts done events allowed h is n = record {
+  ends = h.ends;
+  leads = leads-counted c es m counts done allowed h is;
+  all = n ∙ h.events;
+  counted = h.counted;
+}
+
+-- a machine at its start is counted to the end to which what was loaded is
 pub counted-there : (c : Contents) (m : Machine) (es fs : List Event) (done : Bool) (events : ℕ) (counts : Counts) → StartsAt c m
     → es ≡ fs → IsCounted (start_of m) es done events counts → IsCounted (started c) fs done events counts
 counted-there c m es fs done events counts s e h =

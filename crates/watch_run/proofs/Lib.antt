@@ -1,7 +1,12 @@
 -- The proofs of this crate.
+mod Forgetting
 mod Going
+mod Kept
 mod Leading
+mod Named
 mod Picking
+mod Serving
+mod Tabled
 mod Tallies
 mod Told
 mod Traced

@@ -1,15 +1,16 @@
 -- The events that a seed picks, one after another.
-use Rattle.std.proofs.Common.{◌≡◌, ℕ, suc, ◌-◌, List, [], ◌∷◌, Option, Some, None, IfSome, refl, ap, sym, ◌∙◌, arith}
+use Rattle.std.proofs.Common.{◌≡◌, ℕ, suc, ◌-◌, ◌≤◌, List, [], ◌∷◌, length, Option, Some, None, IfSome, refl, ap, sym, ◌∙◌, arith}
 use Rattle.std.specs.Prelude.{is_some, option_map, if◌then◌else◌}
+use Rattle.rand_core.specs.Steps.{first_words}
 use Rattle.rand_pcg.specs.Lcg.{Lcg}
 use Rattle.rand_pcg.specs.Pcg.{pcg32}
 use Rattle.rules_maps.specs.Nodes.{Event}
 use Rattle.tcc_msg.specs.Plain.{event_of}
 use Rattle.tcc_msg.specs.declared.event.Event.{Event as CodeEvent}
-use Rattle.net_core.specs.Machine.{Machine, start_of, world_of}
+use Rattle.net_core.specs.Machine.{Machine, program_of, settings_of, start_of, world_of}
 use Rattle.tcc_pick.specs.Picking.{picks}
 use Rattle.tcc_pick.proofs.Lemmas.{chosen_at, no-words, picks-none, picks-one}
-use Rattle.rules_tcc.specs.Picked.{picked}
+use Rattle.rules_tcc.specs.Picked.{pick, picked}
 use Rattle.rules_tcc.specs.State.{World}
 use Rattle.tcc_pick.specs.Words.{words}
 use Rattle.rv_code.specs.Machine.{program}
@@ -46,3 +47,15 @@ first-chosen left less g f m (Some e) h l c d = λ n t.
     ap (λ k. picks k g m) (suc-of left less l h)
     ∙ picks-one less g m n (event_of e) (sym c) t.next t.code
     ∙ ap (λ k. event_of e ∷ picks less k n) (sym d)
+
+-- and so one at least comes
+pub one-chosen : (left : ℕ) (g : Lcg) (m : Machine) (o : Option CodeEvent) → (left ≡ 0 → ⊥) → option_map event_of o ≡ chosen_at g m
+    → IfSome o (λ e. 1 ≤ length (coming_by left g (start_of m) (world_of m)))
+unfolding started picked first_words
+one-chosen left g m None h c = tt
+one-chosen left g m (Some e) h c =
+    let rest = picked (settings_of m) (program_of m) (words (left - 1) (pcg32 g).1) in
+    let first : coming_by left g (start_of m) (world_of m) ≡ pick (settings_of m) (program_of m) (world_of m) rest (Some (event_of e)) =
+    ap (λ k. picks k g m) (suc-of left (left - 1) refl h)
+    ∙ ap (pick (settings_of m) (program_of m) (world_of m) rest) (sym c) in
+    omega (arith, ap length first)

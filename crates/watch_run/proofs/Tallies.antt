@@ -1,18 +1,28 @@
 -- One event more is counted.
-use Rattle.std.proofs.Common.{◌≡◌, ℕ, ◌+◌, List, [], ◌∷◌, ◌++◌, Option, Some, None, refl, ap, sym, ◌∙◌}
-use Rattle.image_load.specs.Contents.{started}
+use Rattle.std.proofs.Common.{◌≡◌, ℕ, ◌+◌, ◌<◌, ◌≤◌, List, [], ◌∷◌, ◌++◌, length, append-nil, append_assoc, length-append, Option, Some}
+use Rattle.std.proofs.Common.{None, refl, ap, sym, subst, ◌∙◌, arith}
+use Rattle.base_lemmas.proofs.Lemmas.{one-longer}
+use Rattle.image_load.specs.Contents.{Contents, started}
+use Rattle.image_load.specs.Start.{Start}
 use Rattle.rv_code.specs.Machine.{program}
 use Rattle.rules_maps.specs.Nodes.{Node, Event}
 use Rattle.rules_maps.specs.Shape.{Shape}
 use Rattle.rules_program.specs.Program.{Program}
-use Rattle.rules_tcc.specs.Step.{History, and_then, next_history, run_from}
+use Rattle.rules_riscv.specs.Starting.{at_start}
+use Rattle.rules_tcc.specs.State.{World}
+use Rattle.rules_tcc.specs.Step.{History, and_then, next_history, run, run_from}
 use Rattle.watch.specs.Facts.{Fact}
 use Rattle.watch.specs.Happened.{actor, happened}
-use Rattle.watch_count.specs.Counts.{Counts, event_counted, run_counted}
-use Rattle.net_core.specs.Machine.{Machine, history_of, program_of, settings_of}
+use Rattle.watch.specs.Messages.{commit_of}
+use Rattle.watch_count.specs.Counts.{Counts, event_counted, nothing_counted, run_counted}
+use Rattle.watch_trace.proofs.Lemmas.{run-more}
+use Rattle.net_core.specs.Machine.{Machine, history_of, program_of, settings_of, start_of, world_of}
+use Rattle.watch_run.specs.Forgetting.{StillKeeps, IsKeptOf}
 use Rattle.watch_run.specs.Going.{Took}
-use Rattle.watch_run.specs.Looked.{and_later, run_facts}
-use Rattle.watch_run.proofs.Going.{Gone, by-first, gone-all, gone-more, gone-none}
+use Rattle.watch_run.specs.Looked.{HasCounted, and_later, counts_of_run, run_facts}
+use Rattle.watch_run.proofs.Going.{none-left}
+use Rattle.watch_run.proofs.Kept.{goes-along}
+use Rattle.watch_run.proofs.Leading.{StartsAt}
 
 facts-more : (sh : Shape) (p : Program) (es : List Event) (e : Event) (h g i : History) → run_from sh p es h ≡ Some g
     → next_history sh p g e ≡ Some i
@@ -38,7 +48,7 @@ unfolding run_counted
 counted-more [] x c = refl
 counted-more (y ∷ xs) x c = counted-more xs x (event_counted y.0 y.1 c)
 
-pub run-counted-more : (sh : Shape) (p : Program) (es : List Event) (e : Event) (h g i : History) (c : Counts)
+run-counted-more : (sh : Shape) (p : Program) (es : List Event) (e : Event) (h g i : History) (c : Counts)
     → run_from sh p es h ≡ Some g
     → next_history sh p g e ≡ Some i
     → run_counted (run_facts sh p (es ++ e ∷ []) h) c
@@ -47,39 +57,100 @@ run-counted-more sh p es e h g i c r s =
     ap (λ fs. run_counted fs c) (facts-more sh p es e h g i r s)
     ∙ counted-more (run_facts sh p es h) (actor e, happened sh p g e) c
 
--- ---- in the loop
+-- ---- from the start, by a machine that forgets
 
--- the events so far were taken and counted
-pub record Tallied (first now : Machine) (all left : List Event) (number : ℕ) (before counts : Counts) : Type 0 where
-  pub gone : Gone first now all left number
-  pub counted : counts ≡ run_counted (run_facts (settings_of first) (program_of first) gone.firsts (history_of first)) before
+-- nothing was taken
+pub counted-none : (c : Contents) (m : Machine) (counts : Counts) → StartsAt c m → m.events ≡ 0 → m.unsent ≡ []
+    → counts ≡ nothing_counted c.settings.cores → HasCounted c [] m counts
+unfolding counts_of_run run_facts run_counted run run_from started
+counted-none c m counts s z u is = record {
+  ends = at_start (started c);
+  ran = refl;
+  kept = record { world = ap (λ h. h.world) s.first; commits = λ d t dl le. ap (λ h. commit_of t h.commits) s.first };
+  counted = is;
+  settled = u;
+  events = z;
+  code = s.code;
+}
 
-pub tallied-none : (m : Machine) (all : List Event) (c : Counts) → m.unsent ≡ [] → Tallied m m all all 0 c c
-unfolding run_facts run_counted
-tallied-none m all c u = record { gone = gone-none m all u; counted = refl }
-
-by-first-code : (m n : Machine) (e : Event) → n.cores.code ≡ m.cores.code
-    → happened (settings_of n) (program_of n) (history_of n) e ≡ happened (settings_of m) (program_of m) (history_of n) e
-by-first-code m n e c = λ i. happened (c i).settings (program (started (c i))) (history_of n) e
-
-pub tallied-more : (m n o : Machine) (all left later : List Event) (number : ℕ) (b c d : Counts) (e : Event)
-    → Tallied m n all left number b c → left ≡ e ∷ later → Took n o e
-    → d ≡ event_counted (actor e) (happened (settings_of n) (program_of n) (history_of n) e) c
-    → Tallied m o all later (number + 1) b d
-tallied-more m n o all left later number b c d e s l t is =
-    let w = s.gone.went in
+-- one more event was taken and counted
+pub counted-one : (c : Contents) (es : List Event) (e : Event) (m n : Machine) (before after : Counts) → HasCounted c es m before
+    → Took m n e → after ≡ event_counted (actor e) (happened (settings_of m) (program_of m) (history_of m) e) before
+    → HasCounted c (es ++ e ∷ []) n after
+unfolding counts_of_run run started
+counted-one c es e m n before after h t is =
+    let next : next_history c.settings (program (started c)) (history_of m) e ≡ Some (history_of n) =
+    (λ i. next_history (sym h.code i).settings (program (started (sym h.code i))) (history_of m) e) ∙ t.next in
+    let along = goes-along (started c) es e (history_of m) h.ends (history_of n) h.ran h.kept next in
     record {
-      gone = gone-more m n o all left later number e s.gone l t;
+      ends = along.later;
+      ran = run-more c.settings (program (started c)) es e (at_start (started c)) h.ends h.ran ∙ along.next;
+      kept = along.keeps;
       counted = is
-          ∙ ap (λ fs. event_counted (actor e) fs c) (by-first-code m n e w.code)
-          ∙ ap (event_counted (actor e) (happened (settings_of m) (program_of m) (history_of n) e)) s.counted
-          ∙ sym (run-counted-more (settings_of m) (program_of m) s.gone.firsts e (history_of m) (history_of n) (history_of o) b w.ran
-          (by-first m n o e w.code t));
+          ∙ (λ i. event_counted (actor e) (happened (h.code i).settings (program (started (h.code i))) (history_of m) e) (h.counted i))
+          ∙ ap (λ fs. event_counted (actor e) fs (counts_of_run (started c) es)) along.facts
+          ∙ sym (run-counted-more c.settings (program (started c)) es e (at_start (started c)) h.ends along.later
+          (nothing_counted c.settings.cores) h.ran along.next);
+      settled = t.settled;
+      events = let a = t.events in let b = h.events in let k = one-longer es e in omega (arith, a, b, k);
+      code = t.code ∙ h.code;
     }
 
--- all were counted
-pub tallied-all : (m n : Machine) (all left : List Event) (number : ℕ) (b c : Counts) → Tallied m n all left number b c → left ≡ []
-    → c ≡ run_counted (run_facts (settings_of m) (program_of m) all (history_of m)) b
-tallied-all m n all left number b c s l =
-    s.counted ∙ ap (λ es. run_counted (run_facts (settings_of m) (program_of m) es (history_of m)) b)
-    (sym (gone-all m n all left number s.gone l))
+-- commits were forgotten
+pub counted-still : (c : Contents) (es : List Event) (m n : Machine) (counts : Counts) → HasCounted c es m counts → StillKeeps m n
+    → HasCounted c es n counts
+counted-still c es m n counts h f = record {
+  ends = h.ends;
+  ran = h.ran;
+  kept = subst (λ k. IsKeptOf k.settings (history_of n) h.ends) h.code
+      (f.keeps h.ends (subst (λ k. IsKeptOf k.settings (history_of m) h.ends) (sym h.code) h.kept));
+  counted = h.counted;
+  settled = f.unsent ∙ h.settled;
+  events = f.events ∙ h.events;
+  code = f.code ∙ h.code;
+}
+
+-- ---- in the loop
+
+-- of the events that were to come these were taken and counted, as many as the number says, and the others are left
+pub record Counting (c : Contents) (m : Machine) (counts : Counts) (all left : List Event) (number : ℕ) : Type 0 where
+  pub firsts : List Event
+  pub so_far : HasCounted c firsts m counts
+  pub parts : all ≡ firsts ++ left
+  pub count : length firsts ≡ number
+
+pub counting-none : (c : Contents) (m : Machine) (counts : Counts) (all : List Event) → HasCounted c [] m counts
+    → Counting c m counts all all 0
+counting-none c m counts all h = record { firsts = []; so_far = h; parts = refl; count = refl }
+
+pub counting-more : (c : Contents) (m n o : Machine) (before after : Counts) (all left : List Event)
+    (later : Start → World → List Event) (number : ℕ) (e : Event) → Counting c m before all left number
+    → left ≡ e ∷ later (start_of n) (world_of n) → Took m n e
+    → after ≡ event_counted (actor e) (happened (settings_of m) (program_of m) (history_of m) e) before → StillKeeps n o
+    → Counting c o after all (later (start_of o) (world_of o)) (number + 1)
+counting-more c m n o before after all left later number e k l t is f = record {
+  firsts = k.firsts ++ e ∷ [];
+  so_far = counted-still c (k.firsts ++ e ∷ []) n o after (counted-one c k.firsts e m n before after k.so_far t is) f;
+  parts = k.parts
+      ∙ ap (λ es. k.firsts ++ es) (l ∙ (λ i. e ∷ later (started (sym f.code i)) (sym f.world i)))
+      ∙ sym (append_assoc k.firsts (e ∷ []) (later (start_of o) (world_of o)));
+  count = let a = one-longer k.firsts e in let b = k.count in omega (arith, a, b);
+}
+
+-- fewer than all were taken
+pub counting-few : (c : Contents) (m : Machine) (counts : Counts) (all left : List Event) (number : ℕ)
+    → Counting c m counts all left number → 1 ≤ length left → number < length all
+counting-few c m counts all left number k some =
+    let a = ap length k.parts ∙ length-append k.firsts left in let b = k.count in omega (arith, a, b, some)
+
+-- all were taken
+pub counting-all : (c : Contents) (m : Machine) (counts : Counts) (all left : List Event) (number : ℕ)
+    → Counting c m counts all left number → left ≡ [] → HasCounted c all m counts
+counting-all c m counts all left number k l =
+    subst (λ es. HasCounted c es m counts) (sym (k.parts ∙ ap (λ es. k.firsts ++ es) l ∙ append-nil k.firsts)) k.so_far
+
+-- as many were taken as there were at most
+pub counting-most : (c : Contents) (m : Machine) (counts : Counts) (all left : List Event) (number most : ℕ)
+    → Counting c m counts all left number → length all ≤ most → most ≤ number → left ≡ []
+counting-most c m counts all left number most k few h =
+    let a = ap length k.parts in let b = k.count in none-left k.firsts left (omega (arith, a, b, few, h))

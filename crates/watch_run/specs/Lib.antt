@@ -1,6 +1,8 @@
 -- What the contracts of this crate cite.
+pub mod Forgetting
 pub mod Going
 pub mod Shown
 pub mod Telling
 pub mod Written
 pub mod Looked
+pub mod Tables

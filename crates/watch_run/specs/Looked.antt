@@ -1,15 +1,18 @@
 -- What is counted of a run.
 use Rattle.std.specs.Prelude.{ℕ, ◌≡◌, Bool, List, [], ◌∷◌, Option, Some, None, length}
+use Rattle.image_load.specs.Contents.{Contents, started}
 use Rattle.image_load.specs.Start.{Start}
 use Rattle.rv_code.specs.Machine.{program}
+use Rattle.net_core.specs.Machine.{Machine, history_of}
 use Rattle.rules_maps.specs.Nodes.{Node, Event}
 use Rattle.rules_maps.specs.Shape.{Shape}
 use Rattle.rules_program.specs.Program.{Program}
-use Rattle.rules_tcc.specs.Step.{History, next_history}
-use Rattle.rules_riscv.specs.Starting.{at_start}
+use Rattle.rules_tcc.specs.Step.{History, next_history, run}
+use Rattle.rules_riscv.specs.Starting.{at_start, world_at_start}
 use Rattle.watch.specs.Facts.{Fact}
 use Rattle.watch.specs.Happened.{actor, happened}
 use Rattle.watch_count.specs.Counts.{Counts, nothing_counted, run_counted}
+use Rattle.watch_run.specs.Forgetting.{IsKeptOf}
 use Rattle.watch_run.specs.Written.{LeadsTo}
 
 abbrev pub and_later : Node × List Fact → (History → List (Node × List Fact)) → Option History → List (Node × List Fact)
@@ -31,3 +34,13 @@ pub record IsCounted (s : Start) (es : List Event) (done : Bool) (events : ℕ) 
   pub leads : LeadsTo s es done ends
   pub all : events ≡ length es
   pub counted : counts ≡ counts_of_run s es
+
+-- these events were taken from the start of what was loaded, and were counted; the machine keeps what is asked for of their history
+pub record HasCounted (c : Contents) (es : List Event) (m : Machine) (counts : Counts) : Type 0 where
+  pub ends : History
+  pub ran : run c.settings (program (started c)) (world_at_start (started c)) es ≡ Some ends
+  pub kept : IsKeptOf c.settings (history_of m) ends
+  pub counted : counts ≡ counts_of_run (started c) es
+  pub settled : m.unsent ≡ []
+  pub events : m.events ≡ length es
+  pub code : m.cores.code ≡ c

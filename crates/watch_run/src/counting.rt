@@ -1,15 +1,16 @@
 // What is counted of a run while it goes on.
-ghost use Rattle.std.specs.Prelude.{◌≡◌, ◌+◌, ◌<◌, ◌≤◌, [], IfOk, OnOk, length, map};
+ghost use Rattle.std.specs.Prelude.{◌≡◌, ◌<◌, ◌≤◌, [], IfOk, OnOk, length, map};
 ghost use Rattle.image_load.specs.Contents.{started};
+ghost use Rattle.net_core.specs.Limits.{machine_limit};
 ghost use Rattle.net_core.specs.Machine.{history_of, program_of, settings_of, start_of, world_of};
 ghost use Rattle.rules_riscv.specs.Starting.{at_start, world_at_start};
 ghost use Rattle.tcc_msg.specs.Plain.{event_of};
 ghost use Rattle.watch.specs.Happened.{actor as plain_actor, happened};
 ghost use Rattle.watch.specs.Plain.{fact_of};
-ghost use Rattle.watch_count.specs.Counts.{event_counted, run_counted};
-ghost use Rattle.watch_run.specs.Going.{Took, Went};
-ghost use Rattle.watch_run.specs.Looked.{IsCounted, run_facts};
-ghost use Rattle.tcc_base.specs.Limits.{run_limit};
+ghost use Rattle.watch_count.specs.Counts.{event_counted};
+ghost use Rattle.watch_run.specs.Forgetting.{StillKeeps};
+ghost use Rattle.watch_run.specs.Going.{Took};
+ghost use Rattle.watch_run.specs.Looked.{HasCounted, IsCounted};
 ghost use Rattle.tcc_base.specs.Settings.{IsAllowed};
 
 use crate::events::{Events, settings_are_allowed};
@@ -21,6 +22,9 @@ use tcc_msg::Event;
 use watch::Fact;
 use watch_count::Counts;
 use watch_machine::{actor, watch_node};
+
+/// Commits are forgotten where there are at least so many.
+const FEWEST: usize = 1_024;
 
 /// What was counted of a run, whether it is done, and how many events it took.
 #[derive(Debug, Drop)]
@@ -38,13 +42,13 @@ fn count_facts(e: Event, facts: &List<Fact>, counts: &mut Counts) -> Result<(), 
 }
 
 /// Takes an event, and counts what it did. What it sent is counted as it stands in the machine: no order and no numbers are wanted for it.
-fn count_event(
+pub(crate) fn count_event(
     system: &mut System,
     e: Event,
     facts: &mut List<Fact>,
     counts: &mut Counts,
 ) -> Result<(), NoMemory>
-    requires few { system.old.events < run_limit }
+    requires few { system.old.events < machine_limit }
     ensures took { OnOk result (Took system.old system.new (event_of e)) }
     ensures counted { OnOk result (counts.new ≡ event_counted (plain_actor (event_of e))
         (happened (settings_of system.old) (program_of system.old) (history_of system.old) (event_of e)) counts.old) }
@@ -57,27 +61,41 @@ fn count_event(
     counts.sent(system.last_sent())
 }
 
+/// Forgets the commits that all directories have passed, where twice as many are kept as after the last time: so it takes a constant time
+/// for each commit.
+pub(crate) fn forget_passed(system: &mut System, last: &mut usize)
+    ensures { StillKeeps system.old system.new }
+{
+    let kept = system.commits().len();
+    if kept < FEWEST || kept / 2 < *last {
+        return;
+    }
+    system.forget();
+    *last = system.commits().len();
+}
+
 /// Takes the events that are to come, at most so many, and counts what they did.
 fn count_events<E: Events>(
     alloc: Global,
     system: &mut System,
     events: &mut E,
-    most: u32,
+    most: u64,
     counts: &mut Counts,
 ) -> Result<(), NoMemory>
-    requires few { system.old.events + most ≤ run_limit }
-    requires settled { system.old.unsent ≡ [] }
+    requires start { HasCounted system.old.cores.code [] system.old counts.old }
+    requires few { most ≤ machine_limit }
     requires enough { length (E.coming events.old (start_of system.old) (world_of system.old)) ≤ most }
-    ensures went { OnOk result (Went system.old system.new (E.coming events.old (start_of system.old) (world_of system.old))) }
-    ensures counted { OnOk result (counts.new ≡ run_counted (run_facts (settings_of system.old) (program_of system.old)
-        (E.coming events.old (start_of system.old) (world_of system.old)) (history_of system.old)) counts.old) }
+    ensures { OnOk result (HasCounted system.old.cores.code
+        (E.coming events.old (start_of system.old) (world_of system.old)) system.new counts.new) }
 {
     let mut facts = List::new(alloc);
+    let mut kept = 0;
     for _ in 0..most {
         let Some(e) = events.next(system) else {
             return Ok(());
         };
         count_event(system, e, &mut facts, counts)?;
+        forget_passed(system, &mut kept);
     }
     Ok(())
 }
@@ -87,13 +105,13 @@ fn count_from_start<E: Events>(
     alloc: Global,
     system: &mut System,
     events: &mut E,
-    most: u32,
+    most: u64,
 ) -> Result<Counted, NoMemory>
     requires allowed { IsAllowed (settings_of system.old) }
     requires first { history_of system.old ≡ at_start (start_of system.old) }
     requires none { system.old.events ≡ 0 }
     requires settled { system.old.unsent ≡ [] }
-    requires few { most ≤ run_limit }
+    requires few { most ≤ machine_limit }
     requires enough { length (E.coming events.old (start_of system.old) (world_of system.old)) ≤ most }
     ensures { IfOk result (λ c. IsCounted (start_of system.old)
         (E.coming events.old (start_of system.old) (world_of system.old)) c.done c.events c.counts) }
@@ -108,14 +126,15 @@ fn count_from_start<E: Events>(
 }
 
 /// Counts what the events that are to come do in the run from what was loaded, at most so many. The time is that of the events, and a
-/// constant for each fact of an event; the memory is that of the machine and of the tables.
+/// constant for each fact of an event; the memory is that of the tables and of the machine, which forgets the commits that all directories
+/// have passed.
 pub fn count<E: Events>(
     alloc: Global,
     loaded: &Loaded,
     events: &mut E,
-    most: u32,
+    most: u64,
 ) -> Result<Counted, NoMemory>
-    requires few { most ≤ run_limit }
+    requires few { most ≤ machine_limit }
     requires enough { length (E.coming events.old (started loaded.now) (world_at_start (started loaded.now))) ≤ most }
     ensures { IfOk result (λ c. IsCounted (started loaded.now)
         (E.coming events.old (started loaded.now) (world_at_start (started loaded.now))) c.done c.events c.counts) }

@@ -1,5 +1,5 @@
 // Where the events of a run come from.
-ghost use Rattle.std.specs.Prelude.{◌≡◌, IfSome, List as Seq, None, [], drop, map};
+ghost use Rattle.std.specs.Prelude.{◌≡◌, ◌≤◌, IfSome, List as Seq, None, [], drop, length, map};
 ghost use Rattle.image_load.specs.Start.{Start};
 ghost use Rattle.rv_code.specs.Machine.{program};
 ghost use Rattle.tcc_base.specs.Settings.{IsAllowed};
@@ -32,6 +32,7 @@ pub trait Events {
     fn next(&mut self, system: &System) -> Option<Event>
         requires { system.now.unsent ≡ [] }
         ensures none { result ≡ None → coming self.old (start_of system.now) (world_of system.now) ≡ [] }
+        ensures some { IfSome result (λ e. 1 ≤ length (coming self.old (start_of system.now) (world_of system.now))) }
         ensures first { IfSome result (λ e. IsFirst (coming self.old (start_of system.now) (world_of system.now)) (coming self.new)
             system.now (event_of e)) };
 }
@@ -40,12 +41,12 @@ pub trait Events {
 #[derive(Drop)]
 pub struct Picked {
     chooser: Chooser,
-    left: u32,
+    left: u64,
 }
 
 impl Picked {
     /// At most so many events by this seed. Takes no memory.
-    pub fn new(seed: u64, steps: u32) -> Picked
+    pub fn new(seed: u64, steps: u64) -> Picked
         ensures chooser { result.chooser ≡ seeded seed }
         ensures left { result.left ≡ steps }
     {

@@ -1,10 +1,10 @@
 -- The events so far were taken and counted.
 use Rattle.net_core.specs.Machine.{start_of, world_of}
-use Rattle.watch_run.proofs.Tallies.{Tallied}
+use Rattle.watch_run.proofs.Tallies.{Counting}
 use Rattle.watch_run.proofs.counting.count_events.Given as goal
 
 abbrev pub invariant-loop : goal.invariant-loop
-invariant-loop g l = Tallied l.fn.system l.system
+invariant-loop g l = Counting l.fn.system.cores.code l.system l.counts
     (g.E.Events.coming l.fn.events (start_of l.fn.system) (world_of l.fn.system))
     (g.E.Events.coming l.events (start_of l.system) (world_of l.system))
-    l.counter l.fn.counts l.counts
+    l.counter

@@ -1,0 +1,312 @@
+-- A table, row by row.
+use Rattle.std.proofs.Common.{◌≡◌, ℕ, zero, suc, ◌+◌, ◌≤◌, ◌==◌, ◌↔◌, Bool, true, false, cond, IsTrue, List, [], ◌∷◌, ◌++◌, length}
+use Rattle.std.proofs.Common.{append-nil, append_assoc, length-append, Option, if◌then◌else◌, inl, inr, refl, ap, sym, subst, ◌∙◌, arith}
+use Rattle.std.proofs.Common.{add-one, take, drop, take-append-drop}
+use Rattle.std.proofs.Math.Seq.{take-append_seam, take-append-add}
+use Rattle.std.proofs.lemmas.Bool.Decides.{nat_tests}
+use Rattle.std.proofs.lemmas.List.Concat.{flat_map-append}
+use Rattle.std.specs.Io.KnownBytes.{Appends}
+use Rattle.std.specs.List.{flat_map}
+use Rattle.base_lemmas.proofs.Lemmas.{appends-more, appends-none}
+use Rattle.image_load.specs.Contents.{Contents, started}
+use Rattle.image_load.specs.Start.{Start}
+use Rattle.tcc_base.specs.Settings.{IsAllowed}
+use Rattle.tcc_world.specs.Page.{Page, Written}
+use Rattle.rules_maps.specs.Nodes.{Event}
+use Rattle.rules_maps.specs.Words.{those}
+use Rattle.rules_tcc.specs.Seen.{IsDone}
+use Rattle.net_core.specs.Machine.{Machine, settings_of, world_of}
+use Rattle.watch_count.specs.Counts.{Counts}
+use Rattle.watch_count.specs.Csv.{csv_row, names_row}
+use Rattle.watch_run.specs.Looked.{HasCounted}
+use Rattle.watch_run.specs.Tables.{IsCutIn, IsStoppedIn, IsTableBegun, IsTableBroken, IsTabled, is_due, open_table, row_of, rows_below}
+use Rattle.watch_run.specs.Tables.{table_text}
+use Rattle.watch_run.specs.Written.{IsPart}
+use Rattle.watch_run.specs.declared.tabling.Rows.{Rows}
+use Rattle.watch_run.specs.declared.tracing.Broken.{Broken}
+use Rattle.watch_run.specs.declared.tracing.Broken.TheVariants.{Memory, Output}
+use Rattle.watch_run.proofs.Leading.{leads-counted}
+use Rattle.watch_run.proofs.Tallies.{Counting, counting-few}
+use Rattle.watch_run.proofs.Traced.{rose-later}
+
+-- ---- a first part of some bytes was written
+
+record Begun (bytes : List ℕ) (before after : Option (List ℕ)) : Type 0 where
+  written : List ℕ
+  rest : List ℕ
+  all : bytes ≡ written ++ rest
+  appended : Appends before after written
+
+begun-part : {bytes : List ℕ} {a b : Option (List ℕ)} → Begun bytes a b → IsPart bytes a b
+begun-part {bytes} {a} {b} p =
+    (length p.written, subst (Appends a b) (sym (ap (take (length p.written)) p.all ∙ take-append_seam p.written p.rest)) p.appended)
+
+begun-all : (bytes : List ℕ) (a b : Option (List ℕ)) → Appends a b bytes → Begun bytes a b
+begun-all bytes a b p = record { written = bytes; rest = []; all = sym (append-nil bytes); appended = p }
+
+begun-cut : (bytes : List ℕ) (n : ℕ) (a b : Option (List ℕ)) → Appends a b (take n bytes) → Begun bytes a b
+begun-cut bytes n a b p =
+    record { written = take n bytes; rest = drop n bytes; all = sym (take-append-drop n bytes); appended = p }
+
+-- nothing was written
+begun-none : (bytes : List ℕ) (a b : Option (List ℕ)) → b ≡ a → Begun bytes a b
+begun-none bytes a b e = record { written = []; rest = bytes; all = refl; appended = subst (λ o. Appends a o []) (sym e) (appends-none a) }
+
+-- it is one of more bytes too
+begun-more : (xs ys : List ℕ) (a b : Option (List ℕ)) → Begun xs a b → Begun (xs ++ ys) a b
+begun-more xs ys a b p = record {
+  written = p.written;
+  rest = p.rest ++ ys;
+  all = ap (λ zs. zs ++ ys) p.all ∙ append_assoc p.written p.rest ys;
+  appended = p.appended;
+}
+
+begun-after : (xs ys : List ℕ) (a b c : Option (List ℕ)) → Appends a b xs → Begun ys b c → Begun (xs ++ ys) a c
+begun-after xs ys a b c p q = record {
+  written = xs ++ q.written;
+  rest = q.rest;
+  all = ap (λ zs. xs ++ zs) q.all ∙ sym (append_assoc xs q.written q.rest);
+  appended = appends-more a b c xs q.written p q.appended;
+}
+
+-- why it broke off, behind bytes that were written whole and before others
+cut-stops : (xs ys zs : List ℕ) (a b c : Page) (broken : Broken) → Appends a.bytes b.bytes xs → a.faults ≤ b.faults
+    → IsCutIn ys (record { before = b; after = c }) broken → IsStoppedIn (xs ++ (ys ++ zs)) (record { before = a; after = c }) broken
+cut-stops xs ys zs a b c Memory p f k =
+    begun-part (begun-after xs (ys ++ zs) a.bytes b.bytes c.bytes p (begun-none (ys ++ zs) b.bytes c.bytes k))
+cut-stops xs ys zs a b c Output p f (cut, rose) = (
+  begun-part (begun-after xs (ys ++ zs) a.bytes b.bytes c.bytes p
+      (begun-more ys zs b.bytes c.bytes (begun-cut ys cut.0 b.bytes c.bytes cut.2))),
+  rose-later a.faults b.faults c.faults f rose,
+)
+
+-- ---- the rows
+
+rows-none : (rows : Rows) (s : Start) (es : List Event) → rows_below rows s es 0 ≡ []
+unfolding rows_below those
+rows-none rows s es = refl
+
+-- the row after so many events, where there is one
+abbrev pub due_row : Rows → Start → List Event → (n : ℕ) → List ℕ
+due_row rows s es n = if is_due rows n then row_of rows s false (take n es) else []
+
+rows-more : (rows : Rows) (s : Start) (es : List Event) (n : ℕ)
+    → rows_below rows s es (suc n) ≡ rows_below rows s es n ++ due_row rows s es n
+unfolding rows_below those
+rows-more rows s es n =
+    flat_map-append row (those (is_due rows) n) (cond (is_due rows n) (n ∷ []) [])
+    ∙ ap (λ xs. flat_map row (those (is_due rows) n) ++ xs) (go (is_due rows n))
+  where
+    row : ℕ → List ℕ
+    row k = row_of rows s false (take k es)
+
+    go : (b : Bool) → flat_map row (cond b (n ∷ []) []) ≡ (if b then row n else [])
+    go true = append-nil (row n)
+    go false = refl
+
+-- the rows after fewer events are the first ones
+rows-first : (rows : Rows) (s : Start) (es : List Event) (n m : ℕ) → n ≤ m
+    → (more : List ℕ) × (rows_below rows s es m ≡ rows_below rows s es n ++ more)
+rows-first rows s es n zero h =
+    let same : n ≡ 0 = omega (arith, h) in ([], ap (rows_below rows s es) (sym same) ∙ sym (append-nil (rows_below rows s es n)))
+rows-first rows s es n (suc m) h = go (n == suc m) refl (rows-first rows s es n m)
+  where
+    go : (b : Bool) → (n == suc m) ≡ b → (n ≤ m → (more : List ℕ) × (rows_below rows s es m ≡ rows_below rows s es n ++ more))
+        → (more : List ℕ) × (rows_below rows s es (suc m) ≡ rows_below rows s es n ++ more)
+    go true q f =
+        let same : n ≡ suc m = grind (arith, nat_tests) in
+        ([], ap (rows_below rows s es) (sym same) ∙ sym (append-nil (rows_below rows s es n)))
+    go false q f =
+        let less : n ≤ m = grind (arith, nat_tests) in
+        let (more, e) = f less in (
+          more ++ due_row rows s es m,
+          rows-more rows s es m ∙ ap (λ xs. xs ++ due_row rows s es m) e
+              ∙ append_assoc (rows_below rows s es n) more (due_row rows s es m),
+        )
+
+-- ---- in the loop
+
+-- the events so far were taken and counted, and the rows that stand before the next of them were written
+pub record Tabling (c : Contents) (rows : Rows) (m : Machine) (counts : Counts) (all left : List Event) (number : ℕ)
+    (before after : Page) : Type 0 where
+  pub counting : Counting c m counts all left number
+  pub written : Appends before.bytes after.bytes (rows_below rows (started c) all number)
+  pub faults_stay : before.faults ≤ after.faults
+
+pub tabling-none : (c : Contents) (rows : Rows) (m : Machine) (counts : Counts) (all : List Event) (p : Page)
+    → Counting c m counts all all 0 → Tabling c rows m counts all all 0 p p
+tabling-none c rows m counts all p k = record {
+  counting = k;
+  written = subst (Appends p.bytes p.bytes) (sym (rows-none rows (started c) all)) (appends-none p.bytes);
+  faults_stay = omega arith;
+}
+
+-- the row of what was counted is that of the events so far
+row-is : (c : Contents) (rows : Rows) (m : Machine) (counts : Counts) (es : List Event) (done : Bool) → HasCounted c es m counts
+    → csv_row (settings_of m) rows.seed done m.events counts ≡ row_of rows (started c) done es
+unfolding started
+row-is c rows m counts es done h = λ i. csv_row (h.code i).settings rows.seed done (h.events i) (h.counted i)
+
+-- the row that the machine writes where one is due
+abbrev pub row_now : Rows → Machine → Counts → List ℕ
+row_now rows m counts = if is_due rows m.events then csv_row (settings_of m) rows.seed false m.events counts else []
+
+due-is : (c : Contents) (rows : Rows) (m : Machine) (counts : Counts) (all left : List Event) (number : ℕ)
+    → Counting c m counts all left number → row_now rows m counts ≡ due_row rows (started c) all number
+due-is c rows m counts all left number k =
+    (λ i. if is_due rows (so_many i) then row-is c rows m counts k.firsts false k.so_far i else [])
+    ∙ ap (λ es. if is_due rows number then row_of rows (started c) false es else []) (sym firsts)
+  where
+    so_many : m.events ≡ number
+    so_many = k.so_far.events ∙ k.count
+
+    firsts : take number all ≡ k.firsts
+    firsts = (λ i. take (sym k.count i) (k.parts i)) ∙ take-append_seam k.firsts left
+
+-- the row came, and all rows before the next event but one stand
+rows-now : (c : Contents) (rows : Rows) (m : Machine) (counts : Counts) (all left : List Event) (number : ℕ) (p q r : Page)
+    → Tabling c rows m counts all left number p q → Appends q.bytes r.bytes (row_now rows m counts)
+    → Appends p.bytes r.bytes (rows_below rows (started c) all (number + 1))
+rows-now c rows m counts all left number p q r t a =
+    subst (Appends p.bytes r.bytes)
+    (ap (λ xs. rows_below rows (started c) all number ++ xs) (due-is c rows m counts all left number t.counting)
+    ∙ sym (ap (rows_below rows (started c) all) (add-one number) ∙ rows-more rows (started c) all number))
+    (appends-more p.bytes q.bytes r.bytes (rows_below rows (started c) all number) (row_now rows m counts) t.written a)
+
+pub tabling-more : (c : Contents) (rows : Rows) (m n : Machine) (before after : Counts) (all left later : List Event) (number : ℕ)
+    (p q r : Page) → Tabling c rows m before all left number p q → Appends q.bytes r.bytes (row_now rows m before)
+    → q.faults ≤ r.faults → Counting c n after all later (number + 1) → Tabling c rows n after all later (number + 1) p r
+tabling-more c rows m n before after all left later number p q r t a f k = record {
+  counting = k;
+  written = rows-now c rows m before all left number p q r t a;
+  faults_stay = let stay = t.faults_stay in omega (arith, stay, f);
+}
+
+-- the output failed, or memory ran out for the row that was due
+pub tabling-cut : (c : Contents) (rows : Rows) (m : Machine) (counts : Counts) (all left : List Event) (number : ℕ) (p q r : Page)
+    (broken : Broken) → Tabling c rows m counts all left number p q → 1 ≤ length left
+    → IsCutIn (row_now rows m counts) (record { before = q; after = r }) broken
+    → IsStoppedIn (rows_below rows (started c) all (length all)) (record { before = p; after = r }) broken
+tabling-cut c rows m counts all left number p q r broken t some cut =
+    let few = counting-few c m counts all left number t.counting some in
+    let (more, first) = rows-first rows (started c) all (suc number) (length all) (omega (arith, few)) in
+    subst (λ xs. IsStoppedIn xs (record { before = p; after = r }) broken)
+    (sym (first ∙ ap (λ xs. xs ++ more) (rows-more rows (started c) all number
+    ∙ ap (λ xs. rows_below rows (started c) all number ++ xs) (sym (due-is c rows m counts all left number t.counting)))
+    ∙ append_assoc (rows_below rows (started c) all number) (row_now rows m counts) more))
+    (cut-stops (rows_below rows (started c) all number) (row_now rows m counts) more p q r broken t.written t.faults_stay cut)
+
+-- memory ran out for the event
+pub tabling-part : (c : Contents) (rows : Rows) (m : Machine) (counts : Counts) (all left : List Event) (number : ℕ) (p q r : Page)
+    → Tabling c rows m counts all left number p q → 1 ≤ length left → Appends q.bytes r.bytes (row_now rows m counts)
+    → IsPart (rows_below rows (started c) all (length all)) p.bytes r.bytes
+tabling-part c rows m counts all left number p q r t some a =
+    let few = counting-few c m counts all left number t.counting some in
+    let (more, first) = rows-first rows (started c) all (number + 1) (length all) (omega (arith, few)) in
+    begun-part (subst (λ xs. Begun xs p.bytes r.bytes) (sym first)
+    (begun-more (rows_below rows (started c) all (number + 1)) more p.bytes r.bytes
+    (begun-all (rows_below rows (started c) all (number + 1)) p.bytes r.bytes (rows-now c rows m counts all left number p q r t a))))
+
+-- all rows but the last were written
+pub tabling-all : (c : Contents) (rows : Rows) (m : Machine) (counts : Counts) (all left : List Event) (number : ℕ) (p q : Page)
+    → Tabling c rows m counts all left number p q → left ≡ []
+    → Appends p.bytes q.bytes (rows_below rows (started c) all (length all))
+tabling-all c rows m counts all left number p q t l =
+    let k = t.counting in
+    subst (λ n. Appends p.bytes q.bytes (rows_below rows (started c) all n))
+    (sym k.count ∙ sym (ap length (k.parts ∙ ap (λ es. k.firsts ++ es) l ∙ append-nil k.firsts))) t.written
+
+-- ---- the whole table
+
+pub table-names-cut : (rows : Rows) (s : Start) (es : List Event) (a b : Page) (broken : Broken)
+    → IsCutIn names_row (record { before = a; after = b }) broken
+    → IsTableBroken rows s es (record { before = a; after = b }) broken
+unfolding open_table
+table-names-cut rows s es a b Memory k =
+    begun-part (begun-none (open_table rows s es) a.bytes b.bytes k)
+table-names-cut rows s es a b Output (cut, rose) = (
+  inl (begun-part (begun-more names_row (rows_below rows s es (length es)) a.bytes b.bytes
+      (begun-cut names_row cut.0 a.bytes b.bytes cut.2))),
+  rose,
+)
+
+-- a first part behind bytes that were written whole
+part-after : (xs ys : List ℕ) (a b c : Option (List ℕ)) → Appends a b xs → IsPart ys b c → IsPart (xs ++ ys) a c
+part-after xs ys a b c p (n, q) = begun-part (begun-after xs ys a b c p (begun-cut ys n b c q))
+
+pub table-stopped : (rows : Rows) (s : Start) (es : List Event) (a b c : Page) (broken : Broken) → Appends a.bytes b.bytes names_row
+    → a.faults ≤ b.faults → IsStoppedIn (rows_below rows s es (length es)) (record { before = b; after = c }) broken
+    → IsTableBroken rows s es (record { before = a; after = c }) broken
+unfolding open_table
+table-stopped rows s es a b c Memory p f k = part-after names_row (rows_below rows s es (length es)) a.bytes b.bytes c.bytes p k
+table-stopped rows s es a b c Output p f (part, rose) = (
+  inl (part-after names_row (rows_below rows s es (length es)) a.bytes b.bytes c.bytes p part),
+  rose-later a.faults b.faults c.faults f rose,
+)
+
+-- all but the last row
+pub table-open : (rows : Rows) (s : Start) (es : List Event) (a b c : Page) → Appends a.bytes b.bytes names_row
+    → Appends b.bytes c.bytes (rows_below rows s es (length es)) → Appends a.bytes c.bytes (open_table rows s es)
+unfolding open_table
+table-open rows s es a b c p q = appends-more a.bytes b.bytes c.bytes names_row (rows_below rows s es (length es)) p q
+
+pub table-last-cut : (c : Contents) (rows : Rows) (es : List Event) (m : Machine) (counts : Counts) (done : Bool) (p q r : Page)
+    (broken : Broken) → IsAllowed c.settings → HasCounted c es m counts → Appends p.bytes q.bytes (open_table rows (started c) es)
+    → p.faults ≤ q.faults → (IsTrue done ↔ IsDone (settings_of m) (world_of m))
+    → IsCutIn (csv_row (settings_of m) rows.seed done m.events counts) (record { before = q; after = r }) broken
+    → IsTableBroken rows (started c) es (record { before = p; after = r }) broken
+unfolding table_text
+table-last-cut c rows es m counts done p q r Memory allowed h a f is cut =
+    begun-part (begun-all (open_table rows (started c) es) p.bytes r.bytes
+    (subst (λ o. Appends p.bytes o (open_table rows (started c) es)) (sym cut) a))
+table-last-cut c rows es m counts done p q r Output allowed h a f is (cut, rose) = (
+  inr (record {
+    done = done;
+    ends = h.ends;
+    leads = leads-counted c es m counts done allowed h is;
+    n = length head + cut.0;
+    short = let all = length-append head row in let k = cut.1 in let same = ap length is_row in omega (arith, all, k, same);
+    cut = subst (Appends p.bytes r.bytes) (sym (take-append-add head row cut.0))
+        (appends-more p.bytes q.bytes r.bytes head (take cut.0 row) a
+        (subst (λ xs. Appends q.bytes r.bytes (take cut.0 xs)) is_row cut.2));
+  }),
+  rose-later p.faults q.faults r.faults f rose,
+)
+  where
+    head : List ℕ
+    head = open_table rows (started c) es
+
+    row : List ℕ
+    row = row_of rows (started c) done es
+
+    is_row : csv_row (settings_of m) rows.seed done m.events counts ≡ row
+    is_row = row-is c rows m counts es done h
+
+pub table-whole : (c : Contents) (rows : Rows) (es : List Event) (m : Machine) (counts : Counts) (done : Bool) (p q r : Page)
+    → IsAllowed c.settings → HasCounted c es m counts → Appends p.bytes q.bytes (open_table rows (started c) es)
+    → (IsTrue done ↔ IsDone (settings_of m) (world_of m))
+    → Appends q.bytes r.bytes (csv_row (settings_of m) rows.seed done m.events counts)
+    → IsTabled rows (started c) es p.bytes r.bytes done
+unfolding table_text
+table-whole c rows es m counts done p q r allowed h a is b = record {
+  ends = h.ends;
+  leads = leads-counted c es m counts done allowed h is;
+  whole = appends-more p.bytes q.bytes r.bytes (open_table rows (started c) es) (row_of rows (started c) done es) a
+      (subst (Appends q.bytes r.bytes) (row-is c rows m counts es done h) b);
+}
+
+-- ---- from the machine at its start to what was loaded
+
+pub table-there : (c : Contents) (rows : Rows) (es fs : List Event) (k : Contents) (a b : Option (List ℕ)) (done : Bool) → k ≡ c → es ≡ fs
+    → IsTabled rows (started k) es a b done → IsTabled rows (started c) fs a b done
+table-there c rows es fs k a b done e f t =
+    subst (λ x. IsTabled rows (started x) fs a b done) e (subst (λ xs. IsTabled rows (started k) xs a b done) f t)
+
+pub broken-there : (c : Contents) (rows : Rows) (es fs : List Event) (k : Contents) (o : Written) (broken : Broken) → k ≡ c → es ≡ fs
+    → IsTableBroken rows (started k) es o broken → IsTableBroken rows (started c) fs o broken
+broken-there c rows es fs k o broken e f t =
+    subst (λ x. IsTableBroken rows (started x) fs o broken) e (subst (λ xs. IsTableBroken rows (started k) xs o broken) f t)
+
+-- memory ran out before anything was written
+pub table-none : (rows : Rows) (s : Start) (es : List Event) (a : Option (List ℕ)) → IsTableBegun rows s es a a
+table-none rows s es a = begun-part (begun-none (open_table rows s es) a a refl)
