@@ -115,12 +115,12 @@ sound() {
         || { [ "$2" = replayed ] && "$program" replay --raw --cores 2 "$1" count >again; }
 }
 
-# what was written before the refusal: nothing, or of a trace and of a table of outcomes a first part, and not all
+# what was written before the refusal: nothing, or of a trace, of totals as they grow and of a table of outcomes a first part, and not all
 begun() {
     local written
     written=$(stat -c %s output)
     [ "$written" = 0 ] || {
-        [[ $1 == trace || $1 == outcomes ]] && [ "$written" -lt "$(stat -c %s wanted)" ] && cmp -s -n "$written" output wanted
+        [[ $1 == trace || $1 == outcomes || $2 == --every ]] && [ "$written" -lt "$(stat -c %s wanted)" ] && cmp -s -n "$written" output wanted
     }
 }
 
@@ -142,7 +142,7 @@ each_refused() {
         opened_in_order "$files" "$(wc -l <opened)" || complain "request $number of $*: opens other files: $(cat opened)"
         if [ "$status" = 7 ]; then
             refusals=$((refusals + 1))
-            begun "$1" && [ "$(cat error)" = "tcc: memory" ] || complain "request $number of $*: what is written isn't a refusal's"
+            begun "$@" && [ "$(cat error)" = "tcc: memory" ] || complain "request $number of $*: what is written isn't a refusal's"
             sound "$record" "$check" || complain "request $number of $*: the record is neither as it was nor whole"
         elif [ "$status" = "$wanted" ]; then
             [ ! -s error ] || complain "request $number of $*: $(cat error)"
@@ -168,7 +168,7 @@ each_refused same $'r report\nr spill' serial --raw --sets 1 --ways 1 report spi
 each_refused same $'r schedule\nr spill' why --raw --sets 1 --ways 1 schedule spill
 each_refused same $'r count\nw ordered' phases --raw --cores 2 --record ordered count
 each_refused same "" trial --cores 2 --seed 1 counters 5
-for look in "trace --states" trace count state "trace --bus" "count --bus --csv" "state --bus"; do
+for look in "trace --states" trace count state "trace --bus" "count --every 200" "count --bus --csv" "state --bus"; do
     read -ra look <<<"$look"
     each_refused same "r count" "${look[@]}" --raw --cores 2 --steps 900 count
 done

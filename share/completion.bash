@@ -7,7 +7,7 @@ _hoopoelarder() {
         return
     fi
     case "${COMP_WORDS[1]} $before" in
-    *" --cores" | *" --dirs" | *" --sets" | *" --ways" | *" --ram" | *" --base" | *" --steps" | *" --seed" | *" --from" | *" --to" | *" --events" | "outcomes --states" | *" --longest" | *" --threads" | *" --batch")
+    *" --cores" | *" --dirs" | *" --sets" | *" --ways" | *" --ram" | *" --base" | *" --steps" | *" --steps" | *" --seed" | *" --from" | *" --to" | *" --events" | *" --every" | "outcomes --states" | *" --longest" | *" --threads" | *" --batch")
         return
         ;;
     *" --tell")
@@ -26,7 +26,7 @@ _hoopoelarder() {
         trial) mapfile -t COMPREPLY < <(compgen -W "--cores --dirs --sets --ways --steps --seed --help" -- "$word") ;;
         bus) mapfile -t COMPREPLY < <(compgen -W "--cores --sets --ways --ram --base --raw --steps --seed --help" -- "$word") ;;
         trace) mapfile -t COMPREPLY < <(compgen -W "--cores --dirs --sets --ways --ram --base --raw --steps --seed --schedule --bus --from --to --states --help" -- "$word") ;;
-        count) mapfile -t COMPREPLY < <(compgen -W "--cores --dirs --sets --ways --ram --base --raw --steps --seed --schedule --bus --csv --help" -- "$word") ;;
+        count) mapfile -t COMPREPLY < <(compgen -W "--cores --dirs --sets --ways --ram --base --raw --steps --seed --schedule --bus --csv --every --help" -- "$word") ;;
         state) mapfile -t COMPREPLY < <(compgen -W "--cores --dirs --sets --ways --ram --base --raw --steps --seed --schedule --bus --events --help" -- "$word") ;;
         outcomes) mapfile -t COMPREPLY < <(compgen -W "--cores --ram --base --raw --states --longest --tell --help" -- "$word") ;;
         follow) mapfile -t COMPREPLY < <(compgen -W "--cores --dirs --sets --ways --ram --base --raw --record --help" -- "$word") ;;

@@ -139,11 +139,12 @@ _hoopoelarder() {
             '--ram[the bytes of memory\: a multiple of 32 from 32 to 16777216 (65536)]:N:' \
             '--base[the address of the first one\: a multiple of 32, with base + RAM at most 2^32 (0x80000000)]:N:' \
             '--raw[the images are raw; without it they are ELF files]' \
-            '--steps[the largest number of events\: 0 to 4194304 (1000000)]:N:' \
+            '--steps[the largest number of events\: 0 to 4194304 with --bus, and else 0 to 1099511627776 (1000000)]:N:' \
             '--seed[what the choice of events begins with\: 0 to 18446744073709551615 (0)]:N:' \
             '--schedule[the run is that of this schedule; then there is neither --steps, --seed nor --bus]:NAME:_files' \
             '--bus[the run is that of the machine with one bus; then there is no --dirs]' \
             '--csv[only the totals are printed, as two rows for a table]' \
+            '--every[a row of totals after every N events, and at the end\: 1 to 1099511627776, not with --bus]:N:' \
             '1:command:' '*:file:_files'
         ;;
     state)

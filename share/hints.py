@@ -154,6 +154,8 @@ def value_hint(field, words, options):
         return "--threads needs --record NAME: which events come first may differ each time, and the record says which it was"
     if field == "batch" and "threads" not in said.given:
         return "--batch needs --threads N: it says how many events of a node a thread takes at most in one turn"
+    if field == "every" and "bus" in said.given:
+        return "--every stands without --bus: of the machine with one bus totals are printed only at the end"
     given = said.given.get(field, "")
     if field == "tell":
         return f"--tell is {options[field].limits}, and this is {given}"

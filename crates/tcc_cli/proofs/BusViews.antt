@@ -14,7 +14,6 @@ use Rattle.rules_bus.specs.Useful.{BusIsDone}
 use Rattle.bus_state.specs.Text.{bus_state_text}
 use Rattle.bus_tcc.specs.Machine.{BusMachine, bus_history_of, bus_settings_of, bus_start_of, bus_world_of}
 use Rattle.bus_tool.specs.Running.{RanBySeed}
-use Rattle.tcc_base.specs.Limits.{run_limit}
 use Rattle.tcc_base.specs.Settings.{Settings}
 use Rattle.tcc_cli.specs.Around.{FilesAround, IsUntouched}
 use Rattle.tcc_cli.specs.BusLooks.{IsBusTraceStopped, IsBusTraceTold, LookedAtBus}
@@ -24,6 +23,7 @@ use Rattle.tcc_world.specs.Page.{Written}
 use Rattle.tcc_cli.specs.OnBus.{BusRunsTo}
 use Rattle.tcc_cli.specs.declared.refusal.Refusal.{Refusal}
 use Rattle.tcc_cli.specs.declared.refusal.Refusal.TheVariants as why
+use Rattle.tcc_words.specs.Fields.{count_limit}
 use Rattle.tcc_words.specs.declared.command.Command.{Command}
 use Rattle.tcc_words.specs.declared.command.Command.TheVariants.{LookOnBus}
 use Rattle.tcc_words.specs.declared.command.Machine.{Machine}
@@ -40,7 +40,7 @@ leads-so s es d e h l is = record {
 
 -- what was counted, and its text
 pub bus-counted : {A E : Type 0} (s : Start) (settings : Settings) (seed steps : ℕ) (d : Bool) (n : ℕ) (counts : BusCounts) (csv : Bool)
-    (done : A → Bool) (text : A → List ℕ) (x : Result A E) → IsBusCounted s seed (min steps run_limit) d n counts → settings ≡ s.settings
+    (done : A → Bool) (text : A → List ℕ) (x : Result A E) → IsBusCounted s seed (min steps count_limit) d n counts → settings ≡ s.settings
     → IfOk x (λ f. done f ≡ d)
     → IfOk x (λ f. text f
     ≡ (if csv then bus_csv_text settings (Some (seed, steps)) d n counts else bus_count_text settings d n counts))

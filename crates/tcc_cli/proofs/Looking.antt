@@ -8,7 +8,7 @@ use Rattle.tcc_cli.specs.Comes.{AreLookedAt, IsFaultyLine}
 use Rattle.tcc_cli.specs.Commands.{files_of, head_of, machine_of, start_from}
 use Rattle.tcc_cli.specs.Failing.{Tells}
 use Rattle.tcc_world.specs.Page.{Written}
-use Rattle.tcc_cli.specs.Looks.{IsTraceStopped, IsTraceTold}
+use Rattle.tcc_cli.specs.Looks.{IsBrokenOff, IsWritten, begun_of, most_of, seed_of, view_text}
 use Rattle.tcc_cli.specs.declared.refusal.Refusal.{Refusal}
 use Rattle.tcc_cli.specs.declared.refusal.Refusal.TheVariants as why
 use Rattle.tcc_words.specs.declared.command.Command.{Command}
@@ -17,8 +17,6 @@ use Rattle.tcc_words.specs.declared.command.Machine.{Machine}
 use Rattle.tcc_words.specs.declared.command.Source.{Source}
 use Rattle.tcc_words.specs.declared.command.Source.TheVariants.{Schedule}
 use Rattle.tcc_words.specs.declared.command.View.{View}
-use Rattle.tcc_words.specs.declared.command.View.TheVariants.{Trace}
-use Rattle.watch_run.specs.declared.telling.Shown.{Shown}
 
 -- a command that looks at a run, and what its machine starts from
 pub record Looks (c : Command) (files : List (List ℕ)) (s : Start) (settings : Settings) (machine : Machine) (images : List (List ℕ))
@@ -38,65 +36,67 @@ by-command P Q c files s settings machine images source view l make p =
     subst Q (sym l.is) (make (subst (λ t. P (start_from (Look machine images source view) files) t) config
     (subst (λ q. P q settings) from p)))
 
--- what is shown from this event on, with records or without
-abbrev pub shown_by : (from : ℕ) → (states : Bool) → Shown
-shown_by from states = record { from = from; states = states }
+-- what was told of a run while it went on, whole, and where it broke off; the files are as they were
+written-tells : (c : Command) (files : List (List ℕ)) (s : Start) (settings : Settings) (machine : Machine) (images : List (List ℕ))
+    (source : Source) (view : View) (f : FilesAround) (o : Written) (done : Bool)
+    → Looks c files s settings machine images source view
+    → IsWritten s (AreLookedAt source (most_of view) s settings files) (view_text view (seed_of source) s) o done
+    → Tells c files f o (Ok done)
+written-tells c files s settings machine images source view f o done l h =
+    by-command (λ q t. IsWritten q (AreLookedAt source (most_of view) q t files) (view_text view (seed_of source) q) o done)
+    (λ d. Tells d files f o (Ok done)) c files s settings machine images source view l (λ x. x) h
 
--- a trace that ended, and one that broke off; the files are as they were
-pub traced-tells : (c : Command) (files : List (List ℕ)) (s : Start) (settings : Settings) (machine : Machine) (images : List (List ℕ))
-    (source : Source) (from to : ℕ) (states : Bool) (f : FilesAround) (o : Written) (done : Bool)
-    → Looks c files s settings machine images source (Trace from to states)
-    → IsTraceTold s (AreLookedAt source to s settings files) (shown_by from states) o done → Tells c files f o (Ok done)
-traced-tells c files s settings machine images source from to states f o done l h =
-    by-command (λ q t. IsTraceTold q (AreLookedAt source to q t files) (shown_by from states) o done) (λ d. Tells d files f o (Ok done))
-    c files s settings machine images source (Trace from to states) l (λ x. x) h
-
-of-stopped : (files : List (List ℕ)) (machine : Machine) (images : List (List ℕ)) (source : Source) (from to : ℕ) (states : Bool)
-    (f : FilesAround) (o : Written) (r : Refusal) → IsUntouched f
-    → IsTraceStopped (start_from (Look machine images source (Trace from to states)) files)
-    (AreLookedAt source to (start_from (Look machine images source (Trace from to states)) files) machine.config files)
-    (shown_by from states) (IsFaultyLine (Look machine images source (Trace from to states)) files) o r
-    → Tells (Look machine images source (Trace from to states)) files f o (Err r)
-of-stopped files machine images source from to states f o why.Words untouched h = absurd h
-of-stopped files machine images source from to states f o (why.Value field) untouched h = absurd h
-of-stopped files machine images source from to states f o (why.Image bad) untouched h = absurd h
-of-stopped files machine images source from to states f o (why.Schedule line) untouched h = ((h.0, untouched), h.1)
-of-stopped files machine images source from to states f o (why.Store name) untouched h = absurd h
-of-stopped files machine images source from to states f o why.Output untouched (inl h) = inl h
-of-stopped files machine images source from to states f o why.Output untouched (inr h) = inr (h.0, h.1, untouched)
-of-stopped files machine images source from to states f o why.Memory untouched (inl h) = inl (inl untouched, h)
-of-stopped files machine images source from to states f o why.Memory untouched (inr h) = inr (h, untouched)
+of-broken : (files : List (List ℕ)) (machine : Machine) (images : List (List ℕ)) (source : Source) (view : View) (f : FilesAround)
+    (o : Written) (r : Refusal) → IsUntouched f
+    → IsBrokenOff (start_from (Look machine images source view) files)
+    (AreLookedAt source (most_of view) (start_from (Look machine images source view) files) machine.config files)
+    (view_text view (seed_of source) (start_from (Look machine images source view) files))
+    (begun_of view (seed_of source) (start_from (Look machine images source view) files))
+    (IsFaultyLine (Look machine images source view) files) o r
+    → Tells (Look machine images source view) files f o (Err r)
+of-broken files machine images source view f o why.Words untouched h = absurd h
+of-broken files machine images source view f o (why.Value field) untouched h = absurd h
+of-broken files machine images source view f o (why.Image bad) untouched h = absurd h
+of-broken files machine images source view f o (why.Schedule line) untouched h = ((h.0, untouched), h.1)
+of-broken files machine images source view f o (why.Store name) untouched h = absurd h
+of-broken files machine images source view f o why.Output untouched (inl h) = inl h
+of-broken files machine images source view f o why.Output untouched (inr h) = inr (h.0, h.1, untouched)
+of-broken files machine images source view f o why.Memory untouched (inl h) = inl (inl untouched, h)
+of-broken files machine images source view f o why.Memory untouched (inr h) = inr (h, untouched)
 
 -- the faulty lines are those of the command
-pub broken-tells : (c : Command) (files : List (List ℕ)) (s : Start) (settings : Settings) (machine : Machine) (images : List (List ℕ))
-    (source : Source) (from to : ℕ) (states : Bool) (faulty : Start → Settings → ℕ → Type 0) (f : FilesAround) (o : Written) (r : Refusal)
-    → Looks c files s settings machine images source (Trace from to states)
-    → faulty (start_from (Look machine images source (Trace from to states)) files) machine.config
-    ≡ IsFaultyLine (Look machine images source (Trace from to states)) files
+broken-tells : (c : Command) (files : List (List ℕ)) (s : Start) (settings : Settings) (machine : Machine) (images : List (List ℕ))
+    (source : Source) (view : View) (faulty : Start → Settings → ℕ → Type 0) (f : FilesAround) (o : Written) (r : Refusal)
+    → Looks c files s settings machine images source view
+    → faulty (start_from (Look machine images source view) files) machine.config ≡ IsFaultyLine (Look machine images source view) files
     → IsUntouched f
-    → IsTraceStopped s (AreLookedAt source to s settings files) (shown_by from states) (faulty s settings) o r → Tells c files f o (Err r)
-broken-tells c files s settings machine images source from to states faulty f o r l same untouched h =
-    by-command (λ q t. IsTraceStopped q (AreLookedAt source to q t files) (shown_by from states) (faulty q t) o r)
-    (λ d. Tells d files f o (Err r)) c files s settings machine images source (Trace from to states) l
-    (λ x. of-stopped files machine images source from to states f o r untouched
-    (subst (λ lines. IsTraceStopped (start_from (Look machine images source (Trace from to states)) files)
-    (AreLookedAt source to (start_from (Look machine images source (Trace from to states)) files) machine.config files)
-    (shown_by from states) lines o r)
+    → IsBrokenOff s (AreLookedAt source (most_of view) s settings files) (view_text view (seed_of source) s)
+    (begun_of view (seed_of source) s) (faulty s settings) o r
+    → Tells c files f o (Err r)
+broken-tells c files s settings machine images source view faulty f o r l same untouched h =
+    let begins = start_from (Look machine images source view) files in
+    by-command (λ q t. IsBrokenOff q (AreLookedAt source (most_of view) q t files) (view_text view (seed_of source) q)
+    (begun_of view (seed_of source) q) (faulty q t) o r)
+    (λ d. Tells d files f o (Err r)) c files s settings machine images source view l
+    (λ x. of-broken files machine images source view f o r untouched
+    (subst (λ lines. IsBrokenOff begins (AreLookedAt source (most_of view) begins machine.config files)
+    (view_text view (seed_of source) begins) (begun_of view (seed_of source) begins) lines o r)
     same x)) h
 
--- a trace, however it ended
-pub trace-tells : (c : Command) (files : List (List ℕ)) (s : Start) (settings : Settings) (machine : Machine) (images : List (List ℕ))
-    (source : Source) (from to : ℕ) (states : Bool) (faulty : Start → Settings → ℕ → Type 0) (f : FilesAround) (o : Written)
-    (x : Result Bool Refusal)
-    → Looks c files s settings machine images source (Trace from to states)
-    → faulty (start_from (Look machine images source (Trace from to states)) files) machine.config
-    ≡ IsFaultyLine (Look machine images source (Trace from to states)) files
-    → IsUntouched f → IfOk x (IsTraceTold s (AreLookedAt source to s settings files) (shown_by from states) o)
-    → IfErr x (IsTraceStopped s (AreLookedAt source to s settings files) (shown_by from states) (faulty s settings) o) → Tells c files f o x
-trace-tells c files s settings machine images source from to states faulty f o (Ok done) l same untouched told stopped =
-    traced-tells c files s settings machine images source from to states f o done l told
-trace-tells c files s settings machine images source from to states faulty f o (Err r) l same untouched told stopped =
-    broken-tells c files s settings machine images source from to states faulty f o r l same untouched stopped
+-- what was told of a run while it went on, however it ended
+pub going-tells : (c : Command) (files : List (List ℕ)) (s : Start) (settings : Settings) (machine : Machine) (images : List (List ℕ))
+    (source : Source) (view : View) (faulty : Start → Settings → ℕ → Type 0) (f : FilesAround) (o : Written) (x : Result Bool Refusal)
+    → Looks c files s settings machine images source view
+    → faulty (start_from (Look machine images source view) files) machine.config ≡ IsFaultyLine (Look machine images source view) files
+    → IsUntouched f
+    → IfOk x (IsWritten s (AreLookedAt source (most_of view) s settings files) (view_text view (seed_of source) s) o)
+    → IfErr x (IsBrokenOff s (AreLookedAt source (most_of view) s settings files) (view_text view (seed_of source) s)
+    (begun_of view (seed_of source) s) (faulty s settings) o)
+    → Tells c files f o x
+going-tells c files s settings machine images source view faulty f o (Ok done) l same untouched told stopped =
+    written-tells c files s settings machine images source view f o done l told
+going-tells c files s settings machine images source view faulty f o (Err r) l same untouched told stopped =
+    broken-tells c files s settings machine images source view faulty f o r l same untouched stopped
 
 -- the file of a schedule is the first that was read
 pub first-file : (c : Command) (read : List (List ℕ)) (machine : Machine) (images : List (List ℕ)) (name : List ℕ) (view : View)

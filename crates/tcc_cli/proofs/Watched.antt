@@ -10,7 +10,7 @@ use Rattle.rules_riscv.specs.Starting.{world_at_start}
 use Rattle.tcc_base.specs.Settings.{Settings}
 use Rattle.tcc_world.specs.Page.{Written}
 use Rattle.std.proofs.lemmas.List.{length-map}
-use Rattle.tcc_cli.specs.Looks.{IsTraceStopped, IsTraceTold, LookedAt, broken_refusal, view_text}
+use Rattle.tcc_cli.specs.Looks.{IsBrokenOff, IsTableStopped, IsTableTold, IsTraceStopped, IsWritten, LookedAt, broken_refusal, view_text}
 use Rattle.tcc_cli.specs.Runs.{EndsBy, RunsBy, picked_by}
 use Rattle.tcc_cli.specs.Schedules.{HasTaken}
 use Rattle.tcc_cli.specs.declared.refusal.Refusal.{Refusal}
@@ -28,8 +28,10 @@ use Rattle.tcc_words.specs.declared.command.View.TheVariants.{Count, State}
 use Rattle.watch_count.specs.Counts.{Counts}
 use Rattle.watch_count.specs.Csv.{csv_text}
 use Rattle.watch_count.specs.Text.{count_text}
+use Rattle.watch_run.specs.declared.tabling.Rows.{Rows}
 use Rattle.watch_run.specs.declared.telling.Shown.{Shown}
 use Rattle.watch_run.specs.Looked.{IsCounted}
+use Rattle.watch_run.specs.Tables.{IsTableBroken, IsTabled, table_text}
 use Rattle.watch_run.specs.Written.{IsTraceBroken, LeadsTo}
 use Rattle.watch_state.specs.Text.{state_text}
 use Rattle.watch_run.specs.declared.tracing.Broken.{Broken}
@@ -99,6 +101,36 @@ broken-so s Are shown faulty es o Output r are is (inr h, rose) =
       (h.n, h.short, h.cut, rose),
     ))
 
+-- a table that was written, and one that broke off
+pub tabled-so : (s : Start) (Are : List Event → Type 0) (rows : Rows) (es : List Event) (o : Written) (done : Bool) → Are es
+    → IsTabled rows s es o.before.bytes o.after.bytes done → IsTableTold s Are rows o done
+tabled-so s Are rows es o done are t = (
+  table_text rows s done es,
+  record { events = es; ends = t.ends; are = are; runs = run-so s es done done t.ends t.leads refl; text_is = refl },
+  t.whole,
+)
+
+pub untabled-so : (s : Start) (Are : List Event → Type 0) (rows : Rows) (faulty : ℕ → Type 0) (es : List Event) (o : Written)
+    (broken : Broken) (r : Refusal) → Are es → r ≡ broken_refusal broken
+    → IsTableBroken rows s es o broken → IsTableStopped s Are rows faulty o r
+untabled-so s Are rows faulty es o Memory r are is h = subst (IsTableStopped s Are rows faulty o) (sym is) (inr (es, are, h))
+untabled-so s Are rows faulty es o Output r are is (inl h, rose) =
+    subst (IsTableStopped s Are rows faulty o) (sym is) (inr ((es, are, h), rose))
+untabled-so s Are rows faulty es o Output r are is (inr h, rose) =
+    subst (IsTableStopped s Are rows faulty o) (sym is)
+    (inl (
+      h.done,
+      _,
+      record {
+        events = es;
+        ends = h.ends;
+        are = are;
+        runs = run-so s es h.done h.done h.ends h.leads refl;
+        text_is = refl;
+      },
+      (h.n, h.short, h.cut, rose),
+    ))
+
 -- the list from its first event on
 pub listed-so : {A B : Type 0} (f : A → B) (at : ℕ) (xs ys : List A) → at ≡ 0 → xs ≡ ys → map f (drop at xs) ≡ map f ys
 listed-so f at xs ys e q = ap (λ n. map f (drop n xs)) e ∙ ap (map f) (whole xs ∙ q)
@@ -121,32 +153,35 @@ state-so s P Are events seed m done text (Ok f) t are ends told = record {
 }
 state-so s P Are events seed m done text (Err e) t are ends told = tt
 
-told-by : (s : Start) (These Those : List Event → Type 0) (shown : Shown) (o : Written) (done : Bool)
-    → ((es : List Event) → These es → Those es)
-    → IsTraceTold s These shown o done → IsTraceTold s Those shown o done
-told-by s These Those shown o done are (text, l, whole) =
+told-by : (s : Start) (These Those : List Event → Type 0) (text_of_run : Bool → List Event → History → List ℕ) (o : Written) (done : Bool)
+    → ((es : List Event) → These es → Those es) → IsWritten s These text_of_run o done → IsWritten s Those text_of_run o done
+told-by s These Those text_of_run o done are (text, l, whole) =
     (text, record { events = l.events; ends = l.ends; are = are l.events l.are; runs = l.runs; text_is = l.text_is }, whole)
 
-pub all-told-by : {E : Type 0} (s : Start) (These Those : List Event → Type 0) (shown : Shown) (o : Written) (x : Result Bool E)
-    → ((es : List Event) → These es → Those es) → IfOk x (IsTraceTold s These shown o) → IfOk x (IsTraceTold s Those shown o)
-all-told-by s These Those shown o (Ok done) are t = told-by s These Those shown o done are t
-all-told-by s These Those shown o (Err e) are t = tt
+pub all-told-by : {E : Type 0} (s : Start) (These Those : List Event → Type 0) (text_of_run : Bool → List Event → History → List ℕ)
+    (o : Written) (x : Result Bool E) → ((es : List Event) → These es → Those es) → IfOk x (IsWritten s These text_of_run o)
+    → IfOk x (IsWritten s Those text_of_run o)
+all-told-by s These Those text_of_run o (Ok done) are t = told-by s These Those text_of_run o done are t
+all-told-by s These Those text_of_run o (Err e) are t = tt
 
-stopped-by : (s : Start) (These Those : List Event → Type 0) (shown : Shown) (faulty : ℕ → Type 0) (o : Written) (r : Refusal)
-    → ((es : List Event) → These es → Those es) → IsTraceStopped s These shown (λ line. ⊥) o r → IsTraceStopped s Those shown faulty o r
-stopped-by s These Those shown faulty o why.Words are h = absurd h
-stopped-by s These Those shown faulty o (why.Value field) are h = absurd h
-stopped-by s These Those shown faulty o (why.Image bad) are h = absurd h
-stopped-by s These Those shown faulty o (why.Schedule line) are h = absurd h.0
-stopped-by s These Those shown faulty o (why.Store name) are h = absurd h
-stopped-by s These Those shown faulty o why.Output are (inl (done, text, l, cut)) =
+stopped-by : (s : Start) (These Those : List Event → Type 0) (text_of_run : Bool → List Event → History → List ℕ)
+    (begun : List Event → Option (List ℕ) → Option (List ℕ) → Type 0) (faulty : ℕ → Type 0) (o : Written) (r : Refusal)
+    → ((es : List Event) → These es → Those es) → IsBrokenOff s These text_of_run begun (λ line. ⊥) o r
+    → IsBrokenOff s Those text_of_run begun faulty o r
+stopped-by s These Those text_of_run begun faulty o why.Words are h = absurd h
+stopped-by s These Those text_of_run begun faulty o (why.Value field) are h = absurd h
+stopped-by s These Those text_of_run begun faulty o (why.Image bad) are h = absurd h
+stopped-by s These Those text_of_run begun faulty o (why.Schedule line) are h = absurd h.0
+stopped-by s These Those text_of_run begun faulty o (why.Store name) are h = absurd h
+stopped-by s These Those text_of_run begun faulty o why.Output are (inl (done, text, l, cut)) =
     inl (done, text, record { events = l.events; ends = l.ends; are = are l.events l.are; runs = l.runs; text_is = l.text_is }, cut)
-stopped-by s These Those shown faulty o why.Output are (inr ((es, e, h), rose)) = inr ((es, are es e, h), rose)
-stopped-by s These Those shown faulty o why.Memory are (inl h) = inl h
-stopped-by s These Those shown faulty o why.Memory are (inr (es, e, h)) = inr (es, are es e, h)
+stopped-by s These Those text_of_run begun faulty o why.Output are (inr ((es, e, h), rose)) = inr ((es, are es e, h), rose)
+stopped-by s These Those text_of_run begun faulty o why.Memory are (inl h) = inl h
+stopped-by s These Those text_of_run begun faulty o why.Memory are (inr (es, e, h)) = inr (es, are es e, h)
 
-pub all-stopped-by : {A : Type 0} (s : Start) (These Those : List Event → Type 0) (shown : Shown) (faulty : ℕ → Type 0) (o : Written)
-    (x : Result A Refusal) → ((es : List Event) → These es → Those es) → IfErr x (IsTraceStopped s These shown (λ line. ⊥) o)
-    → IfErr x (IsTraceStopped s Those shown faulty o)
-all-stopped-by s These Those shown faulty o (Ok y) are h = tt
-all-stopped-by s These Those shown faulty o (Err r) are h = stopped-by s These Those shown faulty o r are h
+pub all-stopped-by : {A : Type 0} (s : Start) (These Those : List Event → Type 0) (text_of_run : Bool → List Event → History → List ℕ)
+    (begun : List Event → Option (List ℕ) → Option (List ℕ) → Type 0) (faulty : ℕ → Type 0) (o : Written) (x : Result A Refusal)
+    → ((es : List Event) → These es → Those es) → IfErr x (IsBrokenOff s These text_of_run begun (λ line. ⊥) o)
+    → IfErr x (IsBrokenOff s Those text_of_run begun faulty o)
+all-stopped-by s These Those text_of_run begun faulty o (Ok y) are h = tt
+all-stopped-by s These Those text_of_run begun faulty o (Err r) are h = stopped-by s These Those text_of_run begun faulty o r are h

@@ -1,5 +1,5 @@
 -- Runs of the machine with one bus that are looked at, and what is told of them.
-use Rattle.std.specs.Prelude.{ℕ, ◌≡◌, ◌⊎◌, Bool, true, false, List, Some, length, min}
+use Rattle.std.specs.Prelude.{ℕ, ◌≡◌, ◌⊎◌, Bool, true, false, List, [], Some, length, min}
 use Rattle.image_load.specs.Start.{Start}
 use Rattle.bus_count.specs.Csv.{bus_csv_text}
 use Rattle.bus_count.specs.Text.{bus_count_text}
@@ -16,18 +16,19 @@ use Rattle.tcc_cli.specs.OnBus.{BusRunsTo}
 use Rattle.tcc_cli.specs.declared.refusal.Refusal.{Refusal}
 use Rattle.tcc_cli.specs.declared.refusal.Refusal.TheVariants as why
 use Rattle.tcc_words.specs.declared.command.View.{View}
-use Rattle.tcc_words.specs.declared.command.View.TheVariants.{Trace, Count, State}
+use Rattle.tcc_words.specs.declared.command.View.TheVariants.{Trace, Count, Rows, State}
 use Rattle.tcc_world.specs.Faults.{Rose}
 use Rattle.text_runs.specs.Pieces.{IsPart}
 use Rattle.text_runs.specs.declared.pieces.Broken.{Broken}
 use Rattle.text_runs.specs.declared.pieces.Broken.TheVariants as broken
 
--- what is told of a run by these events: the trace, the counts or the state at the end
+-- what is told of a run by these events: the trace, the counts or the state at the end; there is no table of totals
 abbrev pub bus_view_text : View → (seed steps : ℕ) → Start → (done : Bool) → List BusEvent → BusHistory → List ℕ
 bus_view_text (Trace from to states) seed steps s done es h = bus_trace_of states s from es done
 bus_view_text (Count true) seed steps s done es h =
     bus_csv_text s.settings (Some (seed, steps)) done (length es) (counts_of_bus_run s es)
 bus_view_text (Count false) seed steps s done es h = bus_count_text s.settings done (length es) (counts_of_bus_run s es)
+bus_view_text (Rows every) seed steps s done es h = []
 bus_view_text (State events) seed steps s done es h = bus_state_text s done (length es) h
 
 -- the first events that a seed picks

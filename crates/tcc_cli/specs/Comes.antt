@@ -5,7 +5,7 @@ use Rattle.tcc_cli.specs.Following.{IsFollowed, RanFollowing}
 use Rattle.tcc_cli.specs.Lists.{IsExecuted, IsListFault}
 use Rattle.tcc_base.specs.Settings.{Settings}
 use Rattle.tcc_world.specs.Page.{Written}
-use Rattle.tcc_cli.specs.Looks.{ArePicked, AreFirst, IsBegun, IsFaultOfFirst, LookedAt, most_of, seed_of, view_text}
+use Rattle.tcc_cli.specs.Looks.{ArePicked, AreFirst, IsBegun, IsFaultOfFirst, LookedAt, begun_of, most_of, seed_of, view_text}
 use Rattle.tcc_cli.specs.BusLooks.{IsBusTraceBegun, LookedAtBus}
 use Rattle.tcc_cli.specs.OnBus.{RanOnBus}
 use Rattle.tcc_cli.specs.Outcomes.{IsTable, IsTableBegun}
@@ -61,11 +61,11 @@ Comes (Follow machine list images keep) files tells told done text =
     RanFollowing (start_from (Follow machine list images keep) files) (head_of files)
     (λ es. IsRecorded keep tells told (record { config = machine.config; events = es })) done text
 
--- a first part of what a command prints was written while it went on: only traces and tables of outcomes are written so
+-- a first part of what a command prints was written while it went on: only traces, tables of totals and those of outcomes are written so
 abbrev pub HasBegun : Command → (files : List (List ℕ)) → Written → Type 0
-HasBegun (Look machine images source (Trace from to states)) files o =
-    let s = start_from (Look machine images source (Trace from to states)) files in
-    IsBegun s (AreLookedAt source to s machine.config files) (record { from = from; states = states }) o
+HasBegun (Look machine images source view) files o =
+    let s = start_from (Look machine images source view) files in
+    IsBegun (AreLookedAt source (most_of view) s machine.config files) (begun_of view (seed_of source) s) o
 HasBegun (LookOnBus machine images steps seed (Trace from to states)) files o =
     IsBusTraceBegun (start_from (LookOnBus machine images steps seed (Trace from to states)) files) seed steps from to states o
 HasBegun (Outcomes machine images limits tell) files o =

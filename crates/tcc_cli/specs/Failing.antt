@@ -22,7 +22,7 @@ use Rattle.tcc_replay.specs.declared.replaying.ReplayFault.TheVariants as replay
 use Rattle.tcc_words.specs.declared.command.Command.{Command}
 use Rattle.tcc_words.specs.declared.command.Command.TheVariants.{Look, LookOnBus, Outcomes}
 use Rattle.tcc_words.specs.declared.command.View.{View}
-use Rattle.tcc_words.specs.declared.command.View.TheVariants.{Trace}
+use Rattle.tcc_words.specs.declared.command.View.TheVariants.{Trace, Rows}
 use Rattle.tcc_world.specs.Faults.{Rose}
 
 -- what faults of a text and of a replay are to the program; event i stands on line i + 3
@@ -70,9 +70,10 @@ abbrev pub IsFollowStopped : Start → (bytes : List ℕ) → Settings → (keep
 IsFollowStopped s bytes settings keep f (Schedule line) = IsListFault s bytes line × IsUntouched f
 IsFollowStopped s bytes settings keep f other = IsRunStopped (IsFollowed s bytes) settings keep f other
 
--- a text that is written when it is made, as a trace and a table of outcomes aren't
+-- a text that is written when it is made, as a trace, a table of totals and one of outcomes aren't
 abbrev pub IsUntraced : View → Type 0
 IsUntraced (Trace from to states) = ⊥
+IsUntraced (Rows every) = ⊥
 IsUntraced _ = Unit {0}
 
 abbrev pub IsPrinted : Command → Type 0

@@ -2,7 +2,6 @@
 use Rattle.std.specs.Prelude.{ℕ, Bool, true, false, List, length, map, min, take, ◌≡◌, ◌⊎◌, Option, Some, None}
 use Rattle.image_load.specs.Start.{Start}
 use Rattle.rules_riscv.specs.Starting.{world_at_start}
-use Rattle.tcc_base.specs.Limits.{run_limit}
 use Rattle.tcc_base.specs.Settings.{Settings}
 use Rattle.tcc_cli.specs.Lines.{IsWhole, IsCut}
 use Rattle.tcc_world.specs.Page.{Written}
@@ -14,25 +13,29 @@ use Rattle.rules_maps.specs.Nodes.{Event}
 use Rattle.tcc_msg.specs.Plain.{event_of}
 use Rattle.tcc_msg.specs.declared.event.Event.{Event as Listed}
 use Rattle.rules_tcc.specs.Step.{History}
+use Rattle.tcc_words.specs.Fields.{count_limit}
 use Rattle.tcc_words.specs.declared.command.Source.{Source}
 use Rattle.tcc_words.specs.declared.command.Source.TheVariants.{Seed, Schedule}
 use Rattle.tcc_words.specs.declared.command.View.{View}
-use Rattle.tcc_words.specs.declared.command.View.TheVariants.{Trace, Count, State}
+use Rattle.tcc_words.specs.declared.command.View.TheVariants.{Trace, Count, Rows, State}
 use Rattle.tcc_world.specs.Faults.{Rose}
 use Rattle.watch_count.specs.Csv.{csv_text}
 use Rattle.watch_count.specs.Text.{count_text}
 use Rattle.watch_run.specs.declared.tracing.Broken.{Broken}
 use Rattle.watch_run.specs.declared.tracing.Broken.TheVariants as broken
+use Rattle.watch_run.specs.declared.tabling.Rows.{Rows as Table}
 use Rattle.watch_run.specs.declared.telling.Shown.{Shown}
 use Rattle.watch_run.specs.Looked.{counts_of_run}
 use Rattle.watch_run.specs.Shown.{shown_trace, trace_with}
+use Rattle.watch_run.specs.Tables.{IsTableBegun, table_text}
 use Rattle.watch_run.specs.Written.{IsTraceBegun}
 use Rattle.watch_state.specs.Text.{state_text}
 
 -- at most so many events are taken
 abbrev pub most_of : View → ℕ
 most_of (Trace from to states) = to
-most_of (Count csv) = run_limit
+most_of (Count csv) = count_limit
+most_of (Rows every) = count_limit
 most_of (State events) = events
 
 -- the first events that a seed picks, and those of the schedule that a file holds
@@ -56,11 +59,12 @@ abbrev pub seed_of : Source → Option (ℕ × ℕ)
 seed_of (Seed steps seed) = Some (seed, steps)
 seed_of (Schedule name) = None
 
--- what is told of a run by these events: the trace, with records or without, the counts or the state at the end
+-- what is told of a run by these events: the trace, with records or without, the counts, a table of the totals or the state at the end
 abbrev pub view_text : View → (seed : Option (ℕ × ℕ)) → Start → (done : Bool) → List Event → History → List ℕ
 view_text (Trace from to states) seed s done es h = trace_with states s (world_at_start s) from es done
 view_text (Count true) seed s done es h = csv_text s.settings seed done (length es) (counts_of_run s es)
 view_text (Count false) seed s done es h = count_text s.settings done (length es) (counts_of_run s es)
+view_text (Rows every) seed s done es h = table_text (record { every = every; seed = seed }) s done es
 view_text (State events) seed s done es h = state_text s done (length es) h
 
 -- A run by such events, from this start, with its end and the text of all that. The headline: see `RunsBy`.
@@ -72,27 +76,47 @@ pub record LookedAt (s : Start) (AreEvents : List Event → Type 0) (text_of_run
   pub runs : RunsBy s events done ends
   pub text_is : text ≡ text_of_run done events ends
 
--- a first part of a trace was written: of its first lines and of those of its first events, and none of its last lines
-abbrev pub IsBegun : Start → (AreEvents : List Event → Type 0) → Shown → Written → Type 0
-IsBegun s AreEvents shown o = (es : List Event) × AreEvents es × IsTraceBegun s shown es o.before.bytes o.after.bytes
+-- What is told of a run while it goes on may break off: then a first part of it was written, of its first lines and of what is told of its
+-- first events, and none of what tells of the end. So it is with traces and with tables of totals.
+abbrev pub begun_of : View → (seed : Option (ℕ × ℕ)) → Start → List Event → (before after : Option (List ℕ)) → Type 0
+begun_of (Trace from to states) seed s es before after = IsTraceBegun s (record { from = from; states = states }) es before after
+begun_of (Rows every) seed s es before after = IsTableBegun (record { every = every; seed = seed }) s es before after
+begun_of _ seed s es before after = ⊥
 
--- how a trace ended, and what was written: all of it, or a first part where the output failed or memory ran out
+abbrev pub IsBegun : (AreEvents : List Event → Type 0) → (begun : List Event → Option (List ℕ) → Option (List ℕ) → Type 0) → Written
+    → Type 0
+IsBegun AreEvents begun o = (es : List Event) × AreEvents es × begun es o.before.bytes o.after.bytes
+
+-- how that ended, and what was written: all of it, or a first part where the output failed or memory ran out
+abbrev pub IsWritten : Start → (AreEvents : List Event → Type 0) → (text_of_run : Bool → List Event → History → List ℕ) → Written → Bool
+    → Type 0
+IsWritten s AreEvents text_of_run o done = (text : List ℕ) × LookedAt s AreEvents text_of_run done text × IsWhole text o
+
+abbrev pub IsBrokenOff : Start → (AreEvents : List Event → Type 0) → (text_of_run : Bool → List Event → History → List ℕ)
+    → (begun : List Event → Option (List ℕ) → Option (List ℕ) → Type 0) → (faulty : ℕ → Type 0) → Written → Refusal → Type 0
+IsBrokenOff s AreEvents text_of_run begun faulty o (why.Schedule line) = faulty line × (o.after.bytes ≡ o.before.bytes)
+IsBrokenOff s AreEvents text_of_run begun faulty o why.Output =
+    ((done : Bool) × (text : List ℕ) × LookedAt s AreEvents text_of_run done text × IsCut text o)
+    ⊎ (IsBegun AreEvents begun o × Rose o.before.faults o.after.faults)
+IsBrokenOff s AreEvents text_of_run begun faulty o why.Memory = (o.after.bytes ≡ o.before.bytes) ⊎ IsBegun AreEvents begun o
+IsBrokenOff s AreEvents text_of_run begun faulty o _ = ⊥
+
+-- a trace, and a table of totals
 abbrev pub IsTraceTold : Start → (AreEvents : List Event → Type 0) → Shown → Written → Bool → Type 0
-IsTraceTold s AreEvents shown o done =
-    (text : List ℕ) × LookedAt s AreEvents (λ d es h. shown_trace shown s (world_at_start s) es d) done text × IsWhole text o
-
-abbrev pub IsTraceCut : Start → (AreEvents : List Event → Type 0) → Shown → Written → Type 0
-IsTraceCut s AreEvents shown o =
-    (done : Bool) × (text : List ℕ) × LookedAt s AreEvents (λ d es h. shown_trace shown s (world_at_start s) es d) done text × IsCut text o
+IsTraceTold s AreEvents shown o done = IsWritten s AreEvents (λ d es h. shown_trace shown s (world_at_start s) es d) o done
 
 abbrev pub IsTraceStopped : Start → (AreEvents : List Event → Type 0) → Shown → (faulty : ℕ → Type 0) → Written → Refusal → Type 0
-IsTraceStopped s AreEvents shown faulty o (why.Schedule line) = faulty line × (o.after.bytes ≡ o.before.bytes)
-IsTraceStopped s AreEvents shown faulty o why.Output =
-    IsTraceCut s AreEvents shown o ⊎ (IsBegun s AreEvents shown o × Rose o.before.faults o.after.faults)
-IsTraceStopped s AreEvents shown faulty o why.Memory = (o.after.bytes ≡ o.before.bytes) ⊎ IsBegun s AreEvents shown o
-IsTraceStopped s AreEvents shown faulty o _ = ⊥
+IsTraceStopped s AreEvents shown faulty o r =
+    IsBrokenOff s AreEvents (λ d es h. shown_trace shown s (world_at_start s) es d) (IsTraceBegun s shown) faulty o r
 
--- what a trace that broke off is to the program
+abbrev pub IsTableTold : Start → (AreEvents : List Event → Type 0) → Table → Written → Bool → Type 0
+IsTableTold s AreEvents rows o done = IsWritten s AreEvents (λ d es h. table_text rows s d es) o done
+
+abbrev pub IsTableStopped : Start → (AreEvents : List Event → Type 0) → Table → (faulty : ℕ → Type 0) → Written → Refusal → Type 0
+IsTableStopped s AreEvents rows faulty o r =
+    IsBrokenOff s AreEvents (λ d es h. table_text rows s d es) (IsTableBegun rows s) faulty o r
+
+-- what it is to the program that it broke off
 abbrev pub broken_refusal : Broken → Refusal
 broken_refusal broken.Memory = why.Memory
 broken_refusal broken.Output = why.Output

@@ -30,11 +30,12 @@ FailedToWrite c w name =
     ((files : List (List ℕ)) × Started c w files) × (record_of c ≡ Some name)
     × Rose (w.files.before.failed_writes name) (w.files.after.failed_writes name)
 
--- a trace broke off
+-- a trace or a table broke off
 abbrev pub HasWrittenPart : Command → Around → Type 0
 HasWrittenPart c w = ((files : List (List ℕ)) × Started c w files × HasBegun c files w.out) × IsUntouched w.files
 
--- how a command ends, and why; where memory ran out, no contents have changed, or the record is whole; a trace may have been begun
+-- how a command ends, and why; where memory ran out, no contents have changed, or the record is whole; what is written as it goes may have
+-- been begun
 abbrev pub EndsOf : Command → Around → End → Type 0
 EndsOf c w (Ok done) =
     (files : List (List ℕ)) × (text : List ℕ) × Started c w files

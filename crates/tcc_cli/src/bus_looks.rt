@@ -8,7 +8,6 @@ ghost use Rattle.tcc_cli.specs.BusLooks.{IsBusTraceStopped, IsBusTraceTold, Look
 ghost use Rattle.tcc_cli.specs.Failing.{IsUntraced};
 ghost use Rattle.tcc_base.specs.Limits.{run_limit};
 
-use crate::looks::MAX_EVENTS;
 use crate::refusal::Refusal;
 use crate::reports::Finished;
 use bus_run::{Broken, BusCounted, count_on_bus, trace_on_bus};
@@ -17,7 +16,7 @@ use bus_tool::bus_run;
 use image_load::Loaded;
 use std::alloc::Global;
 use tcc_base::{Config, NoMemory};
-use tcc_words::View;
+use tcc_words::{MAX_COUNTED, View};
 use tcc_world::Sink;
 use watch_run::Shown;
 
@@ -92,7 +91,7 @@ fn count_bus(
     requires few { steps ≤ run_limit }
     ensures { IfOk result (λ f. LookedAtBus (started loaded.now) seed steps (View.Count csv) f.done (string_bytes f.text)) }
 {
-    let counted = count_on_bus(alloc, loaded, seed, steps.min(MAX_EVENTS))?;
+    let counted = count_on_bus(alloc, loaded, seed, steps.min(MAX_COUNTED))?;
     tables(alloc, loaded.config(), &counted, csv, Some((seed, steps)))
 }
 
@@ -128,7 +127,7 @@ pub fn look_on_bus(
     ensures { IfOk result (λ f. LookedAtBus (started loaded.now) seed steps view f.done (string_bytes f.text)) }
 {
     match view {
-        View::Trace { .. } => unreachable!(),
+        View::Trace { .. } | View::Rows { .. } => unreachable!(),
         View::Count { csv } => count_bus(alloc, loaded, seed, steps, csv),
         View::State { events } => state_on_bus(alloc, loaded, seed, steps, events),
     }

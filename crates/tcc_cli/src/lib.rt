@@ -21,6 +21,7 @@ mod running;
 mod schedules;
 mod status;
 mod top;
+mod totals;
 mod traces;
 
 pub use laws::{answers_are_complete, open_runs_take_all_events, replays_print_the_same};

@@ -7,6 +7,8 @@ ghost use Rattle.tcc_cli.specs.Failing.{IsUntraced};
 ghost use Rattle.tcc_cli.specs.Looks.{ArePicked, AreFirst, IsFirstRefused, LookedAt, most_of as plain_most_of, view_text};
 ghost use Rattle.tcc_cli.specs.Runs.{EndsBy};
 ghost use Rattle.tcc_msg.specs.Plain.{event_of};
+ghost use Rattle.tcc_words.specs.Bounds.{most_steps};
+ghost use Rattle.tcc_words.specs.Fields.{count_limit};
 ghost use Rattle.watch_count.specs.Csv.{csv_text};
 ghost use Rattle.watch_count.specs.Text.{count_text};
 ghost use Rattle.watch_state.specs.Text.{state_text};
@@ -24,12 +26,9 @@ use std::alloc::Global;
 use tcc_base::{Config, NoMemory};
 use tcc_msg::Event;
 use tcc_refine::Refined;
-use tcc_words::View;
+use tcc_words::{MAX_COUNTED, View};
 use watch_run::{Counted, Listed, Picked, count};
 use watch_state::state;
-
-/// The largest number of events.
-pub const MAX_EVENTS: u64 = 4_194_304;
 
 /// The text of what was counted: all of it, or the totals as two rows for a table.
 fn tables(
@@ -64,14 +63,14 @@ fn count_picked(
     steps: u64,
     csv: bool,
 ) -> Result<Finished, NoMemory>
-    requires few { steps ≤ run_limit }
-    ensures { IfOk result (λ f. LookedAt (started loaded.now) (ArePicked (started loaded.now) seed steps run_limit)
+    requires few { steps ≤ count_limit }
+    ensures { IfOk result (λ f. LookedAt (started loaded.now) (ArePicked (started loaded.now) seed steps count_limit)
         (view_text (View.Count csv) (Some (seed, steps)) (started loaded.now)) f.done (string_bytes f.text)) }
 {
     a_picked_schedule_is_a_run();
-    let steps_at_most = steps.min(MAX_EVENTS) as u32;
-    let mut events = Picked::new(seed, steps_at_most);
-    let counted = count(alloc, loaded, &mut events, steps_at_most)?;
+    let most = steps.min(MAX_COUNTED);
+    let mut events = Picked::new(seed, most);
+    let counted = count(alloc, loaded, &mut events, most)?;
     tables(alloc, loaded.config(), &counted, csv, Some((seed, steps)))
 }
 
@@ -87,7 +86,7 @@ fn count_listed(
         (view_text (View.Count csv) None (started loaded.now)) f.done (string_bytes f.text)) }
 {
     let mut events = Listed::new(listed);
-    let counted = count(alloc, loaded, &mut events, listed.len() as u32)?;
+    let counted = count(alloc, loaded, &mut events, listed.len() as u64)?;
     tables(alloc, loaded.config(), &counted, csv, None)
 }
 
@@ -120,7 +119,7 @@ fn look_at_taken(
 {
     let taken = refined.taken();
     match view {
-        View::Trace { .. } => unreachable!(),
+        View::Trace { .. } | View::Rows { .. } => unreachable!(),
         View::Count { csv } => count_listed(alloc, loaded, taken, csv),
         View::State { .. } => state_of(alloc, loaded, refined.system()),
     }
@@ -132,7 +131,7 @@ fn most_of(view: View) -> u64
 {
     match view {
         View::Trace { to, .. } => to,
-        View::Count { .. } => MAX_EVENTS,
+        View::Count { .. } | View::Rows { .. } => MAX_COUNTED,
         View::State { events } => events,
     }
 }
@@ -145,13 +144,13 @@ pub fn look_by_seed(
     steps: u64,
     view: View,
 ) -> Result<Finished, NoMemory>
-    requires few { steps ≤ run_limit }
+    requires few { steps ≤ most_steps view }
     requires untraced { IsUntraced view }
     ensures { IfOk result (λ f. LookedAt (started loaded.now) (ArePicked (started loaded.now) seed steps (plain_most_of view))
         (view_text view (Some (seed, steps)) (started loaded.now)) f.done (string_bytes f.text)) }
 {
     match view {
-        View::Trace { .. } => unreachable!(),
+        View::Trace { .. } | View::Rows { .. } => unreachable!(),
         View::Count { csv } => count_picked(alloc, loaded, seed, steps, csv),
         View::State { events } => {
             let system = pick(alloc, loaded, seed, steps.min(events))?;

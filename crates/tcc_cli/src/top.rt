@@ -22,6 +22,7 @@ use crate::refusal::{Refusal, refuse};
 use crate::reports::Finished;
 use crate::running::{RunPlan, run_again, run_and_tell, run_phased, run_recorded, run_trial};
 use crate::status::Status;
+use crate::totals::{totals_by_schedule, totals_by_seed};
 use crate::traces::{trace_by_schedule, trace_by_seed};
 use image_load::Loaded;
 use std::alloc::Global;
@@ -42,8 +43,8 @@ use work_gen::workload;
 /// message waits that is in flight then, and what can happen next; `phases [..] IMAGE..` runs images as `run` does by a seed, but holds
 /// back the requests of later phases, and writes the phase of each commit and then the report; `bus [..] IMAGE..` runs images on the
 /// machine with one bus for at most so many events that a seed picks, and writes its report; `trace [..] IMAGE..` writes what each event of
-/// a run does while it goes on, with `--states` also which records it changes, `count [..] IMAGE..` how often what happened in it, and
-/// `state [..] IMAGE..` the state after it: a run as `run` makes it by a seed, or as `bus` does, or by the schedule of a file; `outcomes
+/// a run does while it goes on, with `--states` also which records it changes, `count [..] IMAGE..` how often what happened in it, with
+/// `--every` the totals while it goes on, and `state [..] IMAGE..` the state after it: a run as `run` makes it by a seed, or as `bus` does, or by the schedule of a file; `outcomes
 /// [..] IMAGE..` searches all results that the images can have, on whatever machine, and writes their table; `follow [..] LIST IMAGE..`
 /// runs images for at most 4,194,304 events so that their transactions commit in the order of a list, whose lines are as a report's, writes
 /// the schedule to a file where one is named, and then the report.
@@ -221,6 +222,17 @@ fn tell<'a, R: Threads + Wait + Sync, F: Store, O: Sink, G: Gate + Sync>(
             *to,
             out,
         ),
+        Command::Look {
+            source: Source::Seed { steps, seed },
+            view: View::Rows { every },
+            ..
+        } => totals_by_seed(alloc, loaded, *seed, *steps, *every, out),
+        Command::Look {
+            machine,
+            source: Source::Schedule(_),
+            view: View::Rows { every },
+            ..
+        } => totals_by_schedule(alloc, loaded, &machine.config, bytes(&read[0]), *every, out),
         Command::LookOnBus {
             steps,
             seed,

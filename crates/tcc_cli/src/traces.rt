@@ -15,8 +15,8 @@ use tcc_msg::Event;
 use tcc_world::Sink;
 use watch_run::{Broken, Listed, Picked, Shown, trace};
 
-/// What a trace that broke off is to the program.
-fn of_broken<'a>(broken: Broken) -> Refusal<'a>
+/// What it is to the program that a trace or a table broke off.
+pub fn of_broken<'a>(broken: Broken) -> Refusal<'a>
     ensures { result ≡ broken_refusal broken }
 {
     match broken {
@@ -43,7 +43,7 @@ pub fn trace_by_seed<'a, O: Sink>(
 {
     a_picked_schedule_is_a_run();
     let most = steps.min(to) as u32;
-    let mut events = Picked::new(seed, most);
+    let mut events = Picked::new(seed, most as u64);
     match trace(alloc, loaded, &mut events, most, shown, out) {
         Ok(done) => Ok(done),
         Err(broken) => Err(of_broken(broken)),

@@ -10,16 +10,15 @@ use Rattle.tcc_base.specs.Limits.{text_limit}
 use Rattle.tcc_base.specs.Settings.{Settings, IsAllowed}
 use Rattle.tcc_words.proofs.OneCommand.{one-value}
 use Rattle.tcc_words.proofs.Unasked.{IsApart, unasked}
-use Rattle.tcc_words.specs.Asked.{AsksLook, AsksSource, AsksView, GoTogether, HasPlaces, HasSettings, IsCommand, MayBeGiven}
-use Rattle.tcc_words.specs.Asked.{Asks}
-use Rattle.tcc_words.specs.Bounds.{IsFew, IsInBounds, IsNear}
+use Rattle.tcc_words.specs.Asked.{Asks, AsksLook, AsksSource, AsksView, GoTogether, HasPlaces, HasSettings, IsCommand, IsGiven, MayBeGiven}
+use Rattle.tcc_words.specs.Bounds.{IsFew, IsInBounds, IsNear, IsNearOnBus, most_steps}
 use Rattle.tcc_words.specs.Grammar.{grammar}
-use Rattle.tcc_words.specs.Fields.{Allows, IsValue, images_of}
+use Rattle.tcc_words.specs.Fields.{AllowsIn, AreFew, IsFlagged, IsValue, count_limit, images_of}
 use Rattle.tcc_words.specs.Numbers.{IsNumber}
 use Rattle.tcc_words.specs.declared.command.Command.{Command}
 use Rattle.tcc_words.specs.declared.command.Command.TheVariants as command
 use Rattle.tcc_words.specs.declared.command.Field.{Field}
-use Rattle.tcc_words.specs.declared.command.Field.TheVariants.{Cores, Dirs, Sets, Ways, Ram, Base, Steps, From, To, Events}
+use Rattle.tcc_words.specs.declared.command.Field.TheVariants.{Cores, Dirs, Sets, Ways, Ram, Base, Steps, From, To, Events, Every}
 use Rattle.tcc_words.specs.declared.command.Field.TheVariants.{States, Longest, Threads, Batch, Images, Number}
 use Rattle.tcc_words.specs.declared.command.Source.{Source}
 use Rattle.tcc_words.specs.declared.command.Source.TheVariants as source
@@ -30,8 +29,8 @@ use Rattle.tcc_words.specs.declared.command.View.{View}
 use Rattle.tcc_words.specs.declared.command.View.TheVariants as view
 
 -- settings that stand in allowed fields are allowed
-allowed : (rows : List Row) (s : Settings) → HasSettings rows s → ((field : Field) → Allows rows field) → IsAllowed s
-allowed rows s h every =
+allowed : (verb : Verb) (rows : List Row) (s : Settings) → HasSettings rows s → ((field : Field) → AllowsIn verb rows field) → IsAllowed s
+allowed verb rows s h every =
     let c = every Cores in
     let d = every Dirs in
     let e = every Sets in
@@ -54,11 +53,26 @@ allowed rows s h every =
           (b.4, subst (λ k. b.0 + k ≤ 2 ^ 32) of_base b.5),
     )
 
-steps-few : (rows : List Row) (n : ℕ) → IsValue 1000000 (first_of (codes "steps") rows) n → ((field : Field) → Allows rows field)
-    → n ≤ text_limit
-steps-few rows n h every =
+-- a number of events is few enough for the command, and so for what is told of the run
+steps-few : (verb : Verb) (rows : List Row) (n : ℕ) → IsValue 1000000 (first_of (codes "steps") rows) n
+    → ((field : Field) → AllowsIn verb rows field) → AreFew verb rows n
+steps-few verb rows n h every =
     let a = every Steps in
-    subst (λ k. k ≤ text_limit) (one-value 1000000 (first_of (codes "steps") rows) a.0 n a.1 h) a.2
+    subst (AreFew verb rows) (one-value 1000000 (first_of (codes "steps") rows) a.0 n a.1 h) a.2
+
+few-of : (verb : Verb) (rows : List Row) (v : View) (n : ℕ) → AsksView verb rows v → AreFew verb rows n → n ≤ most_steps v
+few-of Trace rows (view.Trace from to states) n a few = few
+few-of Count rows (view.Count csv) n a few = few.0
+few-of Count rows (view.Rows every) n a few = few.0
+few-of State rows (view.State events) n a few = few
+few-of _ rows v n a few = absurd a
+
+few-on-bus : (verb : Verb) (rows : List Row) (v : View) (n : ℕ) → IsFlagged (codes "bus") rows → AsksView verb rows v
+    → AreFew verb rows n → n ≤ text_limit
+few-on-bus Trace rows v n bus a few = few
+few-on-bus Count rows v n bus a few = few.1 bus
+few-on-bus State rows v n bus a few = few
+few-on-bus _ rows v n bus a few = absurd a
 
 number-fits : (text : Option Text) (n : ℕ) → ((given : Text) × (text ≡ Some given) × IsNumber given n)
     → IfSome text (λ given. (m : ℕ) × IsNumber given m × (1 ≤ m) × (m ≤ 2047)) → (1 ≤ n) × (n ≤ 2047)
@@ -67,21 +81,22 @@ number-fits (Some text) n (given, e, h) a =
     let same : ◌≡◌ {A = Text} text given = cc in
     subst (λ k. (1 ≤ k) × (k ≤ 2047)) (sym (subst (λ t. IsNumber t a.0) same a.1).value ∙ h.value) (a.2, a.3)
 
--- threads that were given are 1 to 16, and stand with a record
-threads-fit : (text keep kept : Option Text) (n : ℕ) → ((given : Text) × (text ≡ Some given) × IsNumber given n) → kept ≡ keep
-    → IfSome text (λ given. ((m : ℕ) × IsNumber given m × (1 ≤ m) × (m ≤ 16)) × IsSome keep) → (1 ≤ n) × (n ≤ 16) × IsSome kept
-threads-fit None keep kept n (given, e, h) k a = absurd (cc)
-threads-fit (Some text) keep kept n (given, e, h) k (a, some) =
+-- a number that was given is within its bounds, and what else is asked for is so
+given-fits : (most : ℕ) (More : Type 0) (text : Option Text) (n : ℕ) → ((given : Text) × (text ≡ Some given) × IsNumber given n)
+    → IfSome text (λ given. ((m : ℕ) × IsNumber given m × (1 ≤ m) × (m ≤ most)) × More) → (1 ≤ n) × (n ≤ most) × More
+given-fits most More None n (given, e, h) a = absurd (cc)
+given-fits most More (Some text) n (given, e, h) (a, more) =
     let same : ◌≡◌ {A = Text} text given = cc in
-    let fits = subst (λ k. (1 ≤ k) × (k ≤ 16)) (sym (subst (λ t. IsNumber t a.0) same a.1).value ∙ h.value) (a.2, a.3) in
-    (fits.0, fits.1, subst IsSome (sym k) some)
+    let fits = subst (λ k. (1 ≤ k) × (k ≤ most)) (sym (subst (λ t. IsNumber t a.0) same a.1).value ∙ h.value) (a.2, a.3) in
+    (fits.0, fits.1, more)
 
-threads-few : (rows : List Row) (threads : Option ℕ) (keep : Option Text) → MayBeGiven rows (codes "threads") threads
-    → keep ≡ first_of (codes "record") rows → ((field : Field) → Allows rows field)
+threads-few : (verb : Verb) (rows : List Row) (threads : Option ℕ) (keep : Option Text) → MayBeGiven rows (codes "threads") threads
+    → keep ≡ first_of (codes "record") rows → ((field : Field) → AllowsIn verb rows field)
     → IfSome threads (λ t. (1 ≤ t) × (t ≤ 16) × IsSome keep)
-threads-few rows None keep given kept every = tt
-threads-few rows (Some t) keep given kept every =
-    threads-fit (first_of (codes "threads") rows) (first_of (codes "record") rows) keep t given kept (every Threads)
+threads-few verb rows None keep given kept every = tt
+threads-few verb rows (Some t) keep given kept every =
+    let fits = given-fits 16 (IsSome (first_of (codes "record") rows)) (first_of (codes "threads") rows) t given (every Threads) in
+    (fits.0, fits.1, subst IsSome (sym kept) fits.2)
 
 -- a number of acts is 1, or was given from 1 to 1024
 batch-fits : (text threads : Option Text) (n : ℕ) → IsValue 1 text n
@@ -91,9 +106,9 @@ batch-fits None threads n h a =
     (omega (arith, one), omega (arith, one))
 batch-fits (Some text) threads n h (a, some) = subst (λ k. (1 ≤ k) × (k ≤ 1024)) (sym a.1.value ∙ h.value) (a.2, a.3)
 
-images-some : (rows : List Row) (images : List Text) → images ≡ images_of rows → 1 ≤ length (images_of rows)
-    → ((field : Field) → Allows rows field) → (1 ≤ length images) × (length images ≤ 16)
-images-some rows images is some every = subst (λ names. (1 ≤ length names) × (length names ≤ 16)) (sym is) (some, every Images)
+images-some : (verb : Verb) (rows : List Row) (images : List Text) → images ≡ images_of rows → 1 ≤ length (images_of rows)
+    → ((field : Field) → AllowsIn verb rows field) → (1 ≤ length images) × (length images ≤ 16)
+images-some verb rows images is some every = subst (λ names. (1 ≤ length names) × (length names ≤ 16)) (sym is) (some, every Images)
 
 -- the bus's words have no directories
 no-dirs : (words : List Text) → first_of (codes "dirs") (matches_of (grammar Bus) words) ≡ None
@@ -115,9 +130,10 @@ has-none : (verb : Verb) (words : List Text) (rows : List Row) → matches_of (g
 has-none Bus words rows read = subst (λ r. first_of (codes "dirs") r ≡ None) read (no-dirs words)
 has-none _ words rows read = tt
 
-source-few : (rows : List Row) (s : Source) → AsksSource rows s → ((field : Field) → Allows rows field) → IsFew s
-source-few rows (source.Seed steps seed) a every = steps-few rows steps a.1 every
-source-few rows (source.Schedule name) a every = tt
+source-few : (verb : Verb) (rows : List Row) (v : View) (s : Source) → AsksView verb rows v → AsksSource rows s
+    → ((field : Field) → AllowsIn verb rows field) → IsFew v s
+source-few verb rows v (source.Seed steps seed) b a every = few-of verb rows v steps b (steps-few verb rows steps a.1 every)
+source-few verb rows v (source.Schedule name) b a every = tt
 
 number-near : (default : ℕ) (text : Option Text) (n : ℕ) → IsValue default text n → ((m : ℕ) × IsValue default text m × (m ≤ text_limit))
     → n ≤ text_limit
@@ -127,65 +143,80 @@ some-of : (default : ℕ) (text : Option Text) (n : ℕ) → IsValue default tex
     → ((m : ℕ) × IsValue default text m × (1 ≤ m) × (m ≤ text_limit)) → 1 ≤ n
 some-of default text n h a = subst (λ k. 1 ≤ k) (one-value default text a.0 n a.1 h) a.2
 
-view-near : (verb : Verb) (rows : List Row) (v : View) → AsksView verb rows v → ((field : Field) → Allows rows field) → IsNear v
+every-near : (verb : Verb) (rows : List Row) (n : ℕ) → IsGiven rows (codes "every") n → ((field : Field) → AllowsIn verb rows field)
+    → (1 ≤ n) × (n ≤ count_limit) × (IsFlagged (codes "bus") rows → ⊥)
+every-near verb rows n given every =
+    given-fits count_limit (IsFlagged (codes "bus") rows → ⊥) (first_of (codes "every") rows) n given (every Every)
+
+view-near : (verb : Verb) (rows : List Row) (v : View) → AsksView verb rows v → ((field : Field) → AllowsIn verb rows field) → IsNear v
 view-near Trace rows (view.Trace from to states) a every = (
   number-near 0 (first_of (codes "from") rows) from a.0 (every From),
   number-near text_limit (first_of (codes "to") rows) to a.1 (every To),
 )
 view-near Count rows (view.Count csv) a every = tt
+view-near Count rows (view.Rows n) a every = let near = every-near Count rows n a every in (near.0, near.1)
 view-near State rows (view.State events) a every = number-near text_limit (first_of (codes "events") rows) events a (every Events)
 view-near _ rows v a every = absurd a
 
+view-near-on-bus : (verb : Verb) (rows : List Row) (v : View) → IsFlagged (codes "bus") rows → AsksView verb rows v
+    → ((field : Field) → AllowsIn verb rows field) → IsNearOnBus v
+view-near-on-bus Count rows (view.Rows n) bus a every = (every-near Count rows n a every).2 bus
+view-near-on-bus verb rows (view.Trace from to states) bus a every = view-near verb rows (view.Trace from to states) a every
+view-near-on-bus verb rows (view.Count csv) bus a every = view-near verb rows (view.Count csv) a every
+view-near-on-bus verb rows (view.State events) bus a every = view-near verb rows (view.State events) a every
+view-near-on-bus _ rows (view.Rows n) bus a every = absurd a
+
 looking : (verb : Verb) (rows : List Row) (v : View) (c : Command) → (1 ≤ length (images_of rows)) × GoTogether rows
-    → ((field : Field) → Allows rows field) → AsksLook rows v c → AsksView verb rows v → IsInBounds c
+    → ((field : Field) → AllowsIn verb rows field) → AsksLook rows v c → AsksView verb rows v → IsInBounds c
 looking verb rows v (command.Look machine images source view) places every a b =
-    let some = images-some rows images a.2 places.0 every in
+    let some = images-some verb rows images a.2 places.0 every in
+    let few = subst (λ w. IsFew w source) (sym a.4) (source-few verb rows v source b a.3 every) in
     let near = subst IsNear (sym a.4) (view-near verb rows v b every) in
-    record { allowed = allowed rows machine.config a.1.0 every; numbers = (some.0, some.1, source-few rows source a.3 every, near) }
+    record { allowed = allowed verb rows machine.config a.1.0 every; numbers = (some.0, some.1, few, near) }
 looking verb rows v (command.LookOnBus machine images steps seed view) places every a b =
-    let some = images-some rows images a.2 places.0 every in
-    let few = steps-few rows steps a.3 every in
+    let some = images-some verb rows images a.2 places.0 every in
+    let few = few-on-bus verb rows v steps a.0 b (steps-few verb rows steps a.3 every) in
     let one = one-dir rows machine.config.dirs (places.1.bus a.0) a.1.0.dirs in
-    let near = subst IsNear (sym a.5) (view-near verb rows v b every) in
-    record { allowed = allowed rows machine.config a.1.0 every; numbers = (some.0, some.1, few, one, near) }
+    let near = subst IsNearOnBus (sym a.5) (view-near-on-bus verb rows v a.0 b every) in
+    record { allowed = allowed verb rows machine.config a.1.0 every; numbers = (some.0, some.1, few, one, near) }
 looking verb rows v _ places every a b = absurd a
 
-bounded : (verb : Verb) (rows : List Row) (c : Command) → HasPlaces verb rows → HasNone verb rows → ((field : Field) → Allows rows field)
-    → Asks verb rows c → IsInBounds c
+bounded : (verb : Verb) (rows : List Row) (c : Command) → HasPlaces verb rows → HasNone verb rows
+    → ((field : Field) → AllowsIn verb rows field) → Asks verb rows c → IsInBounds c
 bounded Run rows (command.Run machine images steps seed threads batch keep) places none every a =
-    let some = images-some rows images a.1 places every in
-    let few = threads-few rows threads keep a.4 a.6 every in
+    let some = images-some Run rows images a.1 places every in
+    let few = threads-few Run rows threads keep a.4 a.6 every in
     let acts = batch-fits (first_of (codes "batch") rows) (first_of (codes "threads") rows) batch a.5 (every Batch) in
     record {
-      allowed = allowed rows machine.config a.0.0 every;
-      numbers = (some.0, some.1, steps-few rows steps a.2 every, few, acts.0, acts.1);
+      allowed = allowed Run rows machine.config a.0.0 every;
+      numbers = (some.0, some.1, steps-few Run rows steps a.2 every, few, acts.0, acts.1);
     }
 bounded Replay rows (command.Replay machine schedule images) places none every a =
-    record { allowed = allowed rows machine.config a.0.0 every; numbers = images-some rows images a.2 places.1 every }
+    record { allowed = allowed Replay rows machine.config a.0.0 every; numbers = images-some Replay rows images a.2 places.1 every }
 bounded Serial rows (command.Serial machine list images) places none every a =
-    record { allowed = allowed rows machine.config a.0.0 every; numbers = images-some rows images a.2 places.1 every }
+    record { allowed = allowed Serial rows machine.config a.0.0 every; numbers = images-some Serial rows images a.2 places.1 every }
 bounded Trial rows (command.Trial config work number steps seed) places none every a =
     let some = number-fits (first_of (codes "number") rows) number a.2 (every Number) in
-    record { allowed = allowed rows config a.0 every; numbers = (some.0, some.1, steps-few rows steps a.3 every) }
+    record { allowed = allowed Trial rows config a.0 every; numbers = (some.0, some.1, steps-few Trial rows steps a.3 every) }
 bounded Why rows (command.Why machine schedule images) places none every a =
-    record { allowed = allowed rows machine.config a.0.0 every; numbers = images-some rows images a.2 places.1 every }
+    record { allowed = allowed Why rows machine.config a.0.0 every; numbers = images-some Why rows images a.2 places.1 every }
 bounded Phases rows (command.Phases machine images steps seed keep) places none every a =
-    let some = images-some rows images a.1 places every in
-    record { allowed = allowed rows machine.config a.0.0 every; numbers = (some.0, some.1, steps-few rows steps a.2 every) }
+    let some = images-some Phases rows images a.1 places every in
+    record { allowed = allowed Phases rows machine.config a.0.0 every; numbers = (some.0, some.1, steps-few Phases rows steps a.2 every) }
 bounded Bus rows (command.Bus machine images steps seed) places none every a =
-    let some = images-some rows images a.1 places every in
+    let some = images-some Bus rows images a.1 places every in
     let one = one-dir rows machine.config.dirs none a.0.0.dirs in
-    record { allowed = allowed rows machine.config a.0.0 every; numbers = (some.0, some.1, steps-few rows steps a.2 every, one) }
+    record { allowed = allowed Bus rows machine.config a.0.0 every; numbers = (some.0, some.1, steps-few Bus rows steps a.2 every, one) }
 bounded Trace rows c places none every a = looking Trace rows a.0 c places every a.1 a.2
 bounded Count rows c places none every a = looking Count rows a.0 c places every a.1 a.2
 bounded State rows c places none every a = looking State rows a.0 c places every a.1 a.2
 bounded Outcomes rows (command.Outcomes machine images limits tell) places none every a =
-    let some = images-some rows images a.1 places every in
+    let some = images-some Outcomes rows images a.1 places every in
     let states = some-of 1000000 (first_of (codes "states") rows) limits.states a.2 (every States) in
     let longest = some-of 100000 (first_of (codes "longest") rows) limits.longest a.3 (every Longest) in
-    record { allowed = allowed rows machine.config a.0.0 every; numbers = (some.0, some.1, states, longest) }
+    record { allowed = allowed Outcomes rows machine.config a.0.0 every; numbers = (some.0, some.1, states, longest) }
 bounded Follow rows (command.Follow machine list images keep) places none every a =
-    record { allowed = allowed rows machine.config a.0.0 every; numbers = images-some rows images a.2 places.1 every }
+    record { allowed = allowed Follow rows machine.config a.0.0 every; numbers = images-some Follow rows images a.2 places.1 every }
 bounded Run rows _ places none every a = absurd a
 bounded Replay rows _ places none every a = absurd a
 bounded Serial rows _ places none every a = absurd a

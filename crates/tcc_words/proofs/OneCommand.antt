@@ -7,11 +7,11 @@ use Rattle.tcc_base.specs.Settings.{Settings}
 use Rattle.work_gen.specs.Names.{work_word}
 use Rattle.work_gen.specs.declared.work.Work.{Work}
 use Rattle.work_gen.specs.declared.work.Work.TheVariants.{Counters, Transfers, Stencil, Sharing}
-use Rattle.tcc_words.specs.Asked.{Asks, AsksLook, AsksSource, AsksView, HasMachine, HasSettings, HasTell, IsFlagged, IsGiven, MayBeGiven}
+use Rattle.tcc_words.specs.Asked.{Asks, AsksLook, AsksSource, AsksView, HasMachine, HasSettings, HasTell, IsGiven, MayBeGiven}
 use Rattle.tcc_words.specs.Asked.{Stands}
 use Rattle.run_outcomes.specs.declared.outcomes.Tell.{Tell}
 use Rattle.run_outcomes.specs.declared.outcomes.Tell.TheVariants.{Consoles, Memory, Everything}
-use Rattle.tcc_words.specs.Fields.{Allows, BreaksFirst, IsSaid, IsValue, default_of, field_word, order, tell_word}
+use Rattle.tcc_words.specs.Fields.{AllowsIn, BreaksFirst, IsFlagged, IsSaid, IsValue, default_of, field_word, order, tell_word}
 use Rattle.tcc_words.specs.Grammar.{grammar}
 use Rattle.tcc_words.specs.Laws.{CommandsAreNotRefused, WordsAskForOneCommand}
 use Rattle.tcc_words.specs.Numbers.{IsNumber}
@@ -192,11 +192,16 @@ one-view Trace rows (view.Trace from to states) (view.Trace from' to' states') a
     let records = same-truth (IsFlagged (codes "records") rows) states states' a.2 b.2 in
     λ i. view.Trace (first i) (last i) (records i)
 one-view Count rows (view.Count csv) (view.Count csv') a b =
-    ap (λ (c : Bool). view.Count c) (same-truth (IsFlagged (codes "csv") rows) csv csv' a b)
+    ap (λ (c : Bool). view.Count c) (same-truth (IsFlagged (codes "csv") rows) csv csv' a.1 b.1)
+one-view Count rows (view.Rows every) (view.Rows every') a b =
+    ap (λ (n : ℕ). view.Rows n) (one-given rows (codes "every") every every' a b)
+one-view Count rows (view.Count csv) (view.Rows every) a b = let none = a.0 in let there = b.1 in absurd cc
+one-view Count rows (view.Rows every) (view.Count csv) a b = let none = b.0 in let there = a.1 in absurd cc
 one-view State rows (view.State events) (view.State events') a b =
     ap (λ (n : ℕ). view.State n) (one-said rows Events events events' a b)
 one-view Trace rows (view.Trace from to states) _ a b = absurd b
 one-view Count rows (view.Count csv) _ a b = absurd b
+one-view Count rows (view.Rows every) _ a b = absurd b
 one-view State rows (view.State events) _ a b = absurd b
 one-view _ rows v w a b = absurd a
 
@@ -288,14 +293,17 @@ one-command words c d a b =
 
 -- ---- not refused
 
-none-breaks : (rows : List Row) (fields : List Field) (field : Field) → ((f : Field) → Allows rows f) → BreaksFirst rows fields field → ⊥
-none-breaks rows [] field allowed b = b
-none-breaks rows (f ∷ later) field allowed (inl b) = b.1 (allowed f)
-none-breaks rows (f ∷ later) field allowed (inr b) = none-breaks rows later field allowed b.1
+none-breaks : (verb : Verb) (rows : List Row) (fields : List Field) (field : Field) → ((f : Field) → AllowsIn verb rows f)
+    → BreaksFirst (AllowsIn verb rows) fields field → ⊥
+none-breaks verb rows [] field allowed b = b
+none-breaks verb rows (f ∷ later) field allowed (inl b) = b.1 (allowed f)
+none-breaks verb rows (f ∷ later) field allowed (inr b) = none-breaks verb rows later field allowed b.1
 
 pub not-refused : CommandsAreNotRefused
 not-refused words c fault.Words a f = absurd (f a.verb a.rows a.stands)
 not-refused words c (fault.Value field) a f =
     let same = one-reading words a.verb f.0 a.rows f.1 a.stands f.2 in
-    absurd (none-breaks a.rows order field a.allowed (subst (λ (r : List Row). BreaksFirst r order field) same.1 f.3))
+    absurd (none-breaks a.verb a.rows order field a.allowed
+    (subst (λ (r : List Row). BreaksFirst (AllowsIn a.verb r) order field) same.1
+    (subst (λ (v : Verb). BreaksFirst (AllowsIn v f.1) order field) same.0 f.3)))
 not-refused words c fault.Memory a f = refl

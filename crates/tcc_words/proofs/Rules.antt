@@ -79,11 +79,11 @@ pub trace_made : (verb : Verb) (name : Text) (bare source from to states made : 
 unfolding grammar
 trace_made verb name bare source from to states made v n e0 e1 e2 e3 e4 e5 = rw (e5, e4, e3, e2, e1, e0, n, v) refl
 
-pub count_made : (verb : Verb) (name : Text) (bare source csv made : App) → verb ≡ Count → name ≡ verb_word verb
+pub count_made : (verb : Verb) (name : Text) (bare source csv every made : App) → verb ≡ Count → name ≡ verb_word verb
     → bare ≡ plain name [] → source ≡ with_rules source_rules bare → csv ≡ with_rule source (flag (codes "csv") (codes "csv"))
-    → made ≡ with_rule csv (places (codes "image")) → made ≡ grammar verb
+    → every ≡ with_rule csv (option (codes "every")) → made ≡ with_rule every (places (codes "image")) → made ≡ grammar verb
 unfolding grammar
-count_made verb name bare source csv made v n e0 e1 e2 e3 = rw (e3, e2, e1, e0, n, v) refl
+count_made verb name bare source csv every made v n e0 e1 e2 e3 e4 = rw (e4, e3, e2, e1, e0, n, v) refl
 
 pub state_made : (verb : Verb) (name : Text) (bare source events made : App) → verb ≡ State → name ≡ verb_word verb
     → bare ≡ plain name [] → source ≡ with_rules source_rules bare → events ≡ with_rule source (option (codes "events"))

@@ -7,7 +7,7 @@ use Rattle.tcc_base.specs.Settings.{Settings}
 use Rattle.tcc_words.specs.Numbers.{IsNumber}
 use Rattle.tcc_words.specs.Grammar.{grammar, verb_word}
 use Rattle.work_gen.specs.Names.{work_word}
-use Rattle.tcc_words.specs.Fields.{Allows, BreaksFirst, IsSaid, images_of, order, tell_word}
+use Rattle.tcc_words.specs.Fields.{AllowsIn, BreaksFirst, IsFlagged, IsSaid, images_of, order, tell_word}
 use Rattle.run_outcomes.specs.declared.outcomes.Tell.{Tell}
 use Rattle.work_gen.specs.declared.work.Work.{Work}
 use Rattle.tcc_words.specs.declared.fields.Values.{Values}
@@ -26,10 +26,6 @@ use Rattle.tcc_words.specs.declared.command.View.{View}
 use Rattle.tcc_words.specs.declared.command.View.TheVariants as view
 use Rattle.tcc_words.specs.declared.command.WordsFault.{WordsFault}
 use Rattle.tcc_words.specs.declared.command.WordsFault.TheVariants as fault
-
--- an option without a value stands there, which is kept under the name
-abbrev pub IsFlagged : (name : Text) → List Row → Type 0
-IsFlagged name rows = first_of name rows ≡ Some (codes "true")
 
 -- a schedule stands with neither a number of events nor a seed nor the bus, and the bus without directories
 pub record GoTogether (rows : List Row) : Type 0 where
@@ -106,7 +102,8 @@ AsksLook rows v _ = ⊥
 abbrev pub AsksView : Verb → List Row → View → Type 0
 AsksView Trace rows (view.Trace from to states) =
     IsSaid rows From from × IsSaid rows To to × (IsTrue states ↔ IsFlagged (codes "records") rows)
-AsksView Count rows (view.Count csv) = IsTrue csv ↔ IsFlagged (codes "csv") rows
+AsksView Count rows (view.Count csv) = (first_of (codes "every") rows ≡ None) × (IsTrue csv ↔ IsFlagged (codes "csv") rows)
+AsksView Count rows (view.Rows every) = IsGiven rows (codes "every") every
 AsksView State rows (view.State events) = IsSaid rows Events events
 AsksView _ rows v = ⊥
 
@@ -140,7 +137,7 @@ Asks Follow rows (command.Follow machine report images keep) =
     × (keep ≡ first_of (codes "record") rows)
 Asks _ _ _ = ⊥
 
--- what stands in the fields, where all of it is allowed
+-- what stands in the fields
 pub record HasValues (rows : List Row) (v : Values) : Type 0 where
   pub settings : HasSettings rows v.config
   pub steps : IsSaid rows Steps v.steps
@@ -148,6 +145,7 @@ pub record HasValues (rows : List Row) (v : Values) : Type 0 where
   pub from : IsSaid rows From v.from
   pub to : IsSaid rows To v.to
   pub events : IsSaid rows Events v.events
+  pub every : MayBeGiven rows (codes "every") v.every
   pub states : IsSaid rows States v.states
   pub longest : IsSaid rows Longest v.longest
   pub tell : HasTell rows v.tell
@@ -155,22 +153,22 @@ pub record HasValues (rows : List Row) (v : Values) : Type 0 where
   pub batch : IsSaid rows Batch v.batch
   pub work : HasWork rows v.work
   pub number : MayBeGiven rows (codes "number") v.number
-  pub allowed : (field : Field) → Allows rows field
 
 -- this field is the faulty one
-abbrev pub IsFaulty : List Row → Field → Field → Type 0
-IsFaulty rows f field = (field ≡ f) × (Allows rows f → ⊥)
+abbrev pub IsFaulty : (IsAllowed : Field → Type 0) → Field → Field → Type 0
+IsFaulty IsAllowed f field = (field ≡ f) × (IsAllowed f → ⊥)
 
 -- the words ask for this command, and all that stands in its fields is allowed
 pub record IsCommand (words : List Text) (c : Command) : Type 0 where
   pub verb : Verb
   pub rows : List Row
   pub stands : Stands words verb rows
-  pub allowed : (field : Field) → Allows rows field
+  pub allowed : (field : Field) → AllowsIn verb rows field
   pub asks : Asks verb rows c
 
 -- why words are refused: they don't stand as a command's words do, or the first field in which something stands that isn't allowed
 abbrev pub IsRefused : List Text → WordsFault → Type 0
 IsRefused words fault.Words = (verb : Verb) (rows : List Row) → Stands words verb rows → ⊥
-IsRefused words (fault.Value field) = (verb : Verb) × (rows : List Row) × Stands words verb rows × BreaksFirst rows order field
+IsRefused words (fault.Value field) =
+    (verb : Verb) × (rows : List Row) × Stands words verb rows × BreaksFirst (AllowsIn verb rows) order field
 IsRefused words fault.Memory = Unit {0}

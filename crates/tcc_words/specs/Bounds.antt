@@ -1,16 +1,17 @@
 -- The numbers of a command are within their bounds.
-use Rattle.std.specs.Prelude.{◌≡◌, ◌≤◌, List, length, IfSome, IsSome}
+use Rattle.std.specs.Prelude.{ℕ, ◌≡◌, ◌≤◌, List, length, IfSome, IsSome}
 use Rattle.clap.specs.Words.{Text}
 use Rattle.tcc_base.specs.Limits.{text_limit}
 use Rattle.tcc_base.specs.Settings.{Settings, IsAllowed}
 use Rattle.tcc_words.specs.Asked.{IsCommand}
+use Rattle.tcc_words.specs.Fields.{count_limit}
 use Rattle.tcc_words.specs.declared.command.Command.{Command}
 use Rattle.tcc_words.specs.declared.command.Command.TheVariants.{Run, Replay, Serial, Trial, Why, Phases, Bus, Look}
 use Rattle.tcc_words.specs.declared.command.Command.TheVariants.{LookOnBus, Outcomes, Follow}
 use Rattle.tcc_words.specs.declared.command.Source.{Source}
 use Rattle.tcc_words.specs.declared.command.Source.TheVariants.{Seed, Schedule}
 use Rattle.tcc_words.specs.declared.command.View.{View}
-use Rattle.tcc_words.specs.declared.command.View.TheVariants.{Trace, Count, State}
+use Rattle.tcc_words.specs.declared.command.View.TheVariants.{Trace, Count, Rows, State}
 
 abbrev pub config_of : Command → Settings
 config_of (Run machine images steps seed threads batch keep) = machine.config
@@ -25,18 +26,29 @@ config_of (LookOnBus machine images steps seed view) = machine.config
 config_of (Outcomes machine images limits tell) = machine.config
 config_of (Follow machine list images keep) = machine.config
 
--- at most 4,194,304 events
-abbrev pub IsFew : Source → Type 0
-IsFew (Seed steps seed) = steps ≤ text_limit
-IsFew (Schedule name) = Unit {0}
+-- so many events of a run that is looked at by a seed: 2^40 where it is counted, and else 4,194,304
+abbrev pub most_steps : View → ℕ
+most_steps (Count csv) = count_limit
+most_steps (Rows every) = count_limit
+most_steps _ = text_limit
+
+abbrev pub IsFew : View → Source → Type 0
+IsFew view (Seed steps seed) = steps ≤ most_steps view
+IsFew view (Schedule name) = Unit {0}
 
 abbrev pub IsNear : View → Type 0
 IsNear (Trace from to states) = (from ≤ text_limit) × (to ≤ text_limit)
 IsNear (Count csv) = Unit {0}
+IsNear (Rows every) = (1 ≤ every) × (every ≤ count_limit)
 IsNear (State events) = events ≤ text_limit
 
--- 1 to 16 images, at most 4,194,304 events, 1 to 16 threads and only with a record, 1 to 1024 acts in a turn, a workload's number from 1
--- to 2047; where there are no directories the settings have one; at least one state, and one instruction
+-- and on the bus no totals are told as it goes
+abbrev pub IsNearOnBus : View → Type 0
+IsNearOnBus (Rows every) = ⊥
+IsNearOnBus view = IsNear view
+
+-- 1 to 16 images, at most 4,194,304 events but where they are counted, 1 to 16 threads and only with a record, 1 to 1024 acts in a turn,
+-- a workload's number from 1 to 2047; where there are no directories the settings have one; at least one state, and one instruction
 abbrev pub AreNumbers : Command → Type 0
 AreNumbers (Run machine images steps seed threads batch keep) =
     (1 ≤ length images) × (length images ≤ 16) × (steps ≤ text_limit) × IfSome threads (λ t. (1 ≤ t) × (t ≤ 16) × IsSome keep)
@@ -48,9 +60,9 @@ AreNumbers (Why machine schedule images) = (1 ≤ length images) × (length imag
 AreNumbers (Phases machine images steps seed keep) = (1 ≤ length images) × (length images ≤ 16) × (steps ≤ text_limit)
 AreNumbers (Bus machine images steps seed) =
     (1 ≤ length images) × (length images ≤ 16) × (steps ≤ text_limit) × (machine.config.dirs ≡ 1)
-AreNumbers (Look machine images source view) = (1 ≤ length images) × (length images ≤ 16) × IsFew source × IsNear view
+AreNumbers (Look machine images source view) = (1 ≤ length images) × (length images ≤ 16) × IsFew view source × IsNear view
 AreNumbers (LookOnBus machine images steps seed view) =
-    (1 ≤ length images) × (length images ≤ 16) × (steps ≤ text_limit) × (machine.config.dirs ≡ 1) × IsNear view
+    (1 ≤ length images) × (length images ≤ 16) × (steps ≤ text_limit) × (machine.config.dirs ≡ 1) × IsNearOnBus view
 AreNumbers (Outcomes machine images limits tell) =
     (1 ≤ length images) × (length images ≤ 16) × (1 ≤ limits.states) × (1 ≤ limits.longest)
 AreNumbers (Follow machine list images keep) = (1 ≤ length images) × (length images ≤ 16)

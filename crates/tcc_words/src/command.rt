@@ -104,6 +104,8 @@ pub enum View {
     Trace { from: u64, to: u64, states: bool },
     /// How often what happened; with `csv` the totals alone, as two rows for a table.
     Count { csv: bool },
+    /// The totals as rows for a table while the run goes on, one after each `every` events.
+    Rows { every: u64 },
     /// The state after at most so many events.
     State { events: u64 },
 }
@@ -212,7 +214,7 @@ pub enum Field {
     Ram,
     /// A multiple of 32, with base + RAM at most 2^32.
     Base,
-    /// 0 to 4,194,304 events.
+    /// 0 to 4,194,304 events; where they are counted, but not on the bus, to 2^40.
     Steps,
     /// Any number.
     Seed,
@@ -222,6 +224,8 @@ pub enum Field {
     To,
     /// 0 to 4,194,304 events.
     Events,
+    /// 1 to 2^40 events, and not on the bus.
+    Every,
     /// 1 to 4,194,304 states.
     States,
     /// 1 to 4,194,304 instructions of a transaction.
@@ -257,6 +261,7 @@ impl Field {
             Field::From => "from",
             Field::To => "to",
             Field::Events => "events",
+            Field::Every => "every",
             Field::States => "states",
             Field::Longest => "longest",
             Field::Tell => "tell",

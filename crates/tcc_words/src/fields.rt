@@ -1,14 +1,15 @@
 // The fields of a command as numbers, names and settings, in the order in which they are tested.
-ghost use Rattle.std.specs.Prelude.{◌≡◌, ◌≢◌, ℕ, [], ◌∷◌, codes, map, option_map, IfOk, IfErr, MatchOption};
+ghost use Rattle.std.specs.Prelude.{◌≡◌, ◌≢◌, ◌≤◌, ◌↔◌, ℕ, [], ◌∷◌, codes, map, option_map, IfOk, IfErr, IsTrue, MatchOption};
 ghost use Rattle.clap.specs.Words.{all_of, first_of, found_of, rows_of};
 ghost use Rattle.tcc_base.specs.Settings.{IsAllowed};
-ghost use Rattle.tcc_words.specs.Fields.{Allows, BreaksFirst, IsSaid, images_of, machine_fields, order, tell_word};
+ghost use Rattle.tcc_words.specs.Fields.{Allows, AllowsIn, AreFew, BreaksFirst, IsFlagged, IsSaid, count_limit, images_of};
+ghost use Rattle.tcc_words.specs.Fields.{machine_fields, order, tell_word};
 ghost use Rattle.tcc_words.specs.Asked.{HasSettings, HasTell, HasValues, HasWork, IsFaulty, MayBeGiven};
-ghost use Rattle.tcc_words.specs.declared.command.Field.TheVariants.{Steps, Seed, From, To, Events, States, Longest};
+ghost use Rattle.tcc_words.specs.declared.command.Field.TheVariants.{Steps, Seed, From, To, Events, Every, States, Longest};
 ghost use Rattle.tcc_words.specs.declared.command.Field.TheVariants.{Tell as TellField};
 ghost use Rattle.tcc_words.specs.declared.command.Field.TheVariants.{Threads, Batch, Images, Kind, Number};
 
-use crate::command::Field;
+use crate::command::{Field, Verb};
 use crate::numbers::number;
 use clap::ArgMatches;
 use run_outcomes::Tell;
@@ -17,6 +18,9 @@ use work_gen::{MAX_NUMBER, Work};
 
 /// The largest number of events, and of a list's transactions and of the instructions of each: `serial` takes no more.
 const MAX_STEPS: u64 = 4_194_304;
+
+/// The largest number of events of a run that is counted, as many as the machine with directories takes: 2^40.
+pub const MAX_COUNTED: u64 = 1_099_511_627_776;
 
 /// The largest number of host threads.
 const MAX_THREADS: u64 = 16;
@@ -36,6 +40,7 @@ pub struct Values {
     pub from: u64,
     pub to: u64,
     pub events: u64,
+    pub every: Option<u64>,
     pub states: usize,
     pub longest: u32,
     pub tell: Tell,
@@ -59,17 +64,26 @@ pub fn images<'b, 'a>(matches: &'b ArgMatches<'a>) -> Option<&'b [&'a str]>
     matches.get_strs("image")
 }
 
-/// What stands in the fields, or the first of them in which something stands that isn't allowed. Takes no memory.
-pub fn read_values(matches: &ArgMatches) -> Result<Values, Field>
+/// Whether the option without a value stands there that is kept under the name.
+pub fn is_flagged(matches: &ArgMatches, name: &str) -> bool
+    ensures { IsTrue result ↔ IsFlagged name.now (rows_of (found_of matches.now)) }
+{
+    text(matches, name) == Some("true")
+}
+
+/// What stands in the fields of this command, or the first of them in which something stands that isn't allowed. Takes no memory.
+pub fn read_values(verb: Verb, matches: &ArgMatches) -> Result<Values, Field>
     ensures values { IfOk result (HasValues (rows_of (found_of matches.now))) }
-    ensures first { IfErr result (BreaksFirst (rows_of (found_of matches.now)) order) }
+    ensures allowed { IfOk result (λ _. (field : Field) → AllowsIn verb (rows_of (found_of matches.now)) field) }
+    ensures first { IfErr result (BreaksFirst (AllowsIn verb (rows_of (found_of matches.now))) order) }
 {
     let config = config(matches)?;
-    let steps = steps(matches)?;
+    let steps = steps(verb, matches)?;
     let seed = seed(matches)?;
     let from = from(matches)?;
     let to = to(matches)?;
     let events = events(matches)?;
+    let every = every(matches)?;
     let states = states(matches)?;
     let longest = longest(matches)?;
     let tell = tell(matches)?;
@@ -83,6 +97,7 @@ pub fn read_values(matches: &ArgMatches) -> Result<Values, Field>
         from,
         to,
         events,
+        every,
         states,
         longest,
         tell,
@@ -97,7 +112,7 @@ pub fn read_values(matches: &ArgMatches) -> Result<Values, Field>
 fn config(matches: &ArgMatches) -> Result<Config, Field>
     ensures settings { IfOk result (HasSettings (rows_of (found_of matches.now))) }
     ensures allowed { IfOk result IsAllowed }
-    ensures first { IfErr result (BreaksFirst (rows_of (found_of matches.now)) machine_fields) }
+    ensures first { IfErr result (BreaksFirst (Allows (rows_of (found_of matches.now))) machine_fields) }
 {
     // Where no number stands, one that no limit allows: 0, and for the base 1.
     let cores = said_or(matches, Field::Cores, 0);
@@ -128,14 +143,25 @@ fn said_or(matches: &ArgMatches, field: Field, other: u64) -> u64
     }
 }
 
+/// The number of events at most: `count` takes more than a schedule's text has, but not on the bus.
+fn most_steps(verb: Verb, matches: &ArgMatches) -> u64
+    ensures few { (n : ℕ) → (n ≤ result) ↔ AreFew verb (rows_of (found_of matches.now)) n }
+    ensures most { result ≤ count_limit }
+{
+    match verb {
+        Verb::Count if !is_flagged(matches, "bus") => MAX_COUNTED,
+        _ => MAX_STEPS,
+    }
+}
+
 /// The number of events.
-fn steps(matches: &ArgMatches) -> Result<u64, Field>
+fn steps(verb: Verb, matches: &ArgMatches) -> Result<u64, Field>
     ensures said { IfOk result (IsSaid (rows_of (found_of matches.now)) Steps) }
-    ensures allowed { IfOk result (λ _. Allows (rows_of (found_of matches.now)) Steps) }
-    ensures faulty { IfErr result (IsFaulty (rows_of (found_of matches.now)) Steps) }
+    ensures allowed { IfOk result (λ _. AllowsIn verb (rows_of (found_of matches.now)) Steps) }
+    ensures faulty { IfErr result (IsFaulty (AllowsIn verb (rows_of (found_of matches.now))) Steps) }
 {
     let steps = said_or(matches, Field::Steps, u64::MAX);
-    if steps <= MAX_STEPS {
+    if steps <= most_steps(verb, matches) {
         Ok(steps)
     } else {
         Err(Field::Steps)
@@ -146,7 +172,7 @@ fn steps(matches: &ArgMatches) -> Result<u64, Field>
 fn from(matches: &ArgMatches) -> Result<u64, Field>
     ensures said { IfOk result (IsSaid (rows_of (found_of matches.now)) From) }
     ensures allowed { IfOk result (λ _. Allows (rows_of (found_of matches.now)) From) }
-    ensures faulty { IfErr result (IsFaulty (rows_of (found_of matches.now)) From) }
+    ensures faulty { IfErr result (IsFaulty (Allows (rows_of (found_of matches.now))) From) }
 {
     let from = said_or(matches, Field::From, u64::MAX);
     if from <= MAX_STEPS {
@@ -160,7 +186,7 @@ fn from(matches: &ArgMatches) -> Result<u64, Field>
 fn to(matches: &ArgMatches) -> Result<u64, Field>
     ensures said { IfOk result (IsSaid (rows_of (found_of matches.now)) To) }
     ensures allowed { IfOk result (λ _. Allows (rows_of (found_of matches.now)) To) }
-    ensures faulty { IfErr result (IsFaulty (rows_of (found_of matches.now)) To) }
+    ensures faulty { IfErr result (IsFaulty (Allows (rows_of (found_of matches.now))) To) }
 {
     let to = said_or(matches, Field::To, u64::MAX);
     if to <= MAX_STEPS {
@@ -174,7 +200,7 @@ fn to(matches: &ArgMatches) -> Result<u64, Field>
 fn events(matches: &ArgMatches) -> Result<u64, Field>
     ensures said { IfOk result (IsSaid (rows_of (found_of matches.now)) Events) }
     ensures allowed { IfOk result (λ _. Allows (rows_of (found_of matches.now)) Events) }
-    ensures faulty { IfErr result (IsFaulty (rows_of (found_of matches.now)) Events) }
+    ensures faulty { IfErr result (IsFaulty (Allows (rows_of (found_of matches.now))) Events) }
 {
     let events = said_or(matches, Field::Events, u64::MAX);
     if events <= MAX_STEPS {
@@ -184,11 +210,26 @@ fn events(matches: &ArgMatches) -> Result<u64, Field>
     }
 }
 
+/// The number of events after each of which a row of totals is told, where it is given.
+fn every(matches: &ArgMatches) -> Result<Option<u64>, Field>
+    ensures given { IfOk result (MayBeGiven (rows_of (found_of matches.now)) (codes "every")) }
+    ensures allowed { IfOk result (λ _. Allows (rows_of (found_of matches.now)) Every) }
+    ensures faulty { IfErr result (IsFaulty (Allows (rows_of (found_of matches.now))) Every) }
+{
+    let Some(text_of_it) = text(matches, "every") else {
+        return Ok(None);
+    };
+    match number(text_of_it) {
+        Some(n) if 1 <= n && n <= MAX_COUNTED && !is_flagged(matches, "bus") => Ok(Some(n)),
+        _ => Err(Field::Every),
+    }
+}
+
 /// The number of states at most that are found.
 fn states(matches: &ArgMatches) -> Result<usize, Field>
     ensures said { IfOk result (IsSaid (rows_of (found_of matches.now)) States) }
     ensures allowed { IfOk result (λ _. Allows (rows_of (found_of matches.now)) States) }
-    ensures faulty { IfErr result (IsFaulty (rows_of (found_of matches.now)) States) }
+    ensures faulty { IfErr result (IsFaulty (Allows (rows_of (found_of matches.now))) States) }
 {
     let states = said_or(matches, Field::States, 0);
     if 1 <= states && states <= MAX_STEPS {
@@ -202,7 +243,7 @@ fn states(matches: &ArgMatches) -> Result<usize, Field>
 fn longest(matches: &ArgMatches) -> Result<u32, Field>
     ensures said { IfOk result (IsSaid (rows_of (found_of matches.now)) Longest) }
     ensures allowed { IfOk result (λ _. Allows (rows_of (found_of matches.now)) Longest) }
-    ensures faulty { IfErr result (IsFaulty (rows_of (found_of matches.now)) Longest) }
+    ensures faulty { IfErr result (IsFaulty (Allows (rows_of (found_of matches.now))) Longest) }
 {
     let longest = said_or(matches, Field::Longest, 0);
     if 1 <= longest && longest <= MAX_STEPS {
@@ -216,7 +257,7 @@ fn longest(matches: &ArgMatches) -> Result<u32, Field>
 fn tell(matches: &ArgMatches) -> Result<Tell, Field>
     ensures told { IfOk result (HasTell (rows_of (found_of matches.now))) }
     ensures allowed { IfOk result (λ _. Allows (rows_of (found_of matches.now)) TellField) }
-    ensures faulty { IfErr result (IsFaulty (rows_of (found_of matches.now)) TellField) }
+    ensures faulty { IfErr result (IsFaulty (Allows (rows_of (found_of matches.now))) TellField) }
 {
     match text(matches, "tell") {
         None => Ok(Tell::Consoles),
@@ -239,7 +280,7 @@ fn told_by(word: &str) -> Option<Tell>
 /// The seed of the chooser.
 fn seed(matches: &ArgMatches) -> Result<u64, Field>
     ensures said { IfOk result (IsSaid (rows_of (found_of matches.now)) Seed) }
-    ensures faulty { IfErr result (IsFaulty (rows_of (found_of matches.now)) Seed) }
+    ensures faulty { IfErr result (IsFaulty (Allows (rows_of (found_of matches.now))) Seed) }
 {
     match text(matches, "seed") {
         None => Ok(0),
@@ -251,7 +292,7 @@ fn seed(matches: &ArgMatches) -> Result<u64, Field>
 fn threads(matches: &ArgMatches) -> Result<Option<u8>, Field>
     ensures given { IfOk result (MayBeGiven (rows_of (found_of matches.now)) (codes "threads")) }
     ensures allowed { IfOk result (λ _. Allows (rows_of (found_of matches.now)) Threads) }
-    ensures faulty { IfErr result (IsFaulty (rows_of (found_of matches.now)) Threads) }
+    ensures faulty { IfErr result (IsFaulty (Allows (rows_of (found_of matches.now))) Threads) }
 {
     let Some(text_of_it) = text(matches, "threads") else {
         return Ok(None);
@@ -266,7 +307,7 @@ fn threads(matches: &ArgMatches) -> Result<Option<u8>, Field>
 fn batch(matches: &ArgMatches) -> Result<u16, Field>
     ensures said { IfOk result (IsSaid (rows_of (found_of matches.now)) Batch) }
     ensures allowed { IfOk result (λ _. Allows (rows_of (found_of matches.now)) Batch) }
-    ensures faulty { IfErr result (IsFaulty (rows_of (found_of matches.now)) Batch) }
+    ensures faulty { IfErr result (IsFaulty (Allows (rows_of (found_of matches.now))) Batch) }
 {
     let Some(text_of_it) = text(matches, "batch") else {
         return Ok(1);
@@ -280,7 +321,7 @@ fn batch(matches: &ArgMatches) -> Result<u16, Field>
 /// There are not too many images.
 fn count_images(matches: &ArgMatches) -> Result<(), Field>
     ensures allowed { IfOk result (λ _. Allows (rows_of (found_of matches.now)) Images) }
-    ensures faulty { IfErr result (IsFaulty (rows_of (found_of matches.now)) Images) }
+    ensures faulty { IfErr result (IsFaulty (Allows (rows_of (found_of matches.now))) Images) }
 {
     match images(matches) {
         Some(names) if names.len() > MAX_IMAGES => Err(Field::Images),
@@ -292,7 +333,7 @@ fn count_images(matches: &ArgMatches) -> Result<(), Field>
 fn work(matches: &ArgMatches) -> Result<Option<Work>, Field>
     ensures given { IfOk result (HasWork (rows_of (found_of matches.now))) }
     ensures allowed { IfOk result (λ _. Allows (rows_of (found_of matches.now)) Kind) }
-    ensures faulty { IfErr result (IsFaulty (rows_of (found_of matches.now)) Kind) }
+    ensures faulty { IfErr result (IsFaulty (Allows (rows_of (found_of matches.now))) Kind) }
 {
     match text(matches, "kind") {
         None => Ok(None),
@@ -307,7 +348,7 @@ fn work(matches: &ArgMatches) -> Result<Option<Work>, Field>
 fn transactions(matches: &ArgMatches) -> Result<Option<u32>, Field>
     ensures given { IfOk result (MayBeGiven (rows_of (found_of matches.now)) (codes "number")) }
     ensures allowed { IfOk result (λ _. Allows (rows_of (found_of matches.now)) Number) }
-    ensures faulty { IfErr result (IsFaulty (rows_of (found_of matches.now)) Number) }
+    ensures faulty { IfErr result (IsFaulty (Allows (rows_of (found_of matches.now))) Number) }
 {
     match text(matches, "number") {
         None => Ok(None),

@@ -78,7 +78,8 @@ fn grammar<'a>(alloc: Global, verb: Verb, name: &'a str) -> Result<clap::Command
         Verb::Count => {
             let source = with_source(alloc, named)?;
             let csv = with_flag(alloc, source, "csv", "csv")?;
-            with_places(alloc, csv, "image")
+            let every = with_option(alloc, csv, "every")?;
+            with_places(alloc, every, "image")
         }
         Verb::State => {
             let source = with_source(alloc, named)?;

@@ -9,5 +9,6 @@ mod numbers;
 mod reading;
 
 pub use command::{Command, Field, Machine, Source, Verb, View, WordsFault};
+pub use fields::MAX_COUNTED;
 pub use laws::{commands_are_in_bounds, words_ask_for_one_command};
 pub use reading::settings;

@@ -1,13 +1,13 @@
 // From words to a command.
 ghost use Rattle.std.specs.Prelude.{◌≡◌, ◌↔◌, ◌≤◌, codes, length, List as Seq, map, Some, IfOk, IfErr, IsSome, IsTrue};
 ghost use Rattle.clap.specs.Words.{Row, first_of, found_of, rows_of};
-ghost use Rattle.tcc_words.specs.Fields.{images_of};
-ghost use Rattle.tcc_words.specs.declared.command.Verb.TheVariants.{Trial};
-ghost use Rattle.tcc_words.specs.Asked.{Asks, AsksLook, AsksSource, GoTogether, HasMachine, HasPlaces, HasSettings, HasValues};
-ghost use Rattle.tcc_words.specs.Asked.{IsCommand, IsFlagged, IsRefused};
+ghost use Rattle.tcc_words.specs.Fields.{IsFlagged, images_of};
+ghost use Rattle.tcc_words.specs.declared.command.Verb.TheVariants.{Count, Trial};
+ghost use Rattle.tcc_words.specs.Asked.{Asks, AsksLook, AsksSource, AsksView, GoTogether, HasMachine, HasPlaces, HasSettings, HasValues};
+ghost use Rattle.tcc_words.specs.Asked.{IsCommand, IsRefused};
 
 use crate::command::{Command, Machine, Source, Verb, View, WordsFault};
-use crate::fields::{Values, images, read_values, text};
+use crate::fields::{Values, images, is_flagged, read_values, text};
 use crate::grammar::read;
 use clap::ArgMatches;
 use run_outcomes::Limits;
@@ -34,7 +34,7 @@ pub fn settings<'a>(alloc: Global, words: &'a [&'a str]) -> Result<Command, Word
     if !has_places(verb, &matches) {
         return Err(WordsFault::Words);
     }
-    match read_values(&matches) {
+    match read_values(verb, &matches) {
         Err(field) => Err(WordsFault::Value(field)),
         Ok(values) => match command(alloc, verb, &matches, &values) {
             Ok(command) => Ok(command),
@@ -65,13 +65,6 @@ fn go_together(matches: &ArgMatches) -> bool
     }
     text(matches, "schedule").is_none()
         || (text(matches, "steps").is_none() && text(matches, "seed").is_none())
-}
-
-/// Whether the option without a value stands there that is kept under the name.
-fn is_flagged(matches: &ArgMatches, name: &str) -> bool
-    ensures { IsTrue result ↔ IsFlagged name.now (rows_of (found_of matches.now)) }
-{
-    text(matches, name) == Some("true")
 }
 
 /// Whether an image is named.
@@ -139,10 +132,7 @@ fn command(
             let states = is_flagged(matches, "records");
             look(alloc, matches, values, View::Trace { from, to, states })
         }
-        Verb::Count => {
-            let csv = is_flagged(matches, "csv");
-            look(alloc, matches, values, View::Count { csv })
-        }
+        Verb::Count => look(alloc, matches, values, counting(matches, values)),
         Verb::State => {
             let events = values.events;
             look(alloc, matches, values, View::State { events })
@@ -162,6 +152,19 @@ fn command(
             images: image_names(alloc, matches)?,
             keep: record_name(alloc, matches)?,
         }),
+    }
+}
+
+/// What is told of a run that is counted.
+fn counting(matches: &ArgMatches, values: &Values) -> View
+    requires { HasValues (rows_of (found_of matches.now)) values.now }
+    ensures { AsksView Count (rows_of (found_of matches.now)) result }
+{
+    match values.every {
+        Some(every) => View::Rows { every },
+        None => View::Count {
+            csv: is_flagged(matches, "csv"),
+        },
     }
 }
 

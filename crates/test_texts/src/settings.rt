@@ -237,6 +237,41 @@ fn a_run_on_the_bus_is_looked_at(rt: HostRuntime) -> Result<(), Fail> {
 }
 
 #[test]
+fn totals_are_told_as_a_run_goes(rt: HostRuntime) -> Result<(), Fail> {
+    let Ok(Command::Look { source, view, .. }) = asked(
+        rt.alloc(),
+        "count --steps 1099511627776 --every=1099511627776 a",
+    )?
+    else {
+        panic!(rt; "they ask for another command, or for none");
+    };
+    assert_eq!(rt;
+        view,
+        View::Rows {
+            every: 1_099_511_627_776
+        }
+    );
+    assert!(rt;
+        matches!(
+            source,
+            Source::Seed {
+                steps: 1_099_511_627_776,
+                seed: 0
+            }
+        )
+    );
+    let Ok(Command::Look { source, view, .. }) = asked(
+        rt.alloc(),
+        "count --csv --every 1 --schedule s a",
+    )?
+    else {
+        panic!(rt; "they ask for another command, or for none");
+    };
+    assert!(rt; view == View::Rows { every: 1 } && matches!(source, Source::Schedule(_)));
+    Ok(())
+}
+
+#[test]
 fn outcomes_have_their_limits(rt: HostRuntime) -> Result<(), Fail> {
     let Ok(
         Command::Outcomes {
@@ -439,6 +474,34 @@ const OUT_OF_RANGE: [Refused; 17] = [
 #[test]
 fn values_out_of_range(rt: HostRuntime) -> Result<(), Fail> {
     are_refused(&rt, rt.alloc(), &OUT_OF_RANGE)
+}
+
+/// Numbers of events: those that no run has, and those that only a run has that is counted, on the machine with directories.
+const TOO_MANY_EVENTS: [Refused; 10] = [
+    (
+        "count --steps 1099511627777 a",
+        WordsFault::Value(Field::Steps),
+    ),
+    (
+        "count --bus --steps 4194305 a",
+        WordsFault::Value(Field::Steps),
+    ),
+    ("trace --steps 4194305 a", WordsFault::Value(Field::Steps)),
+    ("state --steps 4194305 a", WordsFault::Value(Field::Steps)),
+    ("phases --steps 4194305 a", WordsFault::Value(Field::Steps)),
+    ("count --every 0 a", WordsFault::Value(Field::Every)),
+    (
+        "count --every 1099511627777 a",
+        WordsFault::Value(Field::Every),
+    ),
+    ("count --every x a", WordsFault::Value(Field::Every)),
+    ("count --bus --every 5 a", WordsFault::Value(Field::Every)),
+    ("trace --every 5 a", WordsFault::Words),
+];
+
+#[test]
+fn numbers_of_events_out_of_range(rt: HostRuntime) -> Result<(), Fail> {
+    are_refused(&rt, rt.alloc(), &TOO_MANY_EVENTS)
 }
 
 /// Of two fields with faults the first, and of one.

@@ -259,6 +259,18 @@ end done
 events 19
 ";
 
+/// The totals after eight events, after sixteen, and after the last.
+const ROWS: &str =
+    "1,1,1,16,2,2147483648,65536,0,1000000,open,8,1,0,0,1,0,0,4,0,0,4,0,1,0,0,0,0,0,0,0,4,2,0,2,0,0,0,0,5,4,0,0,1
+1,1,1,16,2,2147483648,65536,0,1000000,open,16,2,1,0,1,0,0,6,4,0,2,0,1,0,0,0,0,0,1,0,9,4,0,2,1,0,0,0,9,8,0,0,1
+1,1,1,16,2,2147483648,65536,0,1000000,done,19,2,2,0,0,0,0,6,6,0,0,0,1,0,0,0,0,0,1,0,9,5,0,2,2,0,0,1,10,10,0,0,0
+";
+
+/// The last of them.
+const LAST_ROW: &str =
+    "1,1,1,16,2,2147483648,65536,0,1000000,done,19,2,2,0,0,0,0,6,6,0,0,0,1,0,0,0,0,0,1,0,9,5,0,2,2,0,0,1,10,10,0,0,0
+";
+
 /// After five events.
 const STATE: &str = "tcc-state 1
 cores 1 dirs 1 sets 16 ways 2 base 2147483648 ram 65536
@@ -392,7 +404,7 @@ events 5
 /// A command line over the image `a`, its status, and its text.
 type Look = (&'static str, u8, &'static str);
 
-const LOOKS: [Look; 15] = [
+const LOOKS: [Look; 16] = [
     ("trace --raw a", 0, TRACE),
     ("trace --raw --seed 0 --steps 19 --to 19 a", 0, TRACE),
     ("trace --raw --from 4 --to 6 a", 1, WINDOW),
@@ -401,6 +413,7 @@ const LOOKS: [Look; 15] = [
     ("trace --states --from 4 --to 6 --raw a", 1, STATES_WINDOW),
     ("trace --states --raw --from 20 a", 0, NO_WINDOW),
     ("count --raw a", 0, COUNT),
+    ("count --raw --steps 1099511627776 a", 0, COUNT),
     ("state --raw --events 5 a", 1, STATE),
     ("trace --bus --raw a", 0, BUS_TRACE),
     ("trace --raw --bus --from 1 --to 2 a", 1, BUS_WINDOW),
@@ -428,6 +441,28 @@ fn check_look(rt: &impl Host, alloc: Global, look: &Look, record: &[u8]) -> Resu
 fn what_happened_is_told_counted_and_shown(rt: HostRuntime) -> Result<(), Fail> {
     for look in &LOOKS {
         check_look(&rt, rt.alloc(), look, b"")?;
+    }
+    Ok(())
+}
+
+#[test]
+fn totals_are_told_as_a_run_goes(rt: HostRuntime) -> Result<(), Fail> {
+    let files = [("a", Held::Image(STORE))];
+    let whole = call(&rt, rt.alloc(), "count --raw --csv a", &over(&files))?;
+    let given = call(&rt, rt.alloc(), "count --raw --every 8 a", &over(&files))?;
+    assert!(rt; whole.status == 0 && given.status == 0);
+    let names = whole
+        .out
+        .strip_suffix(LAST_ROW.as_bytes())
+        .ok_or("another last row")?;
+    let rows = given.out.strip_prefix(names).ok_or("other names")?;
+    assert_eq!(rt; rows, ROWS.as_bytes());
+    for command in [
+        "count --raw --every 19 a",
+        "count --raw --csv --every 1099511627776 a",
+    ] {
+        let given = call(&rt, rt.alloc(), command, &over(&files))?;
+        assert_eq!(rt; given.out.as_slice(), whole.out.as_slice(), "{command}");
     }
     Ok(())
 }
@@ -468,10 +503,15 @@ const DAMAGED: &str = "tcc-schedule 1
 cores 1 dirs 1 sets 16 ways 2 base 2147483648 ram 65536
 e 0\nd v c0 0\nend 2\n";
 
-const REFUSED: [Look; 9] = [
+const REFUSED: [Look; 11] = [
     ("trace --raw --schedule s a", 4, "tcc: schedule line 4\n"),
     ("count --raw --schedule s a", 4, "tcc: schedule line 4\n"),
     ("state --raw --schedule s a", 4, "tcc: schedule line 4\n"),
+    (
+        "count --raw --every 3 --schedule s a",
+        4,
+        "tcc: schedule line 4\n",
+    ),
     (
         "trace --raw --sets 1 --schedule s a",
         4,
@@ -486,6 +526,7 @@ const REFUSED: [Look; 9] = [
     ("trace --raw --schedule s --seed 1 a", 2, "tcc: words\n"),
     ("count --raw --schedule s --bus a", 2, "tcc: words\n"),
     ("state --raw --bus --dirs 1 a", 2, "tcc: words\n"),
+    ("count --raw --bus --every 3 a", 2, "tcc: value every\n"),
 ];
 
 #[test]
@@ -508,15 +549,16 @@ fn events_that_are_not_taken_may_be_at_fault(rt: HostRuntime) -> Result<(), Fail
 }
 
 /// Over the smallest memory that holds the stored word.
-const SHORT: [&str; 4] = [
+const SHORT: [&str; 5] = [
     "trace --raw --ram 96 a",
     "trace --raw --ram 96 --states --from 9 a",
     "trace --raw --ram 96 --bus a",
     "trace --raw --ram 96 --bus --states --from 6 a",
+    "count --raw --ram 96 --every 9 a",
 ];
 
 #[test]
-fn a_short_output_has_the_first_bytes_of_the_trace(rt: HostRuntime) -> Result<(), Fail> {
+fn a_short_output_has_the_first_bytes_of_the_text(rt: HostRuntime) -> Result<(), Fail> {
     for command in SHORT {
         check_short(&rt, rt.alloc(), command)?;
     }

@@ -2,10 +2,10 @@
 use Rattle.std.proofs.Common.{◌∙◌}
 use Rattle.std.specs.String.{string_bytes}
 use Rattle.std.specs.Prelude.{Some}
-use Rattle.tcc_base.specs.Limits.{run_limit}
 use Rattle.image_load.specs.Contents.{started}
 use Rattle.tcc_cli.proofs.Watched.{counted-so, picked-few, picked-so}
 use Rattle.tcc_cli.specs.Looks.{ArePicked}
+use Rattle.tcc_words.specs.Fields.{count_limit}
 use Rattle.tcc_cli.proofs.looks.count_picked.Goals as goal
 
 pub count-requires-clause-enough : goal.count-requires-clause-enough
@@ -16,8 +16,8 @@ pub returns : goal.returns
 unfolding started
 returns c =
     counted-so (started c.args.loaded.now) c.config.result.now
-    (ArePicked (started c.args.loaded.now) c.args.seed c.args.steps run_limit) _ _ _ _ c.args.csv (Some (c.args.seed, c.args.steps))
+    (ArePicked (started c.args.loaded.now) c.args.seed c.args.steps count_limit) _ _ _ _ c.args.csv (Some (c.args.seed, c.args.steps))
     (λ f. f.done) (λ f. string_bytes f.text) c.tables.result
-    (picked-so (started c.args.loaded.now) _ _ c.args.seed _ (c.new-events.ensures.left ∙ c.min-steps_at_most.ensures)
+    (picked-so (started c.args.loaded.now) _ _ c.args.seed _ (c.new-events.ensures.left ∙ c.min-most.ensures)
     c.new-events.ensures.chooser)
     c.in_ok-counted.ensures c.config.ensures c.tables.ensures.done c.tables.ensures.text

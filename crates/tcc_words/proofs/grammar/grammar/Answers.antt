@@ -53,10 +53,10 @@ returns-in_ok-states-in-Trace c =
     c.in_ok-states-in-Trace.ensures h)
     c.with_places-in-Trace.ensures
 
-pub returns-in_ok-csv-in-Count : goal.returns-in_ok-csv-in-Count
-returns-in_ok-csv-in-Count c =
-    IfOk-weaker c.with_places-in-Count.result _ _ (λ m h. count_made c.args.verb c.args.name.now _ _ _ _ c.in-Count.is c.requires
-    c.bare-named.ensures c.in_ok-source-in-Count.ensures c.in_ok-csv-in-Count.ensures h)
+pub returns-in_ok-every-in-Count : goal.returns-in_ok-every-in-Count
+returns-in_ok-every-in-Count c =
+    IfOk-weaker c.with_places-in-Count.result _ _ (λ m h. count_made c.args.verb c.args.name.now _ _ _ _ _ c.in-Count.is c.requires
+    c.bare-named.ensures c.in_ok-source-in-Count.ensures c.in_ok-csv-in-Count.ensures c.in_ok-every-in-Count.ensures h)
     c.with_places-in-Count.ensures
 
 pub returns-in_ok-events-in-State : goal.returns-in_ok-events-in-State

@@ -50,6 +50,6 @@ returns-in-Ok-command-clause-command c =
         read = sym c.in_ok-matches.ensures.rows;
         places = c.if-not-has_places.ensures.0 refl;
       };
-      allowed = c.in-Ok.ensures.values.allowed;
+      allowed = c.in-Ok.ensures.allowed;
       asks = c.in-Ok-command.ensures;
     }
