@@ -17,6 +17,7 @@ mod missing;
 mod node;
 mod overflowing;
 mod quick;
+mod restoring;
 mod rolling;
 mod sets;
 mod state;

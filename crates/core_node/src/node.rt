@@ -1,5 +1,5 @@
 // A core of the machine, with the calls by which it takes messages, empties frames and is looked at.
-ghost use Rattle.std.specs.Prelude.{◌≡◌, ◌<◌, IfOk, IsTrue, MatchOption, OnOk, OnErr, is_some, length, slice_get, false, Some, None};
+ghost use Rattle.std.specs.Prelude.{◌≡◌, ◌<◌, IfOk, IsTrue, MatchOption, OnOk, OnErr, is_some, length, slice_get, false, true, Some, None, ℕ};
 ghost use Rattle.rules_maps.specs.Bridge.{node_of};
 ghost use Rattle.tcc_msg.specs.Plain.{msg_of};
 ghost use Rattle.rules_tcc.specs.CoreDeliver.{core_deliver};
@@ -9,7 +9,7 @@ ghost use Rattle.rules_tcc.specs.CoreEvict.{core_evict};
 ghost use Rattle.rules_tcc.specs.CoreExec.{core_exec};
 ghost use Rattle.rules_tcc.specs.Useful.{room};
 ghost use Rattle.rules_tcc.specs.State.{core_start};
-ghost use Rattle.rules_maps.specs.Cache.{is_dirty};
+ghost use Rattle.rules_maps.specs.Cache.{is_dirty, IsCache};
 ghost use Rattle.rules_maps.specs.Shape.{lines};
 ghost use Rattle.rules_maps.specs.Words.{any_below};
 ghost use Rattle.spec_cache.specs.Held.{maps};
@@ -221,6 +221,16 @@ impl CoreNode {
         self.core.cache.any_dirty()
     }
 
+    /// A law of every core: the maps of its cache are consistent, and each line that has a frame is one of memory. It takes constant
+    /// time.
+    #[tactic(auto, unfolding(crate::specs::View::core_of))]
+    pub fn keeps_cache(&self)
+        ensures consistent { IsCache self.now.config (core_of self.now).cache }
+        ensures in_memory { (l : ℕ) → (core_of self.now).cache.held l ≡ true → l < lines self.now.config }
+    {
+        self.core.cache.keeps_order();
+    }
+
     /// How far the core has come with its transaction.
     #[tactic(auto, unfolding(crate::specs::View::core_of))]
     pub fn phase(&self) -> Phase
@@ -254,6 +264,14 @@ impl CoreNode {
         ensures { result.now ≡ self.now }
     {
         &self.core
+    }
+
+    /// The core's cache, to be read. It takes constant time.
+    pub fn cache(&self) -> &SpecCache
+        ensures data { result.now ≡ self.now.cache }
+        ensures config { result.now.config ≡ self.now.config }
+    {
+        &self.core.cache
     }
 
     /// The checkpoint: registers and pc as the last commit left them.

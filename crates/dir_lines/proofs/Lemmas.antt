@@ -9,7 +9,8 @@ use Rattle.dir_lines.specs.Pages.{Pages}
 use Rattle.dir_lines.specs.Kept.{kept}
 use Rattle.dir_lines.proofs.Clearing.{found}
 use Rattle.dir_lines.proofs.PagesKeep.{marked-at_home}
-pub use Rattle.dir_lines.proofs.PagesAt.{is_at_home-only}
+pub use Rattle.dir_lines.proofs.PagesAt.{is_at_home-only, is_at_home-true}
+pub use Rattle.dir_lines.proofs.Restoring.{kept-elsewhere}
 
 pub kept-at_home : (p : Pages) (l : ℕ) → has_mark (kept p) l ≡ true → IsAtHome p.place l
 unfolding kept

@@ -11,4 +11,5 @@ pub mod Sixteens
 pub mod Spilling
 pub mod Places
 pub mod WordsAt
+pub mod Restoring
 pub mod Lemmas

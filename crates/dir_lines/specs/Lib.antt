@@ -10,3 +10,4 @@ pub mod FiledInside
 pub mod Words
 pub mod WordsInside
 pub mod Owned
+pub mod Restored

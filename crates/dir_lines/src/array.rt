@@ -7,7 +7,8 @@ ghost use Rattle.dir_lines.specs.Home.{IsAtHome};
 ghost use Rattle.rules_maps.specs.Masks.{has};
 ghost use Rattle.dir_lines.specs.Kept.{kept};
 ghost use Rattle.dir_lines.specs.Owned.{owned_line};
-ghost use Rattle.dir_lines.specs.Pages.{is_at_home};
+ghost use Rattle.dir_lines.specs.Pages.{is_at_home, pages_at};
+ghost use Rattle.dir_lines.specs.Restored.{IsUnknown, with_record};
 
 use crate::lines::Lines;
 use crate::pages::PageLines;
@@ -52,6 +53,14 @@ impl DirLines {
         self.lines.config()
     }
 
+    /// The directory, which exists.
+    pub fn home(&self) -> DirId
+        ensures dir { result.0 ≡ self.now.place.dir }
+        ensures exists { result.0 < self.now.place.shape.dirs }
+    {
+        self.lines.home()
+    }
+
     /// Whether the line exists and is at home here: those of which the other calls may be asked.
     pub fn has_line(&self, line: LineAddr) -> bool
         ensures { result ≡ is_at_home self.now.place line.0 }
@@ -67,6 +76,7 @@ impl DirLines {
         ensures tag { result.tag.0 ≡ (kept self.now).tag line.0 }
         ensures asked { result.asked ≡ (kept self.now).asked line.0 }
         ensures mark { result.mark.0 ≡ (kept self.now).mark line.0 }
+        ensures record { result ≡ pages_at self.now line.0 }
     {
         self.lines.get(line)
     }
@@ -167,6 +177,20 @@ impl DirLines {
     {
         self.lines.set_mark(line, mark)
     }
+
+    /// Puts this record in the place of all that is known of the line.
+    pub fn restore(&mut self, line: LineAddr, to: LineRecord)
+        requires { IsAtHome self.old.place line.0 }
+        ensures place { self.new.place ≡ self.old.place }
+        ensures map { kept self.new ≡ with_record line.0 to (kept self.old) }
+    {
+        self.lines.set(line, to)
+    }
+
+    /// Of a line that isn't at home here nothing is ever known. It does nothing.
+    pub fn keeps_home(&self)
+        ensures { (l : ℕ) → (IsAtHome self.now.place l → ⊥) → IsUnknown (kept self.now) l }
+    {}
 
     /// The number of marked lines, all of which are at home here.
     pub fn marked_lines(&self) -> u32

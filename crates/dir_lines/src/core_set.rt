@@ -1,5 +1,5 @@
 // A set of cores as the bits of one number, so that a line's sharers take eight bytes.
-ghost use Rattle.std.specs.Prelude.{◌≡◌, ℕ, ◌==◌, ◌<◌, if◌then◌else◌};
+ghost use Rattle.std.specs.Prelude.{◌≡◌, ℕ, ◌==◌, ◌<◌, ◌↔◌, true, IsTrue, if◌then◌else◌};
 ghost use Rattle.rules_maps.specs.Masks.{has};
 
 use tcc_base::CoreId;
@@ -31,4 +31,18 @@ impl CoreSet {
             CoreSet(self.0 ^ (self.0 & one))
         }
     }
+
+    /// Whether each core of the set is one of so many.
+    pub fn is_below(&self, cores: u8) -> bool
+        ensures { IsTrue result ↔ ((c : ℕ) → has self.now.0 c ≡ true → c < cores) }
+    {
+        are_below(self.0, cores)
+    }
+}
+
+// Whether all bits of a number are among so many low ones.
+fn are_below(bits: u64, count: u8) -> bool
+    ensures { IsTrue result ↔ ((k : ℕ) → has bits k ≡ true → k < count) }
+{
+    count >= 64 || bits >> count == 0
 }

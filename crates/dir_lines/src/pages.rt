@@ -41,6 +41,14 @@ impl PageLines {
         self.cfg
     }
 
+    // The directory, which exists.
+    pub(crate) fn home(&self) -> DirId
+        ensures dir { result.0 ≡ self.now.place.dir }
+        ensures exists { result.0 < self.now.place.shape.dirs }
+    {
+        self.home
+    }
+
     // Whether the line exists and is at home here.
     pub(crate) fn has_line(&self, line: LineAddr) -> bool
         ensures { result ≡ is_at_home self.now.place line.0 }

@@ -1,6 +1,7 @@
 // What is known of one line.
-ghost use Rattle.std.specs.Prelude.{◌≡◌};
+ghost use Rattle.std.specs.Prelude.{◌≡◌, ◌↔◌, IsTrue};
 ghost use Rattle.dir_lines.specs.Record.{blank};
+ghost use Rattle.dir_lines.specs.Restored.{RecordFits};
 
 use crate::core_set::CoreSet;
 use tcc_base::{CoreId, Mask, Tid};
@@ -32,5 +33,16 @@ impl LineRecord {
             asked: false,
             mark: Mask(0),
         }
+    }
+
+    /// Whether its sharers and its owner are cores of a machine that has so many.
+    pub fn fits(&self, cores: u8) -> bool
+        ensures { IsTrue result ↔ RecordFits cores self.now }
+    {
+        let owner_fits = match self.owner {
+            Some(owner) => owner.0 < cores,
+            None => true,
+        };
+        owner_fits && self.sharers.is_below(cores)
     }
 }

@@ -4,6 +4,7 @@ pub mod Told
 pub mod Owning
 pub mod Committing
 pub mod LoadedWords
+pub mod Fitting
 pub mod Taking
 pub mod Staying
 pub mod Leaving

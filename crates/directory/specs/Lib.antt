@@ -7,3 +7,4 @@ pub mod Invs
 pub mod Leaves
 pub mod Stays
 pub mod Tells
+pub mod Restored

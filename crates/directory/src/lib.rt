@@ -6,6 +6,7 @@ mod ends;
 mod handled;
 mod invalidate;
 mod loading;
+mod restoring;
 mod rules;
 mod showing;
 mod takes;

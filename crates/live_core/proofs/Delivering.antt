@@ -4,8 +4,9 @@ use Rattle.std.specs.Prelude.{is_some, nat_lt, not}
 use Rattle.std.specs.Option.{option_map}
 use Rattle.std.proofs.lemmas.Bool.Decides.{nat_tests}
 use Rattle.base_lemmas.proofs.Lemmas.{and-right}
-use Rattle.theorem_bounds.specs.Messages.{MessagesInBounds}
-use Rattle.rules_maps.specs.Messages.{InBounds, line_named, fits, goes_to_core, is_grant, is_request}
+use Rattle.theorem_live.specs.Fits.{LinksFit}
+use Rattle.theorem_sound.specs.Sound.{GoodMessage}
+use Rattle.rules_maps.specs.Messages.{line_named, fits, goes_to_core, is_grant, is_request}
 use Rattle.theorem_bounds.proofs.Lemmas.{fits_out, fits_back}
 use Rattle.rules_maps.specs.Nodes.{Node, Core, Dir, Vendor, Deliver, Msg, TidGrant, Fill, ProbeReply, DataReq, Inv}
 use Rattle.rules_maps.specs.Shape.{Shape, home, lines}
@@ -30,7 +31,7 @@ dir-exists sh (Core c) d m e = (fits_out sh c d m e).dir
 dir-exists sh (Dir c) d m e = absurd (cc)
 dir-exists sh Vendor d m e = absurd (cc)
 
-pub line-home : (sh : Shape) (n : ℕ) (src : Node) (d : ℕ) (m : Msg) → InBounds sh n src (Dir d) m
+pub line-home : (sh : Shape) (n : ℕ) (src : Node) (d : ℕ) (m : Msg) → GoodMessage sh n src (Dir d) m
     → IfSome (line_named m) (λ l. (l < lines sh) × (home sh l ≡ d))
 unfolding fits
 line-home sh n (Core c) d m b = b.line
@@ -97,7 +98,7 @@ twice false true e = refl
 twice false false e = absurd (cc)
 
 -- a message waits exactly where it is in flight and its delivery isn't enabled
-waits : (sh : Shape) (p : Program) (w : World) (src dst : Node) (k : ℕ) → MessagesInBounds sh w
+waits : (sh : Shape) (p : Program) (w : World) (src dst : Node) (k : ℕ) → LinksFit sh w
     → is_some (reason_in sh w src dst k)
     ≡ (is_some (in_flight w.net src dst k) && not (is_some (step sh p w (Deliver src dst k))))
 waits sh p w src dst k b = go (in_flight w.net src dst k) refl
@@ -106,7 +107,7 @@ waits sh p w src dst k b = go (in_flight w.net src dst k) refl
         → is_some (reason_at sh w dst o) ≡ (is_some o && not (is_some (step sh p w (Deliver src dst k))))
     go None q = ap is_some (none-waits sh w dst)
     go (Some m) q =
-        let e = (b src dst k m q).fits in
+        let e = b src dst k m q in
         twice (is_some (step sh p w (Deliver src dst k))) (is_some (reason_at sh w dst (Some m)))
         (ap is_some (steps sh p w src dst k m q e) ∙ delivers sh w src dst k m e)
 
@@ -114,7 +115,7 @@ mapped : (o : Option CodeReason) → is_some o ≡ is_some (option_map plain_rea
 mapped None = refl
 mapped (Some r) = refl
 
-pub waits-so : (sh : Shape) (p : Program) (w : World) (src dst : Node) (k : ℕ) (o : Option CodeReason) → MessagesInBounds sh w
+pub waits-so : (sh : Shape) (p : Program) (w : World) (src dst : Node) (k : ℕ) (o : Option CodeReason) → LinksFit sh w
     → option_map plain_reason o ≡ reason_in sh w src dst k
     → is_some o ≡ (is_some (in_flight w.net src dst k) && not (is_some (step sh p w (Deliver src dst k))))
 waits-so sh p w src dst k o b e = mapped o ∙ ap is_some e ∙ waits sh p w src dst k b

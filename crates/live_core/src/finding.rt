@@ -7,6 +7,7 @@ ghost use Rattle.rules_tcc.specs.Seen.{IsDone};
 ghost use Rattle.rules_tcc.specs.State.{Halted};
 ghost use Rattle.rules_tcc.specs.Useful.{is_useful};
 ghost use Rattle.net_core.specs.Machine.{program_of, settings_of, world_of};
+ghost use Rattle.net_core.specs.Reached.{Reached};
 ghost use Rattle.live_core.specs.Chosen.{first_for, first_useful};
 
 use crate::laws::machines_are_live;
@@ -15,12 +16,12 @@ use rules_tcc::useful_events_are_listed;
 use tcc_base::{CoreEnd, CoreId, NodeId};
 use tcc_msg::{Event, Name};
 
-/// The first of the useful events of a machine whose messages all stand on their links. `None` exactly where the machine is done. Takes
-/// no memory, and time in the logarithm of the numbers of cores and of links, and in what is in flight on one link.
+/// The first of the useful events of a machine whose messages all stand on their links. `None` exactly where the machine is done, if the
+/// rules have led to it from its start. Takes no memory, and time in the logarithm of the numbers of cores and of links, and in what is in flight on one link.
 pub fn find(system: &System) -> Option<Event>
     requires { system.now.unsent ≡ [] }
     ensures first { option_map event_of result ≡ first_useful system.now }
-    ensures done { (result ≡ None) ↔ IsDone (settings_of system.now) (world_of system.now) }
+    ensures done { Reached system.now → (result ≡ None) ↔ IsDone (settings_of system.now) (world_of system.now) }
 {
     machines_are_live(system);
     useful_events_are_listed();
@@ -28,7 +29,7 @@ pub fn find(system: &System) -> Option<Event>
 }
 
 /// The first of the useful events that isn't the delivery of another core's request for a TID, so that the core needn't be passed in the
-/// order. There is one, unless the core has halted. The machine's messages all stand on their links. Takes no memory, and for each useful
+/// order. There is one, unless the core has halted, if the rules have led to the machine from its start. The machine's messages all stand on their links. Takes no memory, and for each useful
 /// event up to that one time in the logarithm of the numbers of cores and of links, and in what is in flight on one link.
 pub fn find_for(system: &System, core: CoreId) -> Option<Event>
     requires settled { system.now.unsent ≡ [] }
@@ -37,7 +38,7 @@ pub fn find_for(system: &System, core: CoreId) -> Option<Event>
     ensures useful { IfSome result (λ e.
         is_useful (settings_of system.now) (program_of system.now) (world_of system.now) (event_of e) ≡ true) }
     ensures spares { IfSome result (λ e. spares core.0 (event_of e) ≡ true) }
-    ensures found { ((world_of system.now).cores core.0).phase ≢ Halted → IsSome result }
+    ensures found { Reached system.now → ((world_of system.now).cores core.0).phase ≢ Halted → IsSome result }
 {
     machines_are_live(system);
     useful_events_are_listed();
@@ -56,7 +57,7 @@ pub fn has_halted(system: &System, core: CoreId) -> bool
     requires { core.0 < (settings_of system.now).cores }
     ensures { IsTrue result ↔ (((world_of system.now).cores core.0).phase ≡ Halted) }
 {
-    machines_are_live(system);
+    system.events();
     match system.ended(core) {
         CoreEnd::Run => false,
         CoreEnd::Halt(_) => true,

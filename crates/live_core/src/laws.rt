@@ -1,6 +1,7 @@
-// What follows from the rules: the reasons to wait are the directory's, and no machine is stuck.
+// What follows from the rules: the reasons to wait are the directory's, and no machine that they have led to is stuck.
 ghost use Rattle.live_core.specs.Reached.{IsLive};
 ghost use Rattle.live_core.specs.Waiting.{ReasonsAreTheRules};
+ghost use Rattle.net_core.specs.Reached.{Reached};
 
 use net_core::System;
 use theorem_riscv::riscv_machines_are_never_stuck;
@@ -10,11 +11,10 @@ pub fn reasons_are_the_rules()
     ensures { ReasonsAreTheRules }
 {}
 
-/// A law: what the rules have led to is in bounds, and isn't stuck.
+/// A law: what the rules have led to from the start isn't stuck.
 pub fn machines_are_live(system: &System)
-    ensures { IsLive system.now }
+    ensures { Reached system.now → IsLive system.now }
 {
-    system.events();
     system.config().cores();
     riscv_machines_are_never_stuck();
 }

@@ -13,7 +13,6 @@ ghost use Rattle.live_core.specs.Plain.{plain_reason};
 ghost use Rattle.live_core.specs.Reasons.{commit_waits, load_waits, mark_waits, owner_asked, probe_waits, reason_of, words_wait};
 ghost use Rattle.live_core.specs.Waiting.{reason_in};
 
-use crate::laws::machines_are_live;
 use crate::reason::Reason;
 use directory::LineState;
 use net_core::System;
@@ -126,7 +125,7 @@ pub fn waits_because(system: &System, name: Name) -> Option<Reason>
     ensures waits { is_some result ≡ (is_some (in_flight (world_of system.now).net (node_of name.src) (node_of name.dst) name.seq)
         && not (is_some (step_of system.now (Deliver (node_of name.src) (node_of name.dst) name.seq)))) }
 {
-    machines_are_live(system);
+    system.events();
     let msg = system.in_flight(name)?;
     let NodeId::Dir(dir) = name.dst else {
         return None;

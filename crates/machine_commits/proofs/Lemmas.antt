@@ -4,8 +4,7 @@ use borrow.Author.Tests.{ltb-true, ltb-false}
 use Rattle.tcc_base.specs.declared.access.Commit.{Commit}
 use Rattle.rules_tcc.specs.Step.{insert_commit}
 use Rattle.machine_commits.specs.Rising.{RisesFrom, Rising, HasNone}
-pub use Rattle.machine_commits.proofs.Forgetting.{AllBelow-append, AllBelow-more, Rising-behind}
-pub use Rattle.machine_commits.proofs.Forgetting.{insert-swap, merged-first, merged-forgotten, merged-insert, merged-more, none-merged}
+pub use Rattle.machine_commits.proofs.Forgetting.{AllBelow-more, Rising-behind}
 
 -- from above a TID, and so from the first
 pub Rising-above : (last : ℕ) (cs : List Commit) → RisesFrom last cs → Rising cs

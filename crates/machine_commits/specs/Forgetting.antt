@@ -1,7 +1,6 @@
 -- Commits that are forgotten: those of the smallest TIDs.
 use Rattle.std.specs.Prelude.{ℕ, ◌≡◌, ◌<◌, ◌≤◌, List, [], ◌∷◌, ◌++◌}
 use Rattle.tcc_base.specs.declared.access.Commit.{Commit}
-use Rattle.rules_tcc.specs.Step.{insert_commit}
 
 -- the TIDs of all of them are below this one
 unfoldable pub AllBelow : (tid : ℕ) → List Commit → Type 0
@@ -19,8 +18,3 @@ pub record Forgets (tid : ℕ) (old new : List Commit) : Type 0 where
   pub parts : old ≡ gone ++ new
   pub below : AllBelow tid gone
   pub stay : NoneBelow tid new
-
--- the commits that are kept, and those that are gone each in its place
-unfoldable pub merged : (gone kept : List Commit) → List Commit
-merged [] kept = kept
-merged (c ∷ cs) kept = insert_commit c (merged cs kept)

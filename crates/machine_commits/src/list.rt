@@ -1,5 +1,5 @@
 // The list of commits: each stands behind those of smaller TIDs, wherever it comes.
-ghost use Rattle.std.specs.Prelude.{◌≡◌, ◌==◌, ◌<◌, ◌≤◌, [], ◌++◌, length, IfOk, OnOk, OnErr};
+ghost use Rattle.std.specs.Prelude.{◌≡◌, ◌==◌, ◌<◌, ◌≤◌, ◌↔◌, [], ◌∷◌, ◌++◌, false, length, IfOk, IsTrue, OnOk, OnErr};
 ghost use Rattle.std.specs.List.{insert};
 ghost use Rattle.tcc_base.specs.declared.access.Commit.{Commit};
 ghost use Rattle.rules_program.specs.Cores.{printed};
@@ -84,6 +84,23 @@ impl CommitList {
         }
     }
 
+    /// Notes one more commit, where its TID is above all others. False exactly where it isn't; then nothing is changed, as after want of
+    /// memory. It takes constant time but for the growth of the list.
+    pub fn push(&mut self, commit: Commit) -> Result<bool, NoMemory>
+        ensures above { IfOk result (λ b. IsTrue b ↔ Rising (self.old.list ++ commit ∷ [])) }
+        ensures pushed { IfOk result (λ b. IsTrue b → self.new.list ≡ self.old.list ++ commit ∷ []) }
+        ensures kept { IfOk result (λ b. b ≡ false → self.new.list ≡ self.old.list) }
+        ensures unchanged { OnErr result (self.new.list ≡ self.old.list) }
+    {
+        if !is_above(&self.commits, commit.tid) {
+            return Ok(false);
+        }
+        match self.commits.push(commit) {
+            Ok(()) => Ok(true),
+            Err(_) => Err(NoMemory),
+        }
+    }
+
     /// Forgets the first commits: all those of TIDs below this one. It takes no memory, and its time goes with the number of commits.
     pub fn forget_before(&mut self, tid: Tid)
         ensures forgets { Forgets tid.0 self.old.list self.new.list }
@@ -104,6 +121,17 @@ impl CommitList {
             }
         }
         Ok(bytes)
+    }
+}
+
+// Whether a TID is above those of all commits, so that one that has it may stand behind them.
+fn is_above(commits: &[Commit], tid: Tid) -> bool
+    requires { Rising commits.now }
+    ensures { (c : Commit) → c.tid.0 ≡ tid.0 → IsTrue result ↔ Rising (commits.now ++ c ∷ []) }
+{
+    match commits.last() {
+        Some(last) => last.tid.0 < tid.0,
+        None => true,
     }
 }
 

@@ -10,7 +10,8 @@ use Rattle.std.proofs.lemmas.Option.{slice_get_read}
 use Rattle.image_load.specs.Contents.{started}
 use Rattle.rv_code.specs.Machine.{program}
 use Rattle.tcc_base.specs.Put.{put}
-use Rattle.tcc_base.specs.Settings.{Settings}
+use Rattle.tcc_base.specs.Settings.{IsAllowed, Settings}
+use Rattle.tcc_base.specs.declared.names.CoreId.{CoreId}
 use Rattle.base_lemmas.proofs.Lemmas.{get-set, get-set_other, length-set}
 use Rattle.rules_program.specs.Program.{Program}
 use Rattle.rules_tcc.specs.State.{CoreState}
@@ -24,6 +25,7 @@ use Rattle.core_node.specs.declared.state.Core.{Core}
 use Rattle.machine_cores.specs.Acted.{Acted}
 use Rattle.machine_cores.specs.Bank.{CoresData, cores_of, core_or, first_core}
 use Rattle.machine_cores.specs.BankInside.{AreCores, IsBank, bank_of}
+use Rattle.machine_cores.specs.Restored.{IsOwnCore}
 use Rattle.machine_cores.specs.Uses.{AreCounted, exec_count, evict_count}
 use Rattle.machine_cores.specs.declared.bank.CoreBank.TheInside.{Inside}
 
@@ -87,6 +89,9 @@ id-here b now c x h = (h.whole.cores.each c x (is_there b now c x h)).1
 pub state-here : (b : Inside) (now : CoresData) (c : ℕ) (x : Core) → IsCoreOf b now c x → core_of x ≡ cores_of now c
 state-here b now c x h = sym (cores-at (bank_of b) c x (is_there b now c x h)) ∙ ap (λ d. cores_of d c) h.seen
 
+pub data-here : (b : Inside) (now : CoresData) (c : ℕ) (x : Core) → IsCoreOf b now c x → slice_get now.cores c ≡ Some x
+data-here b now c x h = subst (λ d. slice_get d.cores c ≡ Some x) h.seen (is_there b now c x h)
+
 -- ---- a bank after one of its cores acted
 
 abbrev pub with_core : (b : Inside) (c : ℕ) (x : Core) (execs evicts : List ℕ) → Inside
@@ -126,6 +131,29 @@ counted-with sh p cores es vs c x h l = record {
   can_evict = counts-with (λ j. evict_count sh p) vs sh.cores c cores x h.evict_places l h.can_evict;
 }
 
+-- another core of the machine in the place of one, with its counts renewed
+pub whole-with : (b : Inside) (c : ℕ) (new x : Core) (es vs : List ℕ) → IsBank b → c < b.code.settings.cores → x ≡ new
+    → new.config ≡ b.code.settings → new.id ≡ record { 0 = c }
+    → es ≡ slice_set b.execs c (exec_count x.config (program (started b.code)) x.id.0 (core_of x))
+    → vs ≡ slice_set b.evicts c (evict_count x.config (program (started b.code)) (core_of x))
+    → IsBank (with_core b c new es vs)
+whole-with b c new x es vs h l same config id renewed_execs renewed_evicts =
+    let p : Program = program (started b.code) in
+    let inside : c < length b.cores = rw h.cores.count l in
+    let e : es ≡ slice_set b.execs c (exec_count b.code.settings p c (core_of new)) =
+    renewed_execs ∙ ap (λ y. slice_set b.execs c (exec_count y.config p y.id.0 (core_of y))) same
+    ∙ ap (λ s. slice_set b.execs c (exec_count s p new.id.0 (core_of new))) config
+    ∙ ap (λ i. slice_set b.execs c (exec_count b.code.settings p i.0 (core_of new))) id in
+    let v : vs ≡ slice_set b.evicts c (evict_count b.code.settings p (core_of new)) =
+    renewed_evicts ∙ ap (λ y. slice_set b.evicts c (evict_count y.config p (core_of y))) same
+    ∙ ap (λ s. slice_set b.evicts c (evict_count s p (core_of new))) config in
+    record {
+      allowed = h.allowed;
+      cores = cores-with b.code.settings b.cores c new h.cores inside config id;
+      counted = rw (cores-put (bank_of b) c new inside, e, v)
+          (counted-with b.code.settings p (cores_of (bank_of b)) b.execs b.evicts c (core_of new) h.counted l);
+    }
+
 -- what the code knows after a core of the bank acted
 pub record HasActed (b : Inside) (now : CoresData) (c : ℕ) (old new x : Core) (es vs : List ℕ) : Type 0 where
   pub before : IsCoreOf b now c old
@@ -145,28 +173,43 @@ read_again b now c old new x h e = e ∙ get_or-set_at b.cores c c new x refl (w
 pub acted-whole : (b : Inside) (now : CoresData) (c : ℕ) (old new x : Core) (es vs : List ℕ) → HasActed b now c old new x es vs
     → IsBank (with_core b c new es vs)
 acted-whole b now c old new x es vs h =
-    let same : x ≡ new = read_again b now c old new x h.before h.after in
-    let config : new.config ≡ b.code.settings = h.stays.config ∙ own-config b now c old h.before in
-    let id : new.id ≡ record { 0 = c } = h.stays.id ∙ id-here b now c old h.before in
-    let p : Program = program (started b.code) in
-    let e : es ≡ slice_set b.execs c (exec_count b.code.settings p c (core_of new)) =
-    h.execs ∙ ap (λ y. slice_set b.execs c (exec_count y.config p y.id.0 (core_of y))) same
-    ∙ ap (λ s. slice_set b.execs c (exec_count s p new.id.0 (core_of new))) config
-    ∙ ap (λ i. slice_set b.execs c (exec_count b.code.settings p i.0 (core_of new))) id in
-    let v : vs ≡ slice_set b.evicts c (evict_count b.code.settings p (core_of new)) =
-    h.evicts ∙ ap (λ y. slice_set b.evicts c (evict_count y.config p (core_of y))) same
-    ∙ ap (λ s. slice_set b.evicts c (evict_count s p (core_of new))) config in
-    record {
-      allowed = h.before.whole.allowed;
-      cores = cores-with b.code.settings b.cores c new h.before.whole.cores (within b now c old h.before) config id;
-      counted = rw (cores-put (bank_of b) c new (within b now c old h.before), e, v)
-          (counted-with b.code.settings p (cores_of (bank_of b)) b.execs b.evicts c (core_of new) h.before.whole.counted h.before.exists);
-    }
+    whole-with b c new x es vs h.before.whole h.before.exists (read_again b now c old new x h.before h.after)
+    (h.stays.config ∙ own-config b now c old h.before) (h.stays.id ∙ id-here b now c old h.before) h.execs h.evicts
 
 pub acted-config : (b : Inside) (now : CoresData) (c : ℕ) (old new x : Core) → IsCoreOf b now c old → Stays old new
     → x ≡ get_or (slice_set b.cores c new) c x → x.config ≡ b.code.settings
 acted-config b now c old new x h t e =
     ap (λ y. y.config) (read_again b now c old new x h e) ∙ t.config ∙ own-config b now c old h
+
+-- ---- a bank that was given another core in the place of one
+
+module _ (a b : Inside) (now : CoresData) (i : CoreId) (new x : Core) (same : a ≡ b) (whole : IsBank b) (seen : bank_of b ≡ now)
+    (own : IsOwnCore now.code.settings i new) (read : x ≡ get_or (slice_set a.cores i.0 new) i.0 x) where
+  bank-here : IsBank a
+  bank-here = subst IsBank (sym same) whole
+
+  settings-here : now.code.settings ≡ a.code.settings
+  settings-here = ap (λ d. d.code.settings) (sym (ap bank_of same ∙ seen))
+
+  exists-here : i.0 < a.code.settings.cores
+  exists-here = subst (λ s. i.0 < s.cores) settings-here own.exists
+
+  given-again : x ≡ new
+  given-again = read ∙ get_or-set_at a.cores i.0 i.0 new x refl (rw bank-here.cores.count exists-here)
+
+  config-given : new.config ≡ a.code.settings
+  config-given = own.config ∙ settings-here
+
+  pub given-config : x.config ≡ a.code.settings
+  given-config = ap (λ y. y.config) given-again ∙ config-given
+
+  pub given-allowed : IsAllowed x.config
+  given-allowed = subst IsAllowed (sym given-config) bank-here.allowed
+
+  pub given-whole : (es vs : List ℕ) → es ≡ slice_set a.execs i.0 (exec_count x.config (program (started a.code)) x.id.0 (core_of x))
+      → vs ≡ slice_set a.evicts i.0 (evict_count x.config (program (started a.code)) (core_of x))
+      → IsBank (with_core a i.0 new es vs)
+  given-whole es vs = whole-with a i.0 new x es vs bank-here exists-here given-again config-given own.id
 
 -- ---- what the calls answer
 

@@ -4,3 +4,4 @@ pub mod BankInside
 pub mod Acted
 pub mod Uses
 pub mod Rest
+pub mod Restored

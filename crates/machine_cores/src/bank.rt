@@ -1,7 +1,8 @@
 // The cores of a machine, with what each can do next.
-ghost use Rattle.std.specs.Prelude.{◌≡◌, ◌<◌, IfOk};
+ghost use Rattle.std.specs.Prelude.{◌≡◌, ◌<◌, ℕ, IfOk, Some, length, slice_get};
 ghost use Rattle.image_load.specs.Contents.{started};
 ghost use Rattle.core_node.specs.View.{core_of};
+ghost use Rattle.core_node.specs.declared.state.Core.{Core as CoreData};
 ghost use Rattle.machine_cores.specs.Bank.{cores_of, first_core};
 
 use crate::counting::{count_uses, start_cores};
@@ -60,7 +61,17 @@ impl CoreBank {
         ensures config { result.now.config ≡ self.now.code.settings }
         ensures id { result.now.id ≡ core }
         ensures state { core_of result.now ≡ cores_of self.now core.0 }
+        ensures data { slice_get self.now.cores core.0 ≡ Some result.now }
     {
         &self.cores.items[core.0 as usize]
+    }
+
+    /// All cores by number, to be read. It takes constant time.
+    pub fn all_cores(&self) -> &[CoreNode]
+        ensures data { result.now ≡ self.now.cores }
+        ensures count { length self.now.cores ≡ self.now.code.settings.cores }
+        ensures config { (c : ℕ) (x : CoreData) → slice_get self.now.cores c ≡ Some x → x.config ≡ self.now.code.settings }
+    {
+        self.cores.items.as_slice()
     }
 }

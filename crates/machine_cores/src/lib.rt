@@ -4,8 +4,10 @@
 mod acting;
 mod bank;
 mod choosing;
+mod count;
 mod counting;
 mod reading;
+mod restoring;
 
 pub use bank::CoreBank;
 pub use counting::start_cores;

@@ -1,5 +1,6 @@
 pub mod Parts
 pub mod Answers
+pub mod OneRestored
 pub mod Starts
 pub mod MarkedTo
 pub mod MarkedFrom

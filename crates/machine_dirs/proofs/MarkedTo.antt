@@ -91,7 +91,7 @@ marked-step x s d i q m0 r old mid new w at fly takes cs ds net ready = record {
     ]
 
 -- a number that is in flight stands somewhere
-those-find : (p : ℕ → Bool) (n k : ℕ) → k < n → p k ≡ true → (j : ℕ) × (slice_get (those p n) j ≡ Some k)
+pub those-find : (p : ℕ → Bool) (n k : ℕ) → k < n → p k ≡ true → (j : ℕ) × (slice_get (those p n) j ≡ Some k)
 unfolding those
 those-find p zero k h e = absurd (omega arith)
 those-find p (suc n) k h e = elim (cases_eq k n) [
@@ -108,12 +108,12 @@ those-find p (suc n) k h e = elim (cases_eq k n) [
     left (x ∷ xs) ys zero y e = e
     left (x ∷ xs) ys (suc j) y e = left xs ys j y e
 
-link-within : (l : Link) (k : ℕ) (m : Msg) → slice_index_or l k None ≡ Some m → k < length l
+pub link-within : (l : Link) (k : ℕ) (m : Msg) → slice_index_or l k None ≡ Some m → k < length l
 link-within [] k m e = absurd (cc)
 link-within (x ∷ xs) zero m e = omega arith
 link-within (x ∷ xs) (suc k) m e = let r = link-within xs k m e in omega arith
 
-get-within : (xs : List ℕ) (j y : ℕ) → slice_get xs j ≡ Some y → j < length xs
+pub get-within : (xs : List ℕ) (j y : ℕ) → slice_get xs j ≡ Some y → j < length xs
 get-within [] j y e = absurd (cc)
 get-within (x ∷ xs) zero y e = omega arith
 get-within (x ∷ xs) (suc j) y e = let r = get-within xs j y e in omega arith

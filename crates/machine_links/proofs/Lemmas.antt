@@ -13,6 +13,7 @@ use Rattle.rules_tcc.specs.State.{World, Link}
 use Rattle.rules_tcc.specs.Seen.{numbers}
 use Rattle.rules_tcc.specs.Useful.{nodes, delivers}
 use Rattle.machine_links.specs.Flights.{Flights, net_of, is_ready, with_mark, nodes_of, ready_on, ready_list}
+pub use Rattle.machine_links.proofs.Passed.{length-passed, passed-flight}
 pub use Rattle.machine_links.proofs.Reading.{marked-flies}
 
 filter-numbers : (p : ℕ → Bool) (n : ℕ) → filter p (numbers n) ≡ those p n

@@ -13,6 +13,7 @@ pub mod Flown
 pub mod Reading
 pub mod Taking
 pub mod Behind
+pub mod Passed
 pub mod Quiet
 pub mod Listing
 pub mod Listed

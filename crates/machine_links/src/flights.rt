@@ -1,6 +1,7 @@
 // The messages in flight of a machine, and which of them may be delivered.
 ghost use Rattle.std.specs.Prelude.{◌≡◌, ◌↔◌, ◌+◌, ◌-◌, ◌^◌, ◌≤◌, ◌<◌, ℕ, true, false, [], ◌∷◌, length, replicate, IsTrue, IfOk, OnOk};
 ghost use Rattle.std.specs.Prelude.{OnErr};
+ghost use Rattle.std.specs.Bool.{OnTrue, OnFalse};
 ghost use Rattle.std.specs.Prelude.{slice_get, slice_index, slice_set, Option, Some, None, IsSome, IfNone, IfSome, option_map, is_some};
 ghost use Rattle.rules_maps.specs.Words.{those, num};
 ghost use Rattle.rules_maps.specs.Nodes.{Node, Core, Dir, Deliver, Msg as PlainMsg};
@@ -54,6 +55,7 @@ impl Model for InFlight {
 
 impl InFlight {
     ghost use Rattle.machine_links.specs.Flights.{lane, net_of, is_ready, with_mark, ready_list, flying};
+    ghost use Rattle.machine_links.specs.Passed.{passed_to};
     ghost use Rattle.machine_links.specs.Places.{is_link};
     ghost use Rattle.machine_links.specs.Subject.{IsListed, about, bucket, entry, key, of_key, subject_of};
 
@@ -89,6 +91,13 @@ impl InFlight {
         ensures { result ≡ self.now.dirs }
     {
         self.grid.dirs
+    }
+
+    /// Whether there is such a link: one of the two is a core, and the other a directory or the vendor. It takes constant time.
+    pub fn has_link(&self, src: NodeId, dst: NodeId) -> bool
+        ensures { result ≡ is_link self.now.cores self.now.dirs (node_of src) (node_of dst) }
+    {
+        self.grid.is_link(src, dst)
     }
 
     /// How many messages were sent on a link: 0 where there is no such link. It takes constant time.
@@ -175,6 +184,29 @@ impl InFlight {
         }
     }
 
+    /// Lets so many messages have been sent on a link, of which those that are new are consumed, so that the next one gets that number.
+    /// False exactly where there is no such link, or more were sent on it, and then nothing is changed. It takes constant time and
+    /// no memory.
+    pub fn restore_sent(&mut self, src: NodeId, dst: NodeId, sent: u64) -> bool
+        ensures fits { IsTrue result ↔ (is_link self.old.cores self.old.dirs (node_of src) (node_of dst) ≡ true)
+            × (length (net_of self.old (node_of src) (node_of dst)) ≤ sent) }
+        ensures cores { self.new.cores ≡ self.old.cores }
+        ensures dirs { self.new.dirs ≡ self.old.dirs }
+        ensures net { OnTrue result (net_of self.new ≡ passed_to (net_of self.old) (node_of src) (node_of dst) sent) }
+        ensures ready { is_ready self.new ≡ is_ready self.old }
+        ensures index { self.new.index ≡ self.old.index }
+        ensures unchanged { OnFalse result (self.new ≡ self.old) }
+    {
+        let Some(at) = self.grid.place(src, dst) else {
+            return false;
+        };
+        if self.lanes[at].sent() > sent {
+            return false;
+        }
+        self.lanes[at].pass_to(sent);
+        true
+    }
+
     /// Takes the message of that name out; `None` exactly where it isn't in flight, and then nothing is changed.
     pub fn take(&mut self, name: Name) -> Option<Msg>
         ensures given { option_map msg_of result ≡ in_flight (net_of self.old) (node_of name.src) (node_of name.dst) name.seq }
@@ -225,6 +257,14 @@ impl InFlight {
     {
         let (seq, held) = self.lane(src, dst)?.waiting_at(i)?;
         Some((seq, &held.msg))
+    }
+
+    /// The links of all pairs of nodes by source and then destination, in the order of cores, directories and the vendor, to be read.
+    /// Nothing was sent where two nodes have no link. It takes constant time.
+    pub fn all_lanes(&self) -> &[Lane]
+        ensures { result.now ≡ self.now.lanes }
+    {
+        self.lanes.as_slice()
     }
 
     /// Marks a message in flight, or takes its mark.

@@ -53,6 +53,7 @@ impl Model for Lane {
 
 impl Lane {
     ghost use Rattle.machine_links.specs.Lane.{is_marked, is_waiting, numbers_of, marked_as};
+    ghost use Rattle.machine_links.specs.Passed.{passed};
 
     /// Nothing was sent. No memory is taken yet.
     pub fn new(alloc: Global) -> Self
@@ -89,6 +90,16 @@ impl Lane {
                 Ok(())
             }
             Err(NoMemory) => Err(NoMemory),
+        }
+    }
+
+    /// Lets so many messages have been sent, of which those that are new are consumed. Where no fewer were sent nothing is changed.
+    /// It takes constant time and no memory.
+    pub fn pass_to(&mut self, sent: u64)
+        ensures { self.new ≡ passed sent self.old }
+    {
+        if self.sent < sent {
+            self.sent = sent;
         }
     }
 

@@ -4,7 +4,7 @@ use Rattle.std.proofs.Common.{◌∙◌, subst, get_or}
 use Rattle.std.specs.Prelude.{◌↔◌, IsTrue}
 use Rattle.tcc_base.specs.declared.names.NodeId.{NodeId}
 use Rattle.base_lemmas.proofs.Lemmas.{node_eq-refl}
-use Rattle.theorem_bounds.specs.Bounds.{CacheInMemory}
+use Rattle.theorem_sound.specs.Sound.{MarksInMemory}
 use Rattle.rules_maps.specs.Bridge.{node_of}
 use Rattle.rules_maps.specs.Cache.{Cache, is_dirty}
 use Rattle.rules_maps.specs.Nodes.{Node, Msg as PlainMsg}
@@ -22,12 +22,12 @@ use Rattle.machine_links.specs.Flights.{net_of}
 use Rattle.net_core.specs.Machine.{Machine, history_of, settings_of, world_of}
 use Rattle.net_core.specs.Whole.{IsWhole}
 use Rattle.net_core.proofs.Words.Away.{clean-line}
-use Rattle.net_core.proofs.Reaching.{settled-net, whole-bounded}
+use Rattle.net_core.proofs.Keeping.{settled-net}
 
 -- ---- one cache
 
 -- no line has a dirty word where no line in memory has one
-clean-word : (sh : Shape) (c : Cache) (v : ℕ) → CacheInMemory sh c → any_below (is_dirty c) (lines sh) ≡ false → c.dirty v ≡ None
+clean-word : (sh : Shape) (c : Cache) (v : ℕ) → MarksInMemory sh c → any_below (is_dirty c) (lines sh) ≡ false → c.dirty v ≡ None
 clean-word sh c v m none = go (c.dirty v) refl
   where
     go : (o : Option ℕ) → c.dirty v ≡ o → o ≡ None
@@ -89,7 +89,7 @@ unfolding world_of history_of
 rests-done m h e quiet rest = record {
   halted = λ c l. (rest c l).halted;
   quiet = λ src dst k. ap (λ net. in_flight net src dst k) (settled-net m e) ∙ quiet src dst k;
-  clean = λ c v l. clean-word (settings_of m) (cores_of m.cores c).cache v ((whole-bounded m h).cores c).cache (rest c l).clean;
+  clean = λ c v l. clean-word (settings_of m) (cores_of m.cores c).cache v (h.sound.marks c) (rest c l).clean;
 }
 
 pub done-settled : (m : Machine) → IsDone (settings_of m) (world_of m) → m.unsent ≡ []

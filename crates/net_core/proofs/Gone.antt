@@ -1,15 +1,14 @@
--- A machine that forgets commits: the least TID that a directory serves, and the events that lead there.
-use Rattle.std.proofs.Common.{◌≡◌, ℕ, ◌+◌, ◌<◌, ◌≤◌, ◌⊎◌, inl, inr, ⊎_elim, List, ◌++◌, Some, min, ap, sym, ◌∙◌, subst, arith}
+-- A machine that forgets commits: the least TID that a directory serves, and that the machine stays sound.
+use Rattle.std.proofs.Common.{◌≡◌, ℕ, ◌+◌, ◌<◌, ◌≤◌, ◌⊎◌, inl, inr, ⊎_elim, List, [], ◌∷◌, ◌++◌, min, sym, ◌∙◌, subst, arith}
 use Rattle.std.proofs.lemmas.Bool.{cases_eq, cases_lt}
 use Rattle.tcc_base.specs.declared.access.Commit.{Commit}
-use Rattle.rules_tcc.specs.Step.{History}
-use Rattle.machine_commits.specs.Forgetting.{AllBelow, Forgets, merged}
-use Rattle.machine_commits.specs.Rising.{Rising}
-use Rattle.machine_commits.proofs.Lemmas.{AllBelow-more, merged-forgotten}
+use Rattle.theorem_serial.specs.Owners.{times}
+use Rattle.theorem_sound.proofs.Lemmas.{sound_fewer}
+use Rattle.machine_commits.specs.Forgetting.{AllBelow, Forgets}
+use Rattle.machine_commits.proofs.Lemmas.{AllBelow-more}
 use Rattle.net_core.specs.Forgotten.{Forgot, IsLeast, served}
 use Rattle.net_core.specs.Machine.{Machine, history_of, settings_of, world_of}
-use Rattle.net_core.specs.Reached.{Reached}
-use Rattle.net_core.specs.Whole.{IsWhole}
+use Rattle.net_core.specs.Whole.{IsSound, IsWhole}
 use Rattle.net_core.proofs.Events.Kept.{with_room}
 
 -- ---- the least TID
@@ -36,29 +35,24 @@ least-more m n t u h e = by (cases_lt u t)
 
 -- ---- the machine after
 
-pub forgot-reached : (m : Machine) (cs : List Commit) (room t : ℕ) → Reached m → Rising m.commits → Forgets t m.commits cs
-    → Reached (with_room m cs room)
-unfolding history_of world_of
-forgot-reached m cs room t r rising f = record {
-  taken = r.taken;
-  gone = r.gone ++ f.gone;
-  count = r.count;
-  reaches = r.reaches
-      ∙ ap (λ (xs : List Commit). Some (the_history xs))
-      (ap (merged r.gone) f.parts ∙ sym (merged-forgotten r.gone f.gone cs (subst Rising f.parts rising)));
-}
-  where
-    the_history : List Commit → History
-    the_history xs = record { world = world_of m; commits = xs }
+fewer-times : (t : ℕ) (gone cs : List Commit) → times t cs ≤ times t (gone ++ cs)
+unfolding times
+fewer-times t [] cs = omega arith
+fewer-times t (c ∷ gone) cs = omega (arith, fewer-times t gone cs)
 
-pub forgot-whole : (m : Machine) (cs : List Commit) (room t : ℕ) → IsWhole m → Rising m.commits → Forgets t m.commits cs
-    → IsWhole (with_room m cs room)
-forgot-whole m cs room t w rising f = record {
+forgot-sound : (m : Machine) (cs : List Commit) (room t : ℕ) → IsSound m → Forgets t m.commits cs → IsSound (with_room m cs room)
+unfolding history_of world_of
+forgot-sound m cs room t s f =
+    sound_fewer (settings_of m) m.events (world_of m) m.commits cs
+    (λ u. subst (λ xs. times u cs ≤ times u xs) (sym f.parts) (fewer-times u f.gone cs)) s
+
+pub forgot-whole : (m : Machine) (cs : List Commit) (room t : ℕ) → IsWhole m → Forgets t m.commits cs → IsWhole (with_room m cs room)
+forgot-whole m cs room t w f = record {
   allowed = w.allowed;
   dirs = w.dirs;
   flight_cores = w.flight_cores;
   flight_dirs = w.flight_dirs;
-  reached = forgot-reached m cs room t w.reached rising f;
+  sound = forgot-sound m cs room t w.sound f;
   few = w.few;
   marked = w.marked;
 }

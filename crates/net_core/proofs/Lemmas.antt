@@ -1,7 +1,7 @@
--- What other crates may cite: that what a machine has come to is in bounds, that one more event leads on from there, that a commit has a
+-- What other crates may cite: that a message in flight is as it may be, that one more event leads on from a run, that a commit has a
 -- new TID, which commits were forgotten, which events are enabled, and the parts of the list of useful events.
-pub use Rattle.net_core.proofs.Running.{after-all, next-forgotten, run-on}
-pub use Rattle.net_core.proofs.Reaching.{full_history, in-bounds, reached-on, reached-same, settled-net, whole-bounded}
+pub use Rattle.net_core.proofs.Running.{after-all, run-on}
+pub use Rattle.net_core.proofs.Keeping.{settled-net, sound-message}
 pub use Rattle.net_core.proofs.Events.Kept.{new-tid, length-taking}
 pub use Rattle.net_core.proofs.Events.Runs.{answers-after, took-after, one-more, same-code}
 pub use Rattle.net_core.proofs.Gone.{forgot-passed}

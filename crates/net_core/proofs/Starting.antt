@@ -7,17 +7,15 @@ use Rattle.rules_maps.specs.Bridge.{node_of}
 use Rattle.tcc_msg.specs.Plain.{sends_of}
 use Rattle.rules_tcc.specs.Links.{sending}
 use Rattle.rules_tcc.specs.State.{dir_start, start, vendor_start}
-use Rattle.rules_tcc.specs.Step.{run, run_from}
-use Rattle.machine_commits.specs.Forgetting.{merged}
+use Rattle.theorem_sound.specs.Sound.{Sound}
+use Rattle.theorem_sound.proofs.Lemmas.{sound_at_start}
 use Rattle.machine_cores.specs.Bank.{cores_of, first_core}
 use Rattle.machine_dirs.specs.Bank.{dirs_of}
 use Rattle.machine_links.specs.Flights.{net_of}
 use Rattle.net_core.specs.Delivery.{AreMarked}
-use Rattle.net_core.specs.Forgotten.{with_forgotten}
 use Rattle.net_core.specs.Machine.{Machine, history_of, settings_of, start_of, world_of}
-use Rattle.net_core.specs.Reached.{Reached}
 use Rattle.rules_riscv.specs.Starting.{at_start}
-use Rattle.net_core.specs.Whole.{IsWhole}
+use Rattle.net_core.specs.Whole.{IsSound, IsWhole}
 use Rattle.net_core.proofs.Links.Placing.{sending-none}
 
 -- what the parts of the first machine are
@@ -52,14 +50,11 @@ none-marked : (m : Machine) → net_of m.flights ≡ (λ src dst. [])
 unfolding AreMarked
 none-marked m net src dst k x fly = let gone : None ≡ Some x = subst (λ f. get_or (f src dst) k None ≡ Some x) net fly in absurd (cc)
 
-reached-first : (m : Machine) → history_of m ≡ at_start (start_of m) → m.events ≡ 0 → Reached m
-unfolding run run_from merged
-reached-first m history events = record {
-  taken = [];
-  gone = [];
-  count = sym events;
-  reaches = ap (λ h. Some (with_forgotten [] h)) (sym history);
-}
+sound-first : (m : Machine) → IsAllowed (settings_of m) → history_of m ≡ at_start (start_of m) → m.events ≡ 0 → IsSound m
+unfolding started
+sound-first m allowed history events =
+    subst (λ k. Sound (settings_of m) k (history_of m)) (sym events)
+    (subst (Sound (settings_of m) 0) (sym history) (sound_at_start (start_of m) allowed))
 
 pub first-whole : (c : Contents) (m : Machine) → IsFirst c m → IsWhole m
 first-whole c m f = record {
@@ -67,7 +62,8 @@ first-whole c m f = record {
   dirs = f.settings ∙ ap (λ k. k.settings) (sym f.code);
   flight_cores = f.flight_cores ∙ ap (λ k. k.settings.cores) (sym f.code);
   flight_dirs = f.flight_dirs ∙ ap (λ k. k.settings.dirs) (sym f.code);
-  reached = reached-first m (first-history c m f ∙ ap (λ k. at_start (started k)) (sym f.code)) f.events;
+  sound = sound-first m (subst (λ k. IsAllowed k.settings) (sym f.code) f.allowed)
+      (first-history c m f ∙ ap (λ k. at_start (started k)) (sym f.code)) f.events;
   few = let none = f.events in omega (arith, none);
   marked = none-marked m f.net;
 }

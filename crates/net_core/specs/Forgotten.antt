@@ -1,13 +1,7 @@
--- The commits that a machine has forgotten, and those that it forgets: the ones that every directory has passed.
-use Rattle.std.specs.Prelude.{ℕ, ◌≡◌, ◌<◌, ◌≤◌, List}
-use Rattle.tcc_base.specs.declared.access.Commit.{Commit}
-use Rattle.rules_tcc.specs.Step.{History}
-use Rattle.machine_commits.specs.Forgetting.{Forgets, merged}
+-- The commits that a machine forgets: those that every directory has passed.
+use Rattle.std.specs.Prelude.{ℕ, ◌≡◌, ◌<◌, ◌≤◌}
+use Rattle.machine_commits.specs.Forgetting.{Forgets}
 use Rattle.net_core.specs.Machine.{Machine, settings_of, world_of}
-
--- with the commits that are forgotten, each in its place
-abbrev pub with_forgotten : (gone : List Commit) → History → History
-with_forgotten gone h = record { world = h.world; commits = merged gone h.commits }
 
 -- the TID that a directory serves
 abbrev pub served : Machine → (dir : ℕ) → ℕ

@@ -5,6 +5,7 @@ pub mod Forgotten
 pub mod Reached
 pub mod Delivery
 pub mod Whole
+pub mod Restored
 pub mod Answers
 pub mod Inside
 pub mod Away

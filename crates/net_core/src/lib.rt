@@ -15,6 +15,7 @@ mod noting;
 mod placing;
 mod readers;
 mod reading;
+mod restoring;
 mod seeing;
 mod seen_ram;
 mod showing;

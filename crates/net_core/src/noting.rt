@@ -1,6 +1,6 @@
 // Which lines have a copy away from their homes: in a core's frame, or in a message on its way from a core.
 ghost use Rattle.std.specs.Prelude.{◌≡◌, ◌≢◌, ◌<◌, ℕ, [], Some, IfOk};
-ghost use Rattle.rules_maps.specs.Cache.{IsCache, dirty_mask};
+ghost use Rattle.rules_maps.specs.Cache.{dirty_mask};
 ghost use Rattle.rules_maps.specs.Nodes.{Core, Dir};
 ghost use Rattle.rules_maps.specs.Shape.{lines};
 ghost use Rattle.rules_maps.specs.Words.{line_of};
@@ -64,10 +64,10 @@ fn note_set(notes: &mut [bool], core: &CoreNode, set: u16)
 
 /// Notes the lines of which a core has a dirty word. It takes constant time where it has none, else time in its frames.
 fn note_core(notes: &mut [bool], core: &CoreNode)
-    requires cache { IsCache core.now.config (core_of core.now).cache }
     ensures { let c = (core_of core.now).cache in
         Covers notes.old notes.new (λ l. l < lines core.now.config → (w : ℕ) → line_of w ≡ l → c.dirty w ≡ None) }
 {
+    core.keeps_cache();
     if core.any_dirty() {
         for set in 0..core.core().config.sets() {
             note_set(notes, core, set);

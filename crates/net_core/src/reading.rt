@@ -1,6 +1,7 @@
 // What is committed, and what the nodes hold.
-ghost use Rattle.std.specs.Prelude.{◌≡◌, ◌<◌, ◌↔◌, [], IsTrue, IfOk, length};
+ghost use Rattle.std.specs.Prelude.{◌≡◌, ◌<◌, ◌↔◌, [], ℕ, IsTrue, IfOk, Some, length, slice_get};
 ghost use Rattle.core_node.specs.View.{core_of};
+ghost use Rattle.core_node.specs.declared.state.Core.{Core as CoreData};
 ghost use Rattle.rules_maps.specs.Bridge.{node_of};
 ghost use Rattle.rules_maps.specs.Shape.{lines};
 ghost use Rattle.rules_program.specs.Cores.{printed};
@@ -43,8 +44,18 @@ impl System {
         requires { core.0 < (settings_of self.now).cores }
         ensures state { core_of result.now ≡ (world_of self.now).cores core.0 }
         ensures config { result.now.config ≡ settings_of self.now }
+        ensures data { slice_get self.now.cores.cores core.0 ≡ Some result.now }
     {
         self.cores.core(core)
+    }
+
+    /// All cores by number, to be read. It takes constant time.
+    pub fn all_cores(&self) -> &[CoreNode]
+        ensures data { result.now ≡ self.now.cores.cores }
+        ensures count { length self.now.cores.cores ≡ (settings_of self.now).cores }
+        ensures config { (c : ℕ) (x : CoreData) → slice_get self.now.cores.cores c ≡ Some x → x.config ≡ settings_of self.now }
+    {
+        self.cores.all_cores()
     }
 
     /// What the last event sent, in order, with the destinations; nothing behind a call that failed. It takes constant time.

@@ -1,7 +1,6 @@
 // Words as the commits left them, wherever the newest copy is.
 ghost use Rattle.std.specs.Prelude.{◌≡◌, ◌<◌, ◌*◌, ◌/◌, [], map};
 ghost use Rattle.std.specs.List.{range_with_len};
-ghost use Rattle.rules_maps.specs.Cache.{IsCache};
 ghost use Rattle.rules_maps.specs.Nodes.{Core, Dir};
 ghost use Rattle.rules_maps.specs.Words.{word_at};
 ghost use Rattle.rules_tcc.specs.Seen.{copies_on, copy_in, seen};
@@ -38,10 +37,10 @@ fn newest_on_link(
 /// Makes of each copy the newer of it and that of a core's frame, where the word is dirty there.
 fn newest_in_core(cores: &CoreBank, core: CoreId, line: LineAddr, best: &mut [Copied; 8])
     requires exists { core.0 < cores.now.code.settings.cores }
-    requires cache { IsCache cores.now.code.settings (cores_of cores.now core.0).cache }
     ensures { let c = (cores_of cores.now core.0).cache in
         AreNewest best.old best.new (λ k. copy_in (c.value (word_at line.0 k)) (c.dirty (word_at line.0 k))) }
 {
+    cores.core(core).keeps_cache();
     if let Some(frame) = cores.frame_of(core, line) {
         if frame.dirty.0 != 0 {
             newest_under(frame.dirty, &frame.words, frame.tag, best);

@@ -2,7 +2,7 @@
 ghost use Rattle.std.specs.Prelude.{◌≡◌, ◌↔◌, [], IfOk, IsTrue, OnOk};
 ghost use Rattle.image_load.specs.Contents.{started};
 ghost use Rattle.net_core.specs.Machine.{history_of};
-ghost use Rattle.net_core.specs.Reached.{Reached};
+ghost use Rattle.net_core.specs.Whole.{IsSound};
 ghost use Rattle.rules_riscv.specs.Starting.{at_start};
 
 use crate::placing::place_all;
@@ -18,8 +18,8 @@ use tcc_base::{NoMemory, NodeId};
 use tcc_msg::Outgoing;
 use tid_vendor::Vendor;
 
-/// The machine. In a clause `history_of` makes of it the state of the rules with the commits so far, which some list of events leads to
-/// from the start, where those that `forget` dropped stand in their places: `events` says so.
+/// The machine. In a clause `history_of` makes of it the state of the rules with the commits so far, and `events` says what holds
+/// of it, whatever has led to it.
 ///
 /// A message is in flight from the event that sends it. Where there was no memory to put it on its link it stands in a list of its own
 /// until there is; `settle` puts it there, and each event does so first.
@@ -75,10 +75,11 @@ impl System {
         })
     }
 
-    /// The number of events that were taken. It takes constant time.
+    /// The number of events that were taken. It takes constant time. A machine is sound, whatever has led to it: what is in flight is of
+    /// a kind and of a line that belong where it goes, a TID is with one core at most, and so on.
     pub fn events(&self) -> u64
         ensures count { result ≡ self.now.events }
-        ensures reached { Reached self.now }
+        ensures sound { IsSound self.now }
     {
         self.events
     }

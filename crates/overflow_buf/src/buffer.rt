@@ -1,6 +1,6 @@
 // The buffer: the kept words of all lines, in an index map by line.
 ghost use Rattle.std.specs.Prelude.{◌≡◌, ◌≢◌, ◌<◌, ◌↔◌, ℕ, true, Option, Some, None, IsTrue, IfSome, IfNone, IfOk, OnOk, OnErr, cond};
-ghost use Rattle.std.specs.Prelude.{length, Contains, nat_eq, ◌==◌};
+ghost use Rattle.std.specs.Prelude.{length, slice_get, Contains, MatchOption, nat_eq, ◌==◌};
 ghost use Rattle.std.specs.List.{AllPairs, IsDistinct};
 ghost use Rattle.std.specs.Map.{keys_of};
 ghost use Rattle.tcc_base.specs.Put.{put as put_value};
@@ -131,6 +131,25 @@ impl OverflowBuf {
         ensures { IsTrue result ↔ (spilled self.now ≡ none_spilled) }
     {
         self.lines.is_empty()
+    }
+
+    /// The number of lines of which words are kept. It takes constant time.
+    pub fn len(&self) -> usize
+        ensures { result ≡ length self.now }
+    {
+        self.lines.len()
+    }
+
+    /// A line of which words are kept, with the mask of these words and with all eight words, as they are held: of those outside the mask
+    /// nothing is known. Lines have the numbers below `len`, in no order; None where there is none of this number. It takes constant time.
+    pub fn entry(&self, i: usize) -> Option<(LineAddr, Mask, [u32; 8])>
+        ensures { MatchOption result (slice_get self.now i ≡ None)
+            (λ e. slice_get self.now i ≡ Some (e.0.0, record { mask = e.1; words = e.2 })) }
+    {
+        match self.lines.get_index(i) {
+            None => None,
+            Some((line, kept)) => Some((LineAddr(*line), kept.mask, kept.words)),
+        }
     }
 
     /// The keys of the map.

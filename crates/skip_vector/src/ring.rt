@@ -1,6 +1,8 @@
 // The skips as a ring of flags, one for each TID above the served one as far as the last that was skipped.
-ghost use Rattle.std.specs.Prelude.{◌≡◌, ℕ, ◌+◌, ◌-◌, ◌^◌, ◌<◌, ◌≤◌, ◌++◌, Bool, false, OnOk, OnErr, length, replicate};
+ghost use Rattle.std.specs.Prelude.{◌≡◌, ℕ, ◌+◌, ◌-◌, ◌^◌, ◌<◌, ◌≤◌, ◌++◌, ◌↔◌, Bool, false, OnOk, OnErr, IfOk, IfSome, IsSome, IsTrue};
+ghost use Rattle.std.specs.Prelude.{length, replicate};
 ghost use Rattle.rules_maps.specs.Serving.{Serving, first_serving, is_skipped, skipped, skip_at, advance as advanced};
+ghost use Rattle.skip_vector.specs.Served.{IsServed};
 
 use crate::skips::Skips;
 use std::alloc::Global;
@@ -20,17 +22,38 @@ pub struct RingSkips {
 }
 
 impl Model for RingSkips {
-    ghost use Rattle.std.specs.Prelude.{◌+◌, ◌^◌, ◌<◌, ◌≤◌, length};
+    ghost use Rattle.std.specs.Prelude.{length};
     ghost use Rattle.rules_maps.specs.Serving.{Serving};
+    ghost use Rattle.skip_vector.specs.Served.{IsServed};
 
     ghost Value = { Serving };
 
     ghost view = { λ s. record { serving = s.serving; skips = s.ahead.items } };
 
-    ghost invariant = { λ s. (s.serving ≤ 2 ^ 62 + 1) × (0 < length s.ahead.items → s.serving + length s.ahead.items < 2 ^ 62) };
+    ghost invariant = { λ s. IsServed s.serving (length s.ahead.items) };
 }
 
 impl RingSkips {
+    /// Serves this TID and has skipped those above it that the list says, the first of which is the next one. `None` exactly where
+    /// no directory serves so high a TID, or so many above it. Its time and memory go with the list.
+    pub fn restored(
+        alloc: Global,
+        serving: Tid,
+        skips: &[bool],
+    ) -> Result<Option<RingSkips>, NoMemory>
+        ensures served { IfOk result (λ found. IsSome found ↔ IsServed serving.0 (length skips.now)) }
+        ensures value { IfOk result (λ found. IfSome found (λ s. s ≡ record { serving = serving.0; skips = skips.now })) }
+    {
+        if !is_served(serving, skips.len()) {
+            return Ok(None);
+        }
+        let ahead = ring_of(alloc, skips)?;
+        Ok(Some(RingSkips {
+            serving: serving.0,
+            ahead,
+        }))
+    }
+
     /// How many TIDs above the served one are kept, skipped or not: no TID behind them was skipped. It takes constant time.
     pub fn skips_ahead(&self) -> usize
         ensures count { result ≡ length self.now.skips }
@@ -115,4 +138,26 @@ fn reach(ahead: &mut VecDeque<bool>, place: usize) -> Result<(), NoMemory>
         return Ok(());
     }
     ahead.resize(place + 1, false).map_err(|_| NoMemory)
+}
+
+// Whether a directory can serve this TID with so many flags above it.
+fn is_served(serving: Tid, ahead: usize) -> bool
+    ensures { IsTrue result ↔ IsServed serving.0 ahead }
+{
+    const HIGHEST: u64 = 1 << 62;
+    if ahead == 0 {
+        return serving.0 <= HIGHEST + 1;
+    }
+    serving.0 < HIGHEST && (ahead as u64) < HIGHEST - serving.0
+}
+
+// The flags of a list, in a ring.
+fn ring_of(alloc: Global, flags: &[bool]) -> Result<VecDeque<bool>, NoMemory>
+    ensures { IfOk result (λ ring. ring.items ≡ flags.now) }
+{
+    let mut all = Vec::new(alloc);
+    match all.extend_from_slice(flags) {
+        Ok(()) => Ok(VecDeque::from_vec(all)),
+        Err(_) => Err(NoMemory),
+    }
 }

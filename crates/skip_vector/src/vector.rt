@@ -1,6 +1,7 @@
 // The skip vector that a directory keeps: the ring.
-ghost use Rattle.std.specs.Prelude.{◌≡◌, ℕ, ◌+◌, ◌^◌, ◌<◌, ◌≤◌, OnOk, OnErr, length};
+ghost use Rattle.std.specs.Prelude.{◌≡◌, ℕ, ◌+◌, ◌^◌, ◌<◌, ◌≤◌, ◌↔◌, OnOk, OnErr, IfOk, IfSome, IsSome, length};
 ghost use Rattle.rules_maps.specs.Serving.{Serving, first_serving, is_skipped, skipped, advance as advanced};
+ghost use Rattle.skip_vector.specs.Served.{IsServed};
 
 use crate::ring::RingSkips;
 use crate::skips::Skips;
@@ -29,6 +30,22 @@ impl SkipVector {
     {
         SkipVector {
             skips: RingSkips::new(alloc),
+        }
+    }
+
+    /// Serves this TID and has skipped those above it that the list says, the first of which is the next one. `None` exactly where
+    /// no directory serves so high a TID, or so many above it. Its time and memory go with the list.
+    pub fn restored(
+        alloc: Global,
+        serving: Tid,
+        skips: &[bool],
+    ) -> Result<Option<SkipVector>, NoMemory>
+        ensures served { IfOk result (λ found. IsSome found ↔ IsServed serving.0 (length skips.now)) }
+        ensures value { IfOk result (λ found. IfSome found (λ s. s ≡ record { serving = serving.0; skips = skips.now })) }
+    {
+        match RingSkips::restored(alloc, serving, skips)? {
+            Some(skips) => Ok(Some(SkipVector { skips })),
+            None => Ok(None),
         }
     }
 

@@ -6,7 +6,7 @@ use Rattle.std.proofs.lemmas.Nat.{div_below, div-mul-add}
 use Rattle.base_lemmas.proofs.Lemmas.{is_some-cond}
 use Rattle.rules_maps.specs.Words.{line_of, place_of}
 use Rattle.rules_maps.specs.Masks.{has}
-use Rattle.rules_maps.specs.Shape.{set_of}
+use Rattle.rules_maps.specs.Shape.{set_of, lines}
 use Rattle.rules_maps.specs.Cache.{IsCache}
 use Rattle.rules_maps.proofs.Lemmas.{has-zero}
 use Rattle.spec_cache.specs.declared.frame.FrameView.{FrameView}
@@ -146,3 +146,11 @@ module _ (h : Held) (s : IsHeld h) where
           let set : (t * h.config.ways + y) / h.config.ways < h.config.sets =
           div_below (t * h.config.ways + y) h.config.ways h.config.sets s.allowed.3.0 (omega (arith, inside, s.filled_ways)) in
           absurd (none (rw (div-mul-add t h.config.ways y r.0) at set) r.0)
+
+  -- a line that has a frame is one of memory
+  pub held_exists : (l : ℕ) → (maps h).held l ≡ true → l < lines h.config
+  unfolding maps holds_line
+  held_exists l e =
+      let r = is_some-some (frame_of h.frames l) e in
+      let q = frame_of-found h.frames l r.0 r.1 in
+      subst (λ (x : ℕ). x < lines h.config) (eqb-true r.0.line.0 l q.2) (s.exists q.0 r.0 q.1)

@@ -28,3 +28,4 @@ pub mod SetTallies
 pub mod TrackedKept
 pub mod UsefulSets
 pub mod UsefulCount
+pub mod Standing

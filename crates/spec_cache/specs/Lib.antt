@@ -9,3 +9,4 @@ pub mod PerSet
 pub mod Tracked
 pub mod Places
 pub mod InPlace
+pub mod Restored

@@ -1,6 +1,6 @@
 // A core's cache: the calls of its frames, held in one array by set and way.
 ghost use Rattle.std.specs.Prelude.{◌≡◌, ◌<◌, ℕ, [], Option, Some, None, MatchBool, MatchOption, MatchResult, IfOk, map, IsTrue, IsSome};
-ghost use Rattle.std.specs.Prelude.{is_some, false};
+ghost use Rattle.std.specs.Prelude.{◌*◌, is_some, false, replicate};
 ghost use Rattle.std.specs.Option.{option_map};
 ghost use Rattle.rules_maps.specs.Words.{line_of};
 ghost use Rattle.rules_maps.specs.Shape.{lines, set_of};
@@ -42,6 +42,7 @@ impl SpecCache {
     /// An empty cache. All memory that it will need is taken here.
     pub fn new(alloc: Global, cfg: &Config) -> Result<SpecCache, NoMemory>
         ensures config { IfOk result (λ c. c.config ≡ cfg.now) }
+        ensures frames { IfOk result (λ c. c.frames ≡ replicate (cfg.now.sets * cfg.now.ways) None) }
         ensures empty { IfOk result (λ c. maps c ≡ empty_cache) }
         ensures consistent { IfOk result (λ c. IsCache c.config (maps c)) }
     {

@@ -17,6 +17,7 @@ mod per_set;
 mod places;
 mod quotients;
 mod readers;
+mod restoring;
 mod search;
 mod set_frames;
 mod slots;

@@ -1,6 +1,6 @@
 // What a core asks of its cache between its changes: single frames, and what all frames hold together.
 ghost use Rattle.std.specs.Prelude.{◌≡◌, ◌<◌, ◌≤◌, ◌&&◌, ◌||◌, ◌==◌, ℕ, Option, None, Some, MatchOption, IfOk, IfSome, OnOk};
-ghost use Rattle.std.specs.Prelude.{cond, length, map};
+ghost use Rattle.std.specs.Prelude.{cond, get_or, length, map, true};
 ghost use Rattle.std.specs.Option.{option_map};
 ghost use Rattle.rules_maps.specs.Words.{any_below, count_below, those};
 ghost use Rattle.rules_maps.specs.Shape.{lines, home, set_of};
@@ -8,13 +8,14 @@ ghost use Rattle.rules_maps.specs.Cache.{IsCache, keeps as keeps_word, is_marked
 ghost use Rattle.rules_maps.specs.Cache.{is_dirty as dirty_line, writes_at as any_write, marks_by_home as every_mark};
 ghost use Rattle.rules_maps.specs.CacheUse.{is_number, useful_ways};
 ghost use Rattle.rules_maps.specs.CacheLook.{reads_masked as any_masked};
-ghost use Rattle.spec_cache.specs.Held.{maps};
+ghost use Rattle.spec_cache.specs.Held.{maps, IsHeld};
 ghost use Rattle.spec_cache.specs.Home.{mark_of};
 ghost use Rattle.spec_cache.specs.MarkedSets.{has_marked};
 ghost use Rattle.spec_cache.specs.Useful.{wants_of, useful_in, in_set};
 ghost use Rattle.spec_cache.specs.PerSet.{count_set, idle_way, used_way};
 
 use crate::cache::SpecCache;
+use crate::frame::FrameView;
 use crate::frames::{line_of_word, place_of_word};
 use crate::masks::has;
 use crate::useful::Wants;
@@ -22,11 +23,38 @@ use crate::ways::Ways;
 use tcc_base::{Config, DirId, LineAddr, List, Mask, NoMemory, WordAddr};
 
 impl SpecCache {
+    /// A law of every cache: its ways are in order, its maps are consistent, and each line that has a frame is one of memory. It
+    /// takes constant time.
+    pub fn keeps_order(&self)
+        ensures in_order { IsHeld self.now }
+        ensures consistent { IsCache self.now.config (maps self.now) }
+        ensures in_memory { (l : ℕ) → (maps self.now).held l ≡ true → l < lines self.now.config }
+    {
+        let _config = self.frames.config();
+    }
+
     /// The machine's settings.
     pub fn config(&self) -> Config
         ensures { result ≡ self.now.config }
     {
         self.frames.config()
+    }
+
+    /// The number of its ways, by which they have the places from 0: way `y` of set `s` has place `s * ways + y`. It takes constant time.
+    pub fn way_count(&self) -> usize
+        ensures { result ≡ length self.now.frames }
+    {
+        self.frames.frames().len()
+    }
+
+    /// The frame of the way at a place; None where it holds no line, and where there is no such way. It takes constant time.
+    pub fn way_at(&self, place: usize) -> Option<FrameView>
+        ensures { result ≡ get_or self.now.frames place None }
+    {
+        match self.frames.frames().get(place) {
+            Some(way) => *way,
+            None => None,
+        }
     }
 
     /// Whether the line has a frame.

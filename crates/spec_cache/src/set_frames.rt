@@ -57,6 +57,13 @@ impl SetFrames {
         })
     }
 
+    /// All ways.
+    pub(crate) fn frames(&self) -> &[Option<FrameView>]
+        ensures { result.now ≡ self.now.frames }
+    {
+        self.ways.frames()
+    }
+
     /// The number of lines at home there with a modified word.
     pub(crate) fn write_count(&self, home: DirId) -> usize
         ensures number { result ≡ count_ways (writes_in self.now.config.dirs home.0) self.now.frames }

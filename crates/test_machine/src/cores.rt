@@ -105,7 +105,7 @@ fn an_empty_way_stays(rt: HostRuntime) -> Result<(), Fail> {
 
 // How an instruction ended.
 #[derive(Clone, Copy, Debug, PartialEq, Eq)]
-enum Done {
+pub(crate) enum Done {
     Stepped,
     Asked,
     Committed,
@@ -113,7 +113,7 @@ enum Done {
 }
 
 // Executes one instruction.
-fn exec(core: &mut CoreNode, code: &Code, out: &mut Outgoing) -> Done
+pub(crate) fn exec(core: &mut CoreNode, code: &Code, out: &mut Outgoing) -> Done
     requires { code.now.settings ≡ core.old.config }
     ensures { core.new.config ≡ core.old.config }
 {
@@ -135,7 +135,7 @@ fn take_tid(core: &mut CoreNode, code: &Code, out: &mut Outgoing) -> (Done, bool
 }
 
 // A core that begins with this code.
-fn begun(alloc: Global, code: &Code) -> Result<CoreNode, Fail>
+pub(crate) fn begun(alloc: Global, code: &Code) -> Result<CoreNode, Fail>
     ensures { IfOk result (λ n. n.config ≡ code.now.settings) }
 {
     let entry = code.entry(CoreId(0));

@@ -6,10 +6,12 @@ ghost use Rattle.directory.specs.Foreign.{HasSmallTids, is_foreign};
 ghost use Rattle.tcc_msg.specs.Plain.{msg_of};
 
 use crate::loading::loaded;
+use dir_lines::{CoreSet, LineRecord};
 use directory::{Cause, DirError, Directory, Handled, LineState};
+use skip_vector::SkipVector;
 use std::alloc::Global;
 use std::test::Fail;
-use tcc_base::{CoreId, DirId, LineAddr, Mask, NodeId, Tid, WordAddr};
+use tcc_base::{CoreId, DirId, LineAddr, Mask, NoMemory, NodeId, Tid, WordAddr};
 use tcc_msg::{Msg, Outgoing};
 
 const LINE: LineAddr = LineAddr(1);
@@ -342,5 +344,138 @@ fn sixty_four_cores_share_a_line(rt: HostRuntime) -> Result<(), Fail> {
     assert!(rt; all_acknowledge(&mut dir, &mut out));
     assert_eq!(rt; dir.serving(), Tid(2));
     assert_eq!(rt; hand(&mut dir, 7, &msg!(load 0), &mut out), ASKED);
+    Ok(())
+}
+
+// Core 5 commits TID 1 while core 3 has the line, which hasn't acknowledged it yet; TID 3 was skipped.
+fn committing(alloc: Global) -> Result<Directory, Fail>
+    ensures cores { IfOk result (λ d. d.lines.place.shape.cores ≡ 64) }
+    ensures home { IfOk result (λ d. is_at_home d.lines.place 1 ≡ true) }
+{
+    let mut dir = begun(alloc)?;
+    let mut out = Outgoing::new(alloc);
+    let _ = hand(&mut dir, 3, &msg!(load 0), &mut out);
+    let _ = hand(&mut dir, 0, &msg!(skip 3), &mut out);
+    let _ = hand(&mut dir, 5, &msg!(mark 3, 1), &mut out);
+    let _ = hand(&mut dir, 5, &msg!(commit 1, 1), &mut out);
+    Ok(dir)
+}
+
+// All that a directory knows of the line.
+fn record_of(dir: &Directory) -> LineRecord
+    requires { is_at_home dir.now.lines.place 1 ≡ true }
+{
+    let state = dir.line_state(LINE);
+    LineRecord {
+        sharers: dir.sharers(LINE),
+        owner: state.owner,
+        tag: state.tag,
+        asked: state.asked,
+        mark: state.mark,
+    }
+}
+
+// The TID that a directory serves, with the skips.
+fn skips_of(alloc: Global, dir: &Directory) -> Result<Option<SkipVector>, NoMemory> {
+    let mut flags = Vec::new(alloc);
+    for k in 0..dir.skips_ahead() {
+        let tid = dir.serving().0.saturating_add(1).saturating_add(k as u64);
+        if flags.push(dir.is_skipped(Tid(tid))).is_err() {
+            return Err(NoMemory);
+        }
+    }
+    SkipVector::restored(alloc, dir.serving(), &flags)
+}
+
+// A directory that is made from what this one says of itself.
+fn copied(alloc: Global, dir: &Directory) -> Result<Directory, Fail>
+    requires { is_at_home dir.now.lines.place 1 ≡ true }
+    ensures cores { IfOk result (λ d. d.lines.place.shape.cores ≡ 64) }
+    ensures home { IfOk result (λ d. is_at_home d.lines.place 1 ≡ true) }
+{
+    let mut copy = begun(alloc)?;
+    let _ = copy.restore_line(LINE, record_of(dir), &dir.line_words(LINE));
+    if let Some(skips) = skips_of(alloc, dir)? {
+        let _ = copy.restore_serving(skips, dir.owed());
+    }
+    Ok(copy)
+}
+
+// How that commit goes on.
+const REST: [Row; 6] = [
+    (3, msg!(probe 2), WAITS, None),
+    (3, msg!(ack false), HANDLED, None),
+    (0, msg!(skip 2), HANDLED, None),
+    (
+        3,
+        msg!(load 0),
+        ASKED,
+        Some((5, Msg::DataReq { line: LINE })),
+    ),
+    (5, msg!(back 1), HANDLED, None),
+    (3, msg!(load 0), HANDLED, Some((3, msg!(fill 9)))),
+];
+
+#[test]
+fn a_restored_directory_goes_on_as_its_original(rt: HostRuntime) -> Result<(), Fail> {
+    let mut dir = committing(rt.alloc())?;
+    let mut copy = copied(rt.alloc(), &dir)?;
+    copy.keeps_lines_home();
+    assert!(rt; dir.lines_fit() && copy.lines_fit());
+    assert_eq!(rt;
+        (copy.serving(), copy.owed(), copy.marked_lines()),
+        (Tid(1), 1, 1)
+    );
+    assert!(rt; record_of(&copy) == record_of(&dir));
+    assert!(rt; record_of(&copy).sharers.0 == 0b10_1000 && copy.line_words(LINE)[0] == 7);
+    let mut out = Outgoing::new(rt.alloc());
+    assert_eq!(rt; wrong(&mut copy, &REST, &mut out), None);
+    assert_eq!(rt; wrong(&mut dir, &REST, &mut out), None);
+    assert_eq!(rt; (copy.serving(), dir.serving()), (Tid(4), Tid(4)));
+    Ok(())
+}
+
+// A record of a line that this core owns and these cores share.
+fn owned(owner: Option<CoreId>, sharers: u64) -> LineRecord {
+    LineRecord {
+        sharers: CoreSet(sharers),
+        owner,
+        tag: Tid(1),
+        asked: false,
+        mark: Mask(0),
+    }
+}
+
+#[test]
+fn a_line_is_restored_at_its_home_and_of_the_machines_cores(rt: HostRuntime) -> Result<(), Fail> {
+    let loaded = loaded(rt.alloc(), 2, 2, [&[7], &[]])?;
+    let mut dir = Directory::start(rt.alloc(), loaded.config(), &loaded, DirId(1))?;
+    let one = Some(CoreId(1));
+    for (line, record, sets) in [
+        (LINE, owned(one, 0b11), true),
+        (LINE, owned(Some(CoreId(2)), 0b11), false),
+        (LINE, owned(one, 0b100), false),
+        (LineAddr(2), owned(one, 0b11), false),
+        (LineAddr(u32::MAX), owned(one, 0b11), false),
+    ] {
+        assert_eq!(rt; dir.restore_line(line, record, &[9; 8]), sets);
+    }
+    assert!(rt; dir.lines_fit());
+    Ok(())
+}
+
+#[test]
+fn acknowledgements_are_owed_for_a_tid_that_can_be(rt: HostRuntime) -> Result<(), Fail> {
+    let mut dir = begun(rt.alloc())?;
+    for (tid, owed, sets) in [
+        (1 << 62, 1, true),
+        ((1 << 62) + 1, 1, false),
+        ((1 << 62) + 1, 0, true),
+    ] {
+        if let Some(skips) = SkipVector::restored(rt.alloc(), Tid(tid), &[])? {
+            assert_eq!(rt; dir.restore_serving(skips, owed), sets, "{tid}");
+        }
+    }
+    assert_eq!(rt; (dir.serving(), dir.owed()), (Tid((1 << 62) + 1), 0));
     Ok(())
 }

@@ -27,6 +27,10 @@ mod phases;
 #[cfg(test)]
 mod replays;
 #[cfg(test)]
+mod restored_cores;
+#[cfg(test)]
+mod sound_parts;
+#[cfg(test)]
 mod systems;
 #[cfg(test)]
 mod waiting;

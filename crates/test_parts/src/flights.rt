@@ -146,3 +146,90 @@ fn marked_messages_are_listed_by_link(rt: HostRuntime) -> Result<(), NoMemory> {
     assert!(rt; marked(&mut flights) == Some((Some(NAME), Some(skip), 0, 1)));
     Ok(())
 }
+
+// The i-th message in flight on the link of the name, with its number.
+fn flying_at(flights: &InFlight, i: usize) -> Option<(u64, Msg)> {
+    flights
+        .waiting_at(CORE, DIR, i)
+        .map(|found| (found.0, *found.1))
+}
+
+// The first three of these, and how many were sent.
+fn listed(flights: &InFlight) -> ([Option<(u64, Msg)>; 3], u64) {
+    let first = [
+        flying_at(flights, 0),
+        flying_at(flights, 1),
+        flying_at(flights, 2),
+    ];
+    (first, flights.sent(CORE, DIR))
+}
+
+// Sends a message by the link of the name, where it is there.
+fn send(flights: &mut InFlight, msg: Msg) -> Result<(), NoMemory> {
+    if flights.cores() > 1 && flights.dirs() > 0 {
+        return flights.push(CORE, DIR, msg, false);
+    }
+    Err(NoMemory)
+}
+
+// Skips 0 to 4 by the link of the name, of which 0, 2 and 4 were taken out.
+fn some_taken(alloc: Global) -> Result<InFlight, NoMemory> {
+    let mut flights = InFlight::new(alloc, 2, 1)?;
+    for tid in 0..5u64 {
+        send(&mut flights, Msg::Skip { tid: Tid(tid) })?;
+    }
+    for seq in [0, 2, 4] {
+        let _ = flights.take(Name {
+            src: CORE,
+            dst: DIR,
+            seq,
+        });
+    }
+    Ok(flights)
+}
+
+// The same, made from what is in flight and how many were sent.
+fn copied(alloc: Global, flights: &InFlight) -> Result<InFlight, NoMemory> {
+    let mut copy = InFlight::new(alloc, 2, 1)?;
+    for i in 0..flights.waiting(CORE, DIR) {
+        if let Some((seq, msg)) = flights.waiting_at(CORE, DIR, i) {
+            copy.restore_sent(CORE, DIR, seq);
+            send(&mut copy, *msg)?;
+        }
+    }
+    copy.restore_sent(CORE, DIR, flights.sent(CORE, DIR));
+    Ok(copy)
+}
+
+#[test]
+fn a_restored_link_goes_on_as_its_original(rt: HostRuntime) -> Result<(), NoMemory> {
+    let mut flights = some_taken(rt.alloc())?;
+    let mut copy = copied(rt.alloc(), &flights)?;
+    let (one, three) = (Msg::Skip { tid: Tid(1) }, Msg::Skip { tid: Tid(3) });
+    assert!(rt; listed(&flights) == ([Some((1, one)), Some((3, three)), None], 5));
+    assert!(rt; listed(&copy) == listed(&flights));
+    send(&mut flights, Msg::TidReq)?;
+    send(&mut copy, Msg::TidReq)?;
+    assert!(rt; listed(&copy).0[2] == Some((5, Msg::TidReq)));
+    assert!(rt; listed(&copy) == listed(&flights) && copy.len() == flights.len());
+    Ok(())
+}
+
+#[test]
+fn a_link_that_is_there_lets_no_fewer_be_sent(rt: HostRuntime) -> Result<(), NoMemory> {
+    let mut flights = some_taken(rt.alloc())?;
+    for (src, dst, sent, passes) in [
+        (CORE, DIR, 4, false),
+        (CORE, DIR, 5, true),
+        (CORE, DIR, u64::MAX, true),
+        (DIR, CORE, 1, true),
+        (CORE, CORE, 0, false),
+        (CORE, NodeId::Dir(DirId(1)), 0, false),
+        (NodeId::Core(CoreId(2)), NodeId::Vendor, 0, false),
+    ] {
+        assert_eq!(rt; flights.restore_sent(src, dst, sent), passes);
+    }
+    assert!(rt; flights.sent(CORE, DIR) == u64::MAX && flights.len() == 2);
+    assert!(rt; send(&mut flights, Msg::TidReq).is_err());
+    Ok(())
+}

@@ -26,6 +26,8 @@ mod programs;
 #[cfg(test)]
 mod registers;
 #[cfg(test)]
+mod restored_caches;
+#[cfg(test)]
 mod settings;
 #[cfg(test)]
 mod skips;

@@ -2,7 +2,7 @@
 ghost use Rattle.std.specs.Prelude.{◌<◌};
 ghost use Rattle.dir_lines.specs.Home.{IsAtHome};
 
-use dir_lines::{DirLines, LineRecord, Lines, MapLines, PageLines};
+use dir_lines::{CoreSet, DirLines, LineRecord, Lines, MapLines, PageLines};
 use std::test::Fail;
 use tcc_base::{Config, CoreId, DirId, LineAddr, Mask, Tid};
 
@@ -163,4 +163,62 @@ fn thousands_of_marks_in_falling_order(rt: HostRuntime) -> Result<(), Fail> {
     }
     assert!(rt; false, "no memory");
     Ok(())
+}
+
+// What a core's commit left of a line.
+const COMMITTED: LineRecord = LineRecord {
+    sharers: CoreSet(0b1010),
+    owner: Some(CoreId(3)),
+    tag: Tid(9),
+    asked: true,
+    mark: Mask(6),
+};
+
+#[test]
+fn a_restored_line_goes_on_as_its_original(rt: HostRuntime) -> Result<(), Fail> {
+    if let Ok(cfg) = Config::new(4, 2, 1, 1, 0, 1024)
+        && let Ok(mut lines) = DirLines::new(rt.alloc(), &cfg, DirId(1))
+        && let Ok(mut copy) = DirLines::new(rt.alloc(), &cfg, DirId(1))
+    {
+        assert_eq!(rt; lines.home(), DirId(1));
+        lines.own(MIDDLE, CoreId(3), Tid(9));
+        lines.set_shares(MIDDLE, CoreId(1), true);
+        lines.set_asked(MIDDLE, true);
+        lines.set_mark(MIDDLE, Mask(6));
+        assert!(rt; lines.get(MIDDLE) == COMMITTED);
+        copy.restore(MIDDLE, lines.get(MIDDLE));
+        copy.keeps_home();
+        assert!(rt; copy.get(MIDDLE) == COMMITTED && copy.get(LOW) == LineRecord::blank());
+        assert!(rt; copy.marked_lines() == 1 && copy.marked_line(0) == Some(MIDDLE));
+        copy.clear_marks();
+        lines.clear_marks();
+        assert!(rt; copy.get(MIDDLE) == lines.get(MIDDLE));
+        copy.restore(MIDDLE, LineRecord::blank());
+        assert!(rt; copy.get(MIDDLE) == LineRecord::blank());
+        return Ok(());
+    }
+    assert!(rt; false, "no memory");
+    Ok(())
+}
+
+#[test]
+fn a_record_fits_the_cores_that_it_names(rt: HostRuntime) {
+    let high = CoreSet(1 << 63);
+    for (sharers, owner, cores, fits) in [
+        (CoreSet(0b1010), Some(CoreId(3)), 4, true),
+        (CoreSet(0b1010), Some(CoreId(3)), 3, false),
+        (CoreSet(0b1010), None, 4, true),
+        (CoreSet(0b1010), None, 3, false),
+        (CoreSet(0b0010), Some(CoreId(3)), 3, false),
+        (CoreSet(0), None, 0, true),
+        (high, None, 64, true),
+        (high, None, 63, false),
+    ] {
+        let record = LineRecord {
+            sharers,
+            owner,
+            ..COMMITTED
+        };
+        assert_eq!(rt; record.fits(cores), fits, "{cores}");
+    }
 }

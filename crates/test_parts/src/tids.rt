@@ -9,3 +9,13 @@ fn gives_1_2_3(rt: HostRuntime) {
     assert_eq!(rt; vendor.grant(), Tid(2));
     assert_eq!(rt; vendor.grant(), Tid(3));
 }
+
+#[test]
+fn goes_on_from_where_it_was(rt: HostRuntime) {
+    let mut vendor = Vendor::new();
+    let _ = vendor.grant();
+    let mut restored = Vendor::restored(vendor.next());
+    assert_eq!(rt; restored.grant(), Tid(2));
+    assert_eq!(rt; vendor.grant(), Tid(2));
+    assert_eq!(rt; restored.next(), vendor.next());
+}

@@ -17,7 +17,7 @@ use Rattle.theorem_bounds.proofs.Granted.{Reached}
 use Rattle.theorem_bounds.proofs.Outside.{is_inside}
 
 -- a line of memory at home at this directory
-abbrev LineOf : Shape → (dir : ℕ) → (line : ℕ) → Type 0
+abbrev pub LineOf : Shape → (dir : ℕ) → (line : ℕ) → Type 0
 LineOf sh d l = (l < lines sh) × (home sh l ≡ d)
 
 -- a line that isn't away is at home
@@ -34,7 +34,7 @@ copy-passes l t =
     let a : (l == l) ≡ true = grind (arith, nat_tests) in
     let b : (t == t) ≡ true = grind (arith, nat_tests) in rw (a, b) refl
 
-named : (sh : Shape) (d : ℕ) (m : Msg) → is_inside sh m ≡ true → num (passes (LinesAway sh.dirs d) m) ≤ 0
+pub named : (sh : Shape) (d : ℕ) (m : Msg) → is_inside sh m ≡ true → num (passes (LinesAway sh.dirs d) m) ≤ 0
     → ((l t : ℕ) → num (passes (CopyOf l t) m) ≡ 1 → l < lines sh) → IfSome (line_named m) (LineOf sh d)
 unfolding is_inside passes
 named sh d (LoadReq l a) i z c = (in-memory sh l i, at-home sh d l z)
@@ -59,7 +59,7 @@ out-line sh h r c d k m q i e = named sh d m i
     (λ l t n. q c d l t (omega (arith, n, live-some (CopyOf l t) (h.world.net (Core c) (Dir d)) k m e)))
 
 -- none of these come from a directory
-no-copy : (m : Msg) (l t : ℕ) → goes_to_core m ≡ true → num (passes (CopyOf l t) m) ≡ 0
+pub no-copy : (m : Msg) (l t : ℕ) → goes_to_core m ≡ true → num (passes (CopyOf l t) m) ≡ 0
 unfolding passes
 no-copy (Fill x ws) l t g = refl
 no-copy (ProbeReply x s) l t g = refl

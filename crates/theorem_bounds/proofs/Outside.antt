@@ -83,6 +83,15 @@ link-inside sh (Some x ∷ l) zero m z e = let h : x ≡ m = cc in rw (← h) (g
 link-inside sh (None ∷ l) (suc k) m z e = link-inside sh l k m z e
 link-inside sh (Some x ∷ l) (suc k) m z e = link-inside sh l k m (omega arith) e
 
+-- and none is outside where each message is inside
+pub link-all : (sh : Shape) (l : Link) → ((k : ℕ) (m : Msg) → get_or l k None ≡ Some m → is_inside sh m ≡ true) → on_link sh l ≡ 0
+unfolding on_link
+link-all sh [] h = refl
+link-all sh (None ∷ l) h = link-all sh l (λ k m e. h (suc k) m e)
+link-all sh (Some x ∷ l) h =
+    let i : num (not (is_inside sh x)) ≡ 0 = rw (h 0 x refl) refl in
+    omega (arith, i, link-all sh l (λ k m e. h (suc k) m e))
+
 pub sent-length : (ms : List Msg) → length (sent_all ms) ≡ length ms
 unfolding sent_all
 sent-length [] = refl

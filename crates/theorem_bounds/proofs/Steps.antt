@@ -195,7 +195,7 @@ happens-keeps sh p n w (Evict c x y) i k =
     moves-keeps sh n w c (core_evict sh x y (w.cores c)) k (evict-keeps sh n x y (w.cores c) (k.cores c))
 happens-keeps sh p n w (Deliver src dst j) i k = flying-keeps sh n w src dst j (in_flight w.net src dst j) refl k
 
-step-keeps : (sh : Shape) (p : Program) (n : ℕ) (w : World) (e : Event) → StaysInMemory sh p → Within sh n w
+pub step-keeps : (sh : Shape) (p : Program) (n : ℕ) (w : World) (e : Event) → StaysInMemory sh p → Within sh n w
     → IfSome (step sh p w e) (Keeps sh n)
 unfolding step
 step-keeps sh p n w e i k = go (names_nodes sh e)

@@ -27,11 +27,11 @@ use Rattle.theorem_live.proofs.Strays.{AllFit, LinksClean, link-none, link-fits,
 use Rattle.theorem_live.proofs.Strays.{fit-nothing}
 
 -- no message is on a link that it doesn't fit, and each directory keeps what it must
-record Clean (sh : Shape) (w : World) : Type 0 where
-  links : LinksClean sh w.net
-  dirs : (d : ℕ) → KeptDir sh (w.dirs d)
+pub record Clean (sh : Shape) (w : World) : Type 0 where
+  pub links : LinksClean sh w.net
+  pub dirs : (d : ℕ) → KeptDir sh (w.dirs d)
 
-abbrev Keeps : Shape → Option Stepped → Type 0
+abbrev pub Keeps : Shape → Option Stepped → Type 0
 Keeps sh o = IfSome o (λ x. Clean sh x.world)
 
 -- the nodes' events
@@ -127,7 +127,7 @@ happens-clean sh p w (Evict c x y) k n h = moves-clean sh w c (core_evict sh x y
 happens-clean sh p w (Deliver src dst i) k n h = flying-clean sh w src dst i (in_flight w.net src dst i) k n (grind (arith, nat_tests))
     (grind (arith, nat_tests))
 
-step-clean : (sh : Shape) (p : Program) (w : World) (e : Event) → Clean sh w → 1 ≤ sh.dirs → Keeps sh (step sh p w e)
+pub step-clean : (sh : Shape) (p : Program) (w : World) (e : Event) → Clean sh w → 1 ≤ sh.dirs → Keeps sh (step sh p w e)
 unfolding step
 step-clean sh p w e k n = go (names_nodes sh e) refl
   where

@@ -62,6 +62,16 @@ link-fits sh s d (Some x ∷ l) zero m z e = let h : x ≡ m = cc in rw (← h) 
 link-fits sh s d (None ∷ l) (suc k) m z e = link-fits sh s d l k m z e
 link-fits sh s d (Some x ∷ l) (suc k) m z e = link-fits sh s d l k m (omega arith) e
 
+-- and no stray is on a link where each message fits it
+pub link-clean : (sh : Shape) (s d : Node) (l : Link) → ((k : ℕ) (m : Msg) → get_or l k None ≡ Some m → fits sh s d m ≡ true)
+    → on_link sh s d l ≡ 0
+unfolding on_link
+link-clean sh s d [] h = refl
+link-clean sh s d (None ∷ l) h = link-clean sh s d l (λ k m e. h (suc k) m e)
+link-clean sh s d (Some x ∷ l) h =
+    let f : num (not (fits sh s d x)) ≡ 0 = rw (h 0 x refl) refl in
+    omega (arith, f, link-clean sh s d l (λ k m e. h (suc k) m e))
+
 pub link-none : (sh : Shape) (s d : Node) → on_link sh s d [] ≡ 0
 unfolding on_link
 link-none sh s d = refl

@@ -30,6 +30,13 @@ impl Vendor {
         Vendor { next: 1 }
     }
 
+    /// The vendor that gives this TID next, as one that was read back does: it gave those below before, or never gives them.
+    pub fn restored(next: Tid) -> Self
+        ensures { result ≡ next.0 }
+    {
+        Vendor { next: next.0 }
+    }
+
     /// The TID that it gives next. It takes constant time.
     pub fn next(&self) -> Tid
         ensures { result.0 ≡ self.now }

@@ -17,7 +17,7 @@ use Rattle.rules_tcc.specs.Links.{sent_all}
 use Rattle.rules_tcc.specs.State.{Link}
 use Rattle.rules_tcc.specs.Step.{is_node}
 use Rattle.rules_tcc.specs.Useful.{nodes}
-use Rattle.live_core.specs.Reached.{IsLive}
+use Rattle.net_core.specs.Whole.{IsSound}
 use Rattle.net_core.specs.Answers.{IsSent, StandBehind}
 use Rattle.net_core.specs.Machine.{Machine, settings_of, world_of}
 use Rattle.watch_machine.specs.Rising.{place_of}
@@ -44,7 +44,7 @@ seam : (front : Link) (x : PlainMsg) (rest : Link) → slice_index_or (front ++ 
 seam [] x rest = refl
 seam (y ∷ front) x rest = seam front x rest
 
-end-exists : (m n : Machine) (src dst : Node) (ms : List PlainMsg) → IsLive n → StandBehind (world_of m) (world_of n) src dst ms
+end-exists : (m n : Machine) (src dst : Node) (ms : List PlainMsg) → IsSound n → StandBehind (world_of m) (world_of n) src dst ms
     → 0 < length ms → is_node (settings_of n) dst ≡ true
 unfolding sent_all
 end-exists m n src dst [] live b l = absurd (omega (arith, l))
@@ -52,7 +52,7 @@ end-exists m n src dst (x ∷ xs) live b l =
     (flying-ends n src dst (length b.front) x live
     (ap (λ ys. slice_index_or ys (length b.front) None) b.behind ∙ seam b.front x (sent_all xs))).to
 
-pub ends-exist : (m n : Machine) (src : Node) → IsLive n → IsSent (world_of m) (world_of n) src (sends_of n.last)
+pub ends-exist : (m n : Machine) (src : Node) → IsSound n → IsSent (world_of m) (world_of n) src (sends_of n.last)
     → All (λ x. is_node (settings_of n) (node_of x.0) ≡ true) n.last
 ends-exist m n src live s = λ k d l.
     let dst = node_of (get_or n.last k d).0 in

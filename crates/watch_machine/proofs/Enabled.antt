@@ -14,13 +14,14 @@ use Rattle.rules_tcc.specs.Links.{in_flight}
 use Rattle.rules_tcc.specs.State.{World}
 use Rattle.rules_tcc.specs.Step.{Stepped, answered, happens, if_in_flight, is_node, names_nodes, next_history, recorded, step}
 use Rattle.rules_maps.specs.Messages.{fits}
-use Rattle.live_core.specs.Reached.{IsLive}
+use Rattle.net_core.specs.Whole.{IsSound}
 use Rattle.net_core.specs.Answers.{step_of}
 use Rattle.net_core.specs.Machine.{Machine, history_of, program_of, settings_of, world_of}
 use Rattle.net_core.specs.declared.taking.Step.{Step}
 use Rattle.watch.specs.Messages as facts
 use Rattle.watch_machine.specs.Telling.{Advanced, IsAnswer, told_of}
 use Rattle.watch_machine.specs.declared.answering.Became.{Became}
+use Rattle.net_core.proofs.Lemmas.{sound-message}
 
 -- all that an enabled event names exists
 pub named : (m : Machine) (e : Event) → step_of m e ≢ None → names_nodes (settings_of m) e ≡ true
@@ -65,9 +66,9 @@ fitting s (Dir c) Vendor x e = absurd (cc)
 fitting s Vendor (Dir d) x e = absurd (cc)
 fitting s Vendor Vendor x e = absurd (cc)
 
-pub flying-ends : (m : Machine) (src dst : Node) (k : ℕ) (x : Msg) → IsLive m → in_flight (world_of m).net src dst k ≡ Some x
+pub flying-ends : (m : Machine) (src dst : Node) (k : ℕ) (x : Msg) → IsSound m → in_flight (world_of m).net src dst k ≡ Some x
     → Ends (settings_of m) src dst
-flying-ends m src dst k x l f = fitting (settings_of m) src dst x (l.messages src dst k x f).fits
+flying-ends m src dst k x l f = fitting (settings_of m) src dst x (sound-message m l src dst k x f).fits
 
 -- what was taken was enabled
 pub next-enabled : (m n : Machine) (e : Event) → next_history (settings_of m) (program_of m) (history_of m) e ≡ Some (history_of n)

@@ -16,7 +16,7 @@ use Rattle.rules_tcc.specs.Step.{History, Stepped, and_noted, next_history, reco
 use Rattle.rules_tcc.specs.Useful.{nodes}
 use Rattle.net_core.specs.Answers.{IsSent, StandBehind, acts_in, step_of, tid_noted, tid_told}
 use Rattle.net_core.specs.Machine.{Machine, history_of, program_of, settings_of, world_of}
-use Rattle.net_core.specs.Reached.{Reached}
+use Rattle.net_core.specs.Whole.{IsSound}
 use Rattle.net_core.specs.declared.taking.Step.{Step}
 use Rattle.net_core.proofs.Lemmas.{new-tid}
 use Rattle.watch.specs.Facts.{Fact, Sent}
@@ -38,7 +38,7 @@ pub record StepIs (m n : Machine) (e : Event) (told : Step) : Type 0 where
   pub noted : commit_fact o.noted ≡ commit_told (tid_told told) n.commits
 
 -- the commit that was noted is the one that the step told of
-noted-is : (m n : Machine) (e : Event) (told : Step) (o : Stepped) → Reached m → step_of m e ≡ Some o → (x : Option Commit) → o.noted ≡ x
+noted-is : (m n : Machine) (e : Event) (told : Step) (o : Stepped) → IsSound m → step_of m e ≡ Some o → (x : Option Commit) → o.noted ≡ x
     → tid_told told ≡ option_map (λ c. c.tid) x → and_noted x m.commits ≡ n.commits
     → commit_fact x ≡ commit_told (tid_told told) n.commits
 noted-is m n e told o r s None is t cs = sym (ap (λ t. commit_told t n.commits) t)
@@ -46,7 +46,7 @@ noted-is m n e told o r s (Some c) is t cs =
     ap commit_fact (sym (inserted-named c m.commits (new-tid m e o c r s is)))
     ∙ ap (λ k. commit_fact (commit_of c.tid.0 k)) cs ∙ sym (ap (λ t. commit_told t n.commits) t)
 
-step-is : (m n : Machine) (e : Event) (told : Step) → Reached m → Advanced m n e told → StepIs m n e told
+step-is : (m n : Machine) (e : Event) (told : Step) → IsSound m → Advanced m n e told → StepIs m n e told
 unfolding next_history history_of
 step-is m n e told r a = go (step_of m e) refl a.next a.tells
   where
@@ -115,7 +115,7 @@ told_behind m n e told = commit_told (tid_told told) n.commits ++ moved (world_o
 abbrev pub told_of_event : (m n : Machine) → Event → List Fact
 told_of_event m n e = acted (settings_of m) (program_of m) m.commits (world_of m) (world_of n) e
 
-happened-is : (m n : Machine) (e : Event) (told : Step) → Reached m → Advanced m n e told
+happened-is : (m n : Machine) (e : Event) (told : Step) → IsSound m → Advanced m n e told
     → happened (settings_of m) (program_of m) (history_of m) e ≡ told_of_event m n e
     ++ (commit_told (tid_told told) n.commits ++ (moved (world_of m) (world_of n) (acts_in e) ++ last_facts n (acts_in e)))
 unfolding happened history_of
@@ -131,7 +131,7 @@ happened-is m n e told r a =
     (sent-is m n (acts_in e) a.code a.sent)
 
 -- the event was taken, and what was told of it is what it did at its node
-pub told-all : (m n : Machine) (e : Event) (told : Step) (facts : List CodeFact) → Reached m → Advanced m n e told
+pub told-all : (m n : Machine) (e : Event) (told : Step) (facts : List CodeFact) → IsSound m → Advanced m n e told
     → map fact_of facts ≡ told_of_event m n e ++ told_behind m n e told → TookAndToldOfNode m n e facts
 told-all m n e told facts r a f =
     let of_event = told_of_event m n e in

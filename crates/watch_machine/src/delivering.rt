@@ -26,7 +26,6 @@ use crate::moving::{tell_phase, tell_serving};
 use crate::sending::advance;
 use commit_engine::Phase;
 use core_node::{Awaited, CoreNode};
-use live_core::machines_are_live;
 use net_core::{Step, StepError, System};
 use tcc_base::{Commit, CoreId, DirId, LineAddr, List, Mask, NoMemory, NodeId, Tid};
 use tcc_msg::{Event, Msg, Name};
@@ -260,9 +259,8 @@ pub(crate) fn watch_core(
     requires destination { name.dst ≡ NodeId.Core id }
     ensures { WatchedNode system.old system.new (Deliver (node_of name.src) (Core id.0) name.seq) facts.new result }
 {
-    machines_are_live(system);
-    let seen = look(system.core(id), system.commits(), name.src, msg);
     system.events();
+    let seen = look(system.core(id), system.commits(), name.src, msg);
     let step = advance(system, Event::Deliver(name))?;
     match tell_core(system, id, &seen, step, facts) {
         Ok(()) => Ok(()),
@@ -316,10 +314,9 @@ pub(crate) fn watch_dir(
     requires destination { name.dst ≡ NodeId.Dir dir }
     ensures { WatchedNode system.old system.new (Deliver (Core core.0) (Dir dir.0) name.seq) facts.new result }
 {
-    machines_are_live(system);
+    system.events();
     let fact = fact_of_message(what_became(system, dir, core, &msg), msg);
     let before = system.serving(dir);
-    system.events();
     let step = advance(system, Event::Deliver(name))?;
     match tell_dir(system, dir, fact, before, step, facts) {
         Ok(()) => Ok(()),

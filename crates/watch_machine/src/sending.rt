@@ -9,7 +9,6 @@ ghost use Rattle.watch_machine.specs.Rising.{Rises, each_told, place_of as plain
 ghost use Rattle.watch_machine.specs.Telling.{Advances, HasRoomFor, last_facts, last_to, numbered_from};
 ghost use Rattle.net_core.specs.Limits.{machine_limit};
 
-use live_core::machines_are_live;
 use net_core::{Step, StepError, System, node_at, node_count};
 use tcc_base::{Config, List, NoMemory, NodeId};
 use tcc_msg::{Event, Msg};
@@ -23,7 +22,7 @@ pub(crate) fn advance(system: &mut System, e: Event) -> Result<Step, StepError>
     let step = system.step(e)?;
     match system.settle() {
         Ok(()) => {
-            machines_are_live(system);
+            system.events();
             Ok(step)
         }
         Err(NoMemory) => Err(StepError::Memory),

@@ -17,7 +17,7 @@ use Rattle.rules_maps.specs.Bridge.{node_of}
 use Rattle.rules_maps.specs.Nodes.{Node, Core, Dir, Vendor, Event, Exec, Evict, Deliver, Msg}
 use Rattle.tcc_msg.specs.Plain.{sends_of}
 use Rattle.tcc_msg.specs.declared.outgoing.Outgoing.{Outgoing}
-use Rattle.rules_maps.specs.Messages.{InBounds, fits, goes_to_core, is_grant}
+use Rattle.rules_maps.specs.Messages.{fits, goes_to_core, is_grant}
 use Rattle.rules_tcc.specs.Attempt.{Out}
 use Rattle.rules_tcc.specs.CoreExec.{core_exec}
 use Rattle.rules_tcc.specs.CoreEvict.{core_evict, evict_line}
@@ -34,6 +34,7 @@ use Rattle.core_node.specs.View.{IsKnown}
 use Rattle.core_node.specs.declared.exec.Executed.{Executed}
 use Rattle.core_node.specs.declared.exec.Executed.TheVariants as done
 use Rattle.commit_engine.specs.Sent.{followed}
+use Rattle.theorem_sound.specs.Sound.{GoodMessage}
 use Rattle.machine_cores.specs.Acted.{Acted, ActedAs}
 use Rattle.machine_cores.specs.Bank.{CoresData, cores_of}
 use Rattle.machine_dirs.specs.Bank.{dirs_of}
@@ -47,7 +48,7 @@ use Rattle.net_core.specs.Whole.{IsWhole}
 use Rattle.net_core.specs.declared.taking.Step.{Step}
 use Rattle.net_core.specs.declared.taking.Step.TheVariants.{Moved}
 use Rattle.net_core.specs.declared.taking.Step.TheVariants as step_told
-use Rattle.net_core.proofs.Reaching.{in-bounds, settled-net}
+use Rattle.net_core.proofs.Keeping.{good-message, settled-net}
 use Rattle.net_core.proofs.Events.Kept.{StaysBut, as-many, as-many_taken, new-tid, same-dirs, stays-kept, took-by, took-whole, world-is}
 
 -- ---- how a system stands after a call of its cores
@@ -279,7 +280,7 @@ told-noted (Some o) c t w core = (record { world = core_moves w core o; noted = 
 
 pub commit-new : (m : Machine) (core : ℕ) (o : Option Out) (c : Commit) → IsWhole m → TellsOfEvent (done.Committed c) o
     → step_of m (Exec core) ≡ if_core_moves (world_of m) core o → HasNone c.tid.0 m.commits
-commit-new m core o c w t is = let (s, p) = told-noted o c t (world_of m) core in new-tid m (Exec core) s c w.reached (is ∙ p.0) p.1
+commit-new m core o c w t is = let (s, p) = told-noted o c t (world_of m) core in new-tid m (Exec core) s c w.sound (is ∙ p.0) p.1
 
 pub noted-as : (m n : Machine) (o : Option Out) (c : Commit) → TellsOfEvent (done.Committed c) o → n.commits ≡ insert_commit c m.commits
     → NotesAs m n (step_told.Committed c.tid) o
@@ -293,7 +294,7 @@ pub record CoreThere (s : Settings) (src : Node) (c : ℕ) : Type 0 where
   pub core : c < s.cores
   pub sender : is_node s src ≡ true
 
-there : (s : Settings) (n : ℕ) (src : Node) (c : ℕ) (x : Msg) → InBounds s n src (Core c) x → CoreThere s src c
+there : (s : Settings) (n : ℕ) (src : Node) (c : ℕ) (x : Msg) → GoodMessage s n src (Core c) x → CoreThere s src c
 unfolding fits
 there s n (Dir d) c x b = go (nat_lt c s.cores) refl (nat_lt d s.dirs) refl b.fits
   where
@@ -310,7 +311,7 @@ there s n (Core d) c x b = let f = b.fits in absurd (cc)
 
 pub core-there : (m : Machine) → IsWhole m → (src : Node) (c k : ℕ) (x : Msg) → in_flight (world_of m).net src (Core c) k ≡ Some x
     → CoreThere (settings_of m) src c
-core-there m w src c k x e = there (settings_of m) (world_of m).next src c x (in-bounds m w src (Core c) k x e)
+core-there m w src c k x e = there (settings_of m) (world_of m).next src c x (good-message m w src (Core c) k x e)
 
 pub known : (s : Settings) (n : NodeId) → is_node s (node_of n) ≡ true → IsKnown s n
 known s (code_node.Core c) e = tt

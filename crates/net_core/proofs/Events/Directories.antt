@@ -32,7 +32,7 @@ use Rattle.net_core.specs.Delivery.{AreMarked, is_consumed, is_deliverable}
 use Rattle.net_core.specs.Machine.{Machine, settings_of, start_of, world_of}
 use Rattle.net_core.specs.Whole.{IsWhole}
 use Rattle.net_core.specs.declared.taking.Step.TheVariants.{Moved}
-use Rattle.net_core.proofs.Reaching.{in-bounds, may-go, settled-net, small-tids}
+use Rattle.net_core.proofs.Keeping.{good-message, may-go, settled-net, small-tids}
 use Rattle.net_core.proofs.Events.Kept.{HasSent, as-many, as-many_taken, took-by, took-whole, world-is}
 use Rattle.net_core.proofs.Events.Marks.{still-flies}
 
@@ -54,7 +54,7 @@ pub record Comes (s : Settings) (c d : ℕ) (x : Msg) : Type 0 where
 comes-in : (m : Machine) (c d k : ℕ) (x : Msg) → IsWhole m → in_flight (world_of m).net (Core c) (Dir d) k ≡ Some x
     → Comes (settings_of m) c d x
 comes-in m c d k x w e =
-    let b = in-bounds m w (Core c) (Dir d) k x e in
+    let b = good-message m w (Core c) (Dir d) k x e in
     let f = fits_out (settings_of m) c d x b.fits in
     record { core = f.core; dir = f.dir; belongs = (may-go (settings_of m) (world_of m).next (Core c) (Dir d) x b).belongs }
 
@@ -303,7 +303,7 @@ linked : (m : Machine) (s e : Node) (i : ℕ) (y : Msg) → IsWhole m → m.unse
     → is_link (settings_of m).cores (settings_of m).dirs s e ≡ true
 linked m s e i y w settled fly =
     let now = ap (λ net. in_flight net s e i) (settled-net m settled) ∙ fly in
-    (may-go (settings_of m) (world_of m).next s e y (in-bounds m w s e i y now)).link
+    (may-go (settings_of m) (world_of m).next s e y (good-message m w s e i y now)).link
 
 marked-at : (m n : Machine) (c d k : ℕ) (x : Msg) (h : Handled) (s e : Node) (i : ℕ) (y : Msg) → IsWhole m → ActsAt m n c d k x h
     → in_flight (net_of m.flights) s e i ≡ Some y → in_flight (net_of n.flights) s e i ≡ Some y

@@ -12,7 +12,7 @@ use Rattle.net_core.specs.Answers.{step_of}
 use Rattle.net_core.specs.Machine.{Machine, settings_of}
 use Rattle.net_core.specs.Whole.{IsWhole}
 use Rattle.net_core.proofs.Useful.Enabled.{absent-refused}
-use Rattle.net_core.proofs.Reaching.{in-bounds, settled-net}
+use Rattle.net_core.proofs.Keeping.{good-message, settled-net}
 
 pub absent : (m : Machine) (src dst : Node) (k : ℕ) → m.unsent ≡ [] → in_flight (net_of m.flights) src dst k ≡ None
     → step_of m (Deliver src dst k) ≡ None
@@ -37,4 +37,4 @@ pub has-core : (m : Machine) (src dst : NodeId) (k : ℕ) (x : Msg) → IsWhole 
     → in_flight (net_of m.flights) (node_of src) (node_of dst) k ≡ Some x → ⊥
 has-core m src dst k x w settled a b e =
     let now = ap (λ net. in_flight net (node_of src) (node_of dst) k) (settled-net m settled) ∙ e in
-    no-fit m src dst x a b (in-bounds m w (node_of src) (node_of dst) k x now).fits
+    no-fit m src dst x a b (good-message m w (node_of src) (node_of dst) k x now).fits

@@ -14,20 +14,18 @@ use Rattle.rules_tcc.specs.Links.{sending, sent_all, taking}
 use Rattle.rules_tcc.specs.Sends.{Sends}
 use Rattle.rules_tcc.specs.State.{Link, World}
 use Rattle.rules_tcc.specs.Step.{Stepped, and_noted, next_history, recorded}
+use Rattle.theorem_sound.proofs.Lemmas.{sound_noted}
 use Rattle.machine_commits.specs.Rising.{HasNone}
-use Rattle.machine_commits.proofs.Lemmas.{none-merged}
 use Rattle.machine_cores.specs.Bank.{cores_of}
 use Rattle.machine_dirs.specs.Bank.{dirs_of}
 use Rattle.machine_links.specs.Flights.{net_of}
 use Rattle.net_core.specs.Answers.{IsSent, Kept, Took, acts_in, step_of, tid_noted, tid_told}
 use Rattle.net_core.specs.Delivery.{AreMarked}
-use Rattle.net_core.specs.Forgotten.{with_forgotten}
 use Rattle.net_core.specs.Machine.{Machine, history_of, program_of, settings_of, start_of, world_of}
-use Rattle.net_core.specs.Reached.{Reached}
-use Rattle.net_core.specs.Whole.{IsWhole}
+use Rattle.net_core.specs.Whole.{IsSound, IsWhole}
 use Rattle.net_core.specs.declared.taking.Step.{Step}
-use Rattle.net_core.proofs.Reaching.{reached-on, reached-same, settled-net}
-use Rattle.net_core.proofs.Running.{new-among}
+use Rattle.net_core.proofs.Keeping.{settled-net, sound-on, sound-same}
+use Rattle.net_core.proofs.Running.{none-among}
 
 pub world-is : (n : Machine) (v : World) → cores_of n.cores ≡ v.cores → dirs_of (first_ram (start_of n)) n.dirs ≡ v.dirs → n.next ≡ v.next
     → sending (net_of n.flights) (node_of n.sender) (sends_of n.unsent) ≡ v.net → world_of n ≡ v
@@ -107,7 +105,7 @@ took-whole m n e t w short k settings cores dirs marked = record {
   dirs = settings ∙ w.dirs ∙ ap (λ c. c.settings) (sym k.code);
   flight_cores = cores ∙ w.flight_cores ∙ ap (λ c. c.settings.cores) (sym k.code);
   flight_dirs = dirs ∙ w.flight_dirs ∙ ap (λ c. c.settings.dirs) (sym k.code);
-  reached = reached-on m n e w.reached k.next k.events k.code;
+  sound = sound-on m n e w.allowed w.sound k.next k.events k.code;
   few = let count = k.events in omega (arith, short, count);
   marked = subst (λ c. AreMarked c.settings (dirs_of (first_ram (start_of n)) n.dirs) n.flights) (sym k.code) marked;
 }
@@ -149,7 +147,7 @@ stays-whole m n w s =
       dirs = s.settings ∙ w.dirs ∙ ap (λ c. c.settings) (sym s.code);
       flight_cores = ap (λ f. f.cores) s.flights ∙ w.flight_cores ∙ ap (λ c. c.settings.cores) (sym s.code);
       flight_dirs = ap (λ f. f.dirs) s.flights ∙ w.flight_dirs ∙ ap (λ c. c.settings.dirs) (sym s.code);
-      reached = reached-same m n w.reached k.history k.events k.code;
+      sound = sound-same m n w.sound k.history k.events k.code;
       few = subst (λ x. x ≤ machine_limit) (sym k.events) w.few;
       marked = subst (λ c. AreMarked c.settings (dirs_of (first_ram (start_of n)) n.dirs) n.flights) (sym s.code)
           (subst (λ f. AreMarked (settings_of m) (dirs_of (first_ram (start_of n)) n.dirs) f) (sym s.flights)
@@ -159,12 +157,11 @@ stays-whole m n w s =
 -- ---- one commit more
 
 -- a commit that an event notes has a TID that no commit before it has
-pub new-tid : (m : Machine) (e : Event) (o : Stepped) (c : Commit) → Reached m → step_of m e ≡ Some o → o.noted ≡ Some c
+pub new-tid : (m : Machine) (e : Event) (o : Stepped) (c : Commit) → IsSound m → step_of m e ≡ Some o → o.noted ≡ Some c
     → HasNone c.tid.0 m.commits
 unfolding history_of
-new-tid m e o c r s noted =
-    (none-merged c.tid.0 r.gone m.commits
-    (new-among m.cores.code r.taken (with_forgotten r.gone (history_of m)) e o c r.reaches s noted)).1
+new-tid m e o c sound s noted =
+    none-among c.tid.0 m.commits (sound_noted (settings_of m) (program_of m) m.events (history_of m) e o c sound s noted)
 
 -- ---- room for a commit
 
@@ -183,7 +180,7 @@ room-whole m cs room w e =
       dirs = w.dirs;
       flight_cores = w.flight_cores;
       flight_dirs = w.flight_dirs;
-      reached = reached-same m (with_room m cs room) w.reached k.history k.events k.code;
+      sound = sound-same m (with_room m cs room) w.sound k.history k.events k.code;
       few = w.few;
       marked = w.marked;
     }

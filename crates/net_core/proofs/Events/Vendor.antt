@@ -29,7 +29,7 @@ use Rattle.net_core.specs.Delivery.{AreMarked}
 use Rattle.net_core.specs.Machine.{Machine, history_of, settings_of, start_of, world_of}
 use Rattle.net_core.specs.Whole.{IsWhole}
 use Rattle.net_core.specs.declared.taking.Step.TheVariants.{Moved}
-use Rattle.net_core.proofs.Reaching.{in-bounds, settled-net, whole-bounded}
+use Rattle.net_core.proofs.Keeping.{good-message, settled-net}
 use Rattle.net_core.proofs.Events.Kept.{as-many_taken, same-dirs, took-by, took-whole, world-is}
 use Rattle.net_core.proofs.Events.Marks.{marks-taken}
 
@@ -79,7 +79,7 @@ request-step m c k n f = rw n (ap (if_in_flight (settings_of m) (world_of m) (Co
 pub grant-step : (m : Machine) (c k : ℕ) (x : Msg) → IsWhole m → in_flight (world_of m).net (Core c) Vendor k ≡ Some x
     → step_of m (Deliver (Core c) Vendor k) ≡ if_vendor_gives (world_of m) c k (Some (next_grant m c))
 grant-step m c k x w e =
-    let r = requests (settings_of m) c x (in-bounds m w (Core c) Vendor k x e).fits in
+    let r = requests (settings_of m) c x (good-message m w (Core c) Vendor k x e).fits in
     request-step m c k r.core (e ∙ ap (λ y. Some y) r.request)
 
 pub grant-enabled : (m : Machine) (c k : ℕ) (x : Msg) → IsWhole m → in_flight (world_of m).net (Core c) Vendor k ≡ Some x
@@ -89,7 +89,7 @@ grant-enabled m c k x w e = λ q. let s = grant-step m c k x w e in absurd (cc)
 -- there is a TID to give
 pub next-small : (m : Machine) → IsWhole m → m.events < machine_limit → m.next ≤ machine_limit
 unfolding history_of world_of
-next-small m w few = let b = whole-bounded m w in let n = b.next_most in let c = w.reached.count in omega (arith, n, c)
+next-small m w few = omega (arith, few, w.sound.next_most)
 
 -- ---- the event
 

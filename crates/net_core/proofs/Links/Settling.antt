@@ -14,7 +14,7 @@ use Rattle.machine_links.specs.Flights.{Flights, net_of}
 use Rattle.net_core.specs.Delivery.{AllMayGo, AreMarked}
 use Rattle.net_core.specs.Machine.{Machine, history_of, start_of, world_of}
 use Rattle.net_core.specs.Whole.{IsWhole}
-use Rattle.net_core.proofs.Reaching.{reached-may-go, reached-same, settled-net}
+use Rattle.net_core.proofs.Keeping.{may-all-go, settled-net, sound-same}
 
 -- these flights, and these messages that don't stand on their links
 abbrev pub with_flights : Machine → Flights → List (NodeId × Msg) → Machine
@@ -34,7 +34,7 @@ flown-history m f xs net = ap (λ n. the_history (record (world_of m) { net = n 
 -- what doesn't stand on its link may go
 pub unsent-may-go : (m : Machine) → IsWhole m → AllMayGo m.dirs.settings (net_with m m.flights m.unsent)
 unfolding world_of
-unsent-may-go m w = subst (λ s. AllMayGo s (net_with m m.flights m.unsent)) (sym w.dirs) (reached-may-go m w)
+unsent-may-go m w = subst (λ s. AllMayGo s (net_with m m.flights m.unsent)) (sym w.dirs) (may-all-go m w)
 
 pub flown-whole : (m : Machine) (f : Flights) (xs : List (NodeId × Msg)) → IsWhole m → net_with m f xs ≡ net_with m m.flights m.unsent
     → f.cores ≡ m.flights.cores → f.dirs ≡ m.flights.dirs
@@ -45,7 +45,7 @@ flown-whole m f xs w net cores dirs marked = record {
   dirs = w.dirs;
   flight_cores = cores ∙ w.flight_cores;
   flight_dirs = dirs ∙ w.flight_dirs;
-  reached = reached-same m (with_flights m f xs) w.reached (flown-history m f xs net) refl refl;
+  sound = sound-same m (with_flights m f xs) w.sound (flown-history m f xs net) refl refl;
   few = w.few;
   marked = subst (λ s. AreMarked s (dirs_of (first_ram (start_of m)) m.dirs) f) w.dirs
       (marked (first_ram (start_of m))

@@ -23,7 +23,7 @@ use Rattle.net_core.specs.Answers.{step_of}
 use Rattle.net_core.specs.Delivery.{is_deliverable}
 use Rattle.net_core.specs.Machine.{Machine, program_of, settings_of, start_of, world_of}
 use Rattle.net_core.specs.Whole.{IsWhole}
-use Rattle.net_core.proofs.Reaching.{in-bounds}
+use Rattle.net_core.proofs.Keeping.{good-message}
 use Rattle.theorem_live.proofs.Lemmas.{some_granted, some_taken}
 use Rattle.core_node.proofs.Lemmas.{is_moved}
 
@@ -89,7 +89,7 @@ pub flying-enabled : (m : Machine) → IsWhole m → (src dst : Node) (k : ℕ) 
     → is_some (step_of m (Deliver src dst k)) ≡ is_deliverable (settings_of m) (dirs_of (first_ram (start_of m)) m.dirs) src dst x
 unfolding world_of
 flying-enabled m w src dst k x fly =
-    let e = (in-bounds m w src dst k x fly).fits in
+    let e = (good-message m w src dst k x fly).fits in
     ap is_some (deliver-step (settings_of m) (program_of m) (world_of m) src dst k x fly e)
     ∙ delivered-some (settings_of m) (world_of m) src dst k x e
 

@@ -28,7 +28,7 @@ use Rattle.net_core.specs.Machine.{Machine, program_of, settings_of, world_of}
 use Rattle.net_core.specs.Whole.{IsWhole}
 use Rattle.net_core.proofs.Useful.Enabled.{absent-refused, flying-enabled}
 use Rattle.net_core.proofs.Prefixes.{took-more}
-use Rattle.net_core.proofs.Reaching.{settled-net}
+use Rattle.net_core.proofs.Keeping.{settled-net}
 
 -- ---- those of a machine
 

@@ -1,42 +1,23 @@
 -- A word as the commits left it, core by core.
-use Rattle.std.proofs.Common.{◌≡◌, ℕ, suc, ◌+◌, ◌<◌, List, [], ◌∷◌, ◌++◌, get_or, Some, ap}
+use Rattle.std.proofs.Common.{◌≡◌, ℕ, suc, ◌+◌, ◌<◌, List, [], ◌∷◌, ◌++◌, get_or, ap}
 use Rattle.std.proofs.Common.{sym, ◌∙◌, subst, arith, append-nil}
 use Rattle.std.specs.List.{flat_map}
 use Rattle.std.proofs.lemmas.List.Concat.{flat_map-append}
 use Rattle.base_lemmas.proofs.Lemmas.{eight-at, line_of-word_at}
-use Rattle.image_load.specs.Contents.{Contents, started}
-use Rattle.image_load.specs.Start.{Start, first_ram}
-use Rattle.rv_code.specs.Machine.{program}
-use Rattle.rules_riscv.specs.Starting.{local_at_start, world_at_start}
-use Rattle.rules_maps.specs.Cache.{Cache, IsCache}
-use Rattle.rules_maps.specs.Nodes.{Core, Dir, Event}
+use Rattle.image_load.specs.Start.{first_ram}
+use Rattle.rules_maps.specs.Cache.{Cache}
+use Rattle.rules_maps.specs.Nodes.{Core, Dir}
 use Rattle.rules_maps.specs.Shape.{Shape, home}
 use Rattle.rules_maps.specs.Words.{eight, line_of, those, word_at}
 use Rattle.rules_tcc.specs.Seen.{Copy, copies, copies_of, copies_on, copy_in, home_copy, newest, numbers, seen}
 use Rattle.rules_tcc.specs.State.{DirState, World}
-use Rattle.rules_tcc.specs.Step.{History, run}
-use Rattle.theorem_serial.proofs.Lemmas.{runs_carry}
 use Rattle.machine_cores.specs.Bank.{cores_of}
 use Rattle.machine_dirs.specs.Bank.{DirsData, dirs_of}
 use Rattle.machine_links.specs.Flights.{net_of}
-use Rattle.net_core.specs.Machine.{Machine, history_of, settings_of, start_of, world_of}
-use Rattle.net_core.specs.Whole.{IsWhole}
+use Rattle.net_core.specs.Machine.{Machine, settings_of, start_of, world_of}
 use Rattle.net_core.proofs.Words.Newest.{newest-append}
 use Rattle.net_core.proofs.Words.Places.{newest-none}
-use Rattle.net_core.proofs.Reaching.{full_history, settled-net}
-
--- ---- caches
-
-caches-after : (c : Contents) (es : List Event) (h : History)
-    → run c.settings (program (started c)) (world_at_start (started c)) es ≡ Some h → (n : ℕ) → IsCache c.settings (h.world.cores n).cache
-caches-after c es h e n =
-    let s : Start = started c in
-    (rw e at (runs_carry c.settings (program s) (local_at_start s) (first_ram s) es)).frames_stand_in_their_sets n
-
--- the cores of a whole machine have caches
-pub whole-caches : (m : Machine) → IsWhole m → (n : ℕ) → IsCache (settings_of m) (cores_of m.cores n).cache
-unfolding history_of world_of
-whole-caches m w n = caches-after m.cores.code w.reached.taken (full_history m w) w.reached.reaches n
+use Rattle.net_core.proofs.Keeping.{settled-net}
 
 -- ---- the cores one by one
 

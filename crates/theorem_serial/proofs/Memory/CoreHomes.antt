@@ -258,7 +258,7 @@ placed-frames sh l c m h k e = go (free_way sh c (set_of sh l)) e
     go a e = grind nats
 
 -- where the program accesses memory alone, so does the instruction at hand
-in-memory : (sh : Shape) {p : Program} (s : CoreState) {need : Need} (a : ℕ) → StaysInMemory sh p → Acting p s need → AccessAt a need
+pub in-memory : (sh : Shape) {p : Program} (s : CoreState) {need : Need} (a : ℕ) → StaysInMemory sh p → Acting p s need → AccessAt a need
     → WordInMemory sh (word_of sh.base a)
 in-memory sh s {need} a i g at = go need at (rw g.need at (i s.local))
   where
@@ -324,7 +324,7 @@ unfolding any_word
 line-has p x e = let same : word_at (line_of x) (place_of x) ≡ x = omega arith in
     any_below-at (λ k. p (word_at (line_of x) k)) 8 (place_of x) (omega arith) (rw same e)
 
-line-found : (p : ℕ → Bool) (l : ℕ) → any_word p l ≡ true → (x : ℕ) × (line_of x ≡ l) × (p x ≡ true)
+pub line-found : (p : ℕ → Bool) (l : ℕ) → any_word p l ≡ true → (x : ℕ) × (line_of x ≡ l) × (p x ≡ true)
 unfolding any_word
 line-found p l e = let k = any_below-found (λ k. p (word_at l k)) 8 e in (word_at l k.0, omega arith, k.2)
 
@@ -413,9 +413,13 @@ dirty-memory {c} l k f e = let x = line-found (λ w. is_some (c.dirty w)) l e in
 another : (sh : Shape) (k l : ℕ) → k < lines sh → lines sh ≤ l → (k == l) ≡ false
 another sh k l i o = grind nats
 
-flushed-memory : {sh : Shape} {c : Cache} (k : ℕ) → IsCache sh c → FramesInMemory sh c → SendsInMemory sh (flush_line sh c k)
+-- lines with dirty words are of memory
+abbrev pub DirtyInMemory : Shape → Cache → Type 0
+DirtyInMemory sh c = (l : ℕ) → is_dirty c l ≡ true → l < lines sh
+
+flushed-memory : (sh : Shape) (c : Cache) (k : ℕ) → DirtyInMemory sh c → SendsInMemory sh (flush_line sh c k)
 unfolding flush_line dirty_copy among passes
-flushed-memory {sh} {c} k i f d l t o = go (d == home sh k) (is_dirty c k) refl
+flushed-memory sh c k f d l t o = go (d == home sh k) (is_dirty c k) refl
   where
     go : (a b : Bool) → is_dirty c k ≡ b
         → among (CopyOf l t) (if a
@@ -423,11 +427,11 @@ flushed-memory {sh} {c} k i f d l t o = go (d == home sh k) (is_dirty c k) refl
         else []) ≡ 0
     go false b q = refl
     go true false q = refl
-    go true true q = rw (another sh k l (dirty-memory k i f q) o)
+    go true true q = rw (another sh k l (f k q) o)
 
-written-memory : {sh : Shape} {c : Cache} (k : ℕ) → IsCache sh c → FramesInMemory sh c → SendsInMemory sh (write_back_line sh c k)
+written-memory : (sh : Shape) (c : Cache) (k : ℕ) → DirtyInMemory sh c → SendsInMemory sh (write_back_line sh c k)
 unfolding write_back_line dirty_copy among passes
-written-memory {sh} {c} k i f d l t o = go (d == home sh k) (is_dirty c k) refl
+written-memory sh c k f d l t o = go (d == home sh k) (is_dirty c k) refl
   where
     go : (a b : Bool) → is_dirty c k ≡ b
         → among (CopyOf l t) (if a
@@ -435,7 +439,7 @@ written-memory {sh} {c} k i f d l t o = go (d == home sh k) (is_dirty c k) refl
         None) else []) ≡ 0
     go false b q = refl
     go true false q = refl
-    go true true q = rw (another sh k l (dirty-memory k i f q) o)
+    go true true q = rw (another sh k l (f k q) o)
 
 -- what goes out at a commit of a core that is alone
 backs-memory : (sh : Shape) (sp : Spilled) (u n : ℕ) (p : ℕ → Bool) → n ≤ lines sh
@@ -477,25 +481,25 @@ solo-memory sh c sp u d = go (nat_lt d sh.dirs) (solo_writes_at sh c sp d)
     go true false = both-outside sh (Skip u ∷ []) (solo_write_backs sh sp u d) (λ l t o. refl) backs
 
 -- what a core sends has words of lines in memory alone
-said-memory : {sh : Shape} (s : CoreState) (q : Said) → IsCache sh s.cache → FramesInMemory sh s.cache → SendsInMemory sh (say sh s q)
+said-memory : (sh : Shape) (s : CoreState) (q : Said) → DirtyInMemory sh s.cache → SendsInMemory sh (say sh s q)
 unfolding passes
-said-memory s (Flushes k) i f = flushed-memory k i f
-said-memory s (Empties k) i f = written-memory k i f
-said-memory {sh} s (Tells_alone t) i f = solo-memory sh s.cache s.spilled t
-said-memory {sh} s q i f = λ d l t o. quiet sh s (CopyOf l t) q (λ x. refl) d
+said-memory sh s (Flushes k) f = flushed-memory sh s.cache k f
+said-memory sh s (Empties k) f = written-memory sh s.cache k f
+said-memory sh s (Tells_alone t) f = solo-memory sh s.cache s.spilled t
+said-memory sh s q f = λ d l t o. quiet sh s (CopyOf l t) q (λ x. refl) d
 
-pub exec-sends : (sh : Shape) (p : Program) (c : ℕ) (s : CoreState) → IsCache sh s.cache → FramesInMemory sh s.cache
+pub exec-copies : (sh : Shape) (p : Program) (c : ℕ) (s : CoreState) → DirtyInMemory sh s.cache
     → IfSome (core_exec sh p c s) (λ o. SendsInMemory sh o.sends)
 unfolding commit solo_commit
-exec-sends sh p c s i f = each-exec sh p c s (λ o. SendsInMemory sh o.sends) go
+exec-copies sh p c s f = each-exec sh p c s (λ o. SendsInMemory sh o.sends) go
   where
     go : (x : Did sh p c s) → SendsInMemory sh (out x).sends
-    go (Room_wanted r n) = said-memory s Wants i f
-    go x = said-memory s (said x) i f
+    go (Room_wanted r n) = said-memory sh s Wants f
+    go x = said-memory sh s (said x) f
 
-pub evict-sends : (sh : Shape) (x y : ℕ) (s : CoreState) → IsCache sh s.cache → FramesInMemory sh s.cache
+pub evict-copies : (sh : Shape) (x y : ℕ) (s : CoreState) → DirtyInMemory sh s.cache
     → IfSome (core_evict sh x y s) (λ o. SendsInMemory sh o.sends)
-evict-sends sh x y s i f = each-evict sh x y s (λ o. SendsInMemory sh o.sends) (λ l e a m. written-memory l i f)
+evict-copies sh x y s f = each-evict sh x y s (λ o. SendsInMemory sh o.sends) (λ l e a m. written-memory sh s.cache l f)
 
 pub grant-sent : (sh : Shape) (t : ℕ) (s : CoreState) → SendsInMemory sh (grant sh t s).sends
 unfolding passes
@@ -505,11 +509,24 @@ grant-sent sh t s = each-grant sh t s (λ o. SendsInMemory sh o.sends) go
     go (Given_none e) = nothing-sent sh
     go x = λ d l u o. quiet sh s (CopyOf l u) (granted_said x) (λ y. refl) d
 
-pub back-sends : (sh : Shape) (e : ℕ) (s : CoreState) (m : Msg) → IsCache sh s.cache → FramesInMemory sh s.cache
+pub back-copies : (sh : Shape) (e : ℕ) (s : CoreState) (m : Msg) → DirtyInMemory sh s.cache
     → IfSome (from_dir sh e s m) (λ o. SendsInMemory sh o.sends)
 unfolding passes
-back-sends sh e s m i f = each-back sh e s (λ m o. SendsInMemory sh o.sends) go m
+back-copies sh e s m f = each-back sh e s (λ m o. SendsInMemory sh o.sends) go m
   where
     go : (x : Heard sh e s) → SendsInMemory sh (heard x).sends
-    go (Hands_out k) = flushed-memory k i f
+    go (Hands_out k) = flushed-memory sh s.cache k f
     go x = λ d l t o. heard-quiet (CopyOf l t) x (λ y. refl) (λ b. refl) d
+
+-- dirty words stand in frames, so it is of a cache whose frames are of lines of memory
+pub exec-sends : (sh : Shape) (p : Program) (c : ℕ) (s : CoreState) → IsCache sh s.cache → FramesInMemory sh s.cache
+    → IfSome (core_exec sh p c s) (λ o. SendsInMemory sh o.sends)
+exec-sends sh p c s i f = exec-copies sh p c s (λ l. dirty-memory l i f)
+
+pub evict-sends : (sh : Shape) (x y : ℕ) (s : CoreState) → IsCache sh s.cache → FramesInMemory sh s.cache
+    → IfSome (core_evict sh x y s) (λ o. SendsInMemory sh o.sends)
+evict-sends sh x y s i f = evict-copies sh x y s (λ l. dirty-memory l i f)
+
+pub back-sends : (sh : Shape) (e : ℕ) (s : CoreState) (m : Msg) → IsCache sh s.cache → FramesInMemory sh s.cache
+    → IfSome (from_dir sh e s m) (λ o. SendsInMemory sh o.sends)
+back-sends sh e s m i f = back-copies sh e s m (λ l. dirty-memory l i f)

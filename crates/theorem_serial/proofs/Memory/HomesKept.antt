@@ -48,22 +48,22 @@ home-count : (sh : Shape) (d l : ℕ) → home sh l ≡ d → num (not ((l % sh.
 home-count sh d l e = let b : ((l % sh.dirs) == d) ≡ true = rw e (grind nats) in rw b
 
 -- one message to one core
-one-to : (sh : Shape) (d c j : ℕ) (m : Msg) → Homely sh d (m ∷ []) → Homely sh d (to (Core c) (m ∷ []) (Core j))
+pub one-to : (sh : Shape) (d c j : ℕ) (m : Msg) → Homely sh d (m ∷ []) → Homely sh d (to (Core c) (m ∷ []) (Core j))
 one-to sh d c j m h = elim (j == c) as (λ b. Homely sh d (if b then m ∷ [] else [])) [ true ↦ h | false ↦ homely-none sh d ]
 
-one-data : (sh : Shape) (d l : ℕ) → home sh l ≡ d → Homely sh d (DataReq l ∷ [])
+pub one-data : (sh : Shape) (d l : ℕ) → home sh l ≡ d → Homely sh d (DataReq l ∷ [])
 unfolding among passes
 one-data sh d l e = record { away = omega (arith, home-count); words = refl }
 
-one-fill : (sh : Shape) (d l : ℕ) (ws : List ℕ) → home sh l ≡ d → Homely sh d (Fill l ws ∷ [])
+pub one-fill : (sh : Shape) (d l : ℕ) (ws : List ℕ) → home sh l ≡ d → Homely sh d (Fill l ws ∷ [])
 unfolding among passes
 one-fill sh d l ws e = record { away = omega (arith, home-count); words = refl }
 
-one-reply : (sh : Shape) (d u x : ℕ) → Homely sh d (ProbeReply u x ∷ [])
+pub one-reply : (sh : Shape) (d u x : ℕ) → Homely sh d (ProbeReply u x ∷ [])
 unfolding among passes
 one-reply sh d u x = record { away = refl; words = refl }
 
-one-inv : (sh : Shape) (d l m u : ℕ) → home sh l ≡ d → nat_lt 0 m ≡ true → Homely sh d (Inv l m u ∷ [])
+pub one-inv : (sh : Shape) (d l m u : ℕ) → home sh l ≡ d → nat_lt 0 m ≡ true → Homely sh d (Inv l m u ∷ [])
 unfolding among passes
 one-inv sh d l m u e s = record {
   away = omega (arith, home-count);

@@ -5,119 +5,79 @@ use Names.{got, nothing, Contains-append_right, Contains-append_cases, Contains-
 use Names.{length-append, waits_for_tid, vendor_start, vendor_gives, dir_deliver, grant_taken, LastGranted, append-nil}
 use Names.{core_start, core_moves, core_takes, after_move, granted_by, IsNumbered, AreGranted, KeptOwners, in_flight, dir_takes, and_noted}
 use Names.{RequestOf, Contains, cases_eq, TidGrant, DirState, dir_asks, KeptTids, IsRising, AnyGrant, Program, has_tid, AsksTid, Option}
-use Names.{IfSome, nat_le, Vendor, TidReq, Answer, Grants, passes, sum_of, holder, false, arith, subst, Noted, Local, Event, Shape, World}
+use Names.{IfSome, nat_le, Vendor, TidReq, Answer, Grants, passes, holder, false, arith, Noted, Local, Event, Shape, World}
 use Names.{start, Sends, grant, Waits, Drops, Takes, among, share, Grant, times, Phase, ◌==◌, List, ◌++◌, Some, None, refl, Core, Asks}
 use Names.{step, live, Pair, pair, true, Link, ◌+◌, ◌≡◌, ◌<◌, ◌≤◌, ◌∷◌, sym, ◌∙◌, ◌⊎◌, inl, inr, num, Dir, Out, Msg, [], ap, ℕ, nats}
 use Names.{grant_to, ◌≢◌, tested, eq-self, CommitsAreServed, SparesCommitter, KeptCommitting, grant_in_phase, CommitsAbove, after_answer}
 use Names.{CommittingOf, cases_order, Overflowing, back_taken, out_taken, CoreState, DoomedTid, Resolves, cases_lt, AwaitTid, sent_all}
 use Names.{KeptTold, SparedOf, Commits, handled, Running, Probing, nat_lt, Halted, Ready, part, Kept, Solo, Invs, Acks, due, tid_at, to_dir}
 use Names.{to_core, FromCore, FromDir}
-use proofs.Counts.{live-sends, live-takes, total-le, total-zero, total-same, live-fewer, OfAnswer, step_cases, pairs_move}
-use proofs.Counts.{pairs_grant, pairs_back, pairs_vendor, sum_move, sum_grant, sum_back, sum_back_away, sum_vendor, pairs_dir, pairs_asks}
+use proofs.Counts.{live-sends, live-takes, total-le, total-zero, live-fewer, OfAnswer, step_cases, pairs_move}
+use proofs.Counts.{pairs_grant, pairs_back, pairs_vendor, pairs_dir, pairs_asks}
 use proofs.Serving.KeptSteps.{core_of_grant, core_of_back, core_of_ask, marks_home, acks_owed, invs-few, core_of_out, once_at}
-use proofs.Tids.{times-insert, insert-rising, insert-granted, granted-more, numbered-more, numbered-least, numbered-most}
+use proofs.Serving.OnceSteps.{holder-moved, holder-granted, Once, anew, noted-moved, noted-granted, move-once, grant-once}
+use proofs.Serving.OnceSteps.{back-once, same-once, holder-given, holder-next, vendor-once}
+use proofs.Tids.{insert-rising, insert-granted, granted-more, numbered-more, numbered-least, numbered-most}
 use proofs.Tids.{KeepsHolder, noted_tid, none, holder-exec, holder-evict, holder-grant, holder-back, granted-once}
 use proofs.Serving.CoreDue.{CommitsNoted, noted-exec, noted-evict, noted-grant, noted-back, Served, served-exec, served-evict, served-grant}
 use proofs.Serving.CoreDue.{served-back, fewer-commits}
 use proofs.Serving.DirDue.{Due, DueBy, dir-due, still-due, none-quiet, SparesOwn, SparesBy, dir-spares, Rises, RisesBy, dir-rises}
 use proofs.Serving.DirDue.{rises-still}
 use Names.{length}
-use proofs.Counts.{Ask, asking, Gift, gift, gift_of, next_after, gift_grants, per-gift, gift-counts, gift-tid}
+use proofs.Counts.{Ask, asking, Gift, gift, gift_of, next_after, gift_grants, per-gift, gift-tid}
 use proofs.Counts.{gift-is, gift-gives, gift-granted, asks-tid, gives_to, after_gift, after_other_gift}
-
--- a core's part after its step
-pub holder-moved : (v : Pair) {o : Out} (d t : ℕ) {c : ℕ} → KeepsHolder c none v.core o
-    → holder t (after_move v o d) + noted_tid t o.commit ≤ holder t v
-unfolding holder
-holder-moved v d t k = omega (arith, k.holds)
-
-holder-granted : (v : Pair) {o : Out} (d t : ℕ) {c : ℕ} (k : ℕ) {u : ℕ} → slice_index_or v.grants k None ≡ Some (TidGrant u)
-    → KeepsHolder c (λ t. num (u == t)) v.core o → holder t (after_move (grant_taken v k) o d) + noted_tid t o.commit ≤ holder t v
-unfolding holder passes
-holder-granted v d t k {u} e h = omega (arith, h.holds t, live-takes (Grants t) v.grants k (TidGrant u) e)
-
--- the commits after a step of core c
-pub times-noted : (t : ℕ) (n : Option Noted) (cs : List Noted) → times t (and_noted n cs) ≡ times t cs + noted_tid t n
-times-noted t a cs = grind (nats, times-insert)
 
 commits_after : {sh : Shape} {gs : List Grant} {w : World} {cs : List Noted} (c : ℕ) (n : Option Noted) → KeptOwners sh gs w cs
     → c < sh.cores → ((t : ℕ) → noted_tid t n ≤ holder t (pair w c 0)) → IfSome n (λ x. x.core.0 ≡ c)
     → AreGranted gs (and_noted n cs) × IsRising 0 (and_noted n cs)
-unfolding share
 commits_after c None k l h o = (k.granted, k.rising)
 commits_after {sh} {gs} {w} {cs} c (Some n) k l h o =
     let one : num (n.tid.0 == n.tid.0) ≡ 1 = grind nats in
     let mine : 1 ≤ holder n.tid.0 (pair w c 0) = omega (arith, h) in
     let has : Contains gs (grant_to n.tid.0 c) = k.held c 0 n.tid.0 mine in
     let least : 1 ≤ n.tid.0 = numbered-least 1 gs (grant_to n.tid.0 c) k.numbered has in
-    let zero : times n.tid.0 cs ≡ 0 = omega (arith, k.once n.tid.0, total-le (share (holder n.tid.0) w 0) sh.cores c l) in
-    (insert-granted gs n cs k.granted (rw o has), insert-rising 0 n cs k.rising least zero)
+    (insert-granted gs n cs k.granted (rw o has), insert-rising 0 n cs k.rising least (anew sh w cs c (Some n) k.once l h))
 
--- all that a step of core c owes; f: the core's part after it
-moved-owners : {sh : Shape} {gs : List Grant} {w v : World} {cs : List Noted} (c : ℕ) (n : Option Noted) (f : ℕ → ℕ) → KeptOwners sh gs w cs
-    → c < sh.cores → v.next ≡ w.next
-    → ((t : ℕ) → sum_of (holder t) sh.cores v 0 + holder t (pair w c 0) ≡ sum_of (holder t) sh.cores w 0 + f t)
-    → ((t : ℕ) → f t + noted_tid t n ≤ holder t (pair w c 0)) → IfSome n (λ x. x.core.0 ≡ c)
-    → ((j d t : ℕ) → 1 ≤ holder t (pair v j d) → Contains gs (grant_to t j)) → KeptOwners sh gs v (and_noted n cs)
-moved-owners {w} {v} {cs} c n f k l e s h o held =
-    let a = commits_after c n k l (λ t. omega (arith, h t)) o in
-    record {
-      once = λ t. let q : num (nat_le v.next t) ≡ num (nat_le w.next t) = ap (λ x. num (nat_le x t)) e in
-          omega (arith, k.once, s, h, times-noted);
-      held = held;
-      numbered = k.numbered;
-      next = e ∙ k.next;
-      granted = a.0;
-      rising = a.1;
-    }
+-- all that a step of core c owes
+moved-owners : {sh : Shape} {gs : List Grant} {w v : World} {cs : List Noted} (c : ℕ) (n : Option Noted) → KeptOwners sh gs w cs
+    → c < sh.cores → v.next ≡ w.next → Once sh v (and_noted n cs) → ((t : ℕ) → noted_tid t n ≤ holder t (pair w c 0))
+    → IfSome n (λ x. x.core.0 ≡ c) → ((j d t : ℕ) → 1 ≤ holder t (pair v j d) → Contains gs (grant_to t j))
+    → KeptOwners sh gs v (and_noted n cs)
+moved-owners c n k l e once h o held =
+    let a = commits_after c n k l h o in
+    record { once = once; held = held; numbered = k.numbered; next = e ∙ k.next; granted = a.0; rising = a.1 }
 
 abbrev HeldBy : List Grant → (core dir : ℕ) → Pair → Type 0
 HeldBy gs c d v = (t : ℕ) → 1 ≤ holder t v → Contains gs (grant_to t c)
 
-swap : (a b : ℕ) → a + b ≡ b + a
-swap a b = omega arith
-
 move-owners : {sh : Shape} {gs : List Grant} (w : World) {cs : List Noted} (c : ℕ) (o : Out) → KeptOwners sh gs w cs → c < sh.cores
     → KeepsHolder c none (w.cores c) o → KeptOwners sh gs (core_moves w c o) (and_noted o.commit cs)
 unfolding pair core_moves
-move-owners {sh} {gs} w c o k l h = moved-owners c o.commit (λ t. holder t (after_move (pair w c 0) o 0)) k l refl
-    (λ t. sum_move (holder t) sh.cores w c o 0 (holder t (pair w c 0)) (holder t (after_move (pair w c 0) o 0)) l
-    (swap (holder t (after_move (pair w c 0) o 0)) (holder t (pair w c 0)))) (λ t. holder-moved (pair w c 0) 0 t h) h.own
+move-owners {sh} {gs} w {cs} c o k l h = moved-owners c o.commit k l refl (move-once sh w cs c o k.once l h)
+    (noted-moved (pair w c 0) h) h.own
     (pairs_move (HeldBy gs) w c o (λ d t x. k.held c d t (omega (arith, holder-moved (pair w c d) d t h))) k.held)
 
 grant-owners : {sh : Shape} {gs : List Grant} (w : World) {cs : List Noted} (c k u : ℕ) {o : Out} → KeptOwners sh gs w cs → c < sh.cores
     → in_flight w.net Vendor (Core c) k ≡ Some (TidGrant u) → KeepsHolder c (λ t. num (u == t)) (w.cores c) o
     → KeptOwners sh gs (core_takes w Vendor c k o) (and_noted o.commit cs)
 unfolding pair core_takes
-grant-owners {sh} {gs} w c k u {o} h l i y = moved-owners c o.commit (λ t. holder t (after_move (grant_taken (pair w c 0) k) o 0)) h l refl
-    (λ t. sum_grant (holder t) sh.cores w c k o 0 (holder t (pair w c 0)) (holder t (after_move (grant_taken (pair w c 0) k) o 0)) l
-    (swap (holder t (after_move (grant_taken (pair w c 0) k) o 0)) (holder t (pair w c 0)))) (λ t. holder-granted (pair w c 0) 0 t k i y)
-    y.own (pairs_grant (HeldBy gs) w c k o (λ d t x. h.held c d t (omega (arith, holder-granted (pair w c d) d t k i y))) h.held)
+grant-owners {sh} {gs} w {cs} c k u {o} h l i y = moved-owners c o.commit h l refl (grant-once sh w cs c k u h.once l i y)
+    (noted-granted (pair w c 0) k i y) y.own
+    (pairs_grant (HeldBy gs) w c k o (λ d t x. h.held c d t (omega (arith, holder-granted (pair w c d) d t k i y))) h.held)
 
 back-owners : {sh : Shape} {gs : List Grant} (w : World) {cs : List Noted} (e c k : ℕ) (o : Out) → KeptOwners sh gs w cs → c < sh.cores
     → KeepsHolder c none (w.cores c) o → KeptOwners sh gs (core_takes w (Dir e) c k o) (and_noted o.commit cs)
 unfolding pair core_takes holder
-back-owners {sh} {gs} w e c k o h l y = moved-owners c o.commit (λ t. holder t (after_move (pair w c 0) o 0)) h l refl
-    (λ t. sum t (cases_eq 0 e)) (λ t. holder-moved (pair w c 0) 0 t y) y.own
+back-owners {sh} {gs} w {cs} e c k o h l y = moved-owners c o.commit h l refl (back-once sh w cs e c k o h.once l y)
+    (noted-moved (pair w c 0) y) y.own
     (pairs_back (HeldBy gs) w e c k o (λ t x. h.held c e t (omega (arith, holder-moved (pair w c e) e t y)))
     (λ d n t x. h.held c d t (omega (arith, holder-moved (pair w c d) d t y))) h.held)
-  where
-    sum : (t : ℕ) → (0 ≡ e) ⊎ (0 ≢ e) → sum_of (holder t) sh.cores (core_takes w (Dir e) c k o) 0 + holder t (pair w c 0) ≡ sum_of
-        (holder t) sh.cores w 0 + holder t (after_move (pair w c 0) o 0)
-    sum t (inl q) = subst (λ e. sum_of (holder t) sh.cores (core_takes w (Dir e) c k o) 0 + holder t (pair w c 0) ≡ sum_of
-        (holder t) sh.cores w 0 + holder t (after_move (pair w c 0) o 0)) q
-        (sum_back (holder t) sh.cores w c k o 0 (holder t (pair w c 0)) (holder t (after_move (pair w c 0) o 0)) l
-        (swap (holder t (after_move (pair w c 0) o 0)) (holder t (pair w c 0))))
-    sum t (inr q) = sum_back_away (holder t) sh.cores w e c k o 0 (holder t (pair w c 0)) (holder t (after_move (pair w c 0) o 0)) q l
-        (swap (holder t (after_move (pair w c 0) o 0)) (holder t (pair w c 0)))
 
 -- where no core's part changes
 same-owners : {sh : Shape} {gs : List Grant} {w v : World} {cs : List Noted} → KeptOwners sh gs w cs → v.next ≡ w.next
     → ((t j d : ℕ) → holder t (pair v j d) ≡ holder t (pair w j d)) → KeptOwners sh gs v cs
-unfolding share
-same-owners {sh} {w} {v} k e h = record {
-  once = λ t. let q : num (nat_le v.next t) ≡ num (nat_le w.next t) = ap (λ x. num (nat_le x t)) e in
-      omega (arith, k.once, total-same (share (holder t) v 0) (share (holder t) w 0) sh.cores (λ j l. h t j 0));
+same-owners {sh} {w} {v} {cs} k e h = record {
+  once = same-once sh w v cs k.once e h;
   held = λ c d t l. k.held c d t (rw (sym (h t c d)) l);
   numbered = k.numbered;
   next = e ∙ k.next;
@@ -134,15 +94,6 @@ asks-owners : {sh : Shape} {gs : List Grant} {w : World} {cs : List Noted} (e : 
     → KeptOwners sh gs (dir_asks w e s sends) cs
 unfolding dir_asks pair holder
 asks-owners e s sends h = same-owners h refl (λ t j d. refl)
-
--- the vendor gives
-pub holder-given : (v : Pair) (k t : ℕ) (g : Gift) → holder t (after_gift v k g) + 0 ≡ holder t v + among (Grants t) (gift_of g v.next)
-unfolding holder
-holder-given v k t g = omega (arith, live-sends)
-
-holder-next : (v : Pair) (t : ℕ) (g : Gift) → holder t (after_other_gift v g) ≡ holder t v
-unfolding holder
-holder-next v t g = refl
 
 -- a TID that the core has afterwards it had, or it was given
 pub had-or-given : (v : Pair) (k t : ℕ) (g : Gift) → 1 ≤ holder t (after_gift v k g)
@@ -162,9 +113,7 @@ vendor-owners : (sh : Shape) (gs : List Grant) (w : World) (cs : List Noted) (c 
     → KeptOwners sh (gs ++ gift_grants (gift a) w.next c) (gives_to w c k a) cs
 unfolding vendor_gives pair
 vendor-owners sh gs w cs c k a h l = record {
-  once = λ t. let s = sum_vendor (holder t) sh.cores w c k a 0 0 (among (Grants t) (gift_of (gift a) w.next)) l
-      (holder-given (pair w c 0) k t (gift a)) (λ j n. holder-next (pair w j 0) t (gift a)) in
-      omega (arith, h.once, gift-counts (gift a) w.next t);
+  once = vendor-once sh w cs c k a h.once l;
   held = pairs_vendor (HeldBy (gs ++ new)) w c k a (λ d t x. own d t (had-or-given (pair w c d) k t (gift a) x))
       (λ j d n t x. Contains-append_left gs new (grant_to t j) (h.held j d t (rw (sym (holder-next (pair w j d) t (gift a))) x)));
   numbered = (numbered-gift (gift a) gs w.next c h.numbered h.next).0;

@@ -14,9 +14,9 @@ none-mapped None e = refl
 none-mapped (Some x) e = absurd (cc)
 
 pub returns-clause-done : goal.returns-clause-done
-returns-clause-done c =
+returns-clause-done c = λ r.
     let m = c.args.system.now in (
-      λ e. c.machines_are_live.ensures.done (are-none (useful_events m) (sym c.useful_at.ensures ∙ ap (option_map event_of) e)),
+      λ e. (c.machines_are_live.ensures r).done (are-none (useful_events m) (sym c.useful_at.ensures ∙ ap (option_map event_of) e)),
       λ d. none-mapped c.useful_at.result (c.useful_at.ensures
           ∙ ap (λ es. slice_get es 0) (c.useful_events_are_listed.ensures.done (settings_of m) (program_of m) (world_of m) d)),
     )

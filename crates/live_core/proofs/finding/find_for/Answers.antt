@@ -20,7 +20,7 @@ returns-then-spares c =
       useful = (c.useful_events_are_listed.ensures.holds (settings_of m) (program_of m) (world_of m) e).0
           (is-at (useful_events m) c.loop-k.k e at);
       spares = will;
-      found = λ r. refl;
+      found = λ r q. refl;
     }
 
 pub loop-k-preserved : goal.loop-k-preserved
@@ -43,9 +43,9 @@ returns-clause-first c =
     ap (λ es. slice_get es 0) (sym none)
 
 pub returns-clause-found : goal.returns-clause-found
-returns-clause-found c = λ runs.
+returns-clause-found c = λ r runs.
     let m = c.args.system.now in
     let all : length (useful_events m) ≤ c.loop-k.k = omega (arith, c.loop-k-test.false, c.useful_count-k-end.ensures) in
-    let goes = c.machines_are_live.ensures.goes_on c.args.core.0 c.requires.core runs in
+    let goes = (c.machines_are_live.ensures r).goes_on c.args.core.0 c.requires.core runs in
     absurd (none-passes (spares c.args.core.0) (useful_events m) c.loop-k.k goes.event c.loop-k.invariant all
     ((c.useful_events_are_listed.ensures.holds (settings_of m) (program_of m) (world_of m) goes.event).1 goes.is_useful) goes.spares)

@@ -1,11 +1,12 @@
 -- A core that has halted keeps how it did.
 use Rattle.std.proofs.Common.{refl, sym}
-use Rattle.net_core.specs.Machine.{world_of}
+use Rattle.net_core.specs.Machine.{history_of, world_of}
 use Rattle.live_core.proofs.Halting.{halted-halt, halted-trap}
 use Rattle.live_core.proofs.finding.has_halted.Goals as goal
 
 pub returns-in-Run : goal.returns-in-Run
-returns-in-Run c = (λ t. absurd (cc), λ e. absurd (c.machines_are_live.ensures.ends c.args.core.0 e (sym c.in-Run.ensures)))
+unfolding history_of
+returns-in-Run c = (λ t. absurd (cc), λ e. absurd (c.events.ensures.sound.ends c.args.core.0 e (sym c.in-Run.ensures)))
 
 pub returns-in-Halt : goal.returns-in-Halt
 returns-in-Halt c =

@@ -4,7 +4,8 @@ use Rattle.std.specs.Option.{option_map}
 use Rattle.tcc_base.specs.declared.names.DirId.{DirId}
 use Rattle.tcc_base.specs.declared.names.NodeId.{NodeId}
 use Rattle.tcc_base.specs.declared.names.NodeId.TheVariants.{Core as CodeCore, Dir as CodeDir, Vendor as CodeVendor}
-use Rattle.rules_maps.specs.Messages.{InBounds}
+use Rattle.theorem_live.specs.Fits.{LinksFit}
+use Rattle.theorem_sound.specs.Sound.{GoodMessage}
 use Rattle.rules_maps.specs.Bridge.{node_of}
 use Rattle.rules_maps.specs.Nodes.{Dir, Msg}
 use Rattle.rules_maps.specs.Shape.{Shape}
@@ -13,6 +14,8 @@ use Rattle.tcc_msg.specs.Plain.{msg_of}
 use Rattle.rules_tcc.specs.Links.{in_flight}
 use Rattle.rules_tcc.specs.State.{World}
 use Rattle.net_core.specs.Machine.{Machine, program_of, settings_of, world_of}
+use Rattle.net_core.specs.Whole.{IsSound}
+use Rattle.net_core.proofs.Lemmas.{sound-message}
 use Rattle.live_core.specs.Plain.{plain_reason}
 use Rattle.live_core.specs.Reasons.{Reason}
 use Rattle.live_core.specs.Waiting.{reason_at, reason_in}
@@ -24,11 +27,14 @@ flies : (m : Machine) (src dst : NodeId) (k : ℕ) (d : DirId) (x : Msg) → dst
     → Some x ≡ in_flight (world_of m).net (node_of src) (node_of dst) k → in_flight (world_of m).net (node_of src) (Dir d.0) k ≡ Some x
 flies m src dst k d x e f = ap (λ n. in_flight (world_of m).net (node_of src) (node_of n) k) (sym e) ∙ sym f
 
-bounds : (c : goal.In-Dir) → InBounds (settings_of c.args.system.now) (world_of c.args.system.now).next (node_of c.args.name.src)
+all-fit : (m : Machine) → IsSound m → LinksFit (settings_of m) (world_of m)
+all-fit m s src dst k x e = (sound-message m s src dst k x e).fits
+
+bounds : (c : goal.In-Dir) → GoodMessage (settings_of c.args.system.now) (world_of c.args.system.now).next (node_of c.args.name.src)
     (Dir c.in-Dir.dir.0) (msg_of c.in_ok-msg.msg.now)
 bounds c =
     let x = msg_of c.in_ok-msg.msg.now in
-    c.machines_are_live.ensures.messages (node_of c.args.name.src) (Dir c.in-Dir.dir.0) c.args.name.seq x
+    sound-message c.args.system.now c.events.ensures.sound (node_of c.args.name.src) (Dir c.in-Dir.dir.0) c.args.name.seq x
     (flies c.args.system.now c.args.name.src c.args.name.dst c.args.name.seq c.in-Dir.dir x c.in-Dir.is c.in_ok-msg.ensures)
 
 pub reason_of-requires-clause-dir : goal.reason_of-requires-clause-dir
@@ -60,7 +66,7 @@ pub returns-clause-waits : goal.returns-clause-waits
 returns-clause-waits c =
     let m = c.args.system.now in
     waits-so (settings_of m) (program_of m) (world_of m) (node_of c.args.name.src) (node_of c.args.name.dst) c.args.name.seq
-    c.reason_of.result c.machines_are_live.ensures.messages (told c)
+    c.reason_of.result (all-fit m c.events.ensures.sound) (told c)
 
 -- what goes to a core or to the vendor never waits
 elsewhere : (sh : Shape) (w : World) (n : NodeId) (o : Option Msg) → ((d : DirId) → n ≢ CodeDir d) → None ≡ reason_at sh w (node_of n) o
@@ -80,5 +86,5 @@ returns-in_default c =
     record {
       reason = none-told c;
       waits = waits-so (settings_of m) (program_of m) (world_of m) (node_of c.args.name.src) (node_of c.args.name.dst) c.args.name.seq
-          None c.machines_are_live.ensures.messages (none-told c);
+          None (all-fit m c.events.ensures.sound) (none-told c);
     }

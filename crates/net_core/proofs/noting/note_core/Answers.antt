@@ -14,7 +14,7 @@ returns-after-loop-set c = λ l free.
     let sets : c.sets-set-end.result ≡ s.sets = c.sets-set-end.ensures.value ∙ ap (λ k. k.config.sets) c.core.ensures in
     let allowed = subst (λ k. Keeps k Sets) (ap (λ k. k.config) c.core.ensures) c.sets-set-end.ensures.allowed.2 in (
       inv.0,
-      λ inside w own. clean-frames s (core_of c.args.core.now).cache l allowed.0 c.requires.cache
+      λ inside w own. clean-frames s (core_of c.args.core.now).cache l allowed.0 c.keeps_cache.ensures.consistent
           (λ x lt. inv.1 x (omega (arith, sets, c.loop-set-test.false))) w own,
     )
 

@@ -17,21 +17,21 @@ use Rattle.net_core.proofs.Lemmas.{known}
 pub core-requires : goal.core-requires
 core-requires c =
     lt-from c.args.id.0 (settings_of c.args.system.now).cores
-    (ends c.args.system.now (node_of c.args.name.src) (Core c.args.id.0) c.args.name.seq (msg_of c.args.msg) c.machines_are_live.ensures
+    (ends c.args.system.now (node_of c.args.name.src) (Core c.args.id.0) c.args.name.seq (msg_of c.args.msg) c.events.ensures.sound
     c.requires.flies).to
 
 pub look-seen-requires : goal.look-seen-requires
 look-seen-requires c =
     subst (λ s. IsKnown s c.args.name.src) (sym c.core.ensures.config)
     (known (settings_of c.args.system.now) c.args.name.src
-    (ends c.args.system.now (node_of c.args.name.src) (Core c.args.id.0) c.args.name.seq (msg_of c.args.msg) c.machines_are_live.ensures
+    (ends c.args.system.now (node_of c.args.name.src) (Core c.args.id.0) c.args.name.seq (msg_of c.args.msg) c.events.ensures.sound
     c.requires.flies).from)
 
 pub tell_core-requires : goal.tell_core-requires
 tell_core-requires c =
     subst (λ k. c.args.id.0 < k.settings.cores) (sym c.in_ok-step.ensures.code)
     (lt-from c.args.id.0 (settings_of c.args.system.now).cores
-    (ends c.args.system.now (node_of c.args.name.src) (Core c.args.id.0) c.args.name.seq (msg_of c.args.msg) c.machines_are_live.ensures
+    (ends c.args.system.now (node_of c.args.name.src) (Core c.args.id.0) c.args.name.seq (msg_of c.args.msg) c.events.ensures.sound
     c.requires.flies).to)
 
 pub returns-in-Ok : goal.returns-in-Ok
@@ -48,7 +48,7 @@ returns-in-Ok c =
     (subst (λ cs. SawMessage c.look-seen.result src x cs (core_of c.core.result.now)) c.commits.ensures c.look-seen.ensures) in
     let behind = told_behind m n e c.in_ok-step.step in
     let a = advanced-to m n src _ _ c.args.name.seq c.in_ok-step.step c.requires.destination c.in_ok-step.ensures in
-    told-all m n e c.in_ok-step.step c.tell_core.new.facts c.events.ensures.reached a
+    told-all m n e c.in_ok-step.step c.tell_core.new.facts c.events.ensures.sound a
     (c.in-Ok.ensures src x m.commits s seen
     ∙ ap (λ fs. map fact_of fs ++ (taken src x s ++ (violated id m.commits x s ((world_of n).cores id)
     ++ (grant_given_up id x s.phase ++ behind)))) c.requires.empty

@@ -12,28 +12,30 @@ use Rattle.watch_machine.specs.Telling.{commit_told}
 use Rattle.watch_machine.proofs.Enabled.{answer-told, flying-ends as ends, taken-enabled}
 use Rattle.watch_machine.proofs.Happening.{advanced-from, advanced-to, flown, told-all}
 use Rattle.watch_machine.proofs.delivering.watch_dir.Goals as goal
+use Rattle.net_core.proofs.Lemmas.{sound-message}
 
 pub what_became-requires-clause-dir : goal.what_became-requires-clause-dir
 what_became-requires-clause-dir c =
     lt-from c.args.dir.0 (settings_of c.args.system.now).dirs
-    (ends c.args.system.now (Core c.args.core.0) (Dir c.args.dir.0) c.args.name.seq (msg_of c.args.msg) c.machines_are_live.ensures
+    (ends c.args.system.now (Core c.args.core.0) (Dir c.args.dir.0) c.args.name.seq (msg_of c.args.msg) c.events.ensures.sound
     c.requires.flies).to
 
 pub what_became-requires-clause-line : goal.what_became-requires-clause-line
 what_became-requires-clause-line c =
-    (c.machines_are_live.ensures.messages (Core c.args.core.0) (Dir c.args.dir.0) c.args.name.seq (msg_of c.args.msg) c.requires.flies).line
+    (sound-message c.args.system.now c.events.ensures.sound (Core c.args.core.0) (Dir c.args.dir.0) c.args.name.seq
+    (msg_of c.args.msg) c.requires.flies).line
 
 pub serving-before-requires : goal.serving-before-requires
 serving-before-requires c =
     lt-from c.args.dir.0 (settings_of c.args.system.now).dirs
-    (ends c.args.system.now (Core c.args.core.0) (Dir c.args.dir.0) c.args.name.seq (msg_of c.args.msg) c.machines_are_live.ensures
+    (ends c.args.system.now (Core c.args.core.0) (Dir c.args.dir.0) c.args.name.seq (msg_of c.args.msg) c.events.ensures.sound
     c.requires.flies).to
 
 pub tell_dir-requires : goal.tell_dir-requires
 tell_dir-requires c =
     subst (λ k. c.args.dir.0 < k.settings.dirs) (sym c.in_ok-step.ensures.code)
     (lt-from c.args.dir.0 (settings_of c.args.system.now).dirs
-    (ends c.args.system.now (Core c.args.core.0) (Dir c.args.dir.0) c.args.name.seq (msg_of c.args.msg) c.machines_are_live.ensures
+    (ends c.args.system.now (Core c.args.core.0) (Dir c.args.dir.0) c.args.name.seq (msg_of c.args.msg) c.events.ensures.sound
     c.requires.flies).to)
 
 pub returns-in-Ok : goal.returns-in-Ok
@@ -49,7 +51,7 @@ returns-in-Ok c =
     (advanced-to m n (node_of c.args.name.src) _ _ k c.in_ok-step.step c.requires.destination c.in_ok-step.ensures) in
     let told = c.fact_of_message-fact.ensures ∙ answer-told m core dir k c.what_became.result x c.requires.flies
     (taken-enabled m n e c.in_ok-step.step a) c.what_became.ensures ∙ sym (flown m n (Core core) (Dir dir) k x c.requires.flies) in
-    told-all m n e c.in_ok-step.step c.tell_dir.new.facts c.events.ensures.reached a
+    told-all m n e c.in_ok-step.step c.tell_dir.new.facts c.events.ensures.sound a
     (c.in-Ok.ensures
     ∙ (λ i. map fact_of (c.requires.empty i) ++ (told i ++ (commit_told (tid_told c.in_ok-step.step) n.commits
     ++ serves_fact dir (c.serving-before.ensures i) ((world_of n).dirs dir).serving.serving))))

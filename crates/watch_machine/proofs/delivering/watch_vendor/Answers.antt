@@ -23,7 +23,7 @@ returns-in-Ok c =
     (advanced-to m n (node_of c.args.name.src) _ _ k c.in_ok-step.step c.requires.destination c.in_ok-step.ensures) in
     let behind = told_behind m n e c.in_ok-step.step in
     let noted = commit_told (tid_told c.in_ok-step.step) n.commits in
-    told-all m n e c.in_ok-step.step c.tell_vendor.new.facts c.events.ensures.reached a
+    told-all m n e c.in_ok-step.step c.tell_vendor.new.facts c.events.ensures.sound a
     (c.in-Ok.ensures
     ∙ ap (λ fs. map fact_of fs ++ (Took x ∷ noted)) c.requires.empty
     ∙ ap (λ fs. Took x ∷ fs) (sym (append-nil noted))

@@ -37,7 +37,7 @@ returns-in-Ok c =
     let t = (world_of n).cores id in
     let held = c.evicted-held.ensures ∙ ap (evicted id c.args.set c.args.way) c.core-core.ensures.state in
     let phase = c.phase-before.ensures ∙ ap (λ s. s.phase) c.core-core.ensures.state in
-    told-all m n (Evict id c.args.set c.args.way) c.in_ok-step.step c.tell_evict.new.facts c.events.ensures.reached c.in_ok-step.ensures
+    told-all m n (Evict id c.args.set c.args.way) c.in_ok-step.step c.tell_evict.new.facts c.events.ensures.sound c.in_ok-step.ensures
     (c.in-Ok.ensures
     ∙ (λ i. map fact_of (c.requires.empty i) ++ (held i ++ (commit_told (tid_told c.in_ok-step.step) n.commits
     ++ phase_fact id (phase i) t.phase))))

@@ -28,7 +28,7 @@ returns-in-Ok c =
     let s = (world_of m).cores id in
     let t = (world_of n).cores id in
     let seen = subst (λ k. Saw c.look-seen.result (program (started k)) s) (sym a.code) c.look-seen.ensures in
-    told-all m n (Exec id) c.in_ok-step.step c.tell_exec.new.facts c.events.ensures.reached a
+    told-all m n (Exec id) c.in_ok-step.step c.tell_exec.new.facts c.events.ensures.sound a
     (c.in-Ok.ensures s seen
     ∙ ap (λ fs. map fact_of fs
     ++ (executed (settings_of n) (program (started n.cores.code)) id s t ++ told_behind m n (Exec id) c.in_ok-step.step))

@@ -21,7 +21,7 @@ use Rattle.net_core.specs.Whole.{IsWhole}
 use Rattle.net_core.specs.Inside.{machine_of}
 use Rattle.net_core.specs.Machine.{Machine, settings_of, start_of, world_of}
 use Rattle.net_core.specs.declared.taking.Step.TheVariants.{Moved}
-use Rattle.net_core.proofs.Reaching.{nothing-left, settled-net}
+use Rattle.net_core.proofs.Keeping.{nothing-left, settled-net}
 use Rattle.net_core.proofs.Events.Kept.{StaysBut, same-dirs, stays-whole, took-whole}
 use Rattle.net_core.proofs.Events.Cores.{ActsFrom, CoreThere, after_core, after_none, core-there, known, refused-take, take-step, took-take}
 use Rattle.net_core.proofs.Events.Cores.{unnoted-as}

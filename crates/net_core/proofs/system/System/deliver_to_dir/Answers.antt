@@ -20,7 +20,7 @@ use Rattle.net_core.specs.Machine.{Machine, start_of}
 use Rattle.net_core.specs.Taking.{is_seen, look_of, looks}
 use Rattle.image_load.specs.Start.{first_ram}
 use Rattle.net_core.specs.declared.taking.Step.TheVariants.{Moved}
-use Rattle.net_core.proofs.Reaching.{nothing-left}
+use Rattle.net_core.proofs.Keeping.{nothing-left}
 use Rattle.net_core.proofs.Events.Kept.{StaysBut, stays-kept, stays-whole}
 use Rattle.net_core.proofs.Events.Directories.{ActsAt, acts-took, acts-whole, belongs-there, comes-at, enabled, now_at, refused, rule_dirs}
 use Rattle.net_core.proofs.Events.Directories.{is-marked, says_taken, small-at}

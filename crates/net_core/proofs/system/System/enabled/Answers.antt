@@ -14,7 +14,7 @@ use Rattle.net_core.specs.Inside.{machine_of}
 use Rattle.net_core.specs.Machine.{settings_of, start_of, world_of}
 use Rattle.image_load.specs.Start.{first_ram}
 use Rattle.net_core.proofs.Useful.Enabled.{absent-refused, evict-enabled, evict-refused, exec-enabled, exec-refused, flying-enabled}
-use Rattle.net_core.proofs.Reaching.{reached-may-go}
+use Rattle.net_core.proofs.Keeping.{may-all-go}
 use Rattle.net_core.proofs.system.System.enabled.Goals as goal
 use Rattle.net_core.proofs.system.System.enabled.Goals.{then-core-cores-2, else-core-cores-2, then-set-sets, else-set-sets}
 
@@ -27,7 +27,7 @@ is_ready-requires c =
     let x = msg_of c.in-Some.msg.now in
     let fly : in_flight (world_of m).net src dst c.in-Deliver.name.seq ≡ Some x =
     ap (λ o. in_flight (world_of o).net src dst c.in-Deliver.name.seq) c.self.view_is ∙ sym c.in-Some.ensures in
-    subst (λ s. MayGo s src dst x) (sym c.self.invariant.dirs) (reached-may-go m c.self.invariant src dst c.in-Deliver.name.seq x fly)
+    subst (λ s. MayGo s src dst x) (sym c.self.invariant.dirs) (may-all-go m c.self.invariant src dst c.in-Deliver.name.seq x fly)
 
 pub returns-then-core-cores : goal.returns-then-core-cores
 returns-then-core-cores c =

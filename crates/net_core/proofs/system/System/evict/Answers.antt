@@ -7,7 +7,7 @@ use Rattle.net_core.specs.Answers.{Answers, Took}
 use Rattle.net_core.specs.Inside.{machine_of}
 use Rattle.net_core.specs.Machine.{settings_of}
 use Rattle.net_core.specs.declared.taking.Step.TheVariants.{Moved}
-use Rattle.net_core.proofs.Reaching.{nothing-left}
+use Rattle.net_core.proofs.Keeping.{nothing-left}
 use Rattle.net_core.proofs.Events.Kept.{StaysBut, stays-whole}
 use Rattle.net_core.proofs.Events.Cores.{ActsFrom, after_core, after_none, evict-step_in, evict-unnoted, move-whole, no-evict_in}
 use Rattle.net_core.proofs.Events.Cores.{refused-move, took-move, unnoted-as}

@@ -14,7 +14,7 @@ use Rattle.net_core.specs.Inside.{machine_of}
 use Rattle.net_core.specs.declared.system.System.TheInside.{Inside}
 use Rattle.net_core.specs.Machine.{Machine, program_of, settings_of}
 use Rattle.net_core.specs.declared.taking.Step.TheVariants as step_told
-use Rattle.net_core.proofs.Reaching.{nothing-left}
+use Rattle.net_core.proofs.Keeping.{nothing-left}
 use Rattle.net_core.proofs.Events.Kept.{StaysBut, stays-whole}
 use Rattle.net_core.proofs.Events.Cores.{ActsFrom, after_core, after_none, commit-new, exec-step_in, move-whole, no-exec, noted-as}
 use Rattle.net_core.proofs.Events.Cores.{refused-move, told-unnoted, took-move, unnoted-as}

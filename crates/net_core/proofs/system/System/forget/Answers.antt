@@ -8,7 +8,7 @@ use Rattle.net_core.proofs.system.System.forget.Goals as goal
 pub invariant_of-self : goal.invariant_of-self
 invariant_of-self c =
     forgot-whole (machine_of c.self.inside) c.forget_before.new.self.list c.forget_before.new.self.room _
-    c.self.invariant c.forget_before.ensures.rising c.forget_before.ensures.forgets
+    c.self.invariant c.forget_before.ensures.forgets
 
 pub returns-clause-world : goal.returns-clause-world
 unfolding world_of

@@ -14,7 +14,7 @@ use Rattle.net_core.specs.Inside.{machine_of}
 use Rattle.net_core.specs.declared.system.System.TheInside.{Inside}
 use Rattle.net_core.specs.Machine.{Machine}
 use Rattle.net_core.specs.declared.taking.Step.TheVariants.{Moved}
-use Rattle.net_core.proofs.Reaching.{nothing-left, settled-net}
+use Rattle.net_core.proofs.Keeping.{nothing-left, settled-net}
 use Rattle.net_core.proofs.Events.Kept.{StaysBut, stays-kept, stays-whole}
 use Rattle.net_core.proofs.Events.Vendor.{GivesTo, gives-took, gives-whole, grant-enabled, grant-sends, next-small}
 use Rattle.net_core.proofs.system.System.grant.Goals as goal

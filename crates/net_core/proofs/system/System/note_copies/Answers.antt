@@ -2,24 +2,13 @@
 use Rattle.std.proofs.Common.{◌≡◌, ◌<◌, ap, subst, sym, ◌∙◌, arith}
 use Rattle.std.proofs.Math.Nat.{mod-lt}
 use Rattle.tcc_base.specs.Settings.{Settings}
-use Rattle.rules_maps.specs.Cache.{IsCache}
 use Rattle.rules_maps.specs.Shape.{home, lines}
 use Rattle.rules_maps.specs.Words.{line_of}
-use Rattle.rules_tcc.specs.State.{CoreState}
 use Rattle.core_node.specs.View.{core_of}
 use Rattle.net_core.specs.Inside.{machine_of}
-use Rattle.net_core.specs.Machine.{Machine, settings_of}
+use Rattle.net_core.specs.Machine.{settings_of}
 use Rattle.net_core.proofs.Words.Away.{core-covered}
-use Rattle.net_core.proofs.Words.Seen.{whole-caches}
 use Rattle.net_core.proofs.system.System.note_copies.Goals as goal
-
-pub note_core-requires : goal.note_core-requires
-note_core-requires c =
-    let m : Machine = machine_of c.self.inside in record {
-      cache = subst (λ s. IsCache s (core_of c.core.result.now).cache) (sym c.core.ensures.config)
-          (subst (λ (x : CoreState). IsCache (settings_of m) x.cache) (sym c.core.ensures.state)
-          (whole-caches m c.self.invariant c.args.core.0));
-    }
 
 pub returns : goal.returns
 returns c = λ l free.

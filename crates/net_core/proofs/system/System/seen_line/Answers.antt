@@ -10,11 +10,8 @@ use Rattle.net_core.specs.Copies.{nth_copy}
 use Rattle.net_core.specs.Inside.{machine_of}
 use Rattle.net_core.specs.Machine.{settings_of, world_of}
 use Rattle.net_core.proofs.Words.Places.{line-is}
-use Rattle.net_core.proofs.Words.Seen.{best-first, best-last, best-more, home-tag, home-word, whole-caches}
+use Rattle.net_core.proofs.Words.Seen.{best-first, best-last, best-more, home-tag, home-word}
 use Rattle.net_core.proofs.system.System.seen_line.Goals as goal
-
-pub newest_in_core-requires-clause-cache : goal.newest_in_core-requires-clause-cache
-newest_in_core-requires-clause-cache c = whole-caches _ c.self.invariant c.loop-c.c
 
 pub loop-c-init : goal.loop-c-init
 loop-c-init c = λ k b.

@@ -1,4 +1,4 @@
-use Rattle.std.proofs.Common.{◌≡◌, ℕ, zero, suc, ◌+◌, ◌^◌, ◌<◌, ◌≤◌, length, ap, refl, arith}
+use Rattle.std.proofs.Common.{◌≡◌, ℕ, zero, suc, ◌+◌, ◌^◌, ◌<◌, ◌≤◌, length, ap, arith}
 use Rattle.rules_maps.specs.Serving.{advance}
 use Rattle.skip_vector.proofs.Flags.{advance-bound}
 use Rattle.skip_vector.proofs.ring.RingSkipsSkips.skip.Goals as goal

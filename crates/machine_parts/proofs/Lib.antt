@@ -1,0 +1,7 @@
+-- The proofs of this crate.
+mod Below
+mod Flying
+mod Granted
+mod Noted
+mod Together
+mod Traffic
