@@ -29,10 +29,10 @@ orders-next : (orders : List CodeOrder) (i : ℕ) → i < length orders
 orders-next orders i lt =
     rw (add-one i, take-suc orders i no_order lt) (map-append order_of (take i orders) (get_or orders i no_order ∷ []))
 
-pub tid_before-next : (orders : List CodeOrder) (i : ℕ) → i < length orders
-    → tid_before orders (i + 1) ≡ (get_or orders i no_order).tid.0
-tid_before-next orders i lt =
-    rw (orders-next orders i lt) (last_tid-snoc 0 (map order_of (take i orders)) (order_of (get_or orders i no_order)))
+pub tid_before-next : (last : ℕ) (orders : List CodeOrder) (i : ℕ) → i < length orders
+    → tid_before last orders (i + 1) ≡ (get_or orders i no_order).tid.0
+tid_before-next last orders i lt =
+    rw (orders-next orders i lt) (last_tid-snoc last (map order_of (take i orders)) (order_of (get_or orders i no_order)))
 
 -- one more order that isn't a transaction
 serial-none : (base : ℕ) (p : Program) (last : ℕ) (os : List Order) (o : Order) (m : Plain) (r : Plain × List Commit)
@@ -42,50 +42,50 @@ unfolding serial
 serial-none base p last os o m r is rises none = serial-append base p last os (o ∷ []) m ∙ rw (is, rises, none) refl
 
 -- one more order that is one
-serial-done : (base : ℕ) (p : Program) (os : List Order) (o : CodeOrder) (m mid after : Plain) (commits : List Commit) (d : Done)
-    → serial base p 0 os m ≡ Some (mid, commits) → nat_lt (last_tid 0 os) o.tid.0 ≡ true
+serial-done : (base : ℕ) (p : Program) (last : ℕ) (os : List Order) (o : CodeOrder) (m mid after : Plain) (commits : List Commit) (d : Done)
+    → serial base p last os m ≡ Some (mid, commits) → nat_lt (last_tid last os) o.tid.0 ≡ true
     → IsSomeAnd (transaction base p mid o.core.0 o.n) (λ r.
     (after ≡ r.0) × (d.loads ≡ r.1.loads) × (d.stores ≡ r.1.stores) × (d.console ≡ r.1.console))
-    → serial base p 0 (os ++ order_of o ∷ []) m ≡ Some (after, commits ++ commit o d ∷ [])
+    → serial base p last (os ++ order_of o ∷ []) m ≡ Some (after, commits ++ commit o d ∷ [])
 unfolding commit_of
-serial-done base p os o m mid after commits d is rises did = go (transaction base p mid o.core.0 o.n) refl did
+serial-done base p last os o m mid after commits d is rises did = go (transaction base p mid o.core.0 o.n) refl did
   where
     go : (t : Option (Plain × Attempt)) → transaction base p mid o.core.0 o.n ≡ t
         → IsSomeAnd t (λ r. (after ≡ r.0) × (d.loads ≡ r.1.loads) × (d.stores ≡ r.1.stores) × (d.console ≡ r.1.console))
-        → serial base p 0 (os ++ order_of o ∷ []) m ≡ Some (after, commits ++ commit o d ∷ [])
+        → serial base p last (os ++ order_of o ∷ []) m ≡ Some (after, commits ++ commit o d ∷ [])
     go None e h = absurd h
     go (Some r) e h =
-        rw (h.0, h.1, h.2, h.3) (serial-snoc base p 0 os (order_of o) m (mid, commits) r is rises e)
+        rw (h.0, h.1, h.2, h.3) (serial-snoc base p last os (order_of o) m (mid, commits) r is rises e)
 
-pub executed-next : (s mid after : PlainState) (orders : List CodeOrder) (i : ℕ) (commits : List Commit) (d : Done)
-    → i < length orders → serial_of s (take i orders) ≡ Some (plain_of mid, commits) → mid.loaded ≡ s.loaded
-    → tid_before orders i < (get_or orders i no_order).tid.0
+pub executed-next : (s mid after : PlainState) (last : ℕ) (orders : List CodeOrder) (i : ℕ) (commits : List Commit) (d : Done)
+    → i < length orders → serial_of s last (take i orders) ≡ Some (plain_of mid, commits) → mid.loaded ≡ s.loaded
+    → tid_before last orders i < (get_or orders i no_order).tid.0
     → Did mid (get_or orders i no_order).core.0 (get_or orders i no_order).n after d
-    → serial_of s (take (i + 1) orders) ≡ Some (plain_of after, commits ++ commit (get_or orders i no_order) d ∷ [])
+    → serial_of s last (take (i + 1) orders) ≡ Some (plain_of after, commits ++ commit (get_or orders i no_order) d ∷ [])
 unfolding plain_of
-executed-next s mid after orders i commits d lt is same rises did =
+executed-next s mid after last orders i commits d lt is same rises did =
     rw (orders-next orders i lt) (
-    serial-done s.loaded.settings.base (program (started s.loaded)) (map order_of (take i orders))
+    serial-done s.loaded.settings.base (program (started s.loaded)) last (map order_of (take i orders))
     (get_or orders i no_order) (plain_of s) (plain_of mid) (plain_of after) commits d is (lt-ltb _ _ rises)
     (rw same at did)
     )
 
-pub none-next : (s mid : PlainState) (orders : List CodeOrder) (i : ℕ) (commits : List Commit)
-    → i < length orders → serial_of s (take i orders) ≡ Some (plain_of mid, commits) → mid.loaded ≡ s.loaded
-    → tid_before orders i < (get_or orders i no_order).tid.0
+pub none-next : (s mid : PlainState) (last : ℕ) (orders : List CodeOrder) (i : ℕ) (commits : List Commit)
+    → i < length orders → serial_of s last (take i orders) ≡ Some (plain_of mid, commits) → mid.loaded ≡ s.loaded
+    → tid_before last orders i < (get_or orders i no_order).tid.0
     → transaction_of mid (get_or orders i no_order).core.0 (get_or orders i no_order).n ≡ None
-    → IsSerialFault s orders (NotEnding i)
+    → IsSerialFault s last orders (NotEnding i)
 unfolding plain_of
-none-next s mid orders i commits lt is same rises none = (
+none-next s mid last orders i commits lt is same rises none = (
   rw is refl,
   rw (slice_get-get_or orders i no_order lt) rises,
   rw (orders-next orders i lt) (
-      serial-none s.loaded.settings.base (program (started s.loaded)) 0 (map order_of (take i orders))
+      serial-none s.loaded.settings.base (program (started s.loaded)) last (map order_of (take i orders))
       (order_of (get_or orders i no_order)) (plain_of s) (plain_of mid, commits) is (lt-ltb _ _ rises) (rw same at none)
       ),
 )
 
-pub not_rising : (s mid : PlainState) (orders : List CodeOrder) (i : ℕ) (commits : List Commit)
-    → i < length orders → serial_of s (take i orders) ≡ Some (plain_of mid, commits)
-    → (get_or orders i no_order).tid.0 ≤ tid_before orders i → IsSerialFault s orders (NotRising i)
-not_rising s mid orders i commits lt is h = (rw is refl, rw (slice_get-get_or orders i no_order lt) h)
+pub not_rising : (s mid : PlainState) (last : ℕ) (orders : List CodeOrder) (i : ℕ) (commits : List Commit)
+    → i < length orders → serial_of s last (take i orders) ≡ Some (plain_of mid, commits)
+    → (get_or orders i no_order).tid.0 ≤ tid_before last orders i → IsSerialFault s last orders (NotRising i)
+not_rising s mid last orders i commits lt is h = (rw is refl, rw (slice_get-get_or orders i no_order lt) h)

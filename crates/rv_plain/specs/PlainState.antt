@@ -33,8 +33,8 @@ steps_of s core n =
     let c = (plain_of s).cores core in
     steps s.loaded.settings.base (program (started s.loaded)) n (begun c.local (flat s.ram))
 
-abbrev pub serial_of : PlainState → List CodeOrder → Option (Plain × List Commit)
-serial_of s orders = serial s.loaded.settings.base (program (started s.loaded)) 0 (map order_of orders) (plain_of s)
+abbrev pub serial_of : PlainState → (last : ℕ) → List CodeOrder → Option (Plain × List Commit)
+serial_of s last orders = serial s.loaded.settings.base (program (started s.loaded)) last (map order_of orders) (plain_of s)
 
 -- a transaction of this machine has a value, which is the machine afterwards and what is answered
 abbrev pub Did : PlainState → (core n : ℕ) → PlainState → Done → Type 0

@@ -7,21 +7,21 @@ use Rattle.rv_plain.specs.declared.plain.SerialFault.TheVariants.{NotRising, Not
 use Rattle.tcc_base.specs.declared.access.Commit.{Commit}
 use Rattle.rules_program.specs.Orders.{last_tid}
 
--- the serial execution of the orders has a value, which is the machine afterwards and the commits
-abbrev pub Executed : PlainState → List CodeOrder → PlainState → List Commit → Type 0
-Executed s orders after commits = IsSomeAnd (serial_of s orders) (λ r. (plain_of after ≡ r.0) × (commits ≡ r.1))
+-- the serial execution of the orders, under TIDs above the last one, has a value, which is the machine afterwards and the commits
+abbrev pub Executed : PlainState → (last : ℕ) → List CodeOrder → PlainState → List Commit → Type 0
+Executed s last orders after commits = IsSomeAnd (serial_of s last orders) (λ r. (plain_of after ≡ r.0) × (commits ≡ r.1))
 
--- the TID before order i: 0 before the first
-abbrev pub tid_before : List CodeOrder → ℕ → ℕ
-tid_before orders i = last_tid 0 (map order_of (take i orders))
+-- the TID before order i: the last one before the first order
+abbrev pub tid_before : (last : ℕ) → List CodeOrder → ℕ → ℕ
+tid_before last orders i = last_tid last (map order_of (take i orders))
 
 -- what an error says: the orders before the one that is named have a serial execution; that one's TID doesn't rise, or it
 -- rises and they have none together with it
-abbrev pub IsSerialFault : PlainState → List CodeOrder → SerialFault → Type 0
-IsSerialFault s orders (NotRising i) =
-    IsSome (serial_of s (take i orders)) × IsSomeAnd (slice_get orders i) (λ o. o.tid.0 ≤ tid_before orders i)
-IsSerialFault s orders (NotEnding i) =
-    IsSome (serial_of s (take i orders))
-    × IsSomeAnd (slice_get orders i) (λ o. tid_before orders i < o.tid.0)
-    × (serial_of s (take (i + 1) orders) ≡ None)
-IsSerialFault s orders Memory = Unit {0}
+abbrev pub IsSerialFault : PlainState → (last : ℕ) → List CodeOrder → SerialFault → Type 0
+IsSerialFault s last orders (NotRising i) =
+    IsSome (serial_of s last (take i orders)) × IsSomeAnd (slice_get orders i) (λ o. o.tid.0 ≤ tid_before last orders i)
+IsSerialFault s last orders (NotEnding i) =
+    IsSome (serial_of s last (take i orders))
+    × IsSomeAnd (slice_get orders i) (λ o. tid_before last orders i < o.tid.0)
+    × (serial_of s last (take (i + 1) orders) ≡ None)
+IsSerialFault s last orders Memory = Unit {0}

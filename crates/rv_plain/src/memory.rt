@@ -11,7 +11,7 @@ use rv_code::Code;
 use std::alloc::Global;
 use std::collections::BTreeMap;
 use std::marker::Model;
-use tcc_base::{NoMemory, WordAddr};
+use tcc_base::{List, NoMemory, WordAddr};
 
 /// RAM by word, and the words that wait to be written to it.
 #[derive(Debug, Drop)]
@@ -50,6 +50,16 @@ impl BufferedRam {
         })
     }
 
+    /// RAM with these words. Nothing waits, and no memory is taken.
+    pub(crate) fn of_words(alloc: Global, words: List<u32>) -> BufferedRam
+        ensures { result ≡ record { ram = words; waiting = [] } }
+    {
+        BufferedRam {
+            ram: words.items,
+            buffer: BTreeMap::new(alloc),
+        }
+    }
+
     /// The same RAM, with nothing waiting. Takes time and memory in RAM's words.
     pub(crate) fn copy(&self, alloc: Global) -> Result<BufferedRam, NoMemory>
         ensures ram { IfOk result (λ m. m.ram ≡ self.now.ram) }
@@ -60,6 +70,13 @@ impl BufferedRam {
             ram,
             buffer: BTreeMap::new(alloc),
         })
+    }
+
+    /// RAM's words in order, whatever waits. Takes no memory.
+    pub(crate) fn ram(&self) -> &[u32]
+        ensures { result.now ≡ self.now.ram }
+    {
+        &self.ram
     }
 
     /// The number of RAM's words.

@@ -139,6 +139,34 @@ impl Plain {
         })
     }
 
+    /// The machine with this RAM and these cores, between two transactions of the program that was loaded: RAM's words in order, and a
+    /// core for each of the machine's. The machine keeps them, and a copy of what was loaded.
+    pub fn restored(
+        alloc: Global,
+        loaded: &Loaded,
+        ram: List<u32>,
+        cores: List<CoreState>,
+    ) -> Result<Plain, NoMemory>
+        requires ram { 4 * length ram ≡ loaded.now.settings.ram }
+        requires cores { length cores ≡ loaded.now.settings.cores }
+        ensures { IfOk result (λ p. p ≡ record { loaded = loaded.now; ram = ram; cores = cores }) }
+    {
+        let code = Code::new(alloc, loaded.copy()?)?;
+        Ok(Plain {
+            alloc,
+            code,
+            memory: BufferedRam::of_words(alloc, ram),
+            cores,
+        })
+    }
+
+    /// The machine's settings. Takes no memory.
+    pub fn config(&self) -> &Config
+        ensures { result.now ≡ self.now.loaded.settings }
+    {
+        self.code.config()
+    }
+
     /// Where the machine takes its memory from.
     pub(crate) fn alloc(&self) -> Global {
         self.alloc
@@ -157,6 +185,22 @@ impl Plain {
             memory,
             cores,
         })
+    }
+
+    /// RAM's words in order. Takes no memory.
+    pub fn ram(&self) -> &[u32]
+        ensures value { result.now ≡ self.now.ram }
+        ensures whole { 4 * length self.now.ram ≡ self.now.loaded.settings.ram }
+    {
+        self.memory.ram()
+    }
+
+    /// The cores in the order of their numbers. Takes no memory.
+    pub fn cores(&self) -> &[CoreState]
+        ensures value { result.now ≡ self.now.cores }
+        ensures all { length self.now.cores ≡ self.now.loaded.settings.cores }
+    {
+        &self.cores.items
     }
 
     /// A word of RAM. Constant time, takes no memory.

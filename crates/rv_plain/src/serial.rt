@@ -2,7 +2,7 @@
 ghost use Rattle.std.specs.Prelude.{◌≡◌, ℕ, ◌<◌, ◌^◌, IfOk, IfErr, OnErr, All, length};
 
 use crate::plain::{Order, Plain, PlainFault, SerialFault};
-use tcc_base::{Commit, List};
+use tcc_base::{Commit, List, Tid};
 
 impl Plain {
     ghost use Rattle.rv_plain.specs.PlainState.{PlainState, plain_of};
@@ -16,8 +16,19 @@ impl Plain {
     /// an error the machine is as before. A call copies the machine once: it takes time and memory in RAM's words.
     pub fn serial(&mut self, orders: &[Order]) -> Result<List<Commit>, SerialFault>
         requires { All (λ o. o.core.0 < self.old.loaded.settings.cores) orders.now }
-        ensures executed { IfOk result (Executed self.old orders.now self.new) }
-        ensures fault { IfErr result (IsSerialFault self.old orders.now) }
+        ensures executed { IfOk result (Executed self.old 0 orders.now self.new) }
+        ensures fault { IfErr result (IsSerialFault self.old 0 orders.now) }
+        ensures loaded { self.new.loaded ≡ self.old.loaded }
+        ensures unchanged { OnErr result (self.new ≡ self.old) }
+    {
+        self.serial_from(Tid(0), orders)
+    }
+
+    /// As `serial`, where the last transaction before the orders had this TID: the first order's TID is above it.
+    pub fn serial_from(&mut self, last: Tid, orders: &[Order]) -> Result<List<Commit>, SerialFault>
+        requires { All (λ o. o.core.0 < self.old.loaded.settings.cores) orders.now }
+        ensures executed { IfOk result (Executed self.old last.0 orders.now self.new) }
+        ensures fault { IfErr result (IsSerialFault self.old last.0 orders.now) }
         ensures loaded { self.new.loaded ≡ self.old.loaded }
         ensures unchanged { OnErr result (self.new ≡ self.old) }
     {
@@ -25,7 +36,7 @@ impl Plain {
             Ok(trial) => trial,
             Err(_) => return Err(SerialFault::Memory),
         };
-        match trial.execute_orders(orders) {
+        match trial.execute_orders(last, orders) {
             Err(fault) => Err(fault),
             Ok(commits) => {
                 *self = trial;
@@ -34,15 +45,15 @@ impl Plain {
         }
     }
 
-    // as `serial`, but after an error the machine is wherever the orders before it left it
-    fn execute_orders(&mut self, orders: &[Order]) -> Result<List<Commit>, SerialFault>
+    // as `serial_from`, but after an error the machine is wherever the orders before it left it
+    fn execute_orders(&mut self, before: Tid, orders: &[Order]) -> Result<List<Commit>, SerialFault>
         requires { All (λ o. o.core.0 < self.old.loaded.settings.cores) orders.now }
-        ensures executed { IfOk result (Executed self.old orders.now self.new) }
-        ensures fault { IfErr result (IsSerialFault self.old orders.now) }
+        ensures executed { IfOk result (Executed self.old before.0 orders.now self.new) }
+        ensures fault { IfErr result (IsSerialFault self.old before.0 orders.now) }
         ensures loaded { self.new.loaded ≡ self.old.loaded }
     {
         let mut commits = List::new(self.alloc());
-        let mut last = 0;
+        let mut last = before.0;
         for (i, order) in orders.iter().enumerate() {
             if order.tid.0 <= last {
                 return Err(SerialFault::NotRising(i as u64));

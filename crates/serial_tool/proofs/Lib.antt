@@ -3,3 +3,8 @@ pub mod Texts
 pub mod Listing
 pub mod Running
 pub mod Turns
+pub mod Written
+pub mod Alike
+pub mod CoreReading
+pub mod RamReading
+pub mod HeadReading

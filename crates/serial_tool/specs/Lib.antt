@@ -2,4 +2,5 @@
 pub mod Laws
 pub mod Lines
 pub mod Lists
+pub mod PlainTexts
 pub mod Runs

@@ -6,6 +6,14 @@ use Rattle.rv_plain.specs.declared.plain.Order.{Order}
 use Rattle.serial_tool.specs.declared.fields.LineContent.{LineContent}
 use Rattle.serial_tool.specs.declared.fields.LineContent.TheVariants.{Other, Ordered, Faulty}
 
+-- the largest TID of an order
+abbrev pub tid_limit : ℕ
+tid_limit = text_limit
+
+-- the largest number of instructions of an order
+abbrev pub count_limit : ℕ
+count_limit = text_limit
+
 -- the word with which an order's line begins
 abbrev pub commit_word : List ℕ
 commit_word = codes "commit "
@@ -21,10 +29,10 @@ order_text o = commit_word ++ numbers_text o
 -- the orders that a line may list, in a machine of so many cores
 pub record IsPossible (cores : ℕ) (o : Order) : Type 0 where
   pub tid_counts : 1 ≤ o.tid.0
-  pub tid_fits : o.tid.0 ≤ text_limit
+  pub tid_fits : o.tid.0 ≤ tid_limit
   pub core_there : o.core.0 < cores
   pub n_counts : 1 ≤ o.n
-  pub n_fits : o.n ≤ text_limit
+  pub n_fits : o.n ≤ count_limit
 
 -- the line is the order's
 abbrev pub IsOrderLine : (cores : ℕ) → List ℕ → Order → Type 0
@@ -43,10 +51,6 @@ abbrev pub Tells : (cores : ℕ) → List ℕ → LineContent → Type 0
 Tells cores line Other = IsCommitLine line → ⊥
 Tells cores line (Ordered o) = IsOrderLine cores line o
 Tells cores line Faulty = IsFaulty cores line
-
--- these digits write the number, which is at most 4,194,304
-abbrev pub IsNumber : List ℕ → ℕ → Type 0
-IsNumber digits n = (digits ≡ decimal n) × (n ≤ text_limit)
 
 -- these are the numbers of the order
 abbrev pub IsNumbers : (cores : ℕ) → List ℕ → Order → Type 0

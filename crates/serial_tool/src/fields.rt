@@ -1,13 +1,17 @@
 // What a line of a file lists. None of the readers takes memory, and each takes time for what it reads alone.
-ghost use Rattle.std.specs.Prelude.{◌≡◌, ℕ, ◌<◌, ◌≤◌, MatchOption};
-ghost use Rattle.serial_tool.specs.Lines.{IsNumber, IsNumbers, Tells};
+ghost use Rattle.std.specs.Prelude.{◌≡◌, ◌<◌, ◌≤◌, MatchOption};
+ghost use Rattle.serial_tool.specs.Lines.{IsNumbers, IsPossible, Tells, count_limit, tid_limit};
 
+use row_text::read_decimal;
 use rv_plain::Order;
 use std::str::from_utf8;
 use tcc_base::{CoreId, Tid};
 
-/// TIDs and counts of instructions are at most this.
-const LARGEST: u32 = 4_194_304;
+/// The largest TID of an order.
+pub const LARGEST_TID: u64 = 4_194_304;
+
+/// The largest number of instructions of an order.
+pub const LARGEST_COUNT: u64 = 4_194_304;
 
 /// What a line of a file lists.
 #[derive(Clone, Copy)]
@@ -20,34 +24,24 @@ pub enum LineContent {
     Faulty,
 }
 
-/// The number up to `LARGEST` that these digits write without leading zeros; None exactly where they write none.
-fn number(digits: &str) -> Option<u32>
-    ensures { MatchOption result ((n : ℕ) → IsNumber digits.now n → ⊥) (IsNumber digits.now) }
+/// The order of three numbers; None exactly where the first or the last is 0 or above its limit, or the machine has too few cores.
+fn order(tid: u64, core: u64, n: u64, cores: u8) -> Option<Order>
+    ensures { MatchOption result (1 ≤ tid → tid ≤ tid_limit → core < cores → 1 ≤ n → n ≤ count_limit → ⊥)
+        (λ o. (o ≡ record { tid = record { 0 = tid }; core = record { 0 = core }; n = n }) × IsPossible cores o) }
 {
-    if digits.starts_with('0') {
-        return if digits.len() == 1 { Some(0) } else { None };
-    }
-    if digits.starts_with('+') {
+    if tid == 0 || tid > LARGEST_TID {
         return None;
     }
-    match u32::from_str_radix(digits, 10) {
-        Ok(number) if number <= LARGEST => Some(number),
-        _ => None,
+    if n == 0 || n > LARGEST_COUNT {
+        return None;
     }
-}
-
-/// The order of three numbers up to `LARGEST`; None exactly where the first or the last is 0, or the machine has too few cores.
-fn order(tid: u32, core: u32, n: u32, cores: u8) -> Option<Order>
-    ensures { MatchOption result (1 ≤ tid → core < cores → 1 ≤ n → ⊥)
-        (λ o. (o ≡ record { tid = record { 0 = tid }; core = record { 0 = core }; n = n }) × (1 ≤ tid) × (core < cores) × (1 ≤ n)) }
-{
-    if tid == 0 || core >= cores as u32 || n == 0 {
+    if core >= cores as u64 {
         return None;
     }
     Some(Order {
-        tid: Tid(tid as u64),
+        tid: Tid(tid),
         core: CoreId(core as u8),
-        n,
+        n: n as u32,
     })
 }
 
@@ -57,7 +51,12 @@ fn numbers(text: &str, cores: u8) -> Option<Order>
 {
     let (tid, rest) = text.split_once(' ')?;
     let (core, n) = rest.split_once(' ')?;
-    order(number(tid)?, number(core)?, number(n)?, cores)
+    order(
+        read_decimal(tid)?,
+        read_decimal(core)?,
+        read_decimal(n)?,
+        cores,
+    )
 }
 
 /// What a line lists, in a machine of so many cores.

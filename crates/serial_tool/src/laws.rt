@@ -1,5 +1,6 @@
-// Laws of lists. They have no code: their contracts are the laws.
+// Laws of lists, and of the texts of machines. They have no code: their contracts are the laws.
 ghost use Rattle.serial_tool.specs.Laws.{FaultsHaveNoList, ListsAreAlike, FaultsAreAlike, RunFaultsAreAlike, RunFaultsHaveNoRun};
+ghost use Rattle.serial_tool.specs.Laws.{MachinesAreAlike, PieceFaultsAreAlike, PieceFaultsHaveNoRun, PiecesJoin};
 
 /// Two answers about the same bytes and the same number of cores agree: there is one list at most, or one first faulty line, and not
 /// both.
@@ -14,4 +15,22 @@ pub fn lists_are_read_alike()
 pub fn lists_are_run_alike()
     ensures one_fault { RunFaultsAreAlike }
     ensures not_both { RunFaultsHaveNoRun }
+{}
+
+/// The same of executions that begin at any machine.
+pub fn pieces_are_run_alike()
+    ensures one_fault { PieceFaultsAreAlike }
+    ensures not_both { PieceFaultsHaveNoRun }
+{}
+
+/// A list may be executed in pieces: executing it is executing its first orders, and then the others from the machine after them, with
+/// the TID of the last of them; the commits are those of the pieces, one after another.
+pub fn pieces_join()
+    ensures { PiecesJoin }
+{}
+
+/// A text is that of one machine: two with RAM of one size and one text have the same last TID, the same RAM, and cores with the same
+/// registers and pc that ended alike.
+pub fn texts_tell_machines_apart()
+    ensures { MachinesAreAlike }
 {}

@@ -15,9 +15,9 @@ pub struct Listed {
     pub order: Order,
 }
 
-/// The orders that a file lists: one for each line `commit TID CORE N`, in the order of the lines. TID and N are 1 to 4,194,304, CORE
-/// is below the number of cores; the numbers are decimal, without leading zeros. Lines are separated by line feeds. A line that
-/// doesn't begin with `commit ` is passed over, so the file may be a whole report.
+/// The orders that a file lists: one for each line `commit TID CORE N`, in the order of the lines. TID is 1 to 1,099,511,627,776, N is
+/// 1 to 4,294,967,295, CORE is below the number of cores; the numbers are decimal, without leading zeros. Lines are separated by line
+/// feeds. A line that doesn't begin with `commit ` is passed over, so the file may be a whole report.
 ///
 /// `Line(k)` exactly where line k is the first that begins with `commit ` and isn't so formed, unless memory ran out before. It goes
 /// through the bytes once, and takes no memory but for the orders.

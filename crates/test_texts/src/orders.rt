@@ -1,43 +1,13 @@
 // Files that list orders, files that are refused with their line, and what the plain machine makes of a list.
-ghost use Rattle.std.specs.Prelude.{◌≡◌, ◌<◌, IfSome, All};
+ghost use Rattle.std.specs.Prelude.{◌≡◌};
 
-use image_load::{Loaded, load, raw};
+use crate::loading::{config, loaded};
 use rv_plain::Order;
 use schedule_text::TextFault;
 use serial_tool::{Listed, read_orders, run_orders};
 use std::alloc::Global;
 use std::test::Fail;
-use tcc_base::{Config, CoreId, List, Load, Size, Tid, WordAddr};
-
-const IMAGE: [u8; 28] = [
-    0x93, 0x02, 0x70, 0x00, // addi x5, x0, 7
-    0x37, 0x03, 0x00, 0x80, // lui x6, 0x80000
-    0x83, 0x23, 0x03, 0x04, // lw x7, 64(x6)
-    0x23, 0x20, 0x53, 0x04, // sw x5, 64(x6)
-    0x73, 0x00, 0x00, 0x00, // ecall: ends the transaction
-    0x93, 0x08, 0xd0, 0x05, // addi x17, x0, 93
-    0x73, 0x00, 0x00, 0x00, // ecall: halts with the core's number
-];
-
-// Two cores, 64 KiB of RAM from 0x80000000 on.
-fn config() -> Option<Config>
-    ensures { IfSome result (λ c. c.cores ≡ 2) }
-{
-    Config::new(2, 1, 16, 2, 0x8000_0000, 65_536).ok()
-}
-
-fn loaded(alloc: Global) -> Option<Loaded>
-    ensures { IfSome result (λ l. l.settings.cores ≡ 2) }
-{
-    let config = config()?;
-    let file = List {
-        items: IMAGE.to_vec(alloc).ok()?,
-    };
-    match raw(alloc, &config, &[file]) {
-        Err(_) => None,
-        Ok(images) => load(alloc, &config, &images).ok(),
-    }
-}
+use tcc_base::{CoreId, Load, Size, Tid};
 
 fn listed(line: u64, tid: u64, core: u8, n: u32) -> Listed
     ensures { result.order.core.0 ≡ core }

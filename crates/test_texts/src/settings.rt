@@ -3,7 +3,7 @@ use run_outcomes::{Limits, Tell};
 use std::alloc::Global;
 use std::process::Abort;
 use std::test::Fail;
-use tcc_words::{Command, Field, Source, View, WordsFault, settings};
+use tcc_words::{Begin, Command, Field, Source, View, WordsFault, settings};
 use work_gen::Work;
 
 /// What the words of a command line ask for.
@@ -272,6 +272,95 @@ fn totals_are_told_as_a_run_goes(rt: HostRuntime) -> Result<(), Fail> {
 }
 
 #[test]
+fn a_run_goes_on_from_a_checkpoint(rt: HostRuntime) -> Result<(), Fail> {
+    let Ok(
+        Command::Long {
+            images,
+            begin,
+            steps,
+            view,
+            keep,
+            ..
+        },
+    ) = asked(rt.alloc(), "count --resume a b")?
+    else {
+        panic!(rt; "they ask for another command, or for none");
+    };
+    assert!(rt; images.items.len() == 1 && steps == 1_000_000 && keep.is_none());
+    assert_eq!(rt; view, View::Count { csv: false });
+    let Begin::Checkpoint(name) = begin else {
+        panic!(rt; "it begins before its first event");
+    };
+    let text = name.items;
+    assert_eq!(rt; text.as_str(), "a");
+    let Ok(
+        Command::Long {
+            images,
+            begin,
+            steps,
+            view,
+            keep,
+            ..
+        },
+    ) = asked(rt.alloc(), "state --resume a --steps 5 b")?
+    else {
+        panic!(rt; "they ask for another command, or for none");
+    };
+    assert!(rt; images.items.len() == 1 && steps == 5 && keep.is_none());
+    assert_eq!(rt; view, View::State { events: 4_194_304 });
+    let Begin::Checkpoint(name) = begin else {
+        panic!(rt; "it begins before its first event");
+    };
+    let text = name.items;
+    assert_eq!(rt; text.as_str(), "a");
+    Ok(())
+}
+
+#[test]
+fn a_run_is_written_down(rt: HostRuntime) -> Result<(), Fail> {
+    let Ok(
+        Command::Long {
+            machine,
+            images,
+            begin,
+            steps,
+            view,
+            keep,
+        },
+    ) = asked(rt.alloc(), "count --checkpoint a --seed 3 --dirs 2 b")?
+    else {
+        panic!(rt; "they ask for another command, or for none");
+    };
+    assert!(rt; machine.config.dirs() == 2 && images.items.len() == 1 && steps == 1_000_000);
+    assert!(rt; matches!(begin, Begin::Seed(3)));
+    assert_eq!(rt; view, View::Count { csv: false });
+    assert!(rt; keep.is_some_and(|name| name.items.as_str() == "a"));
+    let Ok(
+        Command::Long {
+            begin,
+            steps,
+            view,
+            keep,
+            ..
+        },
+    ) = asked(
+        rt.alloc(),
+        "count --csv --resume=a --steps 1099511627776 b --checkpoint=c",
+    )?
+    else {
+        panic!(rt; "they ask for another command, or for none");
+    };
+    assert!(rt; steps == 1_099_511_627_776 && view == View::Count { csv: true });
+    assert!(rt; keep.is_some_and(|name| name.items.as_str() == "c"));
+    let Begin::Checkpoint(name) = begin else {
+        panic!(rt; "it begins before its first event");
+    };
+    let text = name.items;
+    assert_eq!(rt; text.as_str(), "a");
+    Ok(())
+}
+
+#[test]
 fn outcomes_have_their_limits(rt: HostRuntime) -> Result<(), Fail> {
     let Ok(
         Command::Outcomes {
@@ -397,6 +486,31 @@ const NOT_TOGETHER: [Refused; 13] = [
 #[test]
 fn options_that_do_not_go_together(rt: HostRuntime) -> Result<(), Fail> {
     are_refused(&rt, rt.alloc(), &NOT_TOGETHER)
+}
+
+/// A checkpoint that is resumed beside a seed, a long run beside what it hasn't, and checkpoints of commands that have none.
+const NOT_LONG: [Refused; 13] = [
+    ("count --resume c --seed 1 a", WordsFault::Words),
+    ("state --seed=0 --resume c a", WordsFault::Words),
+    (
+        "count --checkpoint d --resume c --seed 1 a",
+        WordsFault::Words,
+    ),
+    ("count --resume c --schedule s a", WordsFault::Words),
+    ("state --resume c --schedule s a", WordsFault::Words),
+    ("count --checkpoint c --schedule s a", WordsFault::Words),
+    ("count --resume c --bus a", WordsFault::Words),
+    ("count --checkpoint c --bus a", WordsFault::Words),
+    ("count --resume c --every 5 a", WordsFault::Words),
+    ("count --checkpoint c --every 5 a", WordsFault::Words),
+    ("trace --resume c a", WordsFault::Words),
+    ("trace --checkpoint c a", WordsFault::Words),
+    ("state --checkpoint c a", WordsFault::Words),
+];
+
+#[test]
+fn options_that_no_long_run_has(rt: HostRuntime) -> Result<(), Fail> {
+    are_refused(&rt, rt.alloc(), &NOT_LONG)
 }
 
 /// Options of machines and runs, which make no difference to the outcomes.

@@ -1,6 +1,7 @@
 // Texts in the middle of runs, with each reason once, and at the end of one.
 ghost use Rattle.std.specs.Prelude.{◌≡◌, ◌≤◌, IfOk, length};
 
+use crate::loading::file;
 use image_load::{load, raw};
 use net_core::System;
 use schedule_text::read;
@@ -67,15 +68,6 @@ cores 1 dirs 1 sets 16 ways 2 base 2147483648 ram 65536
 e 0\ne 0\ne 0\ne 0\nd c0 v 0\nd v c0 0\nd c0 d0 0\nd d0 c0 0\ne 0\nd c0 d0 1\nx 0 2 0\ne 0\nd c0 d0 2
 e 0\nd c0 d0 3\nd c0 v 1\nd v c0 1\ne 0\nd c0 d0 4
 end 19\n";
-
-// The file of these words.
-fn file(alloc: Global, words: &[u32]) -> Result<List<u8>, Fail> {
-    let mut items = Vec::new(alloc);
-    for word in words {
-        items.extend_from_slice(&word.to_le_bytes())?;
-    }
-    Ok(List { items })
-}
 
 // The machine of these files before its first event.
 fn begun(alloc: Global, config: &Config, files: &[List<u8>]) -> Result<System, Fail>

@@ -8,3 +8,4 @@ mod Lists
 mod Keeping
 mod Pieces
 mod Views
+mod Testing

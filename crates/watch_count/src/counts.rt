@@ -41,14 +41,14 @@ use watch::Fact;
 /// How often what happened in the events so far: by core, by kind of message, by line, and by conflict.
 #[derive(Debug, Drop)]
 pub struct Counts {
-    cores: Vec<KeptCore>,
-    messages: [MessageCounts; 15],
-    lines: BTreeMap<u32, LineCounts>,
-    conflicts: BTreeMap<Conflict, ConflictCounts>,
+    pub(crate) cores: Vec<KeptCore>,
+    pub(crate) messages: [MessageCounts; 15],
+    pub(crate) lines: BTreeMap<u32, LineCounts>,
+    pub(crate) conflicts: BTreeMap<Conflict, ConflictCounts>,
     /// How many events have come.
-    events: u64,
+    pub(crate) events: u64,
     /// No number is above this.
-    bound: u64,
+    pub(crate) bound: u64,
 }
 
 impl Model for Counts {
@@ -63,7 +63,7 @@ impl Model for Counts {
 }
 
 /// No number comes above this.
-const LIMIT: u64 = 72_057_594_037_927_936;
+pub(crate) const LIMIT: u64 = 72_057_594_037_927_936;
 
 /// The number of a core.
 fn taker(actor: NodeId) -> Option<usize>
@@ -328,13 +328,6 @@ impl Counts {
             self.message(msg)?;
         }
         Ok(())
-    }
-
-    /// How many cores there are.
-    pub fn core_count(&self) -> usize
-        ensures { result ≡ length self.now.cores }
-    {
-        self.cores.len()
     }
 
     /// Appends the five tables. After want of memory a part of them may stand there.

@@ -8,6 +8,8 @@ mod counts;
 mod kept;
 mod messages;
 mod places;
+mod readers;
+mod restoring;
 mod rows;
 mod tables;
 mod texts;

@@ -56,7 +56,7 @@ pub(crate) fn kind_of(fact: &Fact) -> Option<usize>
 
 impl MessageCounts {
     /// No message so far.
-    pub(crate) fn nothing() -> MessageCounts
+    pub fn nothing() -> MessageCounts
         ensures { result ≡ no_messages }
     {
         MessageCounts {

@@ -237,7 +237,7 @@ impl Phases {
 
 impl CoreCounts {
     /// No fact of the core so far.
-    pub(crate) fn nothing() -> CoreCounts
+    pub fn nothing() -> CoreCounts
         ensures { result ≡ nothing }
     {
         CoreCounts {

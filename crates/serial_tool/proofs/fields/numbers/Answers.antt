@@ -13,32 +13,32 @@ returns-in_err-core c =
     (λ o is. has-second c.args.cores c.args.text.now o c.in_ok-tid.tid c.in_ok-tid.rest few c.in_ok-tid.ensures.cases
     c.in_err-core.ensures.cases is)
 
-pub returns-in_err-number : goal.returns-in_err-number
-returns-in_err-number c =
-    rw c.from_residual-in_err-number.ensures
-    (λ o is. c.in_err-number.ensures o.tid.0
+pub returns-in_err-read_decimal : goal.returns-in_err-read_decimal
+returns-in_err-read_decimal c =
+    rw c.from_residual-in_err-read_decimal.ensures
+    (λ o is. c.in_err-read_decimal.ensures o.tid.0
     (rest-of c.args.cores c.args.text.now o c.in_ok-tid.tid c.in_ok-tid.rest c.in_ok-tid.ensures.cases is).0)
 
-pub returns-in_err-number-2 : goal.returns-in_err-number-2
-returns-in_err-number-2 c =
+pub returns-in_err-read_decimal-2 : goal.returns-in_err-read_decimal-2
+returns-in_err-read_decimal-2 c =
     let few : c.args.cores ≤ 256 = omega arith in
-    rw c.from_residual-in_err-number-2.ensures
-    (λ o is. c.in_err-number-2.ensures o.core.0
+    rw c.from_residual-in_err-read_decimal-2.ensures
+    (λ o is. c.in_err-read_decimal-2.ensures o.core.0
     (fields-are c.args.cores c.args.text.now o c.in_ok-tid.tid c.in_ok-tid.rest c.in_ok-core.core c.in_ok-core.n few
     (record { first = c.in_ok-tid.ensures.cases; second = c.in_ok-core.ensures.cases }) is).second)
 
-pub returns-in_err-number-3 : goal.returns-in_err-number-3
-returns-in_err-number-3 c =
+pub returns-in_err-read_decimal-3 : goal.returns-in_err-read_decimal-3
+returns-in_err-read_decimal-3 c =
     let few : c.args.cores ≤ 256 = omega arith in
-    rw c.from_residual-in_err-number-3.ensures
-    (λ o is. c.in_err-number-3.ensures o.n
+    rw c.from_residual-in_err-read_decimal-3.ensures
+    (λ o is. c.in_err-read_decimal-3.ensures o.n
     (fields-are c.args.cores c.args.text.now o c.in_ok-tid.tid c.in_ok-tid.rest c.in_ok-core.core c.in_ok-core.n few
     (record { first = c.in_ok-tid.ensures.cases; second = c.in_ok-core.ensures.cases }) is).third)
 
 pub returns : goal.returns
 returns c =
     order-answer c.args.cores c.args.text.now c.in_ok-tid.tid c.in_ok-tid.rest c.in_ok-core.core c.in_ok-core.n
-    c.in_ok-number.field-0 c.in_ok-number-2.field-0 c.in_ok-number-3.field-0 c.order.result (omega arith)
+    c.in_ok-read_decimal.field-0 c.in_ok-read_decimal-2.field-0 c.in_ok-read_decimal-3.field-0 c.order.result (omega arith)
     (record { first = c.in_ok-tid.ensures.cases; second = c.in_ok-core.ensures.cases })
-    (record { first = c.in_ok-number.ensures; second = c.in_ok-number-2.ensures; third = c.in_ok-number-3.ensures })
+    (record { first = c.in_ok-read_decimal.ensures; second = c.in_ok-read_decimal-2.ensures; third = c.in_ok-read_decimal-3.ensures })
     c.order.ensures

@@ -1,7 +1,7 @@
 use Rattle.std.proofs.Common.{true, refl, sym, ◌∙◌, true≢false, arith}
 use Rattle.std.proofs.lemmas.Str.Pattern.{starts_char}
-use Rattle.serial_tool.proofs.Numbers.{no-numeral, not-padded, not-signed, number-read, too-large, zero-alone}
-use Rattle.serial_tool.proofs.fields.number.Goals as goal
+use Rattle.row_text.proofs.Numbers.{no-numeral, not-padded, not-signed, number-read, zero-alone}
+use Rattle.row_text.proofs.digits.read_decimal.Goals as goal
 
 pub returns-then-digits-eq1 : goal.returns-then-digits-eq1
 returns-then-digits-eq1 c =
@@ -23,15 +23,9 @@ returns-in-Ok c =
     let zero = starts_char 48 c.args.digits.now c.starts_with.result c.starts_with.ensures.cases (omega arith) (omega arith) in
     let plus = starts_char 43 c.args.digits.now c.starts_with-2.result c.starts_with-2.ensures.cases (omega arith) (omega arith) in
     number-read c.args.digits.now c.in-Ok.number (λ e. true≢false (sym (plus.1 e) ∙ c.if-starts_with-2.false))
-    (λ e. true≢false (sym (zero.1 e) ∙ c.if-starts_with.false)) c.in-Ok.ensures.value c.if-number-le-LARGEST.true
+    (λ e. true≢false (sym (zero.1 e) ∙ c.if-starts_with.false)) c.in-Ok.ensures.value
 
-pub returns-in_default : goal.returns-in_default
-returns-in_default c =
+pub returns-in-Err : goal.returns-in-Err
+returns-in-Err c =
     let plus = starts_char 43 c.args.digits.now c.starts_with-2.result c.starts_with-2.ensures.cases (omega arith) (omega arith) in
-    λ n is. too-large c.args.digits.now n c.in-Ok.number (λ e. true≢false (sym (plus.1 e) ∙ c.if-starts_with-2.false))
-    c.in-Ok.ensures.value c.if-number-le-LARGEST.false is
-
-pub returns-in_default-2 : goal.returns-in_default-2
-returns-in_default-2 c =
-    let plus = starts_char 43 c.args.digits.now c.starts_with-2.result c.starts_with-2.ensures.cases (omega arith) (omega arith) in
-    λ n is. no-numeral c.args.digits.now n (λ e. true≢false (sym (plus.1 e) ∙ c.if-starts_with-2.false)) c.in_default.ensures.value is
+    λ n is. no-numeral c.args.digits.now n (λ e. true≢false (sym (plus.1 e) ∙ c.if-starts_with-2.false)) c.in-Err.ensures.value is

@@ -1,0 +1,12 @@
+-- What is written, with the rows of the commits that are left, is the rows of all.
+use Rattle.std.proofs.Common.{◌≡◌, ◌++◌, codes, drop}
+use Rattle.tcc_base.specs.declared.access.Commit.{Commit}
+use Rattle.checkpoint_text.specs.Numbers.{byte_numbers}
+use Rattle.checkpoint_text.specs.Tables.{all}
+use Rattle.checkpoint_text.specs.Written.{numbered_text}
+use Rattle.checkpoint_text.proofs.commits.push_commit_bytes.Given as goal
+
+abbrev pub invariant-loop-k : goal.invariant-loop-k
+invariant-loop-k l =
+    l.text ++ numbered_text (codes "commit-byte") (all (λ (c : Commit). c.console) byte_numbers) l.k (drop l.k l.commits)
+    ≡ l.fn.text ++ numbered_text (codes "commit-byte") (all (λ (c : Commit). c.console) byte_numbers) 0 l.commits

@@ -1,0 +1,11 @@
+-- What is written, with the rows of the cores that are left, is the rows of all.
+use Rattle.std.proofs.Common.{◌≡◌, ◌++◌, codes, drop}
+use Rattle.checkpoint_text.specs.Cores.{core_numbers}
+use Rattle.checkpoint_text.specs.Tables.{each}
+use Rattle.checkpoint_text.specs.Written.{numbered_text}
+use Rattle.checkpoint_text.proofs.cores.push_core_table.Given as goal
+
+abbrev pub invariant-loop-k : goal.invariant-loop-k
+invariant-loop-k l =
+    l.text ++ numbered_text (codes "core") (each core_numbers) l.k (drop l.k l.cores)
+    ≡ l.fn.text ++ numbered_text (codes "core") (each core_numbers) 0 l.cores

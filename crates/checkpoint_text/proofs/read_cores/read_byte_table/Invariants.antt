@@ -1,0 +1,6 @@
+-- What is left to read grows shorter.
+use Rattle.std.proofs.Common.{length}
+use Rattle.checkpoint_text.proofs.read_cores.read_byte_table.Given as goal
+
+abbrev pub decreases-loop-k : goal.decreases-loop-k
+decreases-loop-k l = length l.rest
