@@ -43,6 +43,16 @@ impl Chooser {
         }
     }
 
+    /// The chooser of a seed that has drawn so many words, as one that goes on from there has it. Takes no memory, and time in the
+    /// logarithm of `drawn`.
+    pub fn after(seed: u64, drawn: u64) -> Self
+        ensures { result ≡ after_words drawn (seeded seed) }
+    {
+        let mut words = Lcg64Xsh32::seed_from_u64(seed);
+        words.advance(drawn);
+        Chooser { words }
+    }
+
     /// The next event of a machine whose messages all stand on their links: with m useful events, the one at `word mod m` of them, the
     /// word being the generator's next. `None` exactly where no event is useful, and then no word is drawn.
     ///

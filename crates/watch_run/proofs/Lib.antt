@@ -5,6 +5,8 @@ mod Kept
 mod Leading
 mod Named
 mod Picking
+mod Rested
+mod Runs
 mod Serving
 mod Tabled
 mod Tallies

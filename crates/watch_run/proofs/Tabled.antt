@@ -1,7 +1,9 @@
 -- A table, row by row.
-use Rattle.std.proofs.Common.{◌≡◌, ℕ, zero, suc, ◌+◌, ◌≤◌, ◌==◌, ◌↔◌, Bool, true, false, cond, IsTrue, List, [], ◌∷◌, ◌++◌, length}
+use Rattle.std.proofs.Common.{◌≡◌, ℕ, zero, suc, ◌+◌, ◌<◌, ◌≤◌, ◌==◌, ◌&&◌, ◌↔◌, Bool, true, false}
+use Rattle.std.proofs.Common.{cond, IsTrue, List, [], ◌∷◌, ◌++◌, length}
 use Rattle.std.proofs.Common.{append-nil, append_assoc, length-append, Option, if◌then◌else◌, inl, inr, refl, ap, sym, subst, ◌∙◌, arith}
-use Rattle.std.proofs.Common.{add-one, take, drop, take-append-drop}
+use Rattle.std.proofs.Common.{take, drop, take-append-drop}
+use Rattle.std.specs.Prelude.{nat_le}
 use Rattle.std.proofs.Math.Seq.{take-append_seam, take-append-add}
 use Rattle.std.proofs.lemmas.Bool.Decides.{nat_tests}
 use Rattle.std.proofs.lemmas.List.Concat.{flat_map-append}
@@ -19,8 +21,8 @@ use Rattle.net_core.specs.Machine.{Machine, settings_of, world_of}
 use Rattle.watch_count.specs.Counts.{Counts}
 use Rattle.watch_count.specs.Csv.{csv_row, names_row}
 use Rattle.watch_run.specs.Looked.{HasCounted}
-use Rattle.watch_run.specs.Tables.{IsCutIn, IsStoppedIn, IsTableBegun, IsTableBroken, IsTabled, is_due, open_table, row_of, rows_below}
-use Rattle.watch_run.specs.Tables.{table_text}
+use Rattle.watch_run.specs.Tables.{AreRowsStopped, AreRowsWritten, IsCutIn, IsStoppedIn, IsTableBegun, IsTableBroken, IsTabled, is_due}
+use Rattle.watch_run.specs.Tables.{open_rest, open_table, row_of, rows_below, rows_between, table_text}
 use Rattle.watch_run.specs.Written.{IsPart}
 use Rattle.watch_run.specs.declared.tabling.Rows.{Rows}
 use Rattle.watch_run.specs.declared.tracing.Broken.{Broken}
@@ -31,17 +33,17 @@ use Rattle.watch_run.proofs.Traced.{rose-later}
 
 -- ---- a first part of some bytes was written
 
-record Begun (bytes : List ℕ) (before after : Option (List ℕ)) : Type 0 where
-  written : List ℕ
-  rest : List ℕ
-  all : bytes ≡ written ++ rest
-  appended : Appends before after written
+pub record Begun (bytes : List ℕ) (before after : Option (List ℕ)) : Type 0 where
+  pub written : List ℕ
+  pub rest : List ℕ
+  pub all : bytes ≡ written ++ rest
+  pub appended : Appends before after written
 
-begun-part : {bytes : List ℕ} {a b : Option (List ℕ)} → Begun bytes a b → IsPart bytes a b
+pub begun-part : {bytes : List ℕ} {a b : Option (List ℕ)} → Begun bytes a b → IsPart bytes a b
 begun-part {bytes} {a} {b} p =
     (length p.written, subst (Appends a b) (sym (ap (take (length p.written)) p.all ∙ take-append_seam p.written p.rest)) p.appended)
 
-begun-all : (bytes : List ℕ) (a b : Option (List ℕ)) → Appends a b bytes → Begun bytes a b
+pub begun-all : (bytes : List ℕ) (a b : Option (List ℕ)) → Appends a b bytes → Begun bytes a b
 begun-all bytes a b p = record { written = bytes; rest = []; all = sym (append-nil bytes); appended = p }
 
 begun-cut : (bytes : List ℕ) (n : ℕ) (a b : Option (List ℕ)) → Appends a b (take n bytes) → Begun bytes a b
@@ -49,7 +51,7 @@ begun-cut bytes n a b p =
     record { written = take n bytes; rest = drop n bytes; all = sym (take-append-drop n bytes); appended = p }
 
 -- nothing was written
-begun-none : (bytes : List ℕ) (a b : Option (List ℕ)) → b ≡ a → Begun bytes a b
+pub begun-none : (bytes : List ℕ) (a b : Option (List ℕ)) → b ≡ a → Begun bytes a b
 begun-none bytes a b e = record { written = []; rest = bytes; all = refl; appended = subst (λ o. Appends a o []) (sym e) (appends-none a) }
 
 -- it is one of more bytes too
@@ -82,18 +84,76 @@ cut-stops xs ys zs a b c Output p f (cut, rose) = (
 
 -- ---- the rows
 
-rows-none : (rows : Rows) (s : Start) (es : List Event) → rows_below rows s es 0 ≡ []
-unfolding rows_below those
-rows-none rows s es = refl
+those-none : (p : ℕ → Bool) (n : ℕ) → ((k : ℕ) → k < n → p k ≡ false) → those p n ≡ []
+unfolding those
+those-none p zero f = refl
+those-none p (suc n) f =
+    (λ i. those-none p n (λ k h. f k (omega (arith, h))) i ++ cond (f n (omega arith) i) (n ∷ []) [])
+
+rows-none : (rows : Rows) (s : Start) (es : List Event) (first : ℕ) → rows_between rows s es first first ≡ []
+unfolding rows_between
+rows-none rows s es first =
+    ap (flat_map (λ k. row_of rows s false (take k es))) (those-none (λ k. nat_le first k && is_due rows k) first later)
+  where
+    later : (k : ℕ) → k < first → (nat_le first k && is_due rows k) ≡ false
+    later k h = let no : nat_le first k ≡ false = grind (arith, nat_tests) in ap (λ b. b && is_due rows k) no
 
 -- the row after so many events, where there is one
-abbrev pub due_row : Rows → Start → List Event → (n : ℕ) → List ℕ
-due_row rows s es n = if is_due rows n then row_of rows s false (take n es) else []
+abbrev pub due_row : Rows → Start → List Event → (first n : ℕ) → List ℕ
+due_row rows s es first n = if nat_le first n && is_due rows n then row_of rows s false (take n es) else []
 
-rows-more : (rows : Rows) (s : Start) (es : List Event) (n : ℕ)
-    → rows_below rows s es (suc n) ≡ rows_below rows s es n ++ due_row rows s es n
+rows-more : (rows : Rows) (s : Start) (es : List Event) (first n : ℕ)
+    → rows_between rows s es first (suc n) ≡ rows_between rows s es first n ++ due_row rows s es first n
+unfolding rows_between those
+rows-more rows s es first n =
+    flat_map-append row (those due n) (cond (due n) (n ∷ []) [])
+    ∙ ap (λ xs. flat_map row (those due n) ++ xs) (go (due n))
+  where
+    row : ℕ → List ℕ
+    row k = row_of rows s false (take k es)
+
+    due : ℕ → Bool
+    due k = nat_le first k && is_due rows k
+
+    go : (b : Bool) → flat_map row (cond b (n ∷ []) []) ≡ (if b then row n else [])
+    go true = append-nil (row n)
+    go false = refl
+
+-- the rows after fewer events are the first ones
+rows-first : (rows : Rows) (s : Start) (es : List Event) (first n m : ℕ) → n ≤ m
+    → (more : List ℕ) × (rows_between rows s es first m ≡ rows_between rows s es first n ++ more)
+rows-first rows s es first n zero h =
+    let same : n ≡ 0 = omega (arith, h) in
+    ([], ap (rows_between rows s es first) (sym same) ∙ sym (append-nil (rows_between rows s es first n)))
+rows-first rows s es first n (suc m) h = go (n == suc m) refl (rows-first rows s es first n m)
+  where
+    go : (b : Bool) → (n == suc m) ≡ b
+        → (n ≤ m → (more : List ℕ) × (rows_between rows s es first m ≡ rows_between rows s es first n ++ more))
+        → (more : List ℕ) × (rows_between rows s es first (suc m) ≡ rows_between rows s es first n ++ more)
+    go true q f =
+        let same : n ≡ suc m = grind (arith, nat_tests) in
+        ([], ap (rows_between rows s es first) (sym same) ∙ sym (append-nil (rows_between rows s es first n)))
+    go false q f =
+        let less : n ≤ m = grind (arith, nat_tests) in
+        let (more, e) = f less in (
+          more ++ due_row rows s es first m,
+          rows-more rows s es first m ∙ ap (λ xs. xs ++ due_row rows s es first m) e
+              ∙ append_assoc (rows_between rows s es first n) more (due_row rows s es first m),
+        )
+
+-- from the first event on they are those of the whole
+pub rows-whole : (rows : Rows) (s : Start) (es : List Event) → open_rest rows s es 0 ≡ rows_below rows s es (length es)
+unfolding open_rest rows_between rows_below
+rows-whole rows s es =
+    λ i. flat_map (λ k. row_of rows s false (take k es)) (those (λ k. all k i && is_due rows k) (length es))
+  where
+    all : (k : ℕ) → nat_le 0 k ≡ true
+    all k = grind (arith, nat_tests)
+
+pub below-more : (rows : Rows) (s : Start) (es : List Event) (n : ℕ)
+    → rows_below rows s es (suc n) ≡ rows_below rows s es n ++ (if is_due rows n then row_of rows s false (take n es) else [])
 unfolding rows_below those
-rows-more rows s es n =
+below-more rows s es n =
     flat_map-append row (those (is_due rows) n) (cond (is_due rows n) (n ∷ []) [])
     ∙ ap (λ xs. flat_map row (those (is_due rows) n) ++ xs) (go (is_due rows n))
   where
@@ -104,45 +164,54 @@ rows-more rows s es n =
     go true = append-nil (row n)
     go false = refl
 
--- the rows after fewer events are the first ones
-rows-first : (rows : Rows) (s : Start) (es : List Event) (n m : ℕ) → n ≤ m
-    → (more : List ℕ) × (rows_below rows s es m ≡ rows_below rows s es n ++ more)
-rows-first rows s es n zero h =
-    let same : n ≡ 0 = omega (arith, h) in ([], ap (rows_below rows s es) (sym same) ∙ sym (append-nil (rows_below rows s es n)))
-rows-first rows s es n (suc m) h = go (n == suc m) refl (rows-first rows s es n m)
+-- those below so many events, and those from there on
+pub rows-join : (rows : Rows) (s : Start) (es : List Event) (first d : ℕ)
+    → rows_below rows s es first ++ rows_between rows s es first (first + d) ≡ rows_below rows s es (first + d)
+rows-join rows s es first zero =
+    let none : first + 0 ≡ first = omega arith in
+    ap (λ n. rows_below rows s es first ++ rows_between rows s es first n) none
+    ∙ ap (λ xs. rows_below rows s es first ++ xs) (rows-none rows s es first)
+    ∙ append-nil (rows_below rows s es first)
+    ∙ ap (rows_below rows s es) (sym none)
+rows-join rows s es first (suc d) =
+    let one : first + suc d ≡ suc (first + d) = omega arith in
+    ap (λ n. rows_below rows s es first ++ rows_between rows s es first n) one
+    ∙ ap (λ xs. rows_below rows s es first ++ xs) (rows-more rows s es first (first + d))
+    ∙ sym (append_assoc (rows_below rows s es first) (rows_between rows s es first (first + d)) (due_row rows s es first (first + d)))
+    ∙ (λ i. rows-join rows s es first d i ++ due (is i))
+    ∙ sym (below-more rows s es (first + d))
+    ∙ ap (rows_below rows s es) (sym one)
   where
-    go : (b : Bool) → (n == suc m) ≡ b → (n ≤ m → (more : List ℕ) × (rows_below rows s es m ≡ rows_below rows s es n ++ more))
-        → (more : List ℕ) × (rows_below rows s es (suc m) ≡ rows_below rows s es n ++ more)
-    go true q f =
-        let same : n ≡ suc m = grind (arith, nat_tests) in
-        ([], ap (rows_below rows s es) (sym same) ∙ sym (append-nil (rows_below rows s es n)))
-    go false q f =
-        let less : n ≤ m = grind (arith, nat_tests) in
-        let (more, e) = f less in (
-          more ++ due_row rows s es m,
-          rows-more rows s es m ∙ ap (λ xs. xs ++ due_row rows s es m) e
-              ∙ append_assoc (rows_below rows s es n) more (due_row rows s es m),
-        )
+    is : nat_le first (first + d) ≡ true
+    is = grind (arith, nat_tests)
+
+    due : Bool → List ℕ
+    due b = if b && is_due rows (first + d) then row_of rows s false (take (first + d) es) else []
 
 -- ---- in the loop
 
--- the events so far were taken and counted, and the rows that stand before the next of them were written
-pub record Tabling (c : Contents) (rows : Rows) (m : Machine) (counts : Counts) (all left : List Event) (number : ℕ)
-    (before after : Page) : Type 0 where
-  pub counting : Counting c m counts all left number
-  pub written : Appends before.bytes after.bytes (rows_below rows (started c) all number)
-  pub faults_stay : before.faults ≤ after.faults
+-- the events so far were taken and counted, and the rows that stand before the next of them were written, whatever events had led to the
+-- first machine and were counted
+pub record Tabling (rows : Rows) (m n : Machine) (before after : Counts) (all left : List Event) (number : ℕ) (p q : Page) : Type 0 where
+  pub counting : Counting m n before after all left number
+  pub written : (c : Contents) (es : List Event) → HasCounted c es m before
+      → Appends p.bytes q.bytes (rows_between rows (started c) (es ++ all) (length es) (length es + number))
+  pub faults_stay : p.faults ≤ q.faults
 
-pub tabling-none : (c : Contents) (rows : Rows) (m : Machine) (counts : Counts) (all : List Event) (p : Page)
-    → Counting c m counts all all 0 → Tabling c rows m counts all all 0 p p
-tabling-none c rows m counts all p k = record {
+pub tabling-none : (rows : Rows) (m : Machine) (counts : Counts) (all : List Event) (p : Page)
+    → Counting m m counts counts all all 0 → Tabling rows m m counts counts all all 0 p p
+tabling-none rows m counts all p k = record {
   counting = k;
-  written = subst (Appends p.bytes p.bytes) (sym (rows-none rows (started c) all)) (appends-none p.bytes);
+  written = λ c es h.
+      let none : length es + 0 ≡ length es = omega arith in
+      subst (Appends p.bytes p.bytes)
+      (sym (ap (rows_between rows (started c) (es ++ all) (length es)) none ∙ rows-none rows (started c) (es ++ all) (length es)))
+      (appends-none p.bytes);
   faults_stay = omega arith;
 }
 
 -- the row of what was counted is that of the events so far
-row-is : (c : Contents) (rows : Rows) (m : Machine) (counts : Counts) (es : List Event) (done : Bool) → HasCounted c es m counts
+pub row-is : (c : Contents) (rows : Rows) (m : Machine) (counts : Counts) (es : List Event) (done : Bool) → HasCounted c es m counts
     → csv_row (settings_of m) rows.seed done m.events counts ≡ row_of rows (started c) done es
 unfolding started
 row-is c rows m counts es done h = λ i. csv_row (h.code i).settings rows.seed done (h.events i) (h.counted i)
@@ -151,70 +220,112 @@ row-is c rows m counts es done h = λ i. csv_row (h.code i).settings rows.seed d
 abbrev pub row_now : Rows → Machine → Counts → List ℕ
 row_now rows m counts = if is_due rows m.events then csv_row (settings_of m) rows.seed false m.events counts else []
 
-due-is : (c : Contents) (rows : Rows) (m : Machine) (counts : Counts) (all left : List Event) (number : ℕ)
-    → Counting c m counts all left number → row_now rows m counts ≡ due_row rows (started c) all number
-due-is c rows m counts all left number k =
-    (λ i. if is_due rows (so_many i) then row-is c rows m counts k.firsts false k.so_far i else [])
-    ∙ ap (λ es. if is_due rows number then row_of rows (started c) false es else []) (sym firsts)
+due-is : (c : Contents) (es : List Event) (rows : Rows) (m n : Machine) (before after : Counts) (all left : List Event) (number : ℕ)
+    → HasCounted c es m before → Counting m n before after all left number
+    → row_now rows n after ≡ due_row rows (started c) (es ++ all) (length es) (length es + number)
+due-is c es rows m n before after all left number h k =
+    (λ i. if is_due rows (so_many i) then row-is c rows n after (es ++ k.firsts) false so_far i else [])
+    ∙ (λ i. if sym later i && is_due rows (length es + number) then row_of rows (started c) false (sym firsts i) else [])
   where
-    so_many : m.events ≡ number
-    so_many = k.so_far.events ∙ k.count
+    so_far : HasCounted c (es ++ k.firsts) n after
+    so_far = k.so_far.counted c es h
 
-    firsts : take number all ≡ k.firsts
-    firsts = (λ i. take (sym k.count i) (k.parts i)) ∙ take-append_seam k.firsts left
+    so_many : n.events ≡ length es + number
+    so_many = so_far.events ∙ length-append es k.firsts ∙ ap (λ l. length es + l) k.count
+
+    later : nat_le (length es) (length es + number) ≡ true
+    later = grind (arith, nat_tests)
+
+    firsts : take (length es + number) (es ++ all) ≡ es ++ k.firsts
+    firsts = take-append-add es all number
+        ∙ ap (λ fs. es ++ fs) ((λ i. take (sym k.count i) (k.parts i)) ∙ take-append_seam k.firsts left)
 
 -- the row came, and all rows before the next event but one stand
-rows-now : (c : Contents) (rows : Rows) (m : Machine) (counts : Counts) (all left : List Event) (number : ℕ) (p q r : Page)
-    → Tabling c rows m counts all left number p q → Appends q.bytes r.bytes (row_now rows m counts)
-    → Appends p.bytes r.bytes (rows_below rows (started c) all (number + 1))
-rows-now c rows m counts all left number p q r t a =
+rows-now : (c : Contents) (es : List Event) (rows : Rows) (m n : Machine) (before after : Counts) (all left : List Event) (number : ℕ)
+    (p q r : Page) → HasCounted c es m before → Tabling rows m n before after all left number p q
+    → Appends q.bytes r.bytes (row_now rows n after)
+    → Appends p.bytes r.bytes (rows_between rows (started c) (es ++ all) (length es) (length es + (number + 1)))
+rows-now c es rows m n before after all left number p q r h t a =
+    let one : length es + (number + 1) ≡ suc (length es + number) = omega arith in
     subst (Appends p.bytes r.bytes)
-    (ap (λ xs. rows_below rows (started c) all number ++ xs) (due-is c rows m counts all left number t.counting)
-    ∙ sym (ap (rows_below rows (started c) all) (add-one number) ∙ rows-more rows (started c) all number))
-    (appends-more p.bytes q.bytes r.bytes (rows_below rows (started c) all number) (row_now rows m counts) t.written a)
+    (ap (λ xs. so_far ++ xs) (due-is c es rows m n before after all left number h t.counting)
+    ∙ sym (ap (rows_between rows (started c) (es ++ all) (length es)) one
+    ∙ rows-more rows (started c) (es ++ all) (length es) (length es + number)))
+    (appends-more p.bytes q.bytes r.bytes so_far (row_now rows n after) (t.written c es h) a)
+  where
+    so_far : List ℕ
+    so_far = rows_between rows (started c) (es ++ all) (length es) (length es + number)
 
-pub tabling-more : (c : Contents) (rows : Rows) (m n : Machine) (before after : Counts) (all left later : List Event) (number : ℕ)
-    (p q r : Page) → Tabling c rows m before all left number p q → Appends q.bytes r.bytes (row_now rows m before)
-    → q.faults ≤ r.faults → Counting c n after all later (number + 1) → Tabling c rows n after all later (number + 1) p r
-tabling-more c rows m n before after all left later number p q r t a f k = record {
+pub tabling-more : (rows : Rows) (m n o : Machine) (before now after : Counts) (all left later : List Event) (number : ℕ)
+    (p q r : Page) → Tabling rows m n before now all left number p q → Appends q.bytes r.bytes (row_now rows n now)
+    → q.faults ≤ r.faults → Counting m o before after all later (number + 1) → Tabling rows m o before after all later (number + 1) p r
+tabling-more rows m n o before now after all left later number p q r t a f k = record {
   counting = k;
-  written = rows-now c rows m before all left number p q r t a;
+  written = λ c es h. rows-now c es rows m n before now all left number p q r h t a;
   faults_stay = let stay = t.faults_stay in omega (arith, stay, f);
 }
 
+-- the rows of all events are those before the next ones, and others
+rows-then : (c : Contents) (es : List Event) (rows : Rows) (all : List Event) (number : ℕ) → number ≤ length all
+    → (more : List ℕ) × (open_rest rows (started c) (es ++ all) (length es)
+    ≡ rows_between rows (started c) (es ++ all) (length es) (length es + number) ++ more)
+unfolding open_rest
+rows-then c es rows all number h =
+    let sum = length-append es all in
+    rows-first rows (started c) (es ++ all) (length es) (length es + number) (length (es ++ all)) (omega (arith, sum, h))
+
 -- the output failed, or memory ran out for the row that was due
-pub tabling-cut : (c : Contents) (rows : Rows) (m : Machine) (counts : Counts) (all left : List Event) (number : ℕ) (p q r : Page)
-    (broken : Broken) → Tabling c rows m counts all left number p q → 1 ≤ length left
-    → IsCutIn (row_now rows m counts) (record { before = q; after = r }) broken
-    → IsStoppedIn (rows_below rows (started c) all (length all)) (record { before = p; after = r }) broken
-tabling-cut c rows m counts all left number p q r broken t some cut =
-    let few = counting-few c m counts all left number t.counting some in
-    let (more, first) = rows-first rows (started c) all (suc number) (length all) (omega (arith, few)) in
+pub tabling-cut : (rows : Rows) (m n : Machine) (before after : Counts) (all left : List Event) (number : ℕ) (p q r : Page)
+    (broken : Broken) → Tabling rows m n before after all left number p q → 1 ≤ length left
+    → IsCutIn (row_now rows n after) (record { before = q; after = r }) broken
+    → AreRowsStopped rows m before all (record { before = p; after = r }) broken
+tabling-cut rows m n before after all left number p q r broken t some cut = λ c es h.
+    let few = counting-few m n before after all left number t.counting some in
+    let (others, parts) = rows-then c es rows all (number + 1) (omega (arith, few)) in
+    let so_far = rows_between rows (started c) (es ++ all) (length es) (length es + number) in
+    let one : length es + (number + 1) ≡ suc (length es + number) = omega arith in
     subst (λ xs. IsStoppedIn xs (record { before = p; after = r }) broken)
-    (sym (first ∙ ap (λ xs. xs ++ more) (rows-more rows (started c) all number
-    ∙ ap (λ xs. rows_below rows (started c) all number ++ xs) (sym (due-is c rows m counts all left number t.counting)))
-    ∙ append_assoc (rows_below rows (started c) all number) (row_now rows m counts) more))
-    (cut-stops (rows_below rows (started c) all number) (row_now rows m counts) more p q r broken t.written t.faults_stay cut)
+    (sym (parts ∙ ap (λ xs. xs ++ others) (ap (rows_between rows (started c) (es ++ all) (length es)) one
+    ∙ rows-more rows (started c) (es ++ all) (length es) (length es + number)
+    ∙ ap (λ xs. so_far ++ xs) (sym (due-is c es rows m n before after all left number h t.counting)))
+    ∙ append_assoc so_far (row_now rows n after) others))
+    (cut-stops so_far (row_now rows n after) others p q r broken (t.written c es h) t.faults_stay cut)
 
 -- memory ran out for the event
-pub tabling-part : (c : Contents) (rows : Rows) (m : Machine) (counts : Counts) (all left : List Event) (number : ℕ) (p q r : Page)
-    → Tabling c rows m counts all left number p q → 1 ≤ length left → Appends q.bytes r.bytes (row_now rows m counts)
-    → IsPart (rows_below rows (started c) all (length all)) p.bytes r.bytes
-tabling-part c rows m counts all left number p q r t some a =
-    let few = counting-few c m counts all left number t.counting some in
-    let (more, first) = rows-first rows (started c) all (number + 1) (length all) (omega (arith, few)) in
-    begun-part (subst (λ xs. Begun xs p.bytes r.bytes) (sym first)
-    (begun-more (rows_below rows (started c) all (number + 1)) more p.bytes r.bytes
-    (begun-all (rows_below rows (started c) all (number + 1)) p.bytes r.bytes (rows-now c rows m counts all left number p q r t a))))
+pub tabling-part : (rows : Rows) (m n : Machine) (before after : Counts) (all left : List Event) (number : ℕ) (p q r : Page)
+    → Tabling rows m n before after all left number p q → 1 ≤ length left → Appends q.bytes r.bytes (row_now rows n after)
+    → AreRowsStopped rows m before all (record { before = p; after = r }) Memory
+tabling-part rows m n before after all left number p q r t some a = λ c es h.
+    let few = counting-few m n before after all left number t.counting some in
+    let (others, parts) = rows-then c es rows all (number + 1) (omega (arith, few)) in
+    let so_far = rows_between rows (started c) (es ++ all) (length es) (length es + (number + 1)) in
+    begun-part (subst (λ xs. Begun xs p.bytes r.bytes) (sym parts)
+    (begun-more so_far others p.bytes r.bytes
+    (begun-all so_far p.bytes r.bytes (rows-now c es rows m n before after all left number p q r h t a))))
 
 -- all rows but the last were written
-pub tabling-all : (c : Contents) (rows : Rows) (m : Machine) (counts : Counts) (all left : List Event) (number : ℕ) (p q : Page)
-    → Tabling c rows m counts all left number p q → left ≡ []
-    → Appends p.bytes q.bytes (rows_below rows (started c) all (length all))
-tabling-all c rows m counts all left number p q t l =
+pub tabling-all : (rows : Rows) (m n : Machine) (before after : Counts) (all left : List Event) (number : ℕ) (p q : Page)
+    → Tabling rows m n before after all left number p q → left ≡ [] → AreRowsWritten rows m before all p.bytes q.bytes
+unfolding open_rest
+tabling-all rows m n before after all left number p q t l = λ c es h.
     let k = t.counting in
-    subst (λ n. Appends p.bytes q.bytes (rows_below rows (started c) all n))
-    (sym k.count ∙ sym (ap length (k.parts ∙ ap (λ es. k.firsts ++ es) l ∙ append-nil k.firsts))) t.written
+    let so_many = k.count in
+    let none = ap length l in
+    let sum = ap length k.parts ∙ length-append k.firsts left in
+    let whole = length-append es all in
+    let end : length es + number ≡ length (es ++ all) = omega (arith, so_many, none, sum, whole) in
+    subst (λ i. Appends p.bytes q.bytes (rows_between rows (started c) (es ++ all) (length es) i)) end (t.written c es h)
+
+-- ---- from the start
+
+pub rows-written : (c : Contents) (rows : Rows) (m : Machine) (counts : Counts) (all : List Event) (a b : Option (List ℕ))
+    → HasCounted c [] m counts → AreRowsWritten rows m counts all a b → Appends a b (rows_below rows (started c) all (length all))
+rows-written c rows m counts all a b h w = subst (Appends a b) (rows-whole rows (started c) all) (w c [] h)
+
+pub rows-stopped : (c : Contents) (rows : Rows) (m : Machine) (counts : Counts) (all : List Event) (o : Written) (broken : Broken)
+    → HasCounted c [] m counts → AreRowsStopped rows m counts all o broken
+    → IsStoppedIn (rows_below rows (started c) all (length all)) o broken
+rows-stopped c rows m counts all o broken h w = subst (λ xs. IsStoppedIn xs o broken) (rows-whole rows (started c) all) (w c [] h)
 
 -- ---- the whole table
 

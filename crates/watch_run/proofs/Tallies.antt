@@ -19,7 +19,7 @@ use Rattle.watch_trace.proofs.Lemmas.{run-more}
 use Rattle.net_core.specs.Machine.{Machine, history_of, program_of, settings_of, start_of, world_of}
 use Rattle.watch_run.specs.Forgetting.{StillKeeps, IsKeptOf}
 use Rattle.watch_run.specs.Going.{Took}
-use Rattle.watch_run.specs.Looked.{HasCounted, and_later, counts_of_run, run_facts}
+use Rattle.watch_run.specs.Looked.{CountedMore, HasCounted, and_later, counts_of_run, run_facts}
 use Rattle.watch_run.proofs.Going.{none-left}
 use Rattle.watch_run.proofs.Kept.{goes-along}
 use Rattle.watch_run.proofs.Leading.{StartsAt}
@@ -110,47 +110,87 @@ counted-still c es m n counts h f = record {
   code = f.code ∙ h.code;
 }
 
+-- what was sent was put on its links
+pub counted-same : (c : Contents) (es : List Event) (m n : Machine) (counts : Counts) → HasCounted c es m counts
+    → history_of n ≡ history_of m → n.unsent ≡ [] → n.events ≡ m.events → n.cores.code ≡ m.cores.code → HasCounted c es n counts
+counted-same c es m n counts h history unsent events code = record {
+  ends = h.ends;
+  ran = h.ran;
+  kept = subst (λ k. IsKeptOf c.settings k h.ends) (sym history) h.kept;
+  counted = h.counted;
+  settled = unsent;
+  events = events ∙ h.events;
+  code = code ∙ h.code;
+}
+
+-- ---- behind whatever was counted
+
+pub more-none : (m : Machine) (counts : Counts) → m.unsent ≡ [] → CountedMore m m counts counts []
+more-none m counts u = record {
+  counted = λ c firsts h. subst (λ es. HasCounted c es m counts) (sym (append-nil firsts)) h;
+  settled = u;
+  events = omega arith;
+  code = refl;
+}
+
+pub more-one : (m n o p : Machine) (before now after : Counts) (es : List Event) (e : Event) → CountedMore m n before now es → Took n o e
+    → after ≡ event_counted (actor e) (happened (settings_of n) (program_of n) (history_of n) e) now → StillKeeps o p
+    → CountedMore m p before after (es ++ e ∷ [])
+more-one m n o p before now after es e k t is f = record {
+  counted = λ c firsts h. subst (λ all. HasCounted c all p after) (append_assoc firsts es (e ∷ []))
+      (counted-still c ((firsts ++ es) ++ e ∷ []) o p after
+      (counted-one c (firsts ++ es) e n o now after (k.counted c firsts h) t is) f);
+  settled = f.unsent ∙ t.settled;
+  events =
+      let a = k.events in let b = t.events in let d = f.events in let l = one-longer es e in omega (arith, a, b, d, l);
+  code = f.code ∙ t.code ∙ k.code;
+}
+
 -- ---- in the loop
 
 -- of the events that were to come these were taken and counted, as many as the number says, and the others are left
-pub record Counting (c : Contents) (m : Machine) (counts : Counts) (all left : List Event) (number : ℕ) : Type 0 where
+pub record Counting (m n : Machine) (before after : Counts) (all left : List Event) (number : ℕ) : Type 0 where
   pub firsts : List Event
-  pub so_far : HasCounted c firsts m counts
+  pub so_far : CountedMore m n before after firsts
   pub parts : all ≡ firsts ++ left
   pub count : length firsts ≡ number
 
-pub counting-none : (c : Contents) (m : Machine) (counts : Counts) (all : List Event) → HasCounted c [] m counts
-    → Counting c m counts all all 0
-counting-none c m counts all h = record { firsts = []; so_far = h; parts = refl; count = refl }
+pub counting-none : (m : Machine) (counts : Counts) (all : List Event) → m.unsent ≡ [] → Counting m m counts counts all all 0
+counting-none m counts all u = record { firsts = []; so_far = more-none m counts u; parts = refl; count = refl }
 
-pub counting-more : (c : Contents) (m n o : Machine) (before after : Counts) (all left : List Event)
-    (later : Start → World → List Event) (number : ℕ) (e : Event) → Counting c m before all left number
-    → left ≡ e ∷ later (start_of n) (world_of n) → Took m n e
-    → after ≡ event_counted (actor e) (happened (settings_of m) (program_of m) (history_of m) e) before → StillKeeps n o
-    → Counting c o after all (later (start_of o) (world_of o)) (number + 1)
-counting-more c m n o before after all left later number e k l t is f = record {
+pub counting-more : (m n o p : Machine) (before now after : Counts) (all left : List Event) (later : Start → World → List Event)
+    (number : ℕ) (e : Event) → Counting m n before now all left number → left ≡ e ∷ later (start_of o) (world_of o) → Took n o e
+    → after ≡ event_counted (actor e) (happened (settings_of n) (program_of n) (history_of n) e) now → StillKeeps o p
+    → Counting m p before after all (later (start_of p) (world_of p)) (number + 1)
+counting-more m n o p before now after all left later number e k l t is f = record {
   firsts = k.firsts ++ e ∷ [];
-  so_far = counted-still c (k.firsts ++ e ∷ []) n o after (counted-one c k.firsts e m n before after k.so_far t is) f;
+  so_far = more-one m n o p before now after k.firsts e k.so_far t is f;
   parts = k.parts
       ∙ ap (λ es. k.firsts ++ es) (l ∙ (λ i. e ∷ later (started (sym f.code i)) (sym f.world i)))
-      ∙ sym (append_assoc k.firsts (e ∷ []) (later (start_of o) (world_of o)));
+      ∙ sym (append_assoc k.firsts (e ∷ []) (later (start_of p) (world_of p)));
   count = let a = one-longer k.firsts e in let b = k.count in omega (arith, a, b);
 }
 
+-- there were not too many events before the next
+pub counting-before : (m n : Machine) (before after : Counts) (all left : List Event) (number most limit : ℕ)
+    → Counting m n before after all left number → number < most → m.events + most ≤ limit → n.events < limit
+counting-before m n before after all left number most limit k less few =
+    let a = k.so_far.events in let b = k.count in omega (arith, a, b, less, few)
+
 -- fewer than all were taken
-pub counting-few : (c : Contents) (m : Machine) (counts : Counts) (all left : List Event) (number : ℕ)
-    → Counting c m counts all left number → 1 ≤ length left → number < length all
-counting-few c m counts all left number k some =
+pub counting-few : (m n : Machine) (before after : Counts) (all left : List Event) (number : ℕ)
+    → Counting m n before after all left number → 1 ≤ length left → number < length all
+counting-few m n before after all left number k some =
     let a = ap length k.parts ∙ length-append k.firsts left in let b = k.count in omega (arith, a, b, some)
 
 -- all were taken
-pub counting-all : (c : Contents) (m : Machine) (counts : Counts) (all left : List Event) (number : ℕ)
-    → Counting c m counts all left number → left ≡ [] → HasCounted c all m counts
-counting-all c m counts all left number k l =
-    subst (λ es. HasCounted c es m counts) (sym (k.parts ∙ ap (λ es. k.firsts ++ es) l ∙ append-nil k.firsts)) k.so_far
+pub counting-all : (m n : Machine) (before after : Counts) (all left : List Event) (number : ℕ)
+    → Counting m n before after all left number → left ≡ [] → CountedMore m n before after all
+counting-all m n before after all left number k l =
+    subst (λ es. CountedMore m n before after es) (sym (k.parts ∙ ap (λ es. k.firsts ++ es) l ∙ append-nil k.firsts)) k.so_far
 
 -- as many were taken as there were at most
-pub counting-most : (c : Contents) (m : Machine) (counts : Counts) (all left : List Event) (number most : ℕ)
-    → Counting c m counts all left number → length all ≤ most → most ≤ number → left ≡ []
-counting-most c m counts all left number most k few h =
+pub counting-most : (m n : Machine) (before after : Counts) (all left : List Event) (number most : ℕ)
+    → Counting m n before after all left number → length all ≤ most → most ≤ number → left ≡ []
+counting-most m n before after all left number most k few h =
     let a = ap length k.parts in let b = k.count in none-left k.firsts left (omega (arith, a, b, few, h))

@@ -5,4 +5,5 @@ pub mod Shown
 pub mod Telling
 pub mod Written
 pub mod Looked
+pub mod Runs
 pub mod Tables

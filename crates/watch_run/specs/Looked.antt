@@ -1,5 +1,5 @@
 -- What is counted of a run.
-use Rattle.std.specs.Prelude.{ℕ, ◌≡◌, Bool, List, [], ◌∷◌, Option, Some, None, length}
+use Rattle.std.specs.Prelude.{ℕ, ◌≡◌, ◌+◌, Bool, List, [], ◌∷◌, ◌++◌, Option, Some, None, length}
 use Rattle.image_load.specs.Contents.{Contents, started}
 use Rattle.image_load.specs.Start.{Start}
 use Rattle.rv_code.specs.Machine.{program}
@@ -44,3 +44,10 @@ pub record HasCounted (c : Contents) (es : List Event) (m : Machine) (counts : C
   pub settled : m.unsent ≡ []
   pub events : m.events ≡ length es
   pub code : m.cores.code ≡ c
+
+-- the machine took these events, and what they did was counted, whatever events had led to it and were counted
+pub record CountedMore (old new : Machine) (before after : Counts) (es : List Event) : Type 0 where
+  pub counted : (c : Contents) (firsts : List Event) → HasCounted c firsts old before → HasCounted c (firsts ++ es) new after
+  pub settled : new.unsent ≡ []
+  pub events : new.events ≡ old.events + length es
+  pub code : new.cores.code ≡ old.cores.code

@@ -1,5 +1,5 @@
 // What is counted of a run while it goes on.
-ghost use Rattle.std.specs.Prelude.{◌≡◌, ◌<◌, ◌≤◌, [], IfOk, OnOk, length, map};
+ghost use Rattle.std.specs.Prelude.{◌≡◌, ◌+◌, ◌<◌, ◌≤◌, [], IfOk, OnOk, length, map};
 ghost use Rattle.image_load.specs.Contents.{started};
 ghost use Rattle.net_core.specs.Limits.{machine_limit};
 ghost use Rattle.net_core.specs.Machine.{history_of, program_of, settings_of, start_of, world_of};
@@ -10,7 +10,7 @@ ghost use Rattle.watch.specs.Plain.{fact_of};
 ghost use Rattle.watch_count.specs.Counts.{event_counted};
 ghost use Rattle.watch_run.specs.Forgetting.{StillKeeps};
 ghost use Rattle.watch_run.specs.Going.{Took};
-ghost use Rattle.watch_run.specs.Looked.{HasCounted, IsCounted};
+ghost use Rattle.watch_run.specs.Looked.{CountedMore, IsCounted};
 ghost use Rattle.tcc_base.specs.Settings.{IsAllowed};
 
 use crate::events::{Events, settings_are_allowed};
@@ -75,18 +75,18 @@ pub(crate) fn forget_passed(system: &mut System, last: &mut usize)
 }
 
 /// Takes the events that are to come, at most so many, and counts what they did.
-fn count_events<E: Events>(
+pub(crate) fn count_events<E: Events>(
     alloc: Global,
     system: &mut System,
     events: &mut E,
     most: u64,
     counts: &mut Counts,
 ) -> Result<(), NoMemory>
-    requires start { HasCounted system.old.cores.code [] system.old counts.old }
-    requires few { most ≤ machine_limit }
+    requires settled { system.old.unsent ≡ [] }
+    requires few { system.old.events + most ≤ machine_limit }
     requires enough { length (E.coming events.old (start_of system.old) (world_of system.old)) ≤ most }
-    ensures { OnOk result (HasCounted system.old.cores.code
-        (E.coming events.old (start_of system.old) (world_of system.old)) system.new counts.new) }
+    ensures { OnOk result (CountedMore system.old system.new counts.old counts.new
+        (E.coming events.old (start_of system.old) (world_of system.old))) }
 {
     let mut facts = List::new(alloc);
     let mut kept = 0;

@@ -5,7 +5,7 @@ ghost use Rattle.rv_code.specs.Machine.{program};
 ghost use Rattle.tcc_base.specs.Settings.{IsAllowed};
 ghost use Rattle.rules_maps.specs.Nodes.{Event as PlainEvent};
 ghost use Rattle.tcc_msg.specs.Plain.{event_of};
-ghost use Rattle.tcc_pick.specs.Words.{seeded, words};
+ghost use Rattle.tcc_pick.specs.Words.{after_words, seeded, words};
 ghost use Rattle.rules_tcc.specs.Picked.{picked};
 ghost use Rattle.rules_tcc.specs.State.{World};
 ghost use Rattle.net_core.specs.Machine.{start_of, world_of};
@@ -52,6 +52,18 @@ impl Picked {
     {
         Picked {
             chooser: Chooser::new(seed),
+            left: steps,
+        }
+    }
+
+    /// At most so many events by this seed, of whose words so many were drawn before. Takes no memory, and time in the logarithm of
+    /// `drawn`.
+    pub fn after(seed: u64, drawn: u64, steps: u64) -> Picked
+        ensures chooser { result.chooser ≡ after_words drawn (seeded seed) }
+        ensures left { result.left ≡ steps }
+    {
+        Picked {
+            chooser: Chooser::after(seed, drawn),
             left: steps,
         }
     }

@@ -1,5 +1,5 @@
 // A table of the totals of a run, written while the run goes on.
-ghost use Rattle.std.specs.Prelude.{◌≡◌, ◌≤◌, ◌↔◌, [], Bool, IfErr, IfOk, IsTrue, OnOk, false, length, if◌then◌else◌};
+ghost use Rattle.std.specs.Prelude.{◌≡◌, ◌+◌, ◌≤◌, ◌↔◌, [], Bool, IfErr, IfOk, IsTrue, OnOk, false, length, if◌then◌else◌};
 ghost use Rattle.std.specs.Io.KnownBytes.{Appends};
 ghost use Rattle.image_load.specs.Contents.{started};
 ghost use Rattle.net_core.specs.Limits.{machine_limit};
@@ -7,8 +7,9 @@ ghost use Rattle.net_core.specs.Machine.{history_of, settings_of, start_of, worl
 ghost use Rattle.rules_riscv.specs.Starting.{at_start, world_at_start};
 ghost use Rattle.rules_tcc.specs.Seen.{IsDone};
 ghost use Rattle.watch_count.specs.Csv.{csv_row, names_row};
-ghost use Rattle.watch_run.specs.Looked.{HasCounted};
-ghost use Rattle.watch_run.specs.Tables.{IsCutIn, IsStoppedIn, IsTableBroken, IsTabled, is_due, rows_below};
+ghost use Rattle.watch_run.specs.Looked.{CountedMore};
+ghost use Rattle.watch_run.specs.Tables.{AreRowsStopped, AreRowsWritten, IsCutIn, IsTableBroken, IsTableOnBroken, IsTabled, IsTabledOn};
+ghost use Rattle.watch_run.specs.Tables.{is_due};
 ghost use Rattle.tcc_base.specs.Settings.{IsAllowed};
 
 use crate::counting::{count_event, forget_passed};
@@ -30,8 +31,10 @@ pub struct Rows {
     pub seed: Option<(u64, u64)>,
 }
 
-/// Writes the row of the names.
-fn write_names<O: Sink>(alloc: Global, out: &mut O) -> Result<(), Broken>
+/// Writes the row of the names, with which a table begins. Its time and memory are those of the row's text.
+///
+/// A run that is taken up (`Run::table`) writes the rows of a table that was begun before, so there it is the caller's matter.
+pub fn write_names<O: Sink>(alloc: Global, out: &mut O) -> Result<(), Broken>
     ensures written { OnOk result (Appends (O.page out.old).bytes (O.page out.new).bytes names_row) }
     ensures faults_stay { (O.page out.old).faults ≤ (O.page out.new).faults }
     ensures cut { IfErr result (IsCutIn names_row (record { before = O.page out.old; after = O.page out.new })) }
@@ -106,17 +109,18 @@ fn write_rows<E: Events, O: Sink>(
     counts: &mut Counts,
     out: &mut O,
 ) -> Result<(), Broken>
-    requires start { HasCounted system.old.cores.code [] system.old counts.old }
-    requires few { most ≤ machine_limit }
+    requires settled { system.old.unsent ≡ [] }
+    requires few { system.old.events + most ≤ machine_limit }
     requires every { 1 ≤ rows.every }
     requires enough { length (E.coming events.old (start_of system.old) (world_of system.old)) ≤ most }
-    ensures counted { OnOk result (HasCounted system.old.cores.code
-        (E.coming events.old (start_of system.old) (world_of system.old)) system.new counts.new) }
-    ensures written { OnOk result (let es = E.coming events.old (start_of system.old) (world_of system.old) in
-        Appends (O.page out.old).bytes (O.page out.new).bytes (rows_below rows (start_of system.old) es (length es))) }
+    ensures counted { OnOk result (CountedMore system.old system.new counts.old counts.new
+        (E.coming events.old (start_of system.old) (world_of system.old))) }
+    ensures written { OnOk result (AreRowsWritten rows system.old counts.old
+        (E.coming events.old (start_of system.old) (world_of system.old)) (O.page out.old).bytes (O.page out.new).bytes) }
     ensures faults_stay { OnOk result ((O.page out.old).faults ≤ (O.page out.new).faults) }
-    ensures broken { IfErr result (let es = E.coming events.old (start_of system.old) (world_of system.old) in
-        IsStoppedIn (rows_below rows (start_of system.old) es (length es)) (record { before = O.page out.old; after = O.page out.new })) }
+    ensures broken { IfErr result (AreRowsStopped rows system.old counts.old
+        (E.coming events.old (start_of system.old) (world_of system.old))
+        (record { before = O.page out.old; after = O.page out.new })) }
 {
     let mut row = String::new(alloc);
     let mut facts = List::new(alloc);
@@ -154,6 +158,34 @@ fn write_last<O: Sink>(
     let mut row = String::new(alloc);
     write_row(system, counts, rows, done, &mut row, out)?;
     Ok(done)
+}
+
+/// Takes the events that are to come, at most so many, counts what they did, and writes the rows of the table from there on: one after each
+/// so many events where others follow, and one after the last. Whether the run is done then.
+pub(crate) fn table_on<E: Events, O: Sink>(
+    alloc: Global,
+    system: &mut System,
+    events: &mut E,
+    most: u64,
+    rows: Rows,
+    counts: &mut Counts,
+    out: &mut O,
+) -> Result<bool, Broken>
+    requires settled { system.old.unsent ≡ [] }
+    requires few { system.old.events + most ≤ machine_limit }
+    requires every { 1 ≤ rows.every }
+    requires enough { length (E.coming events.old (start_of system.old) (world_of system.old)) ≤ most }
+    ensures counted { IfOk result (λ done. CountedMore system.old system.new counts.old counts.new
+        (E.coming events.old (start_of system.old) (world_of system.old))) }
+    ensures table { IfOk result (λ done. IsTabledOn rows system.old counts.old
+        (E.coming events.old (start_of system.old) (world_of system.old)) (O.page out.old).bytes (O.page out.new).bytes done) }
+    ensures broken { IfErr result (IsTableOnBroken rows system.old counts.old
+        (E.coming events.old (start_of system.old) (world_of system.old))
+        (record { before = O.page out.old; after = O.page out.new })) }
+{
+    settings_are_allowed(system.config());
+    write_rows(alloc, system, events, most, rows, counts, out)?;
+    write_last(alloc, system, counts, rows, out)
 }
 
 /// Writes the table of the run of a machine that has taken no event yet.

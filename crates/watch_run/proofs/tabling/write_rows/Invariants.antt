@@ -4,7 +4,7 @@ use Rattle.watch_run.proofs.Tabled.{Tabling}
 use Rattle.watch_run.proofs.tabling.write_rows.Given as goal
 
 abbrev pub invariant-loop : goal.invariant-loop
-invariant-loop g l = Tabling l.fn.system.cores.code l.rows l.system l.counts
+invariant-loop g l = Tabling l.rows l.fn.system l.system l.fn.counts l.counts
     (g.E.Events.coming l.fn.events (start_of l.fn.system) (world_of l.fn.system))
     (g.E.Events.coming l.events (start_of l.system) (world_of l.system))
     l.counter (g.O.Sink.page l.fn.out) (g.O.Sink.page l.out)

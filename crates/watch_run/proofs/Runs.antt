@@ -1,0 +1,173 @@
+-- A run that goes on is the run of so many steps more.
+use Rattle.std.proofs.Common.{◌≡◌, ◌+◌, ◌-◌, ◌^◌, ◌≤◌, ◌↔◌, ℕ, min, Bool, IsTrue, List, [], ◌++◌, length}
+use Rattle.std.proofs.Common.{length-append, Option, refl, ap, sym, subst, ◌∙◌}
+use Rattle.std.proofs.Common.{arith}
+use Rattle.rand_core.specs.Steps.{first_words}
+use Rattle.rand_pcg.specs.Lcg.{Lcg}
+use Rattle.image_load.specs.Contents.{Contents, started}
+use Rattle.rv_code.specs.Machine.{program}
+use Rattle.tcc_base.specs.Settings.{IsAllowed}
+use Rattle.net_core.specs.Limits.{machine_limit}
+use Rattle.net_core.specs.Machine.{Machine, history_of, program_of, settings_of, start_of, world_of}
+use Rattle.rules_maps.specs.Nodes.{Event}
+use Rattle.rules_riscv.specs.Starting.{at_start, world_at_start}
+use Rattle.rules_tcc.specs.Picked.{picked}
+use Rattle.rules_tcc.specs.Seen.{IsDone}
+use Rattle.rules_tcc.specs.Step.{run}
+use Rattle.tcc_pick.specs.Words.{after_words, seeded, words}
+use Rattle.tcc_pick.proofs.Lemmas.{picked-begins, picked-few, picked-further}
+use Rattle.tcc_world.specs.Page.{Page, Written}
+use Rattle.watch_count.specs.Counts.{Counts}
+use Rattle.watch_run.specs.Forgetting.{StillKeeps}
+use Rattle.watch_run.specs.Looked.{CountedMore, HasCounted, IsCounted}
+use Rattle.watch_run.specs.Runs.{IsRunOf, IsRunTableBroken, IsRunTabled, RunData, RunTablesJoin, WentOn, seed_events}
+use Rattle.watch_run.specs.Tables.{IsRestBroken, IsTableOnBroken, IsTabledFrom, IsTabledOn, open_table, rest_text, table_text}
+use Rattle.watch_run.specs.declared.tabling.Rows.{Rows}
+use Rattle.watch_run.specs.declared.tracing.Broken.{Broken}
+use Rattle.watch_run.specs.declared.tracing.Broken.TheVariants.{Memory}
+use Rattle.watch_run.proofs.Leading.{is-counted}
+use Rattle.watch_run.proofs.Picking.{coming_by}
+use Rattle.watch_run.proofs.Rested.{rest-none, tables-join}
+use Rattle.watch_run.proofs.Tallies.{counted-same, counted-still}
+
+-- before the first event
+pub run-none : (c : Contents) (m : Machine) (counts : Counts) (seed : ℕ) → HasCounted c [] m counts
+    → IsRunOf c 0 (record { machine = m; counts = counts; seed = seed; drawn = 0 })
+unfolding picked first_words
+run-none c m counts seed h = record { counted = h; drawn = refl }
+
+-- the events that the next words of a run's seed pick for a machine
+abbrev pub next_events : RunData → (steps : ℕ) → Machine → List Event
+next_events r steps m = picked (settings_of m) (program_of m) (words steps (after_words r.drawn (seeded r.seed))) (world_of m)
+
+pub coming-next : (r : RunData) (steps left : ℕ) (g : Lcg) (m : Machine) → left ≡ steps → g ≡ after_words r.drawn (seeded r.seed)
+    → coming_by left g (start_of m) (world_of m) ≡ next_events r steps m
+unfolding started
+coming-next r steps left g m l e = λ i. picked (settings_of m) (program_of m) (words (l i) (e i)) (world_of m)
+
+-- there are so many at most
+pub coming-few : (r : RunData) (steps left : ℕ) (g : Lcg) (m : Machine) → left ≡ steps → g ≡ after_words r.drawn (seeded r.seed)
+    → length (coming_by left g (start_of m) (world_of m)) ≤ steps
+coming-few r steps left g m l e =
+    subst (λ es. length es ≤ steps) (sym (coming-next r steps left g m l e))
+    (picked-few (settings_of m) (program_of m) steps (after_words r.drawn (seeded r.seed)) (world_of m))
+
+-- a call that puts what was sent on its links
+pub record Settles (m n : Machine) : Type 0 where
+  pub history : history_of n ≡ history_of m
+  pub unsent : n.unsent ≡ []
+  pub events : n.events ≡ m.events
+  pub code : n.cores.code ≡ m.cores.code
+
+counted-settled : (c : Contents) (n : ℕ) (r : RunData) (m : Machine) → IsRunOf c n r → Settles r.machine m
+    → HasCounted c (seed_events c r.seed n) m r.counts
+counted-settled c n r m k s =
+    counted-same c (seed_events c r.seed n) r.machine m r.counts k.counted s.history s.unsent s.events s.code
+
+-- these are the events that stand behind the ones so far
+further : (c : Contents) (n steps : ℕ) (r : RunData) (m : Machine) → IsRunOf c n r → (h : HasCounted c (seed_events c r.seed n) m r.counts)
+    → seed_events c r.seed n ++ next_events r steps m ≡ seed_events c r.seed (n + steps)
+unfolding run history_of
+further c n steps r m k h =
+    ap (λ es. seed_events c r.seed n ++ es) next
+    ∙ sym (picked-further c.settings (program (started c)) n steps (seeded r.seed) (at_start (started c)) h.ends h.ran)
+  where
+    next : next_events r steps m
+        ≡ picked c.settings (program (started c)) (words steps (after_words (length (seed_events c r.seed n)) (seeded r.seed))) h.ends.world
+    next = λ i. picked (h.code i).settings (program (started (h.code i))) (words steps (after_words (k.drawn i) (seeded r.seed)))
+        (h.kept.world i)
+
+-- the number of words that were drawn, where one was for each of these events
+abbrev drawn_by : (drawn before now : ℕ) → ℕ
+drawn_by drawn before now = min (drawn + (now - before)) (2 ^ 64 - 1)
+
+same-run : (c : Contents) (n steps : ℕ) (r : RunData) (m o : Machine) (counts : Counts) → IsRunOf c n r → Settles r.machine m
+    → CountedMore m o r.counts counts (next_events r steps m) → r.machine.events + steps ≤ machine_limit
+    → IsRunOf c (n + steps)
+    (record { machine = o; counts = counts; seed = r.seed; drawn = drawn_by r.drawn m.events o.events })
+same-run c n steps r m o counts k s more few =
+    record {
+      counted = subst (λ es. HasCounted c es o counts) all (more.counted c (seed_events c r.seed n) settled);
+      drawn =
+          let now = more.events in
+          let before = s.events in
+          let at_first = k.counted.events in
+          let drawn = k.drawn in
+          let few_more = picked-few (settings_of m) (program_of m) steps (after_words r.drawn (seeded r.seed)) (world_of m) in
+          let sum : r.drawn + length (next_events r steps m) ≡ length (seed_events c r.seed (n + steps)) =
+          ap (λ d. d + length (next_events r steps m)) drawn ∙ sym (length-append (seed_events c r.seed n) (next_events r steps m))
+          ∙ ap length all in
+          omega (arith, now, before, at_first, drawn, few, few_more, sum);
+    }
+  where
+    settled : HasCounted c (seed_events c r.seed n) m r.counts
+    settled = counted-settled c n r m k s
+
+    all : seed_events c r.seed n ++ next_events r steps m ≡ seed_events c r.seed (n + steps)
+    all = further c n steps r m k settled
+
+pub went-on : (steps : ℕ) (r : RunData) (m o : Machine) (counts : Counts) (drawn : ℕ) → Settles r.machine m
+    → CountedMore m o r.counts counts (next_events r steps m) → r.machine.events + steps ≤ machine_limit
+    → drawn ≡ drawn_by r.drawn m.events o.events
+    → WentOn r (record { machine = o; counts = counts; seed = r.seed; drawn = drawn }) steps
+went-on steps r m o counts drawn s more few is =
+    let now = more.events in
+    let before = s.events in
+    let few_more = picked-few (settings_of m) (program_of m) steps (after_words r.drawn (seeded r.seed)) (world_of m) in
+    record {
+      same = λ c n k. subst (λ d. IsRunOf c (n + steps) (record { machine = o; counts = counts; seed = r.seed; drawn = d })) (sym is)
+          (same-run c n steps r m o counts k s more few);
+      settled = more.settled;
+      code = more.code ∙ s.code;
+      seed = refl;
+      events = λ h. omega (arith, now, before, few_more, few, is, h);
+      at_most = omega (arith, now, before, few_more, is);
+    }
+
+-- ---- its table
+
+pub run-tabled : (rows : Rows) (steps : ℕ) (r : RunData) (m : Machine) (a b : Option (List ℕ)) (done : Bool) → Settles r.machine m
+    → IsTabledOn rows m r.counts (next_events r steps m) a b done → IsRunTabled rows r steps a b done
+run-tabled rows steps r m a b done s t = λ c n k.
+    let es = seed_events c r.seed n in
+    let settled = counted-settled c n r m k s in
+    subst (λ all. IsTabledFrom rows (started c) all r.machine.events a b done) (further c n steps r m k settled)
+    (subst (λ first. IsTabledFrom rows (started c) (es ++ next_events r steps m) first a b done) (sym k.counted.events) (t c es settled))
+
+pub run-table-broken : (rows : Rows) (steps : ℕ) (r : RunData) (m : Machine) (o : Written) (broken : Broken) → Settles r.machine m
+    → IsTableOnBroken rows m r.counts (next_events r steps m) o broken → IsRunTableBroken rows r steps o broken
+run-table-broken rows steps r m o broken s t = λ c n k.
+    let es = seed_events c r.seed n in
+    let settled = counted-settled c n r m k s in
+    subst (λ all. IsRestBroken rows (started c) all r.machine.events o broken) (further c n steps r m k settled)
+    (subst (λ first. IsRestBroken rows (started c) (es ++ next_events r steps m) first o broken) (sym k.counted.events) (t c es settled))
+
+-- nothing was written
+pub run-table-none : (rows : Rows) (steps : ℕ) (r : RunData) (o : Page)
+    → IsRunTableBroken rows r steps (record { before = o; after = o }) Memory
+run-table-none rows steps r o = λ c n k. rest-none rows (started c) (seed_events c r.seed (n + steps)) r.machine.events o.bytes
+
+-- behind what was written of the first steps
+pub run-tables-join : RunTablesJoin
+run-tables-join c seed n steps rows done =
+    let (more, parts) = picked-begins c.settings (program (started c)) n steps (seeded seed) (world_at_start (started c)) in
+    subst (λ es. open_table rows (started c) (seed_events c seed n)
+    ++ rest_text rows (started c) done es (length (seed_events c seed n))
+    ≡ table_text rows (started c) done es) (sym parts)
+    (tables-join rows (started c) done (seed_events c seed n) more)
+
+-- commits were forgotten
+pub run-still : (r : RunData) (m : Machine) → StillKeeps r.machine m → (c : Contents) (n : ℕ) → IsRunOf c n r
+    → IsRunOf c n (record { machine = m; counts = r.counts; seed = r.seed; drawn = r.drawn })
+run-still r m f c n k = record {
+  counted = counted-still c (seed_events c r.seed n) r.machine m r.counts k.counted f;
+  drawn = k.drawn;
+}
+
+-- what was counted so far
+pub run-counted : (r : RunData) (done : Bool) → IsAllowed (settings_of r.machine)
+    → (IsTrue done ↔ IsDone (settings_of r.machine) (world_of r.machine)) → (c : Contents) (n : ℕ) → IsRunOf c n r
+    → IsCounted (started c) (seed_events c r.seed n) done r.machine.events r.counts
+run-counted r done allowed is c n k =
+    is-counted c (seed_events c r.seed n) r.machine r.counts done r.machine.events
+    (subst (λ (x : Contents). IsAllowed x.settings) k.counted.code allowed) k.counted is refl

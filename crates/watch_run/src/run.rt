@@ -1,0 +1,251 @@
+// A run that is counted as it goes, and that can be left and taken up again.
+ghost use Rattle.std.specs.Prelude.{◌≡◌, ◌+◌, ◌≤◌, ◌↔◌, [], ℕ, IfErr, IfOk, IsTrue, OnOk};
+ghost use Rattle.image_load.specs.Contents.{Contents, started};
+ghost use Rattle.net_core.specs.Forgotten.{Forgot};
+ghost use Rattle.net_core.specs.Limits.{machine_limit};
+ghost use Rattle.net_core.specs.Machine.{settings_of, world_of};
+ghost use Rattle.rules_tcc.specs.Seen.{IsDone};
+ghost use Rattle.watch_run.specs.Forgetting.{StillKeeps};
+ghost use Rattle.watch_run.specs.Looked.{IsCounted};
+ghost use Rattle.watch_run.specs.Runs.{IsRunOf, IsRunTableBroken, IsRunTabled, RunTablesJoin, WentOn, seed_events};
+ghost use Rattle.watch_run.specs.Tables.{TablesJoin};
+
+use crate::counting::count_events;
+use crate::events::{Picked, settings_are_allowed};
+use crate::tabling::{Rows, table_on};
+use crate::tracing::Broken;
+use image_load::Loaded;
+use net_core::System;
+use std::alloc::Global;
+use std::marker::Model;
+use tcc_base::NoMemory;
+use tcc_world::Sink;
+use watch_count::Counts;
+
+/// A run that is counted as it goes, and that can be left and taken up again: its machine, what was counted of it, its seed, and how many
+/// words were drawn of the seed's generator.
+///
+/// These four say all of it. Who writes them down, reads them later and goes on by `restored` has the same run.
+#[derive(Drop)]
+pub struct Run {
+    system: System,
+    counts: Counts,
+    seed: u64,
+    drawn: u64,
+}
+
+impl Model for Run {
+    ghost use Rattle.watch_run.specs.Runs.{RunData};
+
+    ghost Value = { RunData };
+
+    ghost view = { λ r. record { machine = r.system; counts = r.counts; seed = r.seed; drawn = r.drawn } };
+}
+
+/// Takes and counts the useful events that the next words pick, so many at most: how many words were drawn then.
+fn go_on(
+    alloc: Global,
+    system: &mut System,
+    counts: &mut Counts,
+    seed: u64,
+    drawn: u64,
+    steps: u64,
+) -> Result<u64, NoMemory>
+    requires few { system.old.events + steps ≤ machine_limit }
+    ensures { IfOk result (λ now. WentOn
+        (record { machine = system.old; counts = counts.old; seed = seed; drawn = drawn })
+        (record { machine = system.new; counts = counts.new; seed = seed; drawn = now }) steps) }
+{
+    system.settle()?;
+    let before = system.events();
+    let mut events = Picked::after(seed, drawn, steps);
+    count_events(alloc, system, &mut events, steps, counts)?;
+    Ok(drawn.saturating_add(system.events() - before))
+}
+
+/// Takes and counts these events too, and writes the rows of the table from there on: how many words were drawn then, and whether the run
+/// is done.
+fn go_on_with_rows<O: Sink>(
+    alloc: Global,
+    system: &mut System,
+    counts: &mut Counts,
+    seed: u64,
+    drawn: u64,
+    steps: u64,
+    rows: Rows,
+    out: &mut O,
+) -> Result<(u64, bool), Broken>
+    requires few { system.old.events + steps ≤ machine_limit }
+    requires every { 1 ≤ rows.every }
+    ensures went { IfOk result (λ r. WentOn
+        (record { machine = system.old; counts = counts.old; seed = seed; drawn = drawn })
+        (record { machine = system.new; counts = counts.new; seed = seed; drawn = r.0 }) steps) }
+    ensures table { IfOk result (λ r. IsRunTabled rows
+        (record { machine = system.old; counts = counts.old; seed = seed; drawn = drawn }) steps
+        (O.page out.old).bytes (O.page out.new).bytes r.1) }
+    ensures broken { IfErr result (IsRunTableBroken rows
+        (record { machine = system.old; counts = counts.old; seed = seed; drawn = drawn }) steps
+        (record { before = O.page out.old; after = O.page out.new })) }
+{
+    match system.settle() {
+        Ok(()) => {}
+        Err(NoMemory) => return Err(Broken::Memory),
+    }
+    let before = system.events();
+    let mut picked = Picked::after(seed, drawn, steps);
+    let done = table_on(alloc, system, &mut picked, steps, rows, counts, out)?;
+    Ok((drawn.saturating_add(system.events() - before), done))
+}
+
+/// A law: a run that is done by now, or isn't, is counted so far.
+fn is_counted(system: &System, counts: &Counts, seed: u64, drawn: u64) -> bool
+    ensures done { IsTrue result ↔ IsDone (settings_of system.now) (world_of system.now) }
+    ensures counted { (c : Contents) (n : ℕ)
+        → IsRunOf c n (record { machine = system.now; counts = counts.now; seed = seed; drawn = drawn })
+        → IsCounted (started c) (seed_events c seed n) result system.now.events counts.now }
+{
+    settings_are_allowed(system.config());
+    system.done()
+}
+
+/// A law: behind the table of the first events without its last row, the rows of a run that goes on make the table of all.
+pub fn tables_join()
+    ensures all { TablesJoin }
+    ensures runs { RunTablesJoin }
+{}
+
+impl Run {
+    /// The run of a seed before its first event, from what was loaded. It takes the time and the memory of `System::start`.
+    pub fn start(alloc: Global, loaded: &Loaded, seed: u64) -> Result<Run, NoMemory>
+        ensures run { IfOk result (λ r. IsRunOf loaded.now 0 r) }
+        ensures seed { IfOk result (λ r. r.seed ≡ seed) }
+        ensures drawn { IfOk result (λ r. r.drawn ≡ 0) }
+    {
+        let counts = Counts::new(alloc, loaded.config())?;
+        match System::start(alloc, loaded) {
+            Ok(system) => Ok(Run::restored(system, counts, seed, 0)),
+            Err(NoMemory) => Err(NoMemory),
+        }
+    }
+
+    /// The run that has this machine, these counts, this seed, and so many words drawn of it. Takes no memory.
+    pub fn restored(system: System, counts: Counts, seed: u64, drawn: u64) -> Run
+        requires { system.unsent ≡ [] }
+        ensures { result ≡ record { machine = system; counts = counts; seed = seed; drawn = drawn } }
+    {
+        Run {
+            system,
+            counts,
+            seed,
+            drawn,
+        }
+    }
+
+    /// Its machine.
+    pub fn system(&self) -> &System
+        ensures { result.now ≡ self.now.machine }
+    {
+        &self.system
+    }
+
+    /// What was counted of the events so far.
+    pub fn counts(&self) -> &Counts
+        ensures { result.now ≡ self.now.counts }
+    {
+        &self.counts
+    }
+
+    pub fn seed(&self) -> u64
+        ensures { result ≡ self.now.seed }
+    {
+        self.seed
+    }
+
+    /// How many words were drawn of the seed's generator: one for each event that it picked.
+    pub fn drawn(&self) -> u64
+        ensures { result ≡ self.now.drawn }
+    {
+        self.drawn
+    }
+
+    /// Whether it is done: every core has halted, nothing is in flight, and no frame has a dirty word. Takes time in the number of cores
+    /// where nothing is in flight, else constant time.
+    pub fn done(&self) -> bool
+        ensures done { IsTrue result ↔ IsDone (settings_of self.now.machine) (world_of self.now.machine) }
+        ensures counted { (c : Contents) (n : ℕ) → IsRunOf c n self.now
+            → IsCounted (started c) (seed_events c self.now.seed n) result self.now.machine.events self.now.counts }
+    {
+        is_counted(&self.system, &self.counts, self.seed, self.drawn)
+    }
+
+    /// Takes and counts the useful events that the next words pick, so many at most, or fewer where none is useful any more. So n steps
+    /// and then m are n + m, whoever wrote the run down and read it between.
+    ///
+    /// After want of memory the machine has taken some of these events, and not all that they did may be counted: nothing more is said of
+    /// the run then. The time is that of the events, and a constant for each fact of an event; the memory is that of the tables and of the
+    /// machine, which forgets the commits that all directories have passed.
+    pub fn go(&mut self, alloc: Global, steps: u64) -> Result<(), NoMemory>
+        requires few { self.old.machine.events + steps ≤ machine_limit }
+        ensures went { OnOk result (WentOn self.old self.new steps) }
+        ensures seed { self.new.seed ≡ self.old.seed }
+    {
+        self.drawn = go_on(
+            alloc,
+            &mut self.system,
+            &mut self.counts,
+            self.seed,
+            self.drawn,
+            steps,
+        )?;
+        Ok(())
+    }
+
+    /// Goes on as `go` does, and writes the rows of the run's table from there on: one after each so many events of the whole run where
+    /// others follow, and one after the last. Whether the run is done then. So the rows of a run that was left and taken up are those of
+    /// the whole, but for the last row of the part before; the row of the names is for the caller to write (`write_names`).
+    ///
+    /// Each row is written as it comes, so a first part of them may have been written where it fails: but nothing of the last row, which
+    /// tells of the end, unless the output failed within it. Nothing more is said of the run then.
+    pub fn table<O: Sink>(
+        &mut self,
+        alloc: Global,
+        steps: u64,
+        rows: Rows,
+        out: &mut O,
+    ) -> Result<bool, Broken>
+        requires few { self.old.machine.events + steps ≤ machine_limit }
+        requires every { 1 ≤ rows.every }
+        ensures went { IfOk result (λ done. WentOn self.old self.new steps) }
+        ensures seed { self.new.seed ≡ self.old.seed }
+        ensures table { IfOk result (IsRunTabled rows self.old steps (O.page out.old).bytes (O.page out.new).bytes) }
+        ensures broken { IfErr result (IsRunTableBroken rows self.old steps
+            (record { before = O.page out.old; after = O.page out.new })) }
+    {
+        let (drawn, done) = go_on_with_rows(
+            alloc,
+            &mut self.system,
+            &mut self.counts,
+            self.seed,
+            self.drawn,
+            steps,
+            rows,
+            out,
+        )?;
+        self.drawn = drawn;
+        Ok(done)
+    }
+
+    /// Forgets the commits that all directories have passed, so that those that are kept depend on the events alone, and not on when some
+    /// were forgotten before: this is for who writes the run down. It takes no memory, and its time goes with the numbers of directories
+    /// and of commits.
+    pub fn forget(&mut self)
+        ensures same { (c : Contents) (n : ℕ) → IsRunOf c n self.old → IsRunOf c n self.new }
+        ensures still { StillKeeps self.old.machine self.new.machine }
+        ensures forgot { Forgot self.old.machine self.new.machine }
+        ensures counts { self.new.counts ≡ self.old.counts }
+        ensures seed { self.new.seed ≡ self.old.seed }
+        ensures drawn { self.new.drawn ≡ self.old.drawn }
+    {
+        self.system.forget();
+    }
+}
