@@ -30,7 +30,7 @@ install:
 	install -m 755 tcc release/tcc-x86_64-linux $(lib)
 	install -m 644 VERSION release/manifest $(lib)
 	install -m 755 share/launch $(lib)/share
-	install -m 644 share/checked.sh share/hints.py share/words.py share/words.txt $(lib)/share
+	install -m 644 share/checked.sh share/hints.py share/progress.py share/words.py share/words.txt $(lib)/share
 	install -m 644 share/pages/* $(lib)/share/pages
 	install -m 644 share/look/*.py $(lib)/share/look
 	install -m 644 share/look/page/* $(lib)/share/look/page

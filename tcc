@@ -5,7 +5,7 @@
 # which is proved and built first where it isn't of these sources. Whether it is, takes a tenth of a second to find out; so what was found
 # is kept in release/checked with the state of each source (its inode, size and time of change), and here that is all that is looked at.
 # Words, file names, standard streams and exit status are the program's own. What else the launcher does (pages of usage, hints, records
-# that are whole or not there, the settings of a schedule) is in share/launch.
+# and checkpoints that are whole or not there, the settings of a schedule or a checkpoint) is in share/launch.
 
 link=$0
 [ ! -h "$link" ] || link=$(readlink -f -- "$link")
@@ -25,6 +25,7 @@ for word; do
     case $word in
     --) break ;;
     -h | --help | --record | --record=* | --schedule | --schedule=*) launch "$@" ;;
+    --checkpoint | --checkpoint=* | --resume | --resume=*) launch "$@" ;;
     esac
 done
 case ${TCC_HINTS-} in

@@ -35,6 +35,12 @@ TRAPS = {
 WITH_FILE = ("replay", "why", "serial", "follow")
 # What doesn't go together with --bus.
 OFF_THE_BUS = {"schedule": "no schedules", "dirs": "no directories"}
+# What doesn't go together with a checkpoint.
+OFF_THE_CHECKPOINT = {
+    "schedule": "a run by a seed",
+    "bus": "the machine with directories",
+    "every": "a run whose totals are printed at the end",
+}
 COMPILE_HINT = "compile with -march=rv32ima -mabi=ilp32, or with `tcc cc`"
 
 
@@ -99,11 +105,26 @@ def reason(command, name):
         return ": the list says which transactions there are"
     if command in ("trace", "count", "state") and name == "record":
         return ": run writes a record"
+    if name == "checkpoint":
+        return ": count writes a checkpoint"
+    if name == "resume":
+        return ": count and state go on from a checkpoint"
     if command == "outcomes" and name in ("dirs", "sets", "ways", "seed", "steps", "schedule", "bus"):
         return ": it lists the results of all runs, on any machine"
     if command == "trial" and name in ("raw", "ram", "base"):
         return ": it makes its own image"
     return ""
+
+
+def stands_apart(said):
+    """What doesn't stand with --resume or --checkpoint."""
+    if "resume" in said.given and "seed" in said.given:
+        return "a checkpoint says which seed the run has: --resume stands without --seed"
+    for name in ("resume", "checkpoint"):
+        for other, why in OFF_THE_CHECKPOINT.items():
+            if name in said.given and other in said.given:
+                return f"--{name} stands without --{other}: a checkpoint is of {why}"
+    return None
 
 
 def words_hint(words, commands, options):
@@ -122,6 +143,8 @@ def words_hint(words, commands, options):
         return said.fault
     if "schedule" in said.given and ("steps" in said.given or "seed" in said.given):
         return "a schedule says which events there are: it stands with neither --steps nor --seed"
+    if apart := stands_apart(said):
+        return apart
     if "bus" in said.given:
         for name, why in OFF_THE_BUS.items():
             if name in said.given:
@@ -264,7 +287,7 @@ def image_hint(line, said):
 
 def store_hint(line, said):
     name = line[len("tcc: store "):]
-    if name == said.given.get("record"):
+    if name in (said.given.get("record"), said.given.get("checkpoint")) and name != said.given.get("resume"):
         folder = os.path.dirname(name) or "."
         if os.path.isdir(name):
             return f"{name} is a folder"
@@ -296,8 +319,35 @@ def settings_of(said):
     return " ".join(f"{name} {number(said.given.get(name, standard))}" for name, standard in names)
 
 
+def settings_in(row):
+    """The settings that a checkpoint's row tells, in the words of `settings_of`; None of another row."""
+    found = re.fullmatch(r"settings (\d+) (\d+) (\d+) (\d+) (\d+) (\d+)", row)
+    return found and "cores {} dirs {} sets {} ways {} base {} ram {}".format(*(found[at] for at in (1, 2, 3, 4, 6, 5)))
+
+
+def checkpoint_hint(at, said):
+    name = said.given["resume"]
+    lines = read(name).decode("utf-8", "replace").split("\n")
+    here = lines[at - 1] if at <= len(lines) else ""
+    others = "or the images aren't those that it was made with"
+    if at == 1 and (kind := re.match(r"tcc-(\w+)", here)) and kind[1] != "run":
+        return f"{name} is a text of the kind tcc-{kind[1]}, and no checkpoint, as --checkpoint writes it"
+    if at == 1:
+        return f"{name} is no checkpoint: its first line is to be tcc-run 1"
+    settings = next(filter(None, map(settings_in, lines)), None)
+    if settings and settings != settings_of(said):
+        return f"the checkpoint is of `{settings}`, and the options say `{settings_of(said)}`"
+    if at > len(lines) or (at == len(lines) and not here):
+        return f"{name} ends before line {at}: it was cut short, {others}"
+    if here.startswith("tcc-checkpoint "):
+        return "no run of these images comes to such a machine: they aren't those that it was made with, or the file was changed"
+    return f"line {at} is `{here[:60]}`, which isn't what stands there: the file was changed, {others}"
+
+
 def schedule_hint(line, said, program, words):
     at = int(line.rsplit(" ", 1)[1])
+    if "resume" in said.given:
+        return checkpoint_hint(at, said)
     name = said.given.get("schedule") or said.files[0]
     lines = read(name).decode("utf-8", "replace").split("\n")
     here = lines[at - 1] if at <= len(lines) else ""

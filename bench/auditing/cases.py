@@ -216,7 +216,3 @@ def written_in_c(case):
                 pairs(case, {"program.elf": image}, ["program.elf"], [], [300, 3000, 30000])
     finally:
         shutil.rmtree(folder)
-
-
-# each kind of case, with how many there are
-KINDS = {"damaged": (damaged, 10000), "raw": (raw, 1200), "kept": (kept, 200), "c": (written_in_c, 120)}

@@ -87,6 +87,29 @@ def damaged_text(draw, data):
     return "\n".join(lines).encode("latin-1")
 
 
+def damaged_rows(draw, data):
+    """A byte is another one, a row is missing, there twice or in another's place, the text is cut short, a number is another one; or it is
+    damaged as any text."""
+    rows = data.splitlines(keepends=True) or [b""]
+    at, place, kind = draw.randrange(len(rows)), draw.randrange(max(1, len(data))), draw.randrange(8)
+    if kind == 0:
+        return data[:place] + bytes([(data[place] if data else 0) + draw.randint(1, 255) & 255]) + data[place + 1:]
+    if kind == 1:
+        return data[:place]
+    if kind == 2:
+        del rows[at]
+    elif kind == 3:
+        rows.insert(at, rows[at])
+    elif kind == 4:
+        other = draw.choice([at - 1, draw.randrange(len(rows))])
+        rows[at], rows[other] = rows[other], rows[at]
+    elif kind <= 6:
+        rows[at] = with_number_changed(draw, rows[at].decode("latin-1")).encode("latin-1")
+    else:
+        return damaged_text(draw, data)
+    return b"".join(rows)
+
+
 def damaged_words(draw, words):
     """A word is changed, dropped, doubled or moved, or a further one stands among them."""
     words = list(words)

@@ -34,7 +34,7 @@ use Rattle.rules_tcc.specs.Seen.{IsDone}
 use Rattle.rules_tcc.specs.Step.{History}
 use Rattle.tcc_words.specs.Asked.{IsCommand}
 use Rattle.tcc_words.specs.declared.command.Command.{Command}
-use Rattle.tcc_words.specs.declared.command.Command.TheVariants.{Run, Replay, Phases, Follow}
+use Rattle.tcc_words.specs.declared.command.Command.TheVariants.{Run, Replay, Phases, Follow, Long}
 use Rattle.tcc_words.specs.declared.command.Machine.{Machine}
 
 -- how a command ended that wasn't refused
@@ -200,7 +200,7 @@ run-again f v replay g other machine images name files text_of_end done text l a
     } in
     let well_again = good-again c all other l.images_are
     (λ line faulty. excluded f c all v.files.before.tells v.files.after.contents done (run_text s done (length l.events) l.ends) line
-    (f.in_bounds replay c asked) ran faulty) enough
+    (f.in_bounds replay c asked) tt ran faulty) enough
     (answers_complete f replay v g other c all again asked l.told none) in
     let x = well f replay v g other c asked again well_again in
     let (read, u, started, ran_again, whole) = x.ends in
@@ -263,6 +263,8 @@ prints-the-same f w v recorded replay e g status other (Follow machine list imag
     let is : text ≡ run_text s x.done (length l.events) l.ends =
     subst (λ fs. text ≡ run_text (start_of machine.raw machine.config fs) x.done (length l.events) l.ends) same l.text_is in
     (a.status_is ∙ sym x.status_is, (text, whole, subst (λ t. IsWhole t v.out) (sym is) a.whole))
+prints-the-same f w v recorded replay e g status other (Long machine images begin steps view keep) name r h good again none enough =
+    absurd r.schedule
 prints-the-same f w v recorded replay e g status other _ name r h good again none enough = absurd (unlike r.named)
   where
     unlike : ◌≡◌ {A = Option (List ℕ)} None (Some name) → ⊥

@@ -56,7 +56,7 @@ none-some x e h = absurd (cc)
 out-of-memory : (c : Command) (files : List (List ℕ)) (status : Status) → status ≡ Memory → IsLeft c files status
 out-of-memory c files status e = record {
   image = λ _. inr e;
-  schedule = λ _ line _. inr e;
+  schedule = λ _ _ line _. inr e;
   neither = λ _ _. inr (inr e);
 }
 
@@ -75,7 +75,8 @@ left f w status c files (Ok done) bounds is (read, text, started, comes, whole) 
     subst (λ fs. Comes c fs w.files.before.tells w.files.after.contents done text) same comes in
     record {
       image = λ bad. absurd (none-some (fault_from c files) images bad);
-      schedule = λ _ line faulty. absurd (excluded f c files w.files.before.tells w.files.after.contents done text line bounds here faulty);
+      schedule = λ _ clear line faulty.
+          absurd (excluded f c files w.files.before.tells w.files.after.contents done text line bounds clear here faulty);
       neither = λ _ _. ended done status is;
     }
 left f w status c files (Err why.Words) bounds is e told none = absurd e
@@ -85,7 +86,7 @@ left f w status c files (Err (why.Image bad)) bounds is ((read, given, first), u
     let images : fault_from c files ≡ Some bad = subst (λ fs. fault_from c fs ≡ Some bad) same first in
     record {
       image = λ _. inl is;
-      schedule = λ no line faulty. absurd (cc);
+      schedule = λ no _ line faulty. absurd (cc);
       neither = λ no _. absurd (cc);
     }
 left f w status c files (Err (why.Schedule line)) bounds is ((read, started, faulty), untouched, silent) told none =
@@ -93,7 +94,7 @@ left f w status c files (Err (why.Schedule line)) bounds is ((read, started, fau
     let images : fault_from c files ≡ None = subst (λ fs. fault_from c fs ≡ None) same started.images in
     record {
       image = λ bad. absurd (none-some (fault_from c files) images bad);
-      schedule = λ _ _ _. inl is;
+      schedule = λ _ _ _ _. inl is;
       neither = λ _ fine. absurd (fine line (subst (λ fs. IsFaultyLine c fs line) same faulty));
     }
 left f w status c files (Err (why.Store name)) bounds is (inl (first, untouched), silent) told none =

@@ -10,6 +10,7 @@ use Rattle.tcc_cli.specs.Commands.{head_of, start_from, tail_of}
 use Rattle.tcc_cli.specs.Images.{start_of}
 use Rattle.tcc_cli.specs.Lists.{IsListFault}
 use Rattle.tcc_cli.specs.Comes.{Comes, IsFaultyLine}
+use Rattle.tcc_cli.specs.Laws.{TakesNoCheckpoint}
 use Rattle.tcc_cli.specs.Looks.{AreFirst, IsFaultOfFirst, LookedAt, most_of, view_text}
 use Rattle.tcc_cli.specs.Schedules.{IsScheduleFault, IsScheduleOf, Ran}
 use Rattle.tcc_cli.specs.Runs.{IsRun, run_text}
@@ -24,7 +25,8 @@ use Rattle.tcc_replay.specs.Replayed.{history_by}
 use Rattle.rules_tcc.specs.Step.{History}
 use Rattle.tcc_words.specs.Bounds.{IsInBounds}
 use Rattle.tcc_words.specs.declared.command.Command.{Command}
-use Rattle.tcc_words.specs.declared.command.Command.TheVariants.{Replay, Serial, Why, Look, Follow}
+use Rattle.tcc_words.specs.declared.command.Command.TheVariants.{Replay, Serial, Why, Look, Follow, Long}
+use Rattle.tcc_words.specs.declared.command.Begin.TheVariants as begin
 use Rattle.tcc_words.specs.declared.command.Source.TheVariants.{Schedule}
 
 -- two schedules of one text with the same settings have the same events
@@ -81,21 +83,22 @@ few-cores : (raw : Bool) (s : Settings) (files : List (List ℕ)) → IsAllowed 
 few-cores raw s files allowed = subst (λ t. t.cores ≤ 64) (sym (start_settings raw s files)) allowed.0.1
 
 pub excluded : Facts → (c : Command) (files : List (List ℕ)) (tells : Bool) (told : List ℕ → Option (List ℕ)) (done : Bool) (text : List ℕ)
-    (line : ℕ) → IsInBounds c → Comes c files tells told done text → IsFaultyLine c files line → ⊥
-excluded f (Replay machine schedule images) files tells told done text line bounds comes fault =
+    (line : ℕ) → IsInBounds c → TakesNoCheckpoint c → Comes c files tells told done text → IsFaultyLine c files line → ⊥
+excluded f (Replay machine schedule images) files tells told done text line bounds none comes fault =
     let s = start_from (Replay machine schedule images) files in
     schedule-excluded f s machine.config (head_of files) line (run_text s) done text comes fault
-excluded f (Serial machine list images) files tells told done text line bounds comes fault =
+excluded f (Serial machine list images) files tells told done text line bounds none comes fault =
     let s = start_from (Serial machine list images) files in
     list-excluded f s (head_of files) comes.1.orders line (few-cores machine.raw machine.config (tail_of files) bounds.allowed) comes.1.list
     (some-of (serial_by s comes.1.orders) (comes.1.machine, comes.1.commits) comes.1.executed) fault
-excluded f (Follow machine list images keep) files tells told done text line bounds comes fault =
+excluded f (Follow machine list images keep) files tells told done text line bounds none comes fault =
     list-excluded f (start_from (Follow machine list images keep) files) (head_of files) comes.listed.listed line
     (few-cores machine.raw machine.config (tail_of files) bounds.allowed) comes.listed.list comes.listed.executed fault
-excluded f (Why machine schedule images) files tells told done text line bounds comes fault =
+excluded f (Why machine schedule images) files tells told done text line bounds none comes fault =
     let s = start_from (Why machine schedule images) files in
     schedule-excluded f s machine.config (head_of files) line (why_text s) done text comes fault
-excluded f (Look machine images (Schedule name) view) files tells told done text line bounds comes fault =
+excluded f (Look machine images (Schedule name) view) files tells told done text line bounds none comes fault =
     let s = start_from (Look machine images (Schedule name) view) files in
     look-excluded f s machine.config (head_of files) (most_of view) line (view_text view None s) done text comes fault
-excluded f _ files tells told done text line bounds comes fault = fault
+excluded f (Long machine images (begin.Checkpoint name) steps view keep) files tells told done text line bounds none comes fault = none
+excluded f _ files tells told done text line bounds none comes fault = fault

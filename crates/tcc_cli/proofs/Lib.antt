@@ -3,12 +3,14 @@ mod Again
 mod BusViews
 mod Comes
 mod Complete
+mod Continued
 mod Ending
 mod Excluded
 mod Executed
 mod Facts
 mod Followed
 mod Loading
+mod GoingOn
 mod Looking
 mod Machines
 mod Naming

@@ -3,6 +3,7 @@ use Rattle.std.specs.Prelude.{ℕ, Bool, true, List, ◌≡◌, Option}
 use Rattle.tcc_cli.specs.Commands.{head_of, start_from}
 use Rattle.tcc_cli.specs.Following.{IsFollowed, RanFollowing}
 use Rattle.tcc_cli.specs.Lists.{IsExecuted, IsListFault}
+use Rattle.tcc_cli.specs.Long.{IsLeftIn, RanLong}
 use Rattle.tcc_base.specs.Settings.{Settings}
 use Rattle.tcc_world.specs.Page.{Written}
 use Rattle.tcc_cli.specs.Looks.{ArePicked, AreFirst, IsBegun, IsFaultOfFirst, LookedAt, begun_of, most_of, seed_of, view_text}
@@ -16,7 +17,8 @@ use Rattle.image_load.specs.Start.{Start}
 use Rattle.rules_maps.specs.Nodes.{Event}
 use Rattle.tcc_words.specs.declared.command.Command.{Command}
 use Rattle.tcc_words.specs.declared.command.Command.TheVariants.{Run, Replay, Serial, Trial, Why, Phases, Bus, Look}
-use Rattle.tcc_words.specs.declared.command.Command.TheVariants.{LookOnBus, Outcomes, Follow}
+use Rattle.tcc_words.specs.declared.command.Command.TheVariants.{LookOnBus, Outcomes, Follow, Long}
+use Rattle.tcc_words.specs.declared.command.Begin.TheVariants as begin
 use Rattle.tcc_words.specs.declared.command.Source.{Source}
 use Rattle.tcc_words.specs.declared.command.Source.TheVariants.{Seed, Schedule}
 use Rattle.tcc_words.specs.declared.command.View.TheVariants.{Trace}
@@ -60,6 +62,8 @@ Comes (Outcomes machine images limits tell) files tells told done text =
 Comes (Follow machine list images keep) files tells told done text =
     RanFollowing (start_from (Follow machine list images keep) files) (head_of files)
     (λ es. IsRecorded keep tells told (record { config = machine.config; events = es })) done text
+Comes (Long machine images begin steps view keep) files tells told done text =
+    RanLong (start_from (Long machine images begin steps view keep) files) begin files steps view (IsLeftIn keep tells told) done text
 
 -- a first part of what a command prints was written while it went on: only traces, tables of totals and those of outcomes are written so
 abbrev pub HasBegun : Command → (files : List (List ℕ)) → Written → Type 0
@@ -83,7 +87,7 @@ HasRecorded (Follow machine list images keep) files tells told =
     RecordsOne (IsFollowed (start_from (Follow machine list images keep) files) (head_of files)) machine.config keep tells told
 HasRecorded _ files tells told = ⊥
 
--- the line at which the file of a command is refused
+-- the line at which the file of a command is refused; of a checkpoint it may be any
 abbrev pub IsFaultyLine : Command → (files : List (List ℕ)) → (line : ℕ) → Type 0
 IsFaultyLine (Replay machine schedule images) files line =
     IsScheduleFault (start_from (Replay machine schedule images) files) machine.config (head_of files) line
@@ -95,4 +99,5 @@ IsFaultyLine (Look machine images (Schedule name) view) files line =
     IsFaultOfFirst (start_from (Look machine images (Schedule name) view) files) machine.config (head_of files) (most_of view) line
 IsFaultyLine (Follow machine list images keep) files line =
     IsListFault (start_from (Follow machine list images keep) files) (head_of files) line
+IsFaultyLine (Long machine images (begin.Checkpoint name) steps view keep) files line = Unit {0}
 IsFaultyLine _ files line = ⊥

@@ -5,7 +5,9 @@ use Rattle.tcc_cli.specs.Images.{fault_of, start_of}
 use Rattle.tcc_cli.specs.declared.refusal.ImageFault.{ImageFault}
 use Rattle.tcc_words.specs.declared.command.Command.{Command}
 use Rattle.tcc_words.specs.declared.command.Command.TheVariants.{Run, Replay, Serial, Trial, Why, Phases, Bus, Look}
-use Rattle.tcc_words.specs.declared.command.Command.TheVariants.{LookOnBus, Outcomes, Follow}
+use Rattle.tcc_words.specs.declared.command.Command.TheVariants.{LookOnBus, Outcomes, Follow, Long}
+use Rattle.tcc_words.specs.declared.command.Begin.{Begin}
+use Rattle.tcc_words.specs.declared.command.Begin.TheVariants as begin
 use Rattle.tcc_words.specs.declared.command.Source.{Source}
 use Rattle.tcc_words.specs.declared.command.Source.TheVariants.{Seed, Schedule}
 use Rattle.tcc_words.specs.declared.command.Machine.{Machine}
@@ -24,13 +26,19 @@ image_names (Look machine images source view) = images
 image_names (LookOnBus machine images steps seed view) = images
 image_names (Outcomes machine images limits tell) = images
 image_names (Follow machine list images keep) = images
+image_names (Long machine images begin steps view keep) = images
 
 -- the file of the run that is looked at, and those behind it
 abbrev pub with_file : Source → List (List ℕ) → List (List ℕ)
 with_file (Seed steps seed) images = images
 with_file (Schedule name) images = name ∷ images
 
--- the names of the files that are read, in order: the schedule or the list, and then the images
+-- the checkpoint from which a run begins, and those behind it
+abbrev pub with_checkpoint : Begin → List (List ℕ) → List (List ℕ)
+with_checkpoint (begin.Seed seed) images = images
+with_checkpoint (begin.Checkpoint name) images = name ∷ images
+
+-- the names of the files that are read, in order: the schedule, the list or the checkpoint, and then the images
 abbrev pub files_of : Command → List (List ℕ)
 files_of (Run machine images steps seed threads batch keep) = images
 files_of (Replay machine schedule images) = schedule ∷ images
@@ -43,12 +51,14 @@ files_of (Look machine images source view) = with_file source images
 files_of (LookOnBus machine images steps seed view) = images
 files_of (Outcomes machine images limits tell) = images
 files_of (Follow machine list images keep) = list ∷ images
+files_of (Long machine images begin steps view keep) = with_checkpoint begin images
 
 -- the name of the file that is written
 abbrev pub record_of : Command → Option (List ℕ)
 record_of (Run machine images steps seed threads batch keep) = keep
 record_of (Phases machine images steps seed keep) = keep
 record_of (Follow machine list images keep) = keep
+record_of (Long machine images begin steps view keep) = keep
 record_of _ = None
 
 -- the machine, and whether its images are raw; a workload is
@@ -64,6 +74,7 @@ machine_of (Look machine images source view) = machine
 machine_of (LookOnBus machine images steps seed view) = machine
 machine_of (Outcomes machine images limits tell) = machine
 machine_of (Follow machine list images keep) = machine
+machine_of (Long machine images begin steps view keep) = machine
 
 -- the first of some files, and those after it
 abbrev pub head_of : List (List ℕ) → List ℕ
@@ -79,6 +90,11 @@ abbrev pub behind_file : Source → (files : List (List ℕ)) → List (List ℕ
 behind_file (Seed steps seed) files = files
 behind_file (Schedule name) files = tail_of files
 
+-- the files behind the checkpoint from which a run begins
+abbrev pub behind_checkpoint : Begin → (files : List (List ℕ)) → List (List ℕ)
+behind_checkpoint (begin.Seed seed) files = files
+behind_checkpoint (begin.Checkpoint name) files = tail_of files
+
 -- the images' bytes, where the files have these
 abbrev pub images_in : Command → (files : List (List ℕ)) → List (List ℕ)
 images_in (Run machine images steps seed threads batch keep) files = files
@@ -92,6 +108,7 @@ images_in (Look machine images source view) files = behind_file source files
 images_in (LookOnBus machine images steps seed view) files = files
 images_in (Outcomes machine images limits tell) files = files
 images_in (Follow machine list images keep) files = tail_of files
+images_in (Long machine images begin steps view keep) files = behind_checkpoint begin files
 
 -- the start of the machine with these images, and the first of them that is no image
 abbrev pub start_from : Command → (files : List (List ℕ)) → Start

@@ -70,6 +70,17 @@ abbrev pub IsFollowStopped : Start → (bytes : List ℕ) → Settings → (keep
 IsFollowStopped s bytes settings keep f (Schedule line) = IsListFault s bytes line × IsUntouched f
 IsFollowStopped s bytes settings keep f other = IsRunStopped (IsFollowed s bytes) settings keep f other
 
+-- a checkpoint is refused, at whichever line, or memory ran out
+abbrev pub IsCheckpointRefused : Refusal → Type 0
+IsCheckpointRefused (Schedule line) = Unit {0}
+IsCheckpointRefused Memory = Unit {0}
+IsCheckpointRefused _ = ⊥
+
+-- a run that goes on from a checkpoint stops before its text is made: that is refused, or the new one wasn't written
+abbrev pub IsLongStopped : (keep : Option (List ℕ)) → FilesAround → Refusal → Type 0
+IsLongStopped keep f (Schedule line) = IsUntouched f
+IsLongStopped keep f other = IsNotWritten keep f other
+
 -- a text that is written when it is made, as a trace, a table of totals and one of outcomes aren't
 abbrev pub IsUntraced : View → Type 0
 IsUntraced (Trace from to states) = ⊥

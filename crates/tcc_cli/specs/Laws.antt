@@ -24,7 +24,8 @@ use Rattle.rules_tcc.specs.Seen.{IsDone}
 use Rattle.rules_tcc.specs.Step.{History}
 use Rattle.tcc_words.specs.Asked.{IsCommand}
 use Rattle.tcc_words.specs.declared.command.Command.{Command}
-use Rattle.tcc_words.specs.declared.command.Command.TheVariants.{Replay, Phases}
+use Rattle.tcc_words.specs.declared.command.Command.TheVariants.{Replay, Phases, Long}
+use Rattle.tcc_words.specs.declared.command.Begin.TheVariants as begin
 use Rattle.tcc_world.specs.Faults.{Rose}
 
 -- none of a command's files failed to be read or written, and the output didn't fail
@@ -37,12 +38,18 @@ pub record HasNoFault (c : Command) (w : Around) : Type 0 where
 abbrev pub AreTold : (told : List ℕ → Option (List ℕ)) → (names files : List (List ℕ)) → Type 0
 AreTold told names files = map told names ≡ map (λ file. Some file) files
 
+-- no checkpoint is read, of which no clause says at which lines it is refused
+abbrev pub TakesNoCheckpoint : Command → Type 0
+TakesNoCheckpoint (Long machine images (begin.Checkpoint name) steps view keep) = ⊥
+TakesNoCheckpoint _ = Unit {0}
+
 -- what is left to answer where nothing fails; beside each stands want of memory, of which nothing more is said
 pub record IsLeft (c : Command) (files : List (List ℕ)) (status : Status) : Type 0 where
   -- an image is refused
   pub image : IsSome (fault_from c files) → (status ≡ Image) ⊎ (status ≡ Memory)
   -- the images are accepted and the schedule or list is refused
-  pub schedule : fault_from c files ≡ None → (line : ℕ) → IsFaultyLine c files line → (status ≡ Schedule) ⊎ (status ≡ Memory)
+  pub schedule : fault_from c files ≡ None → TakesNoCheckpoint c → (line : ℕ) → IsFaultyLine c files line
+      → (status ≡ Schedule) ⊎ (status ≡ Memory)
   -- neither is: the command is carried out and its whole text written
   pub neither : fault_from c files ≡ None → ((line : ℕ) → IsFaultyLine c files line → ⊥)
       → (status ≡ Done) ⊎ (status ≡ Stopped) ⊎ (status ≡ Memory)
@@ -78,11 +85,17 @@ OpenBusRunsTakeAllEvents =
     (s : Start) (seed steps : ℕ) (h : BusHistory) → IsAllowed s.settings → IsBusRun s (bus_picked_by s seed steps) h
     → (BusIsDone s.settings h.world → ⊥) → length (bus_picked_by s seed steps) ≡ steps
 
+-- the record is a schedule, and no checkpoint
+abbrev pub WritesSchedule : Command → Type 0
+WritesSchedule (Long machine images begin steps view keep) = ⊥
+WritesSchedule _ = Unit {0}
+
 -- two calls: a run that is recorded, and a replay of the record, by the same settings and with the same images, in the files as the run
 -- left them; the record isn't one of the images
 pub record ReplaysRecord (w v : Around) (recorded replay : List (List ℕ)) (c : Command) (name : List ℕ) : Type 0 where
   pub first : IsCommand recorded c
   pub named : record_of c ≡ Some name
+  pub schedule : WritesSchedule c
   pub second : IsCommand replay (Replay (machine_of c) name (image_names c))
   pub left : (n : List ℕ) → v.files.before.contents n ≡ w.files.after.contents n
   pub tells : w.files.before.tells ≡ true

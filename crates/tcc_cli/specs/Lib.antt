@@ -5,6 +5,8 @@ pub mod Commands
 pub mod Failing
 pub mod Images
 pub mod Laws
+pub mod Long
+pub mod Continued
 pub mod Lines
 pub mod Looks
 pub mod Lists

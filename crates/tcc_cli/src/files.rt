@@ -6,10 +6,10 @@ ghost use Rattle.tcc_cli.specs.Reading.{AreGiven, RefusedFiles};
 use crate::refusal::Refusal;
 use std::alloc::Global;
 use tcc_base::{List, NoMemory, Text};
-use tcc_words::{Command, Source};
+use tcc_words::{Begin, Command, Source};
 use tcc_world::{Store, StoreError};
 
-/// The name of the schedule or list.
+/// The name of the schedule, list or checkpoint.
 fn first_name(command: &Command) -> Option<&str>
     ensures { MatchOption result (files_of command.now ≡ image_names command.now)
         (λ name. files_of command.now ≡ name.now ∷ image_names command.now) }
@@ -23,13 +23,18 @@ fn first_name(command: &Command) -> Option<&str>
             source: Source::Schedule(schedule),
             ..
         } => Some(schedule.items.as_str()),
+        Command::Long {
+            begin: Begin::Checkpoint(checkpoint),
+            ..
+        } => Some(checkpoint.items.as_str()),
         Command::Run { .. }
         | Command::Trial { .. }
         | Command::Phases { .. }
         | Command::Bus { .. }
         | Command::Look { .. }
         | Command::LookOnBus { .. }
-        | Command::Outcomes { .. } => None,
+        | Command::Outcomes { .. }
+        | Command::Long { .. } => None,
     }
 }
 
@@ -47,7 +52,8 @@ fn image_names(command: &Command) -> &[Text]
         | Command::Look { images, .. }
         | Command::LookOnBus { images, .. }
         | Command::Outcomes { images, .. }
-        | Command::Follow { images, .. } => &images.items,
+        | Command::Follow { images, .. }
+        | Command::Long { images, .. } => &images.items,
         Command::Trial { .. } => &[],
     }
 }

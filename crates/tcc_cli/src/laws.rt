@@ -1,8 +1,10 @@
 // What follows from the answers of the program.
+ghost use Rattle.tcc_cli.specs.Continued.{CutRunsAreWhole};
 ghost use Rattle.tcc_cli.specs.Laws.{AnswersAreComplete, OpenBusRunsTakeAllEvents, OpenPhasedRunsTakeAllEvents, OpenRunsTakeAllEvents};
 ghost use Rattle.tcc_cli.specs.Laws.{OthersAreRefused, ReplaysPrintTheSame};
 
 use apart_run::open_joined_runs_take_all_events;
+use checkpoint_run::{runs_go_on_from_texts, texts_tell_runs_apart};
 use rules_tcc::a_picked_schedule_is_a_run;
 use schedule_text::{texts_tell_schedules_apart, the_first_fault_is_one};
 use serial_tool::{lists_are_read_alike, lists_are_run_alike};
@@ -58,4 +60,13 @@ pub fn replays_print_the_same()
     lists_are_read_alike();
     lists_are_run_alike();
     what_runs_is_not_refused();
+}
+
+/// A law: a run of `count` or `state` that goes on from the checkpoint of so many steps of a seed comes to what the run of those and of its
+/// own steps comes to from the seed, and the checkpoint that it leaves is of that whole run; so it may be cut as often as one likes.
+pub fn cut_runs_are_whole()
+    ensures { CutRunsAreWhole }
+{
+    runs_go_on_from_texts();
+    texts_tell_runs_apart();
 }

@@ -8,6 +8,7 @@ mod images;
 mod laid;
 mod laws;
 mod lists;
+mod long;
 mod looks;
 mod on_bus;
 mod outcomes;
@@ -24,7 +25,9 @@ mod top;
 mod totals;
 mod traces;
 
-pub use laws::{answers_are_complete, open_runs_take_all_events, replays_print_the_same};
+pub use laws::{
+    answers_are_complete, cut_runs_are_whole, open_runs_take_all_events, replays_print_the_same,
+};
 pub use process::tcc_process;
 pub use refusal::{ImageFault, Reader, Refusal, refuse};
 pub use status::Status;

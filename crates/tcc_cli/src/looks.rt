@@ -27,11 +27,35 @@ use tcc_base::{Config, NoMemory};
 use tcc_msg::Event;
 use tcc_refine::Refined;
 use tcc_words::{MAX_COUNTED, View};
+use watch_count::Counts;
 use watch_run::{Counted, Listed, Picked, count};
 use watch_state::state;
 
 /// The text of what was counted: all of it, or the totals as two rows for a table.
-fn tables(
+pub fn tables(
+    alloc: Global,
+    config: &Config,
+    counts: &Counts,
+    done: bool,
+    events: u64,
+    csv: bool,
+    seed: Option<(u64, u64)>,
+) -> Result<Finished, NoMemory>
+    ensures done { IfOk result (λ f. f.done ≡ done) }
+    ensures text { IfOk result (λ f. string_bytes f.text
+        ≡ (if csv then csv_text config.now seed done events counts.now else count_text config.now done events counts.now)) }
+{
+    let mut text = String::new(alloc);
+    if csv {
+        counts.push_csv(&mut text, config, seed, done, events)?;
+    } else {
+        counts.push_text(&mut text, config, done, events)?;
+    }
+    Ok(Finished { done, text })
+}
+
+/// The text of a run that was counted to its end.
+fn counted_tables(
     alloc: Global,
     config: &Config,
     counted: &Counted,
@@ -43,16 +67,15 @@ fn tables(
         ≡ (if csv then csv_text config.now seed counted.now.done counted.now.events counted.now.counts
         else count_text config.now counted.now.done counted.now.events counted.now.counts)) }
 {
-    let (done, events) = (counted.done, counted.events);
-    let mut text = String::new(alloc);
-    if csv {
-        counted
-            .counts
-            .push_csv(&mut text, config, seed, done, events)?;
-    } else {
-        counted.counts.push_text(&mut text, config, done, events)?;
-    }
-    Ok(Finished { done, text })
+    tables(
+        alloc,
+        config,
+        &counted.counts,
+        counted.done,
+        counted.events,
+        csv,
+        seed,
+    )
 }
 
 /// What is counted of the run that a seed picks.
@@ -71,7 +94,7 @@ fn count_picked(
     let most = steps.min(MAX_COUNTED);
     let mut events = Picked::new(seed, most);
     let counted = count(alloc, loaded, &mut events, most)?;
-    tables(alloc, loaded.config(), &counted, csv, Some((seed, steps)))
+    counted_tables(alloc, loaded.config(), &counted, csv, Some((seed, steps)))
 }
 
 /// What is counted of the run by these events.
@@ -87,7 +110,7 @@ fn count_listed(
 {
     let mut events = Listed::new(listed);
     let counted = count(alloc, loaded, &mut events, listed.len() as u64)?;
-    tables(alloc, loaded.config(), &counted, csv, None)
+    counted_tables(alloc, loaded.config(), &counted, csv, None)
 }
 
 /// The state of a machine as it stands, which began with what was loaded.

@@ -15,6 +15,7 @@ use crate::files::{names, read_files};
 use crate::following::run_following;
 use crate::images::{bytes, load_files};
 use crate::lists::execute;
+use crate::long::{run_from_checkpoint, run_from_seed};
 use crate::looks::{look_by_schedule, look_by_seed};
 use crate::on_bus::run_on_bus;
 use crate::outcomes::write_outcomes;
@@ -29,7 +30,7 @@ use std::alloc::Global;
 use std::sync::Wait;
 use std::thread::Threads;
 use tcc_base::{List, NoMemory};
-use tcc_words::{Command, Source, View, commands_are_in_bounds, settings};
+use tcc_words::{Begin, Command, Source, View, commands_are_in_bounds, settings};
 use tcc_world::{Gate, Sink, SinkFailed, Store, write_all};
 use watch_run::Shown;
 use work_gen::workload;
@@ -47,7 +48,8 @@ use work_gen::workload;
 /// `--every` the totals while it goes on, and `state [..] IMAGE..` the state after it: a run as `run` makes it by a seed, or as `bus` does, or by the schedule of a file; `outcomes
 /// [..] IMAGE..` searches all results that the images can have, on whatever machine, and writes their table; `follow [..] LIST IMAGE..`
 /// runs images for at most 4,194,304 events so that their transactions commit in the order of a list, whose lines are as a report's, writes
-/// the schedule to a file where one is named, and then the report.
+/// the schedule to a file where one is named, and then the report. With `--resume` `count` and `state` go on from the checkpoint in a file,
+/// for so many events more, and with `--checkpoint` `count` writes the run down to a file at its end, from which others go on.
 ///
 /// `Done`: at the end every core has halted, nothing is in flight (no packet on the bus) and no frame has a dirty word, or the list ran
 /// to its end, or the table has all results. `Stopped`: the machine isn't done, and a run has then taken all the events that were asked
@@ -57,8 +59,8 @@ use work_gen::workload;
 /// `SinkFault`: `out` failed, after a first part of the text. `Memory`: there wasn't enough memory; no clause says that memory was short.
 /// The record is then as it was, or whole, with the schedule of the run; of a trace or a table a first part may have been written.
 ///
-/// Refusals come in this order: words, files that aren't read (the schedule or list first, then the images), images, the schedule or list,
-/// the record, the output. Nothing is written to `out` with a refusal but `SinkFault`, and of a trace or a table with `Memory`. A refusal
+/// Refusals come in this order: words, files that aren't read (the schedule, list or checkpoint first, then the images), images, the
+/// schedule, list or checkpoint, the record, the output. Nothing is written to `out` with a refusal but `SinkFault`, and of a trace or a table with `Memory`. A refusal
 /// writes its line to `err`, as far as `err` takes it; nothing else is written there. Of the contents that `files` tells none changes but
 /// the record's.
 ///
@@ -145,6 +147,11 @@ fn load<'a>(alloc: Global, command: &Command, read: &[List<u8>]) -> Result<Loade
             machine,
             source: Source::Seed { .. },
             ..
+        }
+        | Command::Long {
+            machine,
+            begin: Begin::Seed(_),
+            ..
         } => load_files(alloc, machine.raw, &machine.config, read),
         Command::Replay { machine, .. }
         | Command::Serial { machine, .. }
@@ -153,6 +160,11 @@ fn load<'a>(alloc: Global, command: &Command, read: &[List<u8>]) -> Result<Loade
         | Command::Look {
             machine,
             source: Source::Schedule(_),
+            ..
+        }
+        | Command::Long {
+            machine,
+            begin: Begin::Checkpoint(_),
             ..
         } => { load_files(alloc, machine.raw, &machine.config, &read[1..]) }
         Command::Trial {
@@ -383,6 +395,20 @@ fn finish<'a, R: Threads + Wait + Sync, F: Store, G: Gate + Sync>(
             Err(NoMemory) => Err(Refusal::Memory),
         },
         Command::Follow { keep, .. } => run_following(alloc, loaded, bytes(&read[0]), keep, files),
+        Command::Long {
+            begin: Begin::Seed(seed),
+            steps,
+            view,
+            keep,
+            ..
+        } => run_from_seed(alloc, loaded, *seed, *steps, *view, keep, files),
+        Command::Long {
+            begin: Begin::Checkpoint(_),
+            steps,
+            view,
+            keep,
+            ..
+        } => run_from_checkpoint(alloc, loaded, bytes(&read[0]), *steps, *view, keep, files),
         Command::Outcomes { .. } => unreachable!(),
     }
 }

@@ -7,7 +7,7 @@ use Rattle.tcc_base.specs.Settings.{Settings}
 use Rattle.work_gen.specs.Names.{work_word}
 use Rattle.work_gen.specs.declared.work.Work.{Work}
 use Rattle.work_gen.specs.declared.work.Work.TheVariants.{Counters, Transfers, Stencil, Sharing}
-use Rattle.tcc_words.specs.Asked.{Asks, AsksLook, AsksSource, AsksView, HasMachine, HasSettings, HasTell, IsGiven, MayBeGiven}
+use Rattle.tcc_words.specs.Asked.{Asks, AsksBegin, AsksLook, AsksSource, AsksView, HasMachine, HasSettings, HasTell, IsGiven, MayBeGiven}
 use Rattle.tcc_words.specs.Asked.{Stands}
 use Rattle.run_outcomes.specs.declared.outcomes.Tell.{Tell}
 use Rattle.run_outcomes.specs.declared.outcomes.Tell.TheVariants.{Consoles, Memory, Everything}
@@ -15,6 +15,8 @@ use Rattle.tcc_words.specs.Fields.{AllowsIn, BreaksFirst, IsFlagged, IsSaid, IsV
 use Rattle.tcc_words.specs.Grammar.{grammar}
 use Rattle.tcc_words.specs.Laws.{CommandsAreNotRefused, WordsAskForOneCommand}
 use Rattle.tcc_words.specs.Numbers.{IsNumber}
+use Rattle.tcc_words.specs.declared.command.Begin.{Begin}
+use Rattle.tcc_words.specs.declared.command.Begin.TheVariants as begin
 use Rattle.tcc_words.specs.declared.command.Command.{Command}
 use Rattle.tcc_words.specs.declared.command.Command.TheVariants as command
 use Rattle.tcc_words.specs.declared.command.Field.{Field}
@@ -185,6 +187,13 @@ one-source rows (source.Schedule name) (source.Schedule other) a b =
     let same : name ≡ other = one-some _ name other a b in
     λ i. source.Schedule (same i)
 
+one-begin : (rows : List Row) (s t : Begin) → AsksBegin rows s → AsksBegin rows t → s ≡ t
+one-begin rows (begin.Seed seed) (begin.Seed seed') a b = ap (λ (n : ℕ). begin.Seed n) (one-said rows Seed seed seed' a.1 b.1)
+one-begin rows (begin.Seed seed) (begin.Checkpoint name) a b = let none = a.0 in absurd cc
+one-begin rows (begin.Checkpoint name) (begin.Seed seed) a b = let none = b.0 in absurd cc
+one-begin rows (begin.Checkpoint name) (begin.Checkpoint other) a b =
+    ap (λ (t : Text). begin.Checkpoint t) (one-some _ name other a b)
+
 one-view : (verb : Verb) (rows : List Row) (v w : View) → AsksView verb rows v → AsksView verb rows w → v ≡ w
 one-view Trace rows (view.Trace from to states) (view.Trace from' to' states') a b =
     let first = one-said rows From from from' a.0 b.0 in
@@ -207,10 +216,10 @@ one-view _ rows v w a b = absurd a
 
 one-look : (rows : List Row) (v : View) (c d : Command) → AsksLook rows v c → AsksLook rows v d → c ≡ d
 one-look rows v (command.Look m images source view) (command.Look n images' source' view') a b =
-    let machine = one-machine rows m n a.1 b.1 in
-    let files : images ≡ images' = a.2 ∙ sym b.2 in
-    let run = one-source rows source source' a.3 b.3 in
-    let same : view ≡ view' = a.4 ∙ sym b.4 in
+    let machine = one-machine rows m n a.2 b.2 in
+    let files : images ≡ images' = a.3 ∙ sym b.3 in
+    let run = one-source rows source source' a.4 b.4 in
+    let same : view ≡ view' = a.5 ∙ sym b.5 in
     λ i. command.Look (machine i) (files i) (run i) (same i)
 one-look rows v (command.LookOnBus m images steps seed view) (command.LookOnBus n images' steps' seed' view') a b =
     let machine = one-machine rows m n a.1 b.1 in
@@ -219,10 +228,23 @@ one-look rows v (command.LookOnBus m images steps seed view) (command.LookOnBus 
     let start = one-said rows Seed seed seed' a.4 b.4 in
     let same : view ≡ view' = a.5 ∙ sym b.5 in
     λ i. command.LookOnBus (machine i) (files i) (most i) (start i) (same i)
+one-look rows v (command.Long m images begin steps view keep) (command.Long n images' begin' steps' view' keep') a b =
+    let machine = one-machine rows m n a.2 b.2 in
+    let files : images ≡ images' = a.3 ∙ sym b.3 in
+    let start = one-begin rows begin begin' a.4 b.4 in
+    let most = one-said rows Steps steps steps' a.5 b.5 in
+    let same : view ≡ view' = a.6 ∙ sym b.6 in
+    let kept : keep ≡ keep' = a.7 ∙ sym b.7 in
+    λ i. command.Long (machine i) (files i) (start i) (most i) (same i) (kept i)
 one-look rows v (command.Look m images source view) (command.LookOnBus n images' steps seed view') a b = absurd (a.0 b.0)
 one-look rows v (command.LookOnBus m images steps seed view) (command.Look n images' source view') a b = absurd (b.0 a.0)
+one-look rows v (command.Look m images source view) (command.Long n images' begin steps view' keep) a b = absurd (a.1 b.1)
+one-look rows v (command.Long m images begin steps view keep) (command.Look n images' source view') a b = absurd (b.1 a.1)
+one-look rows v (command.LookOnBus m images steps seed view) (command.Long n images' begin steps' view' keep) a b = absurd (b.0 a.0)
+one-look rows v (command.Long m images begin steps view keep) (command.LookOnBus n images' steps' seed view') a b = absurd (a.0 b.0)
 one-look rows v (command.Look m images source view) _ a b = absurd b
 one-look rows v (command.LookOnBus m images steps seed view) _ a b = absurd b
+one-look rows v (command.Long m images begin steps view keep) _ a b = absurd b
 one-look rows v _ d a b = absurd a
 
 one-looking : (verb : Verb) (rows : List Row) (c d : Command) → ((v : View) × AsksLook rows v c × AsksView verb rows v)

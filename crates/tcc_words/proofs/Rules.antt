@@ -79,17 +79,18 @@ pub trace_made : (verb : Verb) (name : Text) (bare source from to states made : 
 unfolding grammar
 trace_made verb name bare source from to states made v n e0 e1 e2 e3 e4 e5 = rw (e5, e4, e3, e2, e1, e0, n, v) refl
 
-pub count_made : (verb : Verb) (name : Text) (bare source csv every made : App) → verb ≡ Count → name ≡ verb_word verb
+pub count_made : (verb : Verb) (name : Text) (bare source csv every resumed written made : App) → verb ≡ Count → name ≡ verb_word verb
     → bare ≡ plain name [] → source ≡ with_rules source_rules bare → csv ≡ with_rule source (flag (codes "csv") (codes "csv"))
-    → every ≡ with_rule csv (option (codes "every")) → made ≡ with_rule every (places (codes "image")) → made ≡ grammar verb
+    → every ≡ with_rule csv (option (codes "every")) → resumed ≡ with_rule every (option (codes "resume"))
+    → written ≡ with_rule resumed (option (codes "checkpoint")) → made ≡ with_rule written (places (codes "image")) → made ≡ grammar verb
 unfolding grammar
-count_made verb name bare source csv every made v n e0 e1 e2 e3 e4 = rw (e4, e3, e2, e1, e0, n, v) refl
+count_made verb name bare source csv every resumed written made v n e0 e1 e2 e3 e4 e5 e6 = rw (e6, e5, e4, e3, e2, e1, e0, n, v) refl
 
-pub state_made : (verb : Verb) (name : Text) (bare source events made : App) → verb ≡ State → name ≡ verb_word verb
+pub state_made : (verb : Verb) (name : Text) (bare source events resumed made : App) → verb ≡ State → name ≡ verb_word verb
     → bare ≡ plain name [] → source ≡ with_rules source_rules bare → events ≡ with_rule source (option (codes "events"))
-    → made ≡ with_rule events (places (codes "image")) → made ≡ grammar verb
+    → resumed ≡ with_rule events (option (codes "resume")) → made ≡ with_rule resumed (places (codes "image")) → made ≡ grammar verb
 unfolding grammar
-state_made verb name bare source events made v n e0 e1 e2 e3 = rw (e3, e2, e1, e0, n, v) refl
+state_made verb name bare source events resumed made v n e0 e1 e2 e3 e4 = rw (e4, e3, e2, e1, e0, n, v) refl
 
 pub outcomes_made : (verb : Verb) (name : Text) (bare cores memory states longest tell made : App) → verb ≡ Outcomes
     → name ≡ verb_word verb → bare ≡ plain name [] → cores ≡ with_rule bare (option (codes "cores"))

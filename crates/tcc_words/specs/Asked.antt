@@ -1,5 +1,5 @@
 -- What the words of a command line ask for, and why they are refused.
-use Rattle.std.specs.Prelude.{ℕ, ◌≡◌, ◌≤◌, List, [], Option, Some, None, ◌↔◌, IsTrue, IsSome, MatchOption, option_map}
+use Rattle.std.specs.Prelude.{ℕ, ◌≡◌, ◌⊎◌, ◌≤◌, List, [], Option, Some, None, ◌↔◌, IsTrue, IsSome, MatchOption, option_map}
 use Rattle.std.specs.Prelude.{slice_get, length, codes, unwrap_or}
 use Rattle.clap.specs.Words.{Row, Text, first_of, matches_of}
 use Rattle.clap.specs.Faults.{fault_of}
@@ -11,6 +11,8 @@ use Rattle.tcc_words.specs.Fields.{AllowsIn, BreaksFirst, IsFlagged, IsSaid, ima
 use Rattle.run_outcomes.specs.declared.outcomes.Tell.{Tell}
 use Rattle.work_gen.specs.declared.work.Work.{Work}
 use Rattle.tcc_words.specs.declared.fields.Values.{Values}
+use Rattle.tcc_words.specs.declared.command.Begin.{Begin}
+use Rattle.tcc_words.specs.declared.command.Begin.TheVariants as begin
 use Rattle.tcc_words.specs.declared.command.Command.{Command}
 use Rattle.tcc_words.specs.declared.command.Command.TheVariants as command
 use Rattle.tcc_words.specs.declared.command.Field.{Field}
@@ -33,6 +35,16 @@ pub record GoTogether (rows : List Row) : Type 0 where
       → (first_of (codes "steps") rows ≡ None) × (first_of (codes "seed") rows ≡ None) × (IsFlagged (codes "bus") rows → ⊥)
   pub bus : IsFlagged (codes "bus") rows → first_of (codes "dirs") rows ≡ None
 
+-- the run goes on from a checkpoint, or is written down as one
+abbrev pub IsLong : List Row → Type 0
+IsLong rows = IsSome (first_of (codes "resume") rows) ⊎ IsSome (first_of (codes "checkpoint") rows)
+
+-- a checkpoint that is resumed stands without a seed, and a long run with neither a schedule nor the bus nor totals as it goes
+pub record MayBeLong (rows : List Row) : Type 0 where
+  pub seed : IsSome (first_of (codes "resume") rows) → first_of (codes "seed") rows ≡ None
+  pub plain : IsLong rows
+      → (first_of (codes "schedule") rows ≡ None) × (IsFlagged (codes "bus") rows → ⊥) × (first_of (codes "every") rows ≡ None)
+
 -- each place of the command has its word, and its options go together
 abbrev pub HasPlaces : Verb → List Row → Type 0
 HasPlaces Run rows = 1 ≤ length (images_of rows)
@@ -43,8 +55,8 @@ HasPlaces Why rows = IsSome (first_of (codes "schedule") rows) × (1 ≤ length 
 HasPlaces Phases rows = 1 ≤ length (images_of rows)
 HasPlaces Bus rows = 1 ≤ length (images_of rows)
 HasPlaces Trace rows = (1 ≤ length (images_of rows)) × GoTogether rows
-HasPlaces Count rows = (1 ≤ length (images_of rows)) × GoTogether rows
-HasPlaces State rows = (1 ≤ length (images_of rows)) × GoTogether rows
+HasPlaces Count rows = (1 ≤ length (images_of rows)) × GoTogether rows × MayBeLong rows
+HasPlaces State rows = (1 ≤ length (images_of rows)) × GoTogether rows × MayBeLong rows
 HasPlaces Outcomes rows = 1 ≤ length (images_of rows)
 HasPlaces Follow rows = IsSome (first_of (codes "report") rows) × (1 ≤ length (images_of rows))
 
@@ -89,13 +101,22 @@ AsksSource rows (source.Seed steps seed) =
     (first_of (codes "schedule") rows ≡ None) × IsSaid rows Steps steps × IsSaid rows Seed seed
 AsksSource rows (source.Schedule name) = first_of (codes "schedule") rows ≡ Some name
 
+-- how a long run begins: from the checkpoint that is resumed, or by the seed
+abbrev pub AsksBegin : List Row → Begin → Type 0
+AsksBegin rows (begin.Seed seed) = (first_of (codes "resume") rows ≡ None) × IsSaid rows Seed seed
+AsksBegin rows (begin.Checkpoint name) = first_of (codes "resume") rows ≡ Some name
+
 -- a command that looks so
 abbrev pub AsksLook : List Row → View → Command → Type 0
 AsksLook rows v (command.Look machine images source view) =
-    (IsFlagged (codes "bus") rows → ⊥) × HasMachine rows machine × (images ≡ images_of rows) × AsksSource rows source × (view ≡ v)
+    (IsFlagged (codes "bus") rows → ⊥) × (IsLong rows → ⊥) × HasMachine rows machine × (images ≡ images_of rows) × AsksSource rows source
+    × (view ≡ v)
 AsksLook rows v (command.LookOnBus machine images steps seed view) =
     IsFlagged (codes "bus") rows × HasMachine rows machine × (images ≡ images_of rows) × IsSaid rows Steps steps × IsSaid rows Seed seed
     × (view ≡ v)
+AsksLook rows v (command.Long machine images begin steps view keep) =
+    (IsFlagged (codes "bus") rows → ⊥) × IsLong rows × HasMachine rows machine × (images ≡ images_of rows) × AsksBegin rows begin
+    × IsSaid rows Steps steps × (view ≡ v) × (keep ≡ first_of (codes "checkpoint") rows)
 AsksLook rows v _ = ⊥
 
 -- what is told of the run

@@ -7,7 +7,7 @@ use Rattle.tcc_words.specs.Asked.{IsCommand}
 use Rattle.tcc_words.specs.Fields.{count_limit}
 use Rattle.tcc_words.specs.declared.command.Command.{Command}
 use Rattle.tcc_words.specs.declared.command.Command.TheVariants.{Run, Replay, Serial, Trial, Why, Phases, Bus, Look}
-use Rattle.tcc_words.specs.declared.command.Command.TheVariants.{LookOnBus, Outcomes, Follow}
+use Rattle.tcc_words.specs.declared.command.Command.TheVariants.{LookOnBus, Outcomes, Follow, Long}
 use Rattle.tcc_words.specs.declared.command.Source.{Source}
 use Rattle.tcc_words.specs.declared.command.Source.TheVariants.{Seed, Schedule}
 use Rattle.tcc_words.specs.declared.command.View.{View}
@@ -25,6 +25,7 @@ config_of (Look machine images source view) = machine.config
 config_of (LookOnBus machine images steps seed view) = machine.config
 config_of (Outcomes machine images limits tell) = machine.config
 config_of (Follow machine list images keep) = machine.config
+config_of (Long machine images begin steps view keep) = machine.config
 
 -- so many events of a run that is looked at by a seed: 2^40 where it is counted, and else 4,194,304
 abbrev pub most_steps : View → ℕ
@@ -47,6 +48,12 @@ abbrev pub IsNearOnBus : View → Type 0
 IsNearOnBus (Rows every) = ⊥
 IsNearOnBus view = IsNear view
 
+-- a long run is counted to its end, or its state is shown
+abbrev pub IsLongView : View → Type 0
+IsLongView (Count csv) = Unit {0}
+IsLongView (State events) = events ≤ text_limit
+IsLongView _ = ⊥
+
 -- 1 to 16 images, at most 4,194,304 events but where they are counted, 1 to 16 threads and only with a record, 1 to 1024 acts in a turn,
 -- a workload's number from 1 to 2047; where there are no directories the settings have one; at least one state, and one instruction
 abbrev pub AreNumbers : Command → Type 0
@@ -66,6 +73,8 @@ AreNumbers (LookOnBus machine images steps seed view) =
 AreNumbers (Outcomes machine images limits tell) =
     (1 ≤ length images) × (length images ≤ 16) × (1 ≤ limits.states) × (1 ≤ limits.longest)
 AreNumbers (Follow machine list images keep) = (1 ≤ length images) × (length images ≤ 16)
+AreNumbers (Long machine images begin steps view keep) =
+    (1 ≤ length images) × (length images ≤ 16) × (steps ≤ most_steps view) × IsLongView view
 
 pub record IsInBounds (c : Command) : Type 0 where
   pub allowed : IsAllowed (config_of c)

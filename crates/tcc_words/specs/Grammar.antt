@@ -80,8 +80,10 @@ rules Phases = machine_rules ++ event_rules ++ record_rules
 rules Bus = core_rules ++ memory_rules ++ event_rules ++ places (codes "image") ∷ []
 rules Trace =
     source_rules ++ option (codes "from") ∷ option (codes "to") ∷ flag (codes "records") (codes "states") ∷ places (codes "image") ∷ []
-rules Count = source_rules ++ flag (codes "csv") (codes "csv") ∷ option (codes "every") ∷ places (codes "image") ∷ []
-rules State = source_rules ++ option (codes "events") ∷ places (codes "image") ∷ []
+rules Count =
+    source_rules ++ flag (codes "csv") (codes "csv") ∷ option (codes "every") ∷ option (codes "resume") ∷ option (codes "checkpoint")
+    ∷ places (codes "image") ∷ []
+rules State = source_rules ++ option (codes "events") ∷ option (codes "resume") ∷ places (codes "image") ∷ []
 rules Outcomes =
     option (codes "cores") ∷ memory_rules ++ option (codes "states") ∷ option (codes "longest") ∷ option (codes "tell")
     ∷ places (codes "image") ∷ []

@@ -96,6 +96,15 @@ pub enum Source {
     Schedule(Text),
 }
 
+/// How a long run begins.
+#[derive(Debug, Drop)]
+pub enum Begin {
+    /// Before its first event, by this seed.
+    Seed(u64),
+    /// From the checkpoint in this file.
+    Checkpoint(Text),
+}
+
 /// What is told of a run.
 #[derive(Clone, Copy, Debug, PartialEq, Eq)]
 pub enum View {
@@ -195,6 +204,16 @@ pub enum Command {
         machine: Machine,
         list: Text,
         images: List<Text>,
+        keep: Option<Text>,
+    },
+    /// Count a run of the images, or show its state, from its beginning or from a checkpoint, for at most `steps` events more that its
+    /// seed chooses. It is written down to the file `keep` at its end, where there is one.
+    Long {
+        machine: Machine,
+        images: List<Text>,
+        begin: Begin,
+        steps: u64,
+        view: View,
         keep: Option<Text>,
     },
 }

@@ -79,12 +79,15 @@ fn grammar<'a>(alloc: Global, verb: Verb, name: &'a str) -> Result<clap::Command
             let source = with_source(alloc, named)?;
             let csv = with_flag(alloc, source, "csv", "csv")?;
             let every = with_option(alloc, csv, "every")?;
-            with_places(alloc, every, "image")
+            let resume = with_option(alloc, every, "resume")?;
+            let checkpoint = with_option(alloc, resume, "checkpoint")?;
+            with_places(alloc, checkpoint, "image")
         }
         Verb::State => {
             let source = with_source(alloc, named)?;
             let events = with_option(alloc, source, "events")?;
-            with_places(alloc, events, "image")
+            let resume = with_option(alloc, events, "resume")?;
+            with_places(alloc, resume, "image")
         }
         Verb::Follow => {
             let machine = with_machine(alloc, named)?;

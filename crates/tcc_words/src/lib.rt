@@ -8,7 +8,7 @@ mod laws;
 mod numbers;
 mod reading;
 
-pub use command::{Command, Field, Machine, Source, Verb, View, WordsFault};
+pub use command::{Begin, Command, Field, Machine, Source, Verb, View, WordsFault};
 pub use fields::MAX_COUNTED;
 pub use laws::{commands_are_in_bounds, words_ask_for_one_command};
 pub use reading::settings;

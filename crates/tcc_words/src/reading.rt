@@ -1,12 +1,12 @@
 // From words to a command.
-ghost use Rattle.std.specs.Prelude.{◌≡◌, ◌↔◌, ◌≤◌, codes, length, List as Seq, map, Some, IfOk, IfErr, IsSome, IsTrue};
+ghost use Rattle.std.specs.Prelude.{◌≡◌, ◌↔◌, ◌≤◌, length, List as Seq, map, Some, IfOk, IfErr, IsSome, IsTrue};
 ghost use Rattle.clap.specs.Words.{Row, first_of, found_of, rows_of};
 ghost use Rattle.tcc_words.specs.Fields.{IsFlagged, images_of};
 ghost use Rattle.tcc_words.specs.declared.command.Verb.TheVariants.{Count, Trial};
-ghost use Rattle.tcc_words.specs.Asked.{Asks, AsksLook, AsksSource, AsksView, GoTogether, HasMachine, HasPlaces, HasSettings, HasValues};
-ghost use Rattle.tcc_words.specs.Asked.{IsCommand, IsRefused};
+ghost use Rattle.tcc_words.specs.Asked.{Asks, AsksBegin, AsksLook, AsksSource, AsksView, GoTogether, HasMachine, HasPlaces, HasSettings};
+ghost use Rattle.tcc_words.specs.Asked.{HasValues, IsCommand, IsLong, IsRefused, MayBeLong};
 
-use crate::command::{Command, Machine, Source, Verb, View, WordsFault};
+use crate::command::{Begin, Command, Machine, Source, Verb, View, WordsFault};
 use crate::fields::{Values, images, is_flagged, read_values, text};
 use crate::grammar::read;
 use clap::ArgMatches;
@@ -52,7 +52,10 @@ fn has_places(verb: Verb, matches: &ArgMatches) -> bool
         Verb::Replay | Verb::Why => text(matches, "schedule").is_some() && has_images(matches),
         Verb::Serial | Verb::Follow => text(matches, "report").is_some() && has_images(matches),
         Verb::Trial => text(matches, "kind").is_some() && text(matches, "number").is_some(),
-        Verb::Trace | Verb::Count | Verb::State => has_images(matches) && go_together(matches),
+        Verb::Trace => has_images(matches) && go_together(matches),
+        Verb::Count | Verb::State => {
+            has_images(matches) && go_together(matches) && may_be_long(matches)
+        }
     }
 }
 
@@ -65,6 +68,26 @@ fn go_together(matches: &ArgMatches) -> bool
     }
     text(matches, "schedule").is_none()
         || (text(matches, "steps").is_none() && text(matches, "seed").is_none())
+}
+
+/// Whether no seed stands beside a checkpoint that is resumed, and no schedule, bus or totals as it goes beside a long run.
+fn may_be_long(matches: &ArgMatches) -> bool
+    ensures { IsTrue result ↔ MayBeLong (rows_of (found_of matches.now)) }
+{
+    if !is_long(matches) {
+        return true;
+    }
+    (text(matches, "resume").is_none() || text(matches, "seed").is_none())
+        && text(matches, "schedule").is_none()
+        && !is_flagged(matches, "bus")
+        && text(matches, "every").is_none()
+}
+
+/// Whether the run goes on from a checkpoint, or is written down as one.
+fn is_long(matches: &ArgMatches) -> bool
+    ensures { IsTrue result ↔ IsLong (rows_of (found_of matches.now)) }
+{
+    text(matches, "resume").is_some() || text(matches, "checkpoint").is_some()
 }
 
 /// Whether an image is named.
@@ -96,7 +119,7 @@ fn command(
             seed: values.seed,
             threads: values.threads,
             batch: values.batch,
-            keep: record_name(alloc, matches)?,
+            keep: file_name(alloc, matches, "record")?,
         }),
         Verb::Replay => Ok(Command::Replay {
             machine: machine(matches, values.config),
@@ -119,7 +142,7 @@ fn command(
             images: image_names(alloc, matches)?,
             steps: values.steps,
             seed: values.seed,
-            keep: record_name(alloc, matches)?,
+            keep: file_name(alloc, matches, "record")?,
         }),
         Verb::Bus => Ok(Command::Bus {
             machine: machine(matches, values.config),
@@ -150,7 +173,7 @@ fn command(
             machine: machine(matches, values.config),
             list: given(alloc, matches, "report")?,
             images: image_names(alloc, matches)?,
-            keep: record_name(alloc, matches)?,
+            keep: file_name(alloc, matches, "record")?,
         }),
     }
 }
@@ -187,6 +210,16 @@ fn look(
             view,
         });
     }
+    if is_long(matches) {
+        return Ok(Command::Long {
+            machine: machine(matches, values.config),
+            images: image_names(alloc, matches)?,
+            begin: begin(alloc, matches, values)?,
+            steps: values.steps,
+            view,
+            keep: file_name(alloc, matches, "checkpoint")?,
+        });
+    }
     Ok(Command::Look {
         machine: machine(matches, values.config),
         images: image_names(alloc, matches)?,
@@ -206,6 +239,17 @@ fn source(alloc: Global, matches: &ArgMatches, values: &Values) -> Result<Source
             steps: values.steps,
             seed: values.seed,
         }),
+    }
+}
+
+/// How a long run begins, with these values.
+fn begin(alloc: Global, matches: &ArgMatches, values: &Values) -> Result<Begin, NoMemory>
+    requires { HasValues (rows_of (found_of matches.now)) values.now }
+    ensures { IfOk result (AsksBegin (rows_of (found_of matches.now))) }
+{
+    match text(matches, "resume") {
+        Some(name) => Ok(Begin::Checkpoint(owned(alloc, name)?)),
+        None => Ok(Begin::Seed(values.seed)),
     }
 }
 
@@ -249,12 +293,12 @@ fn given(alloc: Global, matches: &ArgMatches, name: &str) -> Result<Text, NoMemo
     }
 }
 
-/// The name of the file for the schedule, where it is given.
-fn record_name(alloc: Global, matches: &ArgMatches) -> Result<Option<Text>, NoMemory>
-    ensures { IfOk result (λ keep. keep ≡ first_of (codes "record") (rows_of (found_of matches.now))) }
+/// The name of the file of this option, where it is given.
+fn file_name(alloc: Global, matches: &ArgMatches, name: &str) -> Result<Option<Text>, NoMemory>
+    ensures { IfOk result (λ keep. keep ≡ first_of name.now (rows_of (found_of matches.now))) }
 {
-    match text(matches, "record") {
-        Some(name) => Ok(Some(owned(alloc, name)?)),
+    match text(matches, name) {
+        Some(file) => Ok(Some(owned(alloc, file)?)),
         None => Ok(None),
     }
 }

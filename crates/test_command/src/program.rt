@@ -1,6 +1,7 @@
 // The program's answers and texts, over files and outputs in memory.
 mod atomics;
 mod buses;
+mod checkpoints;
 mod images;
 mod looks;
 mod outcomes;

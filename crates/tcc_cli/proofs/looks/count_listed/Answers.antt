@@ -12,6 +12,6 @@ pub returns : goal.returns
 unfolding started
 returns c =
     counted-so (started c.args.loaded.now) c.config.result.now (λ (es : List Event). es ≡ map event_of c.args.listed.now) _ _ _ _
-    c.args.csv None (λ f. f.done) (λ f. string_bytes f.text) c.tables.result
+    c.args.csv None (λ f. f.done) (λ f. string_bytes f.text) c.counted_tables.result
     (listed-so event_of _ _ _ c.new-events.ensures.at c.new-events.ensures.events)
-    c.in_ok-counted.ensures c.config.ensures c.tables.ensures.done c.tables.ensures.text
+    c.in_ok-counted.ensures c.config.ensures c.counted_tables.ensures.done c.counted_tables.ensures.text

@@ -17,7 +17,7 @@ unfolding started
 returns c =
     counted-so (started c.args.loaded.now) c.config.result.now
     (ArePicked (started c.args.loaded.now) c.args.seed c.args.steps count_limit) _ _ _ _ c.args.csv (Some (c.args.seed, c.args.steps))
-    (λ f. f.done) (λ f. string_bytes f.text) c.tables.result
+    (λ f. f.done) (λ f. string_bytes f.text) c.counted_tables.result
     (picked-so (started c.args.loaded.now) _ _ c.args.seed _ (c.new-events.ensures.left ∙ c.min-most.ensures)
     c.new-events.ensures.chooser)
-    c.in_ok-counted.ensures c.config.ensures c.tables.ensures.done c.tables.ensures.text
+    c.in_ok-counted.ensures c.config.ensures c.counted_tables.ensures.done c.counted_tables.ensures.text

@@ -53,16 +53,17 @@ returns-in_ok-states-in-Trace c =
     c.in_ok-states-in-Trace.ensures h)
     c.with_places-in-Trace.ensures
 
-pub returns-in_ok-every-in-Count : goal.returns-in_ok-every-in-Count
-returns-in_ok-every-in-Count c =
-    IfOk-weaker c.with_places-in-Count.result _ _ (λ m h. count_made c.args.verb c.args.name.now _ _ _ _ _ c.in-Count.is c.requires
-    c.bare-named.ensures c.in_ok-source-in-Count.ensures c.in_ok-csv-in-Count.ensures c.in_ok-every-in-Count.ensures h)
+pub returns-in_ok-checkpoint-in-Count : goal.returns-in_ok-checkpoint-in-Count
+returns-in_ok-checkpoint-in-Count c =
+    IfOk-weaker c.with_places-in-Count.result _ _ (λ m h. count_made c.args.verb c.args.name.now _ _ _ _ _ _ _ c.in-Count.is c.requires
+    c.bare-named.ensures c.in_ok-source-in-Count.ensures c.in_ok-csv-in-Count.ensures c.in_ok-every-in-Count.ensures
+    c.in_ok-resume-in-Count.ensures c.in_ok-checkpoint-in-Count.ensures h)
     c.with_places-in-Count.ensures
 
-pub returns-in_ok-events-in-State : goal.returns-in_ok-events-in-State
-returns-in_ok-events-in-State c =
-    IfOk-weaker c.with_places-in-State.result _ _ (λ m h. state_made c.args.verb c.args.name.now _ _ _ _ c.in-State.is c.requires
-    c.bare-named.ensures c.in_ok-source-in-State.ensures c.in_ok-events-in-State.ensures h)
+pub returns-in_ok-resume-in-State : goal.returns-in_ok-resume-in-State
+returns-in_ok-resume-in-State c =
+    IfOk-weaker c.with_places-in-State.result _ _ (λ m h. state_made c.args.verb c.args.name.now _ _ _ _ _ c.in-State.is c.requires
+    c.bare-named.ensures c.in_ok-source-in-State.ensures c.in_ok-events-in-State.ensures c.in_ok-resume-in-State.ensures h)
     c.with_places-in-State.ensures
 
 pub returns-in_ok-tell-in-Outcomes : goal.returns-in_ok-tell-in-Outcomes

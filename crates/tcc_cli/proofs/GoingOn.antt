@@ -1,0 +1,98 @@
+-- Runs that begin before their first event or go on from a checkpoint.
+use Rattle.std.proofs.Common.{◌≡◌, ◌+◌, ℕ, Bool, List, Option, Some, length}
+use Rattle.std.proofs.Common.{Result, Ok, Err, IfOk, refl, sym, ap, subst, ◌∙◌, if◌then◌else◌}
+use Rattle.image_load.specs.Contents.{Contents, started}
+use Rattle.image_load.specs.Start.{Start}
+use Rattle.net_core.specs.Machine.{history_of, start_of}
+use Rattle.rules_tcc.specs.Step.{History}
+use Rattle.tcc_base.specs.Settings.{Settings}
+use Rattle.tcc_cli.proofs.Watched.{counted-so, run-so}
+use Rattle.tcc_cli.specs.Long.{RanOn, all_steps, more_of, steps_of}
+use Rattle.tcc_cli.specs.Looks.{LookedAt, view_text}
+use Rattle.tcc_words.specs.declared.command.View.{View}
+use Rattle.tcc_words.specs.declared.command.View.TheVariants.{Count, State}
+use Rattle.watch_count.specs.Counts.{Counts}
+use Rattle.watch_count.specs.Csv.{csv_text}
+use Rattle.watch_count.specs.Text.{count_text}
+use Rattle.watch_run.specs.Looked.{IsCounted}
+use Rattle.watch_run.specs.Runs.{IsRunOf, RunData, seed_events}
+use Rattle.watch_state.specs.Text.{state_text}
+
+-- what is counted of a run, whichever number of steps it is of
+pub counts-told : {A E : Type 0} (c : Contents) (r : RunData) (d csv : Bool) (settings : Settings) (seed asked events : ℕ) (counts : Counts)
+    (done : A → Bool) (text : A → List ℕ) (x : Result A E)
+    → ((k : Contents) (n : ℕ) → IsRunOf k n r → IsCounted (started k) (seed_events k r.seed n) d r.machine.events r.counts)
+    → settings ≡ (started c).settings → seed ≡ r.seed → events ≡ r.machine.events → counts ≡ r.counts → IfOk x (λ f. done f ≡ d)
+    → IfOk x (λ f. text f ≡ (if csv then csv_text settings (Some (seed, asked)) d events counts else count_text settings d events counts))
+    → IfOk x (λ f. (n : ℕ) → IsRunOf c n r → LookedAt (started c) (λ es. es ≡ seed_events c r.seed n)
+    (view_text (Count csv) (Some (r.seed, asked)) (started c)) (done f) (text f))
+counts-told {E = E} c r d csv settings seed asked events counts done text (Ok f) counted q own all are is told = λ n k.
+    let es = seed_events c r.seed n in
+    let Told : ℕ → Type 0 =
+    λ s. LookedAt (started c) (λ xs. xs ≡ es) (view_text (Count csv) (Some (s, asked)) (started c)) (done f) (text f) in
+    let here : IsCounted (started c) es d events counts =
+    subst (λ cs. IsCounted (started c) es d events cs) (sym are)
+    (subst (λ e. IsCounted (started c) es d e r.counts) (sym all) (counted c n k)) in
+    subst Told own
+    (counted-so {E = E} (started c) settings (λ xs. xs ≡ es) es d events counts csv (Some (seed, asked)) done text (Ok f) refl here q is
+    told)
+counts-told c r d csv settings seed asked events counts done text (Err e) counted q own all are is told = tt
+
+-- a state's text tells of the world, and not of the commits
+state-by-world : (s : Start) (done : Bool) (n : ℕ) (g h : History) → g.world ≡ h.world → state_text s done n g ≡ state_text s done n h
+unfolding state_text
+state-by-world s done n g h is = ap (λ w. state_text s done n (record { world = w; commits = h.commits })) is
+
+one-end : (x : Option History) (g h : History) → x ≡ Some g → x ≡ Some h → g ≡ h
+one-end x g h a b = some (sym a ∙ b)
+  where
+    some : Some g ≡ Some h → g ≡ h
+    some e = cc
+
+-- the state of a run, whichever number of steps it is of
+pub state-told : (c : Contents) (r : RunData) (d : Bool) (events : ℕ) (seed : Option (ℕ × ℕ)) (text : List ℕ)
+    → ((k : Contents) (n : ℕ) → IsRunOf k n r → IsCounted (started k) (seed_events k r.seed n) d r.machine.events r.counts)
+    → r.machine.cores.code ≡ c → text ≡ state_text (start_of r.machine) d r.machine.events (history_of r.machine)
+    → (n : ℕ) → IsRunOf c n r → LookedAt (started c) (λ es. es ≡ seed_events c r.seed n) (view_text (State events) seed (started c)) d text
+unfolding started
+state-told c r d events seed text counted code told n k =
+    let all = counted c n k in
+    let ends : k.counted.ends ≡ all.ends = one-end _ k.counted.ends all.ends k.counted.ran all.leads.is_run in
+    record {
+      events = seed_events c r.seed n;
+      ends = all.ends;
+      are = refl;
+      runs = run-so (started c) (seed_events c r.seed n) d d all.ends all.leads refl;
+      text_is = told
+          ∙ (λ i. state_text (started (code i)) d (all.all i) (history_of r.machine))
+          ∙ state-by-world (started c) d (length (seed_events c r.seed n)) (history_of r.machine) all.ends
+          (k.counted.kept.world ∙ ap (λ h. h.world) ends);
+    }
+
+-- a run that went on, was told of and left
+pub ran-on : (c : Contents) (from mid ends : RunData) (steps more asked : ℕ) (view : View) (IsKept : RunData → Type 0) (done : Bool)
+    (text : List ℕ) → more ≡ steps_of view steps → asked ≡ all_steps steps from → mid.seed ≡ from.seed
+    → ((k : Contents) (n : ℕ) → IsRunOf k n from → IsRunOf k (n + more_of more from) mid)
+    → ((k : Contents) (n : ℕ) → IsRunOf k n mid → IsRunOf k n ends) → ends.seed ≡ mid.seed → IsKept ends
+    → ((n : ℕ) → IsRunOf c n mid → LookedAt (started c) (λ es. es ≡ seed_events c mid.seed n)
+    (view_text view (Some (mid.seed, asked)) (started c)) done text)
+    → RanOn c from steps view IsKept done text
+ran-on c from mid ends steps more asked view IsKept done text is all seed went same still kept looked = record {
+  ends = ends;
+  seed = still ∙ seed;
+  went = λ n h. same c (n + more_of (steps_of view steps) from) (further n h);
+  kept = kept;
+  looked = λ n h. tells n h;
+}
+  where
+    further : (n : ℕ) → IsRunOf c n from → IsRunOf c (n + more_of (steps_of view steps) from) mid
+    further n h = subst (λ m. IsRunOf c (n + more_of m from) mid) is (went c n h)
+
+    tells : (n : ℕ) → IsRunOf c n from
+        → LookedAt (started c) (λ es. es ≡ seed_events c from.seed (n + more_of (steps_of view steps) from))
+        (view_text view (Some (from.seed, all_steps steps from)) (started c)) done text
+    tells n h =
+        let k = n + more_of (steps_of view steps) from in
+        let Told : ℕ → ℕ → Type 0 =
+        λ s a. LookedAt (started c) (λ es. es ≡ seed_events c s k) (view_text view (Some (s, a)) (started c)) done text in
+        subst (λ s. Told s (all_steps steps from)) seed (subst (Told mid.seed) all (looked k (further n h)))
