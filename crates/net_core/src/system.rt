@@ -1,6 +1,7 @@
 // The machine as one object, and its start.
-ghost use Rattle.std.specs.Prelude.{◌≡◌, ◌↔◌, [], IfOk, IsTrue, OnOk};
+ghost use Rattle.std.specs.Prelude.{◌≡◌, ◌≤◌, ◌↔◌, [], IfOk, IsTrue, OnOk};
 ghost use Rattle.image_load.specs.Contents.{started};
+ghost use Rattle.net_core.specs.Limits.{machine_limit};
 ghost use Rattle.net_core.specs.Machine.{history_of};
 ghost use Rattle.net_core.specs.Whole.{IsSound};
 ghost use Rattle.rules_riscv.specs.Starting.{at_start};
@@ -75,10 +76,11 @@ impl System {
         })
     }
 
-    /// The number of events that were taken. It takes constant time. A machine is sound, whatever has led to it: what is in flight is of
-    /// a kind and of a line that belong where it goes, a TID is with one core at most, and so on.
+    /// The number of events that were taken, at most 2^40. It takes constant time. A machine is sound, whatever has led to it: what is in
+    /// flight is of a kind and of a line that belong where it goes, a TID is with one core at most, and so on.
     pub fn events(&self) -> u64
         ensures count { result ≡ self.now.events }
+        ensures few { result ≤ machine_limit }
         ensures sound { IsSound self.now }
     {
         self.events
