@@ -1,5 +1,5 @@
 -- Where the events of a run lead to from what was loaded.
-use Rattle.std.proofs.Common.{ℕ, ◌≡◌, ◌↔◌, Bool, List, IsTrue, Some, ap, sym, subst, ◌∙◌}
+use Rattle.std.proofs.Common.{ℕ, ◌≡◌, ◌↔◌, Bool, List, IsTrue, Some, ap, subst, ◌∙◌}
 use Rattle.image_load.specs.Contents.{Contents, started}
 use Rattle.image_load.specs.Start.{Start}
 use Rattle.rv_code.specs.Machine.{program}
@@ -10,10 +10,10 @@ use Rattle.tcc_base.specs.Settings.{IsAllowed}
 use Rattle.rules_maps.specs.Nodes.{Event}
 use Rattle.rules_tcc.specs.Seen.{IsDone}
 use Rattle.rules_tcc.specs.State.{World}
-use Rattle.rules_tcc.specs.Step.{History, run, run_from}
+use Rattle.rules_tcc.specs.Step.{History, run}
 use Rattle.net_core.specs.Machine.{Machine, history_of, settings_of, start_of, world_of}
 use Rattle.watch_count.specs.Counts.{Counts}
-use Rattle.watch_run.specs.Going.{Went}
+use Rattle.watch_run.specs.Forgetting.{IsKeptOf}
 use Rattle.watch_run.specs.Looked.{HasCounted, IsCounted}
 use Rattle.watch_run.specs.Written.{LeadsTo}
 
@@ -36,28 +36,22 @@ serial-of : (c : Contents) (es : List Event) (h : History) → IsAllowed c.setti
 unfolding started
 serial-of c es h allowed r = rw r at (runs_give_the_plain_machine (started c) es allowed)
 
-pub leads : (c : Contents) (m n : Machine) (es : List Event) (done : Bool) → IsAllowed c.settings → StartsAt c m → Went m n es
-    → (IsTrue done ↔ IsDone (settings_of n) (world_of n)) → LeadsTo (started c) es done (history_of n)
-unfolding history_of started run
-leads c m n es done allowed s w is =
-    let ran : run c.settings (program (started c)) (world_at_start (started c)) es ≡ Some (history_of n) =
-    (λ i. run_from (sym s.code i).settings (program (started (sym s.code i))) es (sym s.first i)) ∙ w.ran in
-    record {
-      is_run = ran;
-      is_done = subst (λ k. IsTrue done ↔ IsDone k.settings (world_of n)) (w.code ∙ s.code) is;
-      serial = serial-of c es (history_of n) allowed ran;
-    }
+-- where the events led of whose history the machine keeps what is asked for
+pub leads-kept : (c : Contents) (es : List Event) (m : Machine) (ends : History) (done : Bool) → IsAllowed c.settings
+    → run c.settings (program (started c)) (world_at_start (started c)) es ≡ Some ends → IsKeptOf c.settings (history_of m) ends
+    → m.cores.code ≡ c → (IsTrue done ↔ IsDone (settings_of m) (world_of m)) → LeadsTo (started c) es done ends
+unfolding history_of started
+leads-kept c es m ends done allowed ran kept code is = record {
+  is_run = ran;
+  is_done = subst (λ w. IsTrue done ↔ IsDone c.settings w) kept.world
+      (subst (λ k. IsTrue done ↔ IsDone k.settings (world_of m)) code is);
+  serial = serial-of c es ends allowed ran;
+}
 
--- where a count led
+-- and where a count did
 pub leads-counted : (c : Contents) (es : List Event) (m : Machine) (counts : Counts) (done : Bool) → IsAllowed c.settings
     → (h : HasCounted c es m counts) → (IsTrue done ↔ IsDone (settings_of m) (world_of m)) → LeadsTo (started c) es done h.ends
-unfolding history_of started
-leads-counted c es m counts done allowed h is = record {
-  is_run = h.ran;
-  is_done = subst (λ w. IsTrue done ↔ IsDone c.settings w) h.kept.world
-      (subst (λ k. IsTrue done ↔ IsDone k.settings (world_of m)) h.code is);
-  serial = serial-of c es h.ends allowed h.ran;
-}
+leads-counted c es m counts done allowed h is = leads-kept c es m h.ends done allowed h.ran h.kept h.code is
 
 pub is-counted : (c : Contents) (es : List Event) (m : Machine) (counts : Counts) (done : Bool) (events : ℕ) → IsAllowed c.settings
     → HasCounted c es m counts → (IsTrue done ↔ IsDone (settings_of m) (world_of m)) → events ≡ m.events

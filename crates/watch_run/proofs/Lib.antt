@@ -1,5 +1,6 @@
 -- The proofs of this crate.
 mod Forgetting
+mod Further
 mod Going
 mod Kept
 mod Leading

@@ -1,6 +1,6 @@
 -- A run that goes on is the run of so many steps more.
 use Rattle.std.proofs.Common.{◌≡◌, ◌+◌, ◌-◌, ◌^◌, ◌≤◌, ◌↔◌, ℕ, min, Bool, IsTrue, List, [], ◌++◌, length}
-use Rattle.std.proofs.Common.{length-append, Option, refl, ap, sym, subst, ◌∙◌}
+use Rattle.std.proofs.Common.{length-append, Option, inl, inr, refl, ap, sym, subst, ◌∙◌}
 use Rattle.std.proofs.Common.{arith}
 use Rattle.rand_core.specs.Steps.{first_words}
 use Rattle.rand_pcg.specs.Lcg.{Lcg}
@@ -20,15 +20,20 @@ use Rattle.tcc_world.specs.Page.{Page, Written}
 use Rattle.watch_count.specs.Counts.{Counts}
 use Rattle.watch_run.specs.Forgetting.{StillKeeps}
 use Rattle.watch_run.specs.Looked.{CountedMore, HasCounted, IsCounted}
-use Rattle.watch_run.specs.Runs.{IsRunOf, IsRunTableBroken, IsRunTabled, RunData, RunTablesJoin, WentOn, seed_events}
+use Rattle.watch_run.specs.Runs.{IsRunOf, IsRunTableBroken, IsRunTabled, IsRunTrace, IsRunTraceBegun, RunData, RunTablesJoin, WentOn}
+use Rattle.watch_run.specs.Runs.{seed_events}
 use Rattle.watch_run.specs.Tables.{IsRestBroken, IsTableOnBroken, IsTabledFrom, IsTabledOn, open_table, rest_text, table_text}
+use Rattle.watch_run.specs.Traces.{BrokeOff, IsFurtherBegun, IsFurtherTrace, IsTraceOf, StandsBehind, shown_behind}
+use Rattle.watch_run.specs.Written.{IsTraceBegun}
 use Rattle.watch_run.specs.declared.tabling.Rows.{Rows}
+use Rattle.watch_run.specs.declared.telling.Shown.{Shown}
 use Rattle.watch_run.specs.declared.tracing.Broken.{Broken}
-use Rattle.watch_run.specs.declared.tracing.Broken.TheVariants.{Memory}
+use Rattle.watch_run.specs.declared.tracing.Broken.TheVariants.{Memory, Output}
 use Rattle.watch_run.proofs.Leading.{is-counted}
 use Rattle.watch_run.proofs.Picking.{coming_by}
 use Rattle.watch_run.proofs.Rested.{rest-none, tables-join}
 use Rattle.watch_run.proofs.Tallies.{counted-same, counted-still}
+use Rattle.watch_run.proofs.Traced.{further-none}
 
 -- before the first event
 pub run-none : (c : Contents) (m : Machine) (counts : Counts) (seed : ℕ) → HasCounted c [] m counts
@@ -155,6 +160,55 @@ run-tables-join c seed n steps rows done =
     ++ rest_text rows (started c) done es (length (seed_events c seed n))
     ≡ table_text rows (started c) done es) (sym parts)
     (tables-join rows (started c) done (seed_events c seed n) more)
+
+-- ---- its trace
+
+told-further : (shown : Shown) (steps : ℕ) (r : RunData) (m : Machine) (done : Bool) (text : List ℕ) → Settles r.machine m
+    → IsFurtherTrace shown m (next_events r steps m) done text → IsRunTrace shown r steps done text
+told-further shown steps r m done text s t = λ c n k.
+    let es = seed_events c r.seed n in
+    let settled = counted-settled c n r m k s in
+    subst (λ all. IsTraceOf (started c) (shown_behind r.machine.events shown) all done text) (further c n steps r m k settled)
+    (subst (λ first. IsTraceOf (started c) (shown_behind first shown) (es ++ next_events r steps m) done text) (sym k.counted.events)
+    (t c es r.counts settled))
+
+begun-further : (shown : Shown) (steps : ℕ) (r : RunData) (m : Machine) (a b : Option (List ℕ)) → Settles r.machine m
+    → IsFurtherBegun shown m (next_events r steps m) a b → IsRunTraceBegun shown r steps a b
+begun-further shown steps r m a b s t = λ c n k.
+    let es = seed_events c r.seed n in
+    let settled = counted-settled c n r m k s in
+    subst (λ all. IsTraceBegun (started c) (shown_behind r.machine.events shown) all a b) (further c n steps r m k settled)
+    (subst (λ first. IsTraceBegun (started c) (shown_behind first shown) (es ++ next_events r steps m) a b) (sym k.counted.events)
+    (t c es r.counts settled))
+
+pub run-traced : (shown : Shown) (steps : ℕ) (r : RunData) (m : Machine) (a b : Option (List ℕ)) (done : Bool) → Settles r.machine m
+    → StandsBehind (IsFurtherTrace shown m (next_events r steps m)) a b done → StandsBehind (IsRunTrace shown r steps) a b done
+run-traced shown steps r m a b done s t =
+    record { text = t.text; is = told-further shown steps r m done t.text s t.is; whole = t.whole }
+
+pub run-trace-broken : (shown : Shown) (steps : ℕ) (r : RunData) (m : Machine) (o : Written) (broken : Broken) → Settles r.machine m
+    → BrokeOff (IsFurtherTrace shown m (next_events r steps m)) (IsFurtherBegun shown m (next_events r steps m)) o broken
+    → BrokeOff (IsRunTrace shown r steps) (IsRunTraceBegun shown r steps) o broken
+run-trace-broken shown steps r m o Memory s t = begun-further shown steps r m o.before.bytes o.after.bytes s t
+run-trace-broken shown steps r m o Output s (inl t, rose) =
+    (inl (begun-further shown steps r m o.before.bytes o.after.bytes s t), rose)
+run-trace-broken shown steps r m o Output s (inr t, rose) = (
+  inr (record {
+    done = t.done;
+    text = t.text;
+    is = told-further shown steps r m t.done t.text s t.is;
+    n = t.n;
+    short = t.short;
+    cut = t.cut;
+  }),
+  rose,
+)
+
+-- nothing was written
+pub run-trace-none : (shown : Shown) (steps : ℕ) (r : RunData) (a : Option (List ℕ)) → IsRunTraceBegun shown r steps a a
+run-trace-none shown steps r a = λ c n k.
+    begun-further shown steps r r.machine a a (record { history = refl; unsent = k.counted.settled; events = refl; code = refl })
+    (further-none r.machine shown (next_events r steps r.machine) a) c n k
 
 -- commits were forgotten
 pub run-still : (r : RunData) (m : Machine) → StillKeeps r.machine m → (c : Contents) (n : ℕ) → IsRunOf c n r

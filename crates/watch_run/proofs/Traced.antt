@@ -13,22 +13,28 @@ use Rattle.base_lemmas.proofs.Lemmas.{appends-more, appends-none}
 use Rattle.rules_maps.specs.Nodes.{Event}
 use Rattle.rules_tcc.specs.Seen.{IsDone}
 use Rattle.rules_tcc.specs.State.{World}
+use Rattle.rules_tcc.specs.Step.{History, run, run_from}
 use Rattle.tcc_world.specs.Faults.{Rose}
-use Rattle.net_core.specs.Machine.{Machine, history_of, settings_of, start_of, world_of}
+use Rattle.net_core.specs.Machine.{Machine, history_of, settings_of, world_of}
 use Rattle.watch_trace.specs.Text.{head_text, tail_text}
 use Rattle.watch_trace.proofs.Lemmas.{trace-parts}
 use Rattle.watch_changes.specs.Text.{shown_from, shows, states_text}
 use Rattle.watch_changes.proofs.Lemmas.{plain-from, shown-parts}
+use Rattle.watch_count.specs.Counts.{Counts, nothing_counted}
 use Rattle.watch_run.specs.Going.{Went}
+use Rattle.watch_run.specs.Looked.{HasCounted}
 use Rattle.watch_run.specs.Shown.{lines_with, shown_lines, shown_trace, trace_with}
 use Rattle.watch_run.specs.Telling.{lines_from}
-use Rattle.watch_run.specs.Written.{HasBegun, IsEndCut, IsEnded, IsPart, IsPut, IsStopped, IsTraceBegun, IsTraceBroken, IsTraceCut}
-use Rattle.watch_run.specs.Written.{IsTraced}
+use Rattle.watch_run.specs.Traces.{BrokeOff, IsFurtherBegun, IsFurtherTrace, StandsBehind, StandsCut, shown_behind}
+use Rattle.watch_run.specs.Written.{HasBegun, IsEndCut, IsEnded, IsPart, IsPut, IsStopped, IsTraceBegun, IsTraceBroken, IsTraced}
+use Rattle.watch_run.specs.Written.{LeadsTo}
 use Rattle.tcc_world.specs.Page.{Written}
 use Rattle.watch_run.specs.declared.telling.Shown.{Shown}
 use Rattle.watch_run.specs.declared.tracing.Broken.{Broken}
 use Rattle.watch_run.specs.declared.tracing.Broken.TheVariants.{Memory, Output}
-use Rattle.watch_run.proofs.Leading.{StartsAt, leads}
+use Rattle.watch_run.proofs.Further.{lines-along, passed-over, ran-along}
+use Rattle.watch_run.proofs.Leading.{StartsAt, leads-kept}
+use Rattle.watch_run.proofs.Tallies.{counted-none}
 use Rattle.watch_run.proofs.Written.{put-cut}
 
 -- a count that rose later rose
@@ -51,45 +57,57 @@ end-cut held tail none more a b c n p e m h q =
           (appends-more a b c held (take n tail) p (subst (λ xs. Appends b c (take n xs)) is q)),
     )
 
--- ---- from the machine at its start to the start
-
 -- nothing was written
 pub begun-none : (lines : List Event → List ℕ) (held : List ℕ) (es : List Event) (a : Option (List ℕ)) → HasBegun lines held es a a
 begun-none lines held es a = record { firsts = []; left = es; parts = refl; n = 0; appended = appends-none a }
 
--- the lines of a machine's events at its start are those from there
-lines-first : (c : Contents) (m : Machine) (shown : Shown) (es : List Event) → StartsAt c m
-    → lines_from shown m es ≡ shown_lines shown (started c) es (at_start (started c))
-unfolding started
-lines-first c m shown es s =
-    (λ i. shown_from (shows shown.states (started (s.code i))) (s.code i).settings (program (started (s.code i))) shown.from es (s.first i))
-    ∙ go shown.states
-  where
-    go : (b : Bool)
-        → shown_from (shows b (started c)) c.settings (program (started c)) shown.from es (at_start (started c))
-        ≡ lines_with b (started c) shown.from es (at_start (started c))
-    go false = plain-from c.settings (program (started c)) shown.from es (at_start (started c))
-    go true = refl
+-- ---- the lines of a machine's further events are those of all events behind it
 
-pub begun-first : (c : Contents) (m : Machine) (shown : Shown) (held : List ℕ) (es fs : List Event) (a b : Option (List ℕ))
-    → StartsAt c m → held ≡ head_text (settings_of m) shown.from → es ≡ fs → HasBegun (lines_from shown m) held es a b
-    → IsTraceBegun (started c) shown fs a b
-unfolding started
-begun-first c m shown held es fs a b s e f h =
-    subst (λ k. HasBegun (λ firsts. shown_lines shown (started c) firsts (at_start (started c))) (head_text k.settings shown.from)
-    fs a b) s.code
-    (subst (λ (lines : List Event → List ℕ). HasBegun lines (head_text (settings_of m) shown.from) fs a b)
-    (λ i firsts. lines-first c m shown firsts s i)
-    (subst (λ xs. HasBegun (lines_from shown m) (head_text (settings_of m) shown.from) xs a b) f
-    (subst (λ bytes. HasBegun (lines_from shown m) bytes es a b) e h)))
+lines-first : (b : Bool) (s : Start) (from : ℕ) (es : List Event) (h : History)
+    → shown_from (shows b s) s.settings (program s) from es h ≡ lines_with b s from es h
+lines-first false s from es h = plain-from s.settings (program s) from es h
+lines-first true s from es h = refl
 
-pub stopped-broken : (c : Contents) (m : Machine) (shown : Shown) (held : List ℕ) (es fs : List Event) (o : Written) (b : Broken) (f : ℕ)
-    → StartsAt c m → held ≡ head_text (settings_of m) shown.from → es ≡ fs → f ≤ o.before.faults
-    → IsStopped (lines_from shown m) held es o b
-    → IsTraceBroken (started c) shown fs (record { before = record { bytes = o.before.bytes; faults = f }; after = o.after }) b
-stopped-broken c m shown held es fs o Memory f s e is l h = begun-first c m shown held es fs o.before.bytes o.after.bytes s e is h
-stopped-broken c m shown held es fs o Output f s e is l h =
-    (inl (begun-first c m shown held es fs o.before.bytes o.after.bytes s e is h.0), rose-later f o.before.faults o.after.faults l h.1)
+lines-further : (c : Contents) (es : List Event) (m : Machine) (counts : Counts) (shown : Shown) (more : List Event)
+    → HasCounted c es m counts
+    → lines_from shown m more ≡ shown_lines (shown_behind (length es) shown) (started c) (es ++ more) (at_start (started c))
+unfolding run started
+lines-further c es m counts shown more h =
+    let x = shows shown.states (started c) in
+    (λ i. shown_from (shows shown.states (started (h.code i))) (h.code i).settings (program (started (h.code i))) shown.from more
+    (history_of m))
+    ∙ lines-along x (started c) es more (history_of m) h.ends shown.from h.ran h.kept
+    ∙ sym (passed-over x c.settings (program (started c)) es more (at_start (started c)) h.ends shown.from h.ran)
+    ∙ lines-first shown.states (started c) (length es + shown.from) (es ++ more) (at_start (started c))
+
+head-further : (c : Contents) (es : List Event) (m : Machine) (counts : Counts) (shown : Shown) (held : List ℕ) → HasCounted c es m counts
+    → held ≡ head_text (settings_of m) (m.events + shown.from) → held ≡ head_text c.settings (length es + shown.from)
+head-further c es m counts shown held h e = e ∙ (λ i. head_text (h.code i).settings (h.events i + shown.from))
+
+pub begun-further : (m : Machine) (shown : Shown) (held : List ℕ) (more : List Event) (a b : Option (List ℕ))
+    → held ≡ head_text (settings_of m) (m.events + shown.from) → HasBegun (lines_from shown m) held more a b
+    → IsFurtherBegun shown m more a b
+unfolding started
+begun-further m shown held more a b e g = λ c es counts h.
+    record {
+      firsts = es ++ g.firsts;
+      left = g.left;
+      parts = ap (λ xs. es ++ xs) g.parts ∙ sym (append_assoc es g.firsts g.left);
+      n = g.n;
+      appended = subst (λ xs. Appends a b (take g.n xs))
+          (λ i. head-further c es m counts shown held h e i ++ lines-further c es m counts shown g.firsts h i) g.appended;
+    }
+
+-- memory ran out before anything was written
+pub further-none : (m : Machine) (shown : Shown) (more : List Event) (a : Option (List ℕ)) → IsFurtherBegun shown m more a a
+further-none m shown more a = begun-further m shown _ more a a refl (begun-none _ _ _ a)
+
+-- it broke off before the last lines
+pub stopped-further : (m : Machine) (shown : Shown) (held : List ℕ) (more : List Event) (o : Written) (b : Broken)
+    → held ≡ head_text (settings_of m) (m.events + shown.from) → IsStopped (lines_from shown m) held more o b
+    → BrokeOff (IsFurtherTrace shown m more) (IsFurtherBegun shown m more) o b
+stopped-further m shown held more o Memory e h = begun-further m shown held more o.before.bytes o.after.bytes e h
+stopped-further m shown held more o Output e (h, rose) = (inl (begun-further m shown held more o.before.bytes o.after.bytes e h), rose)
 
 -- ---- the whole text
 
@@ -101,94 +119,129 @@ unfolding states_text
 with-parts false s first from es done = trace-parts s first from es done
 with-parts true s first from es done = shown-parts (shows true s) s first from es done
 
--- the parts of a trace, as they were put out
-parts-first : (c : Contents) (m : Machine) (shown : Shown) (held : List ℕ) (es fs : List Event) (done : Bool) (number : ℕ) → StartsAt c m
-    → held ≡ head_text (settings_of m) shown.from → es ≡ fs → number ≡ length fs
-    → (held ++ lines_from shown m es) ++ tail_text done number ≡ shown_trace shown (started c) (world_at_start (started c)) fs done
+-- what was put out, what is held and the last lines are the trace of all events
+whole-further : (c : Contents) (es : List Event) (m n : Machine) (counts : Counts) (shown : Shown) (held now : List ℕ) (more : List Event)
+    (x y : Option (List ℕ)) (done : Bool) → HasCounted c es m counts → held ≡ head_text (settings_of m) (m.events + shown.from)
+    → Went m n more → (p : IsPut held now x y (lines_from shown m more))
+    → p.written ++ (now ++ tail_text done n.events)
+    ≡ shown_trace (shown_behind (length es) shown) (started c) (world_at_start (started c)) (es ++ more) done
 unfolding started
-parts-first c m shown held es fs done number s e f n =
-    let lines : lines_from shown m es ≡ shown_lines shown (started c) fs (at_start (started c)) =
-    lines-first c m shown es s ∙ ap (λ xs. shown_lines shown (started c) xs (at_start (started c))) f in
-    (λ i. ((e ∙ ap (λ k. head_text k.settings shown.from) s.code) i ++ lines i) ++ tail_text done (n i))
-    ∙ sym (with-parts shown.states (started c) (world_at_start (started c)) shown.from fs done)
-
--- what was put out, what is held and the last lines are the trace
-whole-is : (c : Contents) (m n : Machine) (shown : Shown) (held now : List ℕ) (es fs : List Event) (x y : Option (List ℕ)) (done : Bool)
-    → StartsAt c m → held ≡ head_text (settings_of m) shown.from → es ≡ fs → m.events ≡ 0 → Went m n es
-    → (p : IsPut held now x y (lines_from shown m es))
-    → p.written ++ (now ++ tail_text done n.events) ≡ shown_trace shown (started c) (world_at_start (started c)) fs done
-whole-is c m n shown held now es fs x y done s e f none w p =
-    let all = ap length f in let events = w.events in
+whole-further c es m n counts shown held now more x y done h e w p =
+    let a = w.events in let b = h.events in let all = length-append es more in
+    let number : n.events ≡ length (es ++ more) = omega (arith, a, b, all) in
     sym (append_assoc p.written now (tail_text done n.events))
     ∙ ap (λ xs. xs ++ tail_text done n.events) (sym p.all)
-    ∙ parts-first c m shown held es fs done n.events s e f (omega (arith, all, events, none))
+    ∙ (λ i. (head-further c es m counts shown held h e i ++ lines-further c es m counts shown more h i) ++ tail_text done (number i))
+    ∙ sym (with-parts shown.states (started c) (world_at_start (started c)) (length es + shown.from) (es ++ more) done)
 
-pub traced : (c : Contents) (m n : Machine) (shown : Shown) (held now : List ℕ) (es fs : List Event) (x y z : Option (List ℕ)) (done : Bool)
-    → IsAllowed c.settings → StartsAt c m → held ≡ head_text (settings_of m) shown.from → es ≡ fs → m.events ≡ 0 → Went m n es
-    → IsPut held now x y (lines_from shown m es)
-    → IsEnded (settings_of n) (world_of n) now n.events y z done → IsTraced (started c) shown fs x z done
-traced c m n shown held now es fs x y z done allowed s e f none w p h = record {
-  ends = history_of n;
-  leads = leads c m n fs done allowed s (subst (Went m n) f w) h.0;
-  whole = subst (Appends x z) (whole-is c m n shown held now es fs x y done s e f none w p)
-      (appends-more x y z p.written (now ++ tail_text done n.events) p.appended h.1);
-}
-
--- a trace that broke off at its end
-ended-part : (c : Contents) (m : Machine) (shown : Shown) (held now : List ℕ) (es fs : List Event) (x y z : Option (List ℕ))
-    → StartsAt c m → held ≡ head_text (settings_of m) shown.from → es ≡ fs
-    → IsPut held now x y (lines_from shown m es) → IsPart now y z
-    → IsTraceBegun (started c) shown fs x z
-ended-part c m shown held now es fs x y z s e f p h =
-    let part = put-cut held now _ x y z h.0 p h.1 in
-    begun-first c m shown held es fs x z s e f
-    (record { firsts = es; left = []; parts = sym (append-nil es); n = part.0; appended = part.1 })
-
-ended-cut : (c : Contents) (m n : Machine) (shown : Shown) (held now : List ℕ) (es fs : List Event) (x y z : Option (List ℕ)) (done : Bool)
-    (k : ℕ) → IsAllowed c.settings → StartsAt c m → held ≡ head_text (settings_of m) shown.from → es ≡ fs → m.events ≡ 0 → Went m n es
-    → IsPut held now x y (lines_from shown m es)
-    → IsTrue done ↔ IsDone (settings_of n) (world_of n) → k < length (now ++ tail_text done n.events)
-    → Appends y z (take k (now ++ tail_text done n.events)) → IsTraceCut (started c) shown fs x z
-ended-cut c m n shown held now es fs x y z done k allowed s e f none w p is short cut =
-    let rest = now ++ tail_text done n.events in
-    let whole = whole-is c m n shown held now es fs x y done s e f none w p in
-    let long = length-append p.written rest in
-    let all = ap length whole in
+further-is : (m n : Machine) (shown : Shown) (held now : List ℕ) (more : List Event) (x y : Option (List ℕ)) (done : Bool)
+    → IsAllowed (settings_of m) → held ≡ head_text (settings_of m) (m.events + shown.from) → Went m n more
+    → (p : IsPut held now x y (lines_from shown m more)) → (IsTrue done ↔ IsDone (settings_of n) (world_of n))
+    → IsFurtherTrace shown m more done (p.written ++ (now ++ tail_text done n.events))
+unfolding started
+further-is m n shown held now more x y done allowed e w p is = λ c es counts h.
+    let along = ran-along (started c) es more (history_of m) h.ends (history_of n) h.ran h.kept
+    ((λ i. run_from (sym h.code i).settings (program (started (sym h.code i))) more (history_of m)) ∙ w.ran) in
     record {
-      done = done;
-      ends = history_of n;
-      leads = leads c m n fs done allowed s (subst (Went m n) f w) is;
-      n = length p.written + k;
-      short = omega (arith, short, long, all);
-      cut = subst (Appends x z) (sym (take-append-add p.written rest k) ∙ ap (take (length p.written + k)) whole)
-          (appends-more x y z p.written (take k rest) p.appended cut);
+      ends = along.later;
+      leads = leads-kept c (es ++ more) n along.later done (subst (λ (k : Contents). IsAllowed k.settings) h.code allowed) along.ran
+          along.keeps (w.code ∙ h.code) is;
+      text_is = whole-further c es m n counts shown held now more x y done h e w p;
     }
 
-pub ended-broken : (c : Contents) (m n : Machine) (shown : Shown) (held now : List ℕ) (es fs : List Event) (x : Option (List ℕ))
-    (o : Written) (b : Broken) (f : ℕ) → IsAllowed c.settings → StartsAt c m → held ≡ head_text (settings_of m) shown.from → es ≡ fs
-    → m.events ≡ 0 → Went m n es → IsPut held now x o.before.bytes (lines_from shown m es) → f ≤ o.before.faults
+pub traced-further : (m n : Machine) (shown : Shown) (held now : List ℕ) (more : List Event) (x y z : Option (List ℕ)) (done : Bool)
+    → IsAllowed (settings_of m) → held ≡ head_text (settings_of m) (m.events + shown.from) → Went m n more
+    → IsPut held now x y (lines_from shown m more) → IsEnded (settings_of n) (world_of n) now n.events y z done
+    → StandsBehind (IsFurtherTrace shown m more) x z done
+traced-further m n shown held now more x y z done allowed e w p (is, tail) = record {
+  text = p.written ++ (now ++ tail_text done n.events);
+  is = further-is m n shown held now more x y done allowed e w p is;
+  whole = appends-more x y z p.written (now ++ tail_text done n.events) p.appended tail;
+}
+
+-- it broke off at its end
+ended-part : (m : Machine) (shown : Shown) (held now : List ℕ) (more : List Event) (x y z : Option (List ℕ))
+    → held ≡ head_text (settings_of m) (m.events + shown.from) → IsPut held now x y (lines_from shown m more) → IsPart now y z
+    → IsFurtherBegun shown m more x z
+ended-part m shown held now more x y z e p (k, part) =
+    let cut = put-cut held now _ x y z k p part in
+    begun-further m shown held more x z e (record { firsts = more; left = []; parts = sym (append-nil more); n = cut.0; appended = cut.1 })
+
+ended-cut : (m n : Machine) (shown : Shown) (held now : List ℕ) (more : List Event) (x y z : Option (List ℕ)) (done : Bool) (k : ℕ)
+    → IsAllowed (settings_of m) → held ≡ head_text (settings_of m) (m.events + shown.from) → Went m n more
+    → IsPut held now x y (lines_from shown m more) → (IsTrue done ↔ IsDone (settings_of n) (world_of n))
+    → k < length (now ++ tail_text done n.events) → Appends y z (take k (now ++ tail_text done n.events))
+    → StandsCut (IsFurtherTrace shown m more) x z
+ended-cut m n shown held now more x y z done k allowed e w p is short cut =
+    let rest = now ++ tail_text done n.events in
+    let long = length-append p.written rest in
+    record {
+      done = done;
+      text = p.written ++ rest;
+      is = further-is m n shown held now more x y done allowed e w p is;
+      n = length p.written + k;
+      short = omega (arith, short, long);
+      cut = subst (Appends x z) (sym (take-append-add p.written rest k)) (appends-more x y z p.written (take k rest) p.appended cut);
+    }
+
+pub ended-broken : (m n : Machine) (shown : Shown) (held now : List ℕ) (more : List Event) (x : Option (List ℕ)) (o : Written) (b : Broken)
+    (f : ℕ) → IsAllowed (settings_of m) → held ≡ head_text (settings_of m) (m.events + shown.from) → Went m n more
+    → IsPut held now x o.before.bytes (lines_from shown m more) → f ≤ o.before.faults
     → IsEndCut (settings_of n) (world_of n) now n.events o b
-    → IsTraceBroken (started c) shown fs (record { before = record { bytes = x; faults = f }; after = o.after }) b
-ended-broken c m n shown held now es fs x o Memory f allowed s e is none w p l h =
-    ended-part c m shown held now es fs x o.before.bytes o.after.bytes s e is p h
-ended-broken c m n shown held now es fs x o Output f allowed s e is none w p l (inl h, rose) = (
-  inl (ended-part c m shown held now es fs x o.before.bytes o.after.bytes s e is p h),
-  rose-later f o.before.faults o.after.faults l
-      rose,
-)
-ended-broken c m n shown held now es fs x o Output f allowed s e is none w p l (inr (done, k, done_is, short, cut), rose) = (
-  inr (ended-cut c m n shown held now es fs x o.before.bytes o.after.bytes done k allowed s e is none w p done_is short cut),
+    → BrokeOff (IsFurtherTrace shown m more) (IsFurtherBegun shown m more)
+    (record { before = record { bytes = x; faults = f }; after = o.after }) b
+ended-broken m n shown held now more x o Memory f allowed e w p l h = ended-part m shown held now more x o.before.bytes o.after.bytes e p h
+ended-broken m n shown held now more x o Output f allowed e w p l (inl h, rose) =
+    (inl (ended-part m shown held now more x o.before.bytes o.after.bytes e p h), rose-later f o.before.faults o.after.faults l rose)
+ended-broken m n shown held now more x o Output f allowed e w p l (inr (done, k, is, short, cut), rose) = (
+  inr (ended-cut m n shown held now more x o.before.bytes o.after.bytes done k allowed e w p is short cut),
   rose-later f o.before.faults o.after.faults l rose,
 )
 
--- ---- the trace of a machine at its start is that of what was loaded
+-- ---- the further events of a machine that has taken none are all
+
+-- behind no event all is shown as it was asked for
+behind-none : (shown : Shown) → shown_behind 0 shown ≡ shown
+behind-none shown =
+    let same : 0 + shown.from ≡ shown.from = omega arith in
+    ap (λ n. record shown { from = n }) same
 
 pub traced-there : (c : Contents) (m : Machine) (shown : Shown) (es fs : List Event) (x y : Option (List ℕ)) (done : Bool) → StartsAt c m
-    → es ≡ fs → IsTraced (start_of m) shown es x y done → IsTraced (started c) shown fs x y done
-traced-there c m shown es fs x y done s e h =
-    subst (λ k. IsTraced (started k) shown fs x y done) s.code (subst (λ xs. IsTraced (start_of m) shown xs x y done) e h)
+    → m.events ≡ 0 → m.unsent ≡ [] → es ≡ fs → StandsBehind (IsFurtherTrace shown m es) x y done → IsTraced (started c) shown fs x y done
+traced-there c m shown es fs x y done s z u e t =
+    let is = t.is c [] (nothing_counted c.settings.cores) (counted-none c m (nothing_counted c.settings.cores) s z u refl) in
+    record {
+      ends = is.ends;
+      leads = subst (λ xs. LeadsTo (started c) xs done is.ends) e is.leads;
+      whole = subst (Appends x y)
+          (is.text_is ∙ (λ i. shown_trace (behind-none shown i) (started c) (world_at_start (started c)) (e i) done)) t.whole;
+    }
+
+begun-there : (c : Contents) (m : Machine) (shown : Shown) (es fs : List Event) (x y : Option (List ℕ)) → StartsAt c m → m.events ≡ 0
+    → m.unsent ≡ [] → es ≡ fs → IsFurtherBegun shown m es x y → IsTraceBegun (started c) shown fs x y
+begun-there c m shown es fs x y s z u e t =
+    subst (λ xs. IsTraceBegun (started c) shown xs x y) e
+    (subst (λ k. IsTraceBegun (started c) k es x y) (behind-none shown)
+    (t c [] (nothing_counted c.settings.cores) (counted-none c m (nothing_counted c.settings.cores) s z u refl)))
 
 pub broken-there : (c : Contents) (m : Machine) (shown : Shown) (es fs : List Event) (o : Written) (b : Broken) → StartsAt c m
-    → es ≡ fs → IsTraceBroken (start_of m) shown es o b → IsTraceBroken (started c) shown fs o b
-broken-there c m shown es fs o b s e h =
-    subst (λ k. IsTraceBroken (started k) shown fs o b) s.code (subst (λ xs. IsTraceBroken (start_of m) shown xs o b) e h)
+    → m.events ≡ 0 → m.unsent ≡ [] → es ≡ fs → BrokeOff (IsFurtherTrace shown m es) (IsFurtherBegun shown m es) o b
+    → IsTraceBroken (started c) shown fs o b
+broken-there c m shown es fs o Memory s z u e t = begun-there c m shown es fs o.before.bytes o.after.bytes s z u e t
+broken-there c m shown es fs o Output s z u e (inl t, rose) =
+    (inl (begun-there c m shown es fs o.before.bytes o.after.bytes s z u e t), rose)
+broken-there c m shown es fs o Output s z u e (inr t, rose) = (
+  inr (let is = t.is c [] (nothing_counted c.settings.cores) (counted-none c m (nothing_counted c.settings.cores) s z u refl) in
+      let whole = is.text_is ∙ (λ i. shown_trace (behind-none shown i) (started c) (world_at_start (started c)) (e i) t.done) in
+      let long = ap length whole in
+      let short = t.short in
+      record {
+        done = t.done;
+        ends = is.ends;
+        leads = subst (λ xs. LeadsTo (started c) xs t.done is.ends) e is.leads;
+        n = t.n;
+        short = omega (arith, long, short);
+        cut = subst (λ xs. Appends o.before.bytes o.after.bytes (take t.n xs)) whole t.cut;
+      }),
+  rose,
+)

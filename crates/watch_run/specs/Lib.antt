@@ -5,5 +5,6 @@ pub mod Shown
 pub mod Telling
 pub mod Written
 pub mod Looked
+pub mod Traces
 pub mod Runs
 pub mod Tables

@@ -11,7 +11,10 @@ use Rattle.watch_count.specs.Counts.{Counts}
 use Rattle.tcc_world.specs.Page.{Written}
 use Rattle.watch_run.specs.Looked.{HasCounted}
 use Rattle.watch_run.specs.Tables.{IsRestBroken, IsTabledFrom, open_table, rest_text, table_text}
+use Rattle.watch_run.specs.Traces.{IsTraceOf, shown_behind}
+use Rattle.watch_run.specs.Written.{IsTraceBegun}
 use Rattle.watch_run.specs.declared.tabling.Rows.{Rows}
+use Rattle.watch_run.specs.declared.telling.Shown.{Shown}
 use Rattle.watch_run.specs.declared.tracing.Broken.{Broken}
 
 pub record RunData : Type 0 where
@@ -54,3 +57,13 @@ RunTablesJoin = (c : Contents) (seed n steps : ℕ) (rows : Rows) (done : Bool)
     → open_table rows (started c) (seed_events c seed n)
     ++ rest_text rows (started c) done (seed_events c seed (n + steps)) (length (seed_events c seed n))
     ≡ table_text rows (started c) done (seed_events c seed (n + steps))
+
+-- the text is the trace of the run that went on, from its further events on
+abbrev pub IsRunTrace : Shown → RunData → (steps : ℕ) → (done : Bool) → (text : List ℕ) → Type 0
+IsRunTrace shown r steps done text = (c : Contents) (n : ℕ) → IsRunOf c n r
+    → IsTraceOf (started c) (shown_behind r.machine.events shown) (seed_events c r.seed (n + steps)) done text
+
+-- that trace was begun
+abbrev pub IsRunTraceBegun : Shown → RunData → (steps : ℕ) → (before after : Option (List ℕ)) → Type 0
+IsRunTraceBegun shown r steps before after = (c : Contents) (n : ℕ) → IsRunOf c n r
+    → IsTraceBegun (started c) (shown_behind r.machine.events shown) (seed_events c r.seed (n + steps)) before after

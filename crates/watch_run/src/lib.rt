@@ -2,7 +2,8 @@
 //! the totals as a table as they grow. The events are those that a seed picks, or those of a list. None keeps the schedule, so the memory
 //! that they take doesn't grow with it; and what counts forgets the commits that no later event asks for.
 //!
-//! A `Run` is one by a seed that is counted step by step: it can be left after any step, written down, read, and taken up again.
+//! A `Run` is one by a seed that is counted step by step: it can be left after any step, written down, read, and taken up again, and its
+//! further events can be traced.
 #![tactic(auto)]
 
 mod counting;

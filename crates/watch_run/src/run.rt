@@ -1,5 +1,5 @@
 // A run that is counted as it goes, and that can be left and taken up again.
-ghost use Rattle.std.specs.Prelude.{◌≡◌, ◌+◌, ◌≤◌, ◌↔◌, [], ℕ, IfErr, IfOk, IsTrue, OnOk};
+ghost use Rattle.std.specs.Prelude.{◌≡◌, ◌+◌, ◌<◌, ◌^◌, ◌≤◌, ◌↔◌, [], ℕ, IfErr, IfOk, IsTrue, OnOk};
 ghost use Rattle.image_load.specs.Contents.{Contents, started};
 ghost use Rattle.net_core.specs.Forgotten.{Forgot};
 ghost use Rattle.net_core.specs.Limits.{machine_limit};
@@ -7,13 +7,16 @@ ghost use Rattle.net_core.specs.Machine.{settings_of, world_of};
 ghost use Rattle.rules_tcc.specs.Seen.{IsDone};
 ghost use Rattle.watch_run.specs.Forgetting.{StillKeeps};
 ghost use Rattle.watch_run.specs.Looked.{IsCounted};
-ghost use Rattle.watch_run.specs.Runs.{IsRunOf, IsRunTableBroken, IsRunTabled, RunTablesJoin, WentOn, seed_events};
+ghost use Rattle.watch_run.specs.Runs.{IsRunOf, IsRunTableBroken, IsRunTabled, IsRunTrace, IsRunTraceBegun, RunTablesJoin, WentOn};
+ghost use Rattle.watch_run.specs.Runs.{seed_events};
 ghost use Rattle.watch_run.specs.Tables.{TablesJoin};
+ghost use Rattle.watch_run.specs.Traces.{BrokeOff, StandsBehind};
 
 use crate::counting::count_events;
 use crate::events::{Picked, settings_are_allowed};
 use crate::tabling::{Rows, table_on};
-use crate::tracing::Broken;
+use crate::telling::Shown;
+use crate::tracing::{Broken, trace_on};
 use image_load::Loaded;
 use net_core::System;
 use std::alloc::Global;
@@ -233,6 +236,33 @@ impl Run {
         )?;
         self.drawn = drawn;
         Ok(done)
+    }
+
+    /// Takes the useful events that the next words pick, so many at most, or fewer where none is useful any more, and writes the trace of
+    /// the whole run from these events on: that of event `shown.from`, where the next one is number 0, and of those behind it. Whether the
+    /// run is done then.
+    ///
+    /// What was counted before has no part in it, and the run is gone then. It is written as `trace` writes it, at the same costs; the
+    /// machine keeps all commits of these events.
+    pub fn trace<O: Sink>(
+        mut self,
+        alloc: Global,
+        steps: u32,
+        shown: Shown,
+        out: &mut O,
+    ) -> Result<bool, Broken>
+        requires few { self.machine.events + steps ≤ machine_limit }
+        requires near { self.machine.events + shown.from < 2 ^ 64 }
+        ensures traced { IfOk result (StandsBehind (IsRunTrace shown self steps) (O.page out.old).bytes (O.page out.new).bytes) }
+        ensures broken { IfErr result (BrokeOff (IsRunTrace shown self steps) (IsRunTraceBegun shown self steps)
+            (record { before = O.page out.old; after = O.page out.new })) }
+    {
+        match self.system.settle() {
+            Ok(()) => {}
+            Err(NoMemory) => return Err(Broken::Memory),
+        }
+        let mut picked = Picked::after(self.seed, self.drawn, steps as u64);
+        trace_on(alloc, &mut self.system, &mut picked, steps, shown, out)
     }
 
     /// Forgets the commits that all directories have passed, so that those that are kept depend on the events alone, and not on when some

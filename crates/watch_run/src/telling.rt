@@ -1,6 +1,7 @@
 // What is told of a run, event by event.
 ghost use Rattle.std.specs.Prelude.{◌≡◌, ◌++◌, ◌+◌, ◌<◌, ◌≤◌, ◌==◌, [], IfOk, IfSome, OnOk, if◌then◌else◌, map, string_bytes};
 ghost use Rattle.tcc_msg.specs.Plain.{event_of};
+ghost use Rattle.net_core.specs.Limits.{machine_limit};
 ghost use Rattle.net_core.specs.Machine.{history_of, program_of, settings_of, start_of, world_of};
 ghost use Rattle.watch.specs.Happened.{happened};
 ghost use Rattle.watch.specs.Plain.{fact_of};
@@ -9,7 +10,6 @@ ghost use Rattle.watch_changes.specs.Text.{added, shows};
 ghost use Rattle.watch_changes.specs.Plain.{IsInside};
 ghost use Rattle.watch_run.specs.Going.{Took};
 ghost use Rattle.watch_run.specs.Telling.{IsLook, IsTold};
-ghost use Rattle.tcc_base.specs.Limits.{run_limit};
 
 use net_core::System;
 use std::alloc::{AllocError, Global};
@@ -31,7 +31,7 @@ pub struct Shown {
 
 /// Takes an event, and leaves in `facts` what it did.
 fn take(system: &mut System, e: Event, facts: &mut List<Fact>) -> Result<(), NoMemory>
-    requires few { system.old.events < run_limit }
+    requires few { system.old.events < machine_limit }
     ensures took { OnOk result (Took system.old system.new (event_of e)) }
     ensures facts { OnOk result (map fact_of facts.new
         ≡ happened (settings_of system.old) (program_of system.old) (history_of system.old) (event_of e)) }
@@ -140,7 +140,7 @@ fn shown_event(
     facts: &mut List<Fact>,
     text: &mut String,
 ) -> Result<(), NoMemory>
-    requires few { system.old.events < run_limit }
+    requires few { system.old.events < machine_limit }
     ensures took { OnOk result (Took system.old system.new (event_of e)) }
     ensures text { OnOk result (string_bytes text.new ≡ string_bytes text.old
         ++ (event_text (settings_of system.old) (program_of system.old) (history_of system.old) (event_of e)
@@ -162,7 +162,7 @@ pub(crate) fn event(
     facts: &mut List<Fact>,
     text: &mut String,
 ) -> Result<(), NoMemory>
-    requires few { system.old.events < run_limit }
+    requires few { system.old.events < machine_limit }
     ensures took { OnOk result (Took system.old system.new (event_of e)) }
     ensures text { OnOk result (string_bytes text.new ≡ string_bytes text.old
         ++ added (shows shown.states (start_of system.old)) (settings_of system.old) (program_of system.old)

@@ -1,15 +1,16 @@
 // A trace, written while its run goes on.
-ghost use Rattle.std.specs.Prelude.{◌≡◌, ◌+◌, ◌<◌, ◌≤◌, ℕ, [], IfErr, IfOk, OnErr, OnOk, length, string_bytes, take};
+ghost use Rattle.std.specs.Prelude.{◌≡◌, ◌+◌, ◌<◌, ◌^◌, ◌≤◌, ℕ, [], IfErr, IfOk, OnErr, OnOk, length, string_bytes, take};
 ghost use Rattle.std.specs.Io.KnownBytes.{Appends};
 ghost use Rattle.image_load.specs.Contents.{started};
-ghost use Rattle.net_core.specs.Machine.{history_of, settings_of, start_of, world_of};
-ghost use Rattle.rules_riscv.specs.Starting.{at_start, world_at_start};
+ghost use Rattle.net_core.specs.Limits.{machine_limit};
+ghost use Rattle.net_core.specs.Machine.{settings_of, start_of, world_of};
+ghost use Rattle.rules_riscv.specs.Starting.{world_at_start};
 ghost use Rattle.tcc_world.specs.Faults.{Rose};
 ghost use Rattle.watch_run.specs.Going.{Went};
 ghost use Rattle.watch_run.specs.Telling.{lines_from};
+ghost use Rattle.watch_run.specs.Traces.{BrokeOff, IsFurtherBegun, IsFurtherTrace, StandsBehind};
 ghost use Rattle.watch_run.specs.Written.{IsEndCut, IsEnded, IsPut, IsStopped, IsTraceBroken, IsTraced};
 ghost use Rattle.tcc_base.specs.Limits.{run_limit};
-ghost use Rattle.tcc_base.specs.Settings.{IsAllowed};
 
 use crate::events::{Events, settings_are_allowed};
 use crate::telling::{Shown, begin, event};
@@ -70,7 +71,7 @@ fn trace_events<E: Events, O: Sink>(
     held: &mut String,
     out: &mut O,
 ) -> Result<(), Broken>
-    requires few { system.old.events + most ≤ run_limit }
+    requires few { system.old.events + most ≤ machine_limit }
     requires settled { system.old.unsent ≡ [] }
     requires enough { length (E.coming events.old (start_of system.old) (world_of system.old)) ≤ most }
     ensures went { OnOk result (Went system.old system.new (E.coming events.old (start_of system.old) (world_of system.old))) }
@@ -130,8 +131,8 @@ fn end_trace<O: Sink>(
     }
 }
 
-/// Writes the trace of the run of a machine that has taken no event yet.
-fn trace_from_start<E: Events, O: Sink>(
+/// Writes the trace of the run of a machine that goes on, from its further events on: `shown.from` is counted from its next event.
+pub(crate) fn trace_on<E: Events, O: Sink>(
     alloc: Global,
     system: &mut System,
     events: &mut E,
@@ -139,20 +140,21 @@ fn trace_from_start<E: Events, O: Sink>(
     shown: Shown,
     out: &mut O,
 ) -> Result<bool, Broken>
-    requires allowed { IsAllowed (settings_of system.old) }
-    requires first { history_of system.old ≡ at_start (start_of system.old) }
-    requires none { system.old.events ≡ 0 }
     requires settled { system.old.unsent ≡ [] }
-    requires few { most ≤ run_limit }
+    requires few { system.old.events + most ≤ machine_limit }
+    requires near { system.old.events + shown.from < 2 ^ 64 }
     requires enough { length (E.coming events.old (start_of system.old) (world_of system.old)) ≤ most }
-    ensures traced { IfOk result (IsTraced (start_of system.old) shown
-        (E.coming events.old (start_of system.old) (world_of system.old)) (O.page out.old).bytes (O.page out.new).bytes) }
-    ensures broken { IfErr result (IsTraceBroken (start_of system.old) shown
-        (E.coming events.old (start_of system.old) (world_of system.old))
+    ensures traced { IfOk result (StandsBehind
+        (IsFurtherTrace shown system.old (E.coming events.old (start_of system.old) (world_of system.old)))
+        (O.page out.old).bytes (O.page out.new).bytes) }
+    ensures broken { IfErr result (BrokeOff
+        (IsFurtherTrace shown system.old (E.coming events.old (start_of system.old) (world_of system.old)))
+        (IsFurtherBegun shown system.old (E.coming events.old (start_of system.old) (world_of system.old)))
         (record { before = O.page out.old; after = O.page out.new })) }
 {
+    settings_are_allowed(system.config());
     let mut held = String::new(alloc);
-    match push_head(&mut held, system.config(), shown.from) {
+    match push_head(&mut held, system.config(), system.events() + shown.from) {
         Ok(()) => {}
         Err(_) => return Err(Broken::Memory),
     }
@@ -185,9 +187,8 @@ pub fn trace<E: Events, O: Sink>(
         (E.coming events.old (started loaded.now) (world_at_start (started loaded.now)))
         (record { before = O.page out.old; after = O.page out.new })) }
 {
-    settings_are_allowed(loaded.config());
     match System::start(alloc, loaded) {
-        Ok(mut system) => trace_from_start(alloc, &mut system, events, most, shown, out),
+        Ok(mut system) => trace_on(alloc, &mut system, events, most, shown, out),
         Err(NoMemory) => Err(Broken::Memory),
     }
 }
