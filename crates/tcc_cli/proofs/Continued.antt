@@ -5,8 +5,8 @@ use Rattle.checkpoint_run.specs.Runs.{run_text}
 use Rattle.image_load.specs.Contents.{Contents, started}
 use Rattle.image_load.specs.Start.{Start}
 use Rattle.rules_maps.specs.Nodes.{Event}
-use Rattle.tcc_cli.specs.Continued.{BeginsAfter, IsCheckpointOf, IsOfWholeRun, asked_after, steps_after}
-use Rattle.tcc_cli.specs.Long.{IsLeftIn, IsTakenUp, IsWrittenTo, RanLong, all_steps, more_of, steps_of}
+use Rattle.tcc_cli.specs.Continued.{BeginsAfter, IsCheckpointOf, IsOfWholeRun, asked_after, steps_after, view_after}
+use Rattle.tcc_cli.specs.Long.{EndsIn, IsLeftIn, IsTakenUp, RanLong, all_steps, more_of, steps_of, view_behind}
 use Rattle.tcc_cli.specs.Looks.{LookedAt, view_text}
 use Rattle.tcc_cli.specs.Runs.{picked_by}
 use Rattle.tcc_words.specs.Fields.{count_limit}
@@ -48,22 +48,25 @@ begun on apart (begin.Checkpoint name) c s files from seed before start code tak
     }
 
 -- a checkpoint that was left is of the run as it ended
-left-is : (c : Contents) (s : Start) (ends : RunData) (seed steps : ℕ) (keep : Option (List ℕ)) (told : List ℕ → Option (List ℕ))
-    (name bytes : List ℕ) → started c ≡ s → IsRunOf c steps ends → ends.seed ≡ seed → IsLeftIn keep true told ends → keep ≡ Some name
-    → told name ≡ Some bytes → IsCheckpointOf s seed steps bytes
-left-is c s ends seed steps keep told name bytes start is of left named holds =
-    let there : IsWrittenTo name true told ends = subst (λ k. IsLeftIn k true told ends) named left in
-    let code = is.counted.code in
+left-is : (c : Contents) (s : Start) (from : RunData) (seed before more steps : ℕ) (keep : Option (List ℕ))
+    (told : List ℕ → Option (List ℕ)) (name bytes : List ℕ) → started c ≡ s → IsRunOf c before from → from.seed ≡ seed
+    → before + more ≡ steps → IsLeftIn keep true told c from more → keep ≡ Some name → told name ≡ Some bytes
+    → IsCheckpointOf s seed steps bytes
+left-is c s from seed before more steps keep told name bytes start is of all left named holds =
+    let there : EndsIn name true told c from more = subst (λ k. IsLeftIn k true told c from more) named left in
+    let ends = there.ends in
+    let there_is : IsRunOf c steps ends = subst (λ n. IsRunOf c n ends) all (there.went before is) in
+    let code = there_is.counted.code in
     record {
       run = ends;
       start = ap started code ∙ start;
-      is = subst (λ k. IsRunOf k steps ends) (sym code) is;
-      own = of;
-      told = record { text = some (sym there.held ∙ holds); laid_out = there.laid_out };
+      is = subst (λ k. IsRunOf k steps ends) (sym code) there_is;
+      own = there.seed ∙ of;
+      told = record { text = some (run_text ends) (sym there.written.held ∙ holds); laid_out = there.written.laid_out };
     }
   where
-    some : Some (run_text ends) ≡ Some bytes → run_text ends ≡ bytes
-    some e = cc
+    some : (text : List ℕ) → Some text ≡ Some bytes → text ≡ bytes
+    some text e = cc
 
 -- what is told of the run from what was loaded is told of it from its start
 looked-is : (c : Contents) (s : Start) (own seed steps n asked all : ℕ) (view : View) (done : Bool) (text : List ℕ) → started c ≡ s
@@ -83,7 +86,8 @@ looked-is c s own seed steps n asked all view done text start of is same h =
 pub cut-is-whole : RunsGoOnFromTexts → TextsTellRunsApart → (s : Start) (begin : Begin) (files : List (List ℕ)) (steps : ℕ) (view : View)
     (keep : Option (List ℕ)) (told : List ℕ → Option (List ℕ)) (done : Bool) (text : List ℕ) (seed before : ℕ)
     → RanLong s begin files steps view (IsLeftIn keep true told) done text → BeginsAfter begin s files seed before
-    → IsOfWholeRun s seed (steps_after s seed before (steps_of view steps)) (asked_after s seed before steps) view keep told done text
+    → IsOfWholeRun s seed (steps_after s seed before (steps_of view steps)) (asked_after s seed before steps)
+    (view_after s seed before view) keep told done text
 cut-is-whole on apart s begin files steps view keep told done text seed before r is =
     let c = r.loaded in
     let from = r.ran.from in
@@ -91,14 +95,19 @@ cut-is-whole on apart s begin files steps view keep told done text seed before r
     let b = begun on apart begin c s files from seed before r.start r.ran.code r.ran.is is in
     let events : seed_events c from.seed before ≡ picked_by s seed before =
     events-are c s r.start from.seed before ∙ ap (λ sd. picked_by s sd before) b.own in
+    let first : from.machine.events ≡ length (picked_by s seed before) = b.is.counted.events ∙ ap length events in
     let all : before + more_of (steps_of view steps) from ≡ steps_after s seed before (steps_of view steps) =
-    ap (λ n. before + min (steps_of view steps) (count_limit - n)) (b.is.counted.events ∙ ap length events) in
+    ap (λ n. before + min (steps_of view steps) (count_limit - n)) first in
     let asked : all_steps steps from ≡ asked_after s seed before steps =
     ap (λ n. min (n + steps) (2 ^ 64 - 1)) (b.is.drawn ∙ ap length events) in
+    let steps_are = steps_after s seed before (steps_of view steps) in
     record {
-      looked = looked-is c s from.seed seed (steps_after s seed before (steps_of view steps)) (before + more_of (steps_of view steps) from)
-          (all_steps steps from) (asked_after s seed before steps) view done text r.start b.own all asked (went.looked before b.is);
+      looked = subst (λ n. LookedAt s (λ es. es ≡ picked_by s seed steps_are)
+          (view_text (view_behind n view) (Some (seed, asked_after s seed before steps)) s) done text) first
+          (looked-is c s from.seed seed steps_are (before + more_of (steps_of view steps) from) (all_steps steps from)
+          (asked_after s seed before steps) (view_behind from.machine.events view) done text r.start b.own all asked
+          (went.looked before b.is));
       left = λ name bytes named holds.
-          left-is c s went.ends seed (steps_after s seed before (steps_of view steps)) keep told name bytes r.start
-          (subst (λ n. IsRunOf c n went.ends) all (went.went before b.is)) (went.seed ∙ b.own) went.kept named holds;
+          left-is c s from seed before (more_of (steps_of view steps) from) steps_are keep told name bytes r.start b.is b.own all went.left
+          named holds;
     }

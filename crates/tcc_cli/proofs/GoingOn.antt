@@ -1,16 +1,17 @@
 -- Runs that begin before their first event or go on from a checkpoint.
-use Rattle.std.proofs.Common.{◌≡◌, ◌+◌, ℕ, Bool, List, Option, Some, length}
-use Rattle.std.proofs.Common.{Result, Ok, Err, IfOk, refl, sym, ap, subst, ◌∙◌, if◌then◌else◌}
+use Rattle.std.proofs.Common.{◌≡◌, ◌+◌, ℕ, Bool, List, Option, Some, None, length}
+use Rattle.std.proofs.Common.{Result, Ok, Err, IfOk, IfSome, refl, sym, ap, subst, ◌∙◌, if◌then◌else◌}
 use Rattle.image_load.specs.Contents.{Contents, started}
 use Rattle.image_load.specs.Start.{Start}
 use Rattle.net_core.specs.Machine.{history_of, start_of}
 use Rattle.rules_tcc.specs.Step.{History}
 use Rattle.tcc_base.specs.Settings.{Settings}
 use Rattle.tcc_cli.proofs.Watched.{counted-so, run-so}
-use Rattle.tcc_cli.specs.Long.{RanOn, all_steps, more_of, steps_of}
+use Rattle.tcc_cli.specs.Failing.{IsUntraced}
+use Rattle.tcc_cli.specs.Long.{IsLeftIn, IsWrittenTo, RanOn, all_steps, more_of, steps_of, view_behind}
 use Rattle.tcc_cli.specs.Looks.{LookedAt, view_text}
 use Rattle.tcc_words.specs.declared.command.View.{View}
-use Rattle.tcc_words.specs.declared.command.View.TheVariants.{Count, State}
+use Rattle.tcc_words.specs.declared.command.View.TheVariants.{Count, Rows, State, Trace}
 use Rattle.watch_count.specs.Counts.{Counts}
 use Rattle.watch_count.specs.Csv.{csv_text}
 use Rattle.watch_count.specs.Text.{count_text}
@@ -69,30 +70,46 @@ state-told c r d events seed text counted code told n k =
           (k.counted.kept.world ∙ ap (λ h. h.world) ends);
     }
 
+-- but for a trace it matters not how many events came before
+untraced-alike : (events : ℕ) (view : View) → IsUntraced view → view ≡ view_behind events view
+untraced-alike events (Trace from to states) h = absurd h
+untraced-alike events (Rows every) h = absurd h
+untraced-alike events (Count csv) h = refl
+untraced-alike events (State most) h = refl
+
+-- a run that was left
+left-in : (keep : Option (List ℕ)) (tells : Bool) (told : List ℕ → Option (List ℕ)) (c : Contents) (from ends : RunData) (more : ℕ)
+    → ends.seed ≡ from.seed → ((n : ℕ) → IsRunOf c n from → IsRunOf c (n + more) ends)
+    → IfSome keep (λ name. IsWrittenTo name tells told ends) → IsLeftIn keep tells told c from more
+left-in None tells told c from ends more seed went written = tt
+left-in (Some name) tells told c from ends more seed went written =
+    record { ends = ends; seed = seed; went = went; written = written }
+
 -- a run that went on, was told of and left
-pub ran-on : (c : Contents) (from mid ends : RunData) (steps more asked : ℕ) (view : View) (IsKept : RunData → Type 0) (done : Bool)
-    (text : List ℕ) → more ≡ steps_of view steps → asked ≡ all_steps steps from → mid.seed ≡ from.seed
+pub ran-on : (c : Contents) (from mid ends : RunData) (steps more asked : ℕ) (view : View) (keep : Option (List ℕ)) (tells : Bool)
+    (told : List ℕ → Option (List ℕ)) (done : Bool) (text : List ℕ) → IsUntraced view → more ≡ steps_of view steps
+    → asked ≡ all_steps steps from → mid.seed ≡ from.seed
     → ((k : Contents) (n : ℕ) → IsRunOf k n from → IsRunOf k (n + more_of more from) mid)
-    → ((k : Contents) (n : ℕ) → IsRunOf k n mid → IsRunOf k n ends) → ends.seed ≡ mid.seed → IsKept ends
+    → ((k : Contents) (n : ℕ) → IsRunOf k n mid → IsRunOf k n ends) → ends.seed ≡ mid.seed
+    → IfSome keep (λ name. IsWrittenTo name tells told ends)
     → ((n : ℕ) → IsRunOf c n mid → LookedAt (started c) (λ es. es ≡ seed_events c mid.seed n)
     (view_text view (Some (mid.seed, asked)) (started c)) done text)
-    → RanOn c from steps view IsKept done text
-ran-on c from mid ends steps more asked view IsKept done text is all seed went same still kept looked = record {
-  ends = ends;
-  seed = still ∙ seed;
-  went = λ n h. same c (n + more_of (steps_of view steps) from) (further n h);
-  kept = kept;
-  looked = λ n h. tells n h;
+    → RanOn c from steps view (IsLeftIn keep tells told c) done text
+ran-on c from mid ends steps more asked view keep tells told done text untraced is all seed went same still kept looked = record {
+  left = left-in keep tells told c from ends (more_of (steps_of view steps) from) (still ∙ seed)
+      (λ n h. same c (n + more_of (steps_of view steps) from) (further n h)) kept;
+  looked = λ n h. of-whole n h;
 }
   where
     further : (n : ℕ) → IsRunOf c n from → IsRunOf c (n + more_of (steps_of view steps) from) mid
     further n h = subst (λ m. IsRunOf c (n + more_of m from) mid) is (went c n h)
 
-    tells : (n : ℕ) → IsRunOf c n from
+    of-whole : (n : ℕ) → IsRunOf c n from
         → LookedAt (started c) (λ es. es ≡ seed_events c from.seed (n + more_of (steps_of view steps) from))
-        (view_text view (Some (from.seed, all_steps steps from)) (started c)) done text
-    tells n h =
+        (view_text (view_behind from.machine.events view) (Some (from.seed, all_steps steps from)) (started c)) done text
+    of-whole n h =
         let k = n + more_of (steps_of view steps) from in
-        let Told : ℕ → ℕ → Type 0 =
-        λ s a. LookedAt (started c) (λ es. es ≡ seed_events c s k) (view_text view (Some (s, a)) (started c)) done text in
-        subst (λ s. Told s (all_steps steps from)) seed (subst (Told mid.seed) all (looked k (further n h)))
+        let Told : View → ℕ → ℕ → Type 0 =
+        λ v s a. LookedAt (started c) (λ es. es ≡ seed_events c s k) (view_text v (Some (s, a)) (started c)) done text in
+        subst (λ v. Told v from.seed (all_steps steps from)) (untraced-alike from.machine.events view untraced)
+        (subst (λ s. Told view s (all_steps steps from)) seed (subst (Told view mid.seed) all (looked k (further n h))))

@@ -9,6 +9,7 @@ mod Excluded
 mod Executed
 mod Facts
 mod Followed
+mod Further
 mod Loading
 mod GoingOn
 mod Looking

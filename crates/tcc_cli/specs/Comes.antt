@@ -3,7 +3,7 @@ use Rattle.std.specs.Prelude.{ℕ, Bool, true, List, ◌≡◌, Option}
 use Rattle.tcc_cli.specs.Commands.{head_of, start_from}
 use Rattle.tcc_cli.specs.Following.{IsFollowed, RanFollowing}
 use Rattle.tcc_cli.specs.Lists.{IsExecuted, IsListFault}
-use Rattle.tcc_cli.specs.Long.{IsLeftIn, RanLong}
+use Rattle.tcc_cli.specs.Long.{BeganLong, IsLeftIn, RanLong}
 use Rattle.tcc_base.specs.Settings.{Settings}
 use Rattle.tcc_world.specs.Page.{Written}
 use Rattle.tcc_cli.specs.Looks.{ArePicked, AreFirst, IsBegun, IsFaultOfFirst, LookedAt, begun_of, most_of, seed_of, view_text}
@@ -72,6 +72,8 @@ HasBegun (Look machine images source view) files o =
     IsBegun (AreLookedAt source (most_of view) s machine.config files) (begun_of view (seed_of source) s) o
 HasBegun (LookOnBus machine images steps seed (Trace from to states)) files o =
     IsBusTraceBegun (start_from (LookOnBus machine images steps seed (Trace from to states)) files) seed steps from to states o
+HasBegun (Long machine images begin steps (Trace from to states) keep) files o =
+    BeganLong (start_from (Long machine images begin steps (Trace from to states) keep) files) begin files steps (Trace from to states) o
 HasBegun (Outcomes machine images limits tell) files o =
     IsTableBegun (start_from (Outcomes machine images limits tell) files) limits tell o
 HasBegun _ files o = ⊥

@@ -20,7 +20,7 @@ use Rattle.tcc_msg.specs.declared.event.Event.{Event}
 use Rattle.tcc_replay.specs.declared.replaying.ReplayFault.{ReplayFault}
 use Rattle.tcc_replay.specs.declared.replaying.ReplayFault.TheVariants as replay
 use Rattle.tcc_words.specs.declared.command.Command.{Command}
-use Rattle.tcc_words.specs.declared.command.Command.TheVariants.{Look, LookOnBus, Outcomes}
+use Rattle.tcc_words.specs.declared.command.Command.TheVariants.{Look, LookOnBus, Long, Outcomes}
 use Rattle.tcc_words.specs.declared.command.View.{View}
 use Rattle.tcc_words.specs.declared.command.View.TheVariants.{Trace, Rows}
 use Rattle.tcc_world.specs.Faults.{Rose}
@@ -90,6 +90,7 @@ IsUntraced _ = Unit {0}
 abbrev pub IsPrinted : Command → Type 0
 IsPrinted (Look machine images source view) = IsUntraced view
 IsPrinted (LookOnBus machine images steps seed view) = IsUntraced view
+IsPrinted (Long machine images begin steps view keep) = IsUntraced view
 IsPrinted (Outcomes machine images limits tell) = ⊥
 IsPrinted _ = Unit {0}
 

@@ -1,9 +1,12 @@
 // Runs that begin before their first event or go on from a checkpoint, and that may be written down at their end.
-ghost use Rattle.std.specs.Prelude.{◌≡◌, ◌≢◌, ◌+◌, [], ℕ, List as Seq, IfErr, IfOk, OnOk, Some};
+ghost use Rattle.std.specs.Prelude.{◌≡◌, ◌≢◌, ◌+◌, ◌≤◌, [], ℕ, List as Seq, IfErr, IfOk, IfSome, OnOk, Some};
 ghost use Rattle.std.specs.String.{string_bytes};
 ghost use Rattle.image_load.specs.Contents.{Contents, started};
+ghost use Rattle.net_core.specs.Limits.{machine_limit};
+ghost use Rattle.tcc_base.specs.Limits.{text_limit};
 ghost use Rattle.tcc_cli.specs.Failing.{IsCheckpointRefused, IsLongStopped, IsNotWritten, IsUntraced};
-ghost use Rattle.tcc_cli.specs.Long.{IsLeftIn, IsToldBy, RanFrom, RanOn, all_steps, more_of, steps_of as plain_steps_of};
+ghost use Rattle.tcc_cli.specs.Long.{IsFurtherStopped, IsFurtherTold, IsLeftIn, IsToldBy, IsWrittenTo, RanFrom, RanOn};
+ghost use Rattle.tcc_cli.specs.Long.{more_of as plain_more_of, steps_of as plain_steps_of};
 ghost use Rattle.tcc_cli.specs.Looks.{LookedAt, view_text};
 ghost use Rattle.tcc_words.specs.declared.command.View.TheVariants.{Count, State};
 ghost use Rattle.watch_run.specs.Runs.{IsRunOf, seed_events};
@@ -12,14 +15,15 @@ use crate::looks::tables;
 use crate::records::write_record;
 use crate::refusal::Refusal;
 use crate::reports::Finished;
+use crate::traces::of_broken as of_trace;
 use checkpoint_run::{push_run, read_run};
 use checkpoint_text::Broken;
 use image_load::Loaded;
 use std::alloc::Global;
 use tcc_base::{List, NoMemory, Text};
 use tcc_words::{MAX_COUNTED, View};
-use tcc_world::Store;
-use watch_run::Run;
+use tcc_world::{Sink, Store};
+use watch_run::{Run, Shown};
 use watch_state::state;
 
 /// The number, from 1, of the first line that begins with this word; 1 where there is none.
@@ -51,19 +55,22 @@ fn of_broken<'a>(bytes: &[u8], broken: Broken) -> Refusal<'a>
     }
 }
 
+/// So many steps are taken at most, as far as a run may go.
+fn more_of(run: &Run, steps: u64) -> u64
+    ensures more { result ≡ plain_more_of steps run.now }
+    ensures few { run.now.machine.events + result ≤ machine_limit }
+{
+    steps.min(MAX_COUNTED - run.system().events())
+}
+
 /// Takes so many steps more, as far as a run may go.
 fn go_on(alloc: Global, run: &mut Run, steps: u64) -> Result<(), NoMemory>
-    requires settled { run.old.machine.unsent ≡ [] }
-    ensures went { OnOk result ((c : Contents) (n : ℕ) → IsRunOf c n run.old → IsRunOf c (n + more_of steps run.old) run.new) }
+    ensures went { OnOk result ((c : Contents) (n : ℕ) → IsRunOf c n run.old → IsRunOf c (n + plain_more_of steps run.old) run.new) }
     ensures settled { OnOk result (run.new.machine.unsent ≡ []) }
     ensures code { OnOk result (run.new.machine.cores.code ≡ run.old.machine.cores.code) }
     ensures seed { run.new.seed ≡ run.old.seed }
 {
-    let more = steps.min(MAX_COUNTED.saturating_sub(run.system().events()));
-    if more == 0 {
-        return Ok(());
-    }
-    run.go(alloc, more)
+    run.go(alloc, more_of(run, steps))
 }
 
 /// What was counted of a run.
@@ -151,7 +158,8 @@ fn leave<'a, F: Store>(
     files: &mut F,
 ) -> Result<(), Refusal<'a>>
     requires settled { run.old.machine.unsent ≡ [] }
-    ensures left { OnOk result (IsLeftIn keep.now (F.disk files.old).tells (F.disk files.new).contents run.new) }
+    ensures left { OnOk result (IfSome keep.now
+        (λ name. IsWrittenTo name (F.disk files.old).tells (F.disk files.new).contents run.new)) }
     ensures same { (c : Contents) (n : ℕ) → IsRunOf c n run.old → IsRunOf c n run.new }
     ensures seed { run.new.seed ≡ run.old.seed }
     ensures failed { IfErr result (IsNotWritten keep.now (record { before = F.disk files.old; after = F.disk files.new })) }
@@ -168,11 +176,12 @@ fn leave<'a, F: Store>(
     write_record(alloc, name, &text.items, files)
 }
 
-/// So many steps are asked for: where the state is shown, no more than its events.
+/// So many steps are asked for: where the state or a trace is shown, no more than its events.
 fn steps_of(view: View, steps: u64) -> u64
     ensures { result ≡ plain_steps_of view steps }
 {
     match view {
+        View::Trace { to, .. } => steps.min(to),
         View::State { events } => steps.min(events),
         _ => steps,
     }
@@ -189,10 +198,9 @@ fn go_and_leave<'a, F: Store>(
     files: &mut F,
 ) -> Result<Finished, Refusal<'a>>
     requires code { run.old.machine.cores.code ≡ loaded.now }
-    requires settled { run.old.machine.unsent ≡ [] }
     requires untraced { IsUntraced view }
     ensures ran { IfOk result (λ f. RanOn loaded.now run.old steps view
-        (IsLeftIn keep.now (F.disk files.old).tells (F.disk files.new).contents) f.done (string_bytes f.text)) }
+        (IsLeftIn keep.now (F.disk files.old).tells (F.disk files.new).contents loaded.now) f.done (string_bytes f.text)) }
     ensures failed { IfErr result (IsNotWritten keep.now (record { before = F.disk files.old; after = F.disk files.new })) }
     ensures others { (n : Seq ℕ) → keep.now ≢ Some n → (F.disk files.new).contents n ≡ (F.disk files.old).contents n }
 {
@@ -224,7 +232,7 @@ pub fn run_from_seed<'a, F: Store>(
 ) -> Result<Finished, Refusal<'a>>
     requires untraced { IsUntraced view }
     ensures ran { IfOk result (λ f. RanFrom loaded.now (λ r. IsRunOf loaded.now 0 r × (r.seed ≡ seed) × (r.drawn ≡ 0)) steps view
-        (IsLeftIn keep.now (F.disk files.old).tells (F.disk files.new).contents) f.done (string_bytes f.text)) }
+        (IsLeftIn keep.now (F.disk files.old).tells (F.disk files.new).contents loaded.now) f.done (string_bytes f.text)) }
     ensures failed { IfErr result (IsNotWritten keep.now (record { before = F.disk files.old; after = F.disk files.new })) }
     ensures others { (n : Seq ℕ) → keep.now ≢ Some n → (F.disk files.new).contents n ≡ (F.disk files.old).contents n }
 {
@@ -248,7 +256,7 @@ pub fn run_from_checkpoint<'a, F: Store>(
 ) -> Result<Finished, Refusal<'a>>
     requires untraced { IsUntraced view }
     ensures ran { IfOk result (λ f. RanFrom loaded.now (IsToldBy bytes.now) steps view
-        (IsLeftIn keep.now (F.disk files.old).tells (F.disk files.new).contents) f.done (string_bytes f.text)) }
+        (IsLeftIn keep.now (F.disk files.old).tells (F.disk files.new).contents loaded.now) f.done (string_bytes f.text)) }
     ensures failed { IfErr result (IsLongStopped keep.now (record { before = F.disk files.old; after = F.disk files.new })) }
     ensures others { (n : Seq ℕ) → keep.now ≢ Some n → (F.disk files.new).contents n ≡ (F.disk files.old).contents n }
 {
@@ -257,4 +265,34 @@ pub fn run_from_checkpoint<'a, F: Store>(
         Err(broken) => return Err(of_broken(bytes, broken)),
     };
     go_and_leave(alloc, loaded, &mut run, steps, view, keep, files)
+}
+
+/// Writes the trace of the run of the checkpoint that a file holds, from its next event on: `shown.from` is counted from there, and at
+/// most `to` events are taken, of at most so many that are asked for. Or the line at which the checkpoint is refused, and then nothing is
+/// written.
+pub fn trace_from_checkpoint<'a, O: Sink>(
+    alloc: Global,
+    loaded: &Loaded,
+    bytes: &[u8],
+    steps: u64,
+    shown: Shown,
+    to: u64,
+    out: &mut O,
+) -> Result<bool, Refusal<'a>>
+    requires from { shown.from ≤ text_limit }
+    requires to { to ≤ text_limit }
+    ensures told { IfOk result (IsFurtherTold loaded.now (IsToldBy bytes.now) steps (View.Trace shown.from to shown.states)
+        (record { before = O.page out.old; after = O.page out.new })) }
+    ensures stopped { IfErr result (IsFurtherStopped loaded.now (IsToldBy bytes.now) steps (View.Trace shown.from to shown.states)
+        (record { before = O.page out.old; after = O.page out.new })) }
+{
+    let run = match read_run(alloc, bytes, loaded) {
+        Ok(run) => run,
+        Err(broken) => return Err(of_broken(bytes, broken)),
+    };
+    let more = more_of(&run, steps.min(to)) as u32;
+    match run.trace(alloc, more, shown, out) {
+        Ok(done) => Ok(done),
+        Err(broken) => Err(of_trace(broken)),
+    }
 }

@@ -10,12 +10,14 @@ use Rattle.tcc_base.specs.Limits.{text_limit}
 use Rattle.tcc_base.specs.Settings.{Settings, IsAllowed}
 use Rattle.tcc_words.proofs.OneCommand.{one-value}
 use Rattle.tcc_words.proofs.Unasked.{IsApart, unasked}
-use Rattle.tcc_words.specs.Asked.{Asks, AsksLook, AsksSource, AsksView, GoTogether, HasPlaces, HasSettings, IsCommand, IsGiven, IsLong}
-use Rattle.tcc_words.specs.Asked.{MayBeGiven}
-use Rattle.tcc_words.specs.Bounds.{IsFew, IsInBounds, IsLongView, IsNear, IsNearOnBus, most_steps}
+use Rattle.tcc_words.specs.Asked.{Asks, AsksBegin, AsksLook, AsksSource, AsksView, GoTogether, HasPlaces, HasSettings, IsCommand}
+use Rattle.tcc_words.specs.Asked.{IsGiven, IsLong, MayBeGiven}
+use Rattle.tcc_words.specs.Bounds.{IsFew, IsInBounds, IsLongView, IsNear, IsNearOnBus, IsResumed, most_steps}
 use Rattle.tcc_words.specs.Grammar.{grammar}
 use Rattle.tcc_words.specs.Fields.{AllowsIn, AreFew, IsFlagged, IsValue, count_limit, images_of}
 use Rattle.tcc_words.specs.Numbers.{IsNumber}
+use Rattle.tcc_words.specs.declared.command.Begin.{Begin}
+use Rattle.tcc_words.specs.declared.command.Begin.TheVariants as begin
 use Rattle.tcc_words.specs.declared.command.Command.{Command}
 use Rattle.tcc_words.specs.declared.command.Command.TheVariants as command
 use Rattle.tcc_words.specs.declared.command.Field.{Field}
@@ -119,36 +121,27 @@ no-dirs words =
     (refl, (refl, (refl, (refl, (refl, (refl, (refl, (refl, (refl, tt))))))))) in
     unasked (codes "dirs") (built (grammar Bus)).top.rules apart (names_of (built (grammar Bus))) (argument_words (grammar Bus) words)
 
--- and a trace's words no checkpoint, neither to go on from nor to be written
-none-of-trace : (name : Text) (words : List Text) → IsApart name (built (grammar Trace)).top.rules
-    → first_of name (matches_of (grammar Trace) words) ≡ None
-unfolding grammar
-none-of-trace name words apart =
-    unasked name (built (grammar Trace)).top.rules apart (names_of (built (grammar Trace))) (argument_words (grammar Trace) words)
-
-not-resumed : IsApart (codes "resume") (built (grammar Trace)).top.rules
+-- and a trace's words no checkpoint to be written
+not-written : (words : List Text) → first_of (codes "checkpoint") (matches_of (grammar Trace) words) ≡ None
 unfolding grammar IsApart
-not-resumed = (refl, (refl, (refl, (refl, (refl, (refl, (refl, (refl, (refl, (refl, (refl, (refl, (refl, (refl, (refl, tt)))))))))))))))
-
-not-written : IsApart (codes "checkpoint") (built (grammar Trace)).top.rules
-unfolding grammar IsApart
-not-written = (refl, (refl, (refl, (refl, (refl, (refl, (refl, (refl, (refl, (refl, (refl, (refl, (refl, (refl, (refl, tt)))))))))))))))
+not-written words =
+    let apart : IsApart (codes "checkpoint") (built (grammar Trace)).top.rules =
+    (refl, (refl, (refl, (refl, (refl, (refl, (refl, (refl, (refl, (refl, (refl, (refl, (refl, (refl, (refl, (refl, tt)))))))))))))))) in
+    unasked (codes "checkpoint") (built (grammar Trace)).top.rules apart (names_of (built (grammar Trace)))
+    (argument_words (grammar Trace) words)
 
 one-dir : (rows : List Row) (n : ℕ) → first_of (codes "dirs") rows ≡ None → IsValue 1 (first_of (codes "dirs") rows) n → n ≡ 1
 one-dir rows n none said = subst (λ o. IsValue 1 o n) none said
 
--- where a command's grammar has no directories none are read, and so with checkpoints
+-- where a command's grammar has no directories none are read, and so with a checkpoint to be written
 abbrev HasNone : Verb → List Row → Type 0
 HasNone Bus rows = first_of (codes "dirs") rows ≡ None
-HasNone Trace rows = (first_of (codes "resume") rows ≡ None) × (first_of (codes "checkpoint") rows ≡ None)
+HasNone Trace rows = first_of (codes "checkpoint") rows ≡ None
 HasNone _ rows = Unit {0}
 
 has-none : (verb : Verb) (words : List Text) (rows : List Row) → matches_of (grammar verb) words ≡ rows → HasNone verb rows
 has-none Bus words rows read = subst (λ r. first_of (codes "dirs") r ≡ None) read (no-dirs words)
-has-none Trace words rows read = (
-  subst (λ r. first_of (codes "resume") r ≡ None) read (none-of-trace (codes "resume") words not-resumed),
-  subst (λ r. first_of (codes "checkpoint") r ≡ None) read (none-of-trace (codes "checkpoint") words not-written),
-)
+has-none Trace words rows read = subst (λ r. first_of (codes "checkpoint") r ≡ None) read (not-written words)
 has-none _ words rows read = tt
 
 source-few : (verb : Verb) (rows : List Row) (v : View) (s : Source) → AsksView verb rows v → AsksSource rows s
@@ -187,26 +180,31 @@ view-near-on-bus verb rows (view.Count csv) bus a every = view-near verb rows (v
 view-near-on-bus verb rows (view.State events) bus a every = view-near verb rows (view.State events) a every
 view-near-on-bus _ rows (view.Rows n) bus a every = absurd a
 
--- rows without a checkpoint are of no long run
-not-long : (rows : List Row) → first_of (codes "resume") rows ≡ None → first_of (codes "checkpoint") rows ≡ None → IsLong rows → ⊥
-not-long rows resumed written (inl some) = let there = subst IsSome resumed some in absurd cc
-not-long rows resumed written (inr some) = let there = subst IsSome written some in absurd cc
-
 none-given : (rows : List Row) (name : Text) (n : ℕ) → first_of name rows ≡ None → IsGiven rows name n → ⊥
 none-given rows name n none given = let there = given.1 in absurd cc
 
--- what is told of a long run is no trace, and no totals as it goes
-long-near : (verb : Verb) (rows : List Row) (v : View) → IsLong rows → HasPlaces verb rows → HasNone verb rows → AsksView verb rows v
-    → ((field : Field) → AllowsIn verb rows field) → IsLongView v
-long-near Trace rows v long places none a every = absurd (not-long rows none.0 none.1 long)
-long-near Count rows (view.Count csv) long places none a every = tt
-long-near Count rows (view.Rows n) long places none a every =
+-- a long run that isn't written down goes on from a checkpoint
+resumed : (rows : List Row) (b : Begin) → IsLong rows → first_of (codes "checkpoint") rows ≡ None → AsksBegin rows b → IsResumed b
+resumed rows (begin.Checkpoint name) long none asked = tt
+resumed rows (begin.Seed seed) (inl some) none asked = let there = subst IsSome asked.0 some in absurd cc
+resumed rows (begin.Seed seed) (inr some) none asked = let there = subst IsSome none some in absurd cc
+
+-- what is told of a long run are no totals as it goes, and beside a trace none is written down
+long-near : (verb : Verb) (rows : List Row) (v : View) (b : Begin) (keep : Option Text) → IsLong rows → HasPlaces verb rows
+    → HasNone verb rows → AsksView verb rows v → ((field : Field) → AllowsIn verb rows field) → AsksBegin rows b
+    → keep ≡ first_of (codes "checkpoint") rows → IsLongView v b keep
+long-near Trace rows (view.Trace from to states) b keep long places none a every asked is =
+    let near = view-near Trace rows (view.Trace from to states) a every in
+    (near.0, near.1, resumed rows b long none asked, is ∙ none)
+long-near Count rows (view.Count csv) b keep long places none a every asked is = tt
+long-near Count rows (view.Rows n) b keep long places none a every asked is =
     absurd (none-given rows (codes "every") n (places.2.plain long).2 a)
-long-near State rows (view.State events) long places none a every = view-near State rows (view.State events) a every
-long-near _ rows v long places none a every = absurd a
+long-near State rows (view.State events) b keep long places none a every asked is = view-near State rows (view.State events) a every
+long-near _ rows v b keep long places none a every asked is = absurd a
 
 looking : (verb : Verb) (rows : List Row) (v : View) (c : Command) → (1 ≤ length (images_of rows)) × GoTogether rows
-    → (IsLong rows → IsLongView v) → ((field : Field) → AllowsIn verb rows field) → AsksLook rows v c → AsksView verb rows v → IsInBounds c
+    → ((b : Begin) (keep : Option Text) → IsLong rows → AsksBegin rows b → keep ≡ first_of (codes "checkpoint") rows → IsLongView v b keep)
+    → ((field : Field) → AllowsIn verb rows field) → AsksLook rows v c → AsksView verb rows v → IsInBounds c
 looking verb rows v (command.Look machine images source view) places far every a b =
     let some = images-some verb rows images a.3 places.0 every in
     let few = subst (λ w. IsFew w source) (sym a.5) (source-few verb rows v source b a.4 every) in
@@ -215,7 +213,7 @@ looking verb rows v (command.Look machine images source view) places far every a
 looking verb rows v (command.Long machine images begin steps view keep) places far every a b =
     let some = images-some verb rows images a.3 places.0 every in
     let few = subst (λ w. steps ≤ most_steps w) (sym a.6) (few-of verb rows v steps b (steps-few verb rows steps a.5 every)) in
-    let near = subst IsLongView (sym a.6) (far a.1) in
+    let near = subst (λ w. IsLongView w begin keep) (sym a.6) (far begin keep a.1 a.4 a.7) in
     record { allowed = allowed verb rows machine.config a.2.0 every; numbers = (some.0, some.1, few, near) }
 looking verb rows v (command.LookOnBus machine images steps seed view) places far every a b =
     let some = images-some verb rows images a.2 places.0 every in
@@ -252,11 +250,11 @@ bounded Bus rows (command.Bus machine images steps seed) places none every a =
     let one = one-dir rows machine.config.dirs none a.0.0.dirs in
     record { allowed = allowed Bus rows machine.config a.0.0 every; numbers = (some.0, some.1, steps-few Bus rows steps a.2 every, one) }
 bounded Trace rows c places none every a =
-    looking Trace rows a.0 c places (λ long. long-near Trace rows a.0 long places none a.2 every) every a.1 a.2
+    looking Trace rows a.0 c (places.0, places.1) (λ b keep long. long-near Trace rows a.0 b keep long places none a.2 every) every a.1 a.2
 bounded Count rows c places none every a =
-    looking Count rows a.0 c (places.0, places.1) (λ long. long-near Count rows a.0 long places none a.2 every) every a.1 a.2
+    looking Count rows a.0 c (places.0, places.1) (λ b keep long. long-near Count rows a.0 b keep long places none a.2 every) every a.1 a.2
 bounded State rows c places none every a =
-    looking State rows a.0 c (places.0, places.1) (λ long. long-near State rows a.0 long places none a.2 every) every a.1 a.2
+    looking State rows a.0 c (places.0, places.1) (λ b keep long. long-near State rows a.0 b keep long places none a.2 every) every a.1 a.2
 bounded Outcomes rows (command.Outcomes machine images limits tell) places none every a =
     let some = images-some Outcomes rows images a.1 places every in
     let states = some-of 1000000 (first_of (codes "states") rows) limits.states a.2 (every States) in

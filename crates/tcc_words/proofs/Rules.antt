@@ -72,12 +72,12 @@ pub trial_made : (verb : Verb) (name : Text) (bare nodes events kind made : App)
 unfolding grammar
 trial_made verb name bare nodes events kind made v n e0 e1 e2 e3 e4 = rw (e4, e3, e2, e1, e0, n, v) refl
 
-pub trace_made : (verb : Verb) (name : Text) (bare source from to states made : App) → verb ≡ Trace → name ≡ verb_word verb
+pub trace_made : (verb : Verb) (name : Text) (bare source from to states resumed made : App) → verb ≡ Trace → name ≡ verb_word verb
     → bare ≡ plain name [] → source ≡ with_rules source_rules bare → from ≡ with_rule source (option (codes "from"))
     → to ≡ with_rule from (option (codes "to")) → states ≡ with_rule to (flag (codes "records") (codes "states"))
-    → made ≡ with_rule states (places (codes "image")) → made ≡ grammar verb
+    → resumed ≡ with_rule states (option (codes "resume")) → made ≡ with_rule resumed (places (codes "image")) → made ≡ grammar verb
 unfolding grammar
-trace_made verb name bare source from to states made v n e0 e1 e2 e3 e4 e5 = rw (e5, e4, e3, e2, e1, e0, n, v) refl
+trace_made verb name bare source from to states resumed made v n e0 e1 e2 e3 e4 e5 e6 = rw (e6, e5, e4, e3, e2, e1, e0, n, v) refl
 
 pub count_made : (verb : Verb) (name : Text) (bare source csv every resumed written made : App) → verb ≡ Count → name ≡ verb_word verb
     → bare ≡ plain name [] → source ≡ with_rules source_rules bare → csv ≡ with_rule source (flag (codes "csv") (codes "csv"))

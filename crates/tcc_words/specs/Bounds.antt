@@ -1,10 +1,12 @@
 -- The numbers of a command are within their bounds.
-use Rattle.std.specs.Prelude.{ℕ, ◌≡◌, ◌≤◌, List, length, IfSome, IsSome}
+use Rattle.std.specs.Prelude.{ℕ, ◌≡◌, ◌≤◌, List, length, IfSome, IsSome, Option, None}
 use Rattle.clap.specs.Words.{Text}
 use Rattle.tcc_base.specs.Limits.{text_limit}
 use Rattle.tcc_base.specs.Settings.{Settings, IsAllowed}
 use Rattle.tcc_words.specs.Asked.{IsCommand}
 use Rattle.tcc_words.specs.Fields.{count_limit}
+use Rattle.tcc_words.specs.declared.command.Begin.{Begin}
+use Rattle.tcc_words.specs.declared.command.Begin.TheVariants as begin
 use Rattle.tcc_words.specs.declared.command.Command.{Command}
 use Rattle.tcc_words.specs.declared.command.Command.TheVariants.{Run, Replay, Serial, Trial, Why, Phases, Bus, Look}
 use Rattle.tcc_words.specs.declared.command.Command.TheVariants.{LookOnBus, Outcomes, Follow, Long}
@@ -48,11 +50,17 @@ abbrev pub IsNearOnBus : View → Type 0
 IsNearOnBus (Rows every) = ⊥
 IsNearOnBus view = IsNear view
 
--- a long run is counted to its end, or its state is shown
-abbrev pub IsLongView : View → Type 0
-IsLongView (Count csv) = Unit {0}
-IsLongView (State events) = events ≤ text_limit
-IsLongView _ = ⊥
+-- a run that goes on from a checkpoint
+abbrev pub IsResumed : Begin → Type 0
+IsResumed (begin.Seed seed) = ⊥
+IsResumed (begin.Checkpoint name) = Unit {0}
+
+-- a long run is counted to its end, or its state is shown, or its trace from a checkpoint on, and then it isn't written down
+abbrev pub IsLongView : View → Begin → (keep : Option Text) → Type 0
+IsLongView (Trace from to states) begin keep = (from ≤ text_limit) × (to ≤ text_limit) × IsResumed begin × (keep ≡ None)
+IsLongView (Count csv) begin keep = Unit {0}
+IsLongView (Rows every) begin keep = ⊥
+IsLongView (State events) begin keep = events ≤ text_limit
 
 -- 1 to 16 images, at most 4,194,304 events but where they are counted, 1 to 16 threads and only with a record, 1 to 1024 acts in a turn,
 -- a workload's number from 1 to 2047; where there are no directories the settings have one; at least one state, and one instruction
@@ -74,7 +82,7 @@ AreNumbers (Outcomes machine images limits tell) =
     (1 ≤ length images) × (length images ≤ 16) × (1 ≤ limits.states) × (1 ≤ limits.longest)
 AreNumbers (Follow machine list images keep) = (1 ≤ length images) × (length images ≤ 16)
 AreNumbers (Long machine images begin steps view keep) =
-    (1 ≤ length images) × (length images ≤ 16) × (steps ≤ most_steps view) × IsLongView view
+    (1 ≤ length images) × (length images ≤ 16) × (steps ≤ most_steps view) × IsLongView view begin keep
 
 pub record IsInBounds (c : Command) : Type 0 where
   pub allowed : IsAllowed (config_of c)

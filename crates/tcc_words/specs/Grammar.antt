@@ -79,7 +79,8 @@ rules Why = file_rules (codes "schedule")
 rules Phases = machine_rules ++ event_rules ++ record_rules
 rules Bus = core_rules ++ memory_rules ++ event_rules ++ places (codes "image") ∷ []
 rules Trace =
-    source_rules ++ option (codes "from") ∷ option (codes "to") ∷ flag (codes "records") (codes "states") ∷ places (codes "image") ∷ []
+    source_rules ++ option (codes "from") ∷ option (codes "to") ∷ flag (codes "records") (codes "states") ∷ option (codes "resume")
+    ∷ places (codes "image") ∷ []
 rules Count =
     source_rules ++ flag (codes "csv") (codes "csv") ∷ option (codes "every") ∷ option (codes "resume") ∷ option (codes "checkpoint")
     ∷ places (codes "image") ∷ []

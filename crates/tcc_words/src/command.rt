@@ -207,7 +207,8 @@ pub enum Command {
         keep: Option<Text>,
     },
     /// Count a run of the images, or show its state, from its beginning or from a checkpoint, for at most `steps` events more that its
-    /// seed chooses. It is written down to the file `keep` at its end, where there is one.
+    /// seed chooses. It is written down to the file `keep` at its end, where there is one. Or tell what each of these events did, from a
+    /// checkpoint on.
     Long {
         machine: Machine,
         images: List<Text>,

@@ -73,7 +73,8 @@ fn grammar<'a>(alloc: Global, verb: Verb, name: &'a str) -> Result<clap::Command
             let from = with_option(alloc, source, "from")?;
             let to = with_option(alloc, from, "to")?;
             let states = with_flag(alloc, to, "records", "states")?;
-            with_places(alloc, states, "image")
+            let resume = with_option(alloc, states, "resume")?;
+            with_places(alloc, resume, "image")
         }
         Verb::Count => {
             let source = with_source(alloc, named)?;

@@ -52,8 +52,7 @@ fn has_places(verb: Verb, matches: &ArgMatches) -> bool
         Verb::Replay | Verb::Why => text(matches, "schedule").is_some() && has_images(matches),
         Verb::Serial | Verb::Follow => text(matches, "report").is_some() && has_images(matches),
         Verb::Trial => text(matches, "kind").is_some() && text(matches, "number").is_some(),
-        Verb::Trace => has_images(matches) && go_together(matches),
-        Verb::Count | Verb::State => {
+        Verb::Trace | Verb::Count | Verb::State => {
             has_images(matches) && go_together(matches) && may_be_long(matches)
         }
     }

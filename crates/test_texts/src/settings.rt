@@ -317,6 +317,40 @@ fn a_run_goes_on_from_a_checkpoint(rt: HostRuntime) -> Result<(), Fail> {
 }
 
 #[test]
+fn a_trace_goes_on_from_a_checkpoint(rt: HostRuntime) -> Result<(), Fail> {
+    let Ok(
+        Command::Long {
+            begin,
+            steps,
+            view,
+            keep,
+            ..
+        },
+    ) = asked(
+        rt.alloc(),
+        "trace --states --resume a --from 5 --steps 4194304 b",
+    )?
+    else {
+        panic!(rt; "they ask for another command, or for none");
+    };
+    assert!(rt; steps == 4_194_304 && keep.is_none());
+    assert_eq!(rt;
+        view,
+        View::Trace {
+            from: 5,
+            to: 4_194_304,
+            states: true
+        }
+    );
+    let Begin::Checkpoint(name) = begin else {
+        panic!(rt; "it begins before its first event");
+    };
+    let text = name.items;
+    assert_eq!(rt; text.as_str(), "a");
+    Ok(())
+}
+
+#[test]
 fn a_run_is_written_down(rt: HostRuntime) -> Result<(), Fail> {
     let Ok(
         Command::Long {
@@ -489,7 +523,7 @@ fn options_that_do_not_go_together(rt: HostRuntime) -> Result<(), Fail> {
 }
 
 /// A checkpoint that is resumed beside a seed, a long run beside what it hasn't, and checkpoints of commands that have none.
-const NOT_LONG: [Refused; 13] = [
+const NOT_LONG: [Refused; 15] = [
     ("count --resume c --seed 1 a", WordsFault::Words),
     ("state --seed=0 --resume c a", WordsFault::Words),
     (
@@ -503,7 +537,9 @@ const NOT_LONG: [Refused; 13] = [
     ("count --checkpoint c --bus a", WordsFault::Words),
     ("count --resume c --every 5 a", WordsFault::Words),
     ("count --checkpoint c --every 5 a", WordsFault::Words),
-    ("trace --resume c a", WordsFault::Words),
+    ("trace --resume c --seed 1 a", WordsFault::Words),
+    ("trace --resume c --schedule s a", WordsFault::Words),
+    ("trace --resume c --bus a", WordsFault::Words),
     ("trace --checkpoint c a", WordsFault::Words),
     ("state --checkpoint c a", WordsFault::Words),
 ];

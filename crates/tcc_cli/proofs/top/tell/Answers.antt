@@ -1,10 +1,13 @@
--- A trace or a table by a schedule or by a seed, or a trace on the bus, from the start that the command's files give.
+-- A trace or a table by a schedule or by a seed, or a trace on the bus or from a checkpoint, from the start that the command's files give.
 use Rattle.std.proofs.Common.{◌≡◌, ◌∙◌, IfErr, IfOk, None, Some, ap, refl, subst, sym}
 use Rattle.image_load.specs.Contents.{started}
-use Rattle.tcc_words.specs.declared.command.Command.TheVariants.{Look, LookOnBus}
+use Rattle.tcc_words.specs.Bounds.{IsInBounds, IsLongView}
+use Rattle.tcc_words.specs.declared.command.Begin.TheVariants.{Checkpoint}
+use Rattle.tcc_words.specs.declared.command.Command.TheVariants.{Long, Look, LookOnBus}
 use Rattle.tcc_words.specs.declared.command.Source.TheVariants.{Schedule, Seed}
 use Rattle.tcc_words.specs.declared.command.View.TheVariants.{Trace, Rows}
 use Rattle.tcc_cli.proofs.BusViews.{bus-trace-tells}
+use Rattle.tcc_cli.proofs.Further.{first-checkpoint, further-tells}
 use Rattle.tcc_cli.proofs.Looking.{first-file, going-tells}
 use Rattle.tcc_cli.specs.Around.{FilesAround}
 use Rattle.tcc_cli.specs.Commands.{head_of, machine_of}
@@ -116,3 +119,25 @@ returns-in-LookOnBus-default-default-default-default-Trace-clause-tells g c =
     bus-trace-tells c.args.command.now c.args.read.now (started c.args.loaded.now) it.machine it.images it.steps it.seed it.from it.to
     it.states f o c.trace_bus.result is c.requires.start (λ n. refl) (rw (it.from-is, it.to-is, it.states-is) at c.trace_bus.ensures.told)
     (rw (it.from-is, it.to-is, it.states-is) at c.trace_bus.ensures.stopped)
+
+pub returns-in-Long-default-default-Checkpoint-default-Trace-default-clause-tells
+    : goal.returns-in-Long-default-default-Checkpoint-default-Trace-default-clause-tells
+returns-in-Long-default-default-Checkpoint-default-Trace-default-clause-tells g c =
+    let it = c.in-Long-default-default-Checkpoint-default-Trace-default in
+    let begin : it.begin ≡ Checkpoint it.begin-0 = rw it.is at it.begin-is in
+    let view : it.view ≡ Trace it.from it.to it.states = rw it.is at it.view-is in
+    let is : c.args.command.now ≡ Long it.machine it.images (Checkpoint it.begin-0) it.steps (Trace it.from it.to it.states) it.keep =
+    it.is ∙ (λ i. Long it.machine it.images (begin i) it.steps (view i) it.keep) in
+    let bounds = (subst IsInBounds is c.requires.bounds).numbers in
+    let far : IsLongView (Trace it.from it.to it.states) (Checkpoint it.begin-0) it.keep = bounds.3 in
+    let bytes : c.bytes-in-Long-default-default-Checkpoint-default-Trace-default.result.now ≡ head_of c.args.read.now =
+    c.bytes-in-Long-default-default-Checkpoint-default-Trace-default.ensures
+    ∙ c.index-read-0-in-Long-default-default-Checkpoint-default-Trace-default.is
+    ∙ first-checkpoint c.args.command.now c.args.read.now it.machine it.images it.begin-0 it.steps (Trace it.from it.to it.states) it.keep
+    _ c.requires.count is in
+    let o : Written = record { before = g.O.Sink.page c.args.out.now; after = g.O.Sink.page c.trace_from_checkpoint.new.out } in
+    let f : FilesAround = record { before = g.F.Store.disk c.args.files.now; after = g.F.Store.disk c.args.files.now } in
+    further-tells c.args.command.now c.args.read.now c.args.loaded.now it.machine it.images it.begin-0 it.steps it.from it.to it.states
+    it.keep _ f o c.trace_from_checkpoint.result is far.3 c.requires.start bytes (λ n. refl)
+    (rw (it.from-is, it.to-is, it.states-is) at c.trace_from_checkpoint.ensures.told)
+    (rw (it.from-is, it.to-is, it.states-is) at c.trace_from_checkpoint.ensures.stopped)

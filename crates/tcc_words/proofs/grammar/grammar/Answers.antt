@@ -46,11 +46,11 @@ returns-in_ok-events-in-Bus c =
     c.bare-named.ensures c.in_ok-cores-in-Bus.ensures c.in_ok-machine-in-Bus.ensures c.in_ok-events-in-Bus.ensures h)
     c.with_places.ensures
 
-pub returns-in_ok-states-in-Trace : goal.returns-in_ok-states-in-Trace
-returns-in_ok-states-in-Trace c =
-    IfOk-weaker c.with_places-in-Trace.result _ _ (λ m h. trace_made c.args.verb c.args.name.now _ _ _ _ _ _ c.in-Trace.is c.requires
+pub returns-in_ok-resume-in-Trace : goal.returns-in_ok-resume-in-Trace
+returns-in_ok-resume-in-Trace c =
+    IfOk-weaker c.with_places-in-Trace.result _ _ (λ m h. trace_made c.args.verb c.args.name.now _ _ _ _ _ _ _ c.in-Trace.is c.requires
     c.bare-named.ensures c.in_ok-source-in-Trace.ensures c.in_ok-from-in-Trace.ensures c.in_ok-to-in-Trace.ensures
-    c.in_ok-states-in-Trace.ensures h)
+    c.in_ok-states-in-Trace.ensures c.in_ok-resume-in-Trace.ensures h)
     c.with_places-in-Trace.ensures
 
 pub returns-in_ok-checkpoint-in-Count : goal.returns-in_ok-checkpoint-in-Count
