@@ -124,8 +124,9 @@ _hoopoelarder() {
             '--steps[the largest number of events\: 0 to 4194304 (1000000)]:N:' \
             '--seed[what the choice of events begins with\: 0 to 18446744073709551615 (0)]:N:' \
             '--schedule[the run is that of this schedule; then there is neither --steps, --seed nor --bus]:NAME:_files' \
+            '--resume[the run goes on from this checkpoint; then there is neither --seed, --schedule nor --bus]:NAME:_files' \
             '--bus[the run is that of the machine with one bus; then there is no --dirs]' \
-            '--from[events before this one, counted from 0, aren'\''t printed\: 0 to 4194304 (0)]:N:' \
+            '--from[events before this one aren'\''t printed; the first one that is taken counts as 0\: 0 to 4194304 (0)]:N:' \
             '--to[at most so many events are taken\: 0 to 4194304 (4194304)]:N:' \
             '--states[the state at the beginning is printed too, and what each event changed of it]' \
             '1:command:' '*:file:_files'
@@ -161,7 +162,7 @@ _hoopoelarder() {
             '--steps[the largest number of events\: 0 to 4194304 (1000000)]:N:' \
             '--seed[what the choice of events begins with\: 0 to 18446744073709551615 (0)]:N:' \
             '--schedule[the run is that of this schedule; then there is neither --steps, --seed nor --bus]:NAME:_files' \
-            '--resume[the run goes on from this checkpoint; then there is neither --seed, --schedule, --bus nor --every]:NAME:_files' \
+            '--resume[the run goes on from this checkpoint; then there is neither --seed, --schedule nor --bus]:NAME:_files' \
             '--bus[the run is that of the machine with one bus; then there is no --dirs]' \
             '--events[at most so many events are taken\: 0 to 4194304 (4194304)]:N:' \
             '1:command:' '*:file:_files'

@@ -41,6 +41,9 @@ OFF_THE_CHECKPOINT = {
     "bus": "the machine with directories",
     "every": "a run whose totals are printed at the end",
 }
+# The fields that say how far a run is looked at, and how that is done from a checkpoint that stands there.
+LOOKED_AT = {"trace": (("steps", "from", "to"), "trace --resume FILE"), "state": (("steps", "events"), "state --resume FILE --events 0")}
+COUNTED = 1 << 40
 COMPILE_HINT = "compile with -march=rv32ima -mabi=ilp32, or with `tcc cc`"
 
 
@@ -108,7 +111,7 @@ def reason(command, name):
     if name == "checkpoint":
         return ": count writes a checkpoint"
     if name == "resume":
-        return ": count and state go on from a checkpoint"
+        return ": trace, count and state go on from a checkpoint"
     if command == "outcomes" and name in ("dirs", "sets", "ways", "seed", "steps", "schedule", "bus"):
         return ": it lists the results of all runs, on any machine"
     if command == "trial" and name in ("raw", "ram", "base"):
@@ -164,6 +167,15 @@ def number(text):
     return int(text, 16) if re.fullmatch(r"0x[0-9a-fA-F]+", text) else None
 
 
+def way_behind(field, events, said):
+    """How a look comes behind more events than it takes: a count leaves a checkpoint there. Of a schedule and of the bus there is none."""
+    fields, look = LOOKED_AT.get(said.command, ((), ""))
+    if field not in fields or events > COUNTED or "schedule" in said.given or "bus" in said.given:
+        return ""
+    begin = f" --resume {said.given['resume']}" if "resume" in said.given else ""
+    return f"; behind N events: `count{begin} --steps N --checkpoint FILE`, then `{look}`"
+
+
 def value_hint(field, words, options):
     said = Words(words, options)
     if field == "images":
@@ -190,7 +202,7 @@ def value_hint(field, words, options):
         return f"--{field} is a number ({options[field].limits}), in decimal or in hexadecimal after 0x; this is {given!r}"
     if field == "base" and number(given) % 32 == 0 and ram:
         return f"RAM of {ram} bytes from {number(given):x} would end after 2^32: the base is at most {(1 << 32) - ram:#x}"
-    return f"--{field} is {options[field].limits}, and this is {given}"
+    return f"--{field} is {options[field].limits}, and this is {given}" + way_behind(field, number(given), said)
 
 
 # The images.
