@@ -2,11 +2,10 @@
 # Refuses one request for memory of a command, the first, then the second and so on, until the command makes fewer, and looks at how each of
 # these calls ends: as when nothing is refused, or with status 7, the line `tcc: memory` and nothing on standard output, or of a trace and
 # of a table of outcomes a first part. Of a run on host threads, whose schedule isn't the same each time, the replay of the record has to
-# print the same bytes. It also looks at the files that
-# each call opens: those that the command names, in order, each once and no other, or the first of them; and at a record after status 7,
-# which is as it was or whole. Needs a C compiler: the requests go to `malloc`, `realloc` and `open`, and a small library before the C
-# library's counts and refuses them. TCC names the program to run. With --short it refuses the first forty requests of each command, and
-# then one of seventeen.
+# print the same bytes. It also looks at the files that each call opens: those that the command names, in order, each once and no other, or
+# the first of them; and at a record or a checkpoint, which after status 7 is as it was or whole. Needs a C compiler: the requests go to
+# `malloc`, `realloc` and `open`, and a small library before the C library's counts and refuses them. TCC names the program to run. With
+# --short it refuses the first forty requests of each command, and then one of seventeen.
 set -eu
 short=${1:-}
 here=$(dirname "$(readlink -f "$0")")
@@ -154,8 +153,8 @@ each_refused() {
     printf '%6d requests, %6d refusals: %s\n' "$asked" "$refusals" "$*"
 }
 
-# the text is that of the call of which nothing was refused
-same() { cmp -s output wanted; }
+# the text is that of the call of which nothing was refused, and so is the record
+same() { cmp -s output wanted && { [ -z "$record" ] || cmp -s "$record" whole; }; }
 
 # the replay of what was recorded prints the same
 replayed() { cp output first && "$program" replay --raw --cores 2 schedule count >again && cmp -s first again; }
@@ -172,6 +171,11 @@ for look in "trace --states" trace count state "trace --bus" "count --every 200"
     read -ra look <<<"$look"
     each_refused same "r count" "${look[@]}" --raw --cores 2 --steps 900 count
 done
+each_refused same $'r count\nw checkpoint' count --raw --cores 2 --steps 500 --checkpoint checkpoint count
+each_refused same $'r checkpoint\nr count\nw further' count --raw --cores 2 --resume checkpoint --steps 400 --checkpoint further count
+each_refused same $'r checkpoint\nr count' state --raw --cores 2 --resume checkpoint --steps 400 count
+# two pieces are written, and some of the requests come between them
+each_refused same $'r checkpoint\nr count' trace --raw --cores 2 --resume checkpoint --steps 1000 count
 each_refused same $'r schedule\nr spill' trace --raw --sets 1 --ways 1 --schedule schedule spill
 each_refused same "r count" outcomes --raw --tell all count
 each_refused same "r count" outcomes --raw --cores 2 --states 300 count

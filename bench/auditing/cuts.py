@@ -10,7 +10,7 @@ from auditing.running import Answer, answer, difference
 
 CUTS = 50
 DAMAGED = 50
-MOST = 4194304  # the steps of a state
+MOST = 4194304  # the steps of a state or a trace
 
 
 class Run:
@@ -59,6 +59,28 @@ def in_one_piece(run):
     return [*views, run.begun(run.steps)]
 
 
+def window(draw, before, left):
+    """From which event to which one a trace goes, counted from a checkpoint of so many events with so many more to come; None for what is
+    left out. Mostly these are a few events, and sometimes all, none, or others than there are."""
+    begin = draw.choice([None, 0, left, left + 1, MOST - before, *[draw.randint(0, left)] * 9])
+    end = (begin or 0) + draw.choice([0, 1, *[draw.randint(0, 40)] * 8])
+    return begin, draw.choice([None, 0, MOST - before, *[min(end, MOST - before)] * 17])
+
+
+def bounds(begin, end):
+    """The words for these."""
+    return [*(["--from", begin] if begin is not None else []), *(["--to", end] if end is not None else [])]
+
+
+def traced(run, f, before, events):
+    """A trace that goes on after so many events is the whole run's, from there on."""
+    begin, end = window(run.draw, before, events - before)
+    view = ["trace", *run.draw.choice([[], ["--states"]])]
+    there = bounds(before + (begin or 0), end if end is None else before + end)
+    whole = run.ask(run.words(*view, *run.seed, "--steps", run.steps, *there))
+    run.gives("cuts/trace", run.words(*view, "--resume", "f", "--steps", run.steps - before, *bounds(begin, end)), whole, f=f)
+
+
 def cut(run, whole, events):
     """A run that is cut once or twice, at any of its events."""
     count, csv, state, ended = whole
@@ -79,6 +101,7 @@ def cut(run, whole, events):
     run.gives("cuts/csv", run.words("count", "--csv", *resume), csv, f=f)
     short = draw.choice([resume, ["--resume", "f", "--events", last], ["--resume", "f", "--steps", MOST, "--events", last]])
     run.gives("cuts/state", run.words("state", *short), state, f=f)
+    traced(run, f, run.steps - last, events)
 
 
 # what is refused
@@ -103,18 +126,19 @@ def again(run, sizes=None):
 
 
 def damaged(run, text):
-    """A checkpoint that was changed. One that is taken goes on, and `state` refuses what `count` does."""
+    """A checkpoint that was changed. One that is taken goes on, and `state` and `trace` refuse what `count` does."""
     for _ in range(run.draw.choice([1, 1, 1, 2, 3])):
         text = damaged_rows(run.draw, text) or b"\n"
     asked = run.ask(again(run), f=text)
     found = fault(asked, text)
     run.case.note("cuts/damaged", again(run), found and f"{found}; the checkpoint is {text!r}")
     taken = asked.status in (0, 1)
-    words = run.words("count" if taken else "state", "--resume", "f", "--steps", 1000)
-    more = run.ask(words, f=text)
-    same = more.status in (0, 1) if taken else (more.status, more.error) == (asked.status, asked.error)
     what = "cuts/damaged, taken" if taken else "cuts/damaged, refused"
-    run.case.note(what, words, None if same else f"status {more.status}, {more.error!r}; the checkpoint is {text!r}")
+    for verb in ("count" if taken else "state", "trace"):
+        words = run.words(verb, "--resume", "f", "--steps", 1000)
+        more = run.ask(words, f=text)
+        same = more.status in (0, 1) if taken else (more.status, more.error, more.output) == (asked.status, asked.error, b"")
+        run.case.note(what, words, None if same else f"status {more.status}, {more.error!r}; the checkpoint is {text!r}")
 
 
 def other_settings(run, text):

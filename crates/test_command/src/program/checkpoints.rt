@@ -1,5 +1,5 @@
 // Runs that are written down at their end, and taken up again from there.
-use super::{Given, Held, Host, call, call_beside, over};
+use super::{Given, Held, Host, World, call, call_beside, over};
 use std::alloc::Global;
 use std::test::Fail;
 
@@ -83,6 +83,74 @@ fn a_run_goes_on_from_its_checkpoint(rt: HostRuntime) -> Result<(), Fail> {
     check_cut(&rt, rt.alloc(), "count", 40, "--csv")
 }
 
+/// From which event to which one a trace goes, counted from the checkpoint after so many steps, and its other options.
+type Window = (u64, u64, u64, &'static str);
+
+const WINDOWS: [Window; 7] = [
+    (0, 0, 9, ""),
+    (24, 0, 9, "--states"),
+    (48, 5, 14, ""),
+    (72, 5, 14, "--states"),
+    (96, 9, 9, ""),
+    // to the end, and behind it
+    (120, 0, 400, "--states"),
+    (120, 300, 309, "--states"),
+];
+
+/// The window is that of the whole run's trace.
+fn check_window(rt: &impl Host, alloc: Global, window: Window) -> Result<(), Fail> {
+    let (steps, from, to, more) = window;
+    let left = checkpoint(rt, alloc, steps)?;
+    let begin = steps.saturating_add(from);
+    let end = steps.saturating_add(to);
+    let there = format!(in alloc; "--from {begin} --to {end} {more}")?;
+    let whole = begun(rt, alloc, "trace", STEPS, &there)?;
+    let here = format!(in alloc; "--from {from} --to {to} {more}")?;
+    let rest = resumed(
+        rt,
+        alloc,
+        "trace",
+        &left,
+        STEPS.saturating_sub(steps),
+        &here,
+    )?;
+    assert_eq!(rt; rest.status, whole.status, "{steps} {here}");
+    assert_eq!(rt; written(&rest)?, written(&whole)?, "{steps} {here}");
+    Ok(())
+}
+
+#[test]
+fn a_trace_goes_on_from_a_checkpoint(rt: HostRuntime) -> Result<(), Fail> {
+    for window in WINDOWS {
+        check_window(&rt, rt.alloc(), window)?;
+    }
+    Ok(())
+}
+
+#[test]
+fn a_short_output_has_the_first_bytes_of_that_trace(rt: HostRuntime) -> Result<(), Fail> {
+    let alloc = rt.alloc();
+    let left = checkpoint(&rt, alloc, 24)?;
+    let files = [
+        ("a", Held::Image(IMAGE)),
+        ("s", Held::Bytes(left.as_slice())),
+    ];
+    let command = format!(in alloc; "trace {MACHINE} --resume s --to 4 a")?;
+    let whole = call(&rt, alloc, &command, &over(&files))?;
+    assert_eq!(rt; whole.status, 1);
+    for room in 0..whole.out.len() {
+        let short = World {
+            out: room as u64,
+            ..over(&files)
+        };
+        let given = call(&rt, alloc, &command, &short)?;
+        assert_eq!(rt; given.status, 6);
+        assert_eq!(rt; given.out.as_slice(), &whole.out[..room]);
+        assert_eq!(rt; given.err.as_slice(), b"tcc: output\n".as_slice());
+    }
+    Ok(())
+}
+
 #[test]
 fn the_next_checkpoint_is_that_of_the_whole_run(rt: HostRuntime) -> Result<(), Fail> {
     let left = checkpoint(&rt, rt.alloc(), 24)?;
@@ -95,7 +163,7 @@ fn the_next_checkpoint_is_that_of_the_whole_run(rt: HostRuntime) -> Result<(), F
     Ok(())
 }
 
-/// A checkpoint is refused so, and stays as it is.
+/// A checkpoint is refused so, by a trace too, and stays as it is.
 fn check_refused(
     rt: &impl Host,
     alloc: Global,
@@ -103,11 +171,13 @@ fn check_refused(
     from: &[u8],
     line: &str,
 ) -> Result<(), Fail> {
-    let command = format!(in alloc; "count {machine} --resume s --checkpoint s a")?;
-    let given = call_beside(rt, alloc, &command, IMAGE, "s", from)?;
-    assert_eq!(rt; given.status, 4, "{line}");
-    assert_eq!(rt; given.err.as_slice(), line.as_bytes());
-    assert_eq!(rt; given.out.len(), 0, "{line}");
+    for command in ["count --checkpoint s", "trace --states"] {
+        let command = format!(in alloc; "{command} {machine} --resume s a")?;
+        let given = call_beside(rt, alloc, &command, IMAGE, "s", from)?;
+        assert_eq!(rt; given.status, 4, "{line}");
+        assert_eq!(rt; given.err.as_slice(), line.as_bytes());
+        assert_eq!(rt; given.out.len(), 0, "{line}");
+    }
     Ok(())
 }
 

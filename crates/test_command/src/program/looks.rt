@@ -503,7 +503,7 @@ const DAMAGED: &str = "tcc-schedule 1
 cores 1 dirs 1 sets 16 ways 2 base 2147483648 ram 65536
 e 0\nd v c0 0\nend 2\n";
 
-const REFUSED: [Look; 11] = [
+const REFUSED: [Look; 13] = [
     ("trace --raw --schedule s a", 4, "tcc: schedule line 4\n"),
     ("count --raw --schedule s a", 4, "tcc: schedule line 4\n"),
     ("state --raw --schedule s a", 4, "tcc: schedule line 4\n"),
@@ -524,6 +524,8 @@ const REFUSED: [Look; 11] = [
     ),
     ("trace --raw --schedule t a", 5, "tcc: store t\n"),
     ("trace --raw --schedule s --seed 1 a", 2, "tcc: words\n"),
+    ("trace --raw --resume s --seed 1 a", 2, "tcc: words\n"),
+    ("trace --raw --resume s --bus a", 2, "tcc: words\n"),
     ("count --raw --schedule s --bus a", 2, "tcc: words\n"),
     ("state --raw --bus --dirs 1 a", 2, "tcc: words\n"),
     ("count --raw --bus --every 3 a", 2, "tcc: value every\n"),
