@@ -97,11 +97,13 @@ left f w status c files (Err (why.Schedule line)) bounds is ((read, started, fau
       schedule = λ _ _ _ _. inl is;
       neither = λ _ fine. absurd (fine line (subst (λ fs. IsFaultyLine c fs line) same faulty));
     }
-left f w status c files (Err (why.Store name)) bounds is (inl (first, untouched), silent) told none =
+left f w status c files (Err (why.Store name)) bounds is (inl (inl (first, untouched), silent)) told none =
     let here : Contains (first.earlier ++ name.now ∷ first.later) name.now =
     Contains-append_right first.earlier (name.now ∷ first.later) name.now (zero, omega arith, refl) in
     absurd (none.reads name.now (subst (λ ns. Contains ns name.now) (sym first.names_are) here) first.rose)
-left f w status c files (Err (why.Store name)) bounds is (inr (began, named, rose), silent) told none = absurd
+left f w status c files (Err (why.Store name)) bounds is (inl (inr (began, named, rose), silent)) told none = absurd
+    (none.writes name.now named rose)
+left f w status c files (Err (why.Store name)) bounds is (inr ((began, named, rose), part)) told none = absurd
     (none.writes name.now named rose)
 left f w status c files (Err why.Output) bounds is (inl (read, done, text, started, comes, cut)) told none = absurd (none.out cut.3)
 left f w status c files (Err why.Output) bounds is (inr (begun, rose)) told none = absurd (none.out rose)

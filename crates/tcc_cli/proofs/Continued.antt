@@ -5,9 +5,9 @@ use Rattle.checkpoint_run.specs.Runs.{run_text}
 use Rattle.image_load.specs.Contents.{Contents, started}
 use Rattle.image_load.specs.Start.{Start}
 use Rattle.rules_maps.specs.Nodes.{Event}
-use Rattle.tcc_cli.specs.Continued.{BeginsAfter, IsCheckpointOf, IsOfWholeRun, asked_after, steps_after, view_after}
-use Rattle.tcc_cli.specs.Long.{EndsIn, IsLeftIn, IsTakenUp, RanLong, all_steps, more_of, steps_of, view_behind}
-use Rattle.tcc_cli.specs.Looks.{LookedAt, view_text}
+use Rattle.tcc_cli.specs.Continued.{BeginsAfter, IsCheckpointOf, IsOfWholeRun, asked_after, events_before, steps_after}
+use Rattle.tcc_cli.specs.Long.{EndsIn, IsLeftIn, IsTakenUp, RanLong, all_steps, more_of, steps_of, text_behind}
+use Rattle.tcc_cli.specs.Looks.{LookedAt}
 use Rattle.tcc_cli.specs.Runs.{picked_by}
 use Rattle.tcc_words.specs.Fields.{count_limit}
 use Rattle.tcc_words.specs.declared.command.Begin.{Begin}
@@ -69,13 +69,13 @@ left-is c s from seed before more steps keep told name bytes start is of all lef
     some text e = cc
 
 -- what is told of the run from what was loaded is told of it from its start
-looked-is : (c : Contents) (s : Start) (own seed steps n asked all : ℕ) (view : View) (done : Bool) (text : List ℕ) → started c ≡ s
+looked-is : (c : Contents) (s : Start) (own seed steps n asked all first : ℕ) (view : View) (done : Bool) (text : List ℕ) → started c ≡ s
     → own ≡ seed → n ≡ steps → asked ≡ all
-    → LookedAt (started c) (λ es. es ≡ seed_events c own n) (view_text view (Some (own, asked)) (started c)) done text
-    → LookedAt s (λ es. es ≡ picked_by s seed steps) (view_text view (Some (seed, all)) s) done text
-looked-is c s own seed steps n asked all view done text start of is same h =
+    → LookedAt (started c) (λ es. es ≡ seed_events c own n) (text_behind first view (Some (own, asked)) (started c)) done text
+    → LookedAt s (λ es. es ≡ picked_by s seed steps) (text_behind first view (Some (seed, all)) s) done text
+looked-is c s own seed steps n asked all first view done text start of is same h =
     let Told : Start → List Event → ℕ → ℕ → Type 0 =
-    λ x events sd a. LookedAt x (λ es. es ≡ events) (view_text view (Some (sd, a)) x) done text in
+    λ x events sd a. LookedAt x (λ es. es ≡ events) (text_behind first view (Some (sd, a)) x) done text in
     let events : seed_events c own n ≡ picked_by s seed steps =
     events-are c s start own n ∙ (λ i. picked_by s (of i) (is i)) in
     subst (λ x. Told x (picked_by s seed steps) seed all) start
@@ -87,7 +87,7 @@ pub cut-is-whole : RunsGoOnFromTexts → TextsTellRunsApart → (s : Start) (beg
     (keep : Option (List ℕ)) (told : List ℕ → Option (List ℕ)) (done : Bool) (text : List ℕ) (seed before : ℕ)
     → RanLong s begin files steps view (IsLeftIn keep true told) done text → BeginsAfter begin s files seed before
     → IsOfWholeRun s seed (steps_after s seed before (steps_of view steps)) (asked_after s seed before steps)
-    (view_after s seed before view) keep told done text
+    (events_before s seed before) view keep told done text
 cut-is-whole on apart s begin files steps view keep told done text seed before r is =
     let c = r.loaded in
     let from = r.ran.from in
@@ -103,9 +103,9 @@ cut-is-whole on apart s begin files steps view keep told done text seed before r
     let steps_are = steps_after s seed before (steps_of view steps) in
     record {
       looked = subst (λ n. LookedAt s (λ es. es ≡ picked_by s seed steps_are)
-          (view_text (view_behind n view) (Some (seed, asked_after s seed before steps)) s) done text) first
+          (text_behind n view (Some (seed, asked_after s seed before steps)) s) done text) first
           (looked-is c s from.seed seed steps_are (before + more_of (steps_of view steps) from) (all_steps steps from)
-          (asked_after s seed before steps) (view_behind from.machine.events view) done text r.start b.own all asked
+          (asked_after s seed before steps) from.machine.events view done text r.start b.own all asked
           (went.looked before b.is));
       left = λ name bytes named holds.
           left-is c s from seed before (more_of (steps_of view steps) from) steps_are keep told name bytes r.start b.is b.own all went.left

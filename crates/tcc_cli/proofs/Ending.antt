@@ -84,13 +84,18 @@ pub record IsLater (files later : FilesAround) : Type 0 where
 still : (w : Around) (f : FilesAround) → IsLater w.files f → IsUntouched f → IsUntouched w.files
 still w f s untouched n = ap (λ g. g n) s.after ∙ untouched n ∙ s.contents n
 
+later-rose : (w : Around) (f : FilesAround) (name : List ℕ) → IsLater w.files f
+    → Rose (f.before.failed_writes name) (f.after.failed_writes name)
+    → Rose (w.files.before.failed_writes name) (w.files.after.failed_writes name)
+later-rose w f name s h =
+    subst (λ k. Rose k (w.files.after.failed_writes name)) (s.writes name)
+    (subst (λ k. Rose (f.before.failed_writes name) k) (s.writes_after name) h)
+
 stopped : (c : Command) (w : Around) (f : FilesAround) (files : List (List ℕ)) (r : Refusal) → IsLater w.files f → IsStopped c files f r
     → Started c w files → IsSilent w.out → EndsOf c w (Err r)
 stopped c w f files (why.Schedule line) s h started silent = ((files, started, h.0), still w f s h.1, silent)
 stopped c w f files (why.Store name) s h started silent =
-    let rose = subst (λ k. Rose k (w.files.after.failed_writes name.now)) (s.writes name.now)
-    (subst (λ k. Rose (f.before.failed_writes name.now) k) (s.writes_after name.now) h.1) in
-    (inr ((files, started), h.0, rose), silent)
+    inl (inr ((files, started), h.0, later-rose w f name.now s h.1), silent)
 stopped c w f files why.Memory s (inl untouched) started silent = inl (inl (still w f s untouched), silent)
 stopped c w f files why.Memory s (inr recorded) started silent =
     let told = subst (λ g. HasRecorded c files f.before.tells g) (sym s.after) recorded in
@@ -116,7 +121,9 @@ told c w f files (Err why.Output) s (inr h) started = inr (((files, started, h.0
 told c w f files (Err why.Memory) s (inl h) started = stopped c w f files why.Memory s h.0 started h.1
 told c w f files (Err why.Memory) s (inr h) started = inr ((files, started, h.0), still w f s h.1)
 told c w f files (Err (why.Schedule line)) s h started = stopped c w f files (why.Schedule line) s h.0 started h.1
-told c w f files (Err (why.Store name)) s h started = stopped c w f files (why.Store name) s h.0 started h.1
+told c w f files (Err (why.Store name)) s (h, inl silent) started = stopped c w f files (why.Store name) s h started silent
+told c w f files (Err (why.Store name)) s (h, inr begun) started =
+    inr (((files, started), h.0, later-rose w f name.now s h.1), (files, started, begun))
 told c w f files (Err why.Words) s h started = stopped c w f files why.Words s h.0 started h.1
 told c w f files (Err (why.Value field)) s h started = stopped c w f files (why.Value field) s h.0 started h.1
 told c w f files (Err (why.Image bad)) s h started = stopped c w f files (why.Image bad) s h.0 started h.1

@@ -6,7 +6,7 @@ use Rattle.tcc_cli.proofs.Watched.{run-so}
 use Rattle.tcc_cli.specs.Around.{FilesAround, IsUntouched}
 use Rattle.tcc_cli.specs.Commands.{files_of, head_of, start_from}
 use Rattle.tcc_cli.specs.Failing.{IsCheckpointRefused, Tells}
-use Rattle.tcc_cli.specs.Long.{BeganFrom, IsFurtherStopped, IsFurtherTold, IsToldBy, RanOn, more_of}
+use Rattle.tcc_cli.specs.Long.{BeganFrom, IsFurtherStopped, IsFurtherTold, IsNotLeft, IsToldBy, RanOn, more_of}
 use Rattle.tcc_cli.specs.Looks.{broken_refusal}
 use Rattle.tcc_cli.specs.declared.refusal.Refusal.{Refusal}
 use Rattle.tcc_cli.specs.declared.refusal.Refusal.TheVariants as why
@@ -30,7 +30,7 @@ MoreAre steps to from more = more ≡ more_of (min steps to) from
 
 trace-looked : (c : Contents) (from : RunData) (steps to more : ℕ) (shown : Shown) (done : Bool) (text : List ℕ)
     → MoreAre steps to from more → IsRunTrace shown from more done text
-    → RanOn c from steps (Trace shown.from to shown.states) (λ r m. Unit {0}) done text
+    → RanOn c from steps (Trace shown.from to shown.states) IsNotLeft done text
 trace-looked c from steps to more shown done text is told = record {
   left = tt;
   looked = λ n h.
@@ -62,7 +62,7 @@ trace-begun c IsFrom from steps to more shown o there code is begun = record {
 pub further-told : (c : Contents) (IsFrom : RunData → Type 0) (from : RunData) (steps to more : ℕ) (shown : Shown) (o : Written)
     (done : Bool) → IsFrom from → from.machine.cores.code ≡ c → MoreAre steps to from more
     → StandsBehind (IsRunTrace shown from more) o.before.bytes o.after.bytes done
-    → IsFurtherTold c IsFrom steps (Trace shown.from to shown.states) o done
+    → IsFurtherTold c IsFrom steps (Trace shown.from to shown.states) IsNotLeft o done
 further-told c IsFrom from steps to more shown o done there code is t = (
   t.text,
   record { from = from; is = there; code = code; on = trace-looked c from steps to more shown done t.text is t.is },
@@ -101,7 +101,7 @@ further-refused c IsFrom steps view o _ h e = absurd h
 tells-here : (files : List (List ℕ)) (loaded : Contents) (machine : Machine) (images : List (List ℕ)) (name : List ℕ)
     (steps from to : ℕ) (states : Bool) (f : FilesAround) (o : Written) (x : Result Bool Refusal) → IsUntouched f
     → started loaded ≡ start_from (Long machine images (begin.Checkpoint name) steps (Trace from to states) None) files
-    → IfOk x (IsFurtherTold loaded (IsToldBy (head_of files)) steps (Trace from to states) o)
+    → IfOk x (IsFurtherTold loaded (IsToldBy (head_of files)) steps (Trace from to states) IsNotLeft o)
     → IfErr x (IsFurtherStopped loaded (IsToldBy (head_of files)) steps (Trace from to states) o)
     → Tells (Long machine images (begin.Checkpoint name) steps (Trace from to states) None) files f o x
 tells-here files loaded machine images name steps from to states f o (Ok done) untouched start (text, ran, whole) stopped =
@@ -125,7 +125,7 @@ pub further-tells : (c : Command) (files : List (List ℕ)) (loaded : Contents) 
     (name : List ℕ) (steps from to : ℕ) (states : Bool) (keep : Option (List ℕ)) (bytes : List ℕ) (f : FilesAround) (o : Written)
     (x : Result Bool Refusal) → c ≡ Long machine images (begin.Checkpoint name) steps (Trace from to states) keep → keep ≡ None
     → started loaded ≡ start_from c files → bytes ≡ head_of files → IsUntouched f
-    → IfOk x (IsFurtherTold loaded (IsToldBy bytes) steps (Trace from to states) o)
+    → IfOk x (IsFurtherTold loaded (IsToldBy bytes) steps (Trace from to states) IsNotLeft o)
     → IfErr x (IsFurtherStopped loaded (IsToldBy bytes) steps (Trace from to states) o)
     → Tells c files f o x
 further-tells c files loaded machine images name steps from to states keep bytes f o x is none start head untouched told stopped =
@@ -133,7 +133,7 @@ further-tells c files loaded machine images name steps from to states keep bytes
     is ∙ ap (λ k. Long machine images (begin.Checkpoint name) steps (Trace from to states) k) none in
     subst (λ d. Tells d files f o x) (sym here)
     (tells-here files loaded machine images name steps from to states f o x untouched (start ∙ ap (λ d. start_from d files) here)
-    (subst (λ b. IfOk x (IsFurtherTold loaded (IsToldBy b) steps (Trace from to states) o)) head told)
+    (subst (λ b. IfOk x (IsFurtherTold loaded (IsToldBy b) steps (Trace from to states) IsNotLeft o)) head told)
     (subst (λ b. IfErr x (IsFurtherStopped loaded (IsToldBy b) steps (Trace from to states) o)) head stopped))
 
 -- the checkpoint is the first file that was read

@@ -8,12 +8,12 @@ use Rattle.rules_tcc.specs.Step.{History}
 use Rattle.tcc_base.specs.Settings.{Settings}
 use Rattle.tcc_cli.proofs.Watched.{counted-so, run-so}
 use Rattle.tcc_cli.specs.Failing.{IsUntraced}
-use Rattle.tcc_cli.specs.Long.{IsLeftIn, IsWrittenTo, RanOn, all_steps, more_of, steps_of, view_behind}
+use Rattle.tcc_cli.specs.Long.{IsLeftIn, IsWrittenTo, RanOn, all_steps, last_text, more_of, steps_of, text_behind}
 use Rattle.tcc_cli.specs.Looks.{LookedAt, view_text}
 use Rattle.tcc_words.specs.declared.command.View.{View}
-use Rattle.tcc_words.specs.declared.command.View.TheVariants.{Count, Rows, State, Trace}
+use Rattle.tcc_words.specs.declared.command.View.TheVariants.{Consoles, Count, Rows, State, Trace}
 use Rattle.watch_count.specs.Counts.{Counts}
-use Rattle.watch_count.specs.Csv.{csv_text}
+use Rattle.watch_count.specs.Csv.{csv_row, csv_text}
 use Rattle.watch_count.specs.Text.{count_text}
 use Rattle.watch_run.specs.Looked.{IsCounted}
 use Rattle.watch_run.specs.Runs.{IsRunOf, RunData, seed_events}
@@ -38,6 +38,23 @@ counts-told {E = E} c r d csv settings seed asked events counts done text (Ok f)
     (counted-so {E = E} (started c) settings (λ xs. xs ≡ es) es d events counts csv (Some (seed, asked)) done text (Ok f) refl here q is
     told)
 counts-told c r d csv settings seed asked events counts done text (Err e) counted q own all are is told = tt
+
+-- the last row of a table, of whichever rows
+pub row-looked : (c : Contents) (r : RunData) (d : Bool) (settings : Settings) (seed asked events : ℕ) (counts : Counts) (text : List ℕ)
+    → ((k : Contents) (n : ℕ) → IsRunOf k n r → IsCounted (started k) (seed_events k r.seed n) d r.machine.events r.counts)
+    → settings ≡ (started c).settings → seed ≡ r.seed → events ≡ r.machine.events → counts ≡ r.counts
+    → text ≡ csv_row settings (Some (seed, asked)) d events counts → (every n : ℕ) → IsRunOf c n r
+    → LookedAt (started c) (λ es. es ≡ seed_events c r.seed n) (last_text (Rows every) (Some (r.seed, asked)) (started c)) d text
+row-looked c r d settings seed asked events counts text counted q own all are told every n k =
+    let es = seed_events c r.seed n in
+    let there = counted c n k in
+    record {
+      events = es;
+      ends = there.ends;
+      are = refl;
+      runs = run-so (started c) es d d there.ends there.leads refl;
+      text_is = told ∙ (λ i. csv_row (q i) (Some (own i, asked)) d ((all ∙ there.all) i) ((are ∙ there.counted) i));
+    }
 
 -- a state's text tells of the world, and not of the commits
 state-by-world : (s : Start) (done : Bool) (n : ℕ) (g h : History) → g.world ≡ h.world → state_text s done n g ≡ state_text s done n h
@@ -70,15 +87,17 @@ state-told c r d events seed text counted code told n k =
           (k.counted.kept.world ∙ ap (λ h. h.world) ends);
     }
 
--- but for a trace it matters not how many events came before
-untraced-alike : (events : ℕ) (view : View) → IsUntraced view → view ≡ view_behind events view
-untraced-alike events (Trace from to states) h = absurd h
-untraced-alike events (Rows every) h = absurd h
-untraced-alike events (Count csv) h = refl
-untraced-alike events (State most) h = refl
+-- but for a trace, and for what is written as it goes, it matters not how many events came before
+untraced-alike : (events : ℕ) (view : View) → IsUntraced view → (seed : Option (ℕ × ℕ)) (s : Start)
+    → view_text view seed s ≡ text_behind events view seed s
+untraced-alike events (Trace from to states) h seed s = absurd h
+untraced-alike events (Rows every) h seed s = absurd h
+untraced-alike events (Consoles csv) h seed s = absurd h
+untraced-alike events (Count csv) h seed s = refl
+untraced-alike events (State most) h seed s = refl
 
 -- a run that was left
-left-in : (keep : Option (List ℕ)) (tells : Bool) (told : List ℕ → Option (List ℕ)) (c : Contents) (from ends : RunData) (more : ℕ)
+pub left-in : (keep : Option (List ℕ)) (tells : Bool) (told : List ℕ → Option (List ℕ)) (c : Contents) (from ends : RunData) (more : ℕ)
     → ends.seed ≡ from.seed → ((n : ℕ) → IsRunOf c n from → IsRunOf c (n + more) ends)
     → IfSome keep (λ name. IsWrittenTo name tells told ends) → IsLeftIn keep tells told c from more
 left-in None tells told c from ends more seed went written = tt
@@ -106,10 +125,12 @@ ran-on c from mid ends steps more asked view keep tells told done text untraced 
 
     of-whole : (n : ℕ) → IsRunOf c n from
         → LookedAt (started c) (λ es. es ≡ seed_events c from.seed (n + more_of (steps_of view steps) from))
-        (view_text (view_behind from.machine.events view) (Some (from.seed, all_steps steps from)) (started c)) done text
+        (text_behind from.machine.events view (Some (from.seed, all_steps steps from)) (started c)) done text
     of-whole n h =
         let k = n + more_of (steps_of view steps) from in
-        let Told : View → ℕ → ℕ → Type 0 =
-        λ v s a. LookedAt (started c) (λ es. es ≡ seed_events c s k) (view_text v (Some (s, a)) (started c)) done text in
-        subst (λ v. Told v from.seed (all_steps steps from)) (untraced-alike from.machine.events view untraced)
-        (subst (λ s. Told view s (all_steps steps from)) seed (subst (Told view mid.seed) all (looked k (further n h))))
+        let Told : ℕ → ℕ → Type 0 =
+        λ s a. LookedAt (started c) (λ es. es ≡ seed_events c s k)
+        (text_behind from.machine.events view (Some (s, a)) (started c)) done text in
+        subst (λ s. Told s (all_steps steps from)) seed (subst (Told mid.seed) all
+        (subst (λ f. LookedAt (started c) (λ es. es ≡ seed_events c mid.seed k) f done text)
+        (untraced-alike from.machine.events view untraced (Some (mid.seed, asked)) (started c)) (looked k (further n h))))

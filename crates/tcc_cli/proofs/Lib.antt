@@ -12,6 +12,7 @@ mod Followed
 mod Further
 mod Loading
 mod GoingOn
+mod Grown
 mod Looking
 mod Machines
 mod Naming

@@ -16,19 +16,20 @@ use Rattle.tcc_cli.specs.OnBus.{BusRunsTo}
 use Rattle.tcc_cli.specs.declared.refusal.Refusal.{Refusal}
 use Rattle.tcc_cli.specs.declared.refusal.Refusal.TheVariants as why
 use Rattle.tcc_words.specs.declared.command.View.{View}
-use Rattle.tcc_words.specs.declared.command.View.TheVariants.{Trace, Count, Rows, State}
+use Rattle.tcc_words.specs.declared.command.View.TheVariants.{Trace, Count, Rows, Consoles, State}
 use Rattle.tcc_world.specs.Faults.{Rose}
 use Rattle.text_runs.specs.Pieces.{IsPart}
 use Rattle.text_runs.specs.declared.pieces.Broken.{Broken}
 use Rattle.text_runs.specs.declared.pieces.Broken.TheVariants as broken
 
--- what is told of a run by these events: the trace, the counts or the state at the end; there is no table of totals
+-- what is told of a run by these events: the trace, the counts or the state at the end; there is no table of totals, and no consoles
 abbrev pub bus_view_text : View → (seed steps : ℕ) → Start → (done : Bool) → List BusEvent → BusHistory → List ℕ
 bus_view_text (Trace from to states) seed steps s done es h = bus_trace_of states s from es done
 bus_view_text (Count true) seed steps s done es h =
     bus_csv_text s.settings (Some (seed, steps)) done (length es) (counts_of_bus_run s es)
 bus_view_text (Count false) seed steps s done es h = bus_count_text s.settings done (length es) (counts_of_bus_run s es)
 bus_view_text (Rows every) seed steps s done es h = []
+bus_view_text (Consoles csv) seed steps s done es h = []
 bus_view_text (State events) seed steps s done es h = bus_state_text s done (length es) h
 
 -- the first events that a seed picks

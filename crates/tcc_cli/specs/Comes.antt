@@ -21,7 +21,7 @@ use Rattle.tcc_words.specs.declared.command.Command.TheVariants.{LookOnBus, Outc
 use Rattle.tcc_words.specs.declared.command.Begin.TheVariants as begin
 use Rattle.tcc_words.specs.declared.command.Source.{Source}
 use Rattle.tcc_words.specs.declared.command.Source.TheVariants.{Seed, Schedule}
-use Rattle.tcc_words.specs.declared.command.View.TheVariants.{Trace}
+use Rattle.tcc_words.specs.declared.command.View.TheVariants.{Consoles, Rows, Trace}
 use Rattle.text_why.specs.Text.{why_text}
 
 -- the events of the run that is looked at, at most so many
@@ -65,7 +65,8 @@ Comes (Follow machine list images keep) files tells told done text =
 Comes (Long machine images begin steps view keep) files tells told done text =
     RanLong (start_from (Long machine images begin steps view keep) files) begin files steps view (IsLeftIn keep tells told) done text
 
--- a first part of what a command prints was written while it went on: only traces, tables of totals and those of outcomes are written so
+-- a first part of what a command prints was written while it went on: only traces, tables of totals, consoles and tables of outcomes are
+-- written so
 abbrev pub HasBegun : Command → (files : List (List ℕ)) → Written → Type 0
 HasBegun (Look machine images source view) files o =
     let s = start_from (Look machine images source view) files in
@@ -74,6 +75,10 @@ HasBegun (LookOnBus machine images steps seed (Trace from to states)) files o =
     IsBusTraceBegun (start_from (LookOnBus machine images steps seed (Trace from to states)) files) seed steps from to states o
 HasBegun (Long machine images begin steps (Trace from to states) keep) files o =
     BeganLong (start_from (Long machine images begin steps (Trace from to states) keep) files) begin files steps (Trace from to states) o
+HasBegun (Long machine images begin steps (Rows every) keep) files o =
+    BeganLong (start_from (Long machine images begin steps (Rows every) keep) files) begin files steps (Rows every) o
+HasBegun (Long machine images begin steps (Consoles csv) keep) files o =
+    BeganLong (start_from (Long machine images begin steps (Consoles csv) keep) files) begin files steps (Consoles csv) o
 HasBegun (Outcomes machine images limits tell) files o =
     IsTableBegun (start_from (Outcomes machine images limits tell) files) limits tell o
 HasBegun _ files o = ⊥

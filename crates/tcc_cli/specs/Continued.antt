@@ -4,8 +4,8 @@ use Rattle.image_load.specs.Start.{Start}
 use Rattle.net_core.specs.Machine.{start_of}
 use Rattle.tcc_cli.specs.Commands.{head_of, start_from}
 use Rattle.tcc_cli.specs.Comes.{Comes}
-use Rattle.tcc_cli.specs.Long.{IsToldBy, steps_of, view_behind}
-use Rattle.tcc_cli.specs.Looks.{LookedAt, view_text}
+use Rattle.tcc_cli.specs.Long.{IsToldBy, steps_of, text_behind}
+use Rattle.tcc_cli.specs.Looks.{LookedAt}
 use Rattle.tcc_cli.specs.Runs.{picked_by}
 use Rattle.tcc_words.specs.Fields.{count_limit}
 use Rattle.tcc_words.specs.declared.command.Begin.{Begin}
@@ -36,14 +36,14 @@ steps_after s seed before more = before + min more (count_limit - length (picked
 abbrev pub asked_after : Start → (seed before more : ℕ) → ℕ
 asked_after s seed before more = min (length (picked_by s seed before) + more) (2 ^ 64 - 1)
 
--- the view of the whole run: a trace shows it from its further events on
-abbrev pub view_after : Start → (seed before : ℕ) → View → View
-view_after s seed before view = view_behind (length (picked_by s seed before)) view
+-- so many events of the whole run came before
+abbrev pub events_before : Start → (seed before : ℕ) → ℕ
+events_before s seed before = length (picked_by s seed before)
 
--- what is told is told of the run of so many steps of a seed, and so is its checkpoint, where one was written
-pub record IsOfWholeRun (s : Start) (seed steps asked : ℕ) (view : View) (keep : Option (List ℕ)) (told : List ℕ → Option (List ℕ))
+-- what is told is told of the run of so many steps of a seed, from some of its events on, and so is its checkpoint, where one was written
+pub record IsOfWholeRun (s : Start) (seed steps asked first : ℕ) (view : View) (keep : Option (List ℕ)) (told : List ℕ → Option (List ℕ))
     (done : Bool) (text : List ℕ) : Type 0 where
-  pub looked : LookedAt s (λ es. es ≡ picked_by s seed steps) (view_text view (Some (seed, asked)) s) done text
+  pub looked : LookedAt s (λ es. es ≡ picked_by s seed steps) (text_behind first view (Some (seed, asked)) s) done text
   pub left : (name bytes : List ℕ) → keep ≡ Some name → told name ≡ Some bytes → IsCheckpointOf s seed steps bytes
 
 -- A run that goes on from a checkpoint comes to what the whole run of its seed comes to, and so does one that goes on from the checkpoint
@@ -57,4 +57,4 @@ CutRunsAreWhole =
     → IsOfWholeRun (start_from (Long machine images begin steps view keep) files) seed
     (steps_after (start_from (Long machine images begin steps view keep) files) seed before (steps_of view steps))
     (asked_after (start_from (Long machine images begin steps view keep) files) seed before steps)
-    (view_after (start_from (Long machine images begin steps view keep) files) seed before view) keep told done text
+    (events_before (start_from (Long machine images begin steps view keep) files) seed before) view keep told done text

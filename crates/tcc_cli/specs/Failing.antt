@@ -22,7 +22,7 @@ use Rattle.tcc_replay.specs.declared.replaying.ReplayFault.TheVariants as replay
 use Rattle.tcc_words.specs.declared.command.Command.{Command}
 use Rattle.tcc_words.specs.declared.command.Command.TheVariants.{Look, LookOnBus, Long, Outcomes}
 use Rattle.tcc_words.specs.declared.command.View.{View}
-use Rattle.tcc_words.specs.declared.command.View.TheVariants.{Trace, Rows}
+use Rattle.tcc_words.specs.declared.command.View.TheVariants.{Consoles, Rows, Trace}
 use Rattle.tcc_world.specs.Faults.{Rose}
 
 -- what faults of a text and of a replay are to the program; event i stands on line i + 3
@@ -81,10 +81,11 @@ abbrev pub IsLongStopped : (keep : Option (List ℕ)) → FilesAround → Refusa
 IsLongStopped keep f (Schedule line) = IsUntouched f
 IsLongStopped keep f other = IsNotWritten keep f other
 
--- a text that is written when it is made, as a trace, a table of totals and one of outcomes aren't
+-- a text that is written when it is made, as a trace, a table of totals, consoles and a table of outcomes aren't
 abbrev pub IsUntraced : View → Type 0
 IsUntraced (Trace from to states) = ⊥
 IsUntraced (Rows every) = ⊥
+IsUntraced (Consoles csv) = ⊥
 IsUntraced _ = Unit {0}
 
 abbrev pub IsPrinted : Command → Type 0
@@ -107,4 +108,5 @@ Tells c files f o (Err Output) =
     ((done : Bool) × (text : List ℕ) × Comes c files f.before.tells f.after.contents done text × IsCut text o)
     ⊎ (HasBegun c files o × Rose o.before.faults o.after.faults × IsUntouched f)
 Tells c files f o (Err Memory) = (IsStopped c files f Memory × IsSilent o) ⊎ (HasBegun c files o × IsUntouched f)
+Tells c files f o (Err (Store name)) = IsStopped c files f (Store name) × (IsSilent o ⊎ HasBegun c files o)
 Tells c files f o (Err other) = IsStopped c files f other × IsSilent o

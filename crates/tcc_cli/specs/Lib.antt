@@ -5,6 +5,7 @@ pub mod Commands
 pub mod Failing
 pub mod Images
 pub mod Laws
+pub mod Growing
 pub mod Long
 pub mod Continued
 pub mod Lines

@@ -1,5 +1,5 @@
 -- Runs that are looked at: which events they take, and what is told of them.
-use Rattle.std.specs.Prelude.{ℕ, Bool, true, false, List, length, map, min, take, ◌≡◌, ◌⊎◌, Option, Some, None}
+use Rattle.std.specs.Prelude.{ℕ, Bool, true, false, List, ◌++◌, length, map, min, take, ◌≡◌, ◌⊎◌, Option, Some, None}
 use Rattle.image_load.specs.Start.{Start}
 use Rattle.rules_riscv.specs.Starting.{world_at_start}
 use Rattle.tcc_base.specs.Settings.{Settings}
@@ -17,7 +17,7 @@ use Rattle.tcc_words.specs.Fields.{count_limit}
 use Rattle.tcc_words.specs.declared.command.Source.{Source}
 use Rattle.tcc_words.specs.declared.command.Source.TheVariants.{Seed, Schedule}
 use Rattle.tcc_words.specs.declared.command.View.{View}
-use Rattle.tcc_words.specs.declared.command.View.TheVariants.{Trace, Count, Rows, State}
+use Rattle.tcc_words.specs.declared.command.View.TheVariants.{Trace, Count, Rows, Consoles, State}
 use Rattle.tcc_world.specs.Faults.{Rose}
 use Rattle.watch_count.specs.Csv.{csv_text}
 use Rattle.watch_count.specs.Text.{count_text}
@@ -25,6 +25,7 @@ use Rattle.watch_run.specs.declared.tracing.Broken.{Broken}
 use Rattle.watch_run.specs.declared.tracing.Broken.TheVariants as broken
 use Rattle.watch_run.specs.declared.tabling.Rows.{Rows as Table}
 use Rattle.watch_run.specs.declared.telling.Shown.{Shown}
+use Rattle.watch_run.specs.Consoles.{consoles_head, printed_from}
 use Rattle.watch_run.specs.Looked.{counts_of_run}
 use Rattle.watch_run.specs.Shown.{shown_trace, trace_with}
 use Rattle.watch_run.specs.Tables.{IsTableBegun, table_text}
@@ -36,6 +37,7 @@ abbrev pub most_of : View → ℕ
 most_of (Trace from to states) = to
 most_of (Count csv) = count_limit
 most_of (Rows every) = count_limit
+most_of (Consoles csv) = count_limit
 most_of (State events) = events
 
 -- the first events that a seed picks, and those of the schedule that a file holds
@@ -59,12 +61,17 @@ abbrev pub seed_of : Source → Option (ℕ × ℕ)
 seed_of (Seed steps seed) = Some (seed, steps)
 seed_of (Schedule name) = None
 
--- what is told of a run by these events: the trace, with records or without, the counts, a table of the totals or the state at the end
+-- what is told of a run by these events: the trace, with records or without, the counts, a table of the totals, what its commits print and
+-- then the counts, or the state at the end
 abbrev pub view_text : View → (seed : Option (ℕ × ℕ)) → Start → (done : Bool) → List Event → History → List ℕ
 view_text (Trace from to states) seed s done es h = trace_with states s (world_at_start s) from es done
 view_text (Count true) seed s done es h = csv_text s.settings seed done (length es) (counts_of_run s es)
 view_text (Count false) seed s done es h = count_text s.settings done (length es) (counts_of_run s es)
 view_text (Rows every) seed s done es h = table_text (record { every = every; seed = seed }) s done es
+view_text (Consoles true) seed s done es h =
+    (consoles_head ++ printed_from 0 s es) ++ csv_text s.settings seed done (length es) (counts_of_run s es)
+view_text (Consoles false) seed s done es h =
+    (consoles_head ++ printed_from 0 s es) ++ count_text s.settings done (length es) (counts_of_run s es)
 view_text (State events) seed s done es h = state_text s done (length es) h
 
 -- A run by such events, from this start, with its end and the text of all that. The headline: see `RunsBy`.

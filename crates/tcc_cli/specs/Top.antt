@@ -30,9 +30,13 @@ FailedToWrite c w name =
     ((files : List (List ℕ)) × Started c w files) × (record_of c ≡ Some name)
     × Rose (w.files.before.failed_writes name) (w.files.after.failed_writes name)
 
--- a trace or a table broke off
+-- what is written while a run goes on was begun
+abbrev pub HasToldPart : Command → Around → Type 0
+HasToldPart c w = (files : List (List ℕ)) × Started c w files × HasBegun c files w.out
+
+-- and broke off
 abbrev pub HasWrittenPart : Command → Around → Type 0
-HasWrittenPart c w = ((files : List (List ℕ)) × Started c w files × HasBegun c files w.out) × IsUntouched w.files
+HasWrittenPart c w = HasToldPart c w × IsUntouched w.files
 
 -- how a command ends, and why; where memory ran out, no contents have changed, or the record is whole; what is written as it goes may have
 -- been begun
@@ -47,7 +51,8 @@ EndsOf c w (Err (why.Image bad)) =
     × IsUntouched w.files × IsSilent w.out
 EndsOf c w (Err (why.Schedule line)) =
     ((files : List (List ℕ)) × Started c w files × IsFaultyLine c files line) × IsUntouched w.files × IsSilent w.out
-EndsOf c w (Err (why.Store name)) = (FailedToRead c w name.now ⊎ FailedToWrite c w name.now) × IsSilent w.out
+EndsOf c w (Err (why.Store name)) =
+    ((FailedToRead c w name.now ⊎ FailedToWrite c w name.now) × IsSilent w.out) ⊎ (FailedToWrite c w name.now × HasToldPart c w)
 EndsOf c w (Err why.Output) =
     ((files : List (List ℕ)) × (done : Bool) × (text : List ℕ) × Started c w files
     × Comes c files w.files.before.tells w.files.after.contents done text × IsCut text w.out)

@@ -127,7 +127,7 @@ pub fn look_on_bus(
     ensures { IfOk result (λ f. LookedAtBus (started loaded.now) seed steps view f.done (string_bytes f.text)) }
 {
     match view {
-        View::Trace { .. } | View::Rows { .. } => unreachable!(),
+        View::Trace { .. } | View::Rows { .. } | View::Consoles { .. } => unreachable!(),
         View::Count { csv } => count_bus(alloc, loaded, seed, steps, csv),
         View::State { events } => state_on_bus(alloc, loaded, seed, steps, events),
     }

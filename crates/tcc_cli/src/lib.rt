@@ -4,6 +4,7 @@
 mod bus_looks;
 mod files;
 mod following;
+mod growing;
 mod images;
 mod laid;
 mod laws;

@@ -5,7 +5,7 @@ ghost use Rattle.image_load.specs.Contents.{Contents, started};
 ghost use Rattle.net_core.specs.Limits.{machine_limit};
 ghost use Rattle.tcc_base.specs.Limits.{text_limit};
 ghost use Rattle.tcc_cli.specs.Failing.{IsCheckpointRefused, IsLongStopped, IsNotWritten, IsUntraced};
-ghost use Rattle.tcc_cli.specs.Long.{IsFurtherStopped, IsFurtherTold, IsLeftIn, IsToldBy, IsWrittenTo, RanFrom, RanOn};
+ghost use Rattle.tcc_cli.specs.Long.{IsFurtherStopped, IsFurtherTold, IsLeftIn, IsNotLeft, IsToldBy, IsWrittenTo, RanFrom, RanOn};
 ghost use Rattle.tcc_cli.specs.Long.{more_of as plain_more_of, steps_of as plain_steps_of};
 ghost use Rattle.tcc_cli.specs.Looks.{LookedAt, view_text};
 ghost use Rattle.tcc_words.specs.declared.command.View.TheVariants.{Count, State};
@@ -44,7 +44,7 @@ fn line_of(bytes: &[u8], word: &[u8]) -> u64 {
 
 /// What it is to the program that a checkpoint isn't read: the line of the first row that isn't in its place, that of the settings where
 /// these are others, and else that at which the machine begins.
-fn of_broken<'a>(bytes: &[u8], broken: Broken) -> Refusal<'a>
+pub fn of_broken<'a>(bytes: &[u8], broken: Broken) -> Refusal<'a>
     ensures { IsCheckpointRefused result }
 {
     match broken {
@@ -56,7 +56,7 @@ fn of_broken<'a>(bytes: &[u8], broken: Broken) -> Refusal<'a>
 }
 
 /// So many steps are taken at most, as far as a run may go.
-fn more_of(run: &Run, steps: u64) -> u64
+pub fn more_of(run: &Run, steps: u64) -> u64
     ensures more { result ≡ plain_more_of steps run.now }
     ensures few { run.now.machine.events + result ≤ machine_limit }
 {
@@ -74,7 +74,7 @@ fn go_on(alloc: Global, run: &mut Run, steps: u64) -> Result<(), NoMemory>
 }
 
 /// What was counted of a run.
-fn counts_of(
+pub fn counts_of(
     alloc: Global,
     loaded: &Loaded,
     run: &Run,
@@ -134,7 +134,7 @@ fn tell(
         (view_text view (Some (run.now.seed, asked)) (started loaded.now)) f.done (string_bytes f.text)) }
 {
     match view {
-        View::Trace { .. } | View::Rows { .. } => unreachable!(),
+        View::Trace { .. } | View::Rows { .. } | View::Consoles { .. } => unreachable!(),
         View::Count { csv } => counts_of(alloc, loaded, run, csv, asked),
         View::State { events } => state_at(alloc, loaded, run, events, asked),
     }
@@ -151,7 +151,7 @@ fn text_of(alloc: Global, run: &Run) -> Result<List<u8>, NoMemory>
 }
 
 /// Writes a run down to the file of this name, where there is one. Of the commits it has then only those that a directory hasn't passed.
-fn leave<'a, F: Store>(
+pub fn leave<'a, F: Store>(
     alloc: Global,
     run: &mut Run,
     keep: &'a Option<Text>,
@@ -281,7 +281,7 @@ pub fn trace_from_checkpoint<'a, O: Sink>(
 ) -> Result<bool, Refusal<'a>>
     requires from { shown.from ≤ text_limit }
     requires to { to ≤ text_limit }
-    ensures told { IfOk result (IsFurtherTold loaded.now (IsToldBy bytes.now) steps (View.Trace shown.from to shown.states)
+    ensures told { IfOk result (IsFurtherTold loaded.now (IsToldBy bytes.now) steps (View.Trace shown.from to shown.states) IsNotLeft
         (record { before = O.page out.old; after = O.page out.new })) }
     ensures stopped { IfErr result (IsFurtherStopped loaded.now (IsToldBy bytes.now) steps (View.Trace shown.from to shown.states)
         (record { before = O.page out.old; after = O.page out.new })) }

@@ -142,7 +142,7 @@ fn look_at_taken(
 {
     let taken = refined.taken();
     match view {
-        View::Trace { .. } | View::Rows { .. } => unreachable!(),
+        View::Trace { .. } | View::Rows { .. } | View::Consoles { .. } => unreachable!(),
         View::Count { csv } => count_listed(alloc, loaded, taken, csv),
         View::State { .. } => state_of(alloc, loaded, refined.system()),
     }
@@ -154,7 +154,7 @@ fn most_of(view: View) -> u64
 {
     match view {
         View::Trace { to, .. } => to,
-        View::Count { .. } | View::Rows { .. } => MAX_COUNTED,
+        View::Count { .. } | View::Rows { .. } | View::Consoles { .. } => MAX_COUNTED,
         View::State { events } => events,
     }
 }
@@ -173,7 +173,7 @@ pub fn look_by_seed(
         (view_text view (Some (seed, steps)) (started loaded.now)) f.done (string_bytes f.text)) }
 {
     match view {
-        View::Trace { .. } | View::Rows { .. } => unreachable!(),
+        View::Trace { .. } | View::Rows { .. } | View::Consoles { .. } => unreachable!(),
         View::Count { csv } => count_picked(alloc, loaded, seed, steps, csv),
         View::State { events } => {
             let system = pick(alloc, loaded, seed, steps.min(events))?;

@@ -13,6 +13,7 @@ ghost use Rattle.tcc_words.specs.Bounds.{IsInBounds};
 use crate::bus_looks::{look_on_bus, trace_bus};
 use crate::files::{names, read_files};
 use crate::following::run_following;
+use crate::growing::{grow, grows};
 use crate::images::{bytes, load_files};
 use crate::lists::execute;
 use crate::long::{run_from_checkpoint, run_from_seed, trace_from_checkpoint};
@@ -45,25 +46,25 @@ use work_gen::workload;
 /// back the requests of later phases, and writes the phase of each commit and then the report; `bus [..] IMAGE..` runs images on the
 /// machine with one bus for at most so many events that a seed picks, and writes its report; `trace [..] IMAGE..` writes what each event of
 /// a run does while it goes on, with `--states` also which records it changes, `count [..] IMAGE..` how often what happened in it, with
-/// `--every` the totals while it goes on, and `state [..] IMAGE..` the state after it: a run as `run` makes it by a seed, or as `bus` does,
-/// or by the schedule of a file; `outcomes [..] IMAGE..` searches all results that the images can have, on whatever machine, and writes
-/// their table; `follow [..] LIST IMAGE..` runs images for at most 4,194,304 events so that their transactions commit in the order of a
-/// list, whose lines are as a report's, writes the schedule to a file where one is named, and then the report. With `--resume` `trace`,
-/// `count` and `state` go on from the checkpoint in a file, for so many events more, and with `--checkpoint` `count` writes the run down to
-/// a file at its end, from which others go on.
+/// `--every` the totals while it goes on, with `--consoles` also what its commits print, and `state [..] IMAGE..` the state after it: a run
+/// as `run` makes it by a seed, or as `bus` does, or by the schedule of a file; `outcomes [..] IMAGE..` searches all results that the
+/// images can have, on whatever machine, and writes their table; `follow [..] LIST IMAGE..` runs images for at most 4,194,304 events so
+/// that their transactions commit in the order of a list, whose lines are as a report's, writes the schedule to a file where one is named,
+/// and then the report. With `--resume` `trace`, `count` and `state` go on from the checkpoint in a file, for so many events more, and with
+/// `--checkpoint` `count` writes the run down to a file at its end, from which others go on.
 ///
-/// `Done`: at the end every core has halted, nothing is in flight (no packet on the bus) and no frame has a dirty word, or the list ran
-/// to its end, or the table has all results. `Stopped`: the machine isn't done, and a run has then taken all the events that were asked
-/// for; or the search isn't. With both the whole text was written. `Words`: the words are no command, or a value isn't allowed. `Image`:
-/// the files were read, and one isn't an image. `Schedule`: the schedule or list isn't in its grammar, has other settings than the
-/// command's, or can't be run to its end. `StoreFault`: a file wasn't read, and this is the first, or the record wasn't written.
-/// `SinkFault`: `out` failed, after a first part of the text. `Memory`: there wasn't enough memory; no clause says that memory was short.
-/// The record is then as it was, or whole, with the schedule of the run; of a trace or a table a first part may have been written.
+/// `Done`: at the end every core has halted, nothing is in flight (no packet on the bus) and no frame has a dirty word, or the list ran to
+/// its end, or the table has all results. `Stopped`: the machine isn't done, and a run has then taken all the events that were asked for;
+/// or the search isn't. With both the whole text was written. `Words`: the words are no command, or a value isn't allowed. `Image`: the
+/// files were read, and one isn't an image. `Schedule`: the schedule or list isn't in its grammar, has other settings than the command's,
+/// or can't be run to its end. `StoreFault`: a file wasn't read, and this is the first, or the record wasn't written. `SinkFault`: `out`
+/// failed, after a first part of the text. `Memory`: there wasn't enough memory; no clause says that memory was short. The record is then
+/// as it was, or whole, with the schedule of the run; of a trace or a table a first part may have been written.
 ///
 /// Refusals come in this order: words, files that aren't read (the schedule, list or checkpoint first, then the images), images, the
-/// schedule, list or checkpoint, the record, the output. Nothing is written to `out` with a refusal but `SinkFault`, and of a trace or a
-/// table with `Memory`. A refusal writes its line to `err`, as far as `err` takes it; nothing else is written there. Of the contents that
-/// `files` tells none changes but the record's.
+/// schedule, list or checkpoint, the record, the output. Nothing is written to `out` with a refusal but `SinkFault`, and of what is written
+/// while a run goes on with `Memory` and, before its checkpoint, with `StoreFault`. A refusal writes its line to `err`, as far as `err`
+/// takes it; nothing else is written there. Of the contents that `files` tells none changes but the record's.
 ///
 /// With `--threads` it starts so many threads, and may wait for them and for the locks that they share: that it returns then isn't proved.
 /// Each passes the gate before each of its turns, of at most so many acts of a node as `--batch` says. Without `--threads` it waits for
@@ -280,6 +281,13 @@ fn tell<'a, R: Threads + Wait + Sync, F: Store, O: Sink, G: Gate + Sync>(
             *to,
             out,
         ),
+        Command::Long {
+            begin,
+            steps,
+            view,
+            keep,
+            ..
+        } if grows(*view) => grow(alloc, loaded, begin, read, *steps, *view, keep, files, out),
         Command::Outcomes { limits, tell, .. } => {
             write_outcomes(alloc, loaded, *limits, *tell, out)
         }

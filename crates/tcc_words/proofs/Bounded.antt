@@ -1,5 +1,5 @@
 -- The numbers of a command are those of allowed fields.
-use Rattle.std.proofs.Common.{◌≡◌, ℕ, ◌+◌, ◌%◌, ◌^◌, ◌≤◌, IsTrue, List, length, Option, Some, None}
+use Rattle.std.proofs.Common.{◌≡◌, ℕ, ◌+◌, ◌%◌, ◌^◌, ◌≤◌, Bool, IsTrue, List, length, Option, Some, None}
 use Rattle.std.proofs.Common.{refl, sym, subst, ◌∙◌, inl, inr, arith}
 use Rattle.std.specs.Int.{is_power_of_two}
 use Rattle.std.specs.Prelude.{IfSome, IsSome, codes}
@@ -11,7 +11,7 @@ use Rattle.tcc_base.specs.Settings.{Settings, IsAllowed}
 use Rattle.tcc_words.proofs.OneCommand.{one-value}
 use Rattle.tcc_words.proofs.Unasked.{IsApart, unasked}
 use Rattle.tcc_words.specs.Asked.{Asks, AsksBegin, AsksLook, AsksSource, AsksView, GoTogether, HasPlaces, HasSettings, IsCommand}
-use Rattle.tcc_words.specs.Asked.{IsGiven, IsLong, MayBeGiven}
+use Rattle.tcc_words.specs.Asked.{IsGiven, IsLong, MayBeGiven, MayBeLong}
 use Rattle.tcc_words.specs.Bounds.{IsFew, IsInBounds, IsLongView, IsNear, IsNearOnBus, IsResumed, most_steps}
 use Rattle.tcc_words.specs.Grammar.{grammar}
 use Rattle.tcc_words.specs.Fields.{AllowsIn, AreFew, IsFlagged, IsValue, count_limit, images_of}
@@ -67,6 +67,7 @@ few-of : (verb : Verb) (rows : List Row) (v : View) (n : ℕ) → AsksView verb 
 few-of Trace rows (view.Trace from to states) n a few = few
 few-of Count rows (view.Count csv) n a few = few.0
 few-of Count rows (view.Rows every) n a few = few.0
+few-of Count rows (view.Consoles csv) n a few = few.0
 few-of State rows (view.State events) n a few = few
 few-of _ rows v n a few = absurd a
 
@@ -121,7 +122,7 @@ no-dirs words =
     (refl, (refl, (refl, (refl, (refl, (refl, (refl, (refl, (refl, tt))))))))) in
     unasked (codes "dirs") (built (grammar Bus)).top.rules apart (names_of (built (grammar Bus))) (argument_words (grammar Bus) words)
 
--- and a trace's words no checkpoint to be written
+-- and a trace's words neither a checkpoint to be written nor consoles
 not-written : (words : List Text) → first_of (codes "checkpoint") (matches_of (grammar Trace) words) ≡ None
 unfolding grammar IsApart
 not-written words =
@@ -130,18 +131,29 @@ not-written words =
     unasked (codes "checkpoint") (built (grammar Trace)).top.rules apart (names_of (built (grammar Trace)))
     (argument_words (grammar Trace) words)
 
+not-told : (words : List Text) → first_of (codes "consoles") (matches_of (grammar Trace) words) ≡ None
+unfolding grammar IsApart
+not-told words =
+    let apart : IsApart (codes "consoles") (built (grammar Trace)).top.rules =
+    (refl, (refl, (refl, (refl, (refl, (refl, (refl, (refl, (refl, (refl, (refl, (refl, (refl, (refl, (refl, (refl, tt)))))))))))))))) in
+    unasked (codes "consoles") (built (grammar Trace)).top.rules apart (names_of (built (grammar Trace)))
+    (argument_words (grammar Trace) words)
+
 one-dir : (rows : List Row) (n : ℕ) → first_of (codes "dirs") rows ≡ None → IsValue 1 (first_of (codes "dirs") rows) n → n ≡ 1
 one-dir rows n none said = subst (λ o. IsValue 1 o n) none said
 
--- where a command's grammar has no directories none are read, and so with a checkpoint to be written
+-- where a command's grammar has no directories none are read, and so with a checkpoint to be written and consoles
 abbrev HasNone : Verb → List Row → Type 0
 HasNone Bus rows = first_of (codes "dirs") rows ≡ None
-HasNone Trace rows = first_of (codes "checkpoint") rows ≡ None
+HasNone Trace rows = (first_of (codes "checkpoint") rows ≡ None) × (first_of (codes "consoles") rows ≡ None)
 HasNone _ rows = Unit {0}
 
 has-none : (verb : Verb) (words : List Text) (rows : List Row) → matches_of (grammar verb) words ≡ rows → HasNone verb rows
 has-none Bus words rows read = subst (λ r. first_of (codes "dirs") r ≡ None) read (no-dirs words)
-has-none Trace words rows read = subst (λ r. first_of (codes "checkpoint") r ≡ None) read (not-written words)
+has-none Trace words rows read = (
+  subst (λ r. first_of (codes "checkpoint") r ≡ None) read (not-written words),
+  subst (λ r. first_of (codes "consoles") r ≡ None) read (not-told words),
+)
 has-none _ words rows read = tt
 
 source-few : (verb : Verb) (rows : List Row) (v : View) (s : Source) → AsksView verb rows v → AsksSource rows s
@@ -162,53 +174,63 @@ every-near : (verb : Verb) (rows : List Row) (n : ℕ) → IsGiven rows (codes "
 every-near verb rows n given every =
     given-fits count_limit (IsFlagged (codes "bus") rows → ⊥) (first_of (codes "every") rows) n given (every Every)
 
-view-near : (verb : Verb) (rows : List Row) (v : View) → AsksView verb rows v → ((field : Field) → AllowsIn verb rows field) → IsNear v
-view-near Trace rows (view.Trace from to states) a every = (
+trace-near : (rows : List Row) (from to : ℕ) (states : Bool) → AsksView Trace rows (view.Trace from to states)
+    → ((field : Field) → AllowsIn Trace rows field) → (from ≤ text_limit) × (to ≤ text_limit)
+trace-near rows from to states a every = (
   number-near 0 (first_of (codes "from") rows) from a.0 (every From),
   number-near text_limit (first_of (codes "to") rows) to a.1 (every To),
 )
-view-near Count rows (view.Count csv) a every = tt
-view-near Count rows (view.Rows n) a every = let near = every-near Count rows n a every in (near.0, near.1)
-view-near State rows (view.State events) a every = number-near text_limit (first_of (codes "events") rows) events a (every Events)
-view-near _ rows v a every = absurd a
 
-view-near-on-bus : (verb : Verb) (rows : List Row) (v : View) → IsFlagged (codes "bus") rows → AsksView verb rows v
-    → ((field : Field) → AllowsIn verb rows field) → IsNearOnBus v
-view-near-on-bus Count rows (view.Rows n) bus a every = (every-near Count rows n a every).2 bus
-view-near-on-bus verb rows (view.Trace from to states) bus a every = view-near verb rows (view.Trace from to states) a every
-view-near-on-bus verb rows (view.Count csv) bus a every = view-near verb rows (view.Count csv) a every
-view-near-on-bus verb rows (view.State events) bus a every = view-near verb rows (view.State events) a every
-view-near-on-bus _ rows (view.Rows n) bus a every = absurd a
+state-near : (rows : List Row) (events : ℕ) → AsksView State rows (view.State events) → ((field : Field) → AllowsIn State rows field)
+    → events ≤ text_limit
+state-near rows events a every = number-near text_limit (first_of (codes "events") rows) events a (every Events)
 
-none-given : (rows : List Row) (name : Text) (n : ℕ) → first_of name rows ≡ None → IsGiven rows name n → ⊥
-none-given rows name n none given = let there = given.1 in absurd cc
+view-near : (verb : Verb) (rows : List Row) (v : View) → (IsFlagged (codes "consoles") rows → ⊥) → AsksView verb rows v
+    → ((field : Field) → AllowsIn verb rows field) → IsNear v
+view-near Trace rows (view.Trace from to states) quiet a every = trace-near rows from to states a every
+view-near Count rows (view.Count csv) quiet a every = tt
+view-near Count rows (view.Rows n) quiet a every = let near = every-near Count rows n a every in (near.0, near.1)
+view-near Count rows (view.Consoles csv) quiet a every = quiet a.0
+view-near State rows (view.State events) quiet a every = state-near rows events a every
+view-near _ rows v quiet a every = absurd a
 
--- a long run that isn't written down goes on from a checkpoint
-resumed : (rows : List Row) (b : Begin) → IsLong rows → first_of (codes "checkpoint") rows ≡ None → AsksBegin rows b → IsResumed b
-resumed rows (begin.Checkpoint name) long none asked = tt
-resumed rows (begin.Seed seed) (inl some) none asked = let there = subst IsSome asked.0 some in absurd cc
-resumed rows (begin.Seed seed) (inr some) none asked = let there = subst IsSome none some in absurd cc
+view-near-on-bus : (verb : Verb) (rows : List Row) (v : View) → IsFlagged (codes "bus") rows → (IsFlagged (codes "consoles") rows → ⊥)
+    → AsksView verb rows v → ((field : Field) → AllowsIn verb rows field) → IsNearOnBus v
+view-near-on-bus Count rows (view.Rows n) bus quiet a every = (every-near Count rows n a every).2 bus
+view-near-on-bus verb rows (view.Trace from to states) bus quiet a every = view-near verb rows (view.Trace from to states) quiet a every
+view-near-on-bus verb rows (view.Count csv) bus quiet a every = view-near verb rows (view.Count csv) quiet a every
+view-near-on-bus verb rows (view.Consoles csv) bus quiet a every = view-near verb rows (view.Consoles csv) quiet a every
+view-near-on-bus verb rows (view.State events) bus quiet a every = view-near verb rows (view.State events) quiet a every
+view-near-on-bus _ rows (view.Rows n) bus quiet a every = absurd a
 
--- what is told of a long run are no totals as it goes, and beside a trace none is written down
-long-near : (verb : Verb) (rows : List Row) (v : View) (b : Begin) (keep : Option Text) → IsLong rows → HasPlaces verb rows
-    → HasNone verb rows → AsksView verb rows v → ((field : Field) → AllowsIn verb rows field) → AsksBegin rows b
+-- a long run that isn't written down, and whose consoles aren't told, goes on from a checkpoint
+resumed : (rows : List Row) (b : Begin) → IsLong rows → first_of (codes "checkpoint") rows ≡ None
+    → first_of (codes "consoles") rows ≡ None → AsksBegin rows b → IsResumed b
+resumed rows (begin.Checkpoint name) long none quiet asked = tt
+resumed rows (begin.Seed seed) (inl some) none quiet asked = let there = subst IsSome asked.0 some in absurd cc
+resumed rows (begin.Seed seed) (inr (inl some)) none quiet asked = let there = subst IsSome none some in absurd cc
+resumed rows (begin.Seed seed) (inr (inr told)) none quiet asked = absurd cc
+
+-- beside a trace of a long run none is written down
+long-near : (verb : Verb) (rows : List Row) (v : View) (b : Begin) (keep : Option Text) → IsLong rows → HasNone verb rows
+    → AsksView verb rows v → ((field : Field) → AllowsIn verb rows field) → AsksBegin rows b
     → keep ≡ first_of (codes "checkpoint") rows → IsLongView v b keep
-long-near Trace rows (view.Trace from to states) b keep long places none a every asked is =
-    let near = view-near Trace rows (view.Trace from to states) a every in
-    (near.0, near.1, resumed rows b long none asked, is ∙ none)
-long-near Count rows (view.Count csv) b keep long places none a every asked is = tt
-long-near Count rows (view.Rows n) b keep long places none a every asked is =
-    absurd (none-given rows (codes "every") n (places.2.plain long).2 a)
-long-near State rows (view.State events) b keep long places none a every asked is = view-near State rows (view.State events) a every
-long-near _ rows v b keep long places none a every asked is = absurd a
+long-near Trace rows (view.Trace from to states) b keep long none a every asked is =
+    let near = trace-near rows from to states a every in
+    (near.0, near.1, resumed rows b long none.0 none.1 asked, is ∙ none.0)
+long-near Count rows (view.Count csv) b keep long none a every asked is = tt
+long-near Count rows (view.Rows n) b keep long none a every asked is = let near = every-near Count rows n a every in (near.0, near.1)
+long-near Count rows (view.Consoles csv) b keep long none a every asked is = tt
+long-near State rows (view.State events) b keep long none a every asked is = state-near rows events a every
+long-near _ rows v b keep long none a every asked is = absurd a
 
-looking : (verb : Verb) (rows : List Row) (v : View) (c : Command) → (1 ≤ length (images_of rows)) × GoTogether rows
+looking : (verb : Verb) (rows : List Row) (v : View) (c : Command) → (1 ≤ length (images_of rows)) × GoTogether rows × MayBeLong rows
     → ((b : Begin) (keep : Option Text) → IsLong rows → AsksBegin rows b → keep ≡ first_of (codes "checkpoint") rows → IsLongView v b keep)
     → ((field : Field) → AllowsIn verb rows field) → AsksLook rows v c → AsksView verb rows v → IsInBounds c
 looking verb rows v (command.Look machine images source view) places far every a b =
     let some = images-some verb rows images a.3 places.0 every in
     let few = subst (λ w. IsFew w source) (sym a.5) (source-few verb rows v source b a.4 every) in
-    let near = subst IsNear (sym a.5) (view-near verb rows v b every) in
+    let near = subst IsNear (sym a.5) (view-near verb rows v (λ told. a.1 (inr (inr told))) b every) in
     record { allowed = allowed verb rows machine.config a.2.0 every; numbers = (some.0, some.1, few, near) }
 looking verb rows v (command.Long machine images begin steps view keep) places far every a b =
     let some = images-some verb rows images a.3 places.0 every in
@@ -219,7 +241,8 @@ looking verb rows v (command.LookOnBus machine images steps seed view) places fa
     let some = images-some verb rows images a.2 places.0 every in
     let few = few-on-bus verb rows v steps a.0 b (steps-few verb rows steps a.3 every) in
     let one = one-dir rows machine.config.dirs (places.1.bus a.0) a.1.0.dirs in
-    let near = subst IsNearOnBus (sym a.5) (view-near-on-bus verb rows v a.0 b every) in
+    let quiet : IsFlagged (codes "consoles") rows → ⊥ = λ told. (places.2.plain (inr (inr told))).1 a.0 in
+    let near = subst IsNearOnBus (sym a.5) (view-near-on-bus verb rows v a.0 quiet b every) in
     record { allowed = allowed verb rows machine.config a.1.0 every; numbers = (some.0, some.1, few, one, near) }
 looking verb rows v _ places far every a b = absurd a
 
@@ -250,11 +273,11 @@ bounded Bus rows (command.Bus machine images steps seed) places none every a =
     let one = one-dir rows machine.config.dirs none a.0.0.dirs in
     record { allowed = allowed Bus rows machine.config a.0.0 every; numbers = (some.0, some.1, steps-few Bus rows steps a.2 every, one) }
 bounded Trace rows c places none every a =
-    looking Trace rows a.0 c (places.0, places.1) (λ b keep long. long-near Trace rows a.0 b keep long places none a.2 every) every a.1 a.2
+    looking Trace rows a.0 c places (λ b keep long. long-near Trace rows a.0 b keep long none a.2 every) every a.1 a.2
 bounded Count rows c places none every a =
-    looking Count rows a.0 c (places.0, places.1) (λ b keep long. long-near Count rows a.0 b keep long places none a.2 every) every a.1 a.2
+    looking Count rows a.0 c places (λ b keep long. long-near Count rows a.0 b keep long none a.2 every) every a.1 a.2
 bounded State rows c places none every a =
-    looking State rows a.0 c (places.0, places.1) (λ b keep long. long-near State rows a.0 b keep long places none a.2 every) every a.1 a.2
+    looking State rows a.0 c places (λ b keep long. long-near State rows a.0 b keep long none a.2 every) every a.1 a.2
 bounded Outcomes rows (command.Outcomes machine images limits tell) places none every a =
     let some = images-some Outcomes rows images a.1 places every in
     let states = some-of 1000000 (first_of (codes "states") rows) limits.states a.2 (every States) in

@@ -7,8 +7,8 @@ use Rattle.tcc_base.specs.Settings.{Settings}
 use Rattle.work_gen.specs.Names.{work_word}
 use Rattle.work_gen.specs.declared.work.Work.{Work}
 use Rattle.work_gen.specs.declared.work.Work.TheVariants.{Counters, Transfers, Stencil, Sharing}
-use Rattle.tcc_words.specs.Asked.{Asks, AsksBegin, AsksLook, AsksSource, AsksView, HasMachine, HasSettings, HasTell, IsGiven, MayBeGiven}
-use Rattle.tcc_words.specs.Asked.{Stands}
+use Rattle.tcc_words.specs.Asked.{Asks, AsksBegin, AsksLook, AsksSource, AsksView, HasMachine, HasPlaces, HasSettings, HasTell}
+use Rattle.tcc_words.specs.Asked.{IsGiven, MayBeGiven, Stands}
 use Rattle.run_outcomes.specs.declared.outcomes.Tell.{Tell}
 use Rattle.run_outcomes.specs.declared.outcomes.Tell.TheVariants.{Consoles, Memory, Everything}
 use Rattle.tcc_words.specs.Fields.{AllowsIn, BreaksFirst, IsFlagged, IsSaid, IsValue, default_of, field_word, order, tell_word}
@@ -53,10 +53,13 @@ one-given rows name m n a b =
     let text : a.0 ≡ b.0 = one-some (first_of name rows) a.0 b.0 a.1 b.1 in
     one-number b.0 m n (subst (λ (t : Text). IsNumber t m) text a.2) b.2
 
+pub none-given : (rows : List Row) (name : Text) (n : ℕ) → first_of name rows ≡ None → IsGiven rows name n → ⊥
+none-given rows name n none given = let there = given.1 in absurd cc
+
 may-be : (rows : List Row) (name : Text) (m n : Option ℕ) → MayBeGiven rows name m → MayBeGiven rows name n → m ≡ n
 may-be rows name None None a b = refl
-may-be rows name None (Some n) a b = let there = b.1 in absurd cc
-may-be rows name (Some m) None a b = let there = a.1 in absurd cc
+may-be rows name None (Some n) a b = absurd (none-given rows name n a b)
+may-be rows name (Some m) None a b = absurd (none-given rows name m b a)
 may-be rows name (Some m) (Some n) a b = ap (λ (k : ℕ). Some k) (one-given rows name m n a b)
 
 -- ---- the machine
@@ -194,25 +197,36 @@ one-begin rows (begin.Checkpoint name) (begin.Seed seed) a b = let none = b.0 in
 one-begin rows (begin.Checkpoint name) (begin.Checkpoint other) a b =
     ap (λ (t : Text). begin.Checkpoint t) (one-some _ name other a b)
 
-one-view : (verb : Verb) (rows : List Row) (v w : View) → AsksView verb rows v → AsksView verb rows w → v ≡ w
-one-view Trace rows (view.Trace from to states) (view.Trace from' to' states') a b =
+-- the consoles of a run stand without totals as it goes
+abbrev StandApart : List Row → Type 0
+StandApart rows = IsFlagged (codes "consoles") rows → first_of (codes "every") rows ≡ None
+
+one-view : (verb : Verb) (rows : List Row) (v w : View) → StandApart rows → AsksView verb rows v → AsksView verb rows w → v ≡ w
+one-view Trace rows (view.Trace from to states) (view.Trace from' to' states') apart a b =
     let first = one-said rows From from from' a.0 b.0 in
     let last = one-said rows To to to' a.1 b.1 in
     let records = same-truth (IsFlagged (codes "records") rows) states states' a.2 b.2 in
     λ i. view.Trace (first i) (last i) (records i)
-one-view Count rows (view.Count csv) (view.Count csv') a b =
-    ap (λ (c : Bool). view.Count c) (same-truth (IsFlagged (codes "csv") rows) csv csv' a.1 b.1)
-one-view Count rows (view.Rows every) (view.Rows every') a b =
+one-view Count rows (view.Count csv) (view.Count csv') apart a b =
+    ap (λ (c : Bool). view.Count c) (same-truth (IsFlagged (codes "csv") rows) csv csv' a.2 b.2)
+one-view Count rows (view.Rows every) (view.Rows every') apart a b =
     ap (λ (n : ℕ). view.Rows n) (one-given rows (codes "every") every every' a b)
-one-view Count rows (view.Count csv) (view.Rows every) a b = let none = a.0 in let there = b.1 in absurd cc
-one-view Count rows (view.Rows every) (view.Count csv) a b = let none = b.0 in let there = a.1 in absurd cc
-one-view State rows (view.State events) (view.State events') a b =
+one-view Count rows (view.Consoles csv) (view.Consoles csv') apart a b =
+    ap (λ (c : Bool). view.Consoles c) (same-truth (IsFlagged (codes "csv") rows) csv csv' a.1 b.1)
+one-view Count rows (view.Count csv) (view.Rows every) apart a b = absurd (none-given rows (codes "every") every a.0 b)
+one-view Count rows (view.Rows every) (view.Count csv) apart a b = absurd (none-given rows (codes "every") every b.0 a)
+one-view Count rows (view.Count csv) (view.Consoles csv') apart a b = absurd (a.1 b.0)
+one-view Count rows (view.Consoles csv) (view.Count csv') apart a b = absurd (b.1 a.0)
+one-view Count rows (view.Rows every) (view.Consoles csv) apart a b = absurd (none-given rows (codes "every") every (apart b.0) a)
+one-view Count rows (view.Consoles csv) (view.Rows every) apart a b = absurd (none-given rows (codes "every") every (apart a.0) b)
+one-view State rows (view.State events) (view.State events') apart a b =
     ap (λ (n : ℕ). view.State n) (one-said rows Events events events' a b)
-one-view Trace rows (view.Trace from to states) _ a b = absurd b
-one-view Count rows (view.Count csv) _ a b = absurd b
-one-view Count rows (view.Rows every) _ a b = absurd b
-one-view State rows (view.State events) _ a b = absurd b
-one-view _ rows v w a b = absurd a
+one-view Trace rows (view.Trace from to states) _ apart a b = absurd b
+one-view Count rows (view.Count csv) _ apart a b = absurd b
+one-view Count rows (view.Rows every) _ apart a b = absurd b
+one-view Count rows (view.Consoles csv) _ apart a b = absurd b
+one-view State rows (view.State events) _ apart a b = absurd b
+one-view _ rows v w apart a b = absurd a
 
 one-look : (rows : List Row) (v : View) (c d : Command) → AsksLook rows v c → AsksLook rows v d → c ≡ d
 one-look rows v (command.Look m images source view) (command.Look n images' source' view') a b =
@@ -247,10 +261,10 @@ one-look rows v (command.LookOnBus m images steps seed view) _ a b = absurd b
 one-look rows v (command.Long m images begin steps view keep) _ a b = absurd b
 one-look rows v _ d a b = absurd a
 
-one-looking : (verb : Verb) (rows : List Row) (c d : Command) → ((v : View) × AsksLook rows v c × AsksView verb rows v)
+one-looking : (verb : Verb) (rows : List Row) (c d : Command) → StandApart rows → ((v : View) × AsksLook rows v c × AsksView verb rows v)
     → ((v : View) × AsksLook rows v d × AsksView verb rows v) → c ≡ d
-one-looking verb rows c d a b =
-    let same : b.0 ≡ a.0 = one-view verb rows b.0 a.0 b.2 a.2 in
+one-looking verb rows c d apart a b =
+    let same : b.0 ≡ a.0 = one-view verb rows b.0 a.0 apart b.2 a.2 in
     one-look rows a.0 c d a.1 (subst (λ v. AsksLook rows v d) same b.1)
 
 -- a number by which the words of what is told differ
@@ -287,19 +301,19 @@ one-follow rows (command.Follow m file images keep) (command.Follow n file' imag
 one-follow rows (command.Follow m file images keep) _ a b = absurd b
 one-follow rows _ d a b = absurd a
 
-one-asked : (verb : Verb) (rows : List Row) (c d : Command) → Asks verb rows c → Asks verb rows d → c ≡ d
-one-asked Run rows c d a b = one-run rows c d a b
-one-asked Replay rows c d a b = one-replay rows c d a b
-one-asked Serial rows c d a b = one-serial rows c d a b
-one-asked Trial rows c d a b = one-trial rows c d a b
-one-asked Why rows c d a b = one-why rows c d a b
-one-asked Phases rows c d a b = one-phases rows c d a b
-one-asked Bus rows c d a b = one-bus rows c d a b
-one-asked Trace rows c d a b = one-looking Trace rows c d a b
-one-asked Count rows c d a b = one-looking Count rows c d a b
-one-asked State rows c d a b = one-looking State rows c d a b
-one-asked Outcomes rows c d a b = one-outcomes rows c d a b
-one-asked Follow rows c d a b = one-follow rows c d a b
+one-asked : (verb : Verb) (rows : List Row) (c d : Command) → HasPlaces verb rows → Asks verb rows c → Asks verb rows d → c ≡ d
+one-asked Run rows c d places a b = one-run rows c d a b
+one-asked Replay rows c d places a b = one-replay rows c d a b
+one-asked Serial rows c d places a b = one-serial rows c d a b
+one-asked Trial rows c d places a b = one-trial rows c d a b
+one-asked Why rows c d places a b = one-why rows c d a b
+one-asked Phases rows c d places a b = one-phases rows c d a b
+one-asked Bus rows c d places a b = one-bus rows c d a b
+one-asked Trace rows c d places a b = one-looking Trace rows c d places.2.consoles a b
+one-asked Count rows c d places a b = one-looking Count rows c d places.2.consoles a b
+one-asked State rows c d places a b = one-looking State rows c d places.2.consoles a b
+one-asked Outcomes rows c d places a b = one-outcomes rows c d a b
+one-asked Follow rows c d places a b = one-follow rows c d a b
 
 -- what words stand for
 one-reading : (words : List Text) (v w : Verb) (r s : List Row) → Stands words v r → Stands words w s → (w ≡ v) × (s ≡ r)
@@ -310,7 +324,7 @@ one-reading words v w r s a b =
 pub one-command : WordsAskForOneCommand
 one-command words c d a b =
     let same = one-reading words a.verb b.verb a.rows b.rows a.stands b.stands in
-    one-asked a.verb a.rows c d a.asks
+    one-asked a.verb a.rows c d a.stands.places a.asks
     (subst (λ (r : List Row). Asks a.verb r d) same.1 (subst (λ (v : Verb). Asks v b.rows d) same.0 b.asks))
 
 -- ---- not refused

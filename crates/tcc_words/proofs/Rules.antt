@@ -79,12 +79,14 @@ pub trace_made : (verb : Verb) (name : Text) (bare source from to states resumed
 unfolding grammar
 trace_made verb name bare source from to states resumed made v n e0 e1 e2 e3 e4 e5 e6 = rw (e6, e5, e4, e3, e2, e1, e0, n, v) refl
 
-pub count_made : (verb : Verb) (name : Text) (bare source csv every resumed written made : App) → verb ≡ Count → name ≡ verb_word verb
+pub count_made : (verb : Verb) (name : Text) (bare source csv every told resumed written made : App) → verb ≡ Count → name ≡ verb_word verb
     → bare ≡ plain name [] → source ≡ with_rules source_rules bare → csv ≡ with_rule source (flag (codes "csv") (codes "csv"))
-    → every ≡ with_rule csv (option (codes "every")) → resumed ≡ with_rule every (option (codes "resume"))
-    → written ≡ with_rule resumed (option (codes "checkpoint")) → made ≡ with_rule written (places (codes "image")) → made ≡ grammar verb
+    → every ≡ with_rule csv (option (codes "every")) → told ≡ with_rule every (flag (codes "consoles") (codes "consoles"))
+    → resumed ≡ with_rule told (option (codes "resume")) → written ≡ with_rule resumed (option (codes "checkpoint"))
+    → made ≡ with_rule written (places (codes "image")) → made ≡ grammar verb
 unfolding grammar
-count_made verb name bare source csv every resumed written made v n e0 e1 e2 e3 e4 e5 e6 = rw (e6, e5, e4, e3, e2, e1, e0, n, v) refl
+count_made verb name bare source csv every told resumed written made v n e0 e1 e2 e3 e4 e5 e6 e7 =
+    rw (e7, e6, e5, e4, e3, e2, e1, e0, n, v) refl
 
 pub state_made : (verb : Verb) (name : Text) (bare source events resumed made : App) → verb ≡ State → name ≡ verb_word verb
     → bare ≡ plain name [] → source ≡ with_rules source_rules bare → events ≡ with_rule source (option (codes "events"))

@@ -35,15 +35,17 @@ pub record GoTogether (rows : List Row) : Type 0 where
       → (first_of (codes "steps") rows ≡ None) × (first_of (codes "seed") rows ≡ None) × (IsFlagged (codes "bus") rows → ⊥)
   pub bus : IsFlagged (codes "bus") rows → first_of (codes "dirs") rows ≡ None
 
--- the run goes on from a checkpoint, or is written down as one
+-- the run goes on from a checkpoint, is written down as one, or its consoles are told
 abbrev pub IsLong : List Row → Type 0
-IsLong rows = IsSome (first_of (codes "resume") rows) ⊎ IsSome (first_of (codes "checkpoint") rows)
+IsLong rows =
+    IsSome (first_of (codes "resume") rows) ⊎ IsSome (first_of (codes "checkpoint") rows) ⊎ IsFlagged (codes "consoles") rows
 
--- a checkpoint that is resumed stands without a seed, and a long run with neither a schedule nor the bus nor totals as it goes
+-- a checkpoint that is resumed stands without a seed, a long run with neither a schedule nor the bus, and its consoles without totals as
+-- it goes
 pub record MayBeLong (rows : List Row) : Type 0 where
   pub seed : IsSome (first_of (codes "resume") rows) → first_of (codes "seed") rows ≡ None
-  pub plain : IsLong rows
-      → (first_of (codes "schedule") rows ≡ None) × (IsFlagged (codes "bus") rows → ⊥) × (first_of (codes "every") rows ≡ None)
+  pub plain : IsLong rows → (first_of (codes "schedule") rows ≡ None) × (IsFlagged (codes "bus") rows → ⊥)
+  pub consoles : IsFlagged (codes "consoles") rows → first_of (codes "every") rows ≡ None
 
 -- each place of the command has its word, and its options go together
 abbrev pub HasPlaces : Verb → List Row → Type 0
@@ -123,8 +125,10 @@ AsksLook rows v _ = ⊥
 abbrev pub AsksView : Verb → List Row → View → Type 0
 AsksView Trace rows (view.Trace from to states) =
     IsSaid rows From from × IsSaid rows To to × (IsTrue states ↔ IsFlagged (codes "records") rows)
-AsksView Count rows (view.Count csv) = (first_of (codes "every") rows ≡ None) × (IsTrue csv ↔ IsFlagged (codes "csv") rows)
+AsksView Count rows (view.Count csv) =
+    (first_of (codes "every") rows ≡ None) × (IsFlagged (codes "consoles") rows → ⊥) × (IsTrue csv ↔ IsFlagged (codes "csv") rows)
 AsksView Count rows (view.Rows every) = IsGiven rows (codes "every") every
+AsksView Count rows (view.Consoles csv) = IsFlagged (codes "consoles") rows × (IsTrue csv ↔ IsFlagged (codes "csv") rows)
 AsksView State rows (view.State events) = IsSaid rows Events events
 AsksView _ rows v = ⊥
 

@@ -13,7 +13,7 @@ use Rattle.tcc_words.specs.declared.command.Command.TheVariants.{LookOnBus, Outc
 use Rattle.tcc_words.specs.declared.command.Source.{Source}
 use Rattle.tcc_words.specs.declared.command.Source.TheVariants.{Seed, Schedule}
 use Rattle.tcc_words.specs.declared.command.View.{View}
-use Rattle.tcc_words.specs.declared.command.View.TheVariants.{Trace, Count, Rows, State}
+use Rattle.tcc_words.specs.declared.command.View.TheVariants.{Trace, Count, Rows, Consoles, State}
 
 abbrev pub config_of : Command → Settings
 config_of (Run machine images steps seed threads batch keep) = machine.config
@@ -33,16 +33,19 @@ config_of (Long machine images begin steps view keep) = machine.config
 abbrev pub most_steps : View → ℕ
 most_steps (Count csv) = count_limit
 most_steps (Rows every) = count_limit
+most_steps (Consoles csv) = count_limit
 most_steps _ = text_limit
 
 abbrev pub IsFew : View → Source → Type 0
 IsFew view (Seed steps seed) = steps ≤ most_steps view
 IsFew view (Schedule name) = Unit {0}
 
+-- only a long run's consoles are told
 abbrev pub IsNear : View → Type 0
 IsNear (Trace from to states) = (from ≤ text_limit) × (to ≤ text_limit)
 IsNear (Count csv) = Unit {0}
 IsNear (Rows every) = (1 ≤ every) × (every ≤ count_limit)
+IsNear (Consoles csv) = ⊥
 IsNear (State events) = events ≤ text_limit
 
 -- and on the bus no totals are told as it goes
@@ -55,11 +58,13 @@ abbrev pub IsResumed : Begin → Type 0
 IsResumed (begin.Seed seed) = ⊥
 IsResumed (begin.Checkpoint name) = Unit {0}
 
--- a long run is counted to its end, or its state is shown, or its trace from a checkpoint on, and then it isn't written down
+-- a long run is counted, at its end or as it goes, or its consoles are told, or its state is shown, or its trace from a checkpoint on,
+-- and then it isn't written down
 abbrev pub IsLongView : View → Begin → (keep : Option Text) → Type 0
 IsLongView (Trace from to states) begin keep = (from ≤ text_limit) × (to ≤ text_limit) × IsResumed begin × (keep ≡ None)
 IsLongView (Count csv) begin keep = Unit {0}
-IsLongView (Rows every) begin keep = ⊥
+IsLongView (Rows every) begin keep = (1 ≤ every) × (every ≤ count_limit)
+IsLongView (Consoles csv) begin keep = Unit {0}
 IsLongView (State events) begin keep = events ≤ text_limit
 
 -- 1 to 16 images, at most 4,194,304 events but where they are counted, 1 to 16 threads and only with a record, 1 to 1024 acts in a turn,

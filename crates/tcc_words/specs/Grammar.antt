@@ -82,8 +82,8 @@ rules Trace =
     source_rules ++ option (codes "from") ∷ option (codes "to") ∷ flag (codes "records") (codes "states") ∷ option (codes "resume")
     ∷ places (codes "image") ∷ []
 rules Count =
-    source_rules ++ flag (codes "csv") (codes "csv") ∷ option (codes "every") ∷ option (codes "resume") ∷ option (codes "checkpoint")
-    ∷ places (codes "image") ∷ []
+    source_rules ++ flag (codes "csv") (codes "csv") ∷ option (codes "every") ∷ flag (codes "consoles") (codes "consoles")
+    ∷ option (codes "resume") ∷ option (codes "checkpoint") ∷ places (codes "image") ∷ []
 rules State = source_rules ++ option (codes "events") ∷ option (codes "resume") ∷ places (codes "image") ∷ []
 rules Outcomes =
     option (codes "cores") ∷ memory_rules ++ option (codes "states") ∷ option (codes "longest") ∷ option (codes "tell")

@@ -115,6 +115,8 @@ pub enum View {
     Count { csv: bool },
     /// The totals as rows for a table while the run goes on, one after each `every` events.
     Rows { every: u64 },
+    /// What the cores print, as it is committed, and then how often what happened; with `csv` the totals alone, as two rows for a table.
+    Consoles { csv: bool },
     /// The state after at most so many events.
     State { events: u64 },
 }
@@ -206,9 +208,9 @@ pub enum Command {
         images: List<Text>,
         keep: Option<Text>,
     },
-    /// Count a run of the images, or show its state, from its beginning or from a checkpoint, for at most `steps` events more that its
-    /// seed chooses. It is written down to the file `keep` at its end, where there is one. Or tell what each of these events did, from a
-    /// checkpoint on.
+    /// Count a run of the images, at its end or as it goes, tell what its cores print, or show its state: from its beginning or from a
+    /// checkpoint, for at most `steps` events more that its seed chooses. It is written down to the file `keep` at its end, where there is
+    /// one. Or tell what each of these events did, from a checkpoint on. Of no other run it is told what the cores print.
     Long {
         machine: Machine,
         images: List<Text>,

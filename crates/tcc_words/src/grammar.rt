@@ -80,7 +80,8 @@ fn grammar<'a>(alloc: Global, verb: Verb, name: &'a str) -> Result<clap::Command
             let source = with_source(alloc, named)?;
             let csv = with_flag(alloc, source, "csv", "csv")?;
             let every = with_option(alloc, csv, "every")?;
-            let resume = with_option(alloc, every, "resume")?;
+            let consoles = with_flag(alloc, every, "consoles", "consoles")?;
+            let resume = with_option(alloc, consoles, "resume")?;
             let checkpoint = with_option(alloc, resume, "checkpoint")?;
             with_places(alloc, checkpoint, "image")
         }

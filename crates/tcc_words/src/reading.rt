@@ -17,9 +17,9 @@ use tcc_base::{Config, List, NoMemory, Text};
 /// The command that the words after the program's name ask for.
 ///
 /// The first word names the command, and clap reads the words after it: options, as `--name value` or `--name=value`, and
-/// places. `Words` exactly where the first word is missing or names no command, clap refuses the others or a place has no word;
-/// `Value` with the first field, in the order of `Field`, in which something stands that isn't allowed. Takes memory for what clap
-/// keeps and for the names.
+/// places. `Words` exactly where the first word is missing or names no command, clap refuses the others, a place has no word, or
+/// options stand together that may not; `Value` with the first field, in the order of `Field`, in which something stands that isn't
+/// allowed. Takes memory for what clap keeps and for the names.
 pub fn settings<'a>(alloc: Global, words: &'a [&'a str]) -> Result<Command, WordsFault>
     ensures command { IfOk result (IsCommand (map (λ w. w.now) words.now)) }
     ensures refused { IfErr result (IsRefused (map (λ w. w.now) words.now)) }
@@ -43,7 +43,7 @@ pub fn settings<'a>(alloc: Global, words: &'a [&'a str]) -> Result<Command, Word
     }
 }
 
-/// Whether each place of the command has its word.
+/// Whether each place of the command has its word, and its options may stand together.
 fn has_places(verb: Verb, matches: &ArgMatches) -> bool
     ensures { IsTrue result ↔ HasPlaces verb (rows_of (found_of matches.now)) }
 {
@@ -69,7 +69,8 @@ fn go_together(matches: &ArgMatches) -> bool
         || (text(matches, "steps").is_none() && text(matches, "seed").is_none())
 }
 
-/// Whether no seed stands beside a checkpoint that is resumed, and no schedule, bus or totals as it goes beside a long run.
+/// Whether no seed stands beside a checkpoint that is resumed, no schedule or bus beside a long run, and no totals as it goes beside
+/// its consoles.
 fn may_be_long(matches: &ArgMatches) -> bool
     ensures { IsTrue result ↔ MayBeLong (rows_of (found_of matches.now)) }
 {
@@ -79,14 +80,16 @@ fn may_be_long(matches: &ArgMatches) -> bool
     (text(matches, "resume").is_none() || text(matches, "seed").is_none())
         && text(matches, "schedule").is_none()
         && !is_flagged(matches, "bus")
-        && text(matches, "every").is_none()
+        && (!is_flagged(matches, "consoles") || text(matches, "every").is_none())
 }
 
-/// Whether the run goes on from a checkpoint, or is written down as one.
+/// Whether the run goes on from a checkpoint, is written down as one, or its consoles are told.
 fn is_long(matches: &ArgMatches) -> bool
     ensures { IsTrue result ↔ IsLong (rows_of (found_of matches.now)) }
 {
-    text(matches, "resume").is_some() || text(matches, "checkpoint").is_some()
+    text(matches, "resume").is_some()
+        || text(matches, "checkpoint").is_some()
+        || is_flagged(matches, "consoles")
 }
 
 /// Whether an image is named.
@@ -182,11 +185,11 @@ fn counting(matches: &ArgMatches, values: &Values) -> View
     requires { HasValues (rows_of (found_of matches.now)) values.now }
     ensures { AsksView Count (rows_of (found_of matches.now)) result }
 {
+    let csv = is_flagged(matches, "csv");
     match values.every {
         Some(every) => View::Rows { every },
-        None => View::Count {
-            csv: is_flagged(matches, "csv"),
-        },
+        None if is_flagged(matches, "consoles") => View::Consoles { csv },
+        None => View::Count { csv },
     }
 }
 

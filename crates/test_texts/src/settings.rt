@@ -3,6 +3,7 @@ use run_outcomes::{Limits, Tell};
 use std::alloc::Global;
 use std::process::Abort;
 use std::test::Fail;
+use tcc_base::Text;
 use tcc_words::{Begin, Command, Field, Source, View, WordsFault, settings};
 use work_gen::Work;
 
@@ -394,6 +395,119 @@ fn a_run_is_written_down(rt: HostRuntime) -> Result<(), Fail> {
     Ok(())
 }
 
+/// The words of a long run, the checkpoint from which it goes on, the one that is written, and what is told.
+type LongRow = (
+    &'static str,
+    Option<&'static str>,
+    Option<&'static str>,
+    View,
+);
+
+/// Totals as a long run goes, and its consoles; for either a checkpoint may be resumed, one be written, both or neither.
+const LONG: [LongRow; 8] = [
+    (
+        "count --every 5 --resume c a",
+        Some("c"),
+        None,
+        View::Rows { every: 5 },
+    ),
+    (
+        "count --checkpoint d --seed 3 --every=1099511627776 a",
+        None,
+        Some("d"),
+        View::Rows {
+            every: 1_099_511_627_776,
+        },
+    ),
+    (
+        "count --csv --every 1 --checkpoint d --resume c a",
+        Some("c"),
+        Some("d"),
+        View::Rows { every: 1 },
+    ),
+    (
+        "count --consoles a",
+        None,
+        None,
+        View::Consoles { csv: false },
+    ),
+    (
+        "count a --csv --consoles --seed 3",
+        None,
+        None,
+        View::Consoles { csv: true },
+    ),
+    (
+        "count --consoles --resume c a",
+        Some("c"),
+        None,
+        View::Consoles { csv: false },
+    ),
+    (
+        "count --checkpoint d --consoles a",
+        None,
+        Some("d"),
+        View::Consoles { csv: false },
+    ),
+    (
+        "count --consoles --resume=c --checkpoint=d --csv a",
+        Some("c"),
+        Some("d"),
+        View::Consoles { csv: true },
+    ),
+];
+
+/// Whether a file has this name, or there is none.
+fn is_named(file: Option<&Text>, name: Option<&str>) -> bool {
+    match (file, name) {
+        (Some(file), Some(name)) => file.items.as_str() == name,
+        (None, None) => true,
+        _ => false,
+    }
+}
+
+#[test]
+fn a_long_run_is_told_as_it_goes(rt: HostRuntime) -> Result<(), Fail> {
+    for (line, resumed, written, told) in LONG {
+        let Ok(
+            Command::Long {
+                images,
+                begin,
+                view,
+                keep,
+                ..
+            },
+        ) = asked(rt.alloc(), line)?
+        else {
+            panic!(rt; "{line} asks for another command, or for none");
+        };
+        assert_eq!(rt; images.items.len(), 1, "{line}");
+        let from = match &begin {
+            Begin::Seed(_) => None,
+            Begin::Checkpoint(name) => Some(name),
+        };
+        assert!(rt;
+            is_named(from, resumed) && is_named(keep.as_ref(), written),
+            "{line}"
+        );
+        assert_eq!(rt; view, told, "{line}");
+    }
+    Ok(())
+}
+
+#[test]
+fn consoles_are_told_by_seed_and_steps(rt: HostRuntime) -> Result<(), Fail> {
+    let Ok(Command::Long { begin, steps, .. }) = asked(
+        rt.alloc(),
+        "count --steps 1099511627776 --consoles --seed 3 a",
+    )?
+    else {
+        panic!(rt; "they ask for another command, or for none");
+    };
+    assert!(rt; matches!(begin, Begin::Seed(3)) && steps == 1_099_511_627_776);
+    Ok(())
+}
+
 #[test]
 fn outcomes_have_their_limits(rt: HostRuntime) -> Result<(), Fail> {
     let Ok(
@@ -522,8 +636,8 @@ fn options_that_do_not_go_together(rt: HostRuntime) -> Result<(), Fail> {
     are_refused(&rt, rt.alloc(), &NOT_TOGETHER)
 }
 
-/// A checkpoint that is resumed beside a seed, a long run beside what it hasn't, and checkpoints of commands that have none.
-const NOT_LONG: [Refused; 15] = [
+/// A checkpoint that is resumed beside a seed, a long run beside what it hasn't, and checkpoints and consoles of commands that have none.
+const NOT_LONG: [Refused; 21] = [
     ("count --resume c --seed 1 a", WordsFault::Words),
     ("state --seed=0 --resume c a", WordsFault::Words),
     (
@@ -535,13 +649,22 @@ const NOT_LONG: [Refused; 15] = [
     ("count --checkpoint c --schedule s a", WordsFault::Words),
     ("count --resume c --bus a", WordsFault::Words),
     ("count --checkpoint c --bus a", WordsFault::Words),
-    ("count --resume c --every 5 a", WordsFault::Words),
-    ("count --checkpoint c --every 5 a", WordsFault::Words),
+    ("count --consoles --every 5 a", WordsFault::Words),
+    (
+        "count --consoles --every x --resume c --checkpoint d a",
+        WordsFault::Words,
+    ),
+    ("count --consoles --schedule s a", WordsFault::Words),
+    ("count --consoles --bus a", WordsFault::Words),
+    ("count --consoles --resume c --seed 1 a", WordsFault::Words),
+    ("count --consoles=true a", WordsFault::Words),
     ("trace --resume c --seed 1 a", WordsFault::Words),
     ("trace --resume c --schedule s a", WordsFault::Words),
     ("trace --resume c --bus a", WordsFault::Words),
     ("trace --checkpoint c a", WordsFault::Words),
     ("state --checkpoint c a", WordsFault::Words),
+    ("trace --consoles a", WordsFault::Words),
+    ("state --consoles a", WordsFault::Words),
 ];
 
 #[test]
@@ -627,7 +750,7 @@ fn values_out_of_range(rt: HostRuntime) -> Result<(), Fail> {
 }
 
 /// Numbers of events: those that no run has, and those that only a run has that is counted, on the machine with directories.
-const TOO_MANY_EVENTS: [Refused; 10] = [
+const TOO_MANY_EVENTS: [Refused; 12] = [
     (
         "count --steps 1099511627777 a",
         WordsFault::Value(Field::Steps),
@@ -646,6 +769,14 @@ const TOO_MANY_EVENTS: [Refused; 10] = [
     ),
     ("count --every x a", WordsFault::Value(Field::Every)),
     ("count --bus --every 5 a", WordsFault::Value(Field::Every)),
+    (
+        "count --resume c --every 0 a",
+        WordsFault::Value(Field::Every),
+    ),
+    (
+        "count --consoles --steps 1099511627777 a",
+        WordsFault::Value(Field::Steps),
+    ),
     ("trace --every 5 a", WordsFault::Words),
 ];
 

@@ -18,14 +18,15 @@ use Rattle.net_core.specs.Answers.{IsSent, StandBehind, acts_in, step_of, tid_no
 use Rattle.net_core.specs.Machine.{Machine, history_of, program_of, settings_of, world_of}
 use Rattle.net_core.specs.Whole.{IsSound}
 use Rattle.net_core.specs.declared.taking.Step.{Step}
+use Rattle.net_core.specs.declared.taking.Step.TheVariants.{Moved, Committed}
 use Rattle.net_core.proofs.Lemmas.{new-tid}
 use Rattle.watch.specs.Facts.{Fact, Sent}
 use Rattle.watch.specs.Happened.{acted, actor, commit_fact, delivered, facts_of, happened, if_in_flight, moved, numbered, sent, sent_to}
 use Rattle.watch.specs.Messages.{commit_of}
 use Rattle.watch.specs.Plain.{fact_of}
 use Rattle.watch.specs.declared.fact.Fact.{Fact as CodeFact}
-use Rattle.watch_machine.specs.Telling.{Advanced, HasRoomFor, commit_told, count_on, last_facts, last_to, numbered_from}
-use Rattle.watch_machine.specs.Watched.{TookAndToldOfNode}
+use Rattle.watch_machine.specs.Telling.{Advanced, HasRoomFor, count_on, last_facts, last_to, numbered_from}
+use Rattle.watch_machine.specs.Watched.{TookAndToldOfNode, noted_by, told_commit}
 use Rattle.watch_machine.proofs.Named.{inserted-named}
 use Rattle.theorem_bounds.proofs.Lemmas.{sent-length}
 
@@ -35,16 +36,17 @@ pub record StepIs (m n : Machine) (e : Event) (told : Step) : Type 0 where
   pub o : Stepped
   pub step : step_of m e ≡ Some o
   pub world : o.world ≡ world_of n
-  pub noted : commit_fact o.noted ≡ commit_told (tid_told told) n.commits
+  pub noted : o.noted ≡ told_commit told n.commits
 
 -- the commit that was noted is the one that the step told of
 noted-is : (m n : Machine) (e : Event) (told : Step) (o : Stepped) → IsSound m → step_of m e ≡ Some o → (x : Option Commit) → o.noted ≡ x
-    → tid_told told ≡ option_map (λ c. c.tid) x → and_noted x m.commits ≡ n.commits
-    → commit_fact x ≡ commit_told (tid_told told) n.commits
-noted-is m n e told o r s None is t cs = sym (ap (λ t. commit_told t n.commits) t)
-noted-is m n e told o r s (Some c) is t cs =
-    ap commit_fact (sym (inserted-named c m.commits (new-tid m e o c r s is)))
-    ∙ ap (λ k. commit_fact (commit_of c.tid.0 k)) cs ∙ sym (ap (λ t. commit_told t n.commits) t)
+    → tid_told told ≡ option_map (λ c. c.tid) x → and_noted x m.commits ≡ n.commits → x ≡ told_commit told n.commits
+noted-is m n e Moved o r s None is t cs = refl
+noted-is m n e Moved o r s (Some c) is t cs = absurd (cc)
+noted-is m n e (Committed u) o r s None is t cs = absurd (cc)
+noted-is m n e (Committed u) o r s (Some c) is t cs =
+    let same : c.tid ≡ u = cc in
+    sym (inserted-named c m.commits (new-tid m e o c r s is)) ∙ (λ i. commit_of (same i).0 (cs i))
 
 step-is : (m n : Machine) (e : Event) (told : Step) → IsSound m → Advanced m n e told → StepIs m n e told
 unfolding next_history history_of
@@ -110,14 +112,14 @@ actor-is (Deliver src dst k) = refl
 
 -- what is told behind the event itself, but for what it sent
 abbrev pub told_behind : (m n : Machine) → Event → Step → List Fact
-told_behind m n e told = commit_told (tid_told told) n.commits ++ moved (world_of m) (world_of n) (acts_in e)
+told_behind m n e told = commit_fact (told_commit told n.commits) ++ moved (world_of m) (world_of n) (acts_in e)
 
 abbrev pub told_of_event : (m n : Machine) → Event → List Fact
 told_of_event m n e = acted (settings_of m) (program_of m) m.commits (world_of m) (world_of n) e
 
 happened-is : (m n : Machine) (e : Event) (told : Step) → IsSound m → Advanced m n e told
     → happened (settings_of m) (program_of m) (history_of m) e ≡ told_of_event m n e
-    ++ (commit_told (tid_told told) n.commits ++ (moved (world_of m) (world_of n) (acts_in e) ++ last_facts n (acts_in e)))
+    ++ (commit_fact (told_commit told n.commits) ++ (moved (world_of m) (world_of n) (acts_in e) ++ last_facts n (acts_in e)))
 unfolding happened history_of
 happened-is m n e told r a =
     let s = step-is m n e told r a in
@@ -125,19 +127,20 @@ happened-is m n e told r a =
     let h : History = record { world = world_of m; commits = m.commits } in
     ap (facts_of sh (program_of m) h e) s.step
     ∙ (λ i. acted sh (program_of m) m.commits (world_of m) (s.world i) e
-    ++ (s.noted i ++ (moved (world_of m) (s.world i) (actor-is e i) ++ sent sh (world_of m) (s.world i) (actor-is e i))))
+    ++ (commit_fact (s.noted i) ++ (moved (world_of m) (s.world i) (actor-is e i) ++ sent sh (world_of m) (s.world i) (actor-is e i))))
     ∙ ap (λ fs. told_of_event m n e
-    ++ (commit_told (tid_told told) n.commits ++ (moved (world_of m) (world_of n) (acts_in e) ++ fs)))
+    ++ (commit_fact (told_commit told n.commits) ++ (moved (world_of m) (world_of n) (acts_in e) ++ fs)))
     (sent-is m n (acts_in e) a.code a.sent)
 
 -- the event was taken, and what was told of it is what it did at its node
 pub told-all : (m n : Machine) (e : Event) (told : Step) (facts : List CodeFact) → IsSound m → Advanced m n e told
-    → map fact_of facts ≡ told_of_event m n e ++ told_behind m n e told → TookAndToldOfNode m n e facts
+    → map fact_of facts ≡ told_of_event m n e ++ told_behind m n e told → TookAndToldOfNode m n e facts told
 told-all m n e told facts r a f =
     let of_event = told_of_event m n e in
-    let noted = commit_told (tid_told told) n.commits in
+    let noted = commit_fact (told_commit told n.commits) in
     let came_to = moved (world_of m) (world_of n) (acts_in e) in
     let sends = last_facts n (acts_in e) in
+    let s = step-is m n e told r a in
     record {
       next = a.next;
       told = (λ i. f i ++ last_facts n (actor-is e i)) ∙ append_assoc of_event (noted ++ came_to) sends
@@ -147,6 +150,7 @@ told-all m n e told facts r a f =
       settled = a.settled;
       events = a.events;
       code = a.code;
+      noted = sym (ap noted_by s.step ∙ s.noted);
     }
 
 -- ---- a delivery

@@ -1,8 +1,7 @@
 -- The parts of what is told: what is seen of a node before an event, and what is told of it behind the event.
-use Rattle.std.specs.Prelude.{ℕ, ◌≡◌, ◌≢◌, ◌+◌, ◌-◌, ◌≤◌, true, List, [], ◌∷◌, All, length, Option, Some, None, Result, Ok, Err}
+use Rattle.std.specs.Prelude.{ℕ, ◌≡◌, ◌≢◌, ◌+◌, ◌-◌, ◌≤◌, true, List, [], ◌∷◌, All, length, Some, None, Result, Ok, Err}
 use Rattle.std.specs.List.{flat_map}
 use Rattle.tcc_base.specs.declared.access.Commit.{Commit}
-use Rattle.tcc_base.specs.declared.names.Tid.{Tid}
 use Rattle.rules_maps.specs.Bridge.{node_of}
 use Rattle.rules_maps.specs.Nodes.{Node, Msg as PlainMsg, Inv, Event}
 use Rattle.tcc_msg.specs.Plain.{msg_of, sends_of}
@@ -17,7 +16,6 @@ use Rattle.net_core.specs.declared.taking.Step.{Step}
 use Rattle.net_core.specs.declared.taking.StepError.{StepError}
 use Rattle.net_core.specs.declared.taking.StepError.TheVariants.{Refused, Memory}
 use Rattle.watch.specs.Facts.{Fact, Sent, Took, Dropped, AskedOwner}
-use Rattle.watch.specs.Happened.{commit_fact}
 use Rattle.watch.specs.Messages.{answered, commit_of, committer, is_of_use, words_read}
 use Rattle.watch_machine.specs.declared.answering.Became.{Became}
 use Rattle.watch_machine.specs.declared.answering.Became.TheVariants as became
@@ -58,11 +56,6 @@ abbrev pub Advances : (old new : Machine) → Event → Result Step StepError �
 Advances old new e (Ok told) = Advanced old new e told
 Advances old new e (Err Refused) = Kept old new × (step_of old e ≡ None)
 Advances old new e (Err Memory) = step_of old e ≢ None
-
--- the commit of the TID that a step told of
-abbrev pub commit_told : Option Tid → List Commit → List Fact
-commit_told None cs = []
-commit_told (Some t) cs = commit_fact (commit_of t.0 cs)
 
 -- ---- what was sent
 

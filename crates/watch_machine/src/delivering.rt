@@ -1,5 +1,5 @@
 // A message is delivered: to a core, to a directory, or to the vendor.
-ghost use Rattle.std.specs.Prelude.{List as Seq, ◌≡◌, ◌≢◌, ◌++◌, ◌∷◌, ◌<◌, [], None, OnOk, Some, map};
+ghost use Rattle.std.specs.Prelude.{List as Seq, ◌≡◌, ◌++◌, ◌∷◌, ◌<◌, [], None, OnOk, Some, map};
 ghost use Rattle.std.specs.Option.{option_map};
 ghost use Rattle.rules_maps.specs.Bridge.{node_of};
 ghost use Rattle.rules_maps.specs.Cache.{is_dirty};
@@ -9,15 +9,14 @@ ghost use Rattle.rules_tcc.specs.Links.{in_flight};
 ghost use Rattle.rules_tcc.specs.State.{CoreState};
 ghost use Rattle.core_node.specs.View.{awaited_of, core_of, IsKnown};
 ghost use Rattle.commit_engine.specs.Engine.{phase_of};
-ghost use Rattle.net_core.specs.Answers.{step_of, tid_told};
 ghost use Rattle.net_core.specs.Machine.{settings_of, world_of};
-ghost use Rattle.watch.specs.Happened.{phase_fact, serves_fact};
+ghost use Rattle.watch.specs.Happened.{commit_fact, phase_fact, serves_fact};
 ghost use Rattle.watch.specs.Facts.{Took};
 ghost use Rattle.watch.specs.Messages.{awaits as awaits_line, grant_given_up, has_probed as probed, is_of_use as of_use};
 ghost use Rattle.watch.specs.Messages.{taken, tid_in as tid_of_phase, violated, waits_for_tid as waits};
 ghost use Rattle.watch.specs.Plain.{fact_of};
-ghost use Rattle.watch_machine.specs.Telling.{SawMessage, commit_told, told_of};
-ghost use Rattle.watch_machine.specs.Watched.{WatchedNode};
+ghost use Rattle.watch_machine.specs.Telling.{SawMessage, told_of};
+ghost use Rattle.watch_machine.specs.Watched.{WatchedNode, told_commit};
 ghost use Rattle.net_core.specs.Limits.{machine_limit};
 
 use crate::answering::{Became, what_became};
@@ -234,7 +233,7 @@ fn tell_core(
         ++ (taken src m s
         ++ (violated id.0 cs m s ((world_of system.now).cores id.0)
         ++ (grant_given_up id.0 m s.phase
-        ++ (commit_told (tid_told step) system.now.commits
+        ++ (commit_fact (told_commit step system.now.commits)
         ++ phase_fact id.0 s.phase ((world_of system.now).cores id.0).phase))))) }
 {
     let core = system.core(id);
@@ -252,7 +251,7 @@ pub(crate) fn watch_core(
     name: Name,
     msg: Msg,
     facts: &mut List<Fact>,
-) -> Result<(), StepError>
+) -> Result<Step, StepError>
     requires few { system.old.events < machine_limit }
     requires empty { facts.old ≡ [] }
     requires flies { in_flight (world_of system.old).net (node_of name.src) (Core id.0) name.seq ≡ Some (msg_of msg) }
@@ -263,7 +262,7 @@ pub(crate) fn watch_core(
     let seen = look(system.core(id), system.commits(), name.src, msg);
     let step = advance(system, Event::Deliver(name))?;
     match tell_core(system, id, &seen, step, facts) {
-        Ok(()) => Ok(()),
+        Ok(()) => Ok(step),
         Err(NoMemory) => Err(StepError::Memory),
     }
 }
@@ -279,7 +278,7 @@ fn tell_dir(
 ) -> Result<(), NoMemory>
     requires { dir.0 < (settings_of system.now).dirs }
     ensures { OnOk result (map fact_of facts.new ≡ map fact_of facts.old
-        ++ (fact_of fact ∷ (commit_told (tid_told step) system.now.commits
+        ++ (fact_of fact ∷ (commit_fact (told_commit step system.now.commits)
         ++ serves_fact dir.0 before.0 ((world_of system.now).dirs dir.0).serving.serving))) }
 {
     facts.push(fact)?;
@@ -306,7 +305,7 @@ pub(crate) fn watch_dir(
     name: Name,
     msg: Msg,
     facts: &mut List<Fact>,
-) -> Result<(), StepError>
+) -> Result<Step, StepError>
     requires few { system.old.events < machine_limit }
     requires empty { facts.old ≡ [] }
     requires flies { in_flight (world_of system.old).net (Core core.0) (Dir dir.0) name.seq ≡ Some (msg_of msg) }
@@ -319,7 +318,7 @@ pub(crate) fn watch_dir(
     let before = system.serving(dir);
     let step = advance(system, Event::Deliver(name))?;
     match tell_dir(system, dir, fact, before, step, facts) {
-        Ok(()) => Ok(()),
+        Ok(()) => Ok(step),
         Err(NoMemory) => Err(StepError::Memory),
     }
 }
@@ -332,7 +331,7 @@ fn tell_vendor(
     facts: &mut List<Fact>,
 ) -> Result<(), NoMemory>
     ensures { OnOk result (map fact_of facts.new ≡ map fact_of facts.old ++ (Took (msg_of msg)
-        ∷ commit_told (tid_told step) system.now.commits)) }
+        ∷ commit_fact (told_commit step system.now.commits))) }
 {
     facts.push(Fact::Took(msg))?;
     tell_commit(system.commits(), step, facts)
@@ -345,7 +344,7 @@ pub(crate) fn watch_vendor(
     name: Name,
     msg: Msg,
     facts: &mut List<Fact>,
-) -> Result<(), StepError>
+) -> Result<Step, StepError>
     requires few { system.old.events < machine_limit }
     requires empty { facts.old ≡ [] }
     requires flies { in_flight (world_of system.old).net (Core core.0) Vendor name.seq ≡ Some (msg_of msg) }
@@ -356,7 +355,7 @@ pub(crate) fn watch_vendor(
     system.events();
     let step = advance(system, Event::Deliver(name))?;
     match tell_vendor(system, msg, step, facts) {
-        Ok(()) => Ok(()),
+        Ok(()) => Ok(step),
         Err(NoMemory) => Err(StepError::Memory),
     }
 }

@@ -3,12 +3,11 @@ ghost use Rattle.std.specs.Prelude.{◌≡◌, ◌≢◌, ◌++◌, ◌<◌, [],
 ghost use Rattle.std.specs.Option.{option_to_list};
 ghost use Rattle.rules_maps.specs.Nodes.{Evict};
 ghost use Rattle.commit_engine.specs.Engine.{phase_of};
-ghost use Rattle.net_core.specs.Answers.{step_of, tid_told};
+ghost use Rattle.net_core.specs.Answers.{step_of};
 ghost use Rattle.net_core.specs.Machine.{settings_of, world_of};
-ghost use Rattle.watch.specs.Happened.{phase_fact};
+ghost use Rattle.watch.specs.Happened.{commit_fact, phase_fact};
 ghost use Rattle.watch.specs.Plain.{fact_of};
-ghost use Rattle.watch_machine.specs.Telling.{commit_told};
-ghost use Rattle.watch_machine.specs.Watched.{WatchedNode};
+ghost use Rattle.watch_machine.specs.Watched.{WatchedNode, told_commit};
 ghost use Rattle.net_core.specs.Limits.{machine_limit};
 
 use crate::commits::tell_commit;
@@ -32,7 +31,7 @@ fn tell_evict(
 ) -> Result<(), NoMemory>
     requires { id.0 < (settings_of system.now).cores }
     ensures { OnOk result (map fact_of facts.new ≡ map fact_of facts.old ++ (map fact_of (option_to_list held)
-        ++ (commit_told (tid_told step) system.now.commits
+        ++ (commit_fact (told_commit step system.now.commits)
         ++ phase_fact id.0 (phase_of before) ((world_of system.now).cores id.0).phase))) }
 {
     if let Some(fact) = held {
@@ -49,7 +48,7 @@ pub(crate) fn watch_evict(
     set: u16,
     way: u8,
     facts: &mut List<Fact>,
-) -> Result<(), StepError>
+) -> Result<Step, StepError>
     requires few { system.old.events < machine_limit }
     requires empty { facts.old ≡ [] }
     requires enabled { step_of system.old (Evict id.0 set way) ≢ None }
@@ -61,7 +60,7 @@ pub(crate) fn watch_evict(
     system.events();
     let step = advance(system, Event::Evict(id, set, way))?;
     match tell_evict(system, id, held, before, step, facts) {
-        Ok(()) => Ok(()),
+        Ok(()) => Ok(step),
         Err(NoMemory) => Err(StepError::Memory),
     }
 }

@@ -5,14 +5,13 @@ ghost use Rattle.rules_program.specs.Program.{Program};
 ghost use Rattle.rules_maps.specs.Nodes.{Exec};
 ghost use Rattle.rules_tcc.specs.State.{CoreState};
 ghost use Rattle.core_node.specs.View.{core_of};
-ghost use Rattle.net_core.specs.Answers.{step_of, tid_told};
-ghost use Rattle.watch.specs.Happened.{phase_fact};
+ghost use Rattle.net_core.specs.Answers.{step_of};
+ghost use Rattle.watch.specs.Happened.{commit_fact, phase_fact};
 ghost use Rattle.net_core.specs.Machine.{program_of, settings_of, world_of};
 ghost use Rattle.watch.specs.Instructions.{executed};
 ghost use Rattle.watch.specs.Plain.{fact_of};
 ghost use Rattle.watch_core.specs.Seen.{Saw};
-ghost use Rattle.watch_machine.specs.Telling.{commit_told};
-ghost use Rattle.watch_machine.specs.Watched.{WatchedNode};
+ghost use Rattle.watch_machine.specs.Watched.{WatchedNode, told_commit};
 ghost use Rattle.net_core.specs.Limits.{machine_limit};
 
 use crate::commits::tell_commit;
@@ -80,7 +79,7 @@ fn tell_exec(
     requires { id.0 < (settings_of system.now).cores }
     ensures { (s : CoreState) → Saw seen (program_of system.now) s → OnOk result (map fact_of facts.new ≡ map fact_of facts.old
         ++ (executed (settings_of system.now) (program_of system.now) id.0 s ((world_of system.now).cores id.0)
-        ++ (commit_told (tid_told step) system.now.commits
+        ++ (commit_fact (told_commit step system.now.commits)
         ++ phase_fact id.0 s.phase ((world_of system.now).cores id.0).phase))) }
 {
     let node = system.core(id);
@@ -96,7 +95,7 @@ pub(crate) fn watch_exec(
     system: &mut System,
     id: CoreId,
     facts: &mut List<Fact>,
-) -> Result<(), StepError>
+) -> Result<Step, StepError>
     requires few { system.old.events < machine_limit }
     requires empty { facts.old ≡ [] }
     requires enabled { step_of system.old (Exec id.0) ≢ None }
@@ -106,7 +105,7 @@ pub(crate) fn watch_exec(
     system.events();
     let step = advance(system, Event::Exec(id))?;
     match tell_exec(system, id, seen, step, facts) {
-        Ok(()) => Ok(()),
+        Ok(()) => Ok(step),
         Err(NoMemory) => Err(StepError::Memory),
     }
 }

@@ -11,7 +11,7 @@ use crate::delivering::{watch_core, watch_dir, watch_vendor};
 use crate::evicting::watch_evict;
 use crate::executing::watch_exec;
 use crate::sending::tell_sent;
-use net_core::{StepError, System};
+use net_core::{Step, StepError, System};
 use tcc_base::{List, NoMemory, NodeId};
 use tcc_msg::{Event, Name};
 use watch::Fact;
@@ -46,8 +46,9 @@ pub fn watch(system: &mut System, e: Event, facts: &mut List<Fact>) -> Result<()
 }
 
 /// As `watch`, but what the event sent isn't told; it is what `last_sent` of the machine gives. This is for those to whom the numbers of
-/// messages and the order of their destinations don't matter. The time is that of the event, with a constant for each fact.
-pub fn watch_node(system: &mut System, e: Event, facts: &mut List<Fact>) -> Result<(), StepError>
+/// messages and the order of their destinations don't matter. It answers the step that was taken. The time is that of the event, with a
+/// constant for each fact.
+pub fn watch_node(system: &mut System, e: Event, facts: &mut List<Fact>) -> Result<Step, StepError>
     requires few { system.old.events < machine_limit }
     ensures { WatchedNode system.old system.new (event_of e) facts.new result }
 {
@@ -70,7 +71,11 @@ pub fn watch_node(system: &mut System, e: Event, facts: &mut List<Fact>) -> Resu
 }
 
 /// A message is delivered, if there is one of this name and its node takes it.
-fn watch_delivery(system: &mut System, name: Name, facts: &mut List<Fact>) -> Result<(), StepError>
+fn watch_delivery(
+    system: &mut System,
+    name: Name,
+    facts: &mut List<Fact>,
+) -> Result<Step, StepError>
     requires few { system.old.events < machine_limit }
     requires empty { facts.old ≡ [] }
     ensures { WatchedNode system.old system.new (Deliver (node_of name.src) (node_of name.dst) name.seq) facts.new result }

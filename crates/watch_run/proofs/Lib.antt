@@ -6,6 +6,7 @@ mod Kept
 mod Leading
 mod Named
 mod Picking
+mod Printed
 mod Rested
 mod Runs
 mod Serving

@@ -20,18 +20,21 @@ use Rattle.tcc_world.specs.Page.{Page, Written}
 use Rattle.watch_count.specs.Counts.{Counts}
 use Rattle.watch_run.specs.Forgetting.{StillKeeps}
 use Rattle.watch_run.specs.Looked.{CountedMore, HasCounted, IsCounted}
-use Rattle.watch_run.specs.Runs.{IsRunOf, IsRunTableBroken, IsRunTabled, IsRunTrace, IsRunTraceBegun, RunData, RunTablesJoin, WentOn}
+use Rattle.watch_run.specs.Meanwhile.{IsFurtherPart, IsFurtherStopped, IsFurtherText, meanwhile_text}
+use Rattle.watch_run.specs.Runs.{IsRunOf, IsRunPart, IsRunText, IsRunTextStopped, IsRunTrace, IsRunTraceBegun, RunData}
+use Rattle.watch_run.specs.Runs.{RunTablesJoin, WentOn}
 use Rattle.watch_run.specs.Runs.{seed_events}
-use Rattle.watch_run.specs.Tables.{IsRestBroken, IsTableOnBroken, IsTabledFrom, IsTabledOn, open_table, rest_text, table_text}
+use Rattle.watch_run.specs.Tables.{open_table, rest_text, table_text}
 use Rattle.watch_run.specs.Traces.{BrokeOff, IsFurtherBegun, IsFurtherTrace, IsTraceOf, StandsBehind, shown_behind}
-use Rattle.watch_run.specs.Written.{IsTraceBegun}
-use Rattle.watch_run.specs.declared.tabling.Rows.{Rows}
+use Rattle.watch_run.specs.Written.{IsBehind, IsPart, IsTraceBegun}
+use Rattle.watch_run.specs.declared.meanwhile.Meanwhile.{Meanwhile}
 use Rattle.watch_run.specs.declared.telling.Shown.{Shown}
 use Rattle.watch_run.specs.declared.tracing.Broken.{Broken}
 use Rattle.watch_run.specs.declared.tracing.Broken.TheVariants.{Memory, Output}
 use Rattle.watch_run.proofs.Leading.{is-counted}
 use Rattle.watch_run.proofs.Picking.{coming_by}
-use Rattle.watch_run.proofs.Rested.{rest-none, tables-join}
+use Rattle.watch_run.proofs.Rested.{tables-join}
+use Rattle.watch_run.proofs.Tabled.{begun-none, begun-part}
 use Rattle.watch_run.proofs.Tallies.{counted-same, counted-still}
 use Rattle.watch_run.proofs.Traced.{further-none}
 
@@ -129,28 +132,43 @@ went-on steps r m o counts drawn s more few is =
       at_most = omega (arith, now, before, few_more, is);
     }
 
--- ---- its table
+-- ---- what is written while it goes on
 
-pub run-tabled : (rows : Rows) (steps : ℕ) (r : RunData) (m : Machine) (a b : Option (List ℕ)) (done : Bool) → Settles r.machine m
-    → IsTabledOn rows m r.counts (next_events r steps m) a b done → IsRunTabled rows r steps a b done
-run-tabled rows steps r m a b done s t = λ c n k.
-    let es = seed_events c r.seed n in
-    let settled = counted-settled c n r m k s in
-    subst (λ all. IsTabledFrom rows (started c) all r.machine.events a b done) (further c n steps r m k settled)
-    (subst (λ first. IsTabledFrom rows (started c) (es ++ next_events r steps m) first a b done) (sym k.counted.events) (t c es settled))
+-- the text of the further events is that of the run's further steps
+meanwhile-same : (told : Meanwhile) (c : Contents) (n steps : ℕ) (r : RunData) (m : Machine) → IsRunOf c n r
+    → (h : HasCounted c (seed_events c r.seed n) m r.counts)
+    → r.machine.events ≡ length (seed_events c r.seed n)
+    → meanwhile_text told (length (seed_events c r.seed n)) (started c) (seed_events c r.seed n ++ next_events r steps m)
+    ≡ meanwhile_text told r.machine.events (started c) (seed_events c r.seed (n + steps))
+meanwhile-same told c n steps r m k h all =
+    λ i. meanwhile_text told (sym all i) (started c) (further c n steps r m k h i)
 
-pub run-table-broken : (rows : Rows) (steps : ℕ) (r : RunData) (m : Machine) (o : Written) (broken : Broken) → Settles r.machine m
-    → IsTableOnBroken rows m r.counts (next_events r steps m) o broken → IsRunTableBroken rows r steps o broken
-run-table-broken rows steps r m o broken s t = λ c n k.
-    let es = seed_events c r.seed n in
+pub run-text : (told : Meanwhile) (steps : ℕ) (r : RunData) (m : Machine) (a b : Option (List ℕ)) → Settles r.machine m
+    → IsBehind (IsFurtherText told m r.counts (next_events r steps m)) a b → IsBehind (IsRunText told r steps) a b
+run-text told steps r m a b s t = record {
+  text = t.text;
+  is = λ c n k.
+      let settled = counted-settled c n r m k s in
+      t.is c (seed_events c r.seed n) settled ∙ meanwhile-same told c n steps r m k settled k.counted.events;
+  whole = t.whole;
+}
+
+run-part : (told : Meanwhile) (steps : ℕ) (r : RunData) (m : Machine) (a b : Option (List ℕ)) → Settles r.machine m
+    → IsFurtherPart told m r.counts (next_events r steps m) a b → IsRunPart told r steps a b
+run-part told steps r m a b s t = λ c n k.
     let settled = counted-settled c n r m k s in
-    subst (λ all. IsRestBroken rows (started c) all r.machine.events o broken) (further c n steps r m k settled)
-    (subst (λ first. IsRestBroken rows (started c) (es ++ next_events r steps m) first o broken) (sym k.counted.events) (t c es settled))
+    subst (λ xs. IsPart xs a b) (meanwhile-same told c n steps r m k settled k.counted.events) (t c (seed_events c r.seed n) settled)
+
+pub run-text-stopped : (told : Meanwhile) (steps : ℕ) (r : RunData) (m : Machine) (o : Written) (broken : Broken) → Settles r.machine m
+    → IsFurtherStopped told m r.counts (next_events r steps m) o broken → IsRunTextStopped told r steps o broken
+run-text-stopped told steps r m o Memory s t = run-part told steps r m o.before.bytes o.after.bytes s t
+run-text-stopped told steps r m o Output s t = (run-part told steps r m o.before.bytes o.after.bytes s t.0, t.1)
 
 -- nothing was written
-pub run-table-none : (rows : Rows) (steps : ℕ) (r : RunData) (o : Page)
-    → IsRunTableBroken rows r steps (record { before = o; after = o }) Memory
-run-table-none rows steps r o = λ c n k. rest-none rows (started c) (seed_events c r.seed (n + steps)) r.machine.events o.bytes
+pub run-text-none : (told : Meanwhile) (steps : ℕ) (r : RunData) (o : Page)
+    → IsRunTextStopped told r steps (record { before = o; after = o }) Memory
+run-text-none told steps r o = λ c n k.
+    begun-part (begun-none (meanwhile_text told r.machine.events (started c) (seed_events c r.seed (n + steps))) o.bytes o.bytes refl)
 
 -- behind what was written of the first steps
 pub run-tables-join : RunTablesJoin

@@ -13,6 +13,7 @@ use Rattle.base_lemmas.proofs.Lemmas.{appends-more, appends-none}
 use Rattle.image_load.specs.Contents.{Contents, started}
 use Rattle.image_load.specs.Start.{Start}
 use Rattle.tcc_base.specs.Settings.{IsAllowed}
+use Rattle.tcc_world.specs.Faults.{Rose}
 use Rattle.tcc_world.specs.Page.{Page, Written}
 use Rattle.rules_maps.specs.Nodes.{Event}
 use Rattle.rules_maps.specs.Words.{those}
@@ -21,9 +22,12 @@ use Rattle.net_core.specs.Machine.{Machine, settings_of, world_of}
 use Rattle.watch_count.specs.Counts.{Counts}
 use Rattle.watch_count.specs.Csv.{csv_row, names_row}
 use Rattle.watch_run.specs.Looked.{HasCounted}
-use Rattle.watch_run.specs.Tables.{AreRowsStopped, AreRowsWritten, IsCutIn, IsStoppedIn, IsTableBegun, IsTableBroken, IsTabled, is_due}
+use Rattle.watch_run.specs.Meanwhile.{IsFurtherStopped, IsFurtherText, meanwhile_text}
+use Rattle.watch_run.specs.Tables.{IsCutIn, IsStoppedIn, IsTableBegun, IsTableBroken, IsTabled, is_due}
 use Rattle.watch_run.specs.Tables.{open_rest, open_table, row_of, rows_below, rows_between, table_text}
-use Rattle.watch_run.specs.Written.{IsPart}
+use Rattle.watch_run.specs.Written.{IsBehind, IsPart}
+use Rattle.watch_run.specs.declared.meanwhile.Meanwhile.{Meanwhile}
+use Rattle.watch_run.specs.declared.meanwhile.Meanwhile.TheVariants.{Rows as RowsOf}
 use Rattle.watch_run.specs.declared.tabling.Rows.{Rows}
 use Rattle.watch_run.specs.declared.tracing.Broken.{Broken}
 use Rattle.watch_run.specs.declared.tracing.Broken.TheVariants.{Memory, Output}
@@ -55,7 +59,7 @@ pub begun-none : (bytes : List ℕ) (a b : Option (List ℕ)) → b ≡ a → Be
 begun-none bytes a b e = record { written = []; rest = bytes; all = refl; appended = subst (λ o. Appends a o []) (sym e) (appends-none a) }
 
 -- it is one of more bytes too
-begun-more : (xs ys : List ℕ) (a b : Option (List ℕ)) → Begun xs a b → Begun (xs ++ ys) a b
+pub begun-more : (xs ys : List ℕ) (a b : Option (List ℕ)) → Begun xs a b → Begun (xs ++ ys) a b
 begun-more xs ys a b p = record {
   written = p.written;
   rest = p.rest ++ ys;
@@ -72,7 +76,7 @@ begun-after xs ys a b c p q = record {
 }
 
 -- why it broke off, behind bytes that were written whole and before others
-cut-stops : (xs ys zs : List ℕ) (a b c : Page) (broken : Broken) → Appends a.bytes b.bytes xs → a.faults ≤ b.faults
+pub cut-stops : (xs ys zs : List ℕ) (a b c : Page) (broken : Broken) → Appends a.bytes b.bytes xs → a.faults ≤ b.faults
     → IsCutIn ys (record { before = b; after = c }) broken → IsStoppedIn (xs ++ (ys ++ zs)) (record { before = a; after = c }) broken
 cut-stops xs ys zs a b c Memory p f k =
     begun-part (begun-after xs (ys ++ zs) a.bytes b.bytes c.bytes p (begun-none (ys ++ zs) b.bytes c.bytes k))
@@ -81,6 +85,23 @@ cut-stops xs ys zs a b c Output p f (cut, rose) = (
       (begun-more ys zs b.bytes c.bytes (begun-cut ys cut.0 b.bytes c.bytes cut.2))),
   rose-later a.faults b.faults c.faults f rose,
 )
+
+-- where the output failed its count of faults rose
+abbrev Rises : Page → Page → Broken → Type 0
+Rises p q Memory = Unit {0}
+Rises p q Output = Rose p.faults q.faults
+
+pub cut-rises : (bytes : List ℕ) (p q r : Page) (broken : Broken) → p.faults ≤ q.faults
+    → IsCutIn bytes (record { before = q; after = r }) broken → Rises p r broken
+cut-rises bytes p q r Memory f k = tt
+cut-rises bytes p q r Output f (cut, rose) = rose-later p.faults q.faults r.faults f rose
+
+pub further-stopped : (told : Meanwhile) (m : Machine) (counts : Counts) (more : List Event) (p r : Page) (broken : Broken)
+    → ((c : Contents) (es : List Event) → HasCounted c es m counts
+    → IsStoppedIn (meanwhile_text told (length es) (started c) (es ++ more)) (record { before = p; after = r }) broken)
+    → Rises p r broken → IsFurtherStopped told m counts more (record { before = p; after = r }) broken
+further-stopped told m counts more p r Memory f rise = f
+further-stopped told m counts more p r Output f rose = (λ c es h. (f c es h).0, rose)
 
 -- ---- the rows
 
@@ -194,19 +215,21 @@ rows-join rows s es first (suc d) =
 -- first machine and were counted
 pub record Tabling (rows : Rows) (m n : Machine) (before after : Counts) (all left : List Event) (number : ℕ) (p q : Page) : Type 0 where
   pub counting : Counting m n before after all left number
-  pub written : (c : Contents) (es : List Event) → HasCounted c es m before
-      → Appends p.bytes q.bytes (rows_between rows (started c) (es ++ all) (length es) (length es + number))
+  pub text : List ℕ
+  pub is : (c : Contents) (es : List Event) → HasCounted c es m before
+      → text ≡ rows_between rows (started c) (es ++ all) (length es) (length es + number)
+  pub written : Appends p.bytes q.bytes text
   pub faults_stay : p.faults ≤ q.faults
 
 pub tabling-none : (rows : Rows) (m : Machine) (counts : Counts) (all : List Event) (p : Page)
     → Counting m m counts counts all all 0 → Tabling rows m m counts counts all all 0 p p
 tabling-none rows m counts all p k = record {
   counting = k;
-  written = λ c es h.
+  text = [];
+  is = λ c es h.
       let none : length es + 0 ≡ length es = omega arith in
-      subst (Appends p.bytes p.bytes)
-      (sym (ap (rows_between rows (started c) (es ++ all) (length es)) none ∙ rows-none rows (started c) (es ++ all) (length es)))
-      (appends-none p.bytes);
+      sym (ap (rows_between rows (started c) (es ++ all) (length es)) none ∙ rows-none rows (started c) (es ++ all) (length es));
+  written = appends-none p.bytes;
   faults_stay = omega arith;
 }
 
@@ -240,28 +263,24 @@ due-is c es rows m n before after all left number h k =
     firsts = take-append-add es all number
         ∙ ap (λ fs. es ++ fs) ((λ i. take (sym k.count i) (k.parts i)) ∙ take-append_seam k.firsts left)
 
--- the row came, and all rows before the next event but one stand
+-- with the row that came stand all rows before the next event but one
 rows-now : (c : Contents) (es : List Event) (rows : Rows) (m n : Machine) (before after : Counts) (all left : List Event) (number : ℕ)
-    (p q r : Page) → HasCounted c es m before → Tabling rows m n before after all left number p q
-    → Appends q.bytes r.bytes (row_now rows n after)
-    → Appends p.bytes r.bytes (rows_between rows (started c) (es ++ all) (length es) (length es + (number + 1)))
-rows-now c es rows m n before after all left number p q r h t a =
+    (p q : Page) → HasCounted c es m before → (t : Tabling rows m n before after all left number p q)
+    → t.text ++ row_now rows n after ≡ rows_between rows (started c) (es ++ all) (length es) (length es + (number + 1))
+rows-now c es rows m n before after all left number p q h t =
     let one : length es + (number + 1) ≡ suc (length es + number) = omega arith in
-    subst (Appends p.bytes r.bytes)
-    (ap (λ xs. so_far ++ xs) (due-is c es rows m n before after all left number h t.counting)
+    (λ i. t.is c es h i ++ due-is c es rows m n before after all left number h t.counting i)
     ∙ sym (ap (rows_between rows (started c) (es ++ all) (length es)) one
-    ∙ rows-more rows (started c) (es ++ all) (length es) (length es + number)))
-    (appends-more p.bytes q.bytes r.bytes so_far (row_now rows n after) (t.written c es h) a)
-  where
-    so_far : List ℕ
-    so_far = rows_between rows (started c) (es ++ all) (length es) (length es + number)
+    ∙ rows-more rows (started c) (es ++ all) (length es) (length es + number))
 
 pub tabling-more : (rows : Rows) (m n o : Machine) (before now after : Counts) (all left later : List Event) (number : ℕ)
     (p q r : Page) → Tabling rows m n before now all left number p q → Appends q.bytes r.bytes (row_now rows n now)
     → q.faults ≤ r.faults → Counting m o before after all later (number + 1) → Tabling rows m o before after all later (number + 1) p r
 tabling-more rows m n o before now after all left later number p q r t a f k = record {
   counting = k;
-  written = λ c es h. rows-now c es rows m n before now all left number p q r h t a;
+  text = t.text ++ row_now rows n now;
+  is = λ c es h. rows-now c es rows m n before now all left number p q h t;
+  written = appends-more p.bytes q.bytes r.bytes t.text (row_now rows n now) t.written a;
   faults_stay = let stay = t.faults_stay in omega (arith, stay, f);
 }
 
@@ -278,8 +297,9 @@ rows-then c es rows all number h =
 pub tabling-cut : (rows : Rows) (m n : Machine) (before after : Counts) (all left : List Event) (number : ℕ) (p q r : Page)
     (broken : Broken) → Tabling rows m n before after all left number p q → 1 ≤ length left
     → IsCutIn (row_now rows n after) (record { before = q; after = r }) broken
-    → AreRowsStopped rows m before all (record { before = p; after = r }) broken
-tabling-cut rows m n before after all left number p q r broken t some cut = λ c es h.
+    → IsFurtherStopped (RowsOf rows) m before all (record { before = p; after = r }) broken
+tabling-cut rows m n before after all left number p q r broken t some cut =
+    further-stopped (RowsOf rows) m before all p r broken (λ c es h.
     let few = counting-few m n before after all left number t.counting some in
     let (others, parts) = rows-then c es rows all (number + 1) (omega (arith, few)) in
     let so_far = rows_between rows (started c) (es ++ all) (length es) (length es + number) in
@@ -289,43 +309,55 @@ tabling-cut rows m n before after all left number p q r broken t some cut = λ c
     ∙ rows-more rows (started c) (es ++ all) (length es) (length es + number)
     ∙ ap (λ xs. so_far ++ xs) (sym (due-is c es rows m n before after all left number h t.counting)))
     ∙ append_assoc so_far (row_now rows n after) others))
-    (cut-stops so_far (row_now rows n after) others p q r broken (t.written c es h) t.faults_stay cut)
+    (cut-stops so_far (row_now rows n after) others p q r broken (subst (Appends p.bytes q.bytes) (t.is c es h) t.written) t.faults_stay
+    cut))
+    (cut-rises (row_now rows n after) p q r broken t.faults_stay cut)
 
 -- memory ran out for the event
 pub tabling-part : (rows : Rows) (m n : Machine) (before after : Counts) (all left : List Event) (number : ℕ) (p q r : Page)
     → Tabling rows m n before after all left number p q → 1 ≤ length left → Appends q.bytes r.bytes (row_now rows n after)
-    → AreRowsStopped rows m before all (record { before = p; after = r }) Memory
+    → IsFurtherStopped (RowsOf rows) m before all (record { before = p; after = r }) Memory
 tabling-part rows m n before after all left number p q r t some a = λ c es h.
     let few = counting-few m n before after all left number t.counting some in
     let (others, parts) = rows-then c es rows all (number + 1) (omega (arith, few)) in
     let so_far = rows_between rows (started c) (es ++ all) (length es) (length es + (number + 1)) in
     begun-part (subst (λ xs. Begun xs p.bytes r.bytes) (sym parts)
     (begun-more so_far others p.bytes r.bytes
-    (begun-all so_far p.bytes r.bytes (rows-now c es rows m n before after all left number p q r h t a))))
+    (begun-all so_far p.bytes r.bytes (subst (Appends p.bytes r.bytes) (rows-now c es rows m n before after all left number p q h t)
+    (appends-more p.bytes q.bytes r.bytes t.text (row_now rows n after) t.written a)))))
 
 -- all rows but the last were written
 pub tabling-all : (rows : Rows) (m n : Machine) (before after : Counts) (all left : List Event) (number : ℕ) (p q : Page)
-    → Tabling rows m n before after all left number p q → left ≡ [] → AreRowsWritten rows m before all p.bytes q.bytes
+    → Tabling rows m n before after all left number p q → left ≡ []
+    → IsBehind (IsFurtherText (RowsOf rows) m before all) p.bytes q.bytes
 unfolding open_rest
-tabling-all rows m n before after all left number p q t l = λ c es h.
-    let k = t.counting in
-    let so_many = k.count in
-    let none = ap length l in
-    let sum = ap length k.parts ∙ length-append k.firsts left in
-    let whole = length-append es all in
-    let end : length es + number ≡ length (es ++ all) = omega (arith, so_many, none, sum, whole) in
-    subst (λ i. Appends p.bytes q.bytes (rows_between rows (started c) (es ++ all) (length es) i)) end (t.written c es h)
+tabling-all rows m n before after all left number p q t l = record {
+  text = t.text;
+  is = λ c es h.
+      let k = t.counting in
+      let so_many = k.count in
+      let none = ap length l in
+      let sum = ap length k.parts ∙ length-append k.firsts left in
+      let whole = length-append es all in
+      let end : length es + number ≡ length (es ++ all) = omega (arith, so_many, none, sum, whole) in
+      t.is c es h ∙ ap (rows_between rows (started c) (es ++ all) (length es)) end;
+  whole = t.written;
+}
 
 -- ---- from the start
 
 pub rows-written : (c : Contents) (rows : Rows) (m : Machine) (counts : Counts) (all : List Event) (a b : Option (List ℕ))
-    → HasCounted c [] m counts → AreRowsWritten rows m counts all a b → Appends a b (rows_below rows (started c) all (length all))
-rows-written c rows m counts all a b h w = subst (Appends a b) (rows-whole rows (started c) all) (w c [] h)
+    → HasCounted c [] m counts → IsBehind (IsFurtherText (RowsOf rows) m counts all) a b
+    → Appends a b (rows_below rows (started c) all (length all))
+rows-written c rows m counts all a b h w = subst (Appends a b) (w.is c [] h ∙ rows-whole rows (started c) all) w.whole
 
 pub rows-stopped : (c : Contents) (rows : Rows) (m : Machine) (counts : Counts) (all : List Event) (o : Written) (broken : Broken)
-    → HasCounted c [] m counts → AreRowsStopped rows m counts all o broken
+    → HasCounted c [] m counts → IsFurtherStopped (RowsOf rows) m counts all o broken
     → IsStoppedIn (rows_below rows (started c) all (length all)) o broken
-rows-stopped c rows m counts all o broken h w = subst (λ xs. IsStoppedIn xs o broken) (rows-whole rows (started c) all) (w c [] h)
+rows-stopped c rows m counts all o Memory h w =
+    subst (λ xs. IsPart xs o.before.bytes o.after.bytes) (rows-whole rows (started c) all) (w c [] h)
+rows-stopped c rows m counts all o Output h w =
+    (subst (λ xs. IsPart xs o.before.bytes o.after.bytes) (rows-whole rows (started c) all) (w.0 c [] h), w.1)
 
 -- ---- the whole table
 
@@ -342,7 +374,7 @@ table-names-cut rows s es a b Output (cut, rose) = (
 )
 
 -- a first part behind bytes that were written whole
-part-after : (xs ys : List ℕ) (a b c : Option (List ℕ)) → Appends a b xs → IsPart ys b c → IsPart (xs ++ ys) a c
+pub part-after : (xs ys : List ℕ) (a b c : Option (List ℕ)) → Appends a b xs → IsPart ys b c → IsPart (xs ++ ys) a c
 part-after xs ys a b c p (n, q) = begun-part (begun-after xs ys a b c p (begun-cut ys n b c q))
 
 pub table-stopped : (rows : Rows) (s : Start) (es : List Event) (a b c : Page) (broken : Broken) → Appends a.bytes b.bytes names_row

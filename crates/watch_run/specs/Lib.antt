@@ -8,3 +8,5 @@ pub mod Looked
 pub mod Traces
 pub mod Runs
 pub mod Tables
+pub mod Consoles
+pub mod Meanwhile

@@ -8,14 +8,18 @@ use Rattle.rules_riscv.specs.Starting.{world_at_start}
 use Rattle.rules_tcc.specs.Picked.{picked}
 use Rattle.tcc_pick.specs.Words.{seeded, words}
 use Rattle.watch_count.specs.Counts.{Counts}
+use Rattle.tcc_world.specs.Faults.{Rose}
 use Rattle.tcc_world.specs.Page.{Written}
 use Rattle.watch_run.specs.Looked.{HasCounted}
-use Rattle.watch_run.specs.Tables.{IsRestBroken, IsTabledFrom, open_table, rest_text, table_text}
+use Rattle.watch_run.specs.Meanwhile.{meanwhile_text}
+use Rattle.watch_run.specs.Tables.{open_table, rest_text, table_text}
 use Rattle.watch_run.specs.Traces.{IsTraceOf, shown_behind}
-use Rattle.watch_run.specs.Written.{IsTraceBegun}
+use Rattle.watch_run.specs.Written.{IsPart, IsTraceBegun}
+use Rattle.watch_run.specs.declared.meanwhile.Meanwhile.{Meanwhile}
 use Rattle.watch_run.specs.declared.tabling.Rows.{Rows}
 use Rattle.watch_run.specs.declared.telling.Shown.{Shown}
 use Rattle.watch_run.specs.declared.tracing.Broken.{Broken}
+use Rattle.watch_run.specs.declared.tracing.Broken.TheVariants.{Memory, Output}
 
 pub record RunData : Type 0 where
   pub machine : Machine
@@ -41,15 +45,20 @@ pub record WentOn (old new : RunData) (steps : ℕ) : Type 0 where
   pub events : old.drawn ≤ old.machine.events → new.machine.events + old.drawn ≡ old.machine.events + new.drawn
   pub at_most : new.drawn ≤ old.drawn + steps
 
--- the run went on, and its table from there on stands behind what was told before
-abbrev pub IsRunTabled : Rows → RunData → (steps : ℕ) → (before after : Option (List ℕ)) → (done : Bool) → Type 0
-IsRunTabled rows r steps before after done = (c : Contents) (n : ℕ) → IsRunOf c n r
-    → IsTabledFrom rows (started c) (seed_events c r.seed (n + steps)) r.machine.events before after done
+-- the text is what is written of the run's further steps while they are taken
+abbrev pub IsRunText : Meanwhile → RunData → (steps : ℕ) → (text : List ℕ) → Type 0
+IsRunText told r steps text = (c : Contents) (n : ℕ) → IsRunOf c n r
+    → text ≡ meanwhile_text told r.machine.events (started c) (seed_events c r.seed (n + steps))
 
--- why that broke off, and what was written of it
-abbrev pub IsRunTableBroken : Rows → RunData → (steps : ℕ) → Written → Broken → Type 0
-IsRunTableBroken rows r steps o broken = (c : Contents) (n : ℕ) → IsRunOf c n r
-    → IsRestBroken rows (started c) (seed_events c r.seed (n + steps)) r.machine.events o broken
+-- a first part of it was written
+abbrev pub IsRunPart : Meanwhile → RunData → (steps : ℕ) → (before after : Option (List ℕ)) → Type 0
+IsRunPart told r steps before after = (c : Contents) (n : ℕ) → IsRunOf c n r
+    → IsPart (meanwhile_text told r.machine.events (started c) (seed_events c r.seed (n + steps))) before after
+
+-- and why no more
+abbrev pub IsRunTextStopped : Meanwhile → RunData → (steps : ℕ) → Written → Broken → Type 0
+IsRunTextStopped told r steps o Memory = IsRunPart told r steps o.before.bytes o.after.bytes
+IsRunTextStopped told r steps o Output = IsRunPart told r steps o.before.bytes o.after.bytes × Rose o.before.faults o.after.faults
 
 -- what is written of the first steps without the last row, and then of the others, is the table of all
 abbrev pub RunTablesJoin : Type 0

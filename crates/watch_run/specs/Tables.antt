@@ -2,17 +2,14 @@
 use Rattle.std.specs.Prelude.{ℕ, ◌≡◌, ◌<◌, ◌%◌, ◌==◌, ◌&&◌, ◌⊎◌, Bool, false, List, ◌++◌, Option, length, nat_le, nat_lt, take}
 use Rattle.std.specs.Io.KnownBytes.{Appends}
 use Rattle.std.specs.List.{flat_map}
-use Rattle.image_load.specs.Contents.{Contents, started}
 use Rattle.image_load.specs.Start.{Start}
-use Rattle.net_core.specs.Machine.{Machine}
 use Rattle.rules_maps.specs.Nodes.{Event}
 use Rattle.rules_maps.specs.Words.{those}
 use Rattle.rules_tcc.specs.Step.{History}
 use Rattle.tcc_world.specs.Faults.{Rose}
 use Rattle.tcc_world.specs.Page.{Written}
-use Rattle.watch_count.specs.Counts.{Counts}
 use Rattle.watch_count.specs.Csv.{csv_row, names_row}
-use Rattle.watch_run.specs.Looked.{HasCounted, counts_of_run}
+use Rattle.watch_run.specs.Looked.{counts_of_run}
 use Rattle.watch_run.specs.Written.{IsPart, LeadsTo}
 use Rattle.watch_run.specs.declared.tabling.Rows.{Rows}
 use Rattle.watch_run.specs.declared.tracing.Broken.{Broken}
@@ -87,49 +84,7 @@ open_rest rows s es first = rows_between rows s es first (length es)
 unfoldable pub rest_text : Rows → Start → (done : Bool) → List Event → (first : ℕ) → List ℕ
 rest_text rows s done es first = open_rest rows s es first ++ row_of rows s done es
 
--- all of it stands behind what was told before
-pub record IsTabledFrom (rows : Rows) (s : Start) (es : List Event) (first : ℕ) (before after : Option (List ℕ)) (done : Bool)
-    : Type 0 where
-  pub ends : History
-  pub leads : LeadsTo s es done ends
-  pub whole : Appends before after (rest_text rows s done es first)
-
--- all of it was made, and a first part of it was written, but not the whole
-pub record IsRestCut (rows : Rows) (s : Start) (es : List Event) (first : ℕ) (before after : Option (List ℕ)) : Type 0 where
-  pub done : Bool
-  pub ends : History
-  pub leads : LeadsTo s es done ends
-  pub n : ℕ
-  pub short : n < length (rest_text rows s done es first)
-  pub cut : Appends before after (take n (rest_text rows s done es first))
-
--- why it broke off, and what was written of it
-abbrev pub IsRestBroken : Rows → Start → List Event → (first : ℕ) → Written → Broken → Type 0
-IsRestBroken rows s es first o Memory = IsPart (open_rest rows s es first) o.before.bytes o.after.bytes
-IsRestBroken rows s es first o Output =
-    (IsPart (open_rest rows s es first) o.before.bytes o.after.bytes ⊎ IsRestCut rows s es first o.before.bytes o.after.bytes)
-    × Rose o.before.faults o.after.faults
-
 -- behind the table of the first events without its last row, the rest makes the whole
 abbrev pub TablesJoin : Type 0
 TablesJoin = (rows : Rows) (s : Start) (done : Bool) (firsts more : List Event)
     → open_table rows s firsts ++ rest_text rows s done (firsts ++ more) (length firsts) ≡ table_text rows s done (firsts ++ more)
-
--- the rows of further events but the last stand behind what was told before, whatever events had led to the machine and were counted
-abbrev pub AreRowsWritten : Rows → Machine → Counts → List Event → (before after : Option (List ℕ)) → Type 0
-AreRowsWritten rows m counts more before after = (c : Contents) (es : List Event) → HasCounted c es m counts
-    → Appends before after (open_rest rows (started c) (es ++ more) (length es))
-
--- a first part of them was written
-abbrev pub AreRowsStopped : Rows → Machine → Counts → List Event → Written → Broken → Type 0
-AreRowsStopped rows m counts more o broken = (c : Contents) (es : List Event) → HasCounted c es m counts
-    → IsStoppedIn (open_rest rows (started c) (es ++ more) (length es)) o broken
-
--- all rows of further events stand behind what was told before
-abbrev pub IsTabledOn : Rows → Machine → Counts → List Event → (before after : Option (List ℕ)) → (done : Bool) → Type 0
-IsTabledOn rows m counts more before after done = (c : Contents) (es : List Event) → HasCounted c es m counts
-    → IsTabledFrom rows (started c) (es ++ more) (length es) before after done
-
-abbrev pub IsTableOnBroken : Rows → Machine → Counts → List Event → Written → Broken → Type 0
-IsTableOnBroken rows m counts more o broken = (c : Contents) (es : List Event) → HasCounted c es m counts
-    → IsRestBroken rows (started c) (es ++ more) (length es) o broken

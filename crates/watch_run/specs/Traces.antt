@@ -12,7 +12,7 @@ use Rattle.tcc_world.specs.Page.{Written}
 use Rattle.watch_count.specs.Counts.{Counts}
 use Rattle.watch_run.specs.Looked.{HasCounted}
 use Rattle.watch_run.specs.Shown.{shown_trace}
-use Rattle.watch_run.specs.Written.{IsTraceBegun, LeadsTo}
+use Rattle.watch_run.specs.Written.{IsBehind, IsTraceBegun, LeadsTo}
 use Rattle.watch_run.specs.declared.telling.Shown.{Shown}
 use Rattle.watch_run.specs.declared.tracing.Broken.{Broken}
 use Rattle.watch_run.specs.declared.tracing.Broken.TheVariants.{Memory, Output}
@@ -28,10 +28,8 @@ pub record IsTraceOf (s : Start) (shown : Shown) (es : List Event) (done : Bool)
   pub text_is : text ≡ shown_trace shown s (world_at_start s) es done
 
 -- a text that is such a one stands behind what was told before
-pub record StandsBehind (Is : Bool → List ℕ → Type 0) (before after : Option (List ℕ)) (done : Bool) : Type 0 where
-  pub text : List ℕ
-  pub is : Is done text
-  pub whole : Appends before after text
+abbrev pub StandsBehind : (Is : Bool → List ℕ → Type 0) → (before after : Option (List ℕ)) → (done : Bool) → Type 0
+StandsBehind Is before after done = IsBehind (Is done) before after
 
 -- or a first part of it, and not all
 pub record StandsCut (Is : Bool → List ℕ → Type 0) (before after : Option (List ℕ)) : Type 0 where

@@ -18,6 +18,12 @@ use Rattle.watch_run.specs.declared.telling.Shown.{Shown}
 use Rattle.watch_run.specs.declared.tracing.Broken.{Broken}
 use Rattle.watch_run.specs.declared.tracing.Broken.TheVariants.{Memory, Output}
 
+-- such a text stands behind what was told before
+pub record IsBehind (Is : List ℕ → Type 0) (before after : Option (List ℕ)) : Type 0 where
+  pub text : List ℕ
+  pub is : Is text
+  pub whole : Appends before after text
+
 -- of what was held, with this behind it, a first part was written, and the rest is held now
 pub record IsPut (held now : List ℕ) (before after : Option (List ℕ)) (more : List ℕ) : Type 0 where
   pub written : List ℕ

@@ -1,6 +1,7 @@
 // What is counted of a run while it goes on.
 ghost use Rattle.std.specs.Prelude.{◌≡◌, ◌+◌, ◌<◌, ◌≤◌, [], IfOk, OnOk, length, map};
 ghost use Rattle.image_load.specs.Contents.{started};
+ghost use Rattle.net_core.specs.Answers.{step_of};
 ghost use Rattle.net_core.specs.Limits.{machine_limit};
 ghost use Rattle.net_core.specs.Machine.{history_of, program_of, settings_of, start_of, world_of};
 ghost use Rattle.rules_riscv.specs.Starting.{at_start, world_at_start};
@@ -8,6 +9,7 @@ ghost use Rattle.tcc_msg.specs.Plain.{event_of};
 ghost use Rattle.watch.specs.Happened.{actor as plain_actor, happened};
 ghost use Rattle.watch.specs.Plain.{fact_of};
 ghost use Rattle.watch_count.specs.Counts.{event_counted};
+ghost use Rattle.watch_machine.specs.Watched.{noted_by, told_commit};
 ghost use Rattle.watch_run.specs.Forgetting.{StillKeeps};
 ghost use Rattle.watch_run.specs.Going.{Took};
 ghost use Rattle.watch_run.specs.Looked.{CountedMore, IsCounted};
@@ -15,7 +17,7 @@ ghost use Rattle.tcc_base.specs.Settings.{IsAllowed};
 
 use crate::events::{Events, settings_are_allowed};
 use image_load::Loaded;
-use net_core::System;
+use net_core::{Step, System};
 use std::alloc::Global;
 use tcc_base::{List, NoMemory};
 use tcc_msg::Event;
@@ -41,24 +43,27 @@ fn count_facts(e: Event, facts: &List<Fact>, counts: &mut Counts) -> Result<(), 
     counts.event(actor(e), &facts.items)
 }
 
-/// Takes an event, and counts what it did. What it sent is counted as it stands in the machine: no order and no numbers are wanted for it.
+/// Takes an event, and counts what it did: the step that was taken. What it sent is counted as it stands in the machine: no order and no
+/// numbers are wanted for it.
 pub(crate) fn count_event(
     system: &mut System,
     e: Event,
     facts: &mut List<Fact>,
     counts: &mut Counts,
-) -> Result<(), NoMemory>
+) -> Result<Step, NoMemory>
     requires few { system.old.events < machine_limit }
     ensures took { OnOk result (Took system.old system.new (event_of e)) }
     ensures counted { OnOk result (counts.new ≡ event_counted (plain_actor (event_of e))
         (happened (settings_of system.old) (program_of system.old) (history_of system.old) (event_of e)) counts.old) }
+    ensures noted { IfOk result (λ step. told_commit step system.new.commits ≡ noted_by (step_of system.old (event_of e))) }
 {
-    match watch_node(system, e, facts) {
-        Ok(()) => {}
+    let step = match watch_node(system, e, facts) {
+        Ok(step) => step,
         Err(_) => return Err(NoMemory),
-    }
+    };
     count_facts(e, facts, counts)?;
-    counts.sent(system.last_sent())
+    counts.sent(system.last_sent())?;
+    Ok(step)
 }
 
 /// Forgets the commits that all directories have passed, where twice as many are kept as after the last time: so it takes a constant time

@@ -7,14 +7,16 @@ ghost use Rattle.net_core.specs.Machine.{settings_of, world_of};
 ghost use Rattle.rules_tcc.specs.Seen.{IsDone};
 ghost use Rattle.watch_run.specs.Forgetting.{StillKeeps};
 ghost use Rattle.watch_run.specs.Looked.{IsCounted};
-ghost use Rattle.watch_run.specs.Runs.{IsRunOf, IsRunTableBroken, IsRunTabled, IsRunTrace, IsRunTraceBegun, RunTablesJoin, WentOn};
+ghost use Rattle.watch_run.specs.Meanwhile.{IsSpaced};
+ghost use Rattle.watch_run.specs.Runs.{IsRunOf, IsRunText, IsRunTextStopped, IsRunTrace, IsRunTraceBegun, RunTablesJoin, WentOn};
 ghost use Rattle.watch_run.specs.Runs.{seed_events};
 ghost use Rattle.watch_run.specs.Tables.{TablesJoin};
 ghost use Rattle.watch_run.specs.Traces.{BrokeOff, StandsBehind};
+ghost use Rattle.watch_run.specs.Written.{IsBehind};
 
 use crate::counting::count_events;
 use crate::events::{Picked, settings_are_allowed};
-use crate::tabling::{Rows, table_on};
+use crate::meanwhile::{Meanwhile, write_meanwhile};
 use crate::telling::Shown;
 use crate::tracing::{Broken, trace_on};
 use image_load::Loaded;
@@ -66,27 +68,27 @@ fn go_on(
     Ok(drawn.saturating_add(system.events() - before))
 }
 
-/// Takes and counts these events too, and writes the rows of the table from there on: how many words were drawn then, and whether the run
-/// is done.
-fn go_on_with_rows<O: Sink>(
+/// Takes and counts these events too, and writes what is told of them while they are taken: how many words were drawn then.
+fn go_on_and_write<O: Sink>(
     alloc: Global,
     system: &mut System,
     counts: &mut Counts,
     seed: u64,
     drawn: u64,
     steps: u64,
-    rows: Rows,
+    told: Meanwhile,
     out: &mut O,
-) -> Result<(u64, bool), Broken>
+) -> Result<u64, Broken>
     requires few { system.old.events + steps ≤ machine_limit }
-    requires every { 1 ≤ rows.every }
-    ensures went { IfOk result (λ r. WentOn
+    requires spaced { IsSpaced told }
+    ensures went { IfOk result (λ now. WentOn
         (record { machine = system.old; counts = counts.old; seed = seed; drawn = drawn })
-        (record { machine = system.new; counts = counts.new; seed = seed; drawn = r.0 }) steps) }
-    ensures table { IfOk result (λ r. IsRunTabled rows
-        (record { machine = system.old; counts = counts.old; seed = seed; drawn = drawn }) steps
-        (O.page out.old).bytes (O.page out.new).bytes r.1) }
-    ensures broken { IfErr result (IsRunTableBroken rows
+        (record { machine = system.new; counts = counts.new; seed = seed; drawn = now }) steps) }
+    ensures written { OnOk result (IsBehind (IsRunText told
+        (record { machine = system.old; counts = counts.old; seed = seed; drawn = drawn }) steps)
+        (O.page out.old).bytes (O.page out.new).bytes) }
+    ensures faults_stay { OnOk result ((O.page out.old).faults ≤ (O.page out.new).faults) }
+    ensures broken { IfErr result (IsRunTextStopped told
         (record { machine = system.old; counts = counts.old; seed = seed; drawn = drawn }) steps
         (record { before = O.page out.old; after = O.page out.new })) }
 {
@@ -96,8 +98,8 @@ fn go_on_with_rows<O: Sink>(
     }
     let before = system.events();
     let mut picked = Picked::after(seed, drawn, steps);
-    let done = table_on(alloc, system, &mut picked, steps, rows, counts, out)?;
-    Ok((drawn.saturating_add(system.events() - before), done))
+    write_meanwhile(alloc, system, &mut picked, steps, told, counts, out)?;
+    Ok(drawn.saturating_add(system.events() - before))
 }
 
 /// A law: a run that is done by now, or isn't, is counted so far.
@@ -203,39 +205,38 @@ impl Run {
         Ok(())
     }
 
-    /// Goes on as `go` does, and writes the rows of the run's table from there on: one after each so many events of the whole run where
-    /// others follow, and one after the last. Whether the run is done then. So the rows of a run that was left and taken up are those of
-    /// the whole, but for the last row of the part before; the row of the names is for the caller to write (`write_names`).
+    /// Goes on as `go` does, and writes what is told of these events while they are taken: what is written of the first steps of a run, and
+    /// then of its further steps, is what is written of the whole (`tables_join`, `consoles_join`). The line that stands before all that is
+    /// for the caller to write (`write_head`), and what tells of the end too.
     ///
-    /// Each row is written as it comes, so a first part of them may have been written where it fails: but nothing of the last row, which
-    /// tells of the end, unless the output failed within it. Nothing more is said of the run then.
-    pub fn table<O: Sink>(
+    /// Each line is written as it comes, so a first part of them may have been written where it fails. Nothing more is said of the run then.
+    pub fn go_and_write<O: Sink>(
         &mut self,
         alloc: Global,
         steps: u64,
-        rows: Rows,
+        told: Meanwhile,
         out: &mut O,
-    ) -> Result<bool, Broken>
+    ) -> Result<(), Broken>
         requires few { self.old.machine.events + steps ≤ machine_limit }
-        requires every { 1 ≤ rows.every }
-        ensures went { IfOk result (λ done. WentOn self.old self.new steps) }
+        requires spaced { IsSpaced told }
+        ensures went { OnOk result (WentOn self.old self.new steps) }
         ensures seed { self.new.seed ≡ self.old.seed }
-        ensures table { IfOk result (IsRunTabled rows self.old steps (O.page out.old).bytes (O.page out.new).bytes) }
-        ensures broken { IfErr result (IsRunTableBroken rows self.old steps
+        ensures written { OnOk result (IsBehind (IsRunText told self.old steps) (O.page out.old).bytes (O.page out.new).bytes) }
+        ensures faults_stay { OnOk result ((O.page out.old).faults ≤ (O.page out.new).faults) }
+        ensures broken { IfErr result (IsRunTextStopped told self.old steps
             (record { before = O.page out.old; after = O.page out.new })) }
     {
-        let (drawn, done) = go_on_with_rows(
+        self.drawn = go_on_and_write(
             alloc,
             &mut self.system,
             &mut self.counts,
             self.seed,
             self.drawn,
             steps,
-            rows,
+            told,
             out,
         )?;
-        self.drawn = drawn;
-        Ok(done)
+        Ok(())
     }
 
     /// Takes the useful events that the next words pick, so many at most, or fewer where none is useful any more, and writes the trace of

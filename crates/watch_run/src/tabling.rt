@@ -8,8 +8,10 @@ ghost use Rattle.rules_riscv.specs.Starting.{at_start, world_at_start};
 ghost use Rattle.rules_tcc.specs.Seen.{IsDone};
 ghost use Rattle.watch_count.specs.Csv.{csv_row, names_row};
 ghost use Rattle.watch_run.specs.Looked.{CountedMore};
-ghost use Rattle.watch_run.specs.Tables.{AreRowsStopped, AreRowsWritten, IsCutIn, IsTableBroken, IsTableOnBroken, IsTabled, IsTabledOn};
-ghost use Rattle.watch_run.specs.Tables.{is_due};
+ghost use Rattle.watch_run.specs.Meanwhile.{IsFurtherStopped, IsFurtherText};
+ghost use Rattle.watch_run.specs.Tables.{IsCutIn, IsTableBroken, IsTabled, is_due};
+ghost use Rattle.watch_run.specs.Written.{IsBehind};
+ghost use Rattle.watch_run.specs.declared.meanwhile.Meanwhile.TheVariants as meanwhile;
 ghost use Rattle.tcc_base.specs.Settings.{IsAllowed};
 
 use crate::counting::{count_event, forget_passed};
@@ -31,10 +33,8 @@ pub struct Rows {
     pub seed: Option<(u64, u64)>,
 }
 
-/// Writes the row of the names, with which a table begins. Its time and memory are those of the row's text.
-///
-/// A run that is taken up (`Run::table`) writes the rows of a table that was begun before, so there it is the caller's matter.
-pub fn write_names<O: Sink>(alloc: Global, out: &mut O) -> Result<(), Broken>
+/// Writes the row of the names, with which a table begins.
+pub(crate) fn write_names<O: Sink>(alloc: Global, out: &mut O) -> Result<(), Broken>
     ensures written { OnOk result (Appends (O.page out.old).bytes (O.page out.new).bytes names_row) }
     ensures faults_stay { (O.page out.old).faults ≤ (O.page out.new).faults }
     ensures cut { IfErr result (IsCutIn names_row (record { before = O.page out.old; after = O.page out.new })) }
@@ -100,7 +100,7 @@ fn write_due<O: Sink>(
 }
 
 /// Takes the events that are to come, at most so many, counts what they did, and writes all rows but the last.
-fn write_rows<E: Events, O: Sink>(
+pub(crate) fn write_rows<E: Events, O: Sink>(
     alloc: Global,
     system: &mut System,
     events: &mut E,
@@ -115,10 +115,10 @@ fn write_rows<E: Events, O: Sink>(
     requires enough { length (E.coming events.old (start_of system.old) (world_of system.old)) ≤ most }
     ensures counted { OnOk result (CountedMore system.old system.new counts.old counts.new
         (E.coming events.old (start_of system.old) (world_of system.old))) }
-    ensures written { OnOk result (AreRowsWritten rows system.old counts.old
-        (E.coming events.old (start_of system.old) (world_of system.old)) (O.page out.old).bytes (O.page out.new).bytes) }
+    ensures written { OnOk result (IsBehind (IsFurtherText (meanwhile.Rows rows) system.old counts.old
+        (E.coming events.old (start_of system.old) (world_of system.old))) (O.page out.old).bytes (O.page out.new).bytes) }
     ensures faults_stay { OnOk result ((O.page out.old).faults ≤ (O.page out.new).faults) }
-    ensures broken { IfErr result (AreRowsStopped rows system.old counts.old
+    ensures broken { IfErr result (IsFurtherStopped (meanwhile.Rows rows) system.old counts.old
         (E.coming events.old (start_of system.old) (world_of system.old))
         (record { before = O.page out.old; after = O.page out.new })) }
 {
@@ -131,7 +131,7 @@ fn write_rows<E: Events, O: Sink>(
         };
         write_due(system, counts, rows, &mut row, out)?;
         match count_event(system, e, &mut facts, counts) {
-            Ok(()) => {}
+            Ok(_) => {}
             Err(NoMemory) => return Err(Broken::Memory),
         }
         forget_passed(system, &mut kept);
@@ -158,34 +158,6 @@ fn write_last<O: Sink>(
     let mut row = String::new(alloc);
     write_row(system, counts, rows, done, &mut row, out)?;
     Ok(done)
-}
-
-/// Takes the events that are to come, at most so many, counts what they did, and writes the rows of the table from there on: one after each
-/// so many events where others follow, and one after the last. Whether the run is done then.
-pub(crate) fn table_on<E: Events, O: Sink>(
-    alloc: Global,
-    system: &mut System,
-    events: &mut E,
-    most: u64,
-    rows: Rows,
-    counts: &mut Counts,
-    out: &mut O,
-) -> Result<bool, Broken>
-    requires settled { system.old.unsent ≡ [] }
-    requires few { system.old.events + most ≤ machine_limit }
-    requires every { 1 ≤ rows.every }
-    requires enough { length (E.coming events.old (start_of system.old) (world_of system.old)) ≤ most }
-    ensures counted { IfOk result (λ done. CountedMore system.old system.new counts.old counts.new
-        (E.coming events.old (start_of system.old) (world_of system.old))) }
-    ensures table { IfOk result (λ done. IsTabledOn rows system.old counts.old
-        (E.coming events.old (start_of system.old) (world_of system.old)) (O.page out.old).bytes (O.page out.new).bytes done) }
-    ensures broken { IfErr result (IsTableOnBroken rows system.old counts.old
-        (E.coming events.old (start_of system.old) (world_of system.old))
-        (record { before = O.page out.old; after = O.page out.new })) }
-{
-    settings_are_allowed(system.config());
-    write_rows(alloc, system, events, most, rows, counts, out)?;
-    write_last(alloc, system, counts, rows, out)
 }
 
 /// Writes the table of the run of a machine that has taken no event yet.

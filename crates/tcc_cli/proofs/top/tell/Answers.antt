@@ -1,4 +1,5 @@
--- A trace or a table by a schedule or by a seed, or a trace on the bus or from a checkpoint, from the start that the command's files give.
+-- A trace or a table by a schedule or by a seed, a trace on the bus or from a checkpoint, or what is told of a long run as it goes, from
+-- the start that the command's files give.
 use Rattle.std.proofs.Common.{◌≡◌, ◌∙◌, IfErr, IfOk, None, Some, ap, refl, subst, sym}
 use Rattle.image_load.specs.Contents.{started}
 use Rattle.tcc_words.specs.Bounds.{IsInBounds, IsLongView}
@@ -8,6 +9,7 @@ use Rattle.tcc_words.specs.declared.command.Source.TheVariants.{Schedule, Seed}
 use Rattle.tcc_words.specs.declared.command.View.TheVariants.{Trace, Rows}
 use Rattle.tcc_cli.proofs.BusViews.{bus-trace-tells}
 use Rattle.tcc_cli.proofs.Further.{first-checkpoint, further-tells}
+use Rattle.tcc_cli.proofs.Grown.{grown-tells, grows-apart}
 use Rattle.tcc_cli.proofs.Looking.{first-file, going-tells}
 use Rattle.tcc_cli.specs.Around.{FilesAround}
 use Rattle.tcc_cli.specs.Commands.{head_of, machine_of}
@@ -141,3 +143,14 @@ returns-in-Long-default-default-Checkpoint-default-Trace-default-clause-tells g 
     it.keep _ f o c.trace_from_checkpoint.result is far.3 c.requires.start bytes (λ n. refl)
     (rw (it.from-is, it.to-is, it.states-is) at c.trace_from_checkpoint.ensures.told)
     (rw (it.from-is, it.to-is, it.states-is) at c.trace_from_checkpoint.ensures.stopped)
+
+pub returns-in-Long-clause-tells : goal.returns-in-Long-clause-tells
+returns-in-Long-clause-tells g c =
+    let it = c.in-Long in
+    let bounds = (subst IsInBounds it.is c.requires.bounds).numbers in
+    let far : IsLongView it.view it.begin it.keep = bounds.3 in
+    let o : Written = record { before = g.O.Sink.page c.args.out.now; after = g.O.Sink.page c.grow.new.out } in
+    let f : FilesAround = record { before = g.F.Store.disk c.args.files.now; after = g.F.Store.disk c.grow.new.files } in
+    grown-tells c.args.command.now c.args.read.now c.args.loaded.now it.machine it.images it.begin it.steps it.view it.keep f o
+    c.grow.result it.is (grows-apart it.view it.begin it.keep (c.grows.ensures.0 c.if-grows.true) far) c.requires.start
+    c.grow.ensures.told c.grow.ensures.stopped

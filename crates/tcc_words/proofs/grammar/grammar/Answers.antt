@@ -55,9 +55,9 @@ returns-in_ok-resume-in-Trace c =
 
 pub returns-in_ok-checkpoint-in-Count : goal.returns-in_ok-checkpoint-in-Count
 returns-in_ok-checkpoint-in-Count c =
-    IfOk-weaker c.with_places-in-Count.result _ _ (λ m h. count_made c.args.verb c.args.name.now _ _ _ _ _ _ _ c.in-Count.is c.requires
+    IfOk-weaker c.with_places-in-Count.result _ _ (λ m h. count_made c.args.verb c.args.name.now _ _ _ _ _ _ _ _ c.in-Count.is c.requires
     c.bare-named.ensures c.in_ok-source-in-Count.ensures c.in_ok-csv-in-Count.ensures c.in_ok-every-in-Count.ensures
-    c.in_ok-resume-in-Count.ensures c.in_ok-checkpoint-in-Count.ensures h)
+    c.in_ok-consoles-in-Count.ensures c.in_ok-resume-in-Count.ensures c.in_ok-checkpoint-in-Count.ensures h)
     c.with_places-in-Count.ensures
 
 pub returns-in_ok-resume-in-State : goal.returns-in_ok-resume-in-State

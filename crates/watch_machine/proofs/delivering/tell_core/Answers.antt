@@ -3,13 +3,12 @@ use Rattle.std.proofs.Common.{◌≡◌, ◌++◌, List, Result, Ok, Err, OnOk, 
 use Rattle.tcc_base.specs.declared.collections.NoMemory.{NoMemory}
 use Rattle.commit_engine.specs.Engine.{phase_of}
 use Rattle.core_node.specs.View.{core_of}
-use Rattle.net_core.specs.Answers.{tid_told}
 use Rattle.net_core.specs.Machine.{world_of}
 use Rattle.watch.specs.Facts.{Fact}
-use Rattle.watch.specs.Happened.{phase_fact}
+use Rattle.watch.specs.Happened.{commit_fact, phase_fact}
 use Rattle.watch.specs.Messages.{grant_given_up, taken, violated}
 use Rattle.watch.specs.Plain.{fact_of}
-use Rattle.watch_machine.specs.Telling.{commit_told}
+use Rattle.watch_machine.specs.Watched.{told_commit}
 use Rattle.watch_machine.proofs.delivering.tell_core.Goals as goal
 
 on-ok : (r : Result (Unit {0}) NoMemory) (P Q : Type 0) → (P → Q) → OnOk r P → OnOk r Q
@@ -30,7 +29,7 @@ returns c = λ src m cs s saw.
     let given = c.in_ok-tell_given_up.ensures
     ∙ (λ i. map fact_of c.tell_violated.new.facts ++ grant_given_up id (saw.msg i) (saw.phase i)) in
     let commit = c.in_ok-tell_commit.ensures
-    ∙ ap (λ cs. map fact_of c.tell_given_up.new.facts ++ commit_told (tid_told c.args.step) cs) c.commits.ensures in
+    ∙ ap (λ cs. map fact_of c.tell_given_up.new.facts ++ commit_fact (told_commit c.args.step cs)) c.commits.ensures in
     let f0 = map fact_of c.args.facts.now in
     let f1 = map fact_of c.tell_taken.new.facts in
     let f2 = map fact_of c.tell_violated.new.facts in
@@ -40,7 +39,7 @@ returns c = λ src m cs s saw.
     let a = taken src m s in
     let b = violated id cs m s t in
     let d = grant_given_up id m s.phase in
-    let e = commit_told (tid_told c.args.step) c.args.system.now.commits in
+    let e = commit_fact (told_commit c.args.step c.args.system.now.commits) in
     let g = phase_fact id s.phase t.phase in
     on-ok c.tell_phase.result (f5 ≡ f4 ++ phase_fact id (phase_of c.args.seen.now.phase) (phase_of c.phase.result))
     (f5 ≡ f0 ++ (a ++ (b ++ (d ++ (e ++ g)))))

@@ -4,11 +4,10 @@ use Rattle.base_lemmas.proofs.Lemmas.{lt-from}
 use Rattle.rules_maps.specs.Bridge.{node_of}
 use Rattle.rules_maps.specs.Nodes.{Core, Dir, Deliver}
 use Rattle.tcc_msg.specs.Plain.{msg_of}
-use Rattle.net_core.specs.Answers.{tid_told}
 use Rattle.net_core.specs.Machine.{settings_of, world_of}
-use Rattle.watch.specs.Happened.{serves_fact}
+use Rattle.watch.specs.Happened.{commit_fact, serves_fact}
 use Rattle.watch.specs.Plain.{fact_of}
-use Rattle.watch_machine.specs.Telling.{commit_told}
+use Rattle.watch_machine.specs.Watched.{told_commit}
 use Rattle.watch_machine.proofs.Enabled.{answer-told, flying-ends as ends, taken-enabled}
 use Rattle.watch_machine.proofs.Happening.{advanced-from, advanced-to, flown, told-all}
 use Rattle.watch_machine.proofs.delivering.watch_dir.Goals as goal
@@ -53,7 +52,7 @@ returns-in-Ok c =
     (taken-enabled m n e c.in_ok-step.step a) c.what_became.ensures ∙ sym (flown m n (Core core) (Dir dir) k x c.requires.flies) in
     told-all m n e c.in_ok-step.step c.tell_dir.new.facts c.events.ensures.sound a
     (c.in-Ok.ensures
-    ∙ (λ i. map fact_of (c.requires.empty i) ++ (told i ++ (commit_told (tid_told c.in_ok-step.step) n.commits
+    ∙ (λ i. map fact_of (c.requires.empty i) ++ (told i ++ (commit_fact (told_commit c.in_ok-step.step n.commits)
     ++ serves_fact dir (c.serving-before.ensures i) ((world_of n).dirs dir).serving.serving))))
 
 pub returns-in-Err : goal.returns-in-Err

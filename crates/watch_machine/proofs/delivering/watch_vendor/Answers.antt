@@ -3,10 +3,10 @@ use Rattle.std.proofs.Common.{◌++◌, ◌∷◌, append-nil, map, ap, sym, ◌
 use Rattle.rules_maps.specs.Bridge.{node_of}
 use Rattle.rules_maps.specs.Nodes.{Core, Vendor, Deliver}
 use Rattle.tcc_msg.specs.Plain.{msg_of}
-use Rattle.net_core.specs.Answers.{tid_told}
 use Rattle.watch.specs.Facts.{Took}
+use Rattle.watch.specs.Happened.{commit_fact}
 use Rattle.watch.specs.Plain.{fact_of}
-use Rattle.watch_machine.specs.Telling.{commit_told}
+use Rattle.watch_machine.specs.Watched.{told_commit}
 use Rattle.watch_machine.proofs.Enabled.{taken-enabled}
 use Rattle.watch_machine.proofs.Happening.{advanced-from, advanced-to, flown, told-all, told_behind}
 use Rattle.watch_machine.proofs.delivering.watch_vendor.Goals as goal
@@ -22,7 +22,7 @@ returns-in-Ok c =
     let a = advanced-from m n _ _ Vendor k c.in_ok-step.step c.requires.source
     (advanced-to m n (node_of c.args.name.src) _ _ k c.in_ok-step.step c.requires.destination c.in_ok-step.ensures) in
     let behind = told_behind m n e c.in_ok-step.step in
-    let noted = commit_told (tid_told c.in_ok-step.step) n.commits in
+    let noted = commit_fact (told_commit c.in_ok-step.step n.commits) in
     told-all m n e c.in_ok-step.step c.tell_vendor.new.facts c.events.ensures.sound a
     (c.in-Ok.ensures
     ∙ ap (λ fs. map fact_of fs ++ (Took x ∷ noted)) c.requires.empty

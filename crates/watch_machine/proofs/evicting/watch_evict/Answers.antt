@@ -1,12 +1,11 @@
 -- What stood in the way before, and what is told behind the eviction, are all that it did.
 use Rattle.std.proofs.Common.{◌<◌, ◌++◌, map, ap, sym, ◌∙◌, subst}
 use Rattle.rules_maps.specs.Nodes.{Evict}
-use Rattle.net_core.specs.Answers.{tid_told}
 use Rattle.net_core.specs.Machine.{world_of}
-use Rattle.watch.specs.Happened.{phase_fact}
+use Rattle.watch.specs.Happened.{commit_fact, phase_fact}
 use Rattle.watch.specs.Instructions.{evicted}
 use Rattle.watch.specs.Plain.{fact_of}
-use Rattle.watch_machine.specs.Telling.{commit_told}
+use Rattle.watch_machine.specs.Watched.{told_commit}
 use Rattle.watch_machine.proofs.Enabled.{way-named}
 use Rattle.watch_machine.proofs.Happening.{told-all}
 use Rattle.watch_machine.proofs.evicting.watch_evict.Goals as goal
@@ -39,5 +38,5 @@ returns-in-Ok c =
     let phase = c.phase-before.ensures ∙ ap (λ s. s.phase) c.core-core.ensures.state in
     told-all m n (Evict id c.args.set c.args.way) c.in_ok-step.step c.tell_evict.new.facts c.events.ensures.sound c.in_ok-step.ensures
     (c.in-Ok.ensures
-    ∙ (λ i. map fact_of (c.requires.empty i) ++ (held i ++ (commit_told (tid_told c.in_ok-step.step) n.commits
+    ∙ (λ i. map fact_of (c.requires.empty i) ++ (held i ++ (commit_fact (told_commit c.in_ok-step.step n.commits)
     ++ phase_fact id (phase i) t.phase))))
