@@ -1,11 +1,12 @@
 #!/bin/bash
 # Refuses one request for memory of a command, the first, then the second and so on, until the command makes fewer, and looks at how each of
-# these calls ends: as when nothing is refused, or with status 7, the line `tcc: memory` and nothing on standard output, or of a trace and
-# of a table of outcomes a first part. Of a run on host threads, whose schedule isn't the same each time, the replay of the record has to
-# print the same bytes. It also looks at the files that each call opens: those that the command names, in order, each once and no other, or
-# the first of them; and at a record or a checkpoint, which after status 7 is as it was or whole. Needs a C compiler: the requests go to
-# `malloc`, `realloc` and `open`, and a small library before the C library's counts and refuses them. TCC names the program to run. With
-# --short it refuses the first forty requests of each command, and then one of seventeen.
+# these calls ends: as when nothing is refused, or with status 7, the line `tcc: memory` and nothing on standard output, or of what is
+# written while a run or a search goes on (a trace, rows, consoles, a table of outcomes) a first part. Of a run on host threads, whose
+# schedule isn't the same each time, the replay of the record has to print the same bytes. It also looks at the files that each call opens:
+# those that the command names, in order, each once and no other, or the first of them; and at a record or a checkpoint, which after status
+# 7 is as it was or whole. Needs a C compiler: the requests go to `malloc`, `realloc` and `open`, and a small library before the C library's
+# counts and refuses them. TCC names the program to run. With --short it refuses the first forty requests of each command, and then one of
+# seventeen.
 set -eu
 short=${1:-}
 here=$(dirname "$(readlink -f "$0")")
@@ -83,10 +84,12 @@ int open(const char *path, int flags, ...) {
 C
 cc -O1 -shared -fPIC -o refuse.so refuse.c -ldl
 
-# each core adds 1 to one word, a hundred times, and halts; and the image of two stores to two lines in a cache of one frame
+# each core adds 1 to one word, a hundred times, and halts; the image of two stores to two lines in a cache of one frame; and each core
+# prints 250 bytes in each transaction, without end
 words() { for word in "$@"; do printf "\\x${word:6:2}\\x${word:4:2}\\x${word:2:2}\\x${word:0:2}"; done; }
 words 80000337 06400393 04032283 00128293 04532023 00000073 fff38393 fe0396e3 05d00893 00000073 >count
 words 80000337 04b32023 06b32023 04b32023 05d00893 00000073 >spill
+words 00000013 00100893 $(printf '00000073 %.0s' {1..250}) 00000893 00000073 c0dff06f >tell
 
 # call NUMBER WORDS..: the command with its request of that number refused; gives its status
 call() {
@@ -114,12 +117,13 @@ sound() {
         || { [ "$2" = replayed ] && "$program" replay --raw --cores 2 "$1" count >again; }
 }
 
-# what was written before the refusal: nothing, or of a trace, of totals as they grow and of a table of outcomes a first part, and not all
+# what was written before the refusal: nothing, or of what is written in pieces a first part, and not all
 begun() {
     local written
     written=$(stat -c %s output)
     [ "$written" = 0 ] || {
-        [[ $1 == trace || $1 == outcomes || $2 == --every ]] && [ "$written" -lt "$(stat -c %s wanted)" ] && cmp -s -n "$written" output wanted
+        [[ "$* " =~ ^(trace|outcomes|count.*\ --(every|consoles))\  ]] &&
+            [ "$written" -lt "$(stat -c %s wanted)" ] && cmp -s -n "$written" output wanted
     }
 }
 
@@ -173,9 +177,14 @@ for look in "trace --states" trace count state "trace --bus" "count --every 200"
 done
 each_refused same $'r count\nw checkpoint' count --raw --cores 2 --steps 500 --checkpoint checkpoint count
 each_refused same $'r checkpoint\nr count\nw further' count --raw --cores 2 --resume checkpoint --steps 400 --checkpoint further count
+rows="--every 100 --raw --cores 2"
+each_refused same $'r count\nw checkpoint' count $rows --steps 500 --checkpoint checkpoint count
+each_refused same $'r checkpoint\nr count\nw further' count $rows --resume checkpoint --steps 400 --checkpoint further count
 each_refused same $'r checkpoint\nr count' state --raw --cores 2 --resume checkpoint --steps 400 count
 # two pieces are written, and some of the requests come between them
 each_refused same $'r checkpoint\nr count' trace --raw --cores 2 --resume checkpoint --steps 1000 count
+each_refused same $'r tell\nw told' count --consoles --raw --cores 2 --steps 1000 --checkpoint told tell
+each_refused same $'r told\nr tell' count --consoles --raw --cores 2 --resume told --steps 40000 tell
 each_refused same $'r schedule\nr spill' trace --raw --sets 1 --ways 1 --schedule schedule spill
 each_refused same "r count" outcomes --raw --tell all count
 each_refused same "r count" outcomes --raw --cores 2 --states 300 count

@@ -26,7 +26,7 @@ _hoopoelarder() {
         trial) mapfile -t COMPREPLY < <(compgen -W "--cores --dirs --sets --ways --steps --seed --help" -- "$word") ;;
         bus) mapfile -t COMPREPLY < <(compgen -W "--cores --sets --ways --ram --base --raw --steps --seed --help" -- "$word") ;;
         trace) mapfile -t COMPREPLY < <(compgen -W "--cores --dirs --sets --ways --ram --base --raw --steps --seed --schedule --resume --bus --from --to --states --help" -- "$word") ;;
-        count) mapfile -t COMPREPLY < <(compgen -W "--cores --dirs --sets --ways --ram --base --raw --steps --seed --schedule --resume --checkpoint --bus --csv --every --help" -- "$word") ;;
+        count) mapfile -t COMPREPLY < <(compgen -W "--cores --dirs --sets --ways --ram --base --raw --steps --seed --schedule --resume --checkpoint --bus --csv --every --consoles --help" -- "$word") ;;
         state) mapfile -t COMPREPLY < <(compgen -W "--cores --dirs --sets --ways --ram --base --raw --steps --seed --schedule --resume --bus --events --help" -- "$word") ;;
         outcomes) mapfile -t COMPREPLY < <(compgen -W "--cores --ram --base --raw --states --longest --tell --help" -- "$word") ;;
         follow) mapfile -t COMPREPLY < <(compgen -W "--cores --dirs --sets --ways --ram --base --raw --record --help" -- "$word") ;;

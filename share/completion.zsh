@@ -143,11 +143,12 @@ _hoopoelarder() {
             '--steps[the largest number of events\: 0 to 4194304 with --bus, and else 0 to 1099511627776 (1000000)]:N:' \
             '--seed[what the choice of events begins with\: 0 to 18446744073709551615 (0)]:N:' \
             '--schedule[the run is that of this schedule; then there is neither --steps, --seed nor --bus]:NAME:_files' \
-            '--resume[the run goes on from this checkpoint; then there is neither --seed, --schedule, --bus nor --every]:NAME:_files' \
-            '--checkpoint[the file to which the run is written at its end; then there is neither --schedule, --bus nor --every]:NAME:_files' \
+            '--resume[the run goes on from this checkpoint; then there is neither --seed, --schedule nor --bus]:NAME:_files' \
+            '--checkpoint[the file to which the run is written at its end; then there is neither --schedule nor --bus]:NAME:_files' \
             '--bus[the run is that of the machine with one bus; then there is no --dirs]' \
             '--csv[only the totals are printed, as two rows for a table]' \
             '--every[a row of totals after every N events, and at the end\: 1 to 1099511627776, not with --bus]:N:' \
+            '--consoles[what the cores print comes first, as it is committed; then there is neither --schedule, --bus nor --every]' \
             '1:command:' '*:file:_files'
         ;;
     state)

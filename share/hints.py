@@ -36,10 +36,12 @@ WITH_FILE = ("replay", "why", "serial", "follow")
 # What doesn't go together with --bus.
 OFF_THE_BUS = {"schedule": "no schedules", "dirs": "no directories"}
 # What doesn't go together with a checkpoint.
-OFF_THE_CHECKPOINT = {
-    "schedule": "a run by a seed",
-    "bus": "the machine with directories",
-    "every": "a run whose totals are printed at the end",
+OFF_THE_CHECKPOINT = {"schedule": "a run by a seed", "bus": "the machine with directories"}
+# What doesn't go together with --consoles, and where consoles are then.
+OFF_THE_CONSOLES = {
+    "schedule": "the report of replay has the consoles of a schedule",
+    "bus": "the report of bus has the consoles of a run there",
+    "every": "ask for the lines of the consoles or for the rows of a table",
 }
 # The fields that say how far a run is looked at, and how that is done from a checkpoint that stands there.
 LOOKED_AT = {"trace": (("steps", "from", "to"), "trace --resume FILE"), "state": (("steps", "events"), "state --resume FILE --events 0")}
@@ -112,6 +114,8 @@ def reason(command, name):
         return ": count writes a checkpoint"
     if name == "resume":
         return ": trace, count and state go on from a checkpoint"
+    if name == "consoles":
+        return ": count prints consoles as they come"
     if command == "outcomes" and name in ("dirs", "sets", "ways", "seed", "steps", "schedule", "bus"):
         return ": it lists the results of all runs, on any machine"
     if command == "trial" and name in ("raw", "ram", "base"):
@@ -120,13 +124,16 @@ def reason(command, name):
 
 
 def stands_apart(said):
-    """What doesn't stand with --resume or --checkpoint."""
+    """What doesn't stand with --resume, --checkpoint or --consoles."""
     if "resume" in said.given and "seed" in said.given:
         return "a checkpoint says which seed the run has: --resume stands without --seed"
     for name in ("resume", "checkpoint"):
         for other, why in OFF_THE_CHECKPOINT.items():
             if name in said.given and other in said.given:
                 return f"--{name} stands without --{other}: a checkpoint is of {why}"
+    for other, why in OFF_THE_CONSOLES.items():
+        if "consoles" in said.given and other in said.given:
+            return f"--consoles stands without --{other}: {why}"
     return None
 
 

@@ -2,10 +2,12 @@
 changed is refused, or is that of another run."""
 
 import re
+from typing import NamedTuple
 
 from auditing.cases import images, machine
 from auditing.c_programs import example_images
 from auditing.damage import damaged_rows
+from auditing.raw_programs import printing_image
 from auditing.running import Answer, answer, difference
 
 CUTS = 50
@@ -20,10 +22,13 @@ class Run:
         draw = case.draw
         self.case, self.draw = case, draw
         self.files, self.names, self.raw = images(draw)
+        if draw.random() < 0.4:
+            self.files, self.names, self.raw = {"0.bin": printing_image(draw)}, ["0.bin"], ["--raw"]
         sizes = [*(word for part in machine(draw) for word in part), "--ram", str(draw.choice([65536, 65536, 131072, 1 << 20]))]
         self.sizes = dict(zip(sizes[::2], sizes[1::2]))
         self.seed = ["--seed", str(draw.choice([0, draw.getrandbits(8), draw.getrandbits(64)]))]
         self.steps = draw.choice([50, 500, 3000, 20000])
+        self.every = max(1, self.steps // draw.choice([3, 10, 50, 300]))
 
     def words(self, verb, *more, sizes=None):
         machine_words = [word for option in (sizes or self.sizes).items() for word in option]
@@ -40,23 +45,107 @@ class Run:
         self.case.note(what, words, difference(self.ask(words, **checkpoints), wanted))
 
     def begun(self, events, name="f"):
-        """The checkpoint after so many events; its run must print what one prints that leaves none."""
-        plain = self.ask(self.words("count", *self.seed, "--steps", events))
-        words = self.words("count", *self.seed, "--steps", events, "--checkpoint", name)
-        begun = self.ask(words)
+        """The first part of the run, of so many events; it must print what one prints that leaves no checkpoint."""
+        words = [*self.seed, "--steps", events]
+        plain = self.ask(self.words("count", *words))
+        begun = self.ask(self.words("count", *words, "--checkpoint", name))
         checkpoint = begun.files.pop(name.encode(), b"")
-        self.case.note("cuts/begun", words, difference(begun, plain) if checkpoint else f"no checkpoint: {begun.error}")
-        return checkpoint
+        found = difference(begun, plain) if checkpoint else f"no checkpoint: {begun.error}"
+        self.case.note("cuts/begun", self.words("count", *words, "--checkpoint", name), found)
+        return Part(words, {}, plain, checkpoint, events)
+
+
+class Part(NamedTuple):
+    """A part of a run."""
+
+    words: list
+    before: dict  # the checkpoint from which it goes on, by its name
+    count: Answer  # what `count` answers to these words
+    left: bytes  # the checkpoint at its end
+    steps: int  # those of the run up to its end
+
+
+class Whole(NamedTuple):
+    """What a run comes to in one piece."""
+
+    count: Answer
+    csv: Answer
+    state: Answer
+    table: Answer
+    consoles: Answer
+    ended: bytes  # its checkpoint
 
 
 # what is cut
 
 
 def in_one_piece(run):
-    """What a run comes to: its counts, these as a table, its state, and its checkpoint."""
     words = [*run.seed, "--steps", run.steps]
-    views = [run.ask(run.words(*view, *words)) for view in (["count"], ["count", "--csv"], ["state"])]
-    return [*views, run.begun(run.steps)]
+    views = ["count"], ["count", "--csv"], ["state"], ["count", "--every", run.every], ["count", "--consoles"]
+    return Whole(*(run.ask(run.words(*view, *words)) for view in views), run.begun(run.steps).left)
+
+
+def rows_of(output):
+    """The names of a table, its rows, and the steps that stand in them."""
+    names, *rows = output.splitlines() or [b""]
+    cells = [it.split(b",") for it in rows]
+    return names, [it[:8] + it[9:] for it in cells], {it[8] for it in cells if len(it) > 8}
+
+
+def lines_of(output):
+    """The first line of consoles, those of what was printed, and the text behind them."""
+    first, *rest = output.splitlines(keepends=True) or [b""]
+    count = next((at for at, line in enumerate(rest) if not line.startswith(b"printed ")), len(rest))
+    return first, rest[:count], b"".join(rest[count:])
+
+
+def reported(run, whole):
+    """The lines of the consoles, put together by core, are the consoles of the run's report."""
+    words = run.words("run", *run.seed, "--steps", run.steps)
+    wanted, core, consoles = {}, None, {}
+    for line in run.ask(words).output.splitlines():
+        if line.startswith(b"core "):
+            core = line.split()[1]
+        elif line.startswith(b"console "):
+            wanted[core] = line.split()[1]
+    for line in lines_of(whole.consoles.output)[1]:
+        _, _, core, printed = line.split()
+        consoles[core] = consoles.get(core, b"") + printed
+    differ = [it.decode() for it in sorted({*wanted, *consoles}) if wanted.get(it) != consoles.get(it)]
+    run.case.note("cuts/report", words, f"other consoles of cores {', '.join(differ)} than in the report" if differ else None)
+
+
+def told(run, part, *view):
+    """What a view of `count` tells of a part, and what is wrong with its end and its checkpoint."""
+    asked = run.ask(run.words("count", *view, *part.words, "--checkpoint", "w"), **part.before)
+    if (asked.status, asked.error) != (part.count.status, b""):
+        return asked.output, f"status {asked.status}, {asked.error!r}"
+    return asked.output, None if asked.files.get(b"w") == part.left else "another checkpoint"
+
+
+def joined(run, whole, parts):
+    """The rows and the lines of the parts, one after another, are those of the whole run: but the last row of each part but the last, and
+    the number of steps, which is that of the run up to the part's end."""
+    names, wanted, _ = rows_of(whole.table.output)
+    rows, wrong = [], None
+    for part in parts:
+        output, found = told(run, part, "--every", run.every)
+        first, own, steps = rows_of(output)
+        same = first == names and steps == {b"%d" % part.steps}
+        wrong = wrong or found or (None if same else f"names {first!r}, steps {steps}")
+        rows[-1:] = own
+    wrong = wrong or (None if rows == wanted else f"{len(rows)} rows, and {len(wanted)} others are wanted")
+    run.case.note("cuts/rows", run.words("count", "--every", run.every), wrong and f"{wrong}, in parts up to {[it.steps for it in parts]}")
+    _, wanted, _ = lines_of(whole.consoles.output)
+    lines, wrong = [], None
+    for part in parts:
+        output, found = told(run, part, "--consoles")
+        first, own, behind = lines_of(output)
+        same = first == b"tcc-consoles 1\n" and behind == part.count.output
+        wrong = wrong or found or (None if same else f"the first line is {first!r}, or another count stands behind the lines")
+        lines += own
+    wrong = wrong or (None if lines == wanted else f"{len(lines)} lines, and {len(wanted)} others are wanted")
+    run.case.note("cuts/consoles", run.words("count", "--consoles"), wrong and f"{wrong}, in parts up to {[it.steps for it in parts]}")
 
 
 def window(draw, before, left):
@@ -81,27 +170,32 @@ def traced(run, f, before, events):
     run.gives("cuts/trace", run.words(*view, "--resume", "f", "--steps", run.steps - before, *bounds(begin, end)), whole, f=f)
 
 
+def second_part(run, first, events):
+    """The part of so many events behind the first."""
+    middle = run.draw.choice(["f", "g"])  # over the first, or beside it
+    words = ["--resume", "f", "--steps", events]
+    piece = run.ask(run.words("count", *words, "--checkpoint", middle), f=first.left)
+    left = piece.files.get(middle.encode(), b"")
+    same = left == run.begun(first.steps + events).left
+    run.case.note("cuts/second", run.words("count"), None if same else f"another checkpoint after {first.steps} and {events} events")
+    return Part(words, {"f": first.left}, piece, left, first.steps + events)
+
+
 def cut(run, whole, events):
-    """A run that is cut once or twice, at any of its events."""
-    count, csv, state, ended = whole
+    """A run that is cut once or twice, at any of its events, and sometimes where a row stands."""
     draw = run.draw
-    first = draw.choice([0, events, *[draw.randint(0, events)] * 18])
-    last = run.steps - first
-    f = run.begun(first)
+    row = run.every * draw.randint(0, events // run.every)
+    parts = [run.begun(draw.choice([0, events, row, row, *[draw.randint(0, events)] * 16]))]
     if draw.random() < 0.3:
-        second = draw.randint(0, events - first)
-        last -= second
-        middle = draw.choice(["f", "g"])  # over the first, or beside it
-        piece = run.ask(run.words("count", "--resume", "f", "--steps", second, "--checkpoint", middle), f=f)
-        f = piece.files.get(middle.encode(), b"")
-        same = f == run.begun(first + second)
-        run.case.note("cuts/second", run.words("count"), None if same else f"another checkpoint after {first} and {second} events")
+        parts.append(second_part(run, parts[-1], draw.randint(0, events - parts[-1].steps)))
+    f, last = parts[-1].left, run.steps - parts[-1].steps
     resume = ["--resume", "f", "--steps", last]
-    run.gives("cuts/count", run.words("count", *resume, "--checkpoint", "w"), count, {"w": ended}, f=f)
-    run.gives("cuts/csv", run.words("count", "--csv", *resume), csv, f=f)
+    run.gives("cuts/count", run.words("count", *resume, "--checkpoint", "w"), whole.count, {"w": whole.ended}, f=f)
+    run.gives("cuts/csv", run.words("count", "--csv", *resume), whole.csv, f=f)
     short = draw.choice([resume, ["--resume", "f", "--events", last], ["--resume", "f", "--steps", MOST, "--events", last]])
-    run.gives("cuts/state", run.words("state", *short), state, f=f)
+    run.gives("cuts/state", run.words("state", *short), whole.state, f=f)
     traced(run, f, run.steps - last, events)
+    joined(run, whole, [*parts, Part(resume, {"f": f}, whole.count, whole.ended, run.steps)])
 
 
 # what is refused
@@ -126,7 +220,7 @@ def again(run, sizes=None):
 
 
 def damaged(run, text):
-    """A checkpoint that was changed. One that is taken goes on, and `state` and `trace` refuse what `count` does."""
+    """A checkpoint that was changed. One that is taken goes on, and `state`, `trace`, rows and consoles refuse what `count` does."""
     for _ in range(run.draw.choice([1, 1, 1, 2, 3])):
         text = damaged_rows(run.draw, text) or b"\n"
     asked = run.ask(again(run), f=text)
@@ -134,8 +228,9 @@ def damaged(run, text):
     run.case.note("cuts/damaged", again(run), found and f"{found}; the checkpoint is {text!r}")
     taken = asked.status in (0, 1)
     what = "cuts/damaged, taken" if taken else "cuts/damaged, refused"
-    for verb in ("count" if taken else "state", "trace"):
-        words = run.words(verb, "--resume", "f", "--steps", 1000)
+    written = run.draw.choice([["--every", run.every], ["--consoles"]])
+    for view in (["count"] if taken else ["state"], ["trace"], ["count", *written]):
+        words = run.words(*view, "--resume", "f", "--steps", 1000)
         more = run.ask(words, f=text)
         same = more.status in (0, 1) if taken else (more.status, more.error, more.output) == (asked.status, asked.error, b"")
         run.case.note(what, words, None if same else f"status {more.status}, {more.error!r}; the checkpoint is {text!r}")
@@ -173,14 +268,16 @@ def in_parts(case):
     run = Run(case)
     case.compared["programs"] += 1
     whole = in_one_piece(run)
-    count, *_, ended = whole
-    if not ended:
+    if not whole.ended:
         return
-    events = int(count.output.split()[-1])
+    events = int(whole.count.output.split()[-1])
+    reported(run, whole)
+    case.compared["cuts/rows of whole runs"] += len(rows_of(whole.table.output)[1])
+    case.compared["cuts/lines of their consoles"] += len(lines_of(whole.consoles.output)[1])
     for _ in range(CUTS):
         cut(run, whole, events)
     for _ in range(DAMAGED // 5):
-        text = run.begun(run.draw.randint(0, events))
+        text = run.begun(run.draw.randint(0, events)).left
         for _ in range(5):
             damaged(run, text)
         other_settings(run, text)

@@ -104,6 +104,22 @@ def raw_program(draw, one, lines, shortest, goes_round):
     return b"".join(struct.pack("<I", word) for word in words)
 
 
+def printing_image(draw):
+    """A program that goes round and prints some bytes in each transaction: of a word that all cores change, of one in a line of the core's
+    own, or of none, so that transactions commit in another order than that of their TIDs."""
+    base, word = draw.choice([6, 16, None]), draw.choice(LINES)
+    words = [addi(12, 10, 0), 0x80000337]  # x12: the core's number
+    if base == 16:
+        words += [5 << 20 | 12 << 15 | 1 << 12 | 7 << 7 | 0x13, arithmetic(0, 16, 6, 7)]  # x16 = x6 + 32 * x12
+    words += [addi(5, 5, 1)] if base is None else [load(2, 5, base, word), addi(5, 5, 1), store(2, base, 5, word)]
+    words.append(addi(17, 0, 1))
+    for _ in range(draw.randint(1, 6)):
+        words += [addi(10, 5, draw.randint(0, 255)), 0x73]
+    words += [addi(17, 0, 0), 0x73]
+    words.append(jump_back(len(words)))
+    return b"".join(struct.pack("<I", word) for word in words)
+
+
 def raw_images(draw):
     """One to three programs, by file name: over all lines with instructions of each kind, or with the words of one to three lines alone."""
     if draw.random() < 0.6:

@@ -1,5 +1,6 @@
 #!/usr/bin/env python3
 """Looks at a run: reads a trace, or makes one by running the program, and shows it in one of the views. docs/LOOK.md has a page on them.
+One of the views, `consoles`, reads the text of `count --consoles` in its place.
 
     look VIEW [OPTION]... [TRACE | IMAGE... | SCHEDULE IMAGE...]
 """
@@ -24,6 +25,7 @@ VIEWS = {
     "waits": "how long each TID waited for what",
     "commits": "each committed transaction, instruction by instruction",
     "console": "what the committed transactions printed",
+    "consoles": "the same of a run of any length, by `count --consoles`",
     "span": "the longest path through the run, in a stated model of time",
     "svg": "the timeline as a picture",
     "perfetto": "the run as Trace Event JSON, for Perfetto and chrome://tracing",
@@ -54,6 +56,8 @@ OPTIONS = {
     "dot": "a graph for Graphviz in place of the tables",
     "tid": "only this transaction",
     "order": "by core, or in the order of commits",
+    "mixed": "line by line in the order of commits, each with its core",
+    "resume": "the run goes on from this checkpoint, and what it prints from there on is shown",
     "hop": "what a message takes, where an event takes 1 (1)",
     "path": "the path too, event by event",
     "title": "the page's title",
@@ -71,8 +75,21 @@ def usage(name):
 
 def view_usage(name, view):
     module = importlib.import_module(view)
-    options = "\n".join(option_line(it, value) for it, value in [("elf", "FILE"), *module.OWN.items()])
-    return f"Usage: {name} look {view} [OPTION]... [TRACE | IMAGE... | SCHEDULE IMAGE...]\n\n{module.__doc__.strip()}\n\n{options}\n"
+    words, own = getattr(module, "WORDS", None), module.OWN
+    if not words:
+        words, own = "[TRACE | IMAGE... | SCHEDULE IMAGE...]", {"elf": "FILE", **own}
+    options = "\n".join(option_line(it, value) for it, value in own.items())
+    return f"Usage: {name} look {view} [OPTION]... {words}\n\n{module.__doc__.strip()}\n\n{options}\n"
+
+
+def lines_of(module, view, arguments):
+    """What the view shows: of other texts than traces, of a trace as it comes, or of a run."""
+    if hasattr(module, "show_words"):
+        return module.show_words(arguments)
+    trace, program = open_source(arguments, states=view in ("page", "check"), keep=view == "page")
+    if hasattr(module, "show_trace"):
+        return module.show_trace(trace, program, arguments)
+    return module.show(Run(trace), program, arguments)
 
 
 def look(words, name):
@@ -87,12 +104,7 @@ def look(words, name):
         return 0
     module = importlib.import_module(view)
     arguments = Arguments(words[1:], module.OWN)
-    trace, program = open_source(arguments, states=view in ("page", "check"), keep=view == "page")
-    if hasattr(module, "show_trace"):
-        lines = module.show_trace(trace, program, arguments)
-    else:
-        lines = module.show(Run(trace), program, arguments)
-    for line in lines:
+    for line in lines_of(module, view, arguments):
         sys.stdout.write(line + "\n")
     sys.stdout.flush()
     return 0
