@@ -6,3 +6,6 @@ pub use Rattle.theorem_phases.proofs.Serial.Growing.{phases_grow}
 pub use Rattle.theorem_phases.proofs.Running.NeverFall.{phases_never_fall}
 pub use Rattle.theorem_phases.proofs.Running.Runs.{phased_runs_are_runs}
 pub use Rattle.theorem_phases.proofs.Running.Stuck.{phased_never_stuck, phased_picked_ends_done}
+pub use Rattle.theorem_phases.proofs.Events.Noting.{NotedIn, step-notes}
+unfoldable pub use Rattle.theorem_phases.proofs.Serial.Inserted.{IsLast}
+pub use Rattle.theorem_phases.proofs.Serial.Growing.{State, noted-last, run-snoc, state_after}

@@ -1,0 +1,4 @@
+-- Proofs.
+mod Commits
+mod Consoles
+mod Placed
