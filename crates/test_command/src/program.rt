@@ -2,6 +2,7 @@
 mod atomics;
 mod buses;
 mod checkpoints;
+mod consoles;
 mod images;
 mod looks;
 mod outcomes;
@@ -230,6 +231,23 @@ fn check(rt: &impl Host, alloc: Global, row: &Row) -> Result<(), Fail> {
     assert_eq!(rt; ended.status, row.status, "{}", row.command);
     assert_eq!(rt; written.as_slice(), text.as_slice(), "{}", row.command);
     assert_eq!(rt; nothing.len(), 0, "{}", row.command);
+    Ok(())
+}
+
+/// An output that takes fewer bytes than this command line's text has as many of its first ones.
+fn check_short(rt: &impl Host, alloc: Global, command: &str, files: &[File]) -> Result<(), Fail> {
+    let whole = call(rt, alloc, command, &over(files))?;
+    assert!(rt; whole.status <= 1, "{command}");
+    for room in 0..whole.out.len() {
+        let short = World {
+            out: room as u64,
+            ..over(files)
+        };
+        let given = call(rt, alloc, command, &short)?;
+        assert_eq!(rt; given.status, 6);
+        assert_eq!(rt; given.out.as_slice(), &whole.out[..room]);
+        assert_eq!(rt; given.err.as_slice(), b"tcc: output\n".as_slice());
+    }
     Ok(())
 }
 

@@ -1,18 +1,22 @@
 // Runs that are written down at their end, and taken up again from there.
-use super::{Given, Held, Host, World, call, call_beside, over};
+use super::{Given, Held, Host, call, call_beside, check_short, count, over};
 use std::alloc::Global;
 use std::test::Fail;
 
-/// Adds 1 to the word at 80000040 in each of three transactions, and halts.
+/// Adds 1 to the word at 80000040 and prints it as a digit, in each of three transactions, and halts.
 const IMAGE: &[u32] = &[
     0x8000_0337,
     0x0030_0393,
     0x0403_2283,
     0x0012_8293,
     0x0453_2023,
-    0xfff3_8393,
+    0x0302_8513,
+    0x0010_0893,
     0x0000_0073,
-    0xfe03_96e3,
+    0x0000_0893,
+    0x0000_0073,
+    0xfff3_8393,
+    0xfc03_9ee3,
     0x05d0_0893,
     0x0000_0073,
 ];
@@ -136,19 +140,7 @@ fn a_short_output_has_the_first_bytes_of_that_trace(rt: HostRuntime) -> Result<(
         ("s", Held::Bytes(left.as_slice())),
     ];
     let command = format!(in alloc; "trace {MACHINE} --resume s --to 4 a")?;
-    let whole = call(&rt, alloc, &command, &over(&files))?;
-    assert_eq!(rt; whole.status, 1);
-    for room in 0..whole.out.len() {
-        let short = World {
-            out: room as u64,
-            ..over(&files)
-        };
-        let given = call(&rt, alloc, &command, &short)?;
-        assert_eq!(rt; given.status, 6);
-        assert_eq!(rt; given.out.as_slice(), &whole.out[..room]);
-        assert_eq!(rt; given.err.as_slice(), b"tcc: output\n".as_slice());
-    }
-    Ok(())
+    check_short(&rt, alloc, &command, &files)
 }
 
 #[test]
@@ -160,6 +152,77 @@ fn the_next_checkpoint_is_that_of_the_whole_run(rt: HostRuntime) -> Result<(), F
         given.record.ok_or("nothing was written")?.as_slice(),
         whole.as_slice()
     );
+    Ok(())
+}
+
+/// What the first steps of a run tell, the others, and all of them.
+#[derive(Drop)]
+struct Parts {
+    first: Given,
+    rest: Given,
+    whole: Given,
+}
+
+/// A run that is cut after so many steps, with this option of `count`.
+fn in_parts(rt: &impl Host, alloc: Global, steps: u64, more: &str) -> Result<Parts, Fail> {
+    let left = checkpoint(rt, alloc, steps)?;
+    let leaves = format!(in alloc; "{more} --checkpoint s")?;
+    let first = begun(rt, alloc, "count", steps, &leaves)?;
+    assert!(rt; first.record.as_deref() == Some(left.as_slice()), "{more}");
+    let rest = resumed(
+        rt,
+        alloc,
+        "count",
+        &left,
+        STEPS.saturating_sub(steps),
+        &leaves,
+    )?;
+    let whole = begun(rt, alloc, "count", STEPS, &leaves)?;
+    assert_eq!(rt; rest.status, whole.status, "{more}");
+    assert!(rt; rest.record.as_deref() == whole.record.as_deref(), "{more}");
+    Ok(Parts { first, rest, whole })
+}
+
+/// The first line of a table, without what ends it.
+fn names_of(table: &[u8]) -> &[u8] {
+    let names = table.iter().take_while(|byte| **byte != b'\n').count();
+    &table[..names]
+}
+
+#[test]
+fn the_rows_of_parts_are_those_of_the_whole_run(rt: HostRuntime) -> Result<(), Fail> {
+    // where a row stands, where none does, and at the end
+    for steps in [0, 1, 32, 40, 213] {
+        let cut = in_parts(&rt, rt.alloc(), steps, "--every 16")?;
+        let table = written(&cut.whole)?;
+        let more = written(&cut.rest)?
+            .strip_prefix(names_of(table))
+            .ok_or("other names")?;
+        assert!(rt; table.ends_with(more), "{steps}");
+        let rows = |given: &Given| count(&given.out, "1,", "");
+        let of_parts = rows(&cut.first).saturating_add(rows(&cut.rest));
+        assert_eq!(rt; of_parts, rows(&cut.whole).saturating_add(1), "{steps}");
+    }
+    Ok(())
+}
+
+#[test]
+fn the_consoles_of_parts_are_those_of_the_whole_run(rt: HostRuntime) -> Result<(), Fail> {
+    let alloc = rt.alloc();
+    for k in 0..6 {
+        let cut = in_parts(&rt, alloc, 24 * k, "--consoles")?;
+        let counts = begun(&rt, alloc, "count", 24 * k, "")?;
+        let lines = written(&cut.first)?
+            .strip_suffix(written(&counts)?)
+            .ok_or("other counts")?;
+        let more = written(&cut.rest)?
+            .strip_prefix(b"tcc-consoles 1\n".as_slice())
+            .ok_or("another version")?;
+        assert!(rt;
+            written(&cut.whole)?.strip_prefix(lines) == Some(more),
+            "{k}"
+        );
+    }
     Ok(())
 }
 
@@ -219,4 +282,39 @@ fn a_checkpoint_is_stored_before_anything_is_told(rt: HostRuntime) -> Result<(),
     assert_eq!(rt; given.err.as_slice(), b"tcc: store s\n".as_slice());
     assert!(rt; given.out.len() == 0 && given.record.is_none());
     Ok(())
+}
+
+/// Where the checkpoint can't be written, this option's text is all but this last part.
+fn check_unsaid(rt: &impl Host, alloc: Global, more: &str, last: &[u8]) -> Result<(), Fail> {
+    let files = [("a", Held::Image(IMAGE))];
+    let mut world = over(&files);
+    world.fails = Some(1);
+    let command = format!(in alloc; "count {MACHINE} {more} --checkpoint s a")?;
+    let given = call(rt, alloc, &command, &world)?;
+    let whole = call(rt, alloc, &command, &over(&files))?;
+    assert_eq!(rt; given.status, 5);
+    assert_eq!(rt; given.err.as_slice(), b"tcc: store s\n".as_slice());
+    assert!(rt; given.record.is_none(), "{more}");
+    assert!(rt;
+        whole.out.strip_suffix(last) == Some(given.out.as_slice()),
+        "{more}"
+    );
+    Ok(())
+}
+
+#[test]
+fn a_checkpoint_is_stored_before_the_end_is_told(rt: HostRuntime) -> Result<(), Fail> {
+    let alloc = rt.alloc();
+    let files = [("a", Held::Image(IMAGE))];
+    let command = format!(in alloc; "count {MACHINE} a")?;
+    let counts = call(&rt, alloc, &command, &over(&files))?;
+    check_unsaid(&rt, alloc, "--consoles", &counts.out)?;
+    let command = format!(in alloc; "count {MACHINE} --csv a")?;
+    let totals = call(&rt, alloc, &command, &over(&files))?;
+    let row = totals
+        .out
+        .strip_prefix(names_of(&totals.out))
+        .and_then(|rest| rest.strip_prefix(b"\n".as_slice()))
+        .ok_or("no row")?;
+    check_unsaid(&rt, alloc, "--every 16", row)
 }

@@ -1,6 +1,6 @@
 // A run looked at: its trace, its counts, and its state. The texts are a second implementation's.
 use super::runs::STORE;
-use super::{Held, Host, World, call, call_beside, over};
+use super::{Held, Host, call, call_beside, check_short, over};
 use std::alloc::Global;
 use std::test::Fail;
 
@@ -503,7 +503,7 @@ const DAMAGED: &str = "tcc-schedule 1
 cores 1 dirs 1 sets 16 ways 2 base 2147483648 ram 65536
 e 0\nd v c0 0\nend 2\n";
 
-const REFUSED: [Look; 13] = [
+const REFUSED: [Look; 17] = [
     ("trace --raw --schedule s a", 4, "tcc: schedule line 4\n"),
     ("count --raw --schedule s a", 4, "tcc: schedule line 4\n"),
     ("state --raw --schedule s a", 4, "tcc: schedule line 4\n"),
@@ -529,6 +529,14 @@ const REFUSED: [Look; 13] = [
     ("count --raw --schedule s --bus a", 2, "tcc: words\n"),
     ("state --raw --bus --dirs 1 a", 2, "tcc: words\n"),
     ("count --raw --bus --every 3 a", 2, "tcc: value every\n"),
+    (
+        "count --raw --resume s --every 0 a",
+        2,
+        "tcc: value every\n",
+    ),
+    ("count --raw --consoles --schedule s a", 2, "tcc: words\n"),
+    ("count --raw --consoles --bus a", 2, "tcc: words\n"),
+    ("count --raw --consoles --every 3 a", 2, "tcc: words\n"),
 ];
 
 #[test]
@@ -562,25 +570,7 @@ const SHORT: [&str; 5] = [
 #[test]
 fn a_short_output_has_the_first_bytes_of_the_text(rt: HostRuntime) -> Result<(), Fail> {
     for command in SHORT {
-        check_short(&rt, rt.alloc(), command)?;
-    }
-    Ok(())
-}
-
-/// An output that takes fewer bytes has as many of the whole text.
-fn check_short(rt: &impl Host, alloc: Global, command: &str) -> Result<(), Fail> {
-    let files = [("a", Held::Image(STORE))];
-    let whole = call(rt, alloc, command, &over(&files))?;
-    assert_eq!(rt; whole.status, 0);
-    for room in 0..whole.out.len() {
-        let short = World {
-            out: room as u64,
-            ..over(&files)
-        };
-        let given = call(rt, alloc, command, &short)?;
-        assert_eq!(rt; given.status, 6);
-        assert_eq!(rt; given.out.as_slice(), &whole.out[..room]);
-        assert_eq!(rt; given.err.as_slice(), b"tcc: output\n".as_slice());
+        check_short(&rt, rt.alloc(), command, &[("a", Held::Image(STORE))])?;
     }
     Ok(())
 }

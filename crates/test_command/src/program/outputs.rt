@@ -1,6 +1,6 @@
 // Outputs that take a part of what is written, and files that aren't read or written.
 use super::runs::{STORE, STORE_REPORT};
-use super::{File, Held, World, answer, call, lines, over};
+use super::{File, Held, World, answer, call, check_short, lines, over};
 use std::test::Fail;
 
 const FILES: [File; 2] = [("a", Held::Image(STORE)), ("b", Held::Image(STORE))];
@@ -16,17 +16,7 @@ fn a_short_output_has_the_first_bytes_of_the_report(rt: HostRuntime) -> Result<(
         whole.out.as_slice(),
         lines(alloc, &[STORE_REPORT])?.as_slice()
     );
-    for room in 0..whole.out.len() {
-        let short = World {
-            out: room as u64,
-            ..over(&FILES)
-        };
-        let ended = call(&rt, alloc, SMALL, &short)?;
-        assert_eq!(rt; ended.status, 6);
-        assert_eq!(rt; ended.out.as_slice(), &whole.out[..room]);
-        assert_eq!(rt; ended.err.as_slice(), b"tcc: output\n".as_slice());
-    }
-    Ok(())
+    check_short(&rt, alloc, SMALL, &FILES)
 }
 
 #[test]
